@@ -1,0 +1,62 @@
+-- One product more at the root: the truth and the first reason stay, and the case has the product too.
+use Rattle.std.proofs.Common.{◌≡◌, refl, sym, ap, ◌∙◌, ℕ, Bool, List, [], ◌∷◌, ◌++◌}
+use Rattle.predicates_core.specs.Label.{Label, Entry, Product, Fits, FitsProducts}
+use Rattle.predicates_core.specs.Formula.{Formula, Leaf, And, Or, Not, Named, text_of, truth, HasTruth, with_product}
+use Rattle.predicates_core.specs.Shows.{FitsNode, Shows, Explains, IsCaseOf}
+use Rattle.predicates_core.specs.Tree.{Tree}
+use Rattle.predicates_core.specs.Describe as describe
+use Rattle.predicates_core.specs.Describe.{CaseNode, NamedBytes}
+use Rattle.predicates_core.specs.Leaves.{IsShowing}
+use Rattle.predicates_core.specs.Added.{IsWithProduct}
+use Rattle.predicates_core.proofs.Combine.{with_product_truth, first-with_product}
+
+-- one product more on both sides, where the value fits
+fit_last : (ps : List Product) (ss : List NamedBytes) (p : Product) (bytes : List ℕ) → Fits p.value bytes → FitsProducts ps ss → FitsProducts (ps ++ p ∷ []) (ss ++ (p.name, bytes) ∷ [])
+fit_last [] [] p bytes fits h = (refl, fits, tt)
+fit_last [] (s ∷ ss) p bytes fits h = absurd h
+fit_last (q ∷ ps) [] p bytes fits h = absurd h
+fit_last (q ∷ ps) (s ∷ ss) p bytes fits h = (h.0, h.1, fit_last ps ss p bytes fits h.2)
+
+root_with_product : (label : Label) (b b' : Bool) (c : Tree CaseNode) (p : Product) (bytes : List ℕ) → b' ≡ b → Fits p.value bytes → FitsNode label b c.root
+    → FitsNode (record label { products = label.products ++ p ∷ [] }) b' (describe.with_product c (p.name, bytes)).root
+root_with_product label b b' c p bytes e fits h = record {
+  text = h.text;
+  result = h.result ∙ sym e;
+  products = fit_last label.products c.root.products p bytes fits h.products;
+}
+
+shows_with_product : (f : Formula) (c : Tree CaseNode) (S : List ℕ) (p : Product) (bytes : List ℕ) → Fits p.value bytes → Shows f c S → Shows (with_product f p) (describe.with_product c (p.name, bytes)) S
+unfolding Shows with_product
+shows_with_product (Leaf label t) c S p bytes fits h = (root_with_product label _ _ c p bytes refl fits h.0, h.1, h.2)
+shows_with_product (And label l r) c S p bytes fits h = (root_with_product label _ _ c p bytes (with_product_truth (And label l r) p) fits h.0, h.1)
+shows_with_product (Or label l r) c S p bytes fits h = (root_with_product label _ _ c p bytes (with_product_truth (Or label l r) p) fits h.0, h.1)
+shows_with_product (Not label f) c S p bytes fits h = (root_with_product label _ _ c p bytes (with_product_truth (Not label f) p) fits h.0, h.1)
+shows_with_product (Named label name f) c S p bytes fits h = (root_with_product label _ _ c p bytes (with_product_truth (Named label name f) p) fits h.0, h.1)
+
+explains_with_product : (f : Formula) (c : Tree CaseNode) (p : Product) (bytes : List ℕ) → Fits p.value bytes → Explains f c → Explains (with_product f p) (describe.with_product c (p.name, bytes))
+explains_with_product f c p bytes fits x = record {
+  leaves = x.leaves;
+  first = first-with_product f p x.leaves x.first;
+  shown = shows_with_product f c x.leaves p bytes fits x.shown;
+}
+
+-- the text of the root stays
+pub text-with_product : (f : Formula) (p : Product) → text_of (with_product f p) ≡ text_of f
+unfolding with_product
+text-with_product (Leaf label t) p = refl
+text-with_product (And label l r) p = refl
+text-with_product (Or label l r) p = refl
+text-with_product (Not label f) p = refl
+text-with_product (Named label name f) p = refl
+
+module _ {name : List ℕ} {value : Entry} {part : Formula → Type 0} where
+  pub HasTruth-with_product : {b : Bool} → HasTruth part b → HasTruth (IsWithProduct name value part) b
+  HasTruth-with_product h = record { at = λ f p. ap truth p.is ∙ with_product_truth p.inner (record { name = name; value = value }) ∙ h.at p.inner p.of_part }
+
+  pub IsCaseOf-with_product : {b : Bool} {c t : Tree CaseNode} → IsShowing name value c t → IsCaseOf part b c → IsCaseOf (IsWithProduct name value part) b t
+  IsCaseOf-with_product {b} {c} {t} s h = record {
+    truth = HasTruth-with_product h.truth;
+    explains = λ f p. rw (p.is, s.is) (explains_with_product p.inner c (record { name = name; value = value }) s.bytes s.fits (h.explains p.inner p.of_part));
+  }
+
+pub ruleset added = (HasTruth-with_product, IsCaseOf-with_product)

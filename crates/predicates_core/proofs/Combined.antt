@@ -1,0 +1,243 @@
+-- The truth of a combined formula, and the cases that explain it, from those of its parts.
+use Rattle.std.proofs.Common.{◌≡◌, ℕ, Bool, true, false, List, [], ◌∷◌, ◌++◌, Option, Some, None, codes, refl, sym, ap, ◌∙◌, subst}
+use Rattle.std.specs.Prelude.{not, ◌&&◌, ◌||◌}
+use Rattle.predicates_core.specs.Label.{Entry, plain, Fits, FitsEntry, FitsProducts}
+use Rattle.predicates_core.specs.Formula.{Formula, And, Or, Not, Named, truth, size, text_of, HasTruth}
+use Rattle.predicates_core.specs.Tree.{Tree, empty}
+use Rattle.predicates_core.specs.Describe.{CaseNode, NamedCase}
+use Rattle.predicates_core.specs.Shows.{FitsNode, ShowsPart, ShowsBoth, Shows, Explains, IsCaseOf, IsNode}
+use Rattle.predicates_core.specs.Combined.{IsAnd, IsOr, IsNot, IsNamed}
+use Rattle.predicates_core.proofs.Values.{truth-And, truth-Or, truth-Not, truth-Named}
+use Rattle.predicates_core.proofs.Numbers.{shifted}
+use Rattle.predicates_core.proofs.Combine.{first-And_both, first-And_left, first-And_right, first-Or_both, first-Or_left, first-Or_right, first-Not, first-Named}
+use Rattle.predicates_core.proofs.Shown.{shows_both, shows_left, shows_right, shows_part, not_empty, numbers_of}
+
+-- where both tests are passed, both are lawful
+pub both_lawful : {A B : Type 0} {a b : Bool} → (a ≡ true → A) → (b ≡ true → B) → (a && b) ≡ true → A × B
+both_lawful {A} {B} {a} {b} left right h = by a b left right h
+  where
+    by : (a b : Bool) → (a ≡ true → A) → (b ≡ true → B) → (a && b) ≡ true → A × B
+    by true b left right h = (left refl, right h)
+    by false b left right h = absurd (cc)
+
+-- an entry fits what is printed just so
+pub fits_itself : (entry : Option (List ℕ)) → FitsEntry entry entry
+fits_itself None = tt
+fits_itself (Some bytes) = refl
+
+module _ {text : Option (List ℕ)} {left right : Formula → Type 0} {f : Formula} where
+  pub and_text_fits : IsAnd text left right f → FitsEntry (text_of f) text
+  and_text_fits h = subst (λ g. FitsEntry (text_of g) text) (sym h.is) (fits_itself text)
+
+  pub or_text_fits : IsOr text left right f → FitsEntry (text_of f) text
+  or_text_fits h = subst (λ g. FitsEntry (text_of g) text) (sym h.is) (fits_itself text)
+
+pub not_text_fits : {text : Option (List ℕ)} {part : Formula → Type 0} {f : Formula} → IsNot text part f → FitsEntry (text_of f) text
+not_text_fits {text} h = subst (λ g. FitsEntry (text_of g) text) (sym h.is) (fits_itself text)
+
+pub named_text_fits : {name : List ℕ} {part : Formula → Type 0} {f : Formula} → IsNamed name part f → FitsEntry (text_of f) (Some name)
+named_text_fits {name} h = subst (λ g. FitsEntry (text_of g) (Some name)) (sym h.is) (fits_itself (Some name))
+
+module _ {text : Option (List ℕ)} {left right : Formula → Type 0} {f g : Formula} where
+  pub one_and : ((x y : Formula) → left x → left y → x ≡ y) → ((x y : Formula) → right x → right y → x ≡ y) → IsAnd text left right f → IsAnd text left right g → f ≡ g
+  one_and of_left of_right h k = h.is ∙ (λ i. And (plain text) (of_left h.l k.l h.of_left k.of_left i) (of_right h.r k.r h.of_right k.of_right i)) ∙ sym k.is
+
+  pub one_or : ((x y : Formula) → left x → left y → x ≡ y) → ((x y : Formula) → right x → right y → x ≡ y) → IsOr text left right f → IsOr text left right g → f ≡ g
+  one_or of_left of_right h k = h.is ∙ (λ i. Or (plain text) (of_left h.l k.l h.of_left k.of_left i) (of_right h.r k.r h.of_right k.of_right i)) ∙ sym k.is
+
+module _ {part : Formula → Type 0} {f g : Formula} where
+  pub one_not : {text : Option (List ℕ)} → ((x y : Formula) → part x → part y → x ≡ y) → IsNot text part f → IsNot text part g → f ≡ g
+  one_not {text} one h k = h.is ∙ ap (Not (plain text)) (one h.inner k.inner h.of_part k.of_part) ∙ sym k.is
+
+  pub one_named : {name : List ℕ} → ((x y : Formula) → part x → part y → x ≡ y) → IsNamed name part f → IsNamed name part g → f ≡ g
+  one_named {name} one h k = h.is ∙ ap (Named (plain (Some name)) name) (one h.inner k.inner h.of_part k.of_part) ∙ sym k.is
+
+-- ---- truth
+
+module _ {text : Option (List ℕ)} {left right : Formula → Type 0} {a b : Bool} where
+  -- the left part is true, so the right part decides
+  pub HasTruth-and_by_right : HasTruth left a → a ≡ true → HasTruth right b → HasTruth (IsAnd text left right) b
+  HasTruth-and_by_right of_l e of_r = record { at = λ f h. ap truth h.is ∙ truth-And (plain text) h.l h.r ∙ (λ i. (of_l.at h.l h.of_left ∙ e) i && of_r.at h.r h.of_right i) }
+
+  -- the left part is false, so the right part decides
+  pub HasTruth-or_by_right : HasTruth left a → a ≡ false → HasTruth right b → HasTruth (IsOr text left right) b
+  HasTruth-or_by_right of_l e of_r = record { at = λ f h. ap truth h.is ∙ truth-Or (plain text) h.l h.r ∙ (λ i. (of_l.at h.l h.of_left ∙ e) i || of_r.at h.r h.of_right i) }
+
+module _ {text : Option (List ℕ)} {left right : Formula → Type 0} {a : Bool} where
+  -- the left part is false, and decides
+  pub HasTruth-and_by_left : HasTruth left a → a ≡ false → HasTruth (IsAnd text left right) a
+  HasTruth-and_by_left of_l e = record { at = λ f h. ap truth h.is ∙ truth-And (plain text) h.l h.r ∙ (λ i. (of_l.at h.l h.of_left ∙ e) i && truth h.r) ∙ sym e }
+
+  pub HasTruth-or_by_left : HasTruth left a → a ≡ true → HasTruth (IsOr text left right) a
+  HasTruth-or_by_left of_l e = record { at = λ f h. ap truth h.is ∙ truth-Or (plain text) h.l h.r ∙ (λ i. (of_l.at h.l h.of_left ∙ e) i || truth h.r) ∙ sym e }
+
+module _ {text : Option (List ℕ)} {part : Formula → Type 0} {a b : Bool} where
+  pub HasTruth-not : HasTruth part a → b ≡ not a → HasTruth (IsNot text part) b
+  HasTruth-not of_part e = record { at = λ f h. ap truth h.is ∙ truth-Not (plain text) h.inner ∙ ap not (of_part.at h.inner h.of_part) ∙ sym e }
+
+pub HasTruth-named : {name : List ℕ} {part : Formula → Type 0} {a : Bool} → HasTruth part a → HasTruth (IsNamed name part) a
+HasTruth-named {name} of_part = record { at = λ f h. ap truth h.is ∙ truth-Named (plain (Some name)) name h.inner ∙ of_part.at h.inner h.of_part }
+
+-- ---- cases
+
+node_fits : (text : Entry) (b v : Bool) (parts : List NamedCase) (t : Tree CaseNode) → IsNode text b parts t → v ≡ b → FitsNode (plain text) v t.root
+node_fits text b v parts t h e = record { text = h.text; result = h.result ∙ sym e; products = subst (FitsProducts []) (sym h.products) tt }
+
+module _ (text : Entry) (l r : Formula) (b : Bool) (t : Tree CaseNode) where
+  pub explains_and_both : (c d : Tree CaseNode) → truth l ≡ true → truth r ≡ true → Explains l c → Explains r d → IsNode text b ((codes "left", c) ∷ (codes "right", d) ∷ []) t → truth (And (plain text) l r) ≡ b → Explains (And (plain text) l r) t
+  unfolding Shows
+  explains_and_both c d el er x y node e = record {
+    leaves = x.leaves ++ shifted (size l) y.leaves;
+    first = first-And_both (plain text) l r x.leaves y.leaves el er x.first y.first;
+    shown = (node_fits text b _ _ t node e, subst (λ ch. ShowsBoth (Shows l) (Shows r) (size l) ch (x.leaves ++ shifted (size l) y.leaves)) (sym node.children) (shows_both (Shows l) (Shows r) (size l) x.leaves y.leaves c d (numbers_of l x.leaves x.first) (not_empty l x.leaves x.first) (not_empty r y.leaves y.first) x.shown y.shown));
+  }
+
+  pub explains_and_left : (c : Tree CaseNode) → truth l ≡ false → Explains l c → IsNode text b ((codes "left", c) ∷ []) t → truth (And (plain text) l r) ≡ b → Explains (And (plain text) l r) t
+  unfolding Shows
+  explains_and_left c el x node e = record {
+    leaves = x.leaves;
+    first = first-And_left (plain text) l r x.leaves el x.first;
+    shown = (node_fits text b _ _ t node e, subst (λ ch. ShowsBoth (Shows l) (Shows r) (size l) ch x.leaves) (sym node.children) (shows_left (Shows l) (Shows r) (size l) x.leaves c (numbers_of l x.leaves x.first) (not_empty l x.leaves x.first) x.shown));
+  }
+
+  pub explains_and_right : (d : Tree CaseNode) → truth l ≡ true → truth r ≡ false → Explains r d → IsNode text b ((codes "right", d) ∷ []) t → truth (And (plain text) l r) ≡ b → Explains (And (plain text) l r) t
+  unfolding Shows
+  explains_and_right d el er y node e = record {
+    leaves = shifted (size l) y.leaves;
+    first = first-And_right (plain text) l r y.leaves el er y.first;
+    shown = (node_fits text b _ _ t node e, subst (λ ch. ShowsBoth (Shows l) (Shows r) (size l) ch (shifted (size l) y.leaves)) (sym node.children) (shows_right (Shows l) (Shows r) (size l) y.leaves d (not_empty r y.leaves y.first) y.shown));
+  }
+
+  pub explains_or_both : (c d : Tree CaseNode) → truth l ≡ false → truth r ≡ false → Explains l c → Explains r d → IsNode text b ((codes "left", c) ∷ (codes "right", d) ∷ []) t → truth (Or (plain text) l r) ≡ b → Explains (Or (plain text) l r) t
+  unfolding Shows
+  explains_or_both c d el er x y node e = record {
+    leaves = x.leaves ++ shifted (size l) y.leaves;
+    first = first-Or_both (plain text) l r x.leaves y.leaves el er x.first y.first;
+    shown = (node_fits text b _ _ t node e, subst (λ ch. ShowsBoth (Shows l) (Shows r) (size l) ch (x.leaves ++ shifted (size l) y.leaves)) (sym node.children) (shows_both (Shows l) (Shows r) (size l) x.leaves y.leaves c d (numbers_of l x.leaves x.first) (not_empty l x.leaves x.first) (not_empty r y.leaves y.first) x.shown y.shown));
+  }
+
+  pub explains_or_left : (c : Tree CaseNode) → truth l ≡ true → Explains l c → IsNode text b ((codes "left", c) ∷ []) t → truth (Or (plain text) l r) ≡ b → Explains (Or (plain text) l r) t
+  unfolding Shows
+  explains_or_left c el x node e = record {
+    leaves = x.leaves;
+    first = first-Or_left (plain text) l r x.leaves el x.first;
+    shown = (node_fits text b _ _ t node e, subst (λ ch. ShowsBoth (Shows l) (Shows r) (size l) ch x.leaves) (sym node.children) (shows_left (Shows l) (Shows r) (size l) x.leaves c (numbers_of l x.leaves x.first) (not_empty l x.leaves x.first) x.shown));
+  }
+
+  pub explains_or_right : (d : Tree CaseNode) → truth l ≡ false → truth r ≡ true → Explains r d → IsNode text b ((codes "right", d) ∷ []) t → truth (Or (plain text) l r) ≡ b → Explains (Or (plain text) l r) t
+  unfolding Shows
+  explains_or_right d el er y node e = record {
+    leaves = shifted (size l) y.leaves;
+    first = first-Or_right (plain text) l r y.leaves el er y.first;
+    shown = (node_fits text b _ _ t node e, subst (λ ch. ShowsBoth (Shows l) (Shows r) (size l) ch (shifted (size l) y.leaves)) (sym node.children) (shows_right (Shows l) (Shows r) (size l) y.leaves d (not_empty r y.leaves y.first) y.shown));
+  }
+
+module _ (inner : Formula) (b : Bool) (t c : Tree CaseNode) where
+  pub explains_not : (text : Entry) → Explains inner c → IsNode text b ((codes "predicate", c) ∷ []) t → truth (Not (plain text) inner) ≡ b → Explains (Not (plain text) inner) t
+  unfolding Shows
+  explains_not text x node e = record {
+    leaves = x.leaves;
+    first = first-Not (plain text) inner x.leaves x.first;
+    shown = (node_fits text b _ _ t node e, subst (λ ch. ShowsPart (Shows inner) (codes "predicate") x.leaves ch empty) (sym node.children) (shows_part (Shows inner) (codes "predicate") empty x.leaves c (not_empty inner x.leaves x.first) x.shown));
+  }
+
+  pub explains_named : (name : List ℕ) → Explains inner c → IsNode (Some name) b ((name, c) ∷ []) t → truth (Named (plain (Some name)) name inner) ≡ b → Explains (Named (plain (Some name)) name inner) t
+  unfolding Shows
+  explains_named name x node e = record {
+    leaves = x.leaves;
+    first = first-Named (plain (Some name)) name inner x.leaves x.first;
+    shown = (node_fits (Some name) b _ _ t node e, subst (λ ch. ShowsPart (Shows inner) name x.leaves ch empty) (sym node.children) (shows_part (Shows inner) name empty x.leaves c (not_empty inner x.leaves x.first) x.shown));
+  }
+
+-- ---- from the parts' cases to the case of the whole
+
+-- a node whose text is given fits an entry that the text fits
+pub node_of_text : {entry : Entry} {bytes : List ℕ} {b : Bool} {parts : List NamedCase} {t : Tree CaseNode} → IsNode (Some bytes) b parts t → Fits entry bytes → IsNode entry b parts t
+node_of_text {entry} {bytes} h fits = record {
+  text = (bytes, h.text.1 ∙ ap Some h.text.2, fits);
+  result = h.result;
+  products = h.products;
+  children = h.children;
+}
+
+module _ {text : Option (List ℕ)} {left right : Formula → Type 0} {b : Bool} {c d t : Tree CaseNode} where
+  pub IsCaseOf-and_both : {bytes : List ℕ} → IsNode (Some bytes) b ((codes "left", c) ∷ (codes "right", d) ∷ []) t → Fits text bytes → IsCaseOf left b c → IsCaseOf right b d → b ≡ true → IsCaseOf (IsAnd text left right) b t
+  IsCaseOf-and_both written fits x y e =
+      let node : IsNode text b ((codes "left", c) ∷ (codes "right", d) ∷ []) t = node_of_text written fits in
+      let whole : HasTruth (IsAnd text left right) b = HasTruth-and_by_right x.truth e y.truth in
+      record {
+        truth = whole;
+        explains = λ f h. subst (λ g. Explains g t) (sym h.is) (explains_and_both text h.l h.r b t c d (x.truth.at h.l h.of_left ∙ e) (y.truth.at h.r h.of_right ∙ e) (x.explains h.l h.of_left) (y.explains h.r h.of_right) node (ap truth (sym h.is) ∙ whole.at f h));
+      }
+
+  pub IsCaseOf-or_both : {bytes : List ℕ} → IsNode (Some bytes) b ((codes "left", c) ∷ (codes "right", d) ∷ []) t → Fits text bytes → IsCaseOf left b c → IsCaseOf right b d → b ≡ false → IsCaseOf (IsOr text left right) b t
+  IsCaseOf-or_both written fits x y e =
+      let node : IsNode text b ((codes "left", c) ∷ (codes "right", d) ∷ []) t = node_of_text written fits in
+      let whole : HasTruth (IsOr text left right) b = HasTruth-or_by_right x.truth e y.truth in
+      record {
+        truth = whole;
+        explains = λ f h. subst (λ g. Explains g t) (sym h.is) (explains_or_both text h.l h.r b t c d (x.truth.at h.l h.of_left ∙ e) (y.truth.at h.r h.of_right ∙ e) (x.explains h.l h.of_left) (y.explains h.r h.of_right) node (ap truth (sym h.is) ∙ whole.at f h));
+      }
+
+module _ {text : Option (List ℕ)} {left right : Formula → Type 0} {b : Bool} {c t : Tree CaseNode} where
+  pub IsCaseOf-and_left : {bytes : List ℕ} → IsNode (Some bytes) b ((codes "left", c) ∷ []) t → Fits text bytes → IsCaseOf left b c → b ≡ false → IsCaseOf (IsAnd text left right) b t
+  IsCaseOf-and_left written fits x e =
+      let node : IsNode text b ((codes "left", c) ∷ []) t = node_of_text written fits in
+      let whole : HasTruth (IsAnd text left right) b = HasTruth-and_by_left x.truth e in
+      record {
+        truth = whole;
+        explains = λ f h. subst (λ g. Explains g t) (sym h.is) (explains_and_left text h.l h.r b t c (x.truth.at h.l h.of_left ∙ e) (x.explains h.l h.of_left) node (ap truth (sym h.is) ∙ whole.at f h));
+      }
+
+  pub IsCaseOf-and_right : {bytes : List ℕ} → IsNode (Some bytes) b ((codes "right", c) ∷ []) t → Fits text bytes → HasTruth left (not b) → IsCaseOf right b c → b ≡ false → IsCaseOf (IsAnd text left right) b t
+  IsCaseOf-and_right written fits x y e =
+      let node : IsNode text b ((codes "right", c) ∷ []) t = node_of_text written fits in
+      let whole : HasTruth (IsAnd text left right) b = HasTruth-and_by_right x (ap not e) y.truth in
+      record {
+        truth = whole;
+        explains = λ f h. subst (λ g. Explains g t) (sym h.is) (explains_and_right text h.l h.r b t c (x.at h.l h.of_left ∙ ap not e) (y.truth.at h.r h.of_right ∙ e) (y.explains h.r h.of_right) node (ap truth (sym h.is) ∙ whole.at f h));
+      }
+
+  pub IsCaseOf-or_left : {bytes : List ℕ} → IsNode (Some bytes) b ((codes "left", c) ∷ []) t → Fits text bytes → IsCaseOf left b c → b ≡ true → IsCaseOf (IsOr text left right) b t
+  IsCaseOf-or_left written fits x e =
+      let node : IsNode text b ((codes "left", c) ∷ []) t = node_of_text written fits in
+      let whole : HasTruth (IsOr text left right) b = HasTruth-or_by_left x.truth e in
+      record {
+        truth = whole;
+        explains = λ f h. subst (λ g. Explains g t) (sym h.is) (explains_or_left text h.l h.r b t c (x.truth.at h.l h.of_left ∙ e) (x.explains h.l h.of_left) node (ap truth (sym h.is) ∙ whole.at f h));
+      }
+
+  pub IsCaseOf-or_right : {bytes : List ℕ} → IsNode (Some bytes) b ((codes "right", c) ∷ []) t → Fits text bytes → HasTruth left (not b) → IsCaseOf right b c → b ≡ true → IsCaseOf (IsOr text left right) b t
+  IsCaseOf-or_right written fits x y e =
+      let node : IsNode text b ((codes "right", c) ∷ []) t = node_of_text written fits in
+      let whole : HasTruth (IsOr text left right) b = HasTruth-or_by_right x (ap not e) y.truth in
+      record {
+        truth = whole;
+        explains = λ f h. subst (λ g. Explains g t) (sym h.is) (explains_or_right text h.l h.r b t c (x.at h.l h.of_left ∙ ap not e) (y.truth.at h.r h.of_right ∙ e) (y.explains h.r h.of_right) node (ap truth (sym h.is) ∙ whole.at f h));
+      }
+
+pub not-not : (b : Bool) → not (not b) ≡ b
+not-not true = refl
+not-not false = refl
+
+module _ {part : Formula → Type 0} {b : Bool} {c t : Tree CaseNode} where
+  pub IsCaseOf-not : {text : Option (List ℕ)} → {bytes : List ℕ} → IsNode (Some bytes) b ((codes "predicate", c) ∷ []) t → Fits text bytes → IsCaseOf part (not b) c → IsCaseOf (IsNot text part) b t
+  IsCaseOf-not {text} written fits x =
+      let node : IsNode text b ((codes "predicate", c) ∷ []) t = node_of_text written fits in
+      let whole : HasTruth (IsNot text part) b = HasTruth-not x.truth (sym (not-not b)) in
+      record {
+        truth = whole;
+        explains = λ f h. subst (λ g. Explains g t) (sym h.is) (explains_not h.inner b t c text (x.explains h.inner h.of_part) node (ap truth (sym h.is) ∙ whole.at f h));
+      }
+
+  pub IsCaseOf-named : {name : List ℕ} → {bytes : List ℕ} → IsNode (Some bytes) b ((name, c) ∷ []) t → Fits (Some name) bytes → IsCaseOf part b c → IsCaseOf (IsNamed name part) b t
+  IsCaseOf-named {name} written fits x =
+      let node : IsNode (Some name) b ((name, c) ∷ []) t = node_of_text written fits in
+      let whole : HasTruth (IsNamed name part) b = HasTruth-named x.truth in
+      record {
+        truth = whole;
+        explains = λ f h. subst (λ g. Explains g t) (sym h.is) (explains_named h.inner b t c name (x.explains h.inner h.of_part) node (ap truth (sym h.is) ∙ whole.at f h));
+      }
+
+-- what is found for a part decides the whole
+pub ruleset combined = (HasTruth-and_by_right, HasTruth-and_by_left, HasTruth-or_by_right, HasTruth-or_by_left, HasTruth-not, HasTruth-named, IsCaseOf-and_both, IsCaseOf-and_left, IsCaseOf-and_right, IsCaseOf-or_both, IsCaseOf-or_left, IsCaseOf-or_right, IsCaseOf-not, IsCaseOf-named)

@@ -1,0 +1,53 @@
+-- Lemmas on forests.
+use Rattle.std.proofs.Common.{◌≡◌, ◌+◌, ◌<◌, arith, ℕ, List, [], ◌∷◌, ◌++◌, refl, ap, sym, ◌∙◌, map, zero, suc, length, get_or}
+use Rattle.predicates_core.specs.Tree.{Forest, Tree, empty, branch, forest, named_trees, node_count, add_last}
+use Rattle.predicates_core.specs.Held.{named}
+use Rattle.predicates_core.specs.declared.reflection.case.Branch.{Branch}
+
+module _ {N : Type 0} where
+  pub forest-push : (ts : List (List ℕ × Tree N)) (name : List ℕ) (t : Tree N) → forest (ts ++ (name, t) ∷ []) ≡ add_last (forest ts) name t
+  forest-push [] name t = refl
+  forest-push (x ∷ ts) name t = ap (branch x.0 x.1.root x.1.children) (forest-push ts name t)
+
+  pub forest-named_trees : (f : Forest N) → forest (named_trees f) ≡ f
+  forest-named_trees empty = refl
+  forest-named_trees (branch name node below next) = ap (branch name node below) (forest-named_trees next)
+
+  pub named_trees-forest : (ts : List (List ℕ × Tree N)) → named_trees (forest ts) ≡ ts
+  named_trees-forest [] = refl
+  named_trees-forest (t ∷ ts) = ap (λ us. t ∷ us) (named_trees-forest ts)
+
+  -- how many nodes stand in a list of named trees
+  abbrev total : List (List ℕ × Tree N) → ℕ
+  total [] = 0
+  total (t ∷ ts) = node_count t.1.children + total ts + 1
+
+  total-named_trees : (f : Forest N) → node_count f ≡ total (named_trees f)
+  total-named_trees empty = refl
+  total-named_trees (branch name node below next) = ap (λ n. node_count below + n + 1) (total-named_trees next)
+
+  total-member : (ys : List (List ℕ × Tree N)) (x : List ℕ × Tree N) (zs : List (List ℕ × Tree N)) → node_count x.1.children < total (ys ++ x ∷ zs)
+  total-member [] x zs = omega arith
+  total-member (y ∷ ys) x zs = omega (arith, total-member ys x zs)
+
+  -- a child has fewer nodes under it than its parent
+  pub node_count-child : (f : Forest N) (ys : List (List ℕ × Tree N)) (x : List ℕ × Tree N) (zs : List (List ℕ × Tree N))
+      → named_trees f ≡ ys ++ x ∷ zs → node_count x.1.children < node_count f
+  node_count-child f ys x zs e = rw (total-named_trees f, e) (total-member ys x zs)
+
+  total-at : (ts : List (List ℕ × Tree N)) (i : ℕ) (d : List ℕ × Tree N) → i < length ts → node_count (get_or ts i d).1.children < total ts
+  total-at [] i d h = absurd (omega arith)
+  total-at (t ∷ ts) zero d h = omega arith
+  total-at (t ∷ ts) (suc i) d h = omega (arith, total-at ts i d (omega arith))
+
+  -- the same, of the child at an index
+  pub node_count-item : (f : Forest N) (ts : List (List ℕ × Tree N)) (i : ℕ) (x : List ℕ × Tree N)
+      → ts ≡ named_trees f → i < length ts → x ≡ get_or ts i x → node_count x.1.children < node_count f
+  node_count-item f ts i x e h is =
+      let same : node_count x.1.children ≡ node_count (get_or ts i x).1.children = ap (λ (y : List ℕ × Tree N). node_count y.1.children) is in
+      let all : node_count f ≡ total ts = total-named_trees f ∙ ap total (sym e) in
+      omega (arith, total-at ts i x h)
+
+pub forest-branch_push : (bs : List Branch) (b : Branch) → forest (map named (bs ++ b ∷ [])) ≡ add_last (forest (map named bs)) b.name.now b.case
+forest-branch_push [] b = refl
+forest-branch_push (x ∷ bs) b = ap (branch x.name.now x.case.root x.case.children) (forest-branch_push bs b)

@@ -1,0 +1,11 @@
+pub mod Numbers
+pub mod Values
+pub mod Joins
+pub mod First
+pub mod Combine
+pub mod Shown
+pub mod Combined
+pub mod Leaves
+pub mod Added
+pub mod Forests
+pub mod Lines

@@ -1,0 +1,151 @@
+-- Increasing lists of numbers, and places at which two valuations are equal.
+use Rattle.std.proofs.Common.{◌≡◌, ◌⊎◌, ℕ, suc, ◌+◌, ◌-◌, ◌<◌, ◌≤◌, List, [], ◌∷◌, ◌++◌, Bool, false, length, get_or, refl, sym, ap, ◌∙◌, arith, inl, inr, ⊎_elim}
+use Rattle.std.proofs.lemmas.List.{get_or_append_left, get_or-append-add}
+use Rattle.std.proofs.lemmas.Bool.{cases_lt}
+use Rattle.predicates_core.specs.Reason.{AreIncreasing, AreEqualAt, ComesBefore}
+
+-- the numbers, each larger by n
+abbrev pub shifted : ℕ → List ℕ → List ℕ
+shifted n [] = []
+shifted n (k ∷ rest) = (n + k) ∷ shifted n rest
+
+pub lower : (low low' high : ℕ) (S : List ℕ) → low' ≤ low → AreIncreasing low high S → AreIncreasing low' high S
+unfolding AreIncreasing
+lower low low' high [] l h = tt
+lower low low' high (k ∷ rest) l h = (omega arith, h.1, h.2)
+
+pub increasing_without : (low high : ℕ) (front : List ℕ) (k : ℕ) (back : List ℕ) → AreIncreasing low high (front ++ k ∷ back) → AreIncreasing low high (front ++ back)
+unfolding AreIncreasing
+increasing_without low high [] k back h = lower (suc k) low high back (omega arith) h.2
+increasing_without low high (x ∷ front) k back h = (h.0, h.1, increasing_without (suc x) high front k back h.2)
+
+pub increasing_shifted : (low m n : ℕ) (R : List ℕ) → AreIncreasing low m R → AreIncreasing (n + low) (n + m) (shifted n R)
+unfolding AreIncreasing
+increasing_shifted low m n [] h = tt
+increasing_shifted low m n (k ∷ rest) h = (omega arith, omega arith, lower (n + suc k) (suc (n + k)) (n + m) (shifted n rest) (omega arith) (increasing_shifted (suc k) m n rest h.2))
+
+pub increasing_joined : (low n m : ℕ) (L R : List ℕ) → low ≤ n → AreIncreasing low n L → AreIncreasing 0 m R → AreIncreasing low (n + m) (L ++ shifted n R)
+unfolding AreIncreasing
+increasing_joined low n m [] R l hl hr = lower (n + 0) low (n + m) (shifted n R) (omega arith) (increasing_shifted 0 m n R hr)
+increasing_joined low n m (k ∷ L) R l hl hr = (hl.0, omega arith, increasing_joined (suc k) n m L R hl.1 hl.2 hr)
+
+pub unshifted : (low n m : ℕ) (T : List ℕ) → AreIncreasing (n + low) (n + m) T → (R : List ℕ) × (T ≡ shifted n R) × AreIncreasing low m R
+unfolding AreIncreasing
+unshifted low n m [] h = ([], refl, tt)
+unshifted low n m (k ∷ rest) h =
+    let ih = unshifted (suc (k - n)) n m rest (lower (suc k) (n + suc (k - n)) (n + m) rest (omega arith) h.2) in
+    let e : k ≡ n + (k - n) = omega arith in
+    ((k - n) ∷ ih.0, cc, (omega arith, omega arith, ih.2))
+
+-- every increasing list is one of the left part's numbers and one of the right part's
+pub split : (low n m : ℕ) (T : List ℕ) → low ≤ n → AreIncreasing low (n + m) T → (L : List ℕ) × (R : List ℕ) × (T ≡ L ++ shifted n R) × AreIncreasing low n L × AreIncreasing 0 m R
+unfolding AreIncreasing
+split low n m [] l h = ([], [], refl, tt, tt)
+split low n m (k ∷ rest) l h = ⊎_elim
+    (λ below. let ih = split (suc k) n m rest below h.2 in (k ∷ ih.0, ih.1, ap (λ z. k ∷ z) ih.2, (h.0, below, ih.3), ih.4))
+    (λ above. let r = unshifted 0 n m (k ∷ rest) (omega arith, h.1, h.2) in ([], r.0, r.1, tt, r.2))
+    (cases_lt k n)
+
+pub equal_at_itself : (S : List ℕ) (w : List Bool) → AreEqualAt S w w
+unfolding AreEqualAt
+equal_at_itself [] w = tt
+equal_at_itself (k ∷ rest) w = (refl, equal_at_itself rest w)
+
+pub equal_at_both : (L R : List ℕ) (v w : List Bool) → AreEqualAt L v w → AreEqualAt R v w → AreEqualAt (L ++ R) v w
+unfolding AreEqualAt
+equal_at_both [] R v w hl hr = hr
+equal_at_both (k ∷ L) R v w hl hr = (hl.0, equal_at_both L R v w hl.1 hr)
+
+pub equal_at_first : (L R : List ℕ) (v w : List Bool) → AreEqualAt (L ++ R) v w → AreEqualAt L v w
+unfolding AreEqualAt
+equal_at_first [] R v w h = tt
+equal_at_first (k ∷ L) R v w h = (h.0, equal_at_first L R v w h.1)
+
+pub equal_at_second : (L R : List ℕ) (v w : List Bool) → AreEqualAt (L ++ R) v w → AreEqualAt R v w
+unfolding AreEqualAt
+equal_at_second [] R v w h = h
+equal_at_second (k ∷ L) R v w h = equal_at_second L R v w h.1
+
+-- the left part's places are equal just where they are in the whole
+pub equal_at_left : (low : ℕ) (L : List ℕ) (v₁ v₂ w₁ w₂ : List Bool) → length w₁ ≡ length v₁ → AreIncreasing low (length v₁) L → AreEqualAt L v₁ w₁ → AreEqualAt L (v₁ ++ v₂) (w₁ ++ w₂)
+unfolding AreIncreasing AreEqualAt
+equal_at_left low [] v₁ v₂ w₁ w₂ e i h = tt
+equal_at_left low (k ∷ L) v₁ v₂ w₁ w₂ e i h =
+    let lw : k < length w₁ = omega (arith, i.1) in
+    (get_or_append_left v₁ v₂ false k i.1 ∙ h.0 ∙ sym (get_or_append_left w₁ w₂ false k lw), equal_at_left (suc k) L v₁ v₂ w₁ w₂ e i.2 h.1)
+
+pub left_equal_at : (low : ℕ) (L : List ℕ) (v₁ v₂ w₁ w₂ : List Bool) → length w₁ ≡ length v₁ → AreIncreasing low (length v₁) L → AreEqualAt L (v₁ ++ v₂) (w₁ ++ w₂) → AreEqualAt L v₁ w₁
+unfolding AreIncreasing AreEqualAt
+left_equal_at low [] v₁ v₂ w₁ w₂ e i h = tt
+left_equal_at low (k ∷ L) v₁ v₂ w₁ w₂ e i h =
+    let lw : k < length w₁ = omega (arith, i.1) in
+    (sym (get_or_append_left v₁ v₂ false k i.1) ∙ h.0 ∙ get_or_append_left w₁ w₂ false k lw, left_equal_at (suc k) L v₁ v₂ w₁ w₂ e i.2 h.1)
+
+at_right : (n : ℕ) (v₁ v₂ : List Bool) (k : ℕ) → length v₁ ≡ n → get_or (v₁ ++ v₂) (n + k) false ≡ get_or v₂ k false
+at_right n v₁ v₂ k e = rw (← e) (get_or-append-add v₁ v₂ k false)
+
+pub equal_at_right : (n : ℕ) (R : List ℕ) (v₁ v₂ w₁ w₂ : List Bool) → length v₁ ≡ n → length w₁ ≡ n → AreEqualAt R v₂ w₂ → AreEqualAt (shifted n R) (v₁ ++ v₂) (w₁ ++ w₂)
+unfolding AreEqualAt
+equal_at_right n [] v₁ v₂ w₁ w₂ ev ew h = tt
+equal_at_right n (k ∷ R) v₁ v₂ w₁ w₂ ev ew h =
+    (at_right n v₁ v₂ k ev ∙ h.0 ∙ sym (at_right n w₁ w₂ k ew), equal_at_right n R v₁ v₂ w₁ w₂ ev ew h.1)
+
+pub right_equal_at : (n : ℕ) (R : List ℕ) (v₁ v₂ w₁ w₂ : List Bool) → length v₁ ≡ n → length w₁ ≡ n → AreEqualAt (shifted n R) (v₁ ++ v₂) (w₁ ++ w₂) → AreEqualAt R v₂ w₂
+unfolding AreEqualAt
+right_equal_at n [] v₁ v₂ w₁ w₂ ev ew h = tt
+right_equal_at n (k ∷ R) v₁ v₂ w₁ w₂ ev ew h =
+    (sym (at_right n v₁ v₂ k ev) ∙ h.0 ∙ at_right n w₁ w₂ k ew, right_equal_at n R v₁ v₂ w₁ w₂ ev ew h.1)
+
+-- where one of two lists joined stands in the middle
+pub one_of_two : (L M front : List ℕ) (k : ℕ) (back : List ℕ) → L ++ M ≡ front ++ k ∷ back
+    → ((rest : List ℕ) × (L ≡ front ++ k ∷ rest) × (back ≡ rest ++ M)) ⊎ ((mid : List ℕ) × (front ≡ L ++ mid) × (M ≡ mid ++ k ∷ back))
+one_of_two [] M front k back e = inr (front, refl, e)
+one_of_two (x ∷ L) M [] k back e = inl (L, cc, cc)
+one_of_two (x ∷ L) M (y ∷ front) k back e =
+    let ih = one_of_two L M front k back (cc) in
+    ⊎_elim (λ a. inl (a.0, cc, a.2)) (λ b. inr (b.0, cc, b.2)) ih
+
+pub one_of_shifted : (n : ℕ) (R front : List ℕ) (k : ℕ) (back : List ℕ) → shifted n R ≡ front ++ k ∷ back
+    → (f : List ℕ) × (j : ℕ) × (b : List ℕ) × (R ≡ f ++ j ∷ b) × (front ≡ shifted n f) × (back ≡ shifted n b)
+one_of_shifted n [] [] k back e = absurd (cc)
+one_of_shifted n [] (y ∷ front) k back e = absurd (cc)
+one_of_shifted n (x ∷ R) [] k back e = ([], x, R, refl, refl, cc)
+one_of_shifted n (x ∷ R) (y ∷ front) k back e =
+    let ih = one_of_shifted n R front k back (cc) in
+    (x ∷ ih.0, ih.1, ih.2, ap (λ z. x ∷ z) ih.3, cc, ih.5)
+
+pub shifted_append : (n : ℕ) (L R : List ℕ) → shifted n (L ++ R) ≡ shifted n L ++ shifted n R
+shifted_append n [] R = refl
+shifted_append n (k ∷ L) R = ap (λ z. (n + k) ∷ z) (shifted_append n L R)
+
+pub before_joined : (S T X Y : List ℕ) → ComesBefore S T → ((k : ℕ) (rest : List ℕ) → T ≡ S ++ k ∷ rest → ⊥) → ComesBefore (S ++ X) (T ++ Y)
+unfolding ComesBefore
+before_joined [] [] X Y h no_front = absurd h
+before_joined [] (y ∷ T) X Y h no_front = absurd (no_front y T refl)
+before_joined (x ∷ S) [] X Y h no_front = absurd h
+before_joined (x ∷ S) (y ∷ T) X Y h no_front = ⊎_elim
+    (λ less. inl less)
+    (λ same. inr (same.0, before_joined S T X Y same.1 (λ k rest e. no_front k rest (cc))))
+    h
+
+pub before_behind : (S X Y : List ℕ) → ComesBefore X Y → ComesBefore (S ++ X) (S ++ Y)
+unfolding ComesBefore
+before_behind [] X Y h = h
+before_behind (x ∷ S) X Y h = inr (refl, before_behind S X Y h)
+
+pub before_shifted : (n : ℕ) (S T : List ℕ) → ComesBefore S T → ComesBefore (shifted n S) (shifted n T)
+unfolding ComesBefore
+before_shifted n [] [] h = h
+before_shifted n [] (y ∷ T) h = tt
+before_shifted n (x ∷ S) [] h = h
+before_shifted n (x ∷ S) (y ∷ T) h = ⊎_elim (λ less. inl (omega arith)) (λ same. inr (ap (λ z. n + z) same.0, before_shifted n S T same.1)) h
+
+pub never_both_before : (S T : List ℕ) → ComesBefore S T → ComesBefore T S → ⊥
+unfolding ComesBefore
+never_both_before [] [] h g = h
+never_both_before [] (y ∷ T) h g = g
+never_both_before (x ∷ S) [] h g = h
+never_both_before (x ∷ S) (y ∷ T) h g = ⊎_elim
+    (λ a. ⊎_elim (λ b. omega arith) (λ b. omega arith) g)
+    (λ a. ⊎_elim (λ b. omega arith) (λ b. never_both_before S T a.1 b.1) g)
+    h

@@ -1,0 +1,95 @@
+-- Values of formulas: what a formula is made of, and that it takes both values.
+use Rattle.std.proofs.Common.{◌≡◌, ℕ, ◌+◌, List, [], ◌∷◌, ◌++◌, Bool, true, false, length, take, drop, refl, ap, ◌∙◌, arith, length-append}
+use Rattle.std.specs.Prelude.{not, ◌&&◌, ◌||◌}
+use Rattle.std.proofs.Math.Seq.{take-append_seam, drop-append_seam}
+use Rattle.predicates_core.specs.Label.{Label}
+use Rattle.predicates_core.specs.Formula.{Formula, Leaf, And, Or, Not, Named, size, IsValuation, value, actual, truth}
+
+pub length-actual : (f : Formula) → length (actual f) ≡ size f
+unfolding actual size
+length-actual (Leaf label t) = refl
+length-actual (And label l r) = omega (arith, length-append (actual l) (actual r), length-actual l, length-actual r)
+length-actual (Or label l r) = omega (arith, length-append (actual l) (actual r), length-actual l, length-actual r)
+length-actual (Not label f) = length-actual f
+length-actual (Named label name f) = length-actual f
+
+-- a valuation under which the formula has the value
+pub reaching : Formula → Bool → List Bool
+reaching (Leaf label t) b = b ∷ []
+reaching (And label l r) b = reaching l b ++ reaching r b
+reaching (Or label l r) b = reaching l b ++ reaching r b
+reaching (Not label f) b = reaching f (not b)
+reaching (Named label name f) b = reaching f b
+
+pub length-reaching : (f : Formula) (b : Bool) → IsValuation f (reaching f b)
+unfolding reaching size
+length-reaching (Leaf label t) b = refl
+length-reaching (And label l r) b = omega (arith, length-append (reaching l b) (reaching r b), length-reaching l b, length-reaching r b)
+length-reaching (Or label l r) b = omega (arith, length-append (reaching l b) (reaching r b), length-reaching l b, length-reaching r b)
+length-reaching (Not label f) b = length-reaching f (not b)
+length-reaching (Named label name f) b = length-reaching f b
+
+pub take_front : (n : ℕ) (v w : List Bool) → length v ≡ n → take n (v ++ w) ≡ v
+take_front n v w e = rw (← e) (take-append_seam v w)
+
+pub drop_front : (n : ℕ) (v w : List Bool) → length v ≡ n → drop n (v ++ w) ≡ w
+drop_front n v w e = rw (← e) (drop-append_seam v w)
+
+-- the formula joins two parts: its leaves are theirs, and its value is made of their values
+pub record Joins (op : Bool → Bool → Bool) (f l r : Formula) : Type 0 where
+  pub sizes : size f ≡ size l + size r
+  pub actuals : actual f ≡ actual l ++ actual r
+  pub values : (w : List Bool) → value f w ≡ op (value l (take (size l) w)) (value r (drop (size l) w))
+
+pub and_joins : (label : Label) (l r : Formula) → Joins ◌&&◌ (And label l r) l r
+unfolding size actual value
+and_joins label l r = record { sizes = refl; actuals = refl; values = λ w. refl }
+
+pub or_joins : (label : Label) (l r : Formula) → Joins ◌||◌ (Or label l r) l r
+unfolding size actual value
+or_joins label l r = record { sizes = refl; actuals = refl; values = λ w. refl }
+
+pub joined_value : {op : Bool → Bool → Bool} {f l r : Formula} → Joins op f l r → (v w : List Bool) → IsValuation l v → value f (v ++ w) ≡ op (value l v) (value r w)
+joined_value {op} {f} {l} {r} j v w e = j.values (v ++ w) ∙ cc (take_front (size l) v w e, drop_front (size l) v w e)
+
+pub joined_truth : {op : Bool → Bool → Bool} {f l r : Formula} → Joins op f l r → truth f ≡ op (truth l) (truth r)
+unfolding truth
+joined_truth {op} {f} {l} {r} j = ap (value f) j.actuals ∙ joined_value j (actual l) (actual r) (length-actual l)
+
+pub truth-Leaf : (label : Label) (t : Bool) → truth (Leaf label t) ≡ t
+unfolding truth value actual
+truth-Leaf label t = refl
+
+pub truth-And : (label : Label) (l r : Formula) → truth (And label l r) ≡ truth l && truth r
+truth-And label l r = joined_truth (and_joins label l r)
+
+pub truth-Or : (label : Label) (l r : Formula) → truth (Or label l r) ≡ truth l || truth r
+truth-Or label l r = joined_truth (or_joins label l r)
+
+pub truth-Not : (label : Label) (f : Formula) → truth (Not label f) ≡ not (truth f)
+unfolding truth value actual
+truth-Not label f = refl
+
+pub truth-Named : (label : Label) (name : List ℕ) (f : Formula) → truth (Named label name f) ≡ truth f
+unfolding truth value actual
+truth-Named label name f = refl
+
+pub not_not : (b : Bool) → not (not b) ≡ b
+not_not true = refl
+not_not false = refl
+
+and_same : (b : Bool) → (b && b) ≡ b
+and_same true = refl
+and_same false = refl
+
+or_same : (b : Bool) → (b || b) ≡ b
+or_same true = refl
+or_same false = refl
+
+pub value-reaching : (f : Formula) (b : Bool) → value f (reaching f b) ≡ b
+unfolding reaching value
+value-reaching (Leaf label t) b = refl
+value-reaching (And label l r) b = joined_value (and_joins label l r) (reaching l b) (reaching r b) (length-reaching l b) ∙ cc (value-reaching l b, value-reaching r b, and_same b)
+value-reaching (Or label l r) b = joined_value (or_joins label l r) (reaching l b) (reaching r b) (length-reaching l b) ∙ cc (value-reaching l b, value-reaching r b, or_same b)
+value-reaching (Not label f) b = ap not (value-reaching f (not b)) ∙ not_not b
+value-reaching (Named label name f) b = value-reaching f b

@@ -1,0 +1,11 @@
+use Rattle.std.proofs.Common.{ap, sym, ◌∙◌}
+use Rattle.predicates_core.specs.Tree.{named_trees}
+use Rattle.predicates_core.specs.Describe.{NamedChild}
+use Rattle.predicates_core.specs.Pushed.{named_trees-forest}
+use Rattle.predicates_core.proofs.reflection.child.Child.children.Goals as goal
+
+pub returns : goal.returns
+returns c =
+    c.as_slice.ensures.value
+    ∙ sym (named_trees-forest c.self.inside.children.items)
+    ∙ ap (λ (t : NamedChild). named_trees t.1.children) c.self.view_is

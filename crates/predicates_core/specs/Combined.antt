@@ -1,0 +1,39 @@
+-- The formulas of the combinators over those of their parts.
+use Rattle.std.specs.Prelude.{◌≡◌, ℕ, List, Option, Some, codes}
+use Rattle.std.specs.Fmt.{◌++?◌}
+use Rattle.predicates_core.specs.Label.{plain}
+use Rattle.predicates_core.specs.Formula.{Formula, And, Or, Not, Named}
+
+-- the printed text of two parts with an operator between them
+abbrev pub infix_text : List ℕ → Option (List ℕ) → Option (List ℕ) → Option (List ℕ)
+infix_text operator a b = Some (codes "(") ++? a ++? Some operator ++? b ++? Some (codes ")")
+
+-- the printed text of a part that is turned round
+abbrev pub not_text : Option (List ℕ) → Option (List ℕ)
+not_text a = Some (codes "(! ") ++? a ++? Some (codes ")")
+
+-- f is `And` over a formula of each part
+pub record IsAnd (text : Option (List ℕ)) (left right : Formula → Type 0) (f : Formula) : Type 0 where
+  pub l : Formula
+  pub r : Formula
+  pub of_left : left l
+  pub of_right : right r
+  pub is : f ≡ And (plain text) l r
+
+pub record IsOr (text : Option (List ℕ)) (left right : Formula → Type 0) (f : Formula) : Type 0 where
+  pub l : Formula
+  pub r : Formula
+  pub of_left : left l
+  pub of_right : right r
+  pub is : f ≡ Or (plain text) l r
+
+-- f is `Not` over a formula of the part
+pub record IsNot (text : Option (List ℕ)) (part : Formula → Type 0) (f : Formula) : Type 0 where
+  pub inner : Formula
+  pub of_part : part inner
+  pub is : f ≡ Not (plain text) inner
+
+pub record IsNamed (name : List ℕ) (part : Formula → Type 0) (f : Formula) : Type 0 where
+  pub inner : Formula
+  pub of_part : part inner
+  pub is : f ≡ Named (plain (Some name)) name inner

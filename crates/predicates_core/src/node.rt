@@ -1,0 +1,71 @@
+//! Nodes of cases, from their printed text and their parts.
+ghost use Rattle.std.specs.Prelude.{[], ◌∷◌, codes, Some, IfOk, string_bytes};
+ghost use Rattle.predicates_core.specs.Shows.{IsNode};
+ghost use Rattle.predicates_core.specs.Leaves.{IsShowing};
+
+use crate::reflection::{Case, Product};
+use std::alloc::{AllocError, Global};
+use std::fmt;
+
+/// A node alone.
+pub fn alone(alloc: Global, text: String, outcome: bool) -> Case
+    ensures { IsNode (Some (string_bytes text)) outcome [] result }
+{
+    Case::new(alloc, Some(text), outcome)
+}
+
+/// A node over one part.
+pub fn over_one(
+    alloc: Global,
+    text: String,
+    outcome: bool,
+    name: &'static str,
+    part: Case,
+) -> Result<Case, AllocError>
+    ensures { IfOk result
+        (IsNode (Some (string_bytes text)) outcome ((name.entry.now, part) ∷ [])) }
+{
+    alone(alloc, text, outcome).add_child(name, part)
+}
+
+/// A node over a left and a right part.
+pub fn over_both(
+    alloc: Global,
+    text: String,
+    outcome: bool,
+    left: Case,
+    right: Case,
+) -> Result<Case, AllocError>
+    ensures { IfOk result
+        (IsNode (Some (string_bytes text)) outcome ((codes "left", left) ∷ (codes "right", right) ∷ [])) }
+{
+    alone(alloc, text, outcome)
+        .add_child("left", left)?
+        .add_child("right", right)
+}
+
+/// The case with a value more under the name, the last of its root's products.
+pub fn showing(case: Case, name: &'static str, value: String) -> Result<Case, AllocError>
+    ensures { IfOk result (IsShowing name.entry.now (Some (string_bytes value)) case) }
+{
+    case.add_product(Product::new(name, value))
+}
+
+/// The case with a text more under the name, the last of its root's products.
+pub fn showing_text(
+    alloc: Global,
+    case: Case,
+    name: &'static str,
+    text: &str,
+) -> Result<Case, AllocError>
+    ensures { IfOk result (IsShowing name.entry.now (Some text.now) case) }
+{
+    showing(case, name, String::from_str(alloc, text)?)
+}
+
+/// The case with the item's debug form as the product `var`, the last of its root's products.
+pub fn showing_item<T: fmt::Debug>(alloc: Global, case: Case, item: &T) -> Result<Case, AllocError>
+    ensures { IfOk result (IsShowing (codes "var") (T.debug_output item.now) case) }
+{
+    case.add_product(Product::new("var", format!(in alloc; "{item:?}")?))
+}

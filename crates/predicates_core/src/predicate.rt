@@ -1,0 +1,89 @@
+//! Boolean checks of one item.
+ghost use Rattle.std.specs.Prelude.{◌≡◌, ℕ, List, string_bytes, not, IfOk, IsOk};
+ghost use Rattle.predicates_core.specs.Label.{FitsEntry};
+ghost use Rattle.predicates_core.specs.Formula.{Formula, HasTruth, IsLeaf, truth, text_of};
+ghost use Rattle.predicates_core.specs.Shows.{IsAnswer};
+ghost use Rattle.predicates_core.specs.Leaves.{IsBareAnswer};
+
+use crate::node;
+use crate::reflection::{Case, PredicateReflection};
+use std::alloc::{AllocError, Global};
+
+/// A boolean check of one item.
+pub trait Predicate<Item>: PredicateReflection {
+    // It may be asked about every item, and has one answer for each.
+    ghost lawful: { Self → Type 0 } = { λ _. Unit {0} };
+
+    // The formula of a predicate on an item. A lawful one has at most one.
+    ghost formula: { Self → Item → Formula → Type 0 };
+
+    // On the item `eval` takes no memory.
+    ghost steady: { Self → Item → Type 0 };
+
+    /// Whether the predicate holds of the item.
+    fn eval(&self, alloc: Global, item: &Item) -> Result<bool, AllocError>
+        requires { lawful self.now }
+        ensures truth { IfOk result (HasTruth (formula self.now item.now)) }
+        ensures steady { steady self.now item.now → IsOk result };
+
+    /// A case that explains the verdict where it is the expected one, and none where it is not.
+    fn find_case(
+        &self,
+        alloc: Global,
+        expected: bool,
+        item: &Item,
+    ) -> Result<Option<Case>, AllocError>
+        requires { lawful self.now }
+        ensures { IfOk result (IsAnswer (formula self.now item.now) expected) };
+
+    ghost text_fits: { (p : Self) (v : Item) (f : Formula) → formula p v f → FitsEntry (text_of f) (Self.output p) };
+
+    ghost one_formula: { (p : Self) (v : Item) (f g : Formula) → lawful p → formula p v f → formula p v g → f ≡ g };
+}
+
+/// A predicate that may be asked about every item, whatever it holds, and has a formula on each.
+pub trait Total<Item>: Predicate<Item> {
+    ghost formula_of: { Self → Item → Formula };
+
+    ghost always_lawful: { (p : Self) → Self.lawful p };
+
+    ghost has_formula: { (p : Self) (v : Item) → Self.formula p v (formula_of p v) };
+}
+
+/// An item that has a content, whatever room or place it has in memory.
+pub trait Content {
+    ghost content: { Self → List ℕ };
+}
+
+impl Content for String {
+    ghost content = { λ v. string_bytes v };
+}
+
+/// A predicate that may be asked about every item, and whose formula is a function of the item's content.
+pub trait ReadsContent<Item: Content>: Predicate<Item> {
+    ghost content_formula: { Self → List ℕ → Formula };
+
+    ghost always_lawful: { (p : Self) → Self.lawful p };
+
+    ghost has_formula: { (p : Self) (v : Item) → Self.formula p v (content_formula p (Item.content v)) };
+}
+
+/// The case of a predicate whose formula on the item is a single leaf, without products.
+pub fn default_find_case<P: Predicate<Item>, Item>(
+    alloc: Global,
+    predicate: &P,
+    expected: bool,
+    item: &Item,
+) -> Result<Option<Case>, AllocError>
+    requires lawful { P.lawful predicate.now }
+    requires leaf { (f : Formula) → P.formula predicate.now item.now f → IsLeaf f }
+    ensures answer { IfOk result
+        (IsBareAnswer (P.formula predicate.now item.now) (P.output predicate.now) expected) }
+    ensures steady { P.steady predicate.now item.now → (f : Formula)
+        → P.formula predicate.now item.now f → truth f ≡ not expected → IsOk result }
+{
+    if predicate.eval(alloc, item)? != expected {
+        return Ok(None);
+    }
+    Ok(Some(node::alone(alloc, predicate.to_string(alloc)?, expected)))
+}

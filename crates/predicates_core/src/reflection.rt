@@ -1,0 +1,49 @@
+//! What predicates tell of themselves, apart from any item.
+ghost use Rattle.std.specs.Prelude.{◌≡◌, List, [], IfOk, IsOk};
+ghost use Rattle.predicates_core.specs.Label.{Product, FitsProducts};
+ghost use Rattle.predicates_core.specs.Tree.{Forest, empty, forest};
+ghost use Rattle.predicates_core.specs.Parts.{Part, FitsParts, IsPart};
+
+mod case;
+mod child;
+mod product;
+mod text;
+
+pub use case::{Case, CaseChild, CaseChildren, CaseView};
+pub use child::Child;
+pub use product::{Parameter, Product};
+use std::alloc::{AllocError, Global};
+use std::fmt;
+pub use text::render;
+
+/// A printed text, the values that a predicate was made with, and its parts.
+pub trait PredicateReflection: fmt::Display {
+    ghost parameters_of: { Self → List Product };
+
+    ghost children_of: { Self → Forest Part };
+
+    fn parameters(&self, alloc: Global) -> Result<Vec<Parameter>, AllocError>
+        ensures fits { IfOk result (λ ps. FitsProducts (parameters_of self.now) ps.items) }
+        ensures none { parameters_of self.now ≡ [] → IsOk result };
+
+    fn children(&self, alloc: Global) -> Result<Vec<Child>, AllocError>
+        ensures fits { IfOk result (λ cs. FitsParts (children_of self.now) (forest cs.items)) }
+        ensures none { children_of self.now ≡ empty → IsOk result };
+}
+
+/// The description of a part under a name.
+pub fn describe<P: PredicateReflection>(
+    alloc: Global,
+    name: &'static str,
+    part: &P,
+) -> Result<Child, AllocError>
+    ensures { IfOk result
+        (IsPart name.entry.now (P.output part.now) (P.parameters_of part.now) (P.children_of part.now)) }
+{
+    Ok(Child::new(
+        name,
+        part.to_string(alloc)?,
+        part.parameters(alloc)?,
+        part.children(alloc)?,
+    ))
+}

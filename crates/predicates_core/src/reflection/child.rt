@@ -1,0 +1,84 @@
+//! The description of a predicate's parts.
+ghost use Rattle.std.specs.Prelude.{◌≡◌, string_bytes};
+ghost use Rattle.predicates_core.specs.Tree.{named_trees};
+ghost use Rattle.predicates_core.specs.Describe.{described};
+
+use crate::reflection::Parameter;
+use std::marker::Model;
+
+/// A part of a predicate: the name that it stands under, its printed text, its parameters and its
+/// own children.
+#[derive(Drop)]
+pub struct Child {
+    name: &'static str,
+    text: String,
+    parameters: Vec<Parameter>,
+    children: Vec<Child>,
+}
+
+impl Model for Child {
+    ghost use Rattle.std.specs.Prelude.{string_bytes};
+    ghost use Rattle.predicates_core.specs.Tree.{forest, node_count};
+    ghost use Rattle.predicates_core.specs.Describe.{NamedChild, coded_child};
+
+    ghost Value = { NamedChild };
+
+    ghost coded = { coded_child };
+
+    ghost view = { λ c. (
+      c.name.now,
+      record {
+        root = record { text = string_bytes c.text; parameters = c.parameters.items };
+        children = forest c.children.items;
+      },
+    ) };
+
+    ghost size = { λ c. node_count c.1.children };
+
+    ghost use Rattle.predicates_core.specs.ChildFalls.{depth_le-node_count};
+
+    ghost size_decreases = { λ c h. depth_le-node_count c.children.items };
+}
+
+impl Child {
+    pub fn new(
+        name: &'static str,
+        text: String,
+        parameters: Vec<Parameter>,
+        children: Vec<Child>,
+    ) -> Child
+        ensures { result
+            ≡ described name.entry.now (string_bytes text) parameters.items children.items }
+    {
+        Child {
+            name,
+            text,
+            parameters,
+            children,
+        }
+    }
+
+    pub fn name(&self) -> &'static str
+        ensures { result.now ≡ self.now.0 }
+    {
+        self.name
+    }
+
+    pub fn text(&self) -> &str
+        ensures { result.now ≡ self.now.1.root.text }
+    {
+        self.text.as_str()
+    }
+
+    pub fn parameters(&self) -> &[Parameter]
+        ensures { result.now ≡ self.now.1.root.parameters }
+    {
+        self.parameters.as_slice()
+    }
+
+    pub fn children(&self) -> &[Child]
+        ensures { result.now ≡ named_trees self.now.1.children }
+    {
+        self.children.as_slice()
+    }
+}
