@@ -1,0 +1,6 @@
+mod Cuts
+mod Found
+mod Choices
+mod Counting
+mod Counted
+mod Tests
