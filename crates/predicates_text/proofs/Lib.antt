@@ -4,3 +4,4 @@ mod Choices
 mod Counting
 mod Counted
 mod Tests
+mod Showing

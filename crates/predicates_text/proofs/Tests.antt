@@ -2,9 +2,13 @@
 use Rattle.std.proofs.Common.{◌≡◌, ◌↔◌, List, [], ◌∷◌, ◌++◌, ℕ, suc, Bool, true, false, IsTrue, length, drop, subst, sym, ◌∙◌, ap, refl, ⊎_elim, arith}
 use Rattle.std.specs.Prelude.{◌||◌}
 use Rattle.std.proofs.lemmas.Bool.{cases_Bool, false≢true}
-use Rattle.std.proofs.lemmas.Bool.Decides.{Decides-eqb}
+use Rattle.std.proofs.lemmas.Bool.Decides.{Decides-eqb, nat_tests}
 use Rattle.std.proofs.lemmas.Slice.Eq.{starts_is, ends_is}
-use Rattle.predicates_text.specs.Parts.{IsFrontOf, IsBackOf, IsPartOf, StandsAt, is_front, is_back, is_part}
+use Rattle.predicates_text.specs.Parts.{IsFrontOf, IsBackOf, IsPartOf, StandsAt, is_empty, is_front, is_back, is_part}
+
+pub empty_tells : (t : List ℕ) → IsTrue (is_empty t) ↔ (t ≡ [])
+empty_tells [] = ((λ _. refl), λ _. refl)
+empty_tells (c ∷ t) = ((λ e. absurd (grind (arith, nat_tests, e))), λ e. absurd (omega (arith, ap length e)))
 
 pub front_tells : (s t : List ℕ) → IsTrue (is_front s t) ↔ IsFrontOf s t
 front_tells s t = let is = starts_is Decides-eqb t s (is_front s t) refl in ((λ e. (drop (length s) t, is.0 e)), λ f. is.1 f.0 f.1)

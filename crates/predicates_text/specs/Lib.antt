@@ -1,2 +1,5 @@
 pub mod Parts
 pub mod Count
+pub mod Leaves
+pub mod Held
+pub mod Shown

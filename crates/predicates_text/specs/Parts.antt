@@ -1,5 +1,5 @@
 -- Where one text stands in another, as lists of characters.
-use Rattle.std.specs.Prelude.{◌≡◌, List, [], ◌∷◌, ◌++◌, ℕ, nat_eq, length, Bool, ◌||◌}
+use Rattle.std.specs.Prelude.{◌≡◌, List, [], ◌∷◌, ◌++◌, ℕ, nat_eq, ◌==◌, length, Bool, ◌||◌}
 use Rattle.std.specs.List.{starts_with, ends_with}
 
 -- t begins with s, ends with s
@@ -19,6 +19,9 @@ pub record IsPartOf (s t : List ℕ) : Type 0 where
   pub stands : StandsAt s t place
 
 -- the answers to these questions
+abbrev pub is_empty : List ℕ → Bool
+is_empty t = length t == 0
+
 abbrev pub is_front : List ℕ → List ℕ → Bool
 is_front s t = starts_with nat_eq t s
 

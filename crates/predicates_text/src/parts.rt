@@ -1,11 +1,12 @@
 //! Whether one text stands at the front, at the back or anywhere in another.
 ghost use Rattle.std.specs.Prelude.{◌≡◌, ◌↔◌, [], IsTrue};
 ghost use Rattle.std.specs.Str.{chars};
-ghost use Rattle.predicates_text.specs.Parts.{IsFrontOf, IsBackOf, IsPartOf, is_front, is_back, is_part};
+ghost use Rattle.predicates_text.specs.Parts.{IsFrontOf, IsBackOf, IsPartOf, is_empty, is_front, is_back, is_part};
 
 /// Whether the text has no characters.
 pub fn is_empty(text: &str) -> bool
-    ensures { IsTrue result ↔ (chars text.now ≡ []) }
+    ensures empty { IsTrue result ↔ (chars text.now ≡ []) }
+    ensures value { result ≡ is_empty (chars text.now) }
 {
     text.is_empty()
 }
