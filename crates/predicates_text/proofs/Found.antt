@@ -46,5 +46,5 @@ contains_bytes p t true up ut h =
 contains_bytes p t false up ut h = (
   (λ e. absurd (cc)),
   λ f. absurd (lacks_bytes p t f.place f.stands (h f.place
-  (omega (arith, ap length f.stands.2, f.stands.3, length-append f.stands.0 (p ++ f.stands.1))))),
+      (omega (arith, ap length f.stands.2, f.stands.3, length-append f.stands.0 (p ++ f.stands.1))))),
 )

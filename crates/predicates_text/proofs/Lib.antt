@@ -5,3 +5,6 @@ mod Counting
 mod Counted
 mod Tests
 mod Showing
+mod Trimming
+mod Evening
+mod Handing

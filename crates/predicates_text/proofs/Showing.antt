@@ -1,14 +1,13 @@
 -- The cases that explain the tests of texts.
-use Rattle.std.proofs.Common.{◌≡◌, refl, sym, subst, ℕ, Bool, List, [], Some}
+use Rattle.std.proofs.Common.{◌≡◌, refl, ℕ, Bool, List, Some}
 use Rattle.std.specs.Prelude.{codes}
 use Rattle.std.specs.Fmt.{decimal}
-use Rattle.predicates_core.specs.Label.{Entry, Fits, showing}
-use Rattle.predicates_core.specs.Formula.{Formula, Leaf, HasTruth, with_product}
+use Rattle.predicates_core.specs.Label.{Entry, Fits}
+use Rattle.predicates_core.specs.Formula.{Formula, with_product}
 use Rattle.predicates_core.specs.Tree.{Tree}
 use Rattle.predicates_core.specs.Describe.{CaseNode}
 use Rattle.predicates_core.specs.Shows.{IsCaseOf}
 use Rattle.predicates_core.specs.Leaves.{IsExactly, IsShowing}
-use Rattle.predicates_core.specs.Added.{IsWithProduct}
 use Rattle.predicates_core.proofs.Leaves.{HasTruth-exactly, IsCaseOf-showing}
 use Rattle.predicates_core.proofs.Added.{IsCaseOf-with_product}
 use Rattle.predicates_text.specs.Shown.{IsTextNode}
