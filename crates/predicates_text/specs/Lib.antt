@@ -9,3 +9,4 @@ pub mod Made
 pub mod Handed
 pub mod HandedLaws
 pub mod Inner
+pub mod Pattern

@@ -6,6 +6,7 @@ mod basics;
 pub mod count;
 mod node;
 pub mod parts;
+mod pattern;
 mod views;
 
 pub use adapters::{NormalizedPredicate, PredicateStrExt, TrimPredicate, Utf8Predicate};
@@ -13,4 +14,5 @@ pub use basics::{
     ContainsPredicate, EndsWithPredicate, IsEmptyPredicate, MatchesPredicate, StartsWithPredicate,
     contains, ends_with, is_empty, starts_with,
 };
+pub use pattern::{RegexError, RegexMatchesPredicate, RegexPredicate, is_match};
 pub use views::{lines_even, trimmed};
