@@ -3,7 +3,7 @@ mod Found
 mod Choices
 mod Counting
 mod Counted
-mod Tests
+mod Telling
 mod Showing
 mod Trimming
 mod Evening

@@ -7,6 +7,8 @@ pub mod count;
 mod node;
 pub mod parts;
 mod pattern;
+#[cfg(test)]
+mod tests;
 mod views;
 
 pub use adapters::{NormalizedPredicate, PredicateStrExt, TrimPredicate, Utf8Predicate};

@@ -1,5 +1,5 @@
 use Rattle.predicates_text.proofs.Found.{contains_chars, contains_bytes}
-use Rattle.predicates_text.proofs.Tests.{part_tells, same_test}
+use Rattle.predicates_text.proofs.Telling.{part_tells, same_test}
 use Rattle.predicates_text.proofs.parts.contains.Goals as goal
 
 pub returns : goal.returns
