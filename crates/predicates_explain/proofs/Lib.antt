@@ -1,0 +1,4 @@
+pub mod BlockLemmas
+pub mod Numerals
+pub mod Progress
+pub mod Splitting

@@ -1,0 +1,4 @@
+pub mod Blocks
+pub mod Fault
+pub mod Lines
+pub mod Number
