@@ -1,7 +1,7 @@
 -- What a fault of a run prints.
 use Rattle.std.specs.Prelude.{ℕ, List, codes}
-use Rattle.predicates_explain.specs.declared.run.RunFault.{RunFault}
-use Rattle.predicates_explain.specs.declared.run.RunFault.TheVariants.{NoMemory, Input, Output}
+use Rattle.predicates_explain.specs.declared.fault.RunFault.{RunFault}
+use Rattle.predicates_explain.specs.declared.fault.RunFault.TheVariants.{NoMemory, Input, Output}
 
 abbrev pub fault_text : RunFault → List ℕ
 fault_text NoMemory = codes "no memory"

@@ -4,46 +4,11 @@ ghost use Rattle.std.specs.Option.{ForSome};
 ghost use Rattle.std.specs.Io.BufRead.{strip_last};
 ghost use Rattle.std.specs.Io.KnownBytes.{Appends, Keeps};
 ghost use Rattle.predicates_explain.specs.Lines.{lines, HasRun};
-ghost use Rattle.predicates_explain.specs.declared.run.RunFault.TheVariants.{NoMemory};
 
+use crate::fault::RunFault;
 use std::alloc::{AllocError, Global};
-use std::error::Error;
-use std::fmt;
 use std::io;
 use std::io::{BufRead, ErrorKind, Write};
-
-/// Why a run ended before its input did.
-#[derive(Clone, Copy, Debug, PartialEq, Eq)]
-pub enum RunFault {
-    NoMemory,
-    Input,
-    Output,
-}
-
-impl fmt::Display for RunFault {
-    ghost use Rattle.std.specs.Prelude.{Some};
-    ghost use Rattle.predicates_explain.specs.Fault.{fault_text};
-
-    ghost output = { λ fault. Some (fault_text fault) };
-
-    fn fmt<W: fmt::Write>(&self, f: &mut fmt::Formatter<W>) -> fmt::Result {
-        match self {
-            RunFault::NoMemory => write!(f, "no memory"),
-            RunFault::Input => write!(f, "input fault"),
-            RunFault::Output => write!(f, "output fault"),
-        }
-    }
-}
-
-impl Error for RunFault {}
-
-impl From<AllocError> for RunFault {
-    ghost from_gives = { λ _ fault. fault ≡ NoMemory };
-
-    fn from(_error: AllocError) -> RunFault {
-        RunFault::NoMemory
-    }
-}
 
 // Answers lines one by one.
 pub(crate) trait AnswerLine {
