@@ -19,7 +19,8 @@ pub returns-in_ok-complete_block-in-Some-clause-text : goal.returns-in_ok-comple
 returns-in_ok-complete_block-in-Some-clause-text g c =
     let reads = found c.args.line.now _ _ _ c.drop_last.ensures c.number.ensures c.in-Some.is in
     let same = to_z-of_z w64 c.in-Some.n reads.fits in
-    item c.in-Some.n reads ?
+    let blocks = rw (c.in_ok-write_label-in-Some.ensures, same) at c.in_ok-complete_block-in-Some.ensures in
+    item c.in-Some.n reads (blocks.each _ (g.met.P.Total.has_formula c.args.self.now.check c.in-Some.n))
 
 pub returns-in_ok-complete_block-in-Some-clause-item : goal.returns-in_ok-complete_block-in-Some-clause-item
 returns-in_ok-complete_block-in-Some-clause-item g c =
