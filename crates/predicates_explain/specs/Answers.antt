@@ -1,5 +1,5 @@
 -- What is written for one line.
-use Rattle.std.specs.Prelude.{◌≡◌, ℕ, ℤ, Bool, int_le, List, ◌++◌, Some, codes, decimal}
+use Rattle.std.specs.Prelude.{◌≡◌, ℕ, ℤ, Bool, int_le, List, ◌++◌, Option, Some, codes, decimal}
 use Rattle.std.specs.Fmt.{signed_decimal}
 use Rattle.std.specs.Io.BufRead.{strip_last}
 use Rattle.predicates_core.specs.Label.{plain, showing}
@@ -33,9 +33,13 @@ abbrev pub comparison : List ℕ → ℤ → ℤ → Bool → Formula
 comparison symbol constant n holds =
     Leaf (showing (Some (comparison_text symbol constant)) (codes "var") (Some (signed_decimal n))) holds
 
+-- what `ge(lo).and(le(hi))` prints
+abbrev pub between_text : ℤ → ℤ → Option (List ℕ)
+between_text lo hi = infix_text (codes " && ") (Some (comparison_text (codes ">=") lo)) (Some (comparison_text (codes "<=") hi))
+
 -- the formula of `ge(lo).and(le(hi))` on n: n is lo, hi or between
 abbrev pub between_formula : ℤ → ℤ → ℤ → Formula
 between_formula lo hi n =
-    And (plain (infix_text (codes " && ") (Some (comparison_text (codes ">=") lo)) (Some (comparison_text (codes "<=") hi))))
+    And (plain (between_text lo hi))
     (comparison (codes ">=") lo n (int_le lo n))
     (comparison (codes "<=") hi n (int_le n hi))

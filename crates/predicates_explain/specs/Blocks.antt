@@ -1,12 +1,11 @@
 -- The block of text that explains a verdict.
-use Rattle.std.specs.Prelude.{◌≡◌, refl, ℕ, Bool, true, false, not, List, ◌++◌, codes}
-use Rattle.std.proofs.Common.{sym, ap, ◌∙◌}
-use Rattle.predicates_core.specs.Formula.{Formula, HasTruth, truth}
+use Rattle.std.specs.Prelude.{◌≡◌, ℕ, Bool, List, ◌++◌, codes}
+use Rattle.predicates_core.specs.Formula.{Formula, truth}
 use Rattle.predicates_core.specs.Tree.{Tree}
 use Rattle.predicates_core.specs.Describe.{CaseNode}
 use Rattle.predicates_core.specs.Leaves.{word}
 use Rattle.predicates_core.specs.Lines.{lines}
-use Rattle.predicates_core.specs.Shows.{Explains, IsCaseOf}
+use Rattle.predicates_core.specs.Shows.{Explains}
 
 -- the label and the verdict, on a line
 abbrev pub heading : List ℕ → Bool → List ℕ

@@ -1,15 +1,20 @@
 //! A run over numbers.
-ghost use Rattle.std.specs.Prelude.{◌≡◌, OnOk, string_bytes};
+ghost use Rattle.std.specs.Prelude.{◌≡◌, IfOk, OnOk, string_bytes};
 ghost use Rattle.std.specs.Fmt.{signed_decimal};
 ghost use Rattle.std.specs.Io.BufRead.{strip_last};
-ghost use Rattle.predicates_explain.specs.Answers.{no_number, IsNumber, IsNumberAnswer};
+ghost use Rattle.predicates_explain.specs.Answers.{between_formula, no_number, IsNumber, IsNumberAnswer};
+ghost use Rattle.predicates_explain.specs.Lines.{HasRun};
 
 use crate::block::complete_block;
+use crate::fault::RunFault;
 use crate::numeral::number as number_of;
-use crate::run::AnswerLine;
+use crate::run::{AnswerLine, run_lines};
+use predicates::boolean::PredicateBooleanExt;
+use predicates::ord::{ge, le};
 use predicates_core::Total;
 use std::alloc::{AllocError, Global};
-use std::fmt::Write;
+use std::fmt::Write as _;
+use std::io::{BufRead, Write};
 
 // Answers lines of numbers by a check.
 #[derive(Drop)]
@@ -67,4 +72,23 @@ impl<P: Total<i64>> AnswerLine for Numbers<P> {
             }
         }
     }
+}
+
+/// Writes, for each line of the input, the block that explains whether the number on it lies from `lo` to
+/// `hi`, and says whether every line was a number.
+pub fn run_between<R: BufRead, W: Write>(
+    alloc: Global,
+    lo: i64,
+    hi: i64,
+    input: &mut R,
+    output: &mut W,
+) -> Result<bool, RunFault>
+    ensures { IfOk result (HasRun (IsNumberAnswer (between_formula lo hi)) IsNumber
+        (R.remaining input.old) (R.remaining input.new)
+        (W.contents output.old) (W.contents output.new)) }
+{
+    let numbers = Numbers {
+        check: ge(lo).and(le(hi)),
+    };
+    run_lines(alloc, &numbers, input, output)
 }

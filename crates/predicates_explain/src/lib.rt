@@ -7,6 +7,7 @@ mod fault;
 mod numeral;
 mod run;
 
+pub use between::run_between;
 pub use block::{explain_one, explain_total};
 pub use fault::RunFault;
 pub use numeral::number;

@@ -1,4 +1,4 @@
-use Rattle.std.proofs.Common.{rules, ◌≡◌, ◌∙◌, ◌↔◌, List, ℕ, ℤ, Option, Some, None}
+use Rattle.std.proofs.Common.{rules, ◌≡◌, ◌↔◌, List, ℕ, ℤ, Option, Some, None}
 use Rattle.std.specs.Int.{w64}
 use Rattle.std.proofs.lemmas.Int.{to_z-of_z}
 use Rattle.predicates_explain.specs.Number.{Reads}
