@@ -11,3 +11,6 @@ pub use between::run_between;
 pub use block::{explain_one, explain_total};
 pub use fault::RunFault;
 pub use numeral::number;
+
+#[cfg(test)]
+mod tests;
