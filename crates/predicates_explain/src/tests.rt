@@ -111,7 +111,9 @@ fn faults(rt: HostRuntime) -> Result<(), Fail> {
 
 // Writes the blocks of two lines, and says whether memory was refused.
 fn is_refused(alloc: Global) -> Result<bool, Fail> {
-    let mut output = Vec::with_capacity(alloc, 256)?;
+    let Ok(mut output) = Vec::with_capacity(alloc, 256) else {
+        return Ok(true);
+    };
     let mut reader = "7\n11\n".as_bytes();
     match run_between(alloc, 5, 10, &mut reader, &mut output) {
         Err(RunFault::NoMemory) => Ok(true),
