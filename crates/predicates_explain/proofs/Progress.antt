@@ -3,7 +3,7 @@ use Rattle.std.proofs.Common.{◌≡◌, ℕ, ◌+◌, Bool, true, List, [], ◌
 use Rattle.std.specs.Io.KnownBytes.{Appends, Keeps}
 use Rattle.std.proofs.KnownBytes.{Appends-nil, Appends-trans, Appends-kept}
 use Rattle.std.proofs.lemmas.List.Elements.{All-nil, All-push, All-pop}
-use Rattle.predicates_explain.specs.Lines.{lines, AreAnswers, HasRun}
+use Rattle.predicates_explain.specs.Runs.{input_lines, AreAnswers, HasRun}
 
 -- an answer after others
 AreAnswers-more : (IsAnswer : ℕ → List ℕ → List ℕ → Type 0) (number : ℕ) (done : List (List ℕ)) (line written more : List ℕ)
@@ -18,7 +18,7 @@ AreAnswers-more IsAnswer number (first ∷ done) line written more (a, b, e, ans
 
 -- what a reader that tells its bytes has left, after the lines that are taken
 abbrev pub HasLeft : Option (List ℕ) → Option (List ℕ) → List (List ℕ) → Type 0
-HasLeft before now taken = (bytes : List ℕ) → before ≡ Some bytes → (left : List ℕ) × (now ≡ Some left) × (lines bytes ≡ taken ++ lines left)
+HasLeft before now taken = (bytes : List ℕ) → before ≡ Some bytes → (left : List ℕ) × (now ≡ Some left) × (input_lines bytes ≡ taken ++ input_lines left)
 
 -- the lines that are taken have their answers
 pub record HasAnswered (IsAnswer : ℕ → List ℕ → List ℕ → Type 0) (IsItem : List ℕ → Type 0)
@@ -46,7 +46,7 @@ module _ (IsAnswer : ℕ → List ℕ → List ℕ → Type 0) (IsItem : List �
   -- one more line is taken and answered
   pub has_answered_more : (r0 r1 r2 w0 w1 w2 : Option (List ℕ)) (count : ℕ) (all is_item both : Bool) (line more : List ℕ)
       → HasAnswered IsAnswer IsItem r0 r1 w0 w1 count all
-      → ((bytes : List ℕ) → r1 ≡ Some bytes → (left : List ℕ) × (r2 ≡ Some left) × (lines bytes ≡ line ∷ lines left))
+      → ((bytes : List ℕ) → r1 ≡ Some bytes → (left : List ℕ) × (r2 ≡ Some left) × (input_lines bytes ≡ line ∷ input_lines left))
       → Appends w1 w2 more → IsAnswer (count + 1) line more
       → (IsTrue is_item ↔ IsItem line) → IsTrue both ↔ (IsTrue all × IsTrue is_item)
       → HasAnswered IsAnswer IsItem r0 r2 w0 w2 (count + 1) both
@@ -54,7 +54,7 @@ module _ (IsAnswer : ℕ → List ℕ → List ℕ → Type 0) (IsItem : List �
     taken = h.taken ++ line ∷ [];
     written = h.written ++ more;
     left = λ bytes known. let l = h.left bytes known in let n = next l.0 l.1 in
-        (n.0, n.1, l.2 ∙ ap (λ others. h.taken ++ others) n.2 ∙ sym (append_assoc h.taken (line ∷ []) (lines n.0)));
+        (n.0, n.1, l.2 ∙ ap (λ others. h.taken ++ others) n.2 ∙ sym (append_assoc h.taken (line ∷ []) (input_lines n.0)));
     counts = omega (arith, h.counts, length-append h.taken (line ∷ []));
     appends = Appends-trans _ _ _ _ _ h.appends appends;
     answers = AreAnswers-more IsAnswer 1 h.taken line h.written more h.answers (let same : 1 + length h.taken ≡ count + 1 = omega (arith, h.counts) in rw same answer);
@@ -66,7 +66,7 @@ module _ (IsAnswer : ℕ → List ℕ → List ℕ → Type 0) (IsItem : List �
 
   -- nothing is left
   pub has_run : (r0 r1 r2 w0 w1 w2 : Option (List ℕ)) (count : ℕ) (all : Bool) → HasAnswered IsAnswer IsItem r0 r1 w0 w1 count all
-      → ((bytes : List ℕ) → r1 ≡ Some bytes → (r2 ≡ Some []) × (lines bytes ≡ [])) → Keeps w1 w2
+      → ((bytes : List ℕ) → r1 ≡ Some bytes → (r2 ≡ Some []) × (input_lines bytes ≡ [])) → Keeps w1 w2
       → HasRun IsAnswer IsItem r0 r2 w0 w2 all
   has_run r0 r1 r2 w0 w1 w2 count all h end kept = record {
     taken = h.taken;

@@ -4,7 +4,7 @@ use Rattle.std.specs.Fmt.{signed_decimal}
 use Rattle.predicates_core.specs.Formula.{Formula}
 use Rattle.predicates_explain.specs.Answers.{IsNumberAnswer, item, no_item}
 use Rattle.predicates_explain.specs.Blocks.{IsBlock}
-use Rattle.predicates_explain.specs.Lines.{AreAnswers, HasRun}
+use Rattle.predicates_explain.specs.Runs.{AreAnswers, HasRun}
 
 -- answers of one kind are answers of another
 AreAnswers-as : (A B : ℕ → List ℕ → List ℕ → Type 0) → ((number : ℕ) (line written : List ℕ) → A number line written → B number line written)

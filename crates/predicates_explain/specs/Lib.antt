@@ -1,5 +1,5 @@
 pub mod Answers
 pub mod Blocks
 pub mod Fault
-pub mod Lines
 pub mod Number
+pub mod Runs

@@ -3,11 +3,11 @@ ghost use Rattle.std.specs.Prelude.{◌≡◌, IfOk, OnOk, string_bytes};
 ghost use Rattle.std.specs.Fmt.{signed_decimal};
 ghost use Rattle.std.specs.Io.BufRead.{strip_last};
 ghost use Rattle.predicates_explain.specs.Answers.{between_formula, no_number, IsNumber, IsNumberAnswer};
-ghost use Rattle.predicates_explain.specs.Lines.{HasRun};
+ghost use Rattle.predicates_explain.specs.Runs.{HasRun};
 
 use crate::block::complete_block;
 use crate::fault::RunFault;
-use crate::numeral::number as number_of;
+use crate::numeral;
 use crate::run::{AnswerLine, run_lines};
 use predicates::boolean::PredicateBooleanExt;
 use predicates::ord::{ge, le};
@@ -60,7 +60,7 @@ impl<P: Total<i64>> AnswerLine for Numbers<P> {
         line: &[u8],
         text: &mut String,
     ) -> Result<bool, AllocError> {
-        match number_of(drop_last(line, b'\r')) {
+        match numeral::number(drop_last(line, b'\r')) {
             Some(n) => {
                 write_label(text, n)?;
                 complete_block(alloc, text, &self.check, &n)?;

@@ -3,7 +3,7 @@ ghost use Rattle.std.specs.Prelude.{◌≡◌, ◌↔◌, ℕ, List, [], ◌∷�
 ghost use Rattle.std.specs.Option.{ForSome};
 ghost use Rattle.std.specs.Io.BufRead.{strip_last};
 ghost use Rattle.std.specs.Io.KnownBytes.{Appends, Keeps};
-ghost use Rattle.predicates_explain.specs.Lines.{lines, HasRun};
+ghost use Rattle.predicates_explain.specs.Runs.{input_lines, HasRun};
 
 use crate::fault::RunFault;
 use std::alloc::{AllocError, Global};
@@ -33,21 +33,12 @@ pub(crate) trait AnswerLine {
         ensures item { IfOk result (λ found. IsTrue found ↔ is_item self.now line.now) };
 }
 
-// What a read that failed comes to.
-fn read_fault(error: &io::Error) -> RunFault {
+// What a read or a write that failed comes to, unless it wanted memory.
+fn fault_of(error: &io::Error, fault: RunFault) -> RunFault {
     if error.kind() == ErrorKind::OutOfMemory {
         RunFault::NoMemory
     } else {
-        RunFault::Input
-    }
-}
-
-// What a write that failed comes to.
-fn write_fault(error: &io::Error) -> RunFault {
-    if error.kind() == ErrorKind::OutOfMemory {
-        RunFault::NoMemory
-    } else {
-        RunFault::Output
+        fault
     }
 }
 
@@ -64,9 +55,9 @@ fn pop_if_last(line: &mut Vec<u8>, byte: u8)
 // The answer is `false` at the end of the input.
 fn next_line<R: BufRead>(input: &mut R, line: &mut Vec<u8>) -> Result<bool, RunFault>
     ensures more { result ≡ Ok true → ForSome (R.remaining input.old) (λ bytes. (left : List ℕ)
-        × (R.remaining input.new ≡ Some left) × (lines bytes ≡ line.new.items ∷ lines left)) }
+        × (R.remaining input.new ≡ Some left) × (input_lines bytes ≡ line.new.items ∷ input_lines left)) }
     ensures end { result ≡ Ok false → ForSome (R.remaining input.old) (λ bytes.
-        (R.remaining input.new ≡ Some []) × (lines bytes ≡ [])) }
+        (R.remaining input.new ≡ Some []) × (input_lines bytes ≡ [])) }
 {
     line.clear();
     match input.read_until(b'\n', line) {
@@ -75,27 +66,25 @@ fn next_line<R: BufRead>(input: &mut R, line: &mut Vec<u8>) -> Result<bool, RunF
             pop_if_last(line, b'\n');
             Ok(true)
         }
-        Err(error) => Err(read_fault(&error)),
+        Err(error) => Err(fault_of(&error, RunFault::Input)),
     }
 }
 
 fn write_text<W: Write>(output: &mut W, text: &str) -> Result<(), RunFault>
     ensures { OnOk result (Appends (W.contents output.old) (W.contents output.new) text.now) }
 {
-    match output.write_all(text.as_bytes()) {
-        Ok(()) => Ok(()),
-        Err(error) => Err(write_fault(&error)),
-    }
+    output
+        .write_all(text.as_bytes())
+        .map_err(|error| fault_of(&error, RunFault::Output))
 }
 
 // Passes on to the system what the writer keeps back.
 fn flush<W: Write>(output: &mut W) -> Result<(), RunFault>
     ensures { OnOk result (Keeps (W.contents output.old) (W.contents output.new)) }
 {
-    match output.flush() {
-        Ok(()) => Ok(()),
-        Err(error) => Err(write_fault(&error)),
-    }
+    output
+        .flush()
+        .map_err(|error| fault_of(&error, RunFault::Output))
 }
 
 // Answers each line of the input, and says whether every one was an item.
