@@ -1,0 +1,49 @@
+//! Why there is nothing to tell of a path.
+ghost use Rattle.std.specs.Prelude.{◌≡◌, MatchResult};
+ghost use Rattle.std.specs.IoError.{error_kind};
+ghost use Rattle.predicates_path.specs.Fault.{fault_of};
+
+use std::alloc::AllocError;
+use std::error::Error;
+use std::io::ErrorKind;
+use std::{fmt, io};
+
+/// Why a kind or a content is not there.
+#[derive(Debug, Clone, Copy, PartialEq, Eq)]
+pub enum PathFault {
+    NotFound,
+    PermissionDenied,
+    NotRegular,
+    Other,
+}
+
+impl fmt::Display for PathFault {
+    ghost use Rattle.std.specs.Prelude.{Some};
+    ghost use Rattle.predicates_path.specs.Fault.{fault_text};
+
+    ghost output = { λ fault. Some (fault_text fault) };
+
+    fn fmt<W: fmt::Write>(&self, f: &mut fmt::Formatter<W>) -> fmt::Result {
+        match self {
+            PathFault::NotFound => write!(f, "not found"),
+            PathFault::PermissionDenied => write!(f, "permission denied"),
+            PathFault::NotRegular => write!(f, "not a regular file"),
+            PathFault::Other => write!(f, "other fault"),
+        }
+    }
+}
+
+impl Error for PathFault {}
+
+// What an error of the system comes to. Want of memory is no fault of the path.
+pub(crate) fn path_fault(error: &io::Error) -> Result<PathFault, AllocError>
+    ensures { MatchResult result (λ fault. fault ≡ fault_of (error_kind error.now))
+        (λ _. error_kind error.now ≡ ErrorKind.OutOfMemory) }
+{
+    match error.kind() {
+        ErrorKind::NotFound => Ok(PathFault::NotFound),
+        ErrorKind::PermissionDenied => Ok(PathFault::PermissionDenied),
+        ErrorKind::OutOfMemory => Err(AllocError),
+        _ => Ok(PathFault::Other),
+    }
+}

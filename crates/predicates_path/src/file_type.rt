@@ -1,0 +1,49 @@
+//! What kinds of things stand at paths.
+ghost use Rattle.std.specs.Prelude.{◌≡◌, ◌↔◌};
+ghost use Rattle.std.specs.Fs.{IsDir, IsFile, IsSymlink, file_type};
+
+use std::fmt;
+use std::fs::Metadata;
+
+/// The kind of what stands at a path. A device, a pipe or a socket is `Other`.
+#[derive(Debug, Clone, Copy, PartialEq, Eq)]
+pub enum FileType {
+    File,
+    Dir,
+    Symlink,
+    Other,
+}
+
+impl fmt::Display for FileType {
+    ghost use Rattle.std.specs.Prelude.{Some};
+    ghost use Rattle.predicates_path.specs.FileType.{kind_text};
+
+    ghost output = { λ kind. Some (kind_text kind) };
+
+    fn fmt<W: fmt::Write>(&self, f: &mut fmt::Formatter<W>) -> fmt::Result {
+        match self {
+            FileType::File => write!(f, "file"),
+            FileType::Dir => write!(f, "dir"),
+            FileType::Symlink => write!(f, "symlink"),
+            FileType::Other => write!(f, "other"),
+        }
+    }
+}
+
+// The kind that the system tells.
+pub(crate) fn kind_of(metadata: &Metadata) -> FileType
+    ensures file { (result ≡ FileType.File) ↔ IsFile (file_type metadata.now) }
+    ensures dir { (result ≡ FileType.Dir) ↔ IsDir (file_type metadata.now) }
+    ensures symlink { (result ≡ FileType.Symlink) ↔ IsSymlink (file_type metadata.now) }
+{
+    let told = metadata.file_type();
+    if told.is_file() {
+        FileType::File
+    } else if told.is_dir() {
+        FileType::Dir
+    } else if told.is_symlink() {
+        FileType::Symlink
+    } else {
+        FileType::Other
+    }
+}
