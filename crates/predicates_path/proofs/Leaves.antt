@@ -1,10 +1,10 @@
 -- Cases of leaves, with any list of products.
 use Rattle.std.proofs.Common.{◌≡◌, ℕ, Bool, List, [], ◌∷◌, ◌++◌, Some, refl, append_assoc, append-nil}
-use Rattle.predicates_core.specs.Label.{Label, Entry, Product, plain, showing, Fits}
+use Rattle.predicates_core.specs.Label.{Entry, Product, plain, showing, Fits}
 use Rattle.predicates_core.specs.Formula.{Formula, Leaf, HasTruth, with_product}
 use Rattle.predicates_core.specs.Tree.{Tree}
 use Rattle.predicates_core.specs.Describe.{CaseNode}
-use Rattle.predicates_core.specs.Shows.{Explains, IsCaseOf, IsNode}
+use Rattle.predicates_core.specs.Shows.{IsCaseOf, IsNode}
 use Rattle.predicates_core.specs.Leaves.{IsExactly, IsShowing}
 use Rattle.predicates_core.specs.Added.{IsWithProduct}
 use Rattle.predicates_core.proofs.Leaves.{HasTruth-exactly, HasTruth-same, IsCaseOf-leaf, own_truth}

@@ -4,3 +4,7 @@ pub mod FileType
 pub mod Snapshot
 pub mod Existence
 pub mod Kind
+pub mod Equality
+pub mod TextEquality
+pub mod Content
+pub mod ContentLaws

@@ -1,9 +1,12 @@
 //! Why there is nothing to tell of a path.
-ghost use Rattle.std.specs.Prelude.{◌≡◌, MatchResult};
+ghost use Rattle.std.specs.Prelude.{◌≡◌, Some, codes, IfOk, MatchResult};
 ghost use Rattle.std.specs.IoError.{error_kind};
-ghost use Rattle.predicates_path.specs.Fault.{fault_of};
+ghost use Rattle.predicates_core.specs.Leaves.{IsShowing};
+ghost use Rattle.predicates_path.specs.Fault.{fault_of, fault_text};
 
-use std::alloc::AllocError;
+use predicates_core::node::showing;
+use predicates_core::reflection::Case;
+use std::alloc::{AllocError, Global};
 use std::error::Error;
 use std::io::ErrorKind;
 use std::{fmt, io};
@@ -18,9 +21,6 @@ pub enum PathFault {
 }
 
 impl fmt::Display for PathFault {
-    ghost use Rattle.std.specs.Prelude.{Some};
-    ghost use Rattle.predicates_path.specs.Fault.{fault_text};
-
     ghost output = { λ fault. Some (fault_text fault) };
 
     fn fmt<W: fmt::Write>(&self, f: &mut fmt::Formatter<W>) -> fmt::Result {
@@ -46,4 +46,11 @@ pub(crate) fn path_fault(error: &io::Error) -> Result<PathFault, AllocError>
         ErrorKind::OutOfMemory => Err(AllocError),
         _ => Ok(PathFault::Other),
     }
+}
+
+// The case with the fault as the product `error`.
+pub(crate) fn show_fault(alloc: Global, case: Case, fault: PathFault) -> Result<Case, AllocError>
+    ensures { IfOk result (IsShowing (codes "error") (Some (fault_text fault)) case) }
+{
+    showing(case, "error", fault.to_string(alloc)?)
 }

@@ -1,7 +1,12 @@
 //! What kinds of things stand at paths.
-ghost use Rattle.std.specs.Prelude.{◌≡◌, ◌↔◌};
+ghost use Rattle.std.specs.Prelude.{◌≡◌, ◌↔◌, Some, codes, IfOk};
 ghost use Rattle.std.specs.Fs.{IsDir, IsFile, IsSymlink, file_type};
+ghost use Rattle.predicates_core.specs.Leaves.{IsShowing};
+ghost use Rattle.predicates_path.specs.FileType.{kind_text};
 
+use predicates_core::node::showing;
+use predicates_core::reflection::Case;
+use std::alloc::{AllocError, Global};
 use std::fmt;
 use std::fs::Metadata;
 
@@ -15,9 +20,6 @@ pub enum FileType {
 }
 
 impl fmt::Display for FileType {
-    ghost use Rattle.std.specs.Prelude.{Some};
-    ghost use Rattle.predicates_path.specs.FileType.{kind_text};
-
     ghost output = { λ kind. Some (kind_text kind) };
 
     fn fmt<W: fmt::Write>(&self, f: &mut fmt::Formatter<W>) -> fmt::Result {
@@ -46,4 +48,11 @@ pub(crate) fn kind_of(metadata: &Metadata) -> FileType
     } else {
         FileType::Other
     }
+}
+
+// The case with the kind as the product `actual filetype`.
+pub(crate) fn show_kind(alloc: Global, case: Case, kind: FileType) -> Result<Case, AllocError>
+    ensures { IfOk result (IsShowing (codes "actual filetype") (Some (kind_text kind)) case) }
+{
+    showing(case, "actual filetype", kind.to_string(alloc)?)
 }

@@ -8,8 +8,10 @@ ghost use Rattle.predicates_path.specs.Snapshot.{followed_of};
 ghost use Rattle.predicates_path.specs.FileType.{is_same_kind};
 ghost use Rattle.predicates_path.specs.Kind.{tested_kind, follows, found_kind, shown_name, shown_value, kind_predicate_text, kind_formula};
 
+use crate::fault::show_fault;
+use crate::file_type::show_kind;
 use crate::{FileType, PathFault, Snapshot};
-use predicates_core::node::{alone, showing};
+use predicates_core::node::alone;
 use predicates_core::reflection::{Case, Child, Parameter, PredicateReflection};
 use predicates_core::{Predicate, Total};
 use std::alloc::{AllocError, Global};
@@ -62,7 +64,7 @@ fn is_same(a: FileType, b: FileType) -> bool
 }
 
 // The case with the kind, or its fault, as a product.
-fn show_kind(
+fn show_found(
     alloc: Global,
     case: Case,
     found: Result<FileType, PathFault>,
@@ -70,8 +72,8 @@ fn show_kind(
     ensures { IfOk result (IsShowing (shown_name found) (Some (shown_value found)) case) }
 {
     match found {
-        Ok(kind) => showing(case, "actual filetype", kind.to_string(alloc)?),
-        Err(fault) => showing(case, "error", fault.to_string(alloc)?),
+        Ok(kind) => show_kind(alloc, case, kind),
+        Err(fault) => show_fault(alloc, case, fault),
     }
 }
 
@@ -162,7 +164,7 @@ impl Predicate<Snapshot> for FileTypePredicate {
             return Ok(None);
         }
         let case = alone(alloc, self.to_string(alloc)?, expected);
-        Ok(Some(show_kind(alloc, case, self.found(item))?))
+        Ok(Some(show_found(alloc, case, self.found(item))?))
     }
 }
 

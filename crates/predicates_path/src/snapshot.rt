@@ -115,4 +115,19 @@ impl Snapshot {
     {
         showing_text(alloc, case, "var", self.path.as_str())
     }
+
+    // The content as it is held.
+    pub(crate) fn held(&self) -> &Result<Vec<u8>, PathFault>
+        ensures { result.now ≡ held_of self.now }
+    {
+        &self.content
+    }
+
+    // The path and the content.
+    pub(crate) fn into_file(self) -> (String, Result<Vec<u8>, PathFault>)
+        ensures path { string_bytes result.0 ≡ path_of self }
+        ensures content { result.1 ≡ held_of self }
+    {
+        (self.path, self.content)
+    }
 }
