@@ -1,8 +1,7 @@
 //! Why there is nothing to tell of a path.
-ghost use Rattle.std.specs.Prelude.{◌≡◌, Some, codes, IfOk, MatchResult};
-ghost use Rattle.std.specs.IoError.{error_kind};
+ghost use Rattle.std.specs.Prelude.{Some, codes, IfOk};
 ghost use Rattle.predicates_core.specs.Leaves.{IsShowing};
-ghost use Rattle.predicates_path.specs.Fault.{fault_of, fault_text};
+ghost use Rattle.predicates_path.specs.Fault.{ComesTo, fault_text};
 
 use predicates_core::node::showing;
 use predicates_core::reflection::Case;
@@ -37,8 +36,7 @@ impl Error for PathFault {}
 
 // What an error of the system comes to. Want of memory is no fault of the path.
 pub(crate) fn path_fault(error: &io::Error) -> Result<PathFault, AllocError>
-    ensures { MatchResult result (λ fault. fault ≡ fault_of (error_kind error.now))
-        (λ _. error_kind error.now ≡ ErrorKind.OutOfMemory) }
+    ensures { ComesTo error.now result }
 {
     match error.kind() {
         ErrorKind::NotFound => Ok(PathFault::NotFound),

@@ -1,8 +1,8 @@
 //! What kinds of things stand at paths.
-ghost use Rattle.std.specs.Prelude.{◌≡◌, ◌↔◌, Some, codes, IfOk};
-ghost use Rattle.std.specs.Fs.{IsDir, IsFile, IsSymlink, file_type};
+ghost use Rattle.std.specs.Prelude.{Some, codes, IfOk};
+ghost use Rattle.std.specs.Fs.{file_type};
 ghost use Rattle.predicates_core.specs.Leaves.{IsShowing};
-ghost use Rattle.predicates_path.specs.FileType.{kind_text};
+ghost use Rattle.predicates_path.specs.FileType.{IsKindOf, kind_text};
 
 use predicates_core::node::showing;
 use predicates_core::reflection::Case;
@@ -34,9 +34,7 @@ impl fmt::Display for FileType {
 
 // The kind that the system tells.
 pub(crate) fn kind_of(metadata: &Metadata) -> FileType
-    ensures file { (result ≡ FileType.File) ↔ IsFile (file_type metadata.now) }
-    ensures dir { (result ≡ FileType.Dir) ↔ IsDir (file_type metadata.now) }
-    ensures symlink { (result ≡ FileType.Symlink) ↔ IsSymlink (file_type metadata.now) }
+    ensures { IsKindOf (file_type metadata.now) result }
 {
     let told = metadata.file_type();
     if told.is_file() {

@@ -1,6 +1,9 @@
 //! What stands at a path, taken once.
 ghost use Rattle.std.specs.Prelude.{◌≡◌, Some, codes, IfOk, string_bytes};
 ghost use Rattle.predicates_core.specs.Leaves.{IsShowing};
+ghost use Rattle.std.specs.Fs.{file_type};
+ghost use Rattle.predicates_path.specs.FileType.{IsKindOf};
+ghost use Rattle.predicates_path.specs.Fault.{TellsAs};
 ghost use Rattle.predicates_path.specs.Snapshot.{path_of, plain_of, followed_of, held_of, content_of, read_bytes, IsConsistent};
 
 use crate::fault::{PathFault, path_fault};
@@ -22,7 +25,9 @@ pub struct Snapshot {
 }
 
 // The kind that the system told, or its fault.
-fn kind(told: io::Result<Metadata>) -> Result<Result<FileType, PathFault>, AllocError> {
+fn kind(told: io::Result<Metadata>) -> Result<Result<FileType, PathFault>, AllocError>
+    ensures { TellsAs (λ metadata. IsKindOf (file_type metadata)) told result }
+{
     match told {
         Ok(metadata) => Ok(Ok(kind_of(&metadata))),
         Err(error) => Ok(Err(path_fault(&error)?)),
@@ -30,7 +35,9 @@ fn kind(told: io::Result<Metadata>) -> Result<Result<FileType, PathFault>, Alloc
 }
 
 // What reading the file gave, or its fault.
-fn content(told: io::Result<Vec<u8>>) -> Result<Result<Vec<u8>, PathFault>, AllocError> {
+fn content(told: io::Result<Vec<u8>>) -> Result<Result<Vec<u8>, PathFault>, AllocError>
+    ensures { TellsAs ◌≡◌ told result }
+{
     match told {
         Ok(bytes) => Ok(Ok(bytes)),
         Err(error) => Ok(Err(path_fault(&error)?)),
