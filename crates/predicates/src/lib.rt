@@ -3,6 +3,7 @@
 
 pub mod boolean;
 pub mod constant;
+pub mod iter;
 pub mod ord;
 #[cfg(test)]
 mod tests;

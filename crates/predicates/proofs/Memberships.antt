@@ -1,0 +1,40 @@
+-- The list that keeps the first of equal items has the same members up to equality.
+use Rattle.std.proofs.Common.{◌≡◌, Bool, true, false, ◌||◌, cond, List, [], ◌∷◌, ◌++◌, sym, refl, ap, ◌∙◌}
+use Rattle.std.specs.Prelude.{fold}
+use Rattle.std.specs.Cmp.{IsEquivalence}
+use Rattle.std.specs.List.{list_any}
+use Rattle.std.proofs.lemmas.List.Folds.{list_any-append}
+use Rattle.std.proofs.lemmas.Map.Steps.{list_any_congr}
+use Rattle.predicates.specs.Members.{has_equal, keep_first, first_of_equals}
+
+or_false : (b : Bool) → (b || false) ≡ b
+or_false true = refl
+or_false false = refl
+
+or_assoc : (a b c : Bool) → ((a || b) || c) ≡ (a || (b || c))
+or_assoc true b c = refl
+or_assoc false b c = refl
+
+or_absorb : (a b : Bool) → (b ≡ true → a ≡ true) → a ≡ (a || b)
+or_absorb true b h = refl
+or_absorb false true h = h refl
+or_absorb false false h = refl
+
+module _ {T : Type 0} {eq : T → T → Bool} (laws : IsEquivalence eq) (item : T) where
+  swapped : (xs : List T) → has_equal eq xs item ≡ list_any (eq item) xs
+  swapped [] = refl
+  swapped (x ∷ xs) = λ i. laws.symm x item i || swapped xs i
+
+  one_more : (kept : List T) (x : T) (b : Bool) → list_any (eq x) kept ≡ b → has_equal eq (cond b kept (kept ++ x ∷ [])) item ≡ (has_equal eq kept item || eq x item)
+  one_more kept x true there = or_absorb (has_equal eq kept item) (eq x item) (λ e. swapped kept ∙ list_any_congr laws item x kept (laws.symm item x ∙ e) ∙ there)
+  one_more kept x false absent = list_any-append (λ member. eq member item) kept (x ∷ []) ∙ ap (λ last. has_equal eq kept item || last) (or_false (eq x item))
+
+  members_from : (xs kept : List T) → has_equal eq (fold (keep_first eq) kept xs) item ≡ (has_equal eq kept item || has_equal eq xs item)
+  members_from [] kept = sym (or_false (has_equal eq kept item))
+  members_from (x ∷ xs) kept =
+      members_from xs (keep_first eq kept x)
+      ∙ ap (λ first. first || has_equal eq xs item) (one_more kept x (list_any (eq x) kept) refl)
+      ∙ or_assoc (has_equal eq kept item) (eq x item) (has_equal eq xs item)
+
+  pub has_equal-first_of_equals : (xs : List T) → has_equal eq (first_of_equals eq xs) item ≡ has_equal eq xs item
+  has_equal-first_of_equals xs = members_from xs []
