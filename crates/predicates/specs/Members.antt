@@ -1,11 +1,19 @@
 -- Membership by an equality that is only known to be lawful, and the items that are handed in.
-use Rattle.std.specs.Prelude.{◌≡◌, ℕ, Bool, List, [], ◌∷◌, ◌++◌, Option, Some, if◌then◌else◌, fold, codes}
+use Rattle.std.specs.Prelude.{◌≡◌, ℕ, Bool, List, [], ◌∷◌, ◌++◌, Option, Some, if◌then◌else◌, fold, codes, string_bytes}
 use Rattle.std.specs.Iterator.{Drains}
 use Rattle.std.specs.List.{list_any}
+use Rattle.std.specs.Str.{bytes_eq}
+use Rattle.predicates_core.specs.Label.{showing}
+use Rattle.predicates_core.specs.Formula.{Formula, Leaf}
+use Rattle.predicates_core.specs.Text.{Text}
 
 -- some member equals the item
 abbrev pub has_equal : {T : Type 0} → (T → T → Bool) → List T → T → Bool
 has_equal eq members item = list_any (λ member. eq member item) members
+
+-- some text has the bytes
+abbrev pub has_text : List Text → List ℕ → Bool
+has_text texts bytes = list_any (λ text. bytes_eq (string_bytes text) bytes) texts
 
 -- the item goes last, unless an earlier one equals it
 abbrev pub keep_first : {T : Type 0} → (T → T → Bool) → List T → T → List T
@@ -24,6 +32,10 @@ pub record GivesItems {U S T : Type 0} (becomes : U → S → Type 0) (steps : S
 -- the printed text of each of the memberships
 abbrev pub member_text : Option (List ℕ)
 member_text = Some (codes "var in values")
+
+-- the leaf of each of the memberships, from what the item shows and whether it is a member
+abbrev pub member_leaf : Option (List ℕ) → Bool → Formula
+member_leaf shown holds = Leaf (showing member_text (codes "var") shown) holds
 
 -- of the items that an iterator of the value gives, the first of equal ones are kept, in order
 pub record KeepsFirst {U S T : Type 0} (becomes : U → S → Type 0) (steps : S → Option T → S → Type 0) (eq : T → T → Bool) (iterable : U) (kept : List T) : Type 0 where
