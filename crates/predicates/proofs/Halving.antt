@@ -68,37 +68,57 @@ digits-half m n h k = omega (arith, digits_more n h, digits_rise m (n / 2) k)
 pub digits-le : (n : ℕ) → n < 2 ^ 64 → digits n ≤ 64
 digits-le n h = length-digits_of-le 2 64 n (omega arith) h
 
--- what is left to search after one comparison: it rises, has an equal member where all had one, and is shorter by a digit
-pub record IsNarrowed {T : Type 0} (eq : T → T → Bool) (cmp : T → T → Ordering) (item : T) (xs part : List T) : Type 0 where
-  pub rises : IsNonDecreasingBy (λ x. ordering_index (cmp x item)) part
-  pub same : has_equal eq xs item ≡ has_equal eq part item
-  pub fewer : digits (length part) + 1 ≤ digits (length xs)
+-- What is left to search after some comparisons: the rest rises, has an equal member where all have one, and has fewer digits by the comparisons that were made.
+pub record IsLeft {T : Type 0} (eq : T → T → Bool) (cmp : T → T → Ordering) (item : T) (all : List T) (taken : ℕ) (rest : List T) : Type 0 where
+  pub rises : IsNonDecreasingBy (λ x. ordering_index (cmp x item)) rest
+  pub same : has_equal eq all item ≡ has_equal eq rest item
+  pub few : taken + digits (length rest) ≤ digits (length all)
 
--- the two parts of xs around its middle member
-module _ {T : Type 0} (eq : T → T → Bool) (cmp : T → T → Ordering) (agree : (x y : T) → eq x y ≡ eq_by_cmp cmp x y) (item : T) (xs before : List T) (middle : T) (after : List T) (rises : IsNonDecreasingBy (λ x. ordering_index (cmp x item)) xs) (front : before ≡ take (length xs / 2) xs) (back : drop (length xs / 2) xs ≡ middle ∷ after) where
-  in_range : length xs / 2 < length xs
-  in_range = omega (arith, length-drop (length xs / 2) xs, ap length back)
+module _ {T : Type 0} {eq : T → T → Bool} {cmp : T → T → Ordering} {item : T} {all : List T} {taken : ℕ} {rest : List T} where
+  -- a comparison can be counted
+  pub can_count : IsLeft eq cmp item all taken rest → 0 < length rest → length all < 2 ^ 64 → taken + 1 < 2 ^ 64
+  can_count left some small = omega (arith, left.few, digits-half 0 (length rest) some (omega arith), digits-le (length all) small)
 
-  middle_is : get_or xs (length xs / 2) middle ≡ middle
-  middle_is = ap (λ k. get_or xs k middle) (sym (add-zero (length xs / 2))) ∙ sym (get_or-drop (length xs / 2) xs 0 middle) ∙ ap (λ all. get_or all 0 middle) back
+  -- a comparison with a member is within the digits
+  pub within_digits : IsLeft eq cmp item all taken rest → 0 < length rest → taken + 1 ≤ digits (length all)
+  within_digits left some = omega (arith, left.few, digits-half 0 (length rest) some (omega arith))
 
-  after_is : after ≡ drop (length xs / 2 + 1) xs
-  after_is = ap (drop 1) (sym back) ∙ drop-drop 1 (length xs / 2) xs
+  -- one comparison with the middle member, which stands between `before` and `after`
+  module _ (agree : (x y : T) → eq x y ≡ eq_by_cmp cmp x y) (left : IsLeft eq cmp item all taken rest) {before others after : List T} {middle : T} {order : Ordering} (front : before ≡ take (length rest / 2) rest) (back : others ≡ drop (length rest / 2) rest) (parts : others ≡ middle ∷ after) (compared : order ≡ cmp middle item) where
+    behind : drop (length rest / 2) rest ≡ middle ∷ after
+    behind = sym back ∙ parts
 
-  pub narrowed_after : cmp middle item ≡ Less → IsNarrowed eq cmp item xs after
-  narrowed_after less = record {
-    rises = rw after_is (IsNonDecreasingBy-drop (λ x. ordering_index (cmp x item)) (length xs / 2 + 1) xs rises);
-    same = rw after_is (has_equal-after_less eq cmp agree item xs rises (length xs / 2) middle in_range (rw middle_is less));
-    fewer = digits-half (length after) (length xs) (omega (arith, in_range)) (omega (arith, ap length back, length-drop (length xs / 2) xs));
-  }
+    in_range : length rest / 2 < length rest
+    in_range = omega (arith, length-drop (length rest / 2) rest, ap length behind)
 
-  pub narrowed_before : cmp middle item ≡ Greater → IsNarrowed eq cmp item xs before
-  narrowed_before greater = record {
-    rises = rw front (IsNonDecreasingBy-take (λ x. ordering_index (cmp x item)) (length xs / 2) xs rises);
-    same = rw front (has_equal-before_greater eq cmp agree item xs rises (length xs / 2) middle in_range (rw middle_is greater));
-    fewer = digits-half (length before) (length xs) (omega (arith, in_range)) (omega (arith, ap length front, length-take (length xs / 2) xs));
-  }
+    middle_is : get_or rest (length rest / 2) middle ≡ middle
+    middle_is = ap (λ k. get_or rest k middle) (sym (add-zero (length rest / 2))) ∙ sym (get_or-drop (length rest / 2) rest 0 middle) ∙ ap (λ xs. get_or xs 0 middle) behind
 
--- the members rise by how they compare with the item
-pub rises_from_sorted : {T : Type 0} (cmp : T → T → Ordering) → IsTotalOrder cmp → (item : T) (xs : List T) → IsSorted cmp xs → IsNonDecreasingBy (λ x. ordering_index (cmp x item)) xs
-rises_from_sorted cmp total item xs sorted = searchable_from_sorted total (λ x. x) xs item sorted
+    after_is : after ≡ drop (length rest / 2 + 1) rest
+    after_is = ap (drop 1) (sym behind) ∙ drop-drop 1 (length rest / 2) rest
+
+    pub left_after : {now : ℕ} → now ≡ taken + 1 → order ≡ Less → IsLeft eq cmp item all now after
+    left_after counted less =
+        let less_there : cmp (get_or rest (length rest / 2) middle) item ≡ Less = ap (λ m. cmp m item) middle_is ∙ sym compared ∙ less in
+        record {
+          rises = rw after_is (IsNonDecreasingBy-drop (λ x. ordering_index (cmp x item)) (length rest / 2 + 1) rest left.rises);
+          same = left.same ∙ has_equal-after_less eq cmp agree item rest left.rises (length rest / 2) middle in_range less_there ∙ ap (λ xs. has_equal eq xs item) (sym after_is);
+          few = omega (arith, left.few, digits-half (length after) (length rest) (omega (arith, in_range)) (omega (arith, ap length behind, length-drop (length rest / 2) rest)));
+        }
+
+    pub left_before : {now : ℕ} → now ≡ taken + 1 → order ≡ Greater → IsLeft eq cmp item all now before
+    left_before counted greater =
+        let greater_there : cmp (get_or rest (length rest / 2) middle) item ≡ Greater = ap (λ m. cmp m item) middle_is ∙ sym compared ∙ greater in
+        record {
+          rises = rw front (IsNonDecreasingBy-take (λ x. ordering_index (cmp x item)) (length rest / 2) rest left.rises);
+          same = left.same ∙ has_equal-before_greater eq cmp agree item rest left.rises (length rest / 2) middle in_range greater_there ∙ ap (λ xs. has_equal eq xs item) (sym front);
+          few = omega (arith, left.few, digits-half (length before) (length rest) (omega (arith, in_range)) (omega (arith, ap length front, length-take (length rest / 2) rest)));
+        }
+
+-- all members are left at the start
+pub left_at_start : {T : Type 0} {eq : T → T → Bool} {cmp : T → T → Ordering} {all rest : List T} {taken : ℕ} → IsTotalOrder cmp → (item : T) → IsSorted cmp all → rest ≡ all → taken ≡ 0 → IsLeft eq cmp item all taken rest
+left_at_start {eq = eq} {all = all} total item sorted is none = record {
+  rises = rw is (searchable_from_sorted total (λ x. x) all item sorted);
+  same = ap (λ xs. has_equal eq xs item) (sym is);
+  few = omega (arith, none, ap (λ xs. digits (length xs)) is);
+}
