@@ -11,6 +11,10 @@ use Rattle.predicates_core.specs.Text.{Text}
 abbrev pub has_equal : {T : Type 0} → (T → T → Bool) → List T → T → Bool
 has_equal eq members item = list_any (λ member. eq member item) members
 
+-- each item is a member of both, or of neither
+pub record HasSameMembers {T : Type 0} (eq : T → T → Bool) (xs ys : List T) : Type 0 where
+  pub each : (item : T) → has_equal eq xs item ≡ has_equal eq ys item
+
 -- some text has the bytes
 abbrev pub has_text : List Text → List ℕ → Bool
 has_text texts bytes = list_any (λ text. bytes_eq (string_bytes text) bytes) texts
@@ -42,3 +46,4 @@ pub record KeepsFirst {U S T : Type 0} (becomes : U → S → Type 0) (steps : S
   pub items : List T
   pub given : GivesItems becomes steps iterable items
   pub is : kept ≡ first_of_equals eq items
+  pub same : HasSameMembers eq kept items

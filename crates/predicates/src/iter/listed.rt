@@ -6,7 +6,7 @@ ghost use Rattle.predicates_core.specs.Label.{value_of};
 ghost use Rattle.predicates_core.specs.Tree.{empty};
 ghost use Rattle.predicates_core.specs.Leaves.{IsExactly};
 ghost use Rattle.predicates_core.proofs.Leaves.{exactly_text_fits, one_exactly};
-ghost use Rattle.predicates.specs.Members.{GivesItems, has_equal, member_text, member_leaf};
+ghost use Rattle.predicates.specs.Members.{GivesItems, HasSameMembers, has_equal, member_text, member_leaf};
 ghost use Rattle.predicates.specs.In.{members_of};
 ghost use Rattle.predicates.specs.OrdIn as OrdIn;
 
@@ -38,12 +38,15 @@ pub fn in_iter<I: IntoIterator<Item = T>, T: fmt::Debug + PartialEq + Drop>(
 
 impl<T: Ord> InPredicate<T> {
     /// The same members in ascending order.
+    #[tactic(auto, using(crate::proofs::Memberships::same_rearranged))]
     pub fn sort(self) -> Result<OrdInPredicate<T>, AllocError>
     where
         T: Drop,
         ensures rearranged { IfOk result (λ p.
             IsPermutation (members_of self) (OrdIn.members_of p)) }
         ensures sorted { IfOk result (λ p. IsSorted T.cmp (OrdIn.members_of p)) }
+        ensures same { IfOk result (λ p.
+            HasSameMembers T.eq (OrdIn.members_of p) (members_of self)) }
     {
         let InPredicate { mut members } = self;
         members.sort()?;
