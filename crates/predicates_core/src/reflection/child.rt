@@ -41,6 +41,7 @@ impl Model for Child {
 }
 
 impl Child {
+    /// The description of a part that stands under the name.
     pub fn new(
         name: &'static str,
         text: String,
@@ -58,24 +59,28 @@ impl Child {
         }
     }
 
+    /// The name that the part stands under, such as `left`.
     pub fn name(&self) -> &'static str
         ensures { result.now ≡ self.now.0 }
     {
         self.name
     }
 
+    /// The printed text of the part.
     pub fn text(&self) -> &str
         ensures { result.now ≡ self.now.1.root.text }
     {
         self.text.as_str()
     }
 
+    /// The values that the part was made with.
     pub fn parameters(&self) -> &[Parameter]
         ensures { result.now ≡ self.now.1.root.parameters }
     {
         self.parameters.as_slice()
     }
 
+    /// The parts that the part itself is made of.
     pub fn children(&self) -> &[Child]
         ensures { result.now ≡ named_trees self.now.1.children }
     {
