@@ -9,3 +9,4 @@ pub mod Digits
 pub mod In
 pub mod OrdIn
 pub mod HashableIn
+pub mod Function

@@ -3,6 +3,7 @@
 
 pub mod boolean;
 pub mod constant;
+pub mod function;
 pub mod iter;
 pub mod ord;
 #[cfg(test)]
