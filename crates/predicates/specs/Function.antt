@@ -34,4 +34,4 @@ module _ {F T : Type 0} where
   function_of p = p.function
 
   abbrev pub name_of : FnPredicate F T → List ℕ
-  name_of p = p.name.now
+  name_of p = p.name

@@ -10,3 +10,4 @@ pub mod In
 pub mod OrdIn
 pub mod HashableIn
 pub mod Function
+pub mod Name

@@ -4,8 +4,10 @@ ghost use Rattle.predicates_core.specs.Tree.{empty};
 ghost use Rattle.predicates.specs.Function.{HasOneAnswer, IsCall, call_text, call_text_fits, one_call, function_of, name_of};
 
 use predicates_core::Predicate;
+use predicates_core::lasting::Lasting;
 use predicates_core::node::alone;
 use predicates_core::reflection::{Case, Child, Parameter, PredicateReflection};
+use predicates_core::static_text::StaticText;
 use std::alloc::{AllocError, Global};
 use std::fmt;
 use std::marker::PhantomData;
@@ -14,7 +16,7 @@ use std::marker::PhantomData;
 #[derive(Drop)]
 pub struct FnPredicate<F, T> {
     function: F,
-    name: &'static str,
+    name: StaticText,
     item: PhantomData<T>,
 }
 
@@ -27,16 +29,16 @@ pub fn function<F: Fn(&T) -> bool, T>(function: F) -> FnPredicate<F, T>
 {
     FnPredicate {
         function,
-        name: "fn",
+        name: StaticText::new("fn"),
         item: PhantomData,
     }
 }
 
 impl<F, T> FnPredicate<F, T> {
     /// The same predicate under another name.
-    pub fn fn_name(self, name: &'static str) -> FnPredicate<F, T>
+    pub fn fn_name<N: Lasting + Drop>(self, name: N) -> FnPredicate<F, T>
         ensures function { function_of result ≡ function_of self }
-        ensures name { name_of result ≡ name.now }
+        ensures name { name_of result ≡ N.bytes name }
     {
         let FnPredicate {
             function,
@@ -45,17 +47,17 @@ impl<F, T> FnPredicate<F, T> {
         } = self;
         FnPredicate {
             function,
-            name,
+            name: StaticText::new(name.text()),
             item,
         }
     }
 }
 
 impl<F, T> fmt::Display for FnPredicate<F, T> {
-    ghost output = { λ p. call_text p.name.now };
+    ghost output = { λ p. call_text p.name };
 
     fn fmt<W: fmt::Write>(&self, f: &mut fmt::Formatter<W>) -> fmt::Result {
-        let name = self.name;
+        let name = self.name.as_str();
         write!(f, "{name}(var)")
     }
 }
@@ -77,7 +79,7 @@ impl<F, T> PredicateReflection for FnPredicate<F, T> {
 impl<F: Fn(&T) -> bool, T> Predicate<T> for FnPredicate<F, T> {
     ghost lawful = { λ p. F.IsAlwaysCallable p.function × HasOneAnswer F.Fn p.function };
 
-    ghost formula = { λ p v. IsCall F.Fn p.function (call_text p.name.now) v };
+    ghost formula = { λ p v. IsCall F.Fn p.function (call_text p.name) v };
 
     ghost steady = { λ p v. Unit {0} };
 
