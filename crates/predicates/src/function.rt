@@ -3,6 +3,9 @@ ghost use Rattle.std.specs.Prelude.{◌≡◌, [], codes};
 ghost use Rattle.predicates_core.specs.Tree.{empty};
 ghost use Rattle.predicates.specs.Function.{HasOneAnswer, IsCall, call_text, call_text_fits, one_call, function_of, name_of};
 
+#[cfg(test)]
+mod tests;
+
 use predicates_core::Predicate;
 use predicates_core::lasting::Lasting;
 use predicates_core::node::alone;
