@@ -14,3 +14,4 @@ pub mod Name
 pub mod Boxed
 pub mod Printed
 pub mod PrintedLaws
+pub mod TextEquality

@@ -21,20 +21,15 @@ fn case_of<P: Predicate<String>>(
     }
 }
 
-// Three predicates of different types in one vector.
-fn some_boxes(alloc: Global) -> Result<Vec<BoxPredicate>, AllocError> {
+#[test]
+fn boxes_in_a_loop(rt: HostRuntime) -> Result<(), Fail> {
+    let alloc = rt.alloc();
     let part = String::from_str(alloc, "a")?;
     let empty = BoxPredicate::new(alloc, Box::new(alloc, predicate::str::is_empty())?)?;
     let has_part = BoxPredicate::new(alloc, Box::new(alloc, predicate::str::contains(part))?)?;
     let any = predicate::always().name(StaticText::new("any"));
     let any = BoxPredicate::new(alloc, Box::new(alloc, any)?)?;
-    Ok(vec![in alloc; empty, has_part, any]?)
-}
-
-#[test]
-fn boxes_in_a_loop(rt: HostRuntime) -> Result<(), Fail> {
-    let alloc = rt.alloc();
-    let checks = some_boxes(alloc)?;
+    let checks = vec![in alloc; empty, has_part, any]?;
     let item = String::from_str(alloc, "b")?;
     let wanted = [
         (
