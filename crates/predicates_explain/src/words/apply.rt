@@ -12,13 +12,13 @@ use std::alloc::Global;
 fn take_one(alloc: Global, stack: &mut Vec<TextCheck>) -> Result<Box<TextCheck>, WordFault>
     ensures taken { IfOk result (λ last. stack.old.items ≡ stack.new.items ++ last.value ∷ []) }
     ensures operand { (result ≡ Err WordFault.Operand) ↔ (length stack.old.items < 1) }
-    ensures unchanged { result ≡ Err WordFault.Operand → stack.new ≡ stack.old }
+    ensures unchanged { result ≡ Err WordFault.Operand → stack.new.items ≡ stack.old.items }
     ensures fault { IfErr result (λ fault. fault ≢ WordFault.Pattern) }
 {
     let Some(last) = stack.pop() else {
         return Err(WordFault::Operand);
     };
-    Ok(Box::new(alloc, last)?)
+    Box::new(alloc, last).map_err(|_| WordFault::NoMemory)
 }
 
 // The last two checks, taken off, the earlier one first.
@@ -29,7 +29,7 @@ fn take_two(
     ensures taken { IfOk result (λ last.
         stack.old.items ≡ stack.new.items ++ last.0.value ∷ last.1.value ∷ []) }
     ensures operand { (result ≡ Err WordFault.Operand) ↔ (length stack.old.items < 2) }
-    ensures unchanged { result ≡ Err WordFault.Operand → stack.new ≡ stack.old }
+    ensures unchanged { result ≡ Err WordFault.Operand → stack.new.items ≡ stack.old.items }
     ensures fault { IfErr result (λ fault. fault ≢ WordFault.Pattern) }
 {
     if stack.len() < 2 {
@@ -45,7 +45,7 @@ fn make_check(alloc: Global, stack: &mut Vec<TextCheck>, word: Word) -> Result<T
     ensures made { IfOk result (IsMade word stack.old.items stack.new.items) }
     ensures operand { (result ≡ Err WordFault.Operand) ↔ (length stack.old.items < operand_count word) }
     ensures pattern { result ≡ Err WordFault.Pattern → IsRefusedPattern word }
-    ensures unchanged { IfErr result (λ fault. fault ≢ WordFault.NoMemory → stack.new ≡ stack.old) }
+    ensures unchanged { IfErr result (λ fault. fault ≢ WordFault.NoMemory → stack.new.items ≡ stack.old.items) }
 {
     match word {
         Word::Empty => Ok(TextCheck::Empty(is_empty())),
@@ -76,9 +76,8 @@ pub fn apply_word(alloc: Global, stack: &mut Vec<TextCheck>, word: Word) -> Resu
     ensures applied { OnOk result (IsApplied word stack.old.items stack.new.items) }
     ensures operand { (result ≡ Err WordFault.Operand) ↔ (length stack.old.items < operand_count word) }
     ensures pattern { result ≡ Err WordFault.Pattern → IsRefusedPattern word }
-    ensures unchanged { IfErr result (λ fault. fault ≢ WordFault.NoMemory → stack.new ≡ stack.old) }
+    ensures unchanged { IfErr result (λ fault. fault ≢ WordFault.NoMemory → stack.new.items ≡ stack.old.items) }
 {
     let check = make_check(alloc, stack, word)?;
-    stack.push(check)?;
-    Ok(())
+    stack.push(check).map_err(|_| WordFault::NoMemory)
 }
