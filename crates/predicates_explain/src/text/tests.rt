@@ -42,9 +42,10 @@ fn rows(rt: HostRuntime) -> Result<(), Fail> {
             assert_eq!(rt; apply_word(alloc, &mut stack, word), Ok(()));
         }
         assert_eq!(rt; stack.len(), 1);
+        let check = stack.first().ok_or("no check")?;
         let mut output = Vec::new(alloc);
         let mut reader = input;
-        let answer = run_text(alloc, &stack[0], &mut reader, &mut output);
+        let answer = run_text(alloc, check, &mut reader, &mut output);
         assert_eq!(rt; answer, Ok(all), "for {want:?}");
         assert_eq!(rt; output.as_slice(), want.as_bytes());
     }

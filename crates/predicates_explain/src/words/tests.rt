@@ -60,12 +60,13 @@ fn operands(rt: HostRuntime) -> Result<(), Fail> {
         Ok(())
     );
     assert_eq!(rt; stack.len(), 1);
+    let check = stack.first().ok_or("no check")?;
     assert_eq!(rt;
-        stack[0].to_string(alloc)?.as_str(),
+        check.to_string(alloc)?.as_str(),
         "(var.is_empty() && var.contains(a))"
     );
-    assert_eq!(rt; stack[0].parameters(alloc)?.len(), 0);
-    assert_eq!(rt; stack[0].children(alloc)?.len(), 0);
+    assert_eq!(rt; check.parameters(alloc)?.len(), 0);
+    assert_eq!(rt; check.children(alloc)?.len(), 0);
     Ok(())
 }
 
@@ -89,15 +90,16 @@ fn each_word(rt: HostRuntime) -> Result<(), Fail> {
     ];
     assert_eq!(rt; apply_tokens(alloc, &mut stack, &tokens), Ok(()));
     assert_eq!(rt; stack.len(), 1);
+    let check = stack.first().ok_or("no check")?;
     assert_eq!(rt;
-        stack[0].to_string(alloc)?.as_str(),
+        check.to_string(alloc)?.as_str(),
         "(var == \"Hello\" || (var.starts_with(\"He\") || (! (var.ends_with(\"lo\") && (var.contains(ll) && var.is_match(^H))))))"
     );
     for (item, verdict) in [("Hello", true), (" Hello", false), ("lo", true)] {
         let item = String::from_str(alloc, item)?;
-        assert_eq!(rt; stack[0].eval(alloc, &item)?, verdict, "at {item}");
-        assert!(rt; stack[0].find_case(alloc, verdict, &item)?.is_some());
-        assert!(rt; stack[0].find_case(alloc, !verdict, &item)?.is_none());
+        assert_eq!(rt; check.eval(alloc, &item)?, verdict, "at {item}");
+        assert!(rt; check.find_case(alloc, verdict, &item)?.is_some());
+        assert!(rt; check.find_case(alloc, !verdict, &item)?.is_none());
     }
     Ok(())
 }
@@ -110,10 +112,11 @@ fn two_hundred_times_not(rt: HostRuntime) -> Result<(), Fail> {
     for _ in 0..200 {
         assert_eq!(rt; apply_tokens(alloc, &mut stack, &["not"]), Ok(()));
     }
+    let check = stack.first().ok_or("no check")?;
     let item = String::new(alloc);
-    assert_eq!(rt; stack[0].eval(alloc, &item)?, true);
-    assert!(rt; stack[0].find_case(alloc, true, &item)?.is_some());
-    assert_eq!(rt; stack[0].to_string(alloc)?.len(), 14 + 200 * 4);
+    assert_eq!(rt; check.eval(alloc, &item)?, true);
+    assert!(rt; check.find_case(alloc, true, &item)?.is_some());
+    assert_eq!(rt; check.to_string(alloc)?.len(), 14 + 200 * 4);
     Ok(())
 }
 
