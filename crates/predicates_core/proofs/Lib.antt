@@ -9,3 +9,5 @@ pub mod Leaves
 pub mod Added
 pub mod Forests
 pub mod Lines
+pub mod Fields
+pub mod Kept

@@ -11,8 +11,8 @@ pub mod Parts
 pub mod Text
 pub mod Held
 pub mod Falls
-pub mod Pushed
 pub mod ChildFalls
 pub mod Lines
 pub mod Read
 pub mod Written
+pub mod Ownership
