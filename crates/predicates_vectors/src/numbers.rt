@@ -4,35 +4,13 @@ ghost use Rattle.predicates.specs.Or as Or;
 ghost use Rattle.predicates.specs.Not.{inner_of};
 ghost use Rattle.predicates_vectors.specs.OneOf.{lawful_by_type};
 
+use crate::answers::{Answers, ask};
 use crate::level::Level;
 use crate::number_leaf::NumberLeaf;
 use crate::plain::PlainFormula;
 use crate::words::NumberWord;
 use predicates_core::Predicate;
-use predicates_core::reflection::{Case, Child, Parameter, PredicateReflection};
 use std::alloc::{AllocError, Global};
-
-/// What a predicate answers about itself and about one number.
-#[derive(Drop)]
-pub struct NumberAnswers {
-    pub verdict: bool,
-    pub case_true: Option<Case>,
-    pub case_false: Option<Case>,
-    pub text: String,
-    pub parameters: Vec<Parameter>,
-    pub children: Vec<Child>,
-}
-
-fn ask<P: FromWords>(alloc: Global, predicate: &P, item: i64) -> Result<NumberAnswers, AllocError> {
-    Ok(NumberAnswers {
-        verdict: predicate.eval(alloc, &item)?,
-        case_true: predicate.find_case(alloc, true, &item)?,
-        case_false: predicate.find_case(alloc, false, &item)?,
-        text: predicate.to_string(alloc)?,
-        parameters: predicate.parameters(alloc)?,
-        children: predicate.children(alloc)?,
-    })
-}
 
 // A predicate that is read from the end of a list of words; none where the words are not one, or
 // where it is too deep.
@@ -120,9 +98,9 @@ pub fn answer_number(
     alloc: Global,
     mut words: Vec<NumberWord>,
     item: i64,
-) -> Result<Option<NumberAnswers>, AllocError> {
+) -> Result<Option<Answers>, AllocError> {
     match Deep::from_words(alloc, &mut words)? {
-        Some(predicate) if words.is_empty() => Ok(Some(ask(alloc, &predicate, item)?)),
+        Some(predicate) if words.is_empty() => Ok(Some(ask(alloc, &predicate, &item)?)),
         _ => Ok(None),
     }
 }

@@ -73,10 +73,10 @@ impl PlainFormula {
 const LEAVES: [u32; 8] = [1, 2, 4, 8, 16, 32, 64, 128];
 
 // Whether the truth is the same under all choices of truths that leave the set's leaves as they are.
-fn is_reason(formula: &PlainFormula, set: u32) -> bool {
+fn is_reason(formula: &PlainFormula, choices: u32, set: u32) -> bool {
     let own = formula.own_truths(0);
     let (truth, _) = formula.value(own);
-    for choice in 0..256 {
+    for choice in 0..choices {
         if (choice ^ own) & set == 0 && formula.value(choice).0 != truth {
             return false;
         }
@@ -85,12 +85,12 @@ fn is_reason(formula: &PlainFormula, set: u32) -> bool {
 }
 
 // Whether the set is a reason, and none without any one of its leaves.
-fn is_minimal_reason(formula: &PlainFormula, set: u32) -> bool {
-    if !is_reason(formula, set) {
+fn is_minimal_reason(formula: &PlainFormula, choices: u32, set: u32) -> bool {
+    if !is_reason(formula, choices, set) {
         return false;
     }
     for leaf in LEAVES {
-        if set & leaf != 0 && is_reason(formula, set ^ leaf) {
+        if set & leaf != 0 && is_reason(formula, choices, set ^ leaf) {
             return false;
         }
     }
@@ -114,12 +114,14 @@ pub fn first_reason(
     alloc: Global,
     formula: &PlainFormula,
 ) -> Result<Option<Vec<usize>>, AllocError> {
-    if formula.leaf_count() > LEAVES.len() {
+    let count = formula.leaf_count();
+    if count > LEAVES.len() {
         return Ok(None);
     }
+    let sets = 1_u32 << count;
     let mut first: Option<Vec<usize>> = None;
-    for set in 0..256 {
-        if is_minimal_reason(formula, set) {
+    for set in 0..sets {
+        if is_minimal_reason(formula, sets, set) {
             let found = numbers(alloc, set)?;
             let is_before = match &first {
                 Some(best) => found.as_slice() < best.as_slice(),
