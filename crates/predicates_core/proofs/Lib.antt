@@ -11,3 +11,4 @@ pub mod Forests
 pub mod Lines
 pub mod Fields
 pub mod Kept
+pub mod Existence

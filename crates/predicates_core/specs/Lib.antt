@@ -3,6 +3,7 @@ pub mod Describe
 pub mod Label
 pub mod Formula
 pub mod Reason
+pub mod Laws
 pub mod Shows
 pub mod Combined
 pub mod Leaves

@@ -2,6 +2,7 @@
 #![tactic(auto)]
 
 pub mod lasting;
+pub mod laws;
 pub mod node;
 mod predicate;
 pub mod reflection;
