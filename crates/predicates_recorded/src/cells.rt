@@ -1,5 +1,6 @@
 //! The cells of a table's row, and what is written in them.
-use anyhow::{Context, Result, bail, ensure};
+use anyhow::{Context, Result, ensure};
+use predicates_vectors::unescaped;
 use std::alloc::Global;
 
 /// The cells of a row that has as many of them as the array has room.
@@ -13,57 +14,13 @@ pub fn cells<const N: usize>(row: &str) -> Result<[&str; N]> {
     Ok(cells)
 }
 
-// How far a cell was read: in its plain text, behind a backslash, behind `\x`, or in the digits
-// behind the bracket, of which the number was read so far.
-enum Place {
-    Plain,
-    Escape,
-    Bracket,
-    Digits(u32),
+/// The text that a cell is written for.
+pub fn text(alloc: Global, cell: &str) -> Result<String> {
+    unescaped(alloc, cell)?.context("an escape that is unknown or has no end")
 }
 
-/// The text that a cell, or a word of it, is written for.
-pub fn unescaped(alloc: Global, cell: &str) -> Result<String> {
-    let mut text = String::new(alloc);
-    let mut place = Place::Plain;
-    for c in cell.chars() {
-        place = match (place, c) {
-            (Place::Plain, '\\') => Place::Escape,
-            (Place::Escape, 'x') => Place::Bracket,
-            (Place::Bracket, '{') => Place::Digits(0),
-            (Place::Digits(number), '}') => {
-                text.push(char::from_u32(number).context("no character has this number")?)?;
-                Place::Plain
-            }
-            (Place::Digits(number), c) => {
-                let digit = c.to_digit(16).context("no digit")?;
-                Place::Digits(number.wrapping_mul(16).wrapping_add(digit))
-            }
-            (Place::Plain, c) => {
-                text.push(c)?;
-                Place::Plain
-            }
-            (Place::Escape, c) => {
-                text.push(unescaped_letter(c)?)?;
-                Place::Plain
-            }
-            (Place::Bracket, _) => bail!("no bracket behind \\x"),
-        };
-    }
-    match place {
-        Place::Plain => Ok(text),
-        _ => bail!("an escape without an end"),
-    }
-}
-
-// The character that stands as a letter behind a backslash.
-fn unescaped_letter(letter: char) -> Result<char> {
-    Ok(match letter {
-        '\\' => '\\',
-        'n' => '\n',
-        'r' => '\r',
-        't' => '\t',
-        's' => ' ',
-        _ => bail!("no such escape: {letter}"),
-    })
+/// The bytes that a cell of hexadecimal digits is written for, which is a point where there are none.
+pub fn bytes(alloc: Global, cell: &str) -> Result<Vec<u8>> {
+    let digits = if cell == "." { "" } else { cell };
+    hex::decode(alloc, digits).context("no hexadecimal digits")
 }

@@ -2,17 +2,21 @@
 #![tactic(auto)]
 
 mod cells;
+mod lines;
 mod numbers;
 mod outcome;
 mod shown;
 mod table;
 
 use anyhow::Result;
-use numbers::compare_number;
+use lines::{BetweenRuns, NumberLines};
+use numbers::NumberTable;
 use table::replay;
 
 fn main(rt: HostRuntime) -> Result<()> {
-    replay(&rt, "number_depth2", compare_number)?;
-    replay(&rt, "number_depth3", compare_number)?;
-    replay(&rt, "number_deep", compare_number)
+    replay(&rt, "number_depth2", &NumberTable)?;
+    replay(&rt, "number_depth3", &NumberTable)?;
+    replay(&rt, "number_deep", &NumberTable)?;
+    replay(&rt, "number_lines", &NumberLines)?;
+    replay(&rt, "explain_between", &BetweenRuns)
 }

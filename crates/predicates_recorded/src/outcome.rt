@@ -1,8 +1,9 @@
 //! How a row compares with what the library answers.
+use crate::cells::text;
 use anyhow::Result;
 use std::alloc::Global;
 
-/// The first cell of a row that differs from what came.
+/// A cell of a row that differs from what came.
 #[derive(Drop)]
 pub struct Difference {
     pub column: &'static str,
@@ -10,26 +11,21 @@ pub struct Difference {
     pub came: String,
 }
 
-/// How a row compares with what the library answers.
-#[derive(Drop)]
-pub enum Outcome {
-    Right,
-    Wrong(Difference),
-}
-
-/// Right where the texts are the same.
-pub fn compared(
+/// Adds a difference where the text that the cell is written for is not the one that came.
+pub fn compare(
     alloc: Global,
+    wrong: &mut Vec<Difference>,
     column: &'static str,
-    wanted: &str,
+    cell: &str,
     came: &str,
-) -> Result<Outcome> {
-    if wanted == came {
-        return Ok(Outcome::Right);
+) -> Result<()> {
+    let wanted = text(alloc, cell)?;
+    if wanted.as_str() != came {
+        wrong.push(Difference {
+            column,
+            wanted,
+            came: String::from_str(alloc, came)?,
+        })?;
     }
-    Ok(Outcome::Wrong(Difference {
-        column,
-        wanted: String::from_str(alloc, wanted)?,
-        came: String::from_str(alloc, came)?,
-    }))
+    Ok(())
 }

@@ -1,20 +1,27 @@
 //! A predicate of the level below, or a combinator of the library over such predicates.
 ghost use Rattle.predicates.specs.And as And;
+ghost use Rattle.predicates.specs.Name as Name;
 ghost use Rattle.predicates.specs.Or as Or;
 ghost use Rattle.predicates.specs.Not.{inner_of};
-ghost use Rattle.predicates_core.proofs.Combined.{and_text_fits, or_text_fits, not_text_fits, one_and, one_or, one_not};
+ghost use Rattle.predicates_core.proofs.Combined.{and_text_fits, or_text_fits, not_text_fits, named_text_fits, one_and, one_or, one_not, one_named};
 ghost use Rattle.predicates_vectors.specs.OneOf.{text_fits_by_type, one_by_type};
 
 use crate::one_of::OneOf;
-use predicates::boolean::{AndPredicate, NotPredicate, OrPredicate};
+use predicates::boolean::{AndPredicate, NotPredicate, OrPredicate, PredicateBooleanExt};
+use predicates::name::{NamePredicate, PredicateNameExt};
 use predicates_core::Predicate;
 use predicates_core::reflection::{Case, Child, Parameter, PredicateReflection};
+use predicates_core::static_text::StaticText;
 use std::alloc::{AllocError, Global};
 use std::fmt;
 
+type Named<P, Item> = NamePredicate<P, Item, StaticText>;
+
+type One<P, Item> = OneOf<NotPredicate<P, Item>, Named<P, Item>>;
+
 type Both<P, Item> = OneOf<AndPredicate<P, P, Item>, OrPredicate<P, P, Item>>;
 
-type Combined<P, Item> = OneOf<NotPredicate<P, Item>, Both<P, Item>>;
+type Combined<P, Item> = OneOf<One<P, Item>, Both<P, Item>>;
 
 /// A predicate of the level below, or a combinator of the library over such predicates.
 #[derive(Drop)]
@@ -28,40 +35,36 @@ impl<P, Item> Level<P, Item> {
             node: OneOf::First(predicate),
         }
     }
+}
 
-    pub fn not(alloc: Global, part: P) -> Result<Level<P, Item>, AllocError>
-    where
-        P: Drop,
-    {
-        Level::combined(alloc, OneOf::First(NotPredicate::new(part)))
+impl<P: Predicate<Item> + Drop, Item> Level<P, Item> {
+    pub fn not(alloc: Global, part: P) -> Result<Level<P, Item>, AllocError> {
+        Level::of_one(alloc, OneOf::First(part.not()))
     }
 
-    pub fn and(alloc: Global, left: P, right: P) -> Result<Level<P, Item>, AllocError>
-    where
-        P: Drop,
-    {
-        Level::of_both(alloc, OneOf::First(AndPredicate::new(left, right)))
+    pub fn named(alloc: Global, part: P, name: StaticText) -> Result<Level<P, Item>, AllocError> {
+        let named = Box::new(alloc, part.name(name))?;
+        Level::of_one(alloc, OneOf::Second(named))
     }
 
-    pub fn or(alloc: Global, left: P, right: P) -> Result<Level<P, Item>, AllocError>
-    where
-        P: Drop,
-    {
-        let both = Box::new(alloc, OrPredicate::new(left, right))?;
+    pub fn and(alloc: Global, left: P, right: P) -> Result<Level<P, Item>, AllocError> {
+        Level::of_both(alloc, OneOf::First(left.and(right)))
+    }
+
+    pub fn or(alloc: Global, left: P, right: P) -> Result<Level<P, Item>, AllocError> {
+        let both = Box::new(alloc, left.or(right))?;
         Level::of_both(alloc, OneOf::Second(both))
     }
 
-    fn of_both(alloc: Global, both: Both<P, Item>) -> Result<Level<P, Item>, AllocError>
-    where
-        P: Drop,
-    {
+    fn of_one(alloc: Global, one: One<P, Item>) -> Result<Level<P, Item>, AllocError> {
+        Level::combined(alloc, OneOf::First(one))
+    }
+
+    fn of_both(alloc: Global, both: Both<P, Item>) -> Result<Level<P, Item>, AllocError> {
         Level::combined(alloc, OneOf::Second(Box::new(alloc, both)?))
     }
 
-    fn combined(alloc: Global, node: Combined<P, Item>) -> Result<Level<P, Item>, AllocError>
-    where
-        P: Drop,
-    {
+    fn combined(alloc: Global, node: Combined<P, Item>) -> Result<Level<P, Item>, AllocError> {
         Ok(Level {
             node: OneOf::Second(Box::new(alloc, node)?),
         })
@@ -101,8 +104,11 @@ impl<P: Predicate<Item>, Item> Predicate<Item> for Level<P, Item> {
         (λ q. P.formula q v) (λ q. ⟦<Combined<P, Item> as Predicate<Item>>⟧.formula q v) P.output ⟦<Combined<P, Item> as fmt::Display>⟧.output
         (λ q. P.text_fits q v)
         (text_fits_by_type
-        (λ q. ⟦<NotPredicate<P, Item> as Predicate<Item>>⟧.formula q v) (λ q. ⟦<Both<P, Item> as Predicate<Item>>⟧.formula q v) ⟦<NotPredicate<P, Item> as fmt::Display>⟧.output ⟦<Both<P, Item> as fmt::Display>⟧.output
+        (λ q. ⟦<One<P, Item> as Predicate<Item>>⟧.formula q v) (λ q. ⟦<Both<P, Item> as Predicate<Item>>⟧.formula q v) ⟦<One<P, Item> as fmt::Display>⟧.output ⟦<Both<P, Item> as fmt::Display>⟧.output
+        (text_fits_by_type
+        (λ q. ⟦<NotPredicate<P, Item> as Predicate<Item>>⟧.formula q v) (λ q. ⟦<Named<P, Item> as Predicate<Item>>⟧.formula q v) ⟦<NotPredicate<P, Item> as fmt::Display>⟧.output ⟦<Named<P, Item> as fmt::Display>⟧.output
         (λ q g h. not_text_fits h)
+        (λ q g h. named_text_fits h))
         (text_fits_by_type
         (λ q. ⟦<AndPredicate<P, P, Item> as Predicate<Item>>⟧.formula q v) (λ q. ⟦<OrPredicate<P, P, Item> as Predicate<Item>>⟧.formula q v) ⟦<AndPredicate<P, P, Item> as fmt::Display>⟧.output ⟦<OrPredicate<P, P, Item> as fmt::Display>⟧.output
         (λ q g h. and_text_fits h)
@@ -112,7 +118,9 @@ impl<P: Predicate<Item>, Item> Predicate<Item> for Level<P, Item> {
     ghost one_formula = { λ p v f g. one_by_type
         (λ q. P.one_formula q v)
         (one_by_type
+        (one_by_type
         (λ q h k lawful. one_not (λ x y. P.one_formula (inner_of q) v x y lawful))
+        (λ q h k lawful. one_named (λ x y. P.one_formula (Name.inner_of q) v x y lawful)))
         (one_by_type
         (λ q h k lawful. one_and
         (λ x y. P.one_formula (And.left_of q) v x y lawful.0)

@@ -1,5 +1,6 @@
 //! What the library's predicates over numbers answer, and the formulas that they have.
 ghost use Rattle.predicates.specs.And as And;
+ghost use Rattle.predicates.specs.Name as Name;
 ghost use Rattle.predicates.specs.Or as Or;
 ghost use Rattle.predicates.specs.Not.{inner_of};
 ghost use Rattle.predicates_vectors.specs.OneOf.{lawful_by_type};
@@ -10,6 +11,7 @@ use crate::number_leaf::NumberLeaf;
 use crate::plain::PlainFormula;
 use crate::words::NumberWord;
 use predicates_core::Predicate;
+use predicates_core::static_text::StaticText;
 use std::alloc::{AllocError, Global};
 
 // A predicate that is read from the end of a list of words; none where the words are not one, or
@@ -21,7 +23,10 @@ trait FromWords: Predicate<i64> + Drop + Sized {
 }
 
 impl FromWords for NumberLeaf {
-    ghost always_lawful = { λ p. lawful_by_type (λ q. tt) (lawful_by_type (λ q. tt) (λ q. tt)) p.leaf };
+    ghost always_lawful = { λ p. lawful_by_type
+        (lawful_by_type (λ q. tt) (lawful_by_type (λ q. tt) (λ q. tt)))
+        (lawful_by_type (lawful_by_type (λ q. tt) (λ q. tt)) (lawful_by_type (λ q. tt) (λ q. tt)))
+        p.leaf };
 
     fn from_words(
         alloc: Global,
@@ -32,6 +37,28 @@ impl FromWords for NumberLeaf {
             None => Ok(None),
         }
     }
+}
+
+// What takes the predicates before it.
+#[derive(Drop)]
+enum Combinator {
+    Not,
+    Named(StaticText),
+    And,
+    Or,
+}
+
+// Takes the last word if it is a combinator.
+fn pop_combinator(words: &mut Vec<NumberWord>) -> Option<Combinator> {
+    let found = match words.last()? {
+        NumberWord::Not => Combinator::Not,
+        NumberWord::Named(name) => Combinator::Named(StaticText::new(name.as_str())),
+        NumberWord::And => Combinator::And,
+        NumberWord::Or => Combinator::Or,
+        _ => return None,
+    };
+    words.pop();
+    Some(found)
 }
 
 // Two predicates from the end of a list of words, the left one and the right one.
@@ -52,7 +79,9 @@ impl<P: FromWords> FromWords for Level<P, i64> {
     ghost always_lawful = { λ p. lawful_by_type
         P.always_lawful
         (lawful_by_type
+        (lawful_by_type
         (λ q. P.always_lawful (inner_of q))
+        (λ q. P.always_lawful (Name.inner_of q)))
         (lawful_by_type
         (λ q. (P.always_lawful (And.left_of q), P.always_lawful (And.right_of q)))
         (λ q. (P.always_lawful (Or.left_of q), P.always_lawful (Or.right_of q)))))
@@ -62,24 +91,24 @@ impl<P: FromWords> FromWords for Level<P, i64> {
         alloc: Global,
         words: &mut Vec<NumberWord>,
     ) -> Result<Option<Level<P, i64>>, AllocError> {
-        let word = match words.last() {
-            Some(NumberWord::Not | NumberWord::And | NumberWord::Or) => words.pop(),
-            _ => None,
-        };
-        Ok(match word {
-            Some(NumberWord::Not) => match P::from_words(alloc, words)? {
+        Ok(match pop_combinator(words) {
+            Some(Combinator::Not) => match P::from_words(alloc, words)? {
                 Some(part) => Some(Level::not(alloc, part)?),
                 None => None,
             },
-            Some(NumberWord::And) => match two_from_words::<P>(alloc, words)? {
+            Some(Combinator::Named(name)) => match P::from_words(alloc, words)? {
+                Some(part) => Some(Level::named(alloc, part, name)?),
+                None => None,
+            },
+            Some(Combinator::And) => match two_from_words::<P>(alloc, words)? {
                 Some((left, right)) => Some(Level::and(alloc, left, right)?),
                 None => None,
             },
-            Some(NumberWord::Or) => match two_from_words::<P>(alloc, words)? {
+            Some(Combinator::Or) => match two_from_words::<P>(alloc, words)? {
                 Some((left, right)) => Some(Level::or(alloc, left, right)?),
                 None => None,
             },
-            _ => P::from_words(alloc, words)?.map(Level::below),
+            None => P::from_words(alloc, words)?.map(Level::below),
         })
     }
 }
@@ -92,17 +121,25 @@ type Deep6 = Level<Level<Deep4, i64>, i64>;
 
 type Deep = Level<Deep6, i64>;
 
-/// What the predicate of the words answers, which is made of the library's own types at every
-/// node; none where the words are not one predicate.
-pub fn answer_number(
+fn answer<P: FromWords>(
     alloc: Global,
     mut words: Vec<NumberWord>,
     item: i64,
 ) -> Result<Option<Answers>, AllocError> {
-    match Deep::from_words(alloc, &mut words)? {
+    match P::from_words(alloc, &mut words)? {
         Some(predicate) if words.is_empty() => Ok(Some(ask(alloc, &predicate, &item)?)),
         _ => Ok(None),
     }
+}
+
+/// What the predicate of the words answers, which is made of the library's own types at every
+/// node; none where the words are not one predicate.
+pub fn answer_number(
+    alloc: Global,
+    words: Vec<NumberWord>,
+    item: i64,
+) -> Result<Option<Answers>, AllocError> {
+    answer::<Deep>(alloc, words, item)
 }
 
 // The only value of a stack that holds one.
@@ -128,6 +165,16 @@ pub fn plain_number(
             NumberWord::AtMost(c) => PlainFormula::Leaf(item <= *c),
             NumberWord::AtLeast(c) => PlainFormula::Leaf(item >= *c),
             NumberWord::Greater(c) => PlainFormula::Leaf(item > *c),
+            NumberWord::Called(c) => PlainFormula::Leaf(item >= *c),
+            NumberWord::Listed(list) | NumberWord::Sorted(list) | NumberWord::Hashed(list) => {
+                PlainFormula::Leaf(list.as_slice().contains(&item))
+            }
+            NumberWord::Named(_) => {
+                let Some(part) = stack.pop() else {
+                    return Ok(None);
+                };
+                PlainFormula::Named(Box::new(alloc, part)?)
+            }
             NumberWord::Not => {
                 let Some(part) = stack.pop() else {
                     return Ok(None);
