@@ -34,10 +34,13 @@ impl Table for BetweenRuns {
         let input = bytes(alloc, input)?;
         let mut written = Vec::new(alloc);
         let mut input = input.as_slice();
-        let all = run_between(alloc, lo, hi, &mut input, &mut written)
-            .map_err(|fault| anyhow!("{fault}"))?;
+        let all = run_between(alloc, lo, hi, &mut input, &mut written).map_err(|fault| anyhow!(
+            "{fault}"
+        ))?;
         compare(alloc, wrong, "status", status, if all { "0" } else { "1" })?;
-        let written = String::from_utf8(written).ok().context("written bytes that are no text")?;
+        let written = String::from_utf8(written)
+            .ok()
+            .context("written bytes that are no text")?;
         compare(alloc, wrong, "output", output, written.as_str())
     }
 }

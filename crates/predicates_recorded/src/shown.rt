@@ -44,7 +44,14 @@ fn add_description(
         let printed = child.text();
         writeln!(text, "{indent}{name}: {printed}")?;
         let parameters = child.parameters();
-        add_description(text, alloc, room - 1, deeper.as_str(), parameters, child.children())?;
+        add_description(
+            text,
+            alloc,
+            room - 1,
+            deeper.as_str(),
+            parameters,
+            child.children(),
+        )?;
     }
     Ok(())
 }

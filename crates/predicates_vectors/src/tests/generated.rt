@@ -1,6 +1,7 @@
 //! The leaves that the library keeps, beside those that the plain slow program finds.
 use crate::numbers::{answer_number, plain_number};
 use crate::words::NumberWord;
+use predicates_core::static_text::StaticText;
 use std::alloc::{AllocError, Global};
 use std::test::Fail;
 
@@ -9,12 +10,13 @@ const ITEM: i64 = 4;
 
 // A true leaf, a false leaf, and the combinators.
 fn word(number: u64) -> NumberWord {
-    match number % 5 {
+    match number % 6 {
         0 => NumberWord::Less(5),
         1 => NumberWord::Less(3),
-        2 => NumberWord::Not,
-        3 => NumberWord::And,
-        _ => NumberWord::Or,
+        2 => NumberWord::And,
+        3 => NumberWord::Or,
+        4 => NumberWord::Not,
+        _ => NumberWord::Named(StaticText::new("name")),
     }
 }
 
@@ -31,18 +33,18 @@ fn is_explained(alloc: Global, words: Vec<NumberWord>) -> Result<Option<bool>, A
 }
 
 #[test]
-fn all_formulas_of_at_most_seven_words(rt: HostRuntime) -> Result<(), Fail> {
+fn all_formulas_of_at_most_six_words(rt: HostRuntime) -> Result<(), Fail> {
     let alloc = rt.alloc();
     let mut explained = 0_u64;
     let mut all = 1_u64;
-    for length in 1..8_u64 {
-        all = all.saturating_mul(5);
+    for length in 1..7_u64 {
+        all = all.saturating_mul(6);
         for number in 0..all {
             let mut words = Vec::new(alloc);
             let mut rest = number;
             for _ in 0..length {
                 words.push(word(rest))?;
-                rest /= 5;
+                rest /= 6;
             }
             match is_explained(alloc, words)? {
                 Some(right) => {
@@ -53,8 +55,8 @@ fn all_formulas_of_at_most_seven_words(rt: HostRuntime) -> Result<(), Fail> {
             }
         }
     }
-    // 2, 2, 10, 26, 114, 402 and 1722 formulas of 1 to 7 words.
-    assert_eq!(rt; explained, 2278);
+    // 2, 4, 16, 64, 288 and 1344 formulas of 1 to 6 words.
+    assert_eq!(rt; explained, 1718);
     Ok(())
 }
 
@@ -82,10 +84,10 @@ fn add_formula(
             .min(half);
         add_formula(words, state, half, left)?;
         add_formula(words, state, half, leaves.saturating_sub(left))?;
-        words.push(word(3 + next(state) % 2))?;
+        words.push(word(2 + next(state) % 2))?;
     } else if half > 0 && picked % 4 < 2 {
         add_formula(words, state, half, leaves)?;
-        words.push(NumberWord::Not)?;
+        words.push(word(4 + next(state) % 2))?;
     } else {
         words.push(word(picked / 4 % 2))?;
     }

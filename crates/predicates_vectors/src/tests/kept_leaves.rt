@@ -4,7 +4,9 @@ use crate::numbers::plain_number;
 use crate::words::read_number_words;
 use predicates::boolean::PredicateBooleanExt;
 use predicates::constant::{always, never};
-use predicates::ord::lt;
+use predicates::function::function;
+use predicates::name::PredicateNameExt;
+use predicates::ord::{le, lt};
 use predicates_core::Predicate;
 use std::test::Fail;
 
@@ -65,5 +67,20 @@ fn of_one_function_written_twice(rt: HostRuntime) -> Result<(), Fail> {
     let either = lt(3).not().or(lt(5).not());
     let (verdict, leaves) = kept(&rt, either, "lt=3 not lt=5 not or", 9)?;
     assert_eq!(rt; (verdict, leaves.as_slice()), (true, [0].as_slice()));
+    Ok(())
+}
+
+#[test]
+fn of_a_function(rt: HostRuntime) -> Result<(), Fail> {
+    let between = function(|n: &i64| *n >= 5).and(le(10));
+    let (verdict, leaves) = kept(&rt, between, "at_least=5 le=10 and", 3)?;
+    assert_eq!(rt; (verdict, leaves.as_slice()), (false, [0].as_slice()));
+    Ok(())
+}
+
+#[test]
+fn of_a_name(rt: HostRuntime) -> Result<(), Fail> {
+    let (verdict, leaves) = kept(&rt, lt(3).name("small"), "lt=3 name=small", 9)?;
+    assert_eq!(rt; (verdict, leaves.as_slice()), (false, [0].as_slice()));
     Ok(())
 }

@@ -3,6 +3,8 @@
 use crate::answers::ask;
 use predicates::boolean::PredicateBooleanExt;
 use predicates::constant::{always, never};
+use predicates::function::function;
+use predicates::iter::{in_hash, in_iter};
 use predicates::ord::{eq, ge, gt, le, lt, ne};
 use predicates_core::Predicate;
 use std::test::Fail;
@@ -83,6 +85,30 @@ fn order(rt: HostRuntime) -> Result<(), Fail> {
     assert_eq!(rt; at_least.as_slice(), [NO, YES, YES].as_slice());
     let above = verdicts(&rt, gt(5), [4, 5, 6])?;
     assert_eq!(rt; above.as_slice(), [NO, NO, YES].as_slice());
+    Ok(())
+}
+
+#[test]
+fn memberships(rt: HostRuntime) -> Result<(), Fail> {
+    let alloc = rt.alloc();
+    let wanted = [YES, NO, YES];
+    let listed = verdicts(&rt, in_iter(alloc, [1, 3, 5])?, [1, 2, 3])?;
+    assert_eq!(rt; listed.as_slice(), wanted.as_slice());
+    let sorted = verdicts(&rt, in_iter(alloc, [1, 3, 5])?.sort()?, [1, 2, 3])?;
+    assert_eq!(rt; sorted.as_slice(), wanted.as_slice());
+    let hashed = verdicts(&rt, in_hash(alloc, [1, 3, 5])?, [1, 2, 3])?;
+    assert_eq!(rt; hashed.as_slice(), wanted.as_slice());
+    Ok(())
+}
+
+#[test]
+fn functions(rt: HostRuntime) -> Result<(), Fail> {
+    let at_least = function(|n: &i64| *n >= 5);
+    assert_eq!(rt; verdict(&rt, &at_least, &7)?, YES);
+    assert_eq!(rt; verdict(&rt, &at_least, &3)?, NO);
+    let between = at_least.and(le(10));
+    assert_eq!(rt; verdict(&rt, &between, &7)?, YES);
+    assert_eq!(rt; verdict(&rt, &between, &3)?, NO);
     Ok(())
 }
 
