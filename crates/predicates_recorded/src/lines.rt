@@ -2,7 +2,7 @@
 use crate::cells::{bytes, cells, text};
 use crate::outcome::{Difference, compare};
 use crate::table::Table;
-use anyhow::{Context, Result, anyhow, ensure};
+use anyhow::{Context, Result, anyhow, bail};
 use predicates_explain::{number, run_between};
 use std::alloc::Global;
 
@@ -11,7 +11,10 @@ pub struct NumberLines;
 
 impl Table for NumberLines {
     fn replay(&self, alloc: Global, row: &str, wrong: &mut Vec<Difference>) -> Result<()> {
-        let [line, wanted] = cells::<2>(row)?;
+        let cells = cells(alloc, row)?;
+        let [line, wanted] = cells.as_slice() else {
+            bail!("not two cells");
+        };
         let line = text(alloc, line)?;
         let came = match number(line.as_bytes()) {
             Some(n) => n.to_string(alloc)?,
@@ -26,9 +29,12 @@ pub struct BetweenRuns;
 
 impl Table for BetweenRuns {
     fn replay(&self, alloc: Global, row: &str, wrong: &mut Vec<Difference>) -> Result<()> {
-        let [words, input, status, output] = cells::<4>(row)?;
-        let [command, lo, hi] = words_of(words)?;
-        ensure!(command == "between", "another command");
+        let cells = cells(alloc, row)?;
+        let [words, input, status, output] = cells.as_slice() else {
+            bail!("not four cells");
+        };
+        let bounds = words.strip_prefix("between ").context("another command")?;
+        let (lo, hi) = bounds.split_once(' ').context("one bound alone")?;
         let lo = number(lo.as_bytes()).context("no number")?;
         let hi = number(hi.as_bytes()).context("no number")?;
         let input = bytes(alloc, input)?;
@@ -43,11 +49,4 @@ impl Table for BetweenRuns {
             .context("written bytes that are no text")?;
         compare(alloc, wrong, "output", output, written.as_str())
     }
-}
-
-// The three words of a command.
-fn words_of(words: &str) -> Result<[&str; 3]> {
-    let (command, bounds) = words.split_once(' ').context("one word alone")?;
-    let (lo, hi) = bounds.split_once(' ').context("two words alone")?;
-    Ok([command, lo, hi])
 }

@@ -3,7 +3,7 @@ use crate::cells::cells;
 use crate::outcome::{Difference, compare};
 use crate::shown::{shown_case, shown_numbers};
 use crate::table::Table;
-use anyhow::{Context, Result};
+use anyhow::{Context, Result, bail};
 use predicates_vectors::{answer_number, first_reason, plain_number, read_number_words};
 use std::alloc::Global;
 
@@ -12,7 +12,10 @@ pub struct NumberTable;
 
 impl Table for NumberTable {
     fn replay(&self, alloc: Global, row: &str, wrong: &mut Vec<Difference>) -> Result<()> {
-        let [predicate, item, verdict, kept, case_true, case_false] = cells::<6>(row)?;
+        let cells = cells(alloc, row)?;
+        let [predicate, item, verdict, kept, case_true, case_false] = cells.as_slice() else {
+            bail!("not six cells");
+        };
         let words = read_number_words(alloc, predicate)?.context("an unknown word")?;
         let item = item.parse::<i64>().context("no number")?;
         let formula = plain_number(alloc, words.as_slice(), item)?.context("no formula")?;
