@@ -1,9 +1,7 @@
 -- What a predicate of one of two types means, by the type that it has.
 use Rattle.std.specs.Prelude.{ℕ, List, Option}
-use Rattle.predicates_core.specs.Label.{FitsEntry, Product}
+use Rattle.predicates_core.specs.Label.{FitsEntry}
 use Rattle.predicates_core.specs.Formula.{Formula, text_of}
-use Rattle.predicates_core.specs.Tree.{Forest}
-use Rattle.predicates_core.specs.Parts.{Part}
 use Rattle.std.specs.Prelude.{◌≡◌}
 use Rattle.predicates_vectors.specs.declared.one_of.OneOf.{OneOf}
 use Rattle.predicates_vectors.specs.declared.one_of.OneOf.TheVariants.{First, Second}

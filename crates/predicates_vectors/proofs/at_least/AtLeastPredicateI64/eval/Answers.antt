@@ -1,5 +1,5 @@
 use Rattle.std.proofs.Common.{refl}
-use Rattle.predicates_vectors.proofs.Called.{has-call, eval-narrower, find-narrower}
+use Rattle.predicates_vectors.proofs.Called.{has-call, eval-narrower}
 use Rattle.predicates_vectors.proofs.at_least.AtLeastPredicateI64.eval.Goals as goal
 
 pub returns-clause-truth : goal.returns-clause-truth

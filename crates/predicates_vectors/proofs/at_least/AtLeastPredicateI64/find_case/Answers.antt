@@ -1,5 +1,5 @@
 use Rattle.std.proofs.Common.{refl}
-use Rattle.predicates_vectors.proofs.Called.{has-call, eval-narrower, find-narrower}
+use Rattle.predicates_vectors.proofs.Called.{has-call, find-narrower}
 use Rattle.predicates_vectors.proofs.at_least.AtLeastPredicateI64.find_case.Goals as goal
 
 pub returns : goal.returns
