@@ -33,7 +33,7 @@ impl Steps {
     pub(crate) fn clear(&mut self)
         ensures { self.new ≡ 0 }
     {
-        self.taken = 0;
+        *self = Steps::new();
     }
 
     pub(crate) fn add_one(&mut self)
