@@ -18,12 +18,14 @@ impl Model for Steps {
 }
 
 impl Steps {
+    /// No comparisons.
     pub fn new() -> Steps
         ensures { result ≡ 0 }
     {
         Steps { taken: 0 }
     }
 
+    /// The number of comparisons.
     pub fn count(&self) -> usize
         ensures { result ≡ self.now }
     {
