@@ -1,5 +1,5 @@
 //! Membership in a hashed set.
-ghost use Rattle.std.specs.Prelude.{refl, codes, IfOk, None};
+ghost use Rattle.std.specs.Prelude.{◌≡◌, refl, codes, IfOk, None};
 ghost use Rattle.std.specs.Iterator.{IsFiniteIterable};
 ghost use Rattle.predicates_core.specs.Label.{value_of};
 ghost use Rattle.predicates_core.specs.Tree.{empty};
@@ -22,7 +22,8 @@ pub struct HashableInPredicate<T: Eq + Hash> {
     members: IndexSet<T>,
 }
 
-/// The predicate that holds of each item that equals one of those that the iterator gives.
+/// The predicate that holds of each item that equals one of those that the iterator gives, of which
+/// the first of equal ones stays in its place.
 pub fn in_hash<I: IntoIterator<Item = T>, T: fmt::Debug + Hash + Eq + Drop>(
     alloc: Global,
     iter: I,
@@ -33,6 +34,15 @@ pub fn in_hash<I: IntoIterator<Item = T>, T: fmt::Debug + Hash + Eq + Drop>(
 {
     let members = IndexSet::from_iter(alloc, iter)?;
     Ok(HashableInPredicate { members })
+}
+
+impl<T: Eq + Hash> HashableInPredicate<T> {
+    // Whether some member equals the item, by the set's look-up.
+    fn holds(&self, item: &T) -> bool
+        ensures { result ≡ has_equal T.eq (members_of self.now) item.now }
+    {
+        self.members.contains(item)
+    }
 }
 
 impl<T: Eq + Hash> fmt::Display for HashableInPredicate<T> {
@@ -72,7 +82,7 @@ impl<T: fmt::Debug + Eq + Hash> Predicate<T> for HashableInPredicate<T> {
 
     #[tactic(auto, using(predicates_core::proofs::Leaves::leaves))]
     fn eval(&self, _alloc: Global, item: &T) -> Result<bool, AllocError> {
-        Ok(self.members.contains(item))
+        Ok(self.holds(item))
     }
 
     #[tactic(auto, using(predicates_core::proofs::Leaves::leaves))]
