@@ -6,15 +6,18 @@ ghost use Rattle.predicates_core.specs.Parts.{Part, FitsParts, IsPart};
 
 mod case;
 mod child;
+mod parameter;
 mod product;
 mod text;
 
+use crate::lasting::Lasting;
 pub use case::{Case, CaseChild, CaseChildren, CaseView};
 pub use child::Child;
-pub use product::{Parameter, Product};
+pub use parameter::Parameter;
+pub use product::Product;
 use std::alloc::{AllocError, Global};
 use std::fmt;
-pub use text::render;
+pub use text::{render, render_onto};
 
 /// A printed text, the values that a predicate was made with, and its parts.
 pub trait PredicateReflection: fmt::Display {
@@ -22,26 +25,29 @@ pub trait PredicateReflection: fmt::Display {
 
     ghost children_of: { Self → Forest Part };
 
+    /// The values that the predicate was made with, in order; with none it does not refuse.
     fn parameters(&self, alloc: Global) -> Result<Vec<Parameter>, AllocError>
         ensures fits { IfOk result (λ ps. FitsProducts (parameters_of self.now) ps.items) }
         ensures none { parameters_of self.now ≡ [] → IsOk result };
 
+    /// The parts that the predicate is made of, in order; with none it does not refuse.
     fn children(&self, alloc: Global) -> Result<Vec<Child>, AllocError>
         ensures fits { IfOk result (λ cs. FitsParts (children_of self.now) (forest cs.items)) }
         ensures none { children_of self.now ≡ empty → IsOk result };
 }
 
-/// The description of a part under a name.
-pub fn describe<P: PredicateReflection>(
+/// The description of a part that stands under a name: its printed text, its parameters and its own
+/// parts, down to the leaves.
+pub fn describe<P: PredicateReflection, N: Lasting + Copy>(
     alloc: Global,
-    name: &'static str,
+    name: N,
     part: &P,
 ) -> Result<Child, AllocError>
     ensures { IfOk result
-        (IsPart name.entry.now (P.output part.now) (P.parameters_of part.now) (P.children_of part.now)) }
+        (IsPart (N.bytes name) (P.output part.now) (P.parameters_of part.now) (P.children_of part.now)) }
 {
     Ok(Child::new(
-        name,
+        name.text(),
         part.to_string(alloc)?,
         part.parameters(alloc)?,
         part.children(alloc)?,

@@ -1,12 +1,13 @@
-//! Named values.
+//! A named value that a case shows.
 ghost use Rattle.std.specs.Prelude.{◌≡◌, string_bytes};
 
+use crate::static_text::StaticText;
 use std::marker::Model;
 
-/// A named value that a case shows.
+/// A named value that a case shows, such as the item under `var`.
 #[derive(Drop)]
 pub struct Product {
-    name: &'static str,
+    name: StaticText,
     value: String,
 }
 
@@ -16,58 +17,28 @@ impl Model for Product {
 
     ghost Value = { NamedBytes };
 
-    ghost view = { λ p. (p.name.now, string_bytes p.value) };
+    ghost view = { λ p. (p.name, string_bytes p.value) };
 }
 
 impl Product {
+    /// The value under the name; both are kept as they are.
     pub fn new(name: &'static str, value: String) -> Product
         ensures { result ≡ (name.entry.now, string_bytes value) }
     {
-        Product { name, value }
+        Product {
+            name: StaticText::new(name),
+            value,
+        }
     }
 
+    /// The name that the value stands under.
     pub fn name(&self) -> &'static str
         ensures { result.now ≡ self.now.0 }
     {
-        self.name
+        self.name.as_str()
     }
 
-    pub fn value(&self) -> &str
-        ensures { result.now ≡ self.now.1 }
-    {
-        self.value.as_str()
-    }
-}
-
-/// A named value that a predicate was made with.
-#[derive(Drop)]
-pub struct Parameter {
-    name: &'static str,
-    value: String,
-}
-
-impl Model for Parameter {
-    ghost use Rattle.std.specs.Prelude.{string_bytes};
-    ghost use Rattle.predicates_core.specs.Describe.{NamedBytes};
-
-    ghost Value = { NamedBytes };
-
-    ghost view = { λ p. (p.name.now, string_bytes p.value) };
-}
-
-impl Parameter {
-    pub fn new(name: &'static str, value: String) -> Parameter
-        ensures { result ≡ (name.entry.now, string_bytes value) }
-    {
-        Parameter { name, value }
-    }
-
-    pub fn name(&self) -> &'static str
-        ensures { result.now ≡ self.now.0 }
-    {
-        self.name
-    }
-
+    /// The value, as it is printed.
     pub fn value(&self) -> &str
         ensures { result.now ≡ self.now.1 }
     {

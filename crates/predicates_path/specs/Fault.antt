@@ -1,0 +1,33 @@
+-- The texts of faults, and what an answer of the system comes to.
+use Rattle.std.specs.Prelude.{◌≡◌, ℕ, List, Option, None, Some, Result, Ok, Err, IsOkAnd, MatchResult, codes}
+use Rattle.std.specs.declared.alloc.AllocError.{AllocError}
+use Rattle.std.specs.declared.io.Error.{Error}
+use Rattle.std.specs.declared.io.ErrorKind.{ErrorKind}
+use Rattle.std.specs.declared.io.ErrorKind.TheVariants.{NotFound as SystemNotFound, PermissionDenied as SystemPermissionDenied, OutOfMemory}
+use Rattle.std.specs.IoError.{error_kind}
+use Rattle.predicates_path.specs.declared.fault.PathFault.{PathFault}
+use Rattle.predicates_path.specs.declared.fault.PathFault.TheVariants.{NotFound, PermissionDenied, NotRegular, Other}
+
+-- how a fault is printed
+abbrev pub fault_text : PathFault → List ℕ
+fault_text NotFound = codes "not found"
+fault_text PermissionDenied = codes "permission denied"
+fault_text NotRegular = codes "not a regular file"
+fault_text Other = codes "other fault"
+
+-- the fault of a path that a kind of error is; want of memory is none
+abbrev pub fault_of : ErrorKind → Option PathFault
+fault_of SystemNotFound = Some NotFound
+fault_of SystemPermissionDenied = Some PermissionDenied
+fault_of OutOfMemory = None
+fault_of _ = Some Other
+
+-- the fault that an error of the system is, or want of memory
+abbrev pub ComesTo : Error → Result PathFault AllocError → Type 0
+ComesTo error result = MatchResult result (λ fault. fault_of (error_kind error) ≡ Some fault) (λ _. fault_of (error_kind error) ≡ None)
+
+-- what the system told is found as the relation says, and its error is a fault, or want of memory
+abbrev pub TellsAs : {T F : Type 0} → (T → F → Type 0) → Result T Error → Result (Result F PathFault) AllocError → Type 0
+TellsAs IsFound (Ok told) result = IsOkAnd result (λ found. IsOkAnd found (IsFound told))
+TellsAs IsFound (Err error) result =
+    MatchResult result (λ found. MatchResult found (λ _. ⊥) (λ fault. fault_of (error_kind error) ≡ Some fault)) (λ _. fault_of (error_kind error) ≡ None)

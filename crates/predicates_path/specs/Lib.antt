@@ -1,0 +1,10 @@
+pub mod Leaves
+pub mod Fault
+pub mod FileType
+pub mod Snapshot
+pub mod Existence
+pub mod Kind
+pub mod Equality
+pub mod TextEquality
+pub mod Content
+pub mod ContentLaws

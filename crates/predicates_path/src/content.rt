@@ -1,0 +1,133 @@
+//! Predicates of bytes, asked about the content at a path.
+ghost use Rattle.std.specs.Prelude.{◌≡◌, false, [], codes, IfOk};
+ghost use Rattle.predicates_core.specs.Parts.{part};
+ghost use Rattle.predicates_core.specs.Leaves.{IsExactly};
+ghost use Rattle.predicates_core.specs.Shows.{IsCaseOf};
+ghost use Rattle.predicates_path.specs.Snapshot.{path_of, held_of};
+ghost use Rattle.predicates_path.specs.Content.{IsOfContent, part_of, content_formula, without_content};
+ghost use Rattle.predicates_path.specs.ContentLaws.{content_text_fits, one_content, has_content_formula};
+
+use crate::fault::show_fault;
+use crate::{PathFault, Snapshot};
+use predicates_core::node::alone;
+use predicates_core::reflection::{Case, Child, Parameter, PredicateReflection, describe};
+use predicates_core::{Predicate, Total};
+use std::alloc::{AllocError, Global};
+use std::fmt;
+
+/// Lends the content at a path to a predicate of bytes, and does not hold where there is none.
+#[derive(Debug, Clone, Copy, PartialEq, Eq, Drop)]
+pub struct FileContentPredicate<P> {
+    inner: P,
+}
+
+impl<P: fmt::Display> FileContentPredicate<P> {
+    // The case where the content is a fault: a false leaf, with the path and the fault.
+    fn no_content(
+        &self,
+        alloc: Global,
+        item: &Snapshot,
+        fault: PathFault,
+    ) -> Result<Case, AllocError>
+        ensures { IfOk result (IsCaseOf
+            (IsExactly (without_content (P.output (part_of self.now)) (path_of item.now) fault)) false) }
+    {
+        let node = alone(alloc, self.to_string(alloc)?, false);
+        let case = item.show_path(alloc, node)?;
+        Ok(show_fault(alloc, case, fault)?)
+    }
+}
+
+impl<P: fmt::Display> fmt::Display for FileContentPredicate<P> {
+    ghost output = { λ p. P.output (part_of p) };
+
+    fn fmt<W: fmt::Write>(&self, f: &mut fmt::Formatter<W>) -> fmt::Result {
+        let inner = &self.inner;
+        write!(f, "{inner}")
+    }
+}
+
+impl<P: PredicateReflection> PredicateReflection for FileContentPredicate<P> {
+    ghost parameters_of = { λ p. [] };
+
+    ghost children_of = { λ p. part
+        (codes "predicate") (P.output (part_of p)) (P.parameters_of (part_of p)) (P.children_of (part_of p)) };
+
+    fn parameters(&self, alloc: Global) -> Result<Vec<Parameter>, AllocError> {
+        Ok(Vec::new(alloc))
+    }
+
+    fn children(&self, alloc: Global) -> Result<Vec<Child>, AllocError> {
+        let mut children = Vec::new(alloc);
+        children.push(describe(alloc, "predicate", &self.inner)?)?;
+        Ok(children)
+    }
+}
+
+impl<P: Predicate<Vec<u8>>> Predicate<Snapshot> for FileContentPredicate<P> {
+    ghost lawful = { λ p. P.lawful (part_of p) };
+
+    ghost formula = { λ p s. IsOfContent (P.output (part_of p)) (P.formula (part_of p)) (path_of s) (held_of s) };
+
+    ghost steady = { λ p s. IfOk (held_of s) (P.steady (part_of p)) };
+
+    ghost text_fits = { λ p s f. content_text_fits (held_of s) (λ v. P.text_fits (part_of p) v) };
+
+    ghost one_formula = { λ p s f g lawful. one_content (held_of s) (λ v x y. P.one_formula (part_of p) v x y lawful) };
+
+    #[tactic(auto, using(crate::proofs::ContentCases::content_cases))]
+    fn eval(&self, alloc: Global, item: &Snapshot) -> Result<bool, AllocError> {
+        match item.held() {
+            Ok(bytes) => self.inner.eval(alloc, bytes),
+            Err(_) => Ok(false),
+        }
+    }
+
+    #[tactic(auto, using(crate::proofs::ContentCases::content_cases))]
+    fn find_case(
+        &self,
+        alloc: Global,
+        expected: bool,
+        item: &Snapshot,
+    ) -> Result<Option<Case>, AllocError> {
+        match item.held() {
+            Ok(bytes) => {
+                let Some(case) = self.inner.find_case(alloc, expected, bytes)? else {
+                    return Ok(None);
+                };
+                Ok(Some(item.show_path(alloc, case)?))
+            }
+            Err(fault) => {
+                if expected {
+                    return Ok(None);
+                }
+                Ok(Some(self.no_content(alloc, item, *fault)?))
+            }
+        }
+    }
+}
+
+impl<P: Total<Vec<u8>>> Total<Snapshot> for FileContentPredicate<P> {
+    ghost formula_of = { λ p s. content_formula (P.output (part_of p)) (P.formula_of (part_of p)) (path_of s) (held_of s) };
+
+    ghost always_lawful = { λ p. P.always_lawful (part_of p) };
+
+    ghost has_formula = { λ p s. has_content_formula
+        (P.output (part_of p)) (P.formula (part_of p)) (P.formula_of (part_of p)) (path_of s) (held_of s) (P.has_formula (part_of p)) };
+}
+
+/// Asks any predicate of bytes about contents.
+pub trait PredicateFileContentExt: Predicate<Vec<u8>> {
+    /// The predicate of snapshots whose content is there, and of whose bytes this one holds. It
+    /// takes no memory where this one takes none on the bytes, or where there is no content.
+    fn from_file_path(self) -> FileContentPredicate<Self>
+    where
+        Self: Sized,
+        ensures { part_of result ≡ self };
+}
+
+impl<P: Predicate<Vec<u8>>> PredicateFileContentExt for P {
+    fn from_file_path(self) -> FileContentPredicate<Self> {
+        FileContentPredicate { inner: self }
+    }
+}

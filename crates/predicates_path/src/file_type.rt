@@ -1,0 +1,56 @@
+//! What kinds of things stand at paths.
+ghost use Rattle.std.specs.Prelude.{Some, codes, IfOk};
+ghost use Rattle.std.specs.Fs.{file_type};
+ghost use Rattle.predicates_core.specs.Leaves.{IsShowing};
+ghost use Rattle.predicates_path.specs.FileType.{IsKindOf, kind_text};
+
+use predicates_core::node::showing;
+use predicates_core::reflection::Case;
+use std::alloc::{AllocError, Global};
+use std::fmt;
+use std::fs::Metadata;
+
+/// The kind of what stands at a path. A device, a pipe or a socket is `Other`.
+#[derive(Debug, Clone, Copy, PartialEq, Eq)]
+pub enum FileType {
+    File,
+    Dir,
+    Symlink,
+    Other,
+}
+
+impl fmt::Display for FileType {
+    ghost output = { λ kind. Some (kind_text kind) };
+
+    fn fmt<W: fmt::Write>(&self, f: &mut fmt::Formatter<W>) -> fmt::Result {
+        match self {
+            FileType::File => write!(f, "file"),
+            FileType::Dir => write!(f, "dir"),
+            FileType::Symlink => write!(f, "symlink"),
+            FileType::Other => write!(f, "other"),
+        }
+    }
+}
+
+// The kind that the system tells.
+pub(crate) fn kind_of(metadata: &Metadata) -> FileType
+    ensures { IsKindOf (file_type metadata.now) result }
+{
+    let told = metadata.file_type();
+    if told.is_file() {
+        FileType::File
+    } else if told.is_dir() {
+        FileType::Dir
+    } else if told.is_symlink() {
+        FileType::Symlink
+    } else {
+        FileType::Other
+    }
+}
+
+// The case with the kind as the product `actual filetype`.
+pub(crate) fn show_kind(alloc: Global, case: Case, kind: FileType) -> Result<Case, AllocError>
+    ensures { IfOk result (IsShowing (codes "actual filetype") (Some (kind_text kind)) case) }
+{
+    showing(case, "actual filetype", kind.to_string(alloc)?)
+}

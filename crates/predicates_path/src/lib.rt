@@ -1,0 +1,23 @@
+//! Predicates over what stands at a path, taken once.
+#![tactic(auto)]
+
+mod content;
+mod equality;
+mod existence;
+mod fault;
+mod file_type;
+mod kind;
+mod snapshot;
+mod text_equality;
+
+pub use content::{FileContentPredicate, PredicateFileContentExt};
+pub use equality::{BinaryFilePredicate, eq_file};
+pub use existence::{ExistencePredicate, exists, missing};
+pub use fault::PathFault;
+pub use file_type::FileType;
+pub use kind::{FileTypePredicate, is_dir, is_file, is_symlink};
+pub use snapshot::Snapshot;
+pub use text_equality::StrFilePredicate;
+
+#[cfg(test)]
+mod tests;

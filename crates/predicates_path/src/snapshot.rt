@@ -1,0 +1,142 @@
+//! What stands at a path, taken once.
+ghost use Rattle.std.specs.Prelude.{◌≡◌, Some, codes, IfOk, string_bytes};
+ghost use Rattle.predicates_core.specs.Leaves.{IsShowing};
+ghost use Rattle.std.specs.Fs.{file_type};
+ghost use Rattle.predicates_path.specs.FileType.{IsKindOf};
+ghost use Rattle.predicates_path.specs.Fault.{TellsAs};
+ghost use Rattle.predicates_path.specs.Snapshot.{path_of, plain_of, followed_of, held_of, content_of, read_bytes, IsConsistent};
+
+use crate::fault::{PathFault, path_fault};
+use crate::file_type::{FileType, kind_of};
+use predicates_core::node::showing_text;
+use predicates_core::reflection::Case;
+use std::alloc::{AllocError, Global};
+use std::fs::Metadata;
+use std::rt::Files;
+use std::{fs, io};
+
+/// A path with the kind and the content that were found there.
+#[derive(Drop)]
+pub struct Snapshot {
+    path: String,
+    plain: Result<FileType, PathFault>,
+    followed: Result<FileType, PathFault>,
+    content: Result<Vec<u8>, PathFault>,
+}
+
+// The kind that the system told, or its fault.
+fn kind(told: io::Result<Metadata>) -> Result<Result<FileType, PathFault>, AllocError>
+    ensures { TellsAs (λ metadata. IsKindOf (file_type metadata)) told result }
+{
+    match told {
+        Ok(metadata) => Ok(Ok(kind_of(&metadata))),
+        Err(error) => Ok(Err(path_fault(&error)?)),
+    }
+}
+
+// What reading the file gave, or its fault.
+fn content(told: io::Result<Vec<u8>>) -> Result<Result<Vec<u8>, PathFault>, AllocError>
+    ensures { TellsAs ◌≡◌ told result }
+{
+    match told {
+        Ok(bytes) => Ok(Ok(bytes)),
+        Err(error) => Ok(Err(path_fault(&error)?)),
+    }
+}
+
+impl Snapshot {
+    /// Asks the file system once for each of the two kinds, and reads the content once where the
+    /// path leads to a regular file. Refused only for want of memory, here or in the system.
+    pub fn take<R: Files + AllocGlobal>(rt: &R, path: &str) -> Result<Snapshot, AllocError>
+        ensures path { IfOk result (λ snapshot. path_of snapshot ≡ path.now) }
+        ensures consistent { IfOk result IsConsistent }
+    {
+        let owned = String::from_str(rt.alloc(), path)?;
+        let plain = kind(fs::symlink_metadata(rt, path))?;
+        let followed = kind(fs::metadata(rt, path))?;
+        let content = match followed {
+            Ok(FileType::File) => content(fs::read(rt, path))?,
+            Ok(_) => Err(PathFault::NotRegular),
+            Err(fault) => Err(fault),
+        };
+        Ok(Snapshot {
+            path: owned,
+            plain,
+            followed,
+            content,
+        })
+    }
+
+    /// A snapshot of any parts, also of such as no file system gives. Takes no memory.
+    pub fn from_parts(
+        path: String,
+        plain: Result<FileType, PathFault>,
+        followed: Result<FileType, PathFault>,
+        content: Result<Vec<u8>, PathFault>,
+    ) -> Snapshot
+        ensures path { path_of result ≡ string_bytes path }
+        ensures plain { plain_of result ≡ plain }
+        ensures followed { followed_of result ≡ followed }
+        ensures content { held_of result ≡ content }
+    {
+        Snapshot {
+            path,
+            plain,
+            followed,
+            content,
+        }
+    }
+
+    /// The path as it was handed in.
+    pub fn path(&self) -> &str
+        ensures { result.now ≡ path_of self.now }
+    {
+        self.path.as_str()
+    }
+
+    /// The kind of what stands at the path, where a link is not followed.
+    pub fn plain(&self) -> Result<FileType, PathFault>
+        ensures { result ≡ plain_of self.now }
+    {
+        self.plain
+    }
+
+    /// The kind of what the path leads to, where a link is followed.
+    pub fn followed(&self) -> Result<FileType, PathFault>
+        ensures { result ≡ followed_of self.now }
+    {
+        self.followed
+    }
+
+    /// The bytes of the file that the path leads to, where a link is followed.
+    pub fn content(&self) -> Result<&[u8], PathFault>
+        ensures { read_bytes (λ bytes. bytes.now) result ≡ content_of self.now }
+    {
+        match &self.content {
+            Ok(bytes) => Ok(bytes.as_slice()),
+            Err(fault) => Err(*fault),
+        }
+    }
+
+    // The case with the path as the product `var`.
+    pub(crate) fn show_path(&self, alloc: Global, case: Case) -> Result<Case, AllocError>
+        ensures { IfOk result (IsShowing (codes "var") (Some (path_of self.now)) case) }
+    {
+        showing_text(alloc, case, "var", self.path.as_str())
+    }
+
+    // The content as it is held.
+    pub(crate) fn held(&self) -> &Result<Vec<u8>, PathFault>
+        ensures { result.now ≡ held_of self.now }
+    {
+        &self.content
+    }
+
+    // The path and the content.
+    pub(crate) fn into_file(self) -> (String, Result<Vec<u8>, PathFault>)
+        ensures path { string_bytes result.0 ≡ path_of self }
+        ensures content { result.1 ≡ held_of self }
+    {
+        (self.path, self.content)
+    }
+}
