@@ -3,6 +3,9 @@
 
 pub mod boolean;
 pub mod constant;
+pub mod function;
+pub mod iter;
+pub mod name;
 pub mod ord;
 #[cfg(test)]
 mod tests;

@@ -5,14 +5,6 @@ use Rattle.predicates_core.specs.Held.{named}
 use Rattle.predicates_core.specs.declared.reflection.case.Branch.{Branch}
 
 module _ {N : Type 0} where
-  pub forest-push : (ts : List (List ℕ × Tree N)) (name : List ℕ) (t : Tree N) → forest (ts ++ (name, t) ∷ []) ≡ add_last (forest ts) name t
-  forest-push [] name t = refl
-  forest-push (x ∷ ts) name t = ap (branch x.0 x.1.root x.1.children) (forest-push ts name t)
-
-  pub forest-named_trees : (f : Forest N) → forest (named_trees f) ≡ f
-  forest-named_trees empty = refl
-  forest-named_trees (branch name node below next) = ap (branch name node below) (forest-named_trees next)
-
   pub named_trees-forest : (ts : List (List ℕ × Tree N)) → named_trees (forest ts) ≡ ts
   named_trees-forest [] = refl
   named_trees-forest (t ∷ ts) = ap (λ us. t ∷ us) (named_trees-forest ts)
@@ -48,6 +40,7 @@ module _ {N : Type 0} where
       let all : node_count f ≡ total ts = total-named_trees f ∙ ap total (sym e) in
       omega (arith, total-at ts i x h)
 
-pub forest-branch_push : (bs : List Branch) (b : Branch) → forest (map named (bs ++ b ∷ [])) ≡ add_last (forest (map named bs)) b.name.now b.case
-forest-branch_push [] b = refl
-forest-branch_push (x ∷ bs) b = ap (branch x.name.now x.case.root x.case.children) (forest-branch_push bs b)
+-- a branch pushed last stands last in the forest
+pub forest_push : (bs : List Branch) (b : Branch) → forest (map named (bs ++ b ∷ [])) ≡ add_last (forest (map named bs)) b.name b.case
+forest_push [] b = refl
+forest_push (x ∷ bs) b = ap (branch x.name x.case.root x.case.children) (forest_push bs b)

@@ -9,3 +9,6 @@ pub mod Leaves
 pub mod Added
 pub mod Forests
 pub mod Lines
+pub mod Fields
+pub mod Kept
+pub mod Existence

@@ -9,4 +9,4 @@ abbrev pub node_of : Node → CaseNode
 node_of n = record { text = option_map string_bytes n.text; result = n.result; products = n.products.items }
 
 abbrev pub named : Branch → List ℕ × Tree CaseNode
-named b = (b.name.now, b.case)
+named b = (b.name, b.case)

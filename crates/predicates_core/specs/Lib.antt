@@ -3,6 +3,7 @@ pub mod Describe
 pub mod Label
 pub mod Formula
 pub mod Reason
+pub mod Laws
 pub mod Shows
 pub mod Combined
 pub mod Leaves
@@ -11,8 +12,8 @@ pub mod Parts
 pub mod Text
 pub mod Held
 pub mod Falls
-pub mod Pushed
 pub mod ChildFalls
 pub mod Lines
 pub mod Read
 pub mod Written
+pub mod Ownership

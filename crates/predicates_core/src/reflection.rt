@@ -10,13 +10,14 @@ mod parameter;
 mod product;
 mod text;
 
+use crate::lasting::Lasting;
 pub use case::{Case, CaseChild, CaseChildren, CaseView};
 pub use child::Child;
 pub use parameter::Parameter;
 pub use product::Product;
 use std::alloc::{AllocError, Global};
 use std::fmt;
-pub use text::render;
+pub use text::{render, render_onto};
 
 /// A printed text, the values that a predicate was made with, and its parts.
 pub trait PredicateReflection: fmt::Display {
@@ -37,16 +38,16 @@ pub trait PredicateReflection: fmt::Display {
 
 /// The description of a part that stands under a name: its printed text, its parameters and its own
 /// parts, down to the leaves.
-pub fn describe<P: PredicateReflection>(
+pub fn describe<P: PredicateReflection, N: Lasting + Copy>(
     alloc: Global,
-    name: &'static str,
+    name: N,
     part: &P,
 ) -> Result<Child, AllocError>
     ensures { IfOk result
-        (IsPart name.entry.now (P.output part.now) (P.parameters_of part.now) (P.children_of part.now)) }
+        (IsPart (N.bytes name) (P.output part.now) (P.parameters_of part.now) (P.children_of part.now)) }
 {
     Ok(Child::new(
-        name,
+        name.text(),
         part.to_string(alloc)?,
         part.parameters(alloc)?,
         part.children(alloc)?,

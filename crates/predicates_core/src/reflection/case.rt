@@ -4,6 +4,7 @@ ghost use Rattle.predicates_core.specs.Tree.{named_trees};
 ghost use Rattle.predicates_core.specs.Describe.{leaf, with_product, with_child};
 
 use crate::reflection::Product;
+use crate::static_text::StaticText;
 use std::alloc::{AllocError, Global};
 use std::marker::Model;
 
@@ -19,7 +20,7 @@ struct Node {
 #[cycle(case)]
 #[derive(Drop)]
 struct Branch {
-    name: &'static str,
+    name: StaticText,
     case: Case,
 }
 
@@ -78,7 +79,10 @@ impl Case {
     pub fn add_child(mut self, name: &'static str, child: Case) -> Result<Case, AllocError>
         ensures { IfOk result (λ c. c ≡ with_child self name.entry.now child) }
     {
-        self.children.push(Branch { name, case: child })?;
+        self.children.push(Branch {
+            name: StaticText::new(name),
+            case: child,
+        })?;
         Ok(self)
     }
 
@@ -187,7 +191,7 @@ impl<'a> Iterator for CaseChildren<'a> {
         let (first, rest) = self.rest.split_first()?;
         self.rest = rest;
         Some(CaseChild {
-            name: first.name,
+            name: first.name.as_str(),
             case: first.case.root(),
         })
     }

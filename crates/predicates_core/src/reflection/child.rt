@@ -4,13 +4,14 @@ ghost use Rattle.predicates_core.specs.Tree.{named_trees};
 ghost use Rattle.predicates_core.specs.Describe.{described};
 
 use crate::reflection::Parameter;
+use crate::static_text::StaticText;
 use std::marker::Model;
 
 /// A part of a predicate: the name that it stands under, its printed text, its parameters and its
 /// own children.
 #[derive(Drop)]
 pub struct Child {
-    name: &'static str,
+    name: StaticText,
     text: String,
     parameters: Vec<Parameter>,
     children: Vec<Child>,
@@ -26,7 +27,7 @@ impl Model for Child {
     ghost coded = { coded_child };
 
     ghost view = { λ c. (
-      c.name.now,
+      c.name,
       record {
         root = record { text = string_bytes c.text; parameters = c.parameters.items };
         children = forest c.children.items;
@@ -52,7 +53,7 @@ impl Child {
             ≡ described name.entry.now (string_bytes text) parameters.items children.items }
     {
         Child {
-            name,
+            name: StaticText::new(name),
             text,
             parameters,
             children,
@@ -63,7 +64,7 @@ impl Child {
     pub fn name(&self) -> &'static str
         ensures { result.now ≡ self.now.0 }
     {
-        self.name
+        self.name.as_str()
     }
 
     /// The printed text of the part.

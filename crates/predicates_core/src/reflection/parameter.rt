@@ -1,12 +1,13 @@
 //! A named value that a predicate was made with.
 ghost use Rattle.std.specs.Prelude.{◌≡◌, string_bytes};
 
+use crate::static_text::StaticText;
 use std::marker::Model;
 
 /// A named value that a predicate was made with, such as a set count.
 #[derive(Drop)]
 pub struct Parameter {
-    name: &'static str,
+    name: StaticText,
     value: String,
 }
 
@@ -16,7 +17,7 @@ impl Model for Parameter {
 
     ghost Value = { NamedBytes };
 
-    ghost view = { λ p. (p.name.now, string_bytes p.value) };
+    ghost view = { λ p. (p.name, string_bytes p.value) };
 }
 
 impl Parameter {
@@ -24,14 +25,17 @@ impl Parameter {
     pub fn new(name: &'static str, value: String) -> Parameter
         ensures { result ≡ (name.entry.now, string_bytes value) }
     {
-        Parameter { name, value }
+        Parameter {
+            name: StaticText::new(name),
+            value,
+        }
     }
 
     /// The name that the value stands under.
     pub fn name(&self) -> &'static str
         ensures { result.now ≡ self.now.0 }
     {
-        self.name
+        self.name.as_str()
     }
 
     /// The value, as it is printed.

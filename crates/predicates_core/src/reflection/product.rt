@@ -1,12 +1,13 @@
 //! A named value that a case shows.
 ghost use Rattle.std.specs.Prelude.{◌≡◌, string_bytes};
 
+use crate::static_text::StaticText;
 use std::marker::Model;
 
 /// A named value that a case shows, such as the item under `var`.
 #[derive(Drop)]
 pub struct Product {
-    name: &'static str,
+    name: StaticText,
     value: String,
 }
 
@@ -16,7 +17,7 @@ impl Model for Product {
 
     ghost Value = { NamedBytes };
 
-    ghost view = { λ p. (p.name.now, string_bytes p.value) };
+    ghost view = { λ p. (p.name, string_bytes p.value) };
 }
 
 impl Product {
@@ -24,14 +25,17 @@ impl Product {
     pub fn new(name: &'static str, value: String) -> Product
         ensures { result ≡ (name.entry.now, string_bytes value) }
     {
-        Product { name, value }
+        Product {
+            name: StaticText::new(name),
+            value,
+        }
     }
 
     /// The name that the value stands under.
     pub fn name(&self) -> &'static str
         ensures { result.now ≡ self.now.0 }
     {
-        self.name
+        self.name.as_str()
     }
 
     /// The value, as it is printed.

@@ -1,7 +1,7 @@
 use Rattle.std.proofs.Common.{ap, sym, ◌∙◌}
 use Rattle.predicates_core.specs.Tree.{named_trees}
 use Rattle.predicates_core.specs.Describe.{NamedChild}
-use Rattle.predicates_core.specs.Pushed.{named_trees-forest}
+use Rattle.predicates_core.proofs.Forests.{named_trees-forest}
 use Rattle.predicates_core.proofs.reflection.child.Child.children.Goals as goal
 
 pub returns : goal.returns

@@ -1,0 +1,76 @@
+ghost use Rattle.std.specs.Prelude.{◌≡◌, ◌≤◌, ◌&&◌, nat_le};
+
+use crate::boolean::PredicateBooleanExt;
+use crate::function::function;
+use crate::ord::le;
+use predicates_core::Predicate;
+use predicates_core::reflection::render;
+use predicates_core::static_text::StaticText;
+use std::test::Fail;
+
+// A text with a number.
+#[derive(Drop)]
+struct Greeting {
+    text: String,
+    number: i32,
+}
+
+fn is_digit(byte: &u8) -> bool
+    ensures { result ≡ (nat_le 48 byte.now && nat_le byte.now 57) }
+{
+    b'0' <= *byte && *byte <= b'9'
+}
+
+#[test]
+fn asks_a_closure(rt: HostRuntime) -> Result<(), Fail> {
+    let alloc = rt.alloc();
+    let bound = 5;
+    let big = function(move |x: &i32| *x >= bound);
+    assert_eq!(rt; big.to_string(alloc)?.as_str(), "fn(var)");
+    let big = big.fn_name("big");
+    assert_eq!(rt; big.to_string(alloc)?.as_str(), "big(var)");
+    let middle = big.and(le(10));
+    assert_eq!(rt; middle.eval(alloc, &7)?, true);
+    let case = middle.find_case(alloc, false, &3)?.ok_or("no case")?;
+    assert_eq!(rt;
+        render(alloc, &case)?.as_str(),
+        "(big(var) && var <= 10) = false\n  left: big(var) = false\n"
+    );
+    Ok(())
+}
+
+#[test]
+fn asks_for_fields(rt: HostRuntime) -> Result<(), Fail> {
+    let alloc = rt.alloc();
+    let greets = function(|g: &Greeting| g.text.as_str() == "hello").and(function(
+        |g: &Greeting| g.number == 42,
+    ).fn_name("is the answer"));
+    for (text, number, verdict) in [("hello", 42, true), ("goodbye", 0, false)] {
+        let greeting = Greeting {
+            text: String::from_str(alloc, text)?,
+            number,
+        };
+        assert_eq!(rt; greets.eval(alloc, &greeting)?, verdict);
+    }
+    Ok(())
+}
+
+#[test]
+fn asks_a_named_function(rt: HostRuntime) -> Result<(), Fail> {
+    let digit = function(is_digit).fn_name(StaticText::new("is_digit"));
+    assert_eq!(rt; digit.eval(rt.alloc(), &b'7')?, true);
+    assert_eq!(rt; digit.eval(rt.alloc(), &b'x')?, false);
+    assert_eq!(rt; digit.to_string(rt.alloc())?.as_str(), "is_digit(var)");
+    Ok(())
+}
+
+#[test]
+fn captures_references(rt: HostRuntime) -> Result<(), Fail> {
+    let (low, high) = (3, 9);
+    let outside = function(|x: &i32| *x >= low && *x <= high)
+        .fn_name("inside")
+        .not();
+    assert_eq!(rt; outside.eval(rt.alloc(), &7)?, false);
+    assert!(rt; outside.find_case(rt.alloc(), false, &7)?.is_some());
+    Ok(())
+}

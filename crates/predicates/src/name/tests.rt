@@ -1,0 +1,111 @@
+use crate::boolean::PredicateBooleanExt;
+use crate::constant::never;
+use crate::function::function;
+use crate::name::PredicateNameExt;
+use crate::ord::lt;
+use predicates_core::Predicate;
+use predicates_core::reflection::{Case, PredicateReflection, render};
+use predicates_core::static_text::StaticText;
+use std::alloc::{AllocError, Global};
+use std::test::Fail;
+
+// The case of the verdict, as any user of any predicate asks for it.
+fn explained<P: Predicate<Item>, Item>(
+    alloc: Global,
+    predicate: &P,
+    item: &Item,
+) -> Result<Case, AllocError>
+    requires { P.lawful predicate.now }
+{
+    let verdict = predicate.eval(alloc, item)?;
+    match predicate.find_case(alloc, verdict, item)? {
+        Some(case) => Ok(case),
+        None => Ok(Case::new(alloc, None, verdict)),
+    }
+}
+
+// The lines of the case of the verdict.
+fn written<P: Predicate<Item>, Item>(
+    alloc: Global,
+    predicate: &P,
+    item: &Item,
+) -> Result<String, AllocError>
+    requires { P.lawful predicate.now }
+{
+    render(alloc, &explained(alloc, predicate, item)?)
+}
+
+#[test]
+fn names_under_combinators(rt: HostRuntime) -> Result<(), Fail> {
+    let alloc = rt.alloc();
+    let neither = never().name("x").or(lt(3).name("y")).not();
+    assert_eq!(rt; neither.eval(alloc, &1)?, false);
+    assert!(rt; neither.find_case(alloc, true, &1)?.is_none());
+    assert!(rt; neither.find_case(alloc, false, &1)?.is_some());
+    assert_eq!(rt; neither.children(alloc)?.len(), 1);
+    assert_eq!(rt; neither.parameters(alloc)?.len(), 0);
+    assert_eq!(rt; neither.to_string(alloc)?.as_str(), "(! (x || y))");
+    assert!(rt; !explained(alloc, &neither, &1)?.root().result());
+    assert_eq!(rt;
+        written(alloc, &neither, &1)?.as_str(),
+        "(! (x || y)) = false\n  predicate: (x || y) = true\n    right: y = true\n      y: var < 3 = true\n        - var: 1\n"
+    );
+    Ok(())
+}
+
+#[test]
+fn names_beside_a_function(rt: HostRuntime) -> Result<(), Fail> {
+    let alloc = rt.alloc();
+    let both = never()
+        .name("x")
+        .or(lt(3).name("y"))
+        .not()
+        .name("z")
+        .and(function(|x: &i32| *x >= 5).fn_name("g"));
+    assert_eq!(rt; both.eval(alloc, &9)?, true);
+    assert!(rt; both.find_case(alloc, true, &9)?.is_some());
+    assert!(rt; both.find_case(alloc, false, &9)?.is_none());
+    assert_eq!(rt; both.children(alloc)?.len(), 2);
+    assert_eq!(rt; both.parameters(alloc)?.len(), 0);
+    assert_eq!(rt; both.to_string(alloc)?.as_str(), "(z && g(var))");
+    assert!(rt; explained(alloc, &both, &9)?.root().result());
+    assert_eq!(rt;
+        written(alloc, &both, &1)?.as_str(),
+        "(z && g(var)) = false\n  left: z = false\n    z: (! (x || y)) = false\n      predicate: (x || y) = true\n        right: y = true\n          y: var < 3 = true\n            - var: 1\n"
+    );
+    Ok(())
+}
+
+#[test]
+fn functions_under_combinators(rt: HostRuntime) -> Result<(), Fail> {
+    let alloc = rt.alloc();
+    let either = function(|x: &i32| *x >= 5)
+        .and(function(|x: &i32| *x <= 10))
+        .or(function(|x: &i32| *x == 1));
+    assert_eq!(rt; either.eval(alloc, &4)?, false);
+    assert!(rt; either.find_case(alloc, true, &4)?.is_none());
+    assert!(rt; either.find_case(alloc, false, &4)?.is_some());
+    assert_eq!(rt; either.children(alloc)?.len(), 2);
+    assert_eq!(rt; either.parameters(alloc)?.len(), 0);
+    assert_eq!(rt;
+        either.to_string(alloc)?.as_str(),
+        "((fn(var) && fn(var)) || fn(var))"
+    );
+    assert!(rt; explained(alloc, &either, &7)?.root().result());
+    assert_eq!(rt;
+        written(alloc, &either, &7)?.as_str(),
+        "((fn(var) && fn(var)) || fn(var)) = true\n  left: (fn(var) && fn(var)) = true\n    left: fn(var) = true\n    right: fn(var) = true\n"
+    );
+    Ok(())
+}
+
+#[test]
+fn copied(rt: HostRuntime) -> Result<(), Fail> {
+    let one = never().name("x").or(lt(3).name("y"));
+    let other = one;
+    assert!(rt; one == other);
+    let held = other.name(StaticText::new("held")).not();
+    assert_eq!(rt; held.eval(rt.alloc(), &1)?, false);
+    assert_eq!(rt; held.children(rt.alloc())?[0].text(), "held");
+    Ok(())
+}

@@ -1,0 +1,84 @@
+//! Texts that are there for good, held without a lifetime.
+
+ghost use Rattle.std.specs.Prelude.{◌≡◌, ℕ, List, length, ◌^◌, ◌<◌};
+ghost use denote.RawPtr.{Ptr};
+ghost use Rattle.predicates_core.specs.Ownership.{IsPlaced, seen_owns};
+
+#[cfg(test)]
+mod tests;
+
+use std::marker::Model;
+use std::{slice, str};
+
+// The right to read `items` at `ptr` for good. It takes no memory.
+#[derive(Drop)]
+struct Seen {
+    ghost ptr: { Ptr },
+    ghost items: { List ℕ },
+    ghost placed: { IsPlaced ptr × (length items < 2 ^ 63) },
+}
+
+impl Model for Seen {
+    ghost also_owns = { λ s. seen_owns s.ptr s.items };
+
+    ghost also_shares = { λ s _ _. seen_owns s.ptr s.items };
+}
+
+impl Seen {
+    fn forever(bytes: &'static [u8]) -> (*const u8, Seen)
+        ensures { (result.1.ptr ≡ result.0) × (result.1.items ≡ bytes.now) }
+    {
+        (bytes.as_ptr(), Seen {})
+    }
+
+    fn read(&self, ptr: *const u8, len: usize) -> &'static [u8]
+        requires { (self.now.ptr ≡ ptr) × (length self.now.items ≡ len) }
+        ensures { result.now ≡ self.now.items }
+    {
+        unsafe { slice::from_raw_parts(ptr, len) }
+    }
+}
+
+/// A text that is there for good, in a type that names no lifetime. A clause sees its bytes.
+///
+/// It is moved and never copied: to have it twice, make it twice of one `&'static str`.
+#[derive(Drop)]
+pub struct StaticText {
+    at: *const u8,
+    len: usize,
+    seen: Seen,
+}
+
+impl Model for StaticText {
+    ghost use Rattle.std.specs.Prelude.{◌≡◌, ℕ, List, length, IsUtf8};
+
+    ghost Value = { List ℕ };
+
+    ghost view = { λ t. t.seen.items };
+
+    ghost invariant = { λ t. (t.seen.ptr ≡ t.at) × (length t.seen.items ≡ t.len)
+        × IsUtf8 t.seen.items };
+}
+
+impl StaticText {
+    /// Holds `text`. It takes no memory and cannot fail.
+    pub fn new(text: &'static str) -> StaticText
+        ensures { result ≡ text.now }
+    {
+        let bytes = text.as_bytes();
+        let (at, seen) = Seen::forever(bytes);
+        StaticText {
+            at,
+            len: bytes.len(),
+            seen,
+        }
+    }
+
+    /// The text, which is still there once `self` is gone.
+    pub fn as_str(&self) -> &'static str
+        ensures { result.now ≡ self.now }
+    {
+        let bytes = self.seen.read(self.at, self.len);
+        unsafe { str::from_utf8_unchecked(bytes) }
+    }
+}

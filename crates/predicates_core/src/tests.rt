@@ -1,0 +1,80 @@
+// What no clause says: that the calls answer with ample memory, and how a case prints.
+use crate::node::{alone, over_both, over_one, showing, showing_item, showing_text};
+use crate::reflection::{Case, CaseChild, Child, Parameter, Product, render};
+use std::alloc::{AllocError, Global};
+use std::test::Fail;
+
+fn text(alloc: Global, text: &str) -> Result<String, AllocError> {
+    String::from_str(alloc, text)
+}
+
+#[test]
+fn a_case_of_three_nodes(rt: HostRuntime) -> Result<(), Fail> {
+    let alloc = rt.alloc();
+    let left = showing_item(alloc, alone(alloc, text(alloc, "var >= 5")?, true), &7)?;
+    let right = showing_text(
+        alloc,
+        alone(alloc, text(alloc, "named")?, true),
+        "name",
+        "a\nb",
+    )?;
+    let both = over_both(alloc, text(alloc, "both")?, true, left, right)?;
+    let case = over_one(alloc, text(alloc, "(! both)")?, false, "predicate", both)?;
+    assert_eq!(rt;
+        render(alloc, &case)?.as_str(),
+        "(! both) = false\n  predicate: both = true\n    left: var >= 5 = true\n      - var: 7\n    right: named = true\n      - name: a\nb\n"
+    );
+    let root = case.root();
+    assert_eq!(rt; root.predicate(), Some("(! both)"));
+    assert_eq!(rt; root.result(), false);
+    assert_eq!(rt; root.products().len(), 0);
+    assert_eq!(rt; root.children().count(), 1);
+    for CaseChild { name, case } in root.children() {
+        assert_eq!(rt; name, "predicate");
+        assert_eq!(rt; case.children().count(), 2);
+        for part in case.children() {
+            assert_eq!(rt; part.case.products().len(), 1);
+        }
+    }
+    Ok(())
+}
+
+#[test]
+fn a_case_without_a_text(rt: HostRuntime) -> Result<(), Fail> {
+    let alloc = rt.alloc();
+    let bare = Case::new(alloc, None, true);
+    let shown = showing(bare, "var", text(alloc, "")?)?;
+    let parent = Case::new(alloc, Some(text(alloc, "")?), false);
+    let case = parent
+        .add_child("", shown)?
+        .add_product(Product::new("error", text(alloc, "none")?))?;
+    assert_eq!(rt;
+        render(alloc, &case)?.as_str(),
+        " = false\n  - error: none\n  : predicate = true\n    - var: \n"
+    );
+    Ok(())
+}
+
+#[test]
+fn a_description(rt: HostRuntime) -> Result<(), Fail> {
+    let alloc = rt.alloc();
+    let mut parameters = Vec::new(alloc);
+    parameters.push(Parameter::new("value", text(alloc, "true")?))?;
+    let leaf = Child::new("left", text(alloc, "true")?, parameters, Vec::new(alloc));
+    let mut children = Vec::new(alloc);
+    children.push(leaf)?;
+    let child = Child::new(
+        "predicate",
+        text(alloc, "(true)")?,
+        Vec::new(alloc),
+        children,
+    );
+    assert_eq!(rt; child.name(), "predicate");
+    assert_eq!(rt; child.text(), "(true)");
+    assert_eq!(rt; child.parameters().len(), 0);
+    assert_eq!(rt; child.children().len(), 1);
+    assert_eq!(rt; child.children()[0].name(), "left");
+    assert_eq!(rt; child.children()[0].parameters()[0].name(), "value");
+    assert_eq!(rt; child.children()[0].parameters()[0].value(), "true");
+    Ok(())
+}

@@ -1,0 +1,5 @@
+pub mod BlockLemmas
+pub mod Numerals
+pub mod Progress
+pub mod Same
+pub mod Splitting

@@ -1,0 +1,45 @@
+-- What is written for one line.
+use Rattle.std.specs.Prelude.{◌≡◌, ℕ, ℤ, Bool, int_le, List, ◌++◌, Option, Some, codes, decimal}
+use Rattle.std.specs.Fmt.{signed_decimal}
+use Rattle.std.specs.Io.BufRead.{strip_last}
+use Rattle.predicates_core.specs.Label.{plain, showing}
+use Rattle.predicates_core.specs.Formula.{Formula, Leaf, And}
+use Rattle.predicates_core.specs.Combined.{infix_text}
+use Rattle.predicates_explain.specs.Blocks.{IsBlock}
+use Rattle.predicates_explain.specs.Number.{Reads}
+
+-- a line without one carriage return at its end
+abbrev pub without_return : List ℕ → List ℕ
+without_return line = strip_last 13 line
+
+-- a line that is a number
+abbrev pub IsNumber : List ℕ → Type 0
+IsNumber line = (n : ℤ) × Reads (without_return line) n
+
+abbrev pub no_number : ℕ → List ℕ
+no_number number = codes "line " ++ (decimal number ++ codes ": not a number\n")
+
+-- what is written for the line of this number: the block of the number on it, under that number as the label, or that it is none
+pub data IsNumberAnswer (formula_of : ℤ → Formula) (number : ℕ) (line written : List ℕ) : Type 0 where
+  item : (n : ℤ) → Reads (without_return line) n → IsBlock (signed_decimal n) (formula_of n) written → IsNumberAnswer formula_of number line written
+  no_item : ((n : ℤ) → ¬ (Reads (without_return line) n)) → written ≡ no_number number → IsNumberAnswer formula_of number line written
+
+-- what a comparison with a constant prints
+abbrev pub comparison_text : List ℕ → ℤ → List ℕ
+comparison_text symbol constant = codes "var " ++ (symbol ++ (codes " " ++ signed_decimal constant))
+
+-- a comparison of n with a constant, which shows n
+abbrev pub comparison : List ℕ → ℤ → ℤ → Bool → Formula
+comparison symbol constant n holds =
+    Leaf (showing (Some (comparison_text symbol constant)) (codes "var") (Some (signed_decimal n))) holds
+
+-- what `ge(lo).and(le(hi))` prints
+abbrev pub between_text : ℤ → ℤ → Option (List ℕ)
+between_text lo hi = infix_text (codes " && ") (Some (comparison_text (codes ">=") lo)) (Some (comparison_text (codes "<=") hi))
+
+-- the formula of `ge(lo).and(le(hi))` on n: n is lo, hi or between
+abbrev pub between_formula : ℤ → ℤ → ℤ → Formula
+between_formula lo hi n =
+    And (plain (between_text lo hi))
+    (comparison (codes ">=") lo n (int_le lo n))
+    (comparison (codes "<=") hi n (int_le n hi))

@@ -1,0 +1,5 @@
+pub mod Answers
+pub mod Blocks
+pub mod Fault
+pub mod Number
+pub mod Runs

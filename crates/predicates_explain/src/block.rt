@@ -1,0 +1,58 @@
+//! The block of text that explains a verdict.
+ghost use Rattle.std.specs.Prelude.{IfOk, OnOk, string_bytes};
+ghost use Rattle.predicates_explain.specs.Blocks.{HasBlocks, IsBlock};
+
+use predicates_core::reflection::render_onto;
+use predicates_core::{Predicate, Total};
+use std::alloc::{AllocError, Global};
+use std::fmt::Write;
+
+// Makes the label that the text holds into its block.
+#[tactic(auto, using(crate::proofs::BlockLemmas::blocks))]
+pub(crate) fn complete_block<P: Predicate<Item>, Item>(
+    alloc: Global,
+    text: &mut String,
+    predicate: &P,
+    item: &Item,
+) -> Result<(), AllocError>
+    requires { P.lawful predicate.now }
+    ensures { OnOk result
+        (HasBlocks (P.formula predicate.now item.now) (string_bytes text.old) (string_bytes text.new)) }
+{
+    let verdict = predicate.eval(alloc, item)?;
+    writeln!(text, ": {verdict}")?;
+    // There is a case, unless the predicate has no formula on the item.
+    if let Some(case) = predicate.find_case(alloc, verdict, item)? {
+        render_onto(alloc, text, &case)?;
+    }
+    Ok(())
+}
+
+/// The label with the verdict, and the lines of a case that explains it; refused only where memory is.
+pub fn explain_one<P: Predicate<Item>, Item>(
+    alloc: Global,
+    predicate: &P,
+    label: &str,
+    item: &Item,
+) -> Result<String, AllocError>
+    requires { P.lawful predicate.now }
+    ensures { IfOk result (λ text.
+        HasBlocks (P.formula predicate.now item.now) label.now (string_bytes text)) }
+{
+    let mut text = String::from_str(alloc, label)?;
+    complete_block(alloc, &mut text, predicate, item)?;
+    Ok(text)
+}
+
+/// What `explain_one` writes, for a predicate that has a formula on every item: the block of that formula.
+pub fn explain_total<P: Total<Item>, Item>(
+    alloc: Global,
+    predicate: &P,
+    label: &str,
+    item: &Item,
+) -> Result<String, AllocError>
+    ensures { IfOk result (λ text.
+        IsBlock label.now (P.formula_of predicate.now item.now) (string_bytes text)) }
+{
+    explain_one(alloc, predicate, label, item)
+}

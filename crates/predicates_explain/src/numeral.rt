@@ -1,0 +1,16 @@
+//! A line that is a number.
+ghost use Rattle.std.specs.Prelude.{◌≡◌, ◌↔◌, ℤ, Some};
+ghost use Rattle.predicates_explain.specs.Number.{Reads};
+
+use std::str;
+
+/// The number that the line writes, by an optional sign and one or more digits within 64 bits and nothing
+/// else; it takes no memory.
+pub fn number(line: &[u8]) -> Option<i64>
+    ensures { (n : ℤ) → (result ≡ Some n) ↔ Reads line.now n }
+{
+    match str::from_utf8(line) {
+        Ok(text) => text.parse::<i64>().ok(),
+        Err(_) => None,
+    }
+}

@@ -1,0 +1,10 @@
+mod Cuts
+mod Found
+mod Choices
+mod Counting
+mod Counted
+mod Telling
+mod Showing
+mod Trimming
+mod Evening
+mod Handing

@@ -1,0 +1,45 @@
+-- The formulas of predicates that hand a text on to another.
+use Rattle.std.specs.Prelude.{◌≡◌, ℕ, List, Option, Some, false, if◌then◌else◌, codes, string_bytes}
+use Rattle.std.specs.Str.{chars, encode_utf8_all, IsUtf8, is_utf8}
+use Rattle.predicates_core.specs.Text.{Text}
+use Rattle.predicates_core.specs.Label.{showing}
+use Rattle.predicates_core.specs.Formula.{Formula, Leaf, with_product}
+use Rattle.predicates_core.specs.Leaves.{IsExactly}
+use Rattle.predicates_core.specs.Added.{IsWithProduct}
+use Rattle.predicates_text.specs.Views as view
+
+-- the text t is v without the white space at its ends
+abbrev pub IsTrimmedOf : Text → Text → Type 0
+IsTrimmedOf v t = chars (string_bytes t) ≡ view.trimmed (chars (string_bytes v))
+
+-- the text t is v with even line endings
+abbrev pub HasEvenLinesOf : Text → Text → Type 0
+HasEvenLinesOf v t = chars (string_bytes t) ≡ view.lines_even (chars (string_bytes v))
+
+-- the bytes of these views
+abbrev pub trimmed_bytes : List ℕ → List ℕ
+trimmed_bytes bytes = encode_utf8_all (view.trimmed (chars bytes))
+
+abbrev pub even_bytes : List ℕ → List ℕ
+even_bytes bytes = encode_utf8_all (view.lines_even (chars bytes))
+
+-- f is had on each text that may be handed on
+pub record IsOfEach (has : Text → Formula → Type 0) (handed : Text → Type 0) (f : Formula) : Type 0 where
+  pub each : (t : Text) → handed t → has t f
+
+-- what is said of bytes that are no text
+abbrev pub undecoded : Option (List ℕ) → Formula
+undecoded text = Leaf (showing text (codes "error") (Some (codes "Invalid UTF-8 string"))) false
+
+-- what is said of bytes that are text, from what is said of the text
+abbrev pub decoded : List ℕ → Formula → Formula
+decoded bytes f = with_product f (record { name = codes "var as str"; value = Some bytes })
+
+-- f is had on each text with the bytes, with the text as a product more, or is a leaf where there is none
+pub record IsDecoded (text : Option (List ℕ)) (has : Text → Formula → Type 0) (bytes : List ℕ) (f : Formula) : Type 0 where
+  pub of_text : (t : Text) → string_bytes t ≡ bytes → IsWithProduct (codes "var as str") (Some bytes) (has t) f
+  pub of_other : ¬ (IsUtf8 bytes) → IsExactly (undecoded text) f
+
+-- the one such formula, from those of texts by their bytes
+unfoldable pub decoded_formula : (List ℕ → Formula) → Option (List ℕ) → List ℕ → Formula
+decoded_formula content text bytes = if is_utf8 bytes then decoded bytes (content bytes) else undecoded text

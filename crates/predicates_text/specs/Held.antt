@@ -1,0 +1,23 @@
+-- What the tests of texts were made with.
+use Rattle.std.specs.Prelude.{ℕ, List, string_bytes}
+use Rattle.predicates_text.specs.declared.basics.front.StartsWithPredicate.{StartsWithPredicate}
+use Rattle.predicates_text.specs.declared.basics.back.EndsWithPredicate.{EndsWithPredicate}
+use Rattle.predicates_text.specs.declared.basics.part.ContainsPredicate.{ContainsPredicate}
+use Rattle.predicates_text.specs.declared.basics.counted.MatchesPredicate.{MatchesPredicate}
+
+-- the pattern that is looked for
+abbrev pub starts_pattern : StartsWithPredicate → List ℕ
+starts_pattern p = string_bytes p.pattern
+
+abbrev pub ends_pattern : EndsWithPredicate → List ℕ
+ends_pattern p = string_bytes p.pattern
+
+abbrev pub contains_pattern : ContainsPredicate → List ℕ
+contains_pattern p = string_bytes p.pattern
+
+abbrev pub matches_pattern : MatchesPredicate → List ℕ
+matches_pattern p = string_bytes p.pattern
+
+-- how often it has to be there
+abbrev pub matches_count : MatchesPredicate → ℕ
+matches_count p = p.count

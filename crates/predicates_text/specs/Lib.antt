@@ -1,0 +1,12 @@
+pub mod Parts
+pub mod Count
+pub mod Leaves
+pub mod Held
+pub mod Shown
+pub mod Views
+pub mod EvenLines
+pub mod Made
+pub mod Handed
+pub mod HandedLaws
+pub mod Inner
+pub mod Pattern

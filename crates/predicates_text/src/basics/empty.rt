@@ -1,0 +1,89 @@
+//! Whether a text has no characters.
+ghost use Rattle.std.specs.Prelude.{[], refl, string_bytes};
+ghost use Rattle.predicates_core.specs.Tree.{empty};
+ghost use Rattle.predicates_core.specs.Leaves.{IsExactly};
+ghost use Rattle.predicates_core.proofs.Leaves.{exactly_text_fits, one_exactly};
+ghost use Rattle.predicates_text.specs.Leaves.{empty_text, empty_formula};
+
+use crate::node::text_node;
+use crate::parts;
+use predicates_core::reflection::{Case, Child, Parameter, PredicateReflection};
+use predicates_core::{Predicate, ReadsContent, Total};
+use std::alloc::{AllocError, Global};
+use std::fmt;
+
+/// Whether a text has no characters.
+#[derive(Debug, Clone, Copy, PartialEq, Eq, Drop)]
+pub struct IsEmptyPredicate;
+
+/// The predicate of the texts that have no characters.
+pub fn is_empty() -> IsEmptyPredicate {
+    IsEmptyPredicate
+}
+
+impl fmt::Display for IsEmptyPredicate {
+    ghost output = { λ p. empty_text };
+
+    fn fmt<W: fmt::Write>(&self, f: &mut fmt::Formatter<W>) -> fmt::Result {
+        write!(f, "var.is_empty()")
+    }
+}
+
+impl PredicateReflection for IsEmptyPredicate {
+    ghost parameters_of = { λ p. [] };
+
+    ghost children_of = { λ p. empty };
+
+    fn parameters(&self, alloc: Global) -> Result<Vec<Parameter>, AllocError> {
+        Ok(Vec::new(alloc))
+    }
+
+    fn children(&self, alloc: Global) -> Result<Vec<Child>, AllocError> {
+        Ok(Vec::new(alloc))
+    }
+}
+
+impl Predicate<String> for IsEmptyPredicate {
+    ghost formula = { λ p v. IsExactly (empty_formula (string_bytes v)) };
+
+    ghost steady = { λ p v. Unit {0} };
+
+    ghost text_fits = { λ p v f. exactly_text_fits };
+
+    ghost one_formula = { λ p v f g lawful. one_exactly };
+
+    #[tactic(auto, using(crate::proofs::Showing::text_leaves))]
+    fn eval(&self, _alloc: Global, item: &String) -> Result<bool, AllocError> {
+        Ok(parts::is_empty(item))
+    }
+
+    #[tactic(auto, using(crate::proofs::Showing::text_leaves))]
+    fn find_case(
+        &self,
+        alloc: Global,
+        expected: bool,
+        item: &String,
+    ) -> Result<Option<Case>, AllocError> {
+        if parts::is_empty(item) != expected {
+            return Ok(None);
+        }
+        let printed = self.to_string(alloc)?;
+        Ok(Some(text_node(alloc, printed, expected, item)?))
+    }
+}
+
+impl Total<String> for IsEmptyPredicate {
+    ghost formula_of = { λ p v. empty_formula (string_bytes v) };
+
+    ghost always_lawful = { λ p. tt };
+
+    ghost has_formula = { λ p v. record { is = refl } };
+}
+
+impl ReadsContent<String> for IsEmptyPredicate {
+    ghost content_formula = { λ p bytes. empty_formula bytes };
+
+    ghost always_lawful = { λ p. tt };
+
+    ghost has_formula = { λ p v. record { is = refl } };
+}

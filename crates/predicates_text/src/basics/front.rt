@@ -1,0 +1,95 @@
+//! Whether a text begins with a pattern.
+ghost use Rattle.std.specs.Prelude.{◌≡◌, [], refl, string_bytes};
+ghost use Rattle.predicates_core.specs.Tree.{empty};
+ghost use Rattle.predicates_core.specs.Leaves.{IsExactly};
+ghost use Rattle.predicates_core.proofs.Leaves.{exactly_text_fits, one_exactly};
+ghost use Rattle.predicates_text.specs.Leaves.{starts_text, starts_formula};
+ghost use Rattle.predicates_text.specs.Held.{starts_pattern};
+
+use crate::node::text_node;
+use crate::parts;
+use predicates_core::reflection::{Case, Child, Parameter, PredicateReflection};
+use predicates_core::{Predicate, ReadsContent, Total};
+use std::alloc::{AllocError, Global};
+use std::fmt;
+
+/// Whether a text begins with a pattern.
+#[derive(Debug, PartialEq, Eq, Drop)]
+pub struct StartsWithPredicate {
+    pattern: String,
+}
+
+/// The predicate of the texts that begin with the pattern.
+pub fn starts_with(pattern: String) -> StartsWithPredicate
+    ensures { starts_pattern result ≡ string_bytes pattern }
+{
+    StartsWithPredicate { pattern }
+}
+
+impl fmt::Display for StartsWithPredicate {
+    ghost output = { λ p. starts_text (starts_pattern p) };
+
+    fn fmt<W: fmt::Write>(&self, f: &mut fmt::Formatter<W>) -> fmt::Result {
+        let pattern = &self.pattern;
+        write!(f, "var.starts_with({pattern:?})")
+    }
+}
+
+impl PredicateReflection for StartsWithPredicate {
+    ghost parameters_of = { λ p. [] };
+
+    ghost children_of = { λ p. empty };
+
+    fn parameters(&self, alloc: Global) -> Result<Vec<Parameter>, AllocError> {
+        Ok(Vec::new(alloc))
+    }
+
+    fn children(&self, alloc: Global) -> Result<Vec<Child>, AllocError> {
+        Ok(Vec::new(alloc))
+    }
+}
+
+impl Predicate<String> for StartsWithPredicate {
+    ghost formula = { λ p v. IsExactly (starts_formula (starts_pattern p) (string_bytes v)) };
+
+    ghost steady = { λ p v. Unit {0} };
+
+    ghost text_fits = { λ p v f. exactly_text_fits };
+
+    ghost one_formula = { λ p v f g lawful. one_exactly };
+
+    #[tactic(auto, using(crate::proofs::Showing::text_leaves))]
+    fn eval(&self, _alloc: Global, item: &String) -> Result<bool, AllocError> {
+        Ok(parts::starts_with(&self.pattern, item))
+    }
+
+    #[tactic(auto, using(crate::proofs::Showing::text_leaves))]
+    fn find_case(
+        &self,
+        alloc: Global,
+        expected: bool,
+        item: &String,
+    ) -> Result<Option<Case>, AllocError> {
+        if parts::starts_with(&self.pattern, item) != expected {
+            return Ok(None);
+        }
+        let printed = self.to_string(alloc)?;
+        Ok(Some(text_node(alloc, printed, expected, item)?))
+    }
+}
+
+impl Total<String> for StartsWithPredicate {
+    ghost formula_of = { λ p v. starts_formula (starts_pattern p) (string_bytes v) };
+
+    ghost always_lawful = { λ p. tt };
+
+    ghost has_formula = { λ p v. record { is = refl } };
+}
+
+impl ReadsContent<String> for StartsWithPredicate {
+    ghost content_formula = { λ p bytes. starts_formula (starts_pattern p) bytes };
+
+    ghost always_lawful = { λ p. tt };
+
+    ghost has_formula = { λ p v. record { is = refl } };
+}

@@ -1,0 +1,106 @@
+//! Whether a text has a pattern in it.
+ghost use Rattle.std.specs.Prelude.{◌≡◌, [], refl, string_bytes};
+ghost use Rattle.predicates_core.specs.Tree.{empty};
+ghost use Rattle.predicates_core.specs.Leaves.{IsExactly};
+ghost use Rattle.predicates_core.proofs.Leaves.{exactly_text_fits, one_exactly};
+ghost use Rattle.predicates_text.specs.Leaves.{contains_text, contains_formula};
+ghost use Rattle.predicates_text.specs.Held.{contains_pattern, matches_pattern, matches_count};
+
+use crate::basics::MatchesPredicate;
+use crate::node::text_node;
+use crate::parts;
+use predicates_core::reflection::{Case, Child, Parameter, PredicateReflection};
+use predicates_core::{Predicate, ReadsContent, Total};
+use std::alloc::{AllocError, Global};
+use std::fmt;
+
+/// Whether a text has a pattern in it.
+#[derive(Debug, PartialEq, Eq, Drop)]
+pub struct ContainsPredicate {
+    pattern: String,
+}
+
+/// The predicate of the texts that have the pattern in them.
+pub fn contains(pattern: String) -> ContainsPredicate
+    ensures { contains_pattern result ≡ string_bytes pattern }
+{
+    ContainsPredicate { pattern }
+}
+
+impl ContainsPredicate {
+    /// The predicate of the texts that have the pattern in them so often, no two places overlapping.
+    pub fn count(self, count: usize) -> MatchesPredicate
+        ensures pattern { matches_pattern result ≡ contains_pattern self }
+        ensures count { matches_count result ≡ count }
+    {
+        MatchesPredicate::new(self.pattern, count)
+    }
+}
+
+impl fmt::Display for ContainsPredicate {
+    ghost output = { λ p. contains_text (contains_pattern p) };
+
+    fn fmt<W: fmt::Write>(&self, f: &mut fmt::Formatter<W>) -> fmt::Result {
+        let pattern = &self.pattern;
+        write!(f, "var.contains({pattern})")
+    }
+}
+
+impl PredicateReflection for ContainsPredicate {
+    ghost parameters_of = { λ p. [] };
+
+    ghost children_of = { λ p. empty };
+
+    fn parameters(&self, alloc: Global) -> Result<Vec<Parameter>, AllocError> {
+        Ok(Vec::new(alloc))
+    }
+
+    fn children(&self, alloc: Global) -> Result<Vec<Child>, AllocError> {
+        Ok(Vec::new(alloc))
+    }
+}
+
+impl Predicate<String> for ContainsPredicate {
+    ghost formula = { λ p v. IsExactly (contains_formula (contains_pattern p) (string_bytes v)) };
+
+    ghost steady = { λ p v. Unit {0} };
+
+    ghost text_fits = { λ p v f. exactly_text_fits };
+
+    ghost one_formula = { λ p v f g lawful. one_exactly };
+
+    #[tactic(auto, using(crate::proofs::Showing::text_leaves))]
+    fn eval(&self, _alloc: Global, item: &String) -> Result<bool, AllocError> {
+        Ok(parts::contains(&self.pattern, item))
+    }
+
+    #[tactic(auto, using(crate::proofs::Showing::text_leaves))]
+    fn find_case(
+        &self,
+        alloc: Global,
+        expected: bool,
+        item: &String,
+    ) -> Result<Option<Case>, AllocError> {
+        if parts::contains(&self.pattern, item) != expected {
+            return Ok(None);
+        }
+        let printed = self.to_string(alloc)?;
+        Ok(Some(text_node(alloc, printed, expected, item)?))
+    }
+}
+
+impl Total<String> for ContainsPredicate {
+    ghost formula_of = { λ p v. contains_formula (contains_pattern p) (string_bytes v) };
+
+    ghost always_lawful = { λ p. tt };
+
+    ghost has_formula = { λ p v. record { is = refl } };
+}
+
+impl ReadsContent<String> for ContainsPredicate {
+    ghost content_formula = { λ p bytes. contains_formula (contains_pattern p) bytes };
+
+    ghost always_lawful = { λ p. tt };
+
+    ghost has_formula = { λ p v. record { is = refl } };
+}

@@ -1,0 +1,37 @@
+//! Whether one text stands at the front, at the back or anywhere in another.
+ghost use Rattle.std.specs.Prelude.{◌≡◌, ◌↔◌, [], IsTrue};
+ghost use Rattle.std.specs.Str.{chars};
+ghost use Rattle.predicates_text.specs.Parts.{IsFrontOf, IsBackOf, IsPartOf, is_empty, is_front, is_back, is_part};
+
+/// Whether the text has no characters.
+pub fn is_empty(text: &str) -> bool
+    ensures empty { IsTrue result ↔ (chars text.now ≡ []) }
+    ensures value { result ≡ is_empty (chars text.now) }
+{
+    text.is_empty()
+}
+
+/// Whether the text begins with the pattern.
+pub fn starts_with(pattern: &str, text: &str) -> bool
+    ensures front { IsTrue result ↔ IsFrontOf (chars pattern.now) (chars text.now) }
+    ensures value { result ≡ is_front (chars pattern.now) (chars text.now) }
+{
+    text.starts_with(pattern)
+}
+
+/// Whether the text ends with the pattern.
+pub fn ends_with(pattern: &str, text: &str) -> bool
+    ensures back { IsTrue result ↔ IsBackOf (chars pattern.now) (chars text.now) }
+    ensures value { result ≡ is_back (chars pattern.now) (chars text.now) }
+{
+    text.ends_with(pattern)
+}
+
+/// Whether the pattern has a place in the text.
+pub fn contains(pattern: &str, text: &str) -> bool
+    ensures part { IsTrue result ↔ IsPartOf (chars pattern.now) (chars text.now) }
+    ensures bytes { IsTrue result ↔ IsPartOf pattern.now text.now }
+    ensures value { result ≡ is_part (chars pattern.now) (chars text.now) }
+{
+    text.contains(pattern)
+}
