@@ -2,3 +2,4 @@ pub mod Halving
 pub mod Memberships
 pub mod Calls
 pub mod Given
+pub mod Names
