@@ -3,3 +3,4 @@ pub mod Memberships
 pub mod Calls
 pub mod Given
 pub mod Names
+pub mod Opened

@@ -1,0 +1,10 @@
+//! Uses of the library: predicates of a caller's own, and callers that name the prelude.
+#![tactic(auto)]
+
+mod answer;
+mod either;
+#[cfg(test)]
+mod tests;
+
+pub use answer::IsTheAnswer;
+pub use either::Either;
