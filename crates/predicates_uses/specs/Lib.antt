@@ -1,2 +1,4 @@
 pub mod Answer
 pub mod Either
+pub mod Unmet
+pub mod Sifted

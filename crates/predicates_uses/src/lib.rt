@@ -3,8 +3,12 @@
 
 mod answer;
 mod either;
+mod require;
+mod sift;
 #[cfg(test)]
 mod tests;
 
 pub use answer::IsTheAnswer;
 pub use either::Either;
+pub use require::{Unmet, require};
+pub use sift::{Rejection, Sifted, sift};
