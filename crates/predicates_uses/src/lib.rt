@@ -3,12 +3,12 @@
 
 mod answer;
 mod either;
-mod require;
-mod sift;
+mod requirement;
+mod sifted;
 #[cfg(test)]
 mod tests;
 
 pub use answer::IsTheAnswer;
 pub use either::Either;
-pub use require::{Unmet, require};
-pub use sift::{Rejection, Sifted, sift};
+pub use requirement::{Unmet, require};
+pub use sifted::{Rejection, Sifted, sift};
