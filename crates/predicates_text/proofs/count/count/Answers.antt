@@ -1,4 +1,4 @@
-use Rattle.std.proofs.Common.{rules, ◌≡◌, ap, ◌+◌, ◌≤◌, length, arith, subst}
+use Rattle.std.proofs.Common.{rules, ◌≡◌, ap, ◌+◌, length, arith, subst}
 use Rattle.std.specs.Str.{chars}
 use Rattle.std.proofs.lemmas.Str.{chars_from_encodes}
 use Rattle.predicates_text.specs.Count.{IsCountOf}

@@ -1,4 +1,3 @@
-use Rattle.std.proofs.Common.{rules, ◌≡◌, MatchOption}
 use Rattle.predicates_text.proofs.Counting.{past_front, past_place, nowhere, filled}
 use Rattle.predicates_text.proofs.count.past_first.Goals as goal
 
