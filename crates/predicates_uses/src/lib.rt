@@ -3,6 +3,8 @@
 
 mod answer;
 mod either;
+mod files;
+mod policy;
 mod requirement;
 mod sifted;
 #[cfg(test)]
@@ -10,5 +12,7 @@ mod tests;
 
 pub use answer::IsTheAnswer;
 pub use either::Either;
+pub use files::{is_copy, no_script};
+pub use policy::{PolicyFault, read_policy};
 pub use requirement::{Unmet, require};
 pub use sifted::{Rejection, Sifted, sift};
