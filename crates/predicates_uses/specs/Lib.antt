@@ -2,3 +2,4 @@ pub mod Answer
 pub mod Either
 pub mod Unmet
 pub mod Sifted
+pub mod Applied

@@ -5,8 +5,8 @@ use Rattle.predicates_core.specs.Tree.{Tree}
 use Rattle.predicates_core.specs.Describe.{CaseNode}
 use Rattle.predicates_core.specs.Lines.{lines}
 use Rattle.predicates_core.specs.Shows.{IsCaseOf}
-use Rattle.predicates_uses.specs.declared.require.Unmet.{Unmet}
-use Rattle.predicates_uses.specs.declared.require.Unmet.TheVariants.{Fails, NoMemory}
+use Rattle.predicates_uses.specs.declared.requirement.Unmet.{Unmet}
+use Rattle.predicates_uses.specs.declared.requirement.Unmet.TheVariants.{Fails, NoMemory}
 
 -- the lines of a case that explains why the formulas are false
 pub record AreReason (F : Formula → Type 0) (bytes : List ℕ) : Type 0 where

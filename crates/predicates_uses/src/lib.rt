@@ -3,12 +3,16 @@
 
 mod answer;
 mod either;
-mod require;
-mod sift;
+mod files;
+mod policy;
+mod requirement;
+mod sifted;
 #[cfg(test)]
 mod tests;
 
 pub use answer::IsTheAnswer;
 pub use either::Either;
-pub use require::{Unmet, require};
-pub use sift::{Rejection, Sifted, sift};
+pub use files::{is_copy, no_script};
+pub use policy::{PolicyFault, read_policy};
+pub use requirement::{Unmet, require};
+pub use sifted::{Rejection, Sifted, sift};

@@ -2,7 +2,7 @@
 ghost use Rattle.std.specs.Prelude.{◌≡◌, true, IfErr, OnOk};
 ghost use Rattle.predicates_core.specs.Formula.{HasTruth};
 ghost use Rattle.predicates_uses.specs.Unmet.{TellsWhy};
-ghost use Rattle.predicates_uses.specs.declared.require.Unmet.TheVariants.{NoMemory};
+ghost use Rattle.predicates_uses.specs.declared.requirement.Unmet.TheVariants.{NoMemory};
 
 use predicates::Predicate;
 use predicates::reflection::render;
