@@ -1,16 +1,20 @@
 //! Explains, for each line of standard input, whether it passes the check that the words name.
 #![tactic(auto)]
 
-use predicates_explain::{RunFault, number, run_between};
+use predicates_explain::{
+    RunFault, TextCheck, WordFault, apply_word, number, read_word, run_between, run_text,
+};
+use std::alloc::{AllocError, Global};
 use std::io::{BufReader, BufWriter, ErrorKind};
 use std::process::ExitCode;
 use std::rt::Env;
 use std::{env, io};
 
 // What the words ask for.
-#[derive(Clone, Copy)]
+#[derive(Drop)]
 enum Command {
     Between { lo: i64, hi: i64 },
+    Text(TextCheck),
 }
 
 // How a call of the program ends.
@@ -19,8 +23,25 @@ enum End {
     AllItems,
     NotAllItems,
     Usage,
+    PatternRefused,
     NoMemory,
     InputOrOutput,
+}
+
+impl From<AllocError> for End {
+    fn from(_error: AllocError) -> End {
+        End::NoMemory
+    }
+}
+
+impl From<WordFault> for End {
+    fn from(fault: WordFault) -> End {
+        match fault {
+            WordFault::Operand => End::Usage,
+            WordFault::Pattern => End::PatternRefused,
+            WordFault::NoMemory => End::NoMemory,
+        }
+    }
 }
 
 impl From<RunFault> for End {
@@ -37,7 +58,7 @@ impl End {
         match self {
             End::AllItems => 0,
             End::NotAllItems => 1,
-            End::Usage => 2,
+            End::Usage | End::PatternRefused => 2,
             End::NoMemory | End::InputOrOutput => 3,
         }
     }
@@ -47,6 +68,7 @@ impl End {
         match self {
             End::AllItems | End::NotAllItems => "",
             End::Usage => "usage: explain between LO HI\nusage: explain text TOKEN..\n",
+            End::PatternRefused => "explain: pattern refused\n",
             End::NoMemory => "explain: no memory\n",
             End::InputOrOutput => "explain: input or output fault\n",
         }
@@ -71,13 +93,35 @@ fn read_words<R: Env + AllocGlobal>(rt: &R) -> Result<Vec<String>, End> {
     }
 }
 
-fn read_command(words: &[String]) -> Option<Command> {
+fn read_bounds(lo: &str, hi: &str) -> Option<Command> {
+    Some(Command::Between {
+        lo: number(lo.as_bytes())?,
+        hi: number(hi.as_bytes())?,
+    })
+}
+
+// The one check that the tokens leave.
+fn read_check(alloc: Global, tokens: &[String]) -> Result<TextCheck, End> {
+    let mut stack = Vec::new(alloc);
+    for token in tokens {
+        let Some(word) = read_word(alloc, token)? else {
+            return Err(End::Usage);
+        };
+        apply_word(alloc, &mut stack, word)?;
+    }
+    match stack.pop() {
+        Some(check) if stack.is_empty() => Ok(check),
+        _ => Err(End::Usage),
+    }
+}
+
+fn read_command(alloc: Global, words: &[String]) -> Result<Command, End> {
     match words {
-        [name, lo, hi] if name.as_str() == "between" => Some(Command::Between {
-            lo: number(lo.as_bytes())?,
-            hi: number(hi.as_bytes())?,
-        }),
-        _ => None,
+        [name, lo, hi] if name.as_str() == "between" => read_bounds(lo, hi).ok_or(End::Usage),
+        [name, tokens @ ..] if name.as_str() == "text" => {
+            Ok(Command::Text(read_check(alloc, tokens)?))
+        }
+        _ => Err(End::Usage),
     }
 }
 
@@ -92,16 +136,15 @@ fn run_command<R: Input + Print + AllocGlobal>(rt: &R, command: Command) -> Resu
     };
     let all_items = match command {
         Command::Between { lo, hi } => run_between(alloc, lo, hi, &mut input, &mut output)?,
+        Command::Text(check) => run_text(alloc, &check, &mut input, &mut output)?,
     };
     Ok(all_items)
 }
 
 fn run<R: Env + Input + Print + AllocGlobal>(rt: &R) -> Result<bool, End> {
     let words = read_words(rt)?;
-    match read_command(words.as_slice()) {
-        Some(command) => run_command(rt, command),
-        None => Err(End::Usage),
-    }
+    let command = read_command(rt.alloc(), words.as_slice())?;
+    run_command(rt, command)
 }
 
 fn main(rt: HostRuntime) -> ExitCode {

@@ -11,3 +11,7 @@ pub mod OrdIn
 pub mod HashableIn
 pub mod Function
 pub mod Name
+pub mod Boxed
+pub mod Printed
+pub mod PrintedLaws
+pub mod TextEquality

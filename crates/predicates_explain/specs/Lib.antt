@@ -1,5 +1,11 @@
 pub mod Answers
+pub mod Applied
 pub mod Blocks
+pub mod CheckLaws
+pub mod Checks
 pub mod Fault
 pub mod Number
 pub mod Runs
+pub mod TextAnswers
+pub mod Tokens
+pub mod WordFault

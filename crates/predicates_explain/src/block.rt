@@ -2,7 +2,7 @@
 ghost use Rattle.std.specs.Prelude.{IfOk, OnOk, string_bytes};
 ghost use Rattle.predicates_explain.specs.Blocks.{HasBlocks, IsBlock};
 
-use predicates_core::reflection::render;
+use predicates_core::reflection::render_onto;
 use predicates_core::{Predicate, Total};
 use std::alloc::{AllocError, Global};
 use std::fmt::Write;
@@ -23,12 +23,12 @@ pub(crate) fn complete_block<P: Predicate<Item>, Item>(
     writeln!(text, ": {verdict}")?;
     // There is a case, unless the predicate has no formula on the item.
     if let Some(case) = predicate.find_case(alloc, verdict, item)? {
-        text.push_str(render(alloc, &case)?.as_str())?;
+        render_onto(alloc, text, &case)?;
     }
     Ok(())
 }
 
-/// The label with the verdict, and the lines of a case that explains it.
+/// The label with the verdict, and the lines of a case that explains it; refused only where memory is.
 pub fn explain_one<P: Predicate<Item>, Item>(
     alloc: Global,
     predicate: &P,
@@ -44,7 +44,7 @@ pub fn explain_one<P: Predicate<Item>, Item>(
     Ok(text)
 }
 
-/// The same of a predicate that has a formula on every item.
+/// What `explain_one` writes, for a predicate that has a formula on every item: the block of that formula.
 pub fn explain_total<P: Total<Item>, Item>(
     alloc: Global,
     predicate: &P,

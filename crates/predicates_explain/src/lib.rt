@@ -3,14 +3,20 @@
 
 mod between;
 mod block;
+mod check;
 mod fault;
 mod numeral;
 mod run;
+mod text;
+mod words;
 
 pub use between::run_between;
 pub use block::{explain_one, explain_total};
+pub use check::TextCheck;
 pub use fault::RunFault;
 pub use numeral::number;
+pub use text::run_text;
+pub use words::{Word, WordFault, apply_word, read_word};
 
 #[cfg(test)]
 mod tests;

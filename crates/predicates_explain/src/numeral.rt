@@ -4,7 +4,8 @@ ghost use Rattle.predicates_explain.specs.Number.{Reads};
 
 use std::str;
 
-/// The number that the line writes: an optional sign and one or more digits, within 64 bits, and nothing else.
+/// The number that the line writes, by an optional sign and one or more digits within 64 bits and nothing
+/// else; it takes no memory.
 pub fn number(line: &[u8]) -> Option<i64>
     ensures { (n : ℤ) → (result ≡ Some n) ↔ Reads line.now n }
 {

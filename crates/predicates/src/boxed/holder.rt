@@ -1,0 +1,140 @@
+//! A predicate of texts in a box.
+ghost use Rattle.std.specs.Prelude.{◌≡◌, refl, IfOk, IsOk, string_bytes, Some, codes};
+ghost use Rattle.predicates_core.specs.Label.{Fits};
+ghost use Rattle.predicates_core.specs.Formula.{HasTruth};
+ghost use Rattle.predicates_core.specs.Shows.{IsAnswer};
+ghost use Rattle.predicates_core.specs.Leaves.{IsExactly};
+ghost use Rattle.predicates.specs.Boxed.{held_by, kept_text};
+ghost use Rattle.predicates.specs.Printed.{as_printed, IsPrintedAs, HasFormulas};
+ghost use Rattle.predicates.specs.PrintedLaws.{printed_text_fits, one_printed};
+
+use crate::boxed::TextPredicate;
+use predicates_core::reflection::{Case, Child, Parameter, PredicateReflection};
+use predicates_core::{Predicate, ReadsContent, Total};
+use std::alloc::{AllocError, Global};
+use std::fmt;
+
+/// A predicate of texts in a box, so that predicates of several types stand in one vector.
+#[derive(Drop)]
+pub struct BoxPredicate {
+    inner: Box<dyn TextPredicate>,
+    printed: String,
+}
+
+impl BoxPredicate {
+    /// The predicate that is in the box. It keeps the printed text, and so takes memory.
+    #[tactic(auto, using(crate::proofs::Opened::boxes))]
+    pub fn new(alloc: Global, inner: Box<dyn TextPredicate>) -> Result<Self, AllocError>
+        ensures holds { IfOk result (λ made. held_by made ≡ inner) }
+        ensures text { IfOk result (λ made. Fits (text_output inner) (kept_text made)) }
+        ensures same { IfOk result (λ made.
+            HasFormulas (text_formula inner) (⟦<BoxPredicate as Predicate<String>>⟧.formula made)) }
+    {
+        let printed = inner.text_printed(alloc)?;
+        Ok(BoxPredicate { inner, printed })
+    }
+}
+
+impl fmt::Debug for BoxPredicate {
+    ghost debug_output = { λ _. Some (codes "BoxPredicate") };
+
+    fn fmt<W: fmt::Write>(&self, f: &mut fmt::Formatter<W>) -> fmt::Result {
+        write!(f, "BoxPredicate")
+    }
+}
+
+impl fmt::Display for BoxPredicate {
+    ghost output = { λ p. Some (kept_text p) };
+
+    fn fmt<W: fmt::Write>(&self, f: &mut fmt::Formatter<W>) -> fmt::Result {
+        let printed = &self.printed;
+        write!(f, "{printed}")
+    }
+}
+
+impl PredicateReflection for BoxPredicate {
+    ghost parameters_of = { λ p. (TextPredicate-box (held_by p)).text_parameters_of (held_by p).value };
+
+    ghost children_of = { λ p. (TextPredicate-box (held_by p)).text_children_of (held_by p).value };
+
+    fn parameters(&self, alloc: Global) -> Result<Vec<Parameter>, AllocError> {
+        self.inner.text_parameters(alloc)
+    }
+
+    fn children(&self, alloc: Global) -> Result<Vec<Child>, AllocError> {
+        self.inner.text_children(alloc)
+    }
+}
+
+// What the held predicate answers, by the members of its own type.
+fn eval_held(
+    alloc: Global,
+    held: &Box<dyn TextPredicate>,
+    item: &String,
+) -> Result<bool, AllocError>
+    ensures truth { IfOk result
+        (HasTruth (IsExactly (text_formula held.now (string_bytes item.now)))) }
+    ensures steady { text_steady held.now item.now → IsOk result }
+{
+    held.text_eval(alloc, item)
+}
+
+// What the held predicate finds, by the members of its own type.
+fn find_held(
+    alloc: Global,
+    held: &Box<dyn TextPredicate>,
+    expected: bool,
+    item: &String,
+) -> Result<Option<Case>, AllocError>
+    ensures { IfOk result
+        (IsAnswer (IsExactly (text_formula held.now (string_bytes item.now))) expected) }
+{
+    held.text_find_case(alloc, expected, item)
+}
+
+impl Predicate<String> for BoxPredicate {
+    ghost formula = { λ p v. IsPrintedAs
+        (kept_text p)
+        ((TextPredicate-box (held_by p)).text_formula (held_by p).value (string_bytes v)) };
+
+    ghost steady = { λ p v. (TextPredicate-box (held_by p)).text_steady (held_by p).value v };
+
+    ghost text_fits = { λ p v f. printed_text_fits };
+
+    ghost one_formula = { λ p v f g lawful. one_printed };
+
+    #[tactic(auto, using(crate::proofs::Opened::boxes))]
+    fn eval(&self, alloc: Global, item: &String) -> Result<bool, AllocError> {
+        eval_held(alloc, &self.inner, item)
+    }
+
+    #[tactic(auto, using(crate::proofs::Opened::boxes))]
+    fn find_case(
+        &self,
+        alloc: Global,
+        expected: bool,
+        item: &String,
+    ) -> Result<Option<Case>, AllocError> {
+        find_held(alloc, &self.inner, expected, item)
+    }
+}
+
+impl Total<String> for BoxPredicate {
+    ghost formula_of = { λ p v. as_printed
+        (kept_text p)
+        ((TextPredicate-box (held_by p)).text_formula (held_by p).value (string_bytes v)) };
+
+    ghost always_lawful = { λ p. tt };
+
+    ghost has_formula = { λ p v. record { is = refl } };
+}
+
+impl ReadsContent<String> for BoxPredicate {
+    ghost content_formula = { λ p bytes. as_printed
+        (kept_text p)
+        ((TextPredicate-box (held_by p)).text_formula (held_by p).value bytes) };
+
+    ghost always_lawful = { λ p. tt };
+
+    ghost has_formula = { λ p v. record { is = refl } };
+}

@@ -1,0 +1,99 @@
+//! A predicate of texts, seen without its type.
+ghost use Rattle.std.specs.Prelude.{◌≡◌, [], Option, List, ℕ, IfOk, IsOk, string_bytes};
+ghost use Rattle.predicates_core.specs.Label.{Product, Fits, FitsProducts};
+ghost use Rattle.predicates_core.specs.Tree.{Forest, empty, forest};
+ghost use Rattle.predicates_core.specs.Parts.{Part, FitsParts};
+ghost use Rattle.predicates_core.specs.Formula.{Formula, HasTruth};
+ghost use Rattle.predicates_core.specs.Shows.{IsAnswer};
+ghost use Rattle.predicates_core.specs.Text.{Text};
+ghost use Rattle.predicates_core.specs.Leaves.{IsExactly};
+ghost use Rattle.predicates.specs.Printed.{FitsRoots};
+
+use predicates_core::reflection::{Case, Child, Parameter};
+use predicates_core::{Predicate, ReadsContent};
+use std::alloc::{AllocError, Global};
+
+/// A predicate of texts, seen without its type. Every predicate whose formula is a function of the text's
+/// bytes is one: all but those with a stored function.
+pub trait TextPredicate: Drop {
+    // The formula on a text with the bytes.
+    ghost text_formula: { Self → List ℕ → Formula };
+
+    // On the text `text_eval` takes no memory.
+    ghost text_steady: { Self → Text → Type 0 };
+
+    // The printed text, where its bytes are stated.
+    ghost text_output: { Self → Option (List ℕ) };
+
+    ghost text_parameters_of: { Self → List Product };
+
+    ghost text_children_of: { Self → Forest Part };
+
+    /// Whether the predicate holds of the text.
+    fn text_eval(&self, alloc: Global, item: &String) -> Result<bool, AllocError>
+        ensures truth { IfOk result
+            (HasTruth (IsExactly (text_formula self.now (string_bytes item.now)))) }
+        ensures steady { text_steady self.now item.now → IsOk result };
+
+    /// A case that explains the verdict where it is the expected one, and none where it is not.
+    fn text_find_case(
+        &self,
+        alloc: Global,
+        expected: bool,
+        item: &String,
+    ) -> Result<Option<Case>, AllocError>
+        ensures { IfOk result
+            (IsAnswer (IsExactly (text_formula self.now (string_bytes item.now))) expected) };
+
+    /// The values that the predicate was made with, in order; with none it does not refuse.
+    fn text_parameters(&self, alloc: Global) -> Result<Vec<Parameter>, AllocError>
+        ensures fits { IfOk result (λ ps. FitsProducts (text_parameters_of self.now) ps.items) }
+        ensures none { text_parameters_of self.now ≡ [] → IsOk result };
+
+    /// The parts that the predicate is made of, in order; with none it does not refuse.
+    fn text_children(&self, alloc: Global) -> Result<Vec<Child>, AllocError>
+        ensures fits { IfOk result (λ cs. FitsParts (text_children_of self.now) (forest cs.items)) }
+        ensures none { text_children_of self.now ≡ empty → IsOk result };
+
+    /// The printed text.
+    fn text_printed(&self, alloc: Global) -> Result<String, AllocError>
+        ensures fits { IfOk result (λ text. Fits (text_output self.now) (string_bytes text)) }
+        ensures root { IfOk result (λ text. FitsRoots (text_formula self.now) (string_bytes text)) };
+}
+
+impl<P: ReadsContent<String> + Drop> TextPredicate for P {
+    ghost text_formula = { P.content_formula };
+
+    ghost text_steady = { P.steady };
+
+    ghost text_output = { P.output };
+
+    ghost text_parameters_of = { P.parameters_of };
+
+    ghost text_children_of = { P.children_of };
+
+    fn text_eval(&self, alloc: Global, item: &String) -> Result<bool, AllocError> {
+        self.eval(alloc, item)
+    }
+
+    fn text_find_case(
+        &self,
+        alloc: Global,
+        expected: bool,
+        item: &String,
+    ) -> Result<Option<Case>, AllocError> {
+        self.find_case(alloc, expected, item)
+    }
+
+    fn text_parameters(&self, alloc: Global) -> Result<Vec<Parameter>, AllocError> {
+        self.parameters(alloc)
+    }
+
+    fn text_children(&self, alloc: Global) -> Result<Vec<Child>, AllocError> {
+        self.children(alloc)
+    }
+
+    fn text_printed(&self, alloc: Global) -> Result<String, AllocError> {
+        self.to_string(alloc)
+    }
+}

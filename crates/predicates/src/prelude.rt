@@ -1,0 +1,28 @@
+//! What code that checks with predicates names.
+
+#[cfg(test)]
+mod tests;
+
+pub use crate::Predicate;
+pub use crate::boolean::PredicateBooleanExt;
+pub use crate::name::PredicateNameExt;
+pub use predicates_path::PredicateFileContentExt;
+pub use predicates_text::PredicateStrExt;
+
+/// The functions that make predicates.
+pub mod predicate {
+    pub use crate::constant::{always, never};
+    pub use crate::function::function;
+    pub use crate::iter::{in_hash, in_iter};
+    pub use crate::ord::{eq, ge, gt, le, lt, ne};
+
+    /// Predicates of texts.
+    pub mod str {
+        pub use predicates_text::{contains, ends_with, is_empty, is_match, starts_with};
+    }
+
+    /// Predicates of what stands at a path.
+    pub mod path {
+        pub use predicates_path::{eq_file, exists, is_dir, is_file, is_symlink, missing};
+    }
+}

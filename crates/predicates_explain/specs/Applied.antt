@@ -1,0 +1,58 @@
+-- What a word makes of a stack of checks.
+use Rattle.std.specs.Prelude.{◌≡◌, ℕ, List, [], ◌∷◌, ◌++◌, string_bytes}
+use Rattle.regex.specs.Patterns.{default_config}
+use Rattle.regex.specs.Sources.{IsRefusal}
+use Rattle.regex.specs.declared.error.Error.{Error}
+use Rattle.predicates.specs.Makers.{equal_to}
+use Rattle.predicates_text.specs.Held.{starts_pattern, ends_pattern, contains_pattern}
+use Rattle.predicates_text.specs.Pattern.{regex_text, IsReadFromText}
+use Rattle.predicates_explain.specs.declared.words.word.Word.{Word}
+use Rattle.predicates_explain.specs.declared.words.word.Word.TheVariants.{Empty, Equals, Starts, Ends, Contains, Matches, Trim, Normalize, Not, And, Or}
+use Rattle.predicates_explain.specs.declared.check.TextCheck.{TextCheck, Empty as EmptyCheck, Equals as EqualsCheck, Starts as StartsCheck, Ends as EndsCheck, Contains as ContainsCheck, Matches as MatchesCheck, Trim', Normalize', Not', And', Or'}
+
+-- how many checks a word takes
+abbrev pub operand_count : Word → ℕ
+operand_count Empty = 0
+operand_count (Equals text) = 0
+operand_count (Starts text) = 0
+operand_count (Ends text) = 0
+operand_count (Contains text) = 0
+operand_count (Matches text) = 0
+operand_count Trim = 1
+operand_count Normalize = 1
+operand_count Not = 1
+operand_count And = 2
+operand_count Or = 2
+
+-- the check is that of the word over these operands, the earlier one first
+abbrev pub IsCheckOf : Word → List TextCheck → TextCheck → Type 0
+IsCheckOf Empty [] (EmptyCheck p) = Unit {0}
+IsCheckOf (Equals text) [] (EqualsCheck p) = p ≡ equal_to text
+IsCheckOf (Starts text) [] (StartsCheck p) = starts_pattern p ≡ string_bytes text
+IsCheckOf (Ends text) [] (EndsCheck p) = ends_pattern p ≡ string_bytes text
+IsCheckOf (Contains text) [] (ContainsCheck p) = contains_pattern p ≡ string_bytes text
+IsCheckOf (Matches text) [] (MatchesCheck p) = (regex_text p ≡ string_bytes text) × IsReadFromText p
+IsCheckOf Trim (operand ∷ []) (Trim' _ inner) = inner ≡ operand
+IsCheckOf Normalize (operand ∷ []) (Normalize' _ inner) = inner ≡ operand
+IsCheckOf Not (operand ∷ []) (Not' _ inner) = inner ≡ operand
+IsCheckOf And (left ∷ right ∷ []) (And' _ l _ r) = (l ≡ left) × (r ≡ right)
+IsCheckOf Or (left ∷ right ∷ []) (Or' _ l _ r) = (l ≡ left) × (r ≡ right)
+IsCheckOf _ _ _ = ⊥
+
+-- the check is that of the word over the last of the old stack, and the others are left
+pub record IsMade (word : Word) (old left : List TextCheck) (check : TextCheck) : Type 0 where
+  pub operands : List TextCheck
+  pub taken : old ≡ left ++ operands
+  pub is_check : IsCheckOf word operands check
+
+-- the word's check stands last, in place of its operands
+pub record IsApplied (word : Word) (old new : List TextCheck) : Type 0 where
+  pub left : List TextCheck
+  pub check : TextCheck
+  pub made : IsMade word old left check
+  pub pushed : new ≡ left ++ check ∷ []
+
+-- the word holds a regular expression that is refused
+abbrev pub IsRefusedPattern : Word → Type 0
+IsRefusedPattern (Matches text) = (error : Error) × IsRefusal default_config (string_bytes text) error
+IsRefusedPattern _ = ⊥

@@ -1,0 +1,48 @@
+-- The laws of a check of texts: its printed text fits its formula, and it has one on each text.
+use Rattle.std.specs.Prelude.{◌≡◌, refl, ℕ, List}
+use Rattle.predicates_core.specs.Label.{FitsEntry}
+use Rattle.predicates_core.specs.Formula.{Formula, text_of}
+use Rattle.predicates_core.proofs.Leaves.{exactly_text_fits, one_exactly}
+use Rattle.predicates_core.proofs.Combined.{and_text_fits, or_text_fits, not_text_fits, one_and, one_or, one_not}
+use Rattle.predicates_text.specs.Handed.{trimmed_bytes, even_bytes}
+use Rattle.predicates_explain.specs.Checks.{check_text, check_formula, HasFormula}
+use Rattle.predicates_explain.specs.declared.check.TextCheck.{TextCheck, Empty, Equals, Starts, Ends, Contains, Matches, Trim', Normalize', Not', And', Or'}
+
+pub check_text_fits : (c : TextCheck) (bytes : List ℕ) (f : Formula) → HasFormula c bytes f → FitsEntry (text_of f) (check_text c)
+check_text_fits (Empty p) bytes f h = exactly_text_fits h
+check_text_fits (Equals p) bytes f h = exactly_text_fits h
+check_text_fits (Starts p) bytes f h = exactly_text_fits h
+check_text_fits (Ends p) bytes f h = exactly_text_fits h
+check_text_fits (Contains p) bytes f h = exactly_text_fits h
+check_text_fits (Matches p) bytes f h = exactly_text_fits h
+check_text_fits (Trim' _ inner) bytes f h = check_text_fits inner (trimmed_bytes bytes) f h
+check_text_fits (Normalize' _ inner) bytes f h = check_text_fits inner (even_bytes bytes) f h
+check_text_fits (Not' _ inner) bytes f h = not_text_fits h
+check_text_fits (And' _ left _ right) bytes f h = and_text_fits h
+check_text_fits (Or' _ left _ right) bytes f h = or_text_fits h
+
+pub one_check : (c : TextCheck) (bytes : List ℕ) (f g : Formula) → HasFormula c bytes f → HasFormula c bytes g → f ≡ g
+one_check (Empty p) bytes f g h k = one_exactly h k
+one_check (Equals p) bytes f g h k = one_exactly h k
+one_check (Starts p) bytes f g h k = one_exactly h k
+one_check (Ends p) bytes f g h k = one_exactly h k
+one_check (Contains p) bytes f g h k = one_exactly h k
+one_check (Matches p) bytes f g h k = one_exactly h k
+one_check (Trim' _ inner) bytes f g h k = one_check inner (trimmed_bytes bytes) f g h k
+one_check (Normalize' _ inner) bytes f g h k = one_check inner (even_bytes bytes) f g h k
+one_check (Not' _ inner) bytes f g h k = one_not (one_check inner bytes) h k
+one_check (And' _ left _ right) bytes f g h k = one_and (one_check left bytes) (one_check right bytes) h k
+one_check (Or' _ left _ right) bytes f g h k = one_or (one_check left bytes) (one_check right bytes) h k
+
+pub has_check_formula : (c : TextCheck) (bytes : List ℕ) → HasFormula c bytes (check_formula c bytes)
+has_check_formula (Empty p) bytes = record { is = refl }
+has_check_formula (Equals p) bytes = record { is = refl }
+has_check_formula (Starts p) bytes = record { is = refl }
+has_check_formula (Ends p) bytes = record { is = refl }
+has_check_formula (Contains p) bytes = record { is = refl }
+has_check_formula (Matches p) bytes = record { is = refl }
+has_check_formula (Trim' _ inner) bytes = has_check_formula inner (trimmed_bytes bytes)
+has_check_formula (Normalize' _ inner) bytes = has_check_formula inner (even_bytes bytes)
+has_check_formula (Not' _ inner) bytes = record { inner = _; of_part = has_check_formula inner bytes; is = refl }
+has_check_formula (And' _ left _ right) bytes = record { l = _; r = _; of_left = has_check_formula left bytes; of_right = has_check_formula right bytes; is = refl }
+has_check_formula (Or' _ left _ right) bytes = record { l = _; r = _; of_left = has_check_formula left bytes; of_right = has_check_formula right bytes; is = refl }

@@ -1,0 +1,9 @@
+-- What a fault of a word prints.
+use Rattle.std.specs.Prelude.{ℕ, List, codes}
+use Rattle.predicates_explain.specs.declared.words.fault.WordFault.{WordFault}
+use Rattle.predicates_explain.specs.declared.words.fault.WordFault.TheVariants.{Operand, Pattern, NoMemory}
+
+abbrev pub fault_text : WordFault → List ℕ
+fault_text Operand = codes "missing operand"
+fault_text Pattern = codes "pattern refused"
+fault_text NoMemory = codes "no memory"

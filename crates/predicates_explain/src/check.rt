@@ -1,0 +1,225 @@
+//! A check of texts, made of words.
+ghost use Rattle.std.specs.Prelude.{◌≡◌, [], IfOk, string_bytes};
+ghost use Rattle.predicates_core.specs.Tree.{empty};
+ghost use Rattle.predicates_text.specs.Handed.{trimmed_bytes, even_bytes};
+ghost use Rattle.predicates_explain.specs.Checks.{check_text, check_formula, HasFormula, IsSteadyCheck};
+ghost use Rattle.predicates_explain.specs.CheckLaws.{check_text_fits, one_check, has_check_formula};
+
+use predicates::node::{over_both, over_one};
+use predicates::ord::EqPredicate;
+use predicates::reflection::{Case, Child, Parameter, PredicateReflection};
+use predicates::str::{
+    ContainsPredicate, EndsWithPredicate, IsEmptyPredicate, RegexPredicate, StartsWithPredicate,
+    lines_even, trimmed,
+};
+use predicates::{Predicate, ReadsContent, Total};
+use std::alloc::{AllocError, Global};
+use std::fmt;
+
+/// A check of texts, with a variant for each word. It tells of no parameters and no parts.
+#[derive(Drop)]
+pub enum TextCheck {
+    Empty(IsEmptyPredicate),
+    Equals(EqPredicate<String>),
+    Starts(StartsWithPredicate),
+    Ends(EndsWithPredicate),
+    Contains(ContainsPredicate),
+    Matches(RegexPredicate),
+    Trim(Box<TextCheck>),
+    Normalize(Box<TextCheck>),
+    Not(Box<TextCheck>),
+    And(Box<TextCheck>, Box<TextCheck>),
+    Or(Box<TextCheck>, Box<TextCheck>),
+}
+
+impl fmt::Display for TextCheck {
+    ghost output = { λ c. check_text c };
+
+    fn fmt<W: fmt::Write>(&self, f: &mut fmt::Formatter<W>) -> fmt::Result {
+        match self {
+            TextCheck::Empty(leaf) => leaf.fmt(f),
+            TextCheck::Equals(leaf) => leaf.fmt(f),
+            TextCheck::Starts(leaf) => leaf.fmt(f),
+            TextCheck::Ends(leaf) => leaf.fmt(f),
+            TextCheck::Contains(leaf) => leaf.fmt(f),
+            TextCheck::Matches(leaf) => leaf.fmt(f),
+            TextCheck::Trim(inner) | TextCheck::Normalize(inner) => (**inner).fmt(f),
+            TextCheck::Not(inner) => {
+                write!(f, "(! ")?;
+                (**inner).fmt(f)?;
+                write!(f, ")")
+            }
+            TextCheck::And(left, right) => {
+                write!(f, "(")?;
+                (**left).fmt(f)?;
+                write!(f, " && ")?;
+                (**right).fmt(f)?;
+                write!(f, ")")
+            }
+            TextCheck::Or(left, right) => {
+                write!(f, "(")?;
+                (**left).fmt(f)?;
+                write!(f, " || ")?;
+                (**right).fmt(f)?;
+                write!(f, ")")
+            }
+        }
+    }
+}
+
+impl PredicateReflection for TextCheck {
+    ghost parameters_of = { λ _. [] };
+
+    ghost children_of = { λ _. empty };
+
+    fn parameters(&self, alloc: Global) -> Result<Vec<Parameter>, AllocError> {
+        Ok(Vec::new(alloc))
+    }
+
+    fn children(&self, alloc: Global) -> Result<Vec<Child>, AllocError> {
+        Ok(Vec::new(alloc))
+    }
+}
+
+// The text without the white space at its ends.
+#[tactic(auto, using(predicates_text::specs::Made::bytes_of_chars))]
+fn without_ends(alloc: Global, item: &String) -> Result<String, AllocError>
+    ensures { IfOk result (λ view. string_bytes view ≡ trimmed_bytes (string_bytes item.now)) }
+{
+    trimmed(alloc, item)
+}
+
+// The text with even line endings.
+#[tactic(auto, using(predicates_text::specs::Made::bytes_of_chars))]
+fn with_even_lines(alloc: Global, item: &String) -> Result<String, AllocError>
+    ensures { IfOk result (λ view. string_bytes view ≡ even_bytes (string_bytes item.now)) }
+{
+    lines_even(alloc, item)
+}
+
+impl Predicate<String> for TextCheck {
+    ghost formula = { λ c v. HasFormula c (string_bytes v) };
+
+    ghost steady = { λ c _. IsSteadyCheck c };
+
+    ghost text_fits = { λ c v f. check_text_fits c (string_bytes v) f };
+
+    ghost one_formula = { λ c v f g lawful. one_check c (string_bytes v) f g };
+
+    #[tactic(auto, using(predicates_core::proofs::Combined::combined))]
+    fn eval(&self, alloc: Global, item: &String) -> Result<bool, AllocError> {
+        match self {
+            TextCheck::Empty(leaf) => leaf.eval(alloc, item),
+            TextCheck::Equals(leaf) => leaf.eval(alloc, item),
+            TextCheck::Starts(leaf) => leaf.eval(alloc, item),
+            TextCheck::Ends(leaf) => leaf.eval(alloc, item),
+            TextCheck::Contains(leaf) => leaf.eval(alloc, item),
+            TextCheck::Matches(leaf) => leaf.eval(alloc, item),
+            TextCheck::Trim(inner) => {
+                let view = without_ends(alloc, item)?;
+                inner.eval(alloc, &view)
+            }
+            TextCheck::Normalize(inner) => {
+                let view = with_even_lines(alloc, item)?;
+                inner.eval(alloc, &view)
+            }
+            TextCheck::Not(inner) => Ok(!inner.eval(alloc, item)?),
+            TextCheck::And(left, right) => {
+                Ok(left.eval(alloc, item)? && right.eval(alloc, item)?)
+            }
+            TextCheck::Or(left, right) => {
+                Ok(left.eval(alloc, item)? || right.eval(alloc, item)?)
+            }
+        }
+    }
+
+    #[tactic(auto, using(predicates_core::proofs::Combined::combined))]
+    fn find_case(
+        &self,
+        alloc: Global,
+        expected: bool,
+        item: &String,
+    ) -> Result<Option<Case>, AllocError> {
+        match self {
+            TextCheck::Empty(leaf) => leaf.find_case(alloc, expected, item),
+            TextCheck::Equals(leaf) => leaf.find_case(alloc, expected, item),
+            TextCheck::Starts(leaf) => leaf.find_case(alloc, expected, item),
+            TextCheck::Ends(leaf) => leaf.find_case(alloc, expected, item),
+            TextCheck::Contains(leaf) => leaf.find_case(alloc, expected, item),
+            TextCheck::Matches(leaf) => leaf.find_case(alloc, expected, item),
+            TextCheck::Trim(inner) => {
+                let view = without_ends(alloc, item)?;
+                inner.find_case(alloc, expected, &view)
+            }
+            TextCheck::Normalize(inner) => {
+                let view = with_even_lines(alloc, item)?;
+                inner.find_case(alloc, expected, &view)
+            }
+            TextCheck::Not(inner) => {
+                let Some(part) = inner.find_case(alloc, !expected, item)? else {
+                    return Ok(None);
+                };
+                let text = self.to_string(alloc)?;
+                Ok(Some(over_one(alloc, text, expected, "predicate", part)?))
+            }
+            TextCheck::And(left, right) => match left.find_case(alloc, expected, item)? {
+                None if expected => Ok(None),
+                None => {
+                    let Some(right) = right.find_case(alloc, expected, item)? else {
+                        return Ok(None);
+                    };
+                    let text = self.to_string(alloc)?;
+                    Ok(Some(over_one(alloc, text, expected, "right", right)?))
+                }
+                Some(left) if !expected => {
+                    let text = self.to_string(alloc)?;
+                    Ok(Some(over_one(alloc, text, expected, "left", left)?))
+                }
+                Some(left) => {
+                    let Some(right) = right.find_case(alloc, expected, item)? else {
+                        return Ok(None);
+                    };
+                    let text = self.to_string(alloc)?;
+                    Ok(Some(over_both(alloc, text, expected, left, right)?))
+                }
+            },
+            TextCheck::Or(left, right) => match left.find_case(alloc, expected, item)? {
+                None if !expected => Ok(None),
+                None => {
+                    let Some(right) = right.find_case(alloc, expected, item)? else {
+                        return Ok(None);
+                    };
+                    let text = self.to_string(alloc)?;
+                    Ok(Some(over_one(alloc, text, expected, "right", right)?))
+                }
+                Some(left) if expected => {
+                    let text = self.to_string(alloc)?;
+                    Ok(Some(over_one(alloc, text, expected, "left", left)?))
+                }
+                Some(left) => {
+                    let Some(right) = right.find_case(alloc, expected, item)? else {
+                        return Ok(None);
+                    };
+                    let text = self.to_string(alloc)?;
+                    Ok(Some(over_both(alloc, text, expected, left, right)?))
+                }
+            },
+        }
+    }
+}
+
+impl Total<String> for TextCheck {
+    ghost formula_of = { λ c v. check_formula c (string_bytes v) };
+
+    ghost always_lawful = { λ c. tt };
+
+    ghost has_formula = { λ c v. has_check_formula c (string_bytes v) };
+}
+
+impl ReadsContent<String> for TextCheck {
+    ghost content_formula = { λ c bytes. check_formula c bytes };
+
+    ghost always_lawful = { λ c. tt };
+
+    ghost has_formula = { λ c v. has_check_formula c (string_bytes v) };
+}

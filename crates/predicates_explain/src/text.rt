@@ -1,0 +1,84 @@
+//! A run over texts.
+ghost use Rattle.std.specs.Prelude.{◌≡◌, IfOk, OnOk, string_bytes};
+ghost use Rattle.std.specs.Str.{IsUtf8};
+ghost use Rattle.predicates_explain.specs.TextAnswers.{line_label, no_text, IsTextAnswer};
+ghost use Rattle.predicates_explain.specs.Runs.{HasRun};
+
+#[cfg(test)]
+mod tests;
+
+use crate::block::complete_block;
+use crate::fault::RunFault;
+use crate::run::{AnswerLine, run_lines};
+use predicates_core::Predicate;
+use std::alloc::{AllocError, Global};
+use std::fmt::Write as _;
+use std::io::{BufRead, Write};
+use std::str;
+
+// Answers lines of text by a predicate.
+#[derive(Drop)]
+struct Texts<'a, P> {
+    predicate: &'a P,
+}
+
+// Writes the label of a line, in place of what the text held.
+fn write_label(text: &mut String, number: u64) -> Result<(), AllocError>
+    ensures { OnOk result (string_bytes text.new ≡ line_label number) }
+{
+    text.clear();
+    write!(text, "line {number}")
+}
+
+// Writes that the line is no text, in place of what the text held.
+fn write_no_text(text: &mut String, number: u64) -> Result<(), AllocError>
+    ensures { OnOk result (string_bytes text.new ≡ no_text number) }
+{
+    text.clear();
+    writeln!(text, "line {number}: not UTF-8")
+}
+
+impl<P: Predicate<String>> AnswerLine for Texts<'_, P> {
+    ghost lawful = { λ s. P.lawful s.predicate.now };
+
+    ghost is_answer = { λ s number line written. IsTextAnswer (P.formula s.predicate.now) number line written };
+
+    ghost is_item = { λ _ line. IsUtf8 line };
+
+    fn answer(
+        &self,
+        alloc: Global,
+        number: u64,
+        line: &[u8],
+        text: &mut String,
+    ) -> Result<bool, AllocError> {
+        match str::from_utf8(line) {
+            Ok(decoded) => {
+                let item = String::from_str(alloc, decoded)?;
+                write_label(text, number)?;
+                complete_block(alloc, text, self.predicate, &item)?;
+                Ok(true)
+            }
+            Err(_) => {
+                write_no_text(text, number)?;
+                Ok(false)
+            }
+        }
+    }
+}
+
+/// Writes, for each line of the input, the block that explains whether the predicate holds of it, and says
+/// whether every line was UTF-8. A carriage return at a line's end stays.
+pub fn run_text<P: Predicate<String>, R: BufRead, W: Write>(
+    alloc: Global,
+    predicate: &P,
+    input: &mut R,
+    output: &mut W,
+) -> Result<bool, RunFault>
+    requires { P.lawful predicate.now }
+    ensures { IfOk result (HasRun (IsTextAnswer (P.formula predicate.now)) IsUtf8
+        (R.remaining input.old) (R.remaining input.new)
+        (W.contents output.old) (W.contents output.new)) }
+{
+    run_lines(alloc, &Texts { predicate }, input, output)
+}

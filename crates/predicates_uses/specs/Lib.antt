@@ -1,0 +1,5 @@
+pub mod Answer
+pub mod Either
+pub mod Unmet
+pub mod Sifted
+pub mod Applied
