@@ -2,6 +2,8 @@
 
 mod apply;
 mod fault;
+#[cfg(test)]
+mod tests;
 mod word;
 
 pub use apply::apply_word;

@@ -1,0 +1,72 @@
+use crate::{apply_word, read_word, run_text};
+use predicates::BoxPredicate;
+use predicates::prelude::*;
+use std::test::Fail;
+
+// Tokens, an input, what is written for it, and whether every line is a text.
+const ROWS: [(&[&str], &[u8], &str, bool); 5] = [
+    (
+        &["empty", "trim", "contains=a", "or"],
+        b"  \n",
+        "line 1: true\n(var.is_empty() || var.contains(a)) = true\n  left: var.is_empty() = true\n    - var: \n",
+        true,
+    ),
+    (
+        &["contains=a", "normalize", "match=T[a-z]*", "or"],
+        b"Two",
+        "line 1: true\n(var.contains(a) || var.is_match(T[a-z]*)) = true\n  right: var.is_match(T[a-z]*) = true\n    - var: Two\n",
+        true,
+    ),
+    (&["empty"], b"\xff\n", "line 1: not UTF-8\n", false),
+    (
+        &["empty"],
+        b"a\r\n",
+        "line 1: false\nvar.is_empty() = false\n  - var: a\r\n",
+        true,
+    ),
+    (
+        &["eq=a", "not"],
+        b"a\n\xc3\n\n",
+        "line 1: false\n(! var == \"a\") = false\n  predicate: var == \"a\" = true\n    - var: \"a\"\nline 2: not UTF-8\nline 3: true\n(! var == \"a\") = true\n  predicate: var == \"a\" = false\n    - var: \"\"\n",
+        false,
+    ),
+];
+
+#[test]
+fn rows(rt: HostRuntime) -> Result<(), Fail> {
+    let alloc = rt.alloc();
+    for (tokens, input, want, all) in ROWS {
+        let mut stack = Vec::new(alloc);
+        for token in tokens {
+            let word = read_word(alloc, token)?.ok_or("a token of no word")?;
+            assert_eq!(rt; apply_word(alloc, &mut stack, word), Ok(()));
+        }
+        assert_eq!(rt; stack.len(), 1);
+        let mut output = Vec::new(alloc);
+        let mut reader = input;
+        let answer = run_text(alloc, &stack[0], &mut reader, &mut output);
+        assert_eq!(rt; answer, Ok(all), "for {want:?}");
+        assert_eq!(rt; output.as_slice(), want.as_bytes());
+    }
+    Ok(())
+}
+
+// Any predicate of texts will do: one in a box, and one with a stored function.
+#[test]
+fn other_predicates(rt: HostRuntime) -> Result<(), Fail> {
+    let alloc = rt.alloc();
+    let boxed = BoxPredicate::new(alloc, Box::new(alloc, predicate::str::is_empty())?)?;
+    let mut output = Vec::new(alloc);
+    let mut reader = b"b".as_slice();
+    let answer = run_text(alloc, &boxed.not(), &mut reader, &mut output);
+    assert_eq!(rt; answer, Ok(true));
+    let short = predicate::function(|text: &String| text.len() < 2).fn_name("short");
+    let mut reader = b"b".as_slice();
+    let answer = run_text(alloc, &short, &mut reader, &mut output);
+    assert_eq!(rt; answer, Ok(true));
+    assert_eq!(rt;
+        output.as_slice(),
+        b"line 1: true\n(! var.is_empty()) = true\n  predicate: var.is_empty() = false\n    - var: b\nline 1: true\nshort(var) = true\n".as_slice()
+    );
+    Ok(())
+}
