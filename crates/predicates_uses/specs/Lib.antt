@@ -3,3 +3,4 @@ pub mod Either
 pub mod Unmet
 pub mod Sifted
 pub mod Applied
+pub mod Json

@@ -4,6 +4,7 @@
 mod answer;
 mod either;
 mod files;
+mod json;
 mod policy;
 mod requirement;
 mod sifted;
@@ -13,6 +14,7 @@ mod tests;
 pub use answer::IsTheAnswer;
 pub use either::Either;
 pub use files::{is_copy, no_script};
+pub use json::case_json;
 pub use policy::{PolicyFault, read_policy};
 pub use requirement::{Unmet, require};
 pub use sifted::{Rejection, Sifted, sift};

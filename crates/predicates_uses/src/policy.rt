@@ -40,7 +40,6 @@ impl From<WordFault> for PolicyFault {
 }
 
 // Applies the words with these tokens, in order.
-#[tactic(auto, using(crate::proofs::Applying::applying))]
 fn apply_all(
     alloc: Global,
     stack: &mut Vec<TextCheck>,
