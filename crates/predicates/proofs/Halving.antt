@@ -84,35 +84,35 @@ module _ {T : Type 0} {eq : T → T → Bool} {cmp : T → T → Ordering} {item
   within_digits left some = omega (arith, left.few, digits-half 0 (length rest) some (omega arith))
 
   -- one comparison with the middle member, which stands between `before` and `after`
-  module _ (agree : (x y : T) → eq x y ≡ eq_by_cmp cmp x y) (left : IsLeft eq cmp item all taken rest) {before others after : List T} {middle : T} {order : Ordering} (front : before ≡ take (length rest / 2) rest) (back : others ≡ drop (length rest / 2) rest) (parts : others ≡ middle ∷ after) (compared : order ≡ cmp middle item) where
-    behind : drop (length rest / 2) rest ≡ middle ∷ after
+  module _ (agree : (x y : T) → eq x y ≡ eq_by_cmp cmp x y) (left : IsLeft eq cmp item all taken rest) {half : ℕ} (halves : half ≡ length rest / 2) {before others after : List T} {middle : T} {order : Ordering} (front : before ≡ take half rest) (back : others ≡ drop half rest) (parts : others ≡ middle ∷ after) (compared : order ≡ cmp middle item) where
+    behind : drop half rest ≡ middle ∷ after
     behind = sym back ∙ parts
 
-    in_range : length rest / 2 < length rest
-    in_range = omega (arith, length-drop (length rest / 2) rest, ap length behind)
+    in_range : half < length rest
+    in_range = omega (arith, length-drop half rest, ap length behind)
 
-    middle_is : get_or rest (length rest / 2) middle ≡ middle
-    middle_is = ap (λ k. get_or rest k middle) (sym (add-zero (length rest / 2))) ∙ sym (get_or-drop (length rest / 2) rest 0 middle) ∙ ap (λ xs. get_or xs 0 middle) behind
+    middle_is : get_or rest half middle ≡ middle
+    middle_is = ap (λ k. get_or rest k middle) (sym (add-zero half)) ∙ sym (get_or-drop half rest 0 middle) ∙ ap (λ xs. get_or xs 0 middle) behind
 
-    after_is : after ≡ drop (length rest / 2 + 1) rest
-    after_is = ap (drop 1) (sym behind) ∙ drop-drop 1 (length rest / 2) rest
+    after_is : after ≡ drop (half + 1) rest
+    after_is = ap (drop 1) (sym behind) ∙ drop-drop 1 half rest
 
     pub left_after : {now : ℕ} → now ≡ taken + 1 → order ≡ Less → IsLeft eq cmp item all now after
     left_after counted less =
-        let less_there : cmp (get_or rest (length rest / 2) middle) item ≡ Less = ap (λ m. cmp m item) middle_is ∙ sym compared ∙ less in
+        let less_there : cmp (get_or rest half middle) item ≡ Less = ap (λ m. cmp m item) middle_is ∙ sym compared ∙ less in
         record {
-          rises = rw after_is (IsNonDecreasingBy-drop (λ x. ordering_index (cmp x item)) (length rest / 2 + 1) rest left.rises);
-          same = left.same ∙ has_equal-after_less eq cmp agree item rest left.rises (length rest / 2) middle in_range less_there ∙ ap (λ xs. has_equal eq xs item) (sym after_is);
-          few = omega (arith, left.few, digits-half (length after) (length rest) (omega (arith, in_range)) (omega (arith, ap length behind, length-drop (length rest / 2) rest)));
+          rises = rw after_is (IsNonDecreasingBy-drop (λ x. ordering_index (cmp x item)) (half + 1) rest left.rises);
+          same = left.same ∙ has_equal-after_less eq cmp agree item rest left.rises half middle in_range less_there ∙ ap (λ xs. has_equal eq xs item) (sym after_is);
+          few = omega (arith, left.few, digits-half (length after) (length rest) (omega (arith, in_range)) (omega (arith, halves, ap length behind, length-drop half rest)));
         }
 
     pub left_before : {now : ℕ} → now ≡ taken + 1 → order ≡ Greater → IsLeft eq cmp item all now before
     left_before counted greater =
-        let greater_there : cmp (get_or rest (length rest / 2) middle) item ≡ Greater = ap (λ m. cmp m item) middle_is ∙ sym compared ∙ greater in
+        let greater_there : cmp (get_or rest half middle) item ≡ Greater = ap (λ m. cmp m item) middle_is ∙ sym compared ∙ greater in
         record {
-          rises = rw front (IsNonDecreasingBy-take (λ x. ordering_index (cmp x item)) (length rest / 2) rest left.rises);
-          same = left.same ∙ has_equal-before_greater eq cmp agree item rest left.rises (length rest / 2) middle in_range greater_there ∙ ap (λ xs. has_equal eq xs item) (sym front);
-          few = omega (arith, left.few, digits-half (length before) (length rest) (omega (arith, in_range)) (omega (arith, ap length front, length-take (length rest / 2) rest)));
+          rises = rw front (IsNonDecreasingBy-take (λ x. ordering_index (cmp x item)) half rest left.rises);
+          same = left.same ∙ has_equal-before_greater eq cmp agree item rest left.rises half middle in_range greater_there ∙ ap (λ xs. has_equal eq xs item) (sym front);
+          few = omega (arith, left.few, digits-half (length before) (length rest) (omega (arith, in_range)) (omega (arith, halves, ap length front, length-take half rest)));
         }
 
 -- all members are left at the start

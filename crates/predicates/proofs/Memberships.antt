@@ -2,13 +2,12 @@
 use Rattle.std.proofs.Common.{◌≡◌, Bool, true, false, ◌||◌, cond, List, [], ◌∷◌, ◌++◌, Option, sym, refl, ap, ◌∙◌, subst}
 use Rattle.std.specs.Prelude.{fold}
 use Rattle.std.specs.Cmp.{IsEquivalence}
-use Rattle.std.specs.Iterator.{DrainsIf}
 use Rattle.std.specs.List.{list_any}
 use Rattle.std.specs.List.Sorted.{IsPermutation}
 use Rattle.std.proofs.lemmas.List.Sorted.{list_any-IsPermutation}
 use Rattle.std.proofs.lemmas.List.Folds.{list_any-append}
 use Rattle.std.proofs.lemmas.Map.Steps.{list_any_congr}
-use Rattle.predicates.specs.Members.{has_equal, keep_first, first_of_equals, HasSameMembers, GivesItems, KeepsFirst}
+use Rattle.predicates.specs.Members.{has_equal, keep_first, first_of_equals, HasSameMembers, KeepsFirst, KeepsMembers}
 
 or_false : (b : Bool) → (b || false) ≡ b
 or_false true = refl
@@ -45,18 +44,14 @@ module _ {T : Type 0} {eq : T → T → Bool} (laws : IsEquivalence eq) (item : 
 pub same_first : {T : Type 0} {eq : T → T → Bool} → IsEquivalence eq → (items : List T) → HasSameMembers eq (first_of_equals eq items) items
 same_first laws items = record { each = λ item. has_equal-first_of_equals laws item items }
 
--- a whole run of an iterator gives its items
-pub gives_items : {U S T : Type 0} {becomes : U → S → Type 0} {steps : S → Option T → S → Type 0} {iterable : U} {W : Type 0} (from : S) (items : List T) → becomes iterable from → W → DrainsIf steps W from items → GivesItems becomes steps iterable items
-gives_items from items made ended run = record { from = from; made = made; drained = ((run.2 ended).0, (run.0, run.1, (run.2 ended).1)) }
-
--- of what an iterator gives, the first of equal items are kept
-pub keeps_first : {U S T : Type 0} {becomes : U → S → Type 0} {steps : S → Option T → S → Type 0} {eq : T → T → Bool} {iterable : U} {items kept : List T} → IsEquivalence eq → GivesItems becomes steps iterable items → kept ≡ first_of_equals eq items → KeepsFirst becomes steps eq iterable kept
-keeps_first {eq = eq} {items = items} laws given is = record {
-  items = items;
-  given = given;
-  is = is;
-  same = subst (λ xs. HasSameMembers eq xs items) (sym is) (same_first laws items);
+-- the first of equal items have the members of all
+pub keeps_members : {U S T : Type 0} {becomes : U → S → Type 0} {steps : S → Option T → S → Type 0} {eq : T → T → Bool} {iterable : U} {kept : List T} → IsEquivalence eq → KeepsFirst becomes steps eq iterable kept → KeepsMembers becomes steps eq iterable kept
+keeps_members {eq = eq} laws first = record {
+  items = first.items;
+  given = first.given;
+  same = subst (λ xs. HasSameMembers eq xs first.items) (sym first.is) (same_first laws first.items);
 }
 
+-- a list that is rearranged keeps its members
 pub same_rearranged : {T : Type 0} {eq : T → T → Bool} {xs ys : List T} → IsPermutation xs ys → HasSameMembers eq ys xs
 same_rearranged {eq = eq} {xs = xs} {ys = ys} moved = record { each = λ item. sym (list_any-IsPermutation (λ member. eq member item) xs ys moved) }

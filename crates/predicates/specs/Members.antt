@@ -15,10 +15,6 @@ has_equal eq members item = list_any (λ member. eq member item) members
 pub record HasSameMembers {T : Type 0} (eq : T → T → Bool) (xs ys : List T) : Type 0 where
   pub each : (item : T) → has_equal eq xs item ≡ has_equal eq ys item
 
--- some text has the bytes
-abbrev pub has_text : List Text → List ℕ → Bool
-has_text texts bytes = list_any (λ text. bytes_eq (string_bytes text) bytes) texts
-
 -- the item goes last, unless an earlier one equals it
 abbrev pub keep_first : {T : Type 0} → (T → T → Bool) → List T → T → List T
 keep_first eq kept item = if list_any (eq item) kept then kept else kept ++ item ∷ []
@@ -33,6 +29,22 @@ pub record GivesItems {U S T : Type 0} (becomes : U → S → Type 0) (steps : S
   pub made : becomes iterable from
   pub drained : Drains steps from items
 
+-- of the items that an iterator of the value gives, the first of equal ones are kept, in order
+pub record KeepsFirst {U S T : Type 0} (becomes : U → S → Type 0) (steps : S → Option T → S → Type 0) (eq : T → T → Bool) (iterable : U) (kept : List T) : Type 0 where
+  pub items : List T
+  pub given : GivesItems becomes steps iterable items
+  pub is : kept ≡ first_of_equals eq items
+
+-- what is kept has the members of what an iterator of the value gives
+pub record KeepsMembers {U S T : Type 0} (becomes : U → S → Type 0) (steps : S → Option T → S → Type 0) (eq : T → T → Bool) (iterable : U) (kept : List T) : Type 0 where
+  pub items : List T
+  pub given : GivesItems becomes steps iterable items
+  pub same : HasSameMembers eq kept items
+
+-- some text has the bytes
+abbrev pub has_text : List Text → List ℕ → Bool
+has_text texts bytes = list_any (λ text. bytes_eq (string_bytes text) bytes) texts
+
 -- the printed text of each of the memberships
 abbrev pub member_text : Option (List ℕ)
 member_text = Some (codes "var in values")
@@ -40,10 +52,3 @@ member_text = Some (codes "var in values")
 -- the leaf of each of the memberships, from what the item shows and whether it is a member
 abbrev pub member_leaf : Option (List ℕ) → Bool → Formula
 member_leaf shown holds = Leaf (showing member_text (codes "var") shown) holds
-
--- of the items that an iterator of the value gives, the first of equal ones are kept, in order
-pub record KeepsFirst {U S T : Type 0} (becomes : U → S → Type 0) (steps : S → Option T → S → Type 0) (eq : T → T → Bool) (iterable : U) (kept : List T) : Type 0 where
-  pub items : List T
-  pub given : GivesItems becomes steps iterable items
-  pub is : kept ≡ first_of_equals eq items
-  pub same : HasSameMembers eq kept items

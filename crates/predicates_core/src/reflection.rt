@@ -17,7 +17,7 @@ pub use parameter::Parameter;
 pub use product::Product;
 use std::alloc::{AllocError, Global};
 use std::fmt;
-pub use text::render;
+pub use text::{render, render_onto};
 
 /// A printed text, the values that a predicate was made with, and its parts.
 pub trait PredicateReflection: fmt::Display {

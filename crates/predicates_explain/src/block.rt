@@ -2,7 +2,7 @@
 ghost use Rattle.std.specs.Prelude.{IfOk, OnOk, string_bytes};
 ghost use Rattle.predicates_explain.specs.Blocks.{HasBlocks, IsBlock};
 
-use predicates_core::reflection::render;
+use predicates_core::reflection::render_onto;
 use predicates_core::{Predicate, Total};
 use std::alloc::{AllocError, Global};
 use std::fmt::Write;
@@ -23,7 +23,7 @@ pub(crate) fn complete_block<P: Predicate<Item>, Item>(
     writeln!(text, ": {verdict}")?;
     // There is a case, unless the predicate has no formula on the item.
     if let Some(case) = predicate.find_case(alloc, verdict, item)? {
-        text.push_str(render(alloc, &case)?.as_str())?;
+        render_onto(alloc, text, &case)?;
     }
     Ok(())
 }

@@ -10,12 +10,12 @@ use Rattle.predicates_path.specs.Snapshot.{path_of, followed_of}
 abbrev pub asks_presence : ExistencePredicate → Bool
 asks_presence p = p.exists
 
-abbrev existence_text' : Bool → List ℕ
-existence_text' true = codes "exists(var)"
-existence_text' false = codes "missing(var)"
+abbrev presence_text : Bool → List ℕ
+presence_text true = codes "exists(var)"
+presence_text false = codes "missing(var)"
 
 abbrev pub existence_text : ExistencePredicate → List ℕ
-existence_text p = existence_text' (asks_presence p)
+existence_text p = presence_text (asks_presence p)
 
 abbrev existence_truth : Bool → Bool → Bool
 existence_truth true there = there

@@ -118,7 +118,8 @@ impl<P: Total<Vec<u8>>> Total<Snapshot> for FileContentPredicate<P> {
 
 /// Asks any predicate of bytes about contents.
 pub trait PredicateFileContentExt: Predicate<Vec<u8>> {
-    /// The predicate of snapshots whose content is there, and of whose bytes this one holds.
+    /// The predicate of snapshots whose content is there, and of whose bytes this one holds. It
+    /// takes no memory where this one takes none on the bytes, or where there is no content.
     fn from_file_path(self) -> FileContentPredicate<Self>
     where
         Self: Sized,

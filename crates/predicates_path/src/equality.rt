@@ -25,7 +25,7 @@ pub struct BinaryFilePredicate {
 }
 
 /// The predicate of contents that are the snapshot's. It is refused where the snapshot has none,
-/// with its fault.
+/// with the fault that stands in its place. Takes no memory.
 pub fn eq_file(snapshot: Snapshot) -> Result<BinaryFilePredicate, PathFault>
     ensures { MatchResult (content_of snapshot)
         (λ bytes. IsOkAnd result (λ p. (compared_path p ≡ path_of snapshot) × (compared_bytes p ≡ bytes)))
@@ -39,7 +39,7 @@ pub fn eq_file(snapshot: Snapshot) -> Result<BinaryFilePredicate, PathFault>
 }
 
 impl BinaryFilePredicate {
-    /// The predicate of texts and contents that are these bytes, if they are UTF-8.
+    /// The predicate of texts and contents that are these bytes, if they are UTF-8. Takes no memory.
     pub fn utf8(self) -> Option<StrFilePredicate>
         ensures { MatchOption result (¬ (IsUtf8 (compared_bytes self)))
             (λ p. (text.compared_path p ≡ compared_path self) × (text.compared_text p ≡ compared_bytes self)) }

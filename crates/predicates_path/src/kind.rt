@@ -78,8 +78,8 @@ fn show_found(
 }
 
 impl FileTypePredicate {
-    /// The predicate of the kind that the snapshot's path leads to, which follows links.
-    /// It is refused where there is no such kind, with its fault.
+    /// The predicate of the kind that the snapshot's path leads to, which follows links. It is
+    /// refused where there is no such kind, with the fault that stands in its place.
     pub fn from_path(snapshot: &Snapshot) -> Result<FileTypePredicate, PathFault>
         ensures { MatchResult (followed_of snapshot.now)
             (λ kind. IsOkAnd result (λ p. (tested_kind p ≡ kind) × (follows p ≡ true)))

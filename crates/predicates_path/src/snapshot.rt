@@ -45,8 +45,8 @@ fn content(told: io::Result<Vec<u8>>) -> Result<Result<Vec<u8>, PathFault>, Allo
 }
 
 impl Snapshot {
-    /// Asks the file system, once for each of the two kinds, and reads the content where the
-    /// path leads to a regular file.
+    /// Asks the file system once for each of the two kinds, and reads the content once where the
+    /// path leads to a regular file. Refused only for want of memory, here or in the system.
     pub fn take<R: Files + AllocGlobal>(rt: &R, path: &str) -> Result<Snapshot, AllocError>
         ensures path { IfOk result (λ snapshot. path_of snapshot ≡ path.now) }
         ensures consistent { IfOk result IsConsistent }
@@ -67,7 +67,7 @@ impl Snapshot {
         })
     }
 
-    /// A snapshot of any parts, also of such as no file system gives.
+    /// A snapshot of any parts, also of such as no file system gives. Takes no memory.
     pub fn from_parts(
         path: String,
         plain: Result<FileType, PathFault>,
@@ -87,6 +87,7 @@ impl Snapshot {
         }
     }
 
+    /// The path as it was handed in.
     pub fn path(&self) -> &str
         ensures { result.now ≡ path_of self.now }
     {
@@ -107,6 +108,7 @@ impl Snapshot {
         self.followed
     }
 
+    /// The bytes of the file that the path leads to, where a link is followed.
     pub fn content(&self) -> Result<&[u8], PathFault>
         ensures { read_bytes (λ bytes. bytes.now) result ≡ content_of self.now }
     {

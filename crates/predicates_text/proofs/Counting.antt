@@ -1,5 +1,5 @@
 -- The count of a text in another, by its first place and what follows that.
-use Rattle.std.proofs.Common.{◌≡◌, List, [], ◌∷◌, ◌++◌, ℕ, suc, ◌+◌, ◌-◌, ◌<◌, ◌≤◌, length, take, drop, sym, ◌∙◌, ap, refl, subst, inl, inr, ⊎_elim, arith, length-append, length-drop, append_assoc}
+use Rattle.std.proofs.Common.{◌≡◌, ◌≢◌, List, [], ◌∷◌, ◌++◌, ℕ, suc, ◌+◌, ◌-◌, ◌<◌, ◌≤◌, length, take, drop, sym, ◌∙◌, ap, refl, subst, inl, inr, ⊎_elim, arith, length-append, length-drop, append_assoc}
 use Rattle.std.specs.List.{AllByRecursion}
 use Rattle.std.proofs.Math.Seq.{drop-append_seam}
 use Rattle.std.proofs.lemmas.List.{drop-append-le}
@@ -7,13 +7,13 @@ use Rattle.std.proofs.lemmas.List.Elements.{All-from_recursion, recursion_from_A
 use Rattle.std.proofs.lemmas.List.{take-append-le, take-append-drop, length-take, take_at}
 use Rattle.std.proofs.lemmas.Bool.{cases_lt}
 use Rattle.std.specs.Str.{chars, IsUtf8, encode_utf8_all}
-use Rattle.std.specs.Str.Pattern.{FindsText, LacksTextAt, SplitsAroundMatch}
+use Rattle.std.specs.Str.Pattern.{FindsText, LacksTextAt, FindsTextPrefix, SplitsAroundMatch, StripsPrefix}
 use Rattle.std.proofs.Common.{None}
 use Rattle.std.proofs.lemmas.Str.{encodes-chars, encodes-append, length-le-encodes}
-use Rattle.predicates_text.proofs.Cuts.{cut_around, lacks_around, lacks_bytes, bytes_around, IsCutAround}
+use Rattle.predicates_text.proofs.Cuts.{chars_cut, cut_around, lacks_around, lacks_bytes, bytes_around, IsCutAround}
 use Rattle.predicates_text.proofs.Found.{empty_chars}
 use Rattle.predicates_text.specs.Parts.{StandsAt}
-use Rattle.predicates_text.specs.Count.{AreApart, IsChoiceOfPlaces, IsCountOf}
+use Rattle.predicates_text.specs.Count.{AreApart, IsChoiceOfPlaces, IsCountOf, IsPastFirst, IsNowhere}
 use Rattle.predicates_text.proofs.Choices.{Far, IsChoice, far_from_pairs, pairs_from_far, choice_bound, choice_more, choice_moved_up, choice_moved_down, moved, length-moved}
 
 -- a choice of places, in the words of `Choices`: the gap is the length, or 1 for the empty text
@@ -151,11 +151,15 @@ first_place p t i j up ut cut within lacks k at = ⊎_elim
     (cases_lt k (length (chars (take i t))))
 
 -- where the text p is found nowhere
-pub count_missing : (p t : List ℕ) → IsUtf8 p → IsUtf8 t → FindsText p t None → IsCountOf (chars p) (chars t) 0
+count_missing : (p t : List ℕ) → IsUtf8 p → IsUtf8 t → FindsText p t None → IsCountOf (chars p) (chars t) 0
 count_missing p t up ut lacks = count_none (chars p) (chars t) (λ i at.
     let whole = bytes_around p t at.0 at.1 up ut at.2 in
     lacks_around p t at.0 at.1 (length (encode_utf8_all at.0)) up ut at.2 refl
     (lacks (length (encode_utf8_all at.0)) (omega (arith, ap length whole, length-append (encode_utf8_all at.0) (p ++ encode_utf8_all at.1)))))
+
+pub filled : (cs : List ℕ) → cs ≢ [] → 1 ≤ length cs
+filled [] some = absurd (some refl)
+filled (c ∷ cs) some = omega arith
 
 -- no place among the bytes comes before the first
 first_bytes : (p t : List ℕ) (i : ℕ) → i ≤ length t → ((k : ℕ) → k < i → LacksTextAt p t k) → (k : ℕ) → StandsAt p t k → length (take i t) ≤ k
@@ -164,7 +168,7 @@ first_bytes p t i within lacks k at = ⊎_elim
     (λ late. omega (arith, late, length-take i t))
     (cases_lt k i)
 
-pub count_missing_bytes : (p t : List ℕ) → FindsText p t None → IsCountOf p t 0
+count_missing_bytes : (p t : List ℕ) → FindsText p t None → IsCountOf p t 0
 count_missing_bytes p t lacks = count_none p t (λ i at.
     lacks_bytes p t i at (lacks i (omega (arith, ap length at.2, at.3, length-append at.0 (p ++ at.1)))))
 
@@ -172,36 +176,46 @@ pub no_items : (cs : List ℕ) → length cs ≡ 0 → cs ≡ []
 no_items [] e = refl
 no_items (c ∷ cs) e = absurd (omega (arith, e))
 
--- what follows the first place of p
-pub record IsRestToCount (p t rest : List ℕ) : Type 0 where
-  pub text : IsUtf8 rest
-  pub shorter : length rest < length t
-  pub counts : (n : ℕ) → IsCountOf (chars p) (chars rest) n → IsCountOf (chars p) (chars t) (suc n)
-  pub counts_bytes : (n : ℕ) → IsCountOf p rest n → IsCountOf p t (suc n)
+chars_some : (p : List ℕ) → IsUtf8 p → 1 ≤ length p → 1 ≤ length (chars p)
+chars_some p u l = ⊎_elim
+    (λ none. absurd (omega (arith, (empty_chars p u).1 (no_items (chars p) (omega (arith, none))), l)))
+    (λ some. some)
+    (cases_lt (length (chars p)) 1)
 
-pub count_after : (p t front back : List ℕ) → IsUtf8 p → IsUtf8 t → 1 ≤ length p → SplitsAroundMatch (FindsText p) t front back → IsRestToCount p t back
-count_after p t front back up ut some h =
+-- past a place at the front
+pub past_front : (p t rest : List ℕ) → IsUtf8 p → 1 ≤ length p → StripsPrefix (FindsTextPrefix p) t rest → IsPastFirst p t rest
+past_front p t rest up some h =
+    let whole : t ≡ p ++ rest = h.1.1 ∙ ap (λ l. p ++ l) (sym h.2) in
+    record {
+      shorter = omega (arith, ap length whole, length-append p rest, some);
+      among_characters = λ n counted.
+          count_more (chars p) (chars t) [] (chars rest) n (chars_some p up some) (chars_cut t p rest up whole) (λ k at. omega arith) counted;
+      among_bytes = λ n counted. count_more p t [] rest n some whole (λ k at. omega arith) counted;
+    }
+
+-- past the first place, wherever it is
+pub past_place : (p t front back : List ℕ) → IsUtf8 p → IsUtf8 t → 1 ≤ length p → SplitsAroundMatch (FindsText p) t front back → IsPastFirst p t back
+past_place p t front back up ut some h =
     let i : ℕ = h.0 in
     let j : ℕ = h.1 in
     let within : i ≤ length t = omega (arith, h.5, h.7) in
     let cut : IsCutAround p t i j = cut_around p t i j up ut h.2.1 within in
-    let filled : 1 ≤ length (chars p) = chars_some p up some in
     record {
-      text = subst IsUtf8 (sym h.4) cut.after;
       shorter = omega (arith, h.7, h.5, h.2.1.ends, some);
-      counts = λ n counted. count_more (chars p) (chars t) (chars (take i t)) (chars (drop j t)) n filled cut.characters
+      among_characters = λ n counted.
+          count_more (chars p) (chars t) (chars (take i t)) (chars (drop j t)) n (chars_some p up some) cut.characters
           (first_place p t i j up ut cut within h.2.0)
           (subst (λ l. IsCountOf (chars p) (chars l) n) h.4 counted);
-      counts_bytes = λ n counted. count_more p t (take i t) (drop j t) n some cut.bytes
+      among_bytes = λ n counted. count_more p t (take i t) (drop j t) n some cut.bytes
           (first_bytes p t i within h.2.0)
           (subst (λ l. IsCountOf p l n) h.4 counted);
     }
-  where
-    chars_some : (p : List ℕ) → IsUtf8 p → 1 ≤ length p → 1 ≤ length (chars p)
-    chars_some p u l = ⊎_elim
-        (λ none. absurd (omega (arith, (empty_chars p u).1 (no_items (chars p) (omega (arith, none))), l)))
-        (λ some. some)
-        (cases_lt (length (chars p)) 1)
+
+pub nowhere : (p t : List ℕ) → IsUtf8 p → IsUtf8 t → FindsText p t None → IsNowhere p t
+nowhere p t up ut lacks = record {
+  among_characters = count_missing p t up ut lacks;
+  among_bytes = count_missing_bytes p t lacks;
+}
 
 -- the empty text
 pub count_empty_text : (p t : List ℕ) (n : ℕ) → IsUtf8 p → length p ≡ 0 → n ≡ length (chars t) → IsCountOf (chars p) (chars t) (n + 1)
@@ -235,11 +249,11 @@ pub record IsCountedTo (p t : List ℕ) (n : ℕ) (rest : List ℕ) : Type 0 whe
   pub among_characters : (k : ℕ) → IsCountOf (chars p) (chars rest) k → IsCountOf (chars p) (chars t) (n + k)
   pub among_bytes : (k : ℕ) → IsCountOf p rest k → IsCountOf p t (n + k)
 
-pub counted_on : (p t rest back : List ℕ) (n : ℕ) → IsCountedTo p t n rest → IsRestToCount p rest back → IsCountedTo p t (n + 1) back
+pub counted_on : (p t rest back : List ℕ) (n : ℕ) → IsCountedTo p t n rest → IsPastFirst p rest back → IsCountedTo p t (n + 1) back
 counted_on p t rest back n so_far next = record {
   among_characters = λ k counted.
-      subst (λ m. IsCountOf (chars p) (chars t) m) (one_more k) (so_far.among_characters (suc k) (next.counts k counted));
-  among_bytes = λ k counted. subst (λ m. IsCountOf p t m) (one_more k) (so_far.among_bytes (suc k) (next.counts_bytes k counted));
+      subst (λ m. IsCountOf (chars p) (chars t) m) (one_more k) (so_far.among_characters (suc k) (next.among_characters k counted));
+  among_bytes = λ k counted. subst (λ m. IsCountOf p t m) (one_more k) (so_far.among_bytes (suc k) (next.among_bytes k counted));
 }
   where
     one_more : (k : ℕ) → n + suc k ≡ n + 1 + k

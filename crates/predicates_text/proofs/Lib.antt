@@ -2,9 +2,9 @@ mod Cuts
 mod Found
 mod Choices
 mod Counting
-mod Counted
-mod Telling
+pub mod Counted
+pub mod Telling
 mod Showing
-mod Trimming
-mod Evening
-mod Handing
+pub mod Trimming
+pub mod Evening
+pub mod Handing

@@ -10,6 +10,8 @@ use Rattle.std.proofs.lemmas.List.{reverse-append, length-reverse, length-take, 
 use Rattle.std.proofs.lemmas.List.Folds.{prefix_len-append, length-prefix_len}
 use Rattle.std.proofs.lemmas.List.Sums.{suffix_len-le-length}
 use lib.Utf8.{scalar}
+use Rattle.std.specs.Prelude.{Result, Ok, Err, IfOk, string_bytes}
+use Rattle.predicates_core.specs.Text.{Text}
 use Rattle.predicates_text.specs.Views.{is_white_space, trimmed}
 
 and_left : (a b : Bool) → (a && b) ≡ true → a ≡ true
@@ -178,3 +180,13 @@ pub trimmed_twice : (cs : List ℕ) → trimmed (trimmed cs) ≡ trimmed cs
 trimmed_twice cs =
     sym (trimmed_is (trimmed cs)) ∙ ap (λ l. drop_trailing_whitespace (skip_leading_whitespace l)) (sym (trimmed_is cs))
     ∙ ap drop_trailing_whitespace (begins cs) ∙ ends (skip_leading_whitespace cs) ∙ trimmed_is cs
+
+-- a text made of what std's `trim` gives
+pub view_of_trim : {E : Type 0} (r : Result Text E) (t kept : List ℕ) → IsUtf8 t → kept ≡ trim t → IfOk r (λ s. string_bytes s ≡ kept) → IfOk r (λ s. chars (string_bytes s) ≡ trimmed (chars t))
+view_of_trim (Ok s) t kept u is made = ap chars (made ∙ is) ∙ trim_chars t u
+view_of_trim (Err e) t kept u is made = tt
+
+-- trimmed again, such a text stays
+pub trimmed_stays : {E : Type 0} (r : Result Text E) (t : List ℕ) → IfOk r (λ s. chars (string_bytes s) ≡ trimmed (chars t)) → IfOk r (λ s. trimmed (chars (string_bytes s)) ≡ chars (string_bytes s))
+trimmed_stays (Ok s) t view = ap trimmed view ∙ trimmed_twice (chars t) ∙ sym view
+trimmed_stays (Err e) t view = tt

@@ -1,6 +1,7 @@
 -- How often one text stands in another, when no two places may overlap.
-use Rattle.std.specs.Prelude.{◌≡◌, ◌≢◌, ◌⊎◌, List, [], ◌∷◌, ℕ, zero, suc, ◌+◌, ◌-◌, ◌≤◌, nat_eq, length, All, AllPairs, if◌then◌else◌}
+use Rattle.std.specs.Prelude.{◌≡◌, ◌≢◌, ◌⊎◌, List, [], ◌∷◌, ℕ, zero, suc, ◌+◌, ◌-◌, ◌≤◌, ◌<◌, nat_eq, length, All, AllPairs, if◌then◌else◌}
 use Rattle.std.specs.List.{starts_with}
+use Rattle.std.specs.Str.{chars}
 use Rattle.predicates_text.specs.Parts.{StandsAt}
 
 -- two places that differ, one at least so far past the other
@@ -16,6 +17,17 @@ pub record IsChoiceOfPlaces (s t places : List ℕ) : Type 0 where
 pub record IsCountOf (s t : List ℕ) (n : ℕ) : Type 0 where
   pub reached : (places : List ℕ) × IsChoiceOfPlaces s t places × (length places ≡ n)
   pub greatest : (places : List ℕ) → IsChoiceOfPlaces s t places → length places ≤ n
+
+-- t has one more place than its back `rest`, among the characters and among the bytes
+pub record IsPastFirst (pattern text rest : List ℕ) : Type 0 where
+  pub shorter : length rest < length text
+  pub among_characters : (n : ℕ) → IsCountOf (chars pattern) (chars rest) n → IsCountOf (chars pattern) (chars text) (suc n)
+  pub among_bytes : (n : ℕ) → IsCountOf pattern rest n → IsCountOf pattern text (suc n)
+
+-- the pattern has no place in the text, among the characters and among the bytes
+pub record IsNowhere (pattern text : List ℕ) : Type 0 where
+  pub among_characters : IsCountOf (chars pattern) (chars text) 0
+  pub among_bytes : IsCountOf pattern text 0
 
 -- the places of s in t that are met from the left, after passing over the first `passed` places
 unfoldable pub count_past : List ℕ → ℕ → List ℕ → ℕ

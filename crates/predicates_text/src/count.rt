@@ -1,7 +1,7 @@
 //! How often one text stands in another.
 ghost use Rattle.std.specs.Str.{chars};
-ghost use Rattle.std.specs.Prelude.{◌≡◌, ◌≢◌, ◌+◌, [], length};
-ghost use Rattle.predicates_text.specs.Count.{IsCountOf, count_of};
+ghost use Rattle.std.specs.Prelude.{◌≡◌, ◌≢◌, ◌+◌, [], length, MatchOption};
+ghost use Rattle.predicates_text.specs.Count.{IsCountOf, IsPastFirst, IsNowhere, count_of};
 
 /// The greatest number of places of the pattern in the text of which no two overlap.
 ///
@@ -17,9 +17,22 @@ pub fn count(pattern: &str, text: &str) -> usize
     }
     let mut count = 0;
     let mut rest = text;
-    while let Some((_, after)) = rest.split_once(pattern) {
+    while let Some(after) = past_first(pattern, rest) {
         count += 1;
         rest = after;
     }
     count
+}
+
+// What follows the first place of the pattern, if it has one.
+fn past_first<'a>(pattern: &str, text: &'a str) -> Option<&'a str>
+    requires { pattern.now ≢ [] }
+    ensures { MatchOption result (IsNowhere pattern.now text.now) (λ rest. IsPastFirst pattern.now text.now rest.now) }
+{
+    // A place at the front is seen without a search.
+    if let Some(rest) = text.strip_prefix(pattern) {
+        return Some(rest);
+    }
+    let (_, rest) = text.split_once(pattern)?;
+    Some(rest)
 }

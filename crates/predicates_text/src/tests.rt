@@ -1,6 +1,6 @@
 use crate::{
-    PredicateStrExt, contains, count, ends_with, is_empty, is_match, lines_even, parts, starts_with,
-    trimmed,
+    PredicateStrExt, contains, count, ends_with, is_empty, is_match, lines_even, parts,
+    starts_with, trimmed,
 };
 use predicates_core::Predicate;
 use predicates_core::reflection::{PredicateReflection, render};
@@ -67,19 +67,29 @@ fn cases(rt: HostRuntime) -> Result<(), Fail> {
     let starts = starts_with(String::from_str(alloc, "a \"")?);
     let ends = ends_with(String::from_str(alloc, " b")?);
     assert!(rt; is_empty().eval(alloc, &item)? == false && ends.eval(alloc, &item)?);
-    assert_eq!(rt; case_of(alloc, &is_empty(), false, &item)?.as_str(),
-        "var.is_empty() = false\n  - var: a b\n");
-    assert_eq!(rt; case_of(alloc, &starts, false, &item)?.as_str(),
-        "var.starts_with(\"a \\\"\") = false\n  - var: a b\n");
+    assert_eq!(rt;
+        case_of(alloc, &is_empty(), false, &item)?.as_str(),
+        "var.is_empty() = false\n  - var: a b\n"
+    );
+    assert_eq!(rt;
+        case_of(alloc, &starts, false, &item)?.as_str(),
+        "var.starts_with(\"a \\\"\") = false\n  - var: a b\n"
+    );
     assert_eq!(rt; case_of(alloc, &starts, true, &item)?.as_str(), "none");
-    assert_eq!(rt; case_of(alloc, &ends, true, &item)?.as_str(),
-        "var.ends_with(\" b\") = true\n  - var: a b\n");
+    assert_eq!(rt;
+        case_of(alloc, &ends, true, &item)?.as_str(),
+        "var.ends_with(\" b\") = true\n  - var: a b\n"
+    );
     let part = contains(String::from_str(alloc, "a b")?);
-    assert_eq!(rt; case_of(alloc, &part, true, &item)?.as_str(),
-        "var.contains(a b) = true\n  - var: a b\n");
+    assert_eq!(rt;
+        case_of(alloc, &part, true, &item)?.as_str(),
+        "var.contains(a b) = true\n  - var: a b\n"
+    );
     let twice = part.count(2);
-    assert_eq!(rt; case_of(alloc, &twice, false, &item)?.as_str(),
-        "var.contains(a b) = false\n  - var: a b\n  - actual count: 1\n");
+    assert_eq!(rt;
+        case_of(alloc, &twice, false, &item)?.as_str(),
+        "var.contains(a b) = false\n  - var: a b\n  - actual count: 1\n"
+    );
     let parameters = twice.parameters(alloc)?;
     assert!(rt; parameters.len() == 1 && parameters[0].name() == "count");
     assert_eq!(rt; parameters[0].value(), "2");
@@ -120,24 +130,38 @@ fn adapters(rt: HostRuntime) -> Result<(), Fail> {
     let spaces = String::from_str(alloc, "    ")?;
     let blank = is_empty().trim();
     assert!(rt; blank.eval(alloc, &spaces)?);
-    assert_eq!(rt; case_of(alloc, &blank, true, &spaces)?.as_str(),
-        "var.is_empty() = true\n  - var: \n");
+    assert_eq!(rt;
+        case_of(alloc, &blank, true, &spaces)?.as_str(),
+        "var.is_empty() = true\n  - var: \n"
+    );
     let children = blank.children(alloc)?;
     assert!(rt; children.len() == 1 && children[0].name() == "predicate");
     let lines = ends_with(String::from_str(alloc, "a\n")?).normalize();
     let returns = String::from_str(alloc, "a\r")?;
     assert!(rt; lines.eval(alloc, &returns)?);
-    assert_eq!(rt; case_of(alloc, &lines, true, &returns)?.as_str(),
-        "var.ends_with(\"a\\n\") = true\n  - var: a\n\n");
+    assert_eq!(rt;
+        case_of(alloc, &lines, true, &returns)?.as_str(),
+        "var.ends_with(\"a\\n\") = true\n  - var: a\n\n"
+    );
     let decoded = blank.from_utf8();
     let text = bytes_of(alloc, b"  a")?;
-    assert_eq!(rt; case_of(alloc, &decoded, false, &text)?.as_str(),
-        "var.is_empty() = false\n  - var: a\n  - var as str:   a\n");
-    for bytes in [b"\xc3".as_slice(), b"\xc0\x80", b"\xed\xa0\x80", b"\xf4\x90\x80\x80", b"a\xff"] {
+    assert_eq!(rt;
+        case_of(alloc, &decoded, false, &text)?.as_str(),
+        "var.is_empty() = false\n  - var: a\n  - var as str:   a\n"
+    );
+    for bytes in [
+        b"\xc3".as_slice(),
+        b"\xc0\x80",
+        b"\xed\xa0\x80",
+        b"\xf4\x90\x80\x80",
+        b"a\xff",
+    ] {
         let bytes = bytes_of(alloc, bytes)?;
         assert!(rt; !decoded.eval(alloc, &bytes)?);
-        assert_eq!(rt; case_of(alloc, &decoded, false, &bytes)?.as_str(),
-            "var.is_empty() = false\n  - error: Invalid UTF-8 string\n");
+        assert_eq!(rt;
+            case_of(alloc, &decoded, false, &bytes)?.as_str(),
+            "var.is_empty() = false\n  - error: Invalid UTF-8 string\n"
+        );
         assert_eq!(rt; case_of(alloc, &decoded, true, &bytes)?.as_str(), "none");
     }
     Ok(())
@@ -149,12 +173,16 @@ fn patterns(rt: HostRuntime) -> Result<(), Fail> {
     let words = is_match(alloc, String::from_str(alloc, "T[a-z]*")?)?;
     let item = String::from_str(alloc, "One Two Three")?;
     assert!(rt; words.eval(alloc, &item)?);
-    assert_eq!(rt; case_of(alloc, &words, true, &item)?.as_str(),
-        "var.is_match(T[a-z]*) = true\n  - var: One Two Three\n");
+    assert_eq!(rt;
+        case_of(alloc, &words, true, &item)?.as_str(),
+        "var.is_match(T[a-z]*) = true\n  - var: One Two Three\n"
+    );
     let thrice = words.count(3);
     assert!(rt; !thrice.eval(alloc, &item)?);
-    assert_eq!(rt; case_of(alloc, &thrice, false, &item)?.as_str(),
-        "var.is_match(T[a-z]*) = false\n  - var: One Two Three\n  - actual count: 2\n");
+    assert_eq!(rt;
+        case_of(alloc, &thrice, false, &item)?.as_str(),
+        "var.is_match(T[a-z]*) = false\n  - var: One Two Three\n  - actual count: 2\n"
+    );
     assert_eq!(rt; thrice.parameters(alloc)?[0].value(), "3");
     assert!(rt; is_match(alloc, String::from_str(alloc, "(")?).is_err());
     let nothing = is_match(alloc, String::new(alloc))?.count(3);

@@ -6,6 +6,7 @@ ghost use Rattle.predicates_text.specs.Views.{trimmed, lines_even, carriage_retu
 use std::alloc::{AllocError, Global};
 
 /// The text without its longest front and its longest back of white space.
+#[tactic(auto, using(crate::proofs::Trimming::view_of_trim))]
 pub fn trimmed(alloc: Global, text: &str) -> Result<String, AllocError>
     ensures view { IfOk result (λ s. chars (string_bytes s) ≡ trimmed (chars text.now)) }
     ensures again { IfOk result (λ s. trimmed (chars (string_bytes s)) ≡ chars (string_bytes s)) }

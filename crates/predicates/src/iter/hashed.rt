@@ -1,11 +1,11 @@
 //! Membership in a hashed set.
-ghost use Rattle.std.specs.Prelude.{refl, codes, IfOk, None};
+ghost use Rattle.std.specs.Prelude.{◌≡◌, refl, codes, IfOk, None};
 ghost use Rattle.std.specs.Iterator.{IsFiniteIterable};
 ghost use Rattle.predicates_core.specs.Label.{value_of};
 ghost use Rattle.predicates_core.specs.Tree.{empty};
 ghost use Rattle.predicates_core.specs.Leaves.{IsExactly};
 ghost use Rattle.predicates_core.proofs.Leaves.{exactly_text_fits, one_exactly};
-ghost use Rattle.predicates.specs.Members.{KeepsFirst, has_equal, member_text, member_leaf};
+ghost use Rattle.predicates.specs.Members.{KeepsFirst, KeepsMembers, has_equal, member_text, member_leaf};
 ghost use Rattle.predicates.specs.HashableIn.{members_of};
 
 use indexmap::IndexSet;
@@ -22,17 +22,29 @@ pub struct HashableInPredicate<T: Eq + Hash> {
     members: IndexSet<T>,
 }
 
-/// The predicate that holds of each item that equals one of those that the iterator gives.
+/// The predicate that holds of each item that equals one of those that the iterator gives, of which
+/// the first of equal ones stays in its place.
 pub fn in_hash<I: IntoIterator<Item = T>, T: fmt::Debug + Hash + Eq + Drop>(
     alloc: Global,
     iter: I,
 ) -> Result<HashableInPredicate<T>, AllocError>
     requires { IsFiniteIterable I.into_iter_gives I.IntoIter.can_next I.IntoIter.remaining iter }
-    ensures { IfOk result (λ p.
+    ensures first { IfOk result (λ p.
         KeepsFirst I.into_iter_gives I.IntoIter.next_gives T.eq iter (members_of p)) }
+    ensures same { IfOk result (λ p.
+        KeepsMembers I.into_iter_gives I.IntoIter.next_gives T.eq iter (members_of p)) }
 {
     let members = IndexSet::from_iter(alloc, iter)?;
     Ok(HashableInPredicate { members })
+}
+
+impl<T: Eq + Hash> HashableInPredicate<T> {
+    // Whether some member equals the item, by the set's look-up.
+    fn holds(&self, item: &T) -> bool
+        ensures { result ≡ has_equal T.eq (members_of self.now) item.now }
+    {
+        self.members.contains(item)
+    }
 }
 
 impl<T: Eq + Hash> fmt::Display for HashableInPredicate<T> {
@@ -72,7 +84,7 @@ impl<T: fmt::Debug + Eq + Hash> Predicate<T> for HashableInPredicate<T> {
 
     #[tactic(auto, using(predicates_core::proofs::Leaves::leaves))]
     fn eval(&self, _alloc: Global, item: &T) -> Result<bool, AllocError> {
-        Ok(self.members.contains(item))
+        Ok(self.holds(item))
     }
 
     #[tactic(auto, using(predicates_core::proofs::Leaves::leaves))]

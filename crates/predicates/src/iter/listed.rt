@@ -1,5 +1,5 @@
 //! Membership in a list.
-ghost use Rattle.std.specs.Prelude.{refl, codes, IfOk};
+ghost use Rattle.std.specs.Prelude.{◌≡◌, refl, codes, IfOk};
 ghost use Rattle.std.specs.Iterator.{IsFiniteIterable};
 ghost use Rattle.std.specs.List.Sorted.{IsPermutation, IsSorted};
 ghost use Rattle.predicates_core.specs.Label.{value_of};
@@ -23,7 +23,8 @@ pub struct InPredicate<T> {
     members: Vec<T>,
 }
 
-/// The predicate that holds of each item that equals one of those that the iterator gives.
+/// The predicate that holds of each item that equals one of those that the iterator gives, all of
+/// which are kept in order.
 pub fn in_iter<I: IntoIterator<Item = T>, T: fmt::Debug + PartialEq + Drop>(
     alloc: Global,
     iter: I,
@@ -36,8 +37,17 @@ pub fn in_iter<I: IntoIterator<Item = T>, T: fmt::Debug + PartialEq + Drop>(
     Ok(InPredicate { members })
 }
 
+impl<T: PartialEq> InPredicate<T> {
+    // Whether some member equals the item.
+    fn holds(&self, item: &T) -> bool
+        ensures { result ≡ has_equal T.eq (members_of self.now) item.now }
+    {
+        self.members.contains(item)
+    }
+}
+
 impl<T: Ord> InPredicate<T> {
-    /// The same members in ascending order.
+    /// The same members in ascending order, each as often as before.
     #[tactic(auto, using(crate::proofs::Memberships::same_rearranged))]
     pub fn sort(self) -> Result<OrdInPredicate<T>, AllocError>
     where
@@ -93,7 +103,7 @@ impl<T: fmt::Debug + PartialEq> Predicate<T> for InPredicate<T> {
 
     #[tactic(auto, using(predicates_core::proofs::Leaves::leaves))]
     fn eval(&self, _alloc: Global, item: &T) -> Result<bool, AllocError> {
-        Ok(self.members.contains(item))
+        Ok(self.holds(item))
     }
 
     #[tactic(auto, using(predicates_core::proofs::Leaves::leaves))]

@@ -18,12 +18,14 @@ impl Model for Steps {
 }
 
 impl Steps {
+    /// No comparisons.
     pub fn new() -> Steps
         ensures { result ≡ 0 }
     {
         Steps { taken: 0 }
     }
 
+    /// The number of comparisons.
     pub fn count(&self) -> usize
         ensures { result ≡ self.now }
     {
@@ -33,7 +35,7 @@ impl Steps {
     pub(crate) fn clear(&mut self)
         ensures { self.new ≡ 0 }
     {
-        self.taken = 0;
+        *self = Steps::new();
     }
 
     pub(crate) fn add_one(&mut self)

@@ -49,12 +49,20 @@ fn write_case(
     Ok(())
 }
 
+/// Writes the lines of a case after what the text holds; after a refusal some of them may stand there.
+pub fn render_onto(alloc: Global, out: &mut String, case: &Case) -> Result<(), AllocError>
+    ensures { OnOk result (string_bytes out.new ≡ string_bytes out.old ++ lines case.now) }
+{
+    write_case(alloc, out, "", &case.root())?;
+    Ok(())
+}
+
 /// The lines of a case: one a node, indented by two spaces for each depth, with the node's
 /// products and then its children below it.
 pub fn render(alloc: Global, case: &Case) -> Result<String, AllocError>
     ensures { IfOk result (λ text. string_bytes text ≡ lines case.now) }
 {
     let mut out = String::new(alloc);
-    write_case(alloc, &mut out, "", &case.root())?;
+    render_onto(alloc, &mut out, case)?;
     Ok(out)
 }

@@ -1,9 +1,9 @@
-use Rattle.std.proofs.Common.{rules, ◌≡◌, ap, ◌+◌, ◌≤◌, length, arith, subst}
+use Rattle.std.proofs.Common.{rules, ◌≡◌, ap, ◌+◌, length, arith, subst}
 use Rattle.std.specs.Str.{chars}
 use Rattle.std.proofs.lemmas.Str.{chars_from_encodes}
 use Rattle.predicates_text.specs.Count.{IsCountOf}
 use Rattle.predicates_text.proofs.Counted.{count_of_is}
-use Rattle.predicates_text.proofs.Counting.{count_empty_text, count_missing, count_missing_bytes, count_after, counted_on, no_items, IsRestToCount}
+use Rattle.predicates_text.proofs.Counting.{count_empty_text, counted_on, no_items}
 use Rattle.predicates_text.proofs.count.count.Goals as goal
 
 pub returns-then-is_empty : goal.returns-then-is_empty
@@ -20,10 +20,8 @@ returns-then-is_empty c =
 
 pub loop-after-preserved : goal.loop-after-preserved
 loop-after-preserved c =
-    let some : 1 ≤ length c.args.pattern.now = grind arith in
-    let next : IsRestToCount c.args.pattern.now c.loop-after.rest.now c.in-Some.after.now =
-    count_after c.args.pattern.now c.loop-after.rest.now _ c.in-Some.after.now c.utf8.pattern c.loop-after.invariant.0 some c.in-Some.ensures.cases in (
-      next.text,
+    let next = c.in-Some.ensures in (
+      search rules,
       omega (arith, next.shorter, c.loop-after.invariant.1),
       counted_on c.args.pattern.now c.args.text.now c.loop-after.rest.now c.in-Some.after.now c.loop-after.count c.loop-after.invariant.2 next,
     )
@@ -31,12 +29,12 @@ loop-after-preserved c =
 pub returns : goal.returns
 returns c =
     let same : c.loop-after.count + 0 ≡ c.loop-after.count = omega arith in
-    let none = c.in_default.ensures.cases in
+    let none = c.in_default.ensures in
     let counts = subst (λ m. IsCountOf (chars c.args.pattern.now) (chars c.args.text.now) m) same
-    (c.loop-after.invariant.2.among_characters 0 (count_missing c.args.pattern.now c.loop-after.rest.now c.utf8.pattern c.loop-after.invariant.0 none)) in
+    (c.loop-after.invariant.2.among_characters 0 none.among_characters) in
     record {
       greatest = counts;
-      bytes = λ _. subst (λ m. IsCountOf c.args.pattern.now c.args.text.now m) same (c.loop-after.invariant.2.among_bytes 0 (count_missing_bytes c.args.pattern.now c.loop-after.rest.now none));
+      bytes = λ _. subst (λ m. IsCountOf c.args.pattern.now c.args.text.now m) same (c.loop-after.invariant.2.among_bytes 0 none.among_bytes);
       empty = λ e. absurd (grind (arith, ap length e));
       value = count_of_is (chars c.args.pattern.now) (chars c.args.text.now) c.loop-after.count counts;
     }

@@ -9,10 +9,10 @@ pub add_one-requires : goal.add_one-requires
 add_one-requires g c = can_count c.loop-middle.invariant (omega (arith, c.in-Some.ensures.cases.1)) (omega (arith, ap length c.as_slice-rest.ensures.value, c.as_slice-rest.type_inv.0))
 
 pub loop-middle-preserved-in-Less : goal.loop-middle-preserved-in-Less
-loop-middle-preserved-in-Less g c = left_after g.met.T.Ord.matches_eq c.loop-middle.invariant c.split_at.ensures.front c.split_at.ensures.back c.in-Some.ensures.cases.0 c.cmp.ensures c.add_one.ensures c.in-Less.is
+loop-middle-preserved-in-Less g c = left_after g.met.T.Ord.matches_eq c.loop-middle.invariant (omega arith) c.split_at.ensures.front c.split_at.ensures.back c.in-Some.ensures.cases.0 c.cmp.ensures c.add_one.ensures c.in-Less.is
 
 pub returns-in-Equal-clause-bound : goal.returns-in-Equal-clause-bound
 returns-in-Equal-clause-bound g c = omega (arith, within_digits c.loop-middle.invariant (omega (arith, c.in-Some.ensures.cases.1)), c.add_one.ensures)
 
 pub loop-middle-preserved : goal.loop-middle-preserved
-loop-middle-preserved g c = left_before g.met.T.Ord.matches_eq c.loop-middle.invariant c.split_at.ensures.front c.split_at.ensures.back c.in-Some.ensures.cases.0 c.cmp.ensures c.add_one.ensures c.in-Greater.is
+loop-middle-preserved g c = left_before g.met.T.Ord.matches_eq c.loop-middle.invariant (omega arith) c.split_at.ensures.front c.split_at.ensures.back c.in-Some.ensures.cases.0 c.cmp.ensures c.add_one.ensures c.in-Greater.is

@@ -1,0 +1,40 @@
+//! The lines that are printed.
+
+use crate::clock::Pair;
+use std::cell::RefCell;
+
+thread_local! {
+    static MISSES: RefCell<Vec<String>> = const { RefCell::new(Vec::new()) };
+}
+
+/// A time in words.
+pub fn time(ns: f64) -> String {
+    match ns {
+        t if t < 100.0 => format!("{t:.2} ns"),
+        t if t < 100_000.0 => format!("{t:.0} ns"),
+        t if t < 100_000_000.0 => format!("{:.0} us", t / 1e3),
+        t => format!("{:.0} ms", t / 1e6),
+    }
+}
+
+/// Both times and their ratio, which is marked where it is above the target.
+pub fn cell(what: &str, pair: Pair, target: f64) -> String {
+    let above = pair.ratio > target;
+    if above {
+        let line = format!("{what}: {:.2}, where at most {target:.2} is wanted", pair.ratio);
+        MISSES.with(|misses| misses.borrow_mut().push(line));
+    }
+    let mark = if above { " !" } else { "" };
+    format!("{} / {} = {:.2}{mark}", time(pair.port), time(pair.original), pair.ratio)
+}
+
+/// Prints what was above its target.
+pub fn print_misses() {
+    MISSES.with(|misses| {
+        let misses = misses.borrow();
+        println!("\nAbove the target (marked by !): {}", misses.len());
+        for miss in misses.iter() {
+            println!("- {miss}");
+        }
+    });
+}

@@ -1,0 +1,9 @@
+//! The library's predicates, asked again and again, so that a program in another language can time them.
+#![tactic(auto)]
+
+mod asked;
+mod comparisons;
+mod members;
+mod texts;
+mod tree;
+mod trees;

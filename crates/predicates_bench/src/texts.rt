@@ -1,0 +1,122 @@
+//! Predicates of one text.
+use crate::asked::ask;
+use predicates::boolean::PredicateBooleanExt;
+use predicates_core::Predicate;
+use predicates_text::{PredicateStrExt, contains, is_empty, is_match, starts_with};
+use std::alloc::{AllocError, Global};
+use std::slice;
+
+// The text that the bytes are; other bytes are refused as memory is.
+fn text(alloc: Global, bytes: &[u8]) -> Result<String, AllocError> {
+    match str::from_utf8(bytes) {
+        Ok(text) => String::from_str(alloc, text),
+        Err(_) => Err(AllocError),
+    }
+}
+
+// The sum of the answers about the text over so many rounds, and zero where memory is refused.
+fn ask_of_text<P: Predicate<String>>(
+    alloc: Global,
+    predicate: &P,
+    bytes: &[u8],
+    question: u8,
+    rounds: usize,
+) -> usize
+    requires { P.lawful predicate.now }
+{
+    match text(alloc, bytes) {
+        Ok(item) => ask(alloc, predicate, slice::from_ref(&item), question, rounds),
+        Err(_) => 0,
+    }
+}
+
+/// Asks whether the text has the pattern in it.
+#[unsafe(no_mangle)]
+pub extern "C" fn bench_contains(
+    alloc: Global,
+    pattern: &[u8],
+    bytes: &[u8],
+    question: u8,
+    rounds: usize,
+) -> usize {
+    match text(alloc, pattern) {
+        Ok(pattern) => ask_of_text(alloc, &contains(pattern), bytes, question, rounds),
+        Err(_) => 0,
+    }
+}
+
+/// Asks whether the text has the pattern in it so often.
+#[unsafe(no_mangle)]
+pub extern "C" fn bench_count(
+    alloc: Global,
+    pattern: &[u8],
+    count: usize,
+    bytes: &[u8],
+    question: u8,
+    rounds: usize,
+) -> usize {
+    match text(alloc, pattern) {
+        Ok(pattern) => {
+            let predicate = contains(pattern).count(count);
+            ask_of_text(alloc, &predicate, bytes, question, rounds)
+        }
+        Err(_) => 0,
+    }
+}
+
+/// Asks whether the text begins with the pattern.
+#[unsafe(no_mangle)]
+pub extern "C" fn bench_starts_with(
+    alloc: Global,
+    pattern: &[u8],
+    bytes: &[u8],
+    question: u8,
+    rounds: usize,
+) -> usize {
+    match text(alloc, pattern) {
+        Ok(pattern) => ask_of_text(alloc, &starts_with(pattern), bytes, question, rounds),
+        Err(_) => 0,
+    }
+}
+
+/// Asks whether the regular expression has so many matches in the text.
+#[unsafe(no_mangle)]
+pub extern "C" fn bench_matches(
+    alloc: Global,
+    pattern: &[u8],
+    count: usize,
+    bytes: &[u8],
+    question: u8,
+    rounds: usize,
+) -> usize {
+    let Ok(pattern) = text(alloc, pattern) else {
+        return 0;
+    };
+    match is_match(alloc, pattern) {
+        Ok(predicate) => ask_of_text(alloc, &predicate.count(count), bytes, question, rounds),
+        Err(_) => 0,
+    }
+}
+
+/// Asks whether nothing is left of the text without the white space at its ends.
+#[unsafe(no_mangle)]
+pub extern "C" fn bench_trimmed(alloc: Global, bytes: &[u8], question: u8, rounds: usize) -> usize {
+    ask_of_text(alloc, &is_empty().trim(), bytes, question, rounds)
+}
+
+/// Asks whether the bytes are a text that is not empty.
+#[unsafe(no_mangle)]
+pub extern "C" fn bench_from_utf8(
+    alloc: Global,
+    bytes: &[u8],
+    question: u8,
+    rounds: usize,
+) -> usize {
+    match Vec::from_slice(alloc, bytes) {
+        Ok(item) => {
+            let predicate = is_empty().not().from_utf8();
+            ask(alloc, &predicate, slice::from_ref(&item), question, rounds)
+        }
+        Err(_) => 0,
+    }
+}

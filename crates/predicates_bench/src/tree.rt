@@ -1,0 +1,145 @@
+//! A check of numbers whose shape is chosen at run time, as a caller writes one who has no boxes.
+ghost use Rattle.std.specs.Prelude.{[]};
+ghost use Rattle.predicates_core.specs.Tree.{empty};
+ghost use Rattle.predicates_bench.specs.Trees.{tree_text, HasFormula};
+ghost use Rattle.predicates_bench.specs.TreeLaws.{tree_text_fits, one_tree};
+
+use predicates::ord::OrdPredicate;
+use predicates_core::Predicate;
+use predicates_core::node::{over_both, over_one};
+use predicates_core::reflection::{Case, Child, Parameter, PredicateReflection};
+use std::alloc::{AllocError, Global};
+use std::fmt;
+
+// A comparison, or a combination of checks. It tells of no parameters and no parts.
+#[derive(Drop)]
+pub(crate) enum Tree {
+    Leaf(OrdPredicate<i64>),
+    Not(Box<Tree>),
+    And(Box<Tree>, Box<Tree>),
+    Or(Box<Tree>, Box<Tree>),
+}
+
+impl fmt::Display for Tree {
+    ghost output = { λ t. tree_text t };
+
+    fn fmt<W: fmt::Write>(&self, f: &mut fmt::Formatter<W>) -> fmt::Result {
+        match self {
+            Tree::Leaf(leaf) => leaf.fmt(f),
+            Tree::Not(inner) => {
+                write!(f, "(! ")?;
+                (**inner).fmt(f)?;
+                write!(f, ")")
+            }
+            Tree::And(left, right) => {
+                write!(f, "(")?;
+                (**left).fmt(f)?;
+                write!(f, " && ")?;
+                (**right).fmt(f)?;
+                write!(f, ")")
+            }
+            Tree::Or(left, right) => {
+                write!(f, "(")?;
+                (**left).fmt(f)?;
+                write!(f, " || ")?;
+                (**right).fmt(f)?;
+                write!(f, ")")
+            }
+        }
+    }
+}
+
+impl PredicateReflection for Tree {
+    ghost parameters_of = { λ _. [] };
+
+    ghost children_of = { λ _. empty };
+
+    fn parameters(&self, alloc: Global) -> Result<Vec<Parameter>, AllocError> {
+        Ok(Vec::new(alloc))
+    }
+
+    fn children(&self, alloc: Global) -> Result<Vec<Child>, AllocError> {
+        Ok(Vec::new(alloc))
+    }
+}
+
+impl Predicate<i64> for Tree {
+    ghost formula = { λ t n. HasFormula t n };
+
+    ghost steady = { λ t n. ⊥ };
+
+    ghost text_fits = { λ t n f. tree_text_fits t n f };
+
+    ghost one_formula = { λ t n f g lawful. one_tree t n f g };
+
+    #[tactic(auto, using(predicates_core::proofs::Combined::combined))]
+    fn eval(&self, alloc: Global, item: &i64) -> Result<bool, AllocError> {
+        match self {
+            Tree::Leaf(leaf) => leaf.eval(alloc, item),
+            Tree::Not(inner) => Ok(!inner.eval(alloc, item)?),
+            Tree::And(left, right) => Ok(left.eval(alloc, item)? && right.eval(alloc, item)?),
+            Tree::Or(left, right) => Ok(left.eval(alloc, item)? || right.eval(alloc, item)?),
+        }
+    }
+
+    #[tactic(auto, using(predicates_core::proofs::Combined::combined))]
+    fn find_case(
+        &self,
+        alloc: Global,
+        expected: bool,
+        item: &i64,
+    ) -> Result<Option<Case>, AllocError> {
+        match self {
+            Tree::Leaf(leaf) => leaf.find_case(alloc, expected, item),
+            Tree::Not(inner) => {
+                let Some(part) = inner.find_case(alloc, !expected, item)? else {
+                    return Ok(None);
+                };
+                let text = self.to_string(alloc)?;
+                Ok(Some(over_one(alloc, text, expected, "predicate", part)?))
+            }
+            Tree::And(left, right) => match left.find_case(alloc, expected, item)? {
+                None if expected => Ok(None),
+                None => {
+                    let Some(right) = right.find_case(alloc, expected, item)? else {
+                        return Ok(None);
+                    };
+                    let text = self.to_string(alloc)?;
+                    Ok(Some(over_one(alloc, text, expected, "right", right)?))
+                }
+                Some(left) if !expected => {
+                    let text = self.to_string(alloc)?;
+                    Ok(Some(over_one(alloc, text, expected, "left", left)?))
+                }
+                Some(left) => {
+                    let Some(right) = right.find_case(alloc, expected, item)? else {
+                        return Ok(None);
+                    };
+                    let text = self.to_string(alloc)?;
+                    Ok(Some(over_both(alloc, text, expected, left, right)?))
+                }
+            },
+            Tree::Or(left, right) => match left.find_case(alloc, expected, item)? {
+                None if !expected => Ok(None),
+                None => {
+                    let Some(right) = right.find_case(alloc, expected, item)? else {
+                        return Ok(None);
+                    };
+                    let text = self.to_string(alloc)?;
+                    Ok(Some(over_one(alloc, text, expected, "right", right)?))
+                }
+                Some(left) if expected => {
+                    let text = self.to_string(alloc)?;
+                    Ok(Some(over_one(alloc, text, expected, "left", left)?))
+                }
+                Some(left) => {
+                    let Some(right) = right.find_case(alloc, expected, item)? else {
+                        return Ok(None);
+                    };
+                    let text = self.to_string(alloc)?;
+                    Ok(Some(over_both(alloc, text, expected, left, right)?))
+                }
+            },
+        }
+    }
+}

@@ -1,0 +1,202 @@
+//! Each public call once, with both verdicts, the case and what it prints.
+use crate::FileType::{Dir, File, Other, Symlink};
+use crate::PathFault::{NotFound, NotRegular, PermissionDenied};
+use crate::{
+    FileType, FileTypePredicate, PathFault, PredicateFileContentExt, Snapshot, eq_file, exists,
+    is_dir, is_file, is_symlink, missing,
+};
+use predicates_core::Predicate;
+use predicates_core::reflection::{PredicateReflection, render};
+use std::alloc::{AllocError, Global};
+use std::process::Abort;
+use std::test::Fail;
+
+// A snapshot at the path `p`.
+fn snapshot(
+    alloc: Global,
+    plain: Result<FileType, PathFault>,
+    followed: Result<FileType, PathFault>,
+    content: Result<&[u8], PathFault>,
+) -> Result<Snapshot, AllocError> {
+    let path = String::from_str(alloc, "p")?;
+    let content = match content {
+        Ok(bytes) => Ok(Vec::from_slice(alloc, bytes)?),
+        Err(fault) => Err(fault),
+    };
+    Ok(Snapshot::from_parts(path, plain, followed, content))
+}
+
+fn file(alloc: Global, bytes: &[u8]) -> Result<Snapshot, AllocError> {
+    snapshot(alloc, Ok(File), Ok(File), Ok(bytes))
+}
+
+// The predicate answers the verdict, and has a case of it alone.
+fn check<P: Predicate<Item>, Item>(
+    rt: &(impl Abort + AllocGlobal),
+    predicate: &P,
+    item: &Item,
+    verdict: bool,
+    lines: &str,
+) -> Result<(), Fail>
+    requires { P.lawful predicate.now }
+{
+    let alloc = rt.alloc();
+    assert_eq!(rt; predicate.eval(alloc, item)?, verdict, "{lines}");
+    assert!(rt; predicate.find_case(alloc, !verdict, item)?.is_none());
+    match predicate.find_case(alloc, verdict, item)? {
+        Some(case) => assert_eq!(rt; render(alloc, &case)?.as_str(), lines),
+        None => panic!(rt; "no case: {lines}"),
+    }
+    Ok(())
+}
+
+// The one parameter is this.
+fn has_parameter<P: PredicateReflection>(
+    rt: &(impl Abort + AllocGlobal),
+    predicate: &P,
+    name: &str,
+    value: &str,
+) -> Result<(), Fail> {
+    let parameters = predicate.parameters(rt.alloc())?;
+    assert_eq!(rt; parameters.len(), 1);
+    assert_eq!(rt; parameters[0].name(), name);
+    assert_eq!(rt; parameters[0].value(), value);
+    assert_eq!(rt; predicate.children(rt.alloc())?.len(), 0);
+    Ok(())
+}
+
+#[test]
+fn parts(rt: HostRuntime) -> Result<(), Fail> {
+    let link = snapshot(rt.alloc(), Ok(Symlink), Ok(File), Err(PermissionDenied))?;
+    assert_eq!(rt; link.path(), "p");
+    assert_eq!(rt; link.plain(), Ok(Symlink));
+    assert_eq!(rt; link.followed(), Ok(File));
+    assert_eq!(rt; link.content(), Err(PermissionDenied));
+    assert_eq!(rt; file(rt.alloc(), b"a")?.content(), Ok(b"a".as_slice()));
+    Ok(())
+}
+
+#[test]
+fn existence(rt: HostRuntime) -> Result<(), Fail> {
+    let there = file(rt.alloc(), b"")?;
+    let broken = snapshot(rt.alloc(), Ok(Symlink), Err(NotFound), Err(NotFound))?;
+    check(
+        &rt,
+        &exists(),
+        &there,
+        true,
+        "exists(var) = true\n  - var: p\n",
+    )?;
+    check(
+        &rt,
+        &exists(),
+        &broken,
+        false,
+        "exists(var) = false\n  - var: p\n",
+    )?;
+    check(
+        &rt,
+        &missing(),
+        &there,
+        false,
+        "missing(var) = false\n  - var: p\n",
+    )?;
+    check(
+        &rt,
+        &missing(),
+        &broken,
+        true,
+        "missing(var) = true\n  - var: p\n",
+    )
+}
+
+#[test]
+fn kinds(rt: HostRuntime) -> Result<(), Fail> {
+    let there = file(rt.alloc(), b"")?;
+    let device = snapshot(rt.alloc(), Ok(Other), Ok(Other), Err(NotRegular))?;
+    let broken = snapshot(rt.alloc(), Ok(Symlink), Err(NotFound), Err(NotFound))?;
+    let linked = snapshot(rt.alloc(), Ok(Symlink), Ok(Dir), Err(NotRegular))?;
+    let lines = "var is file = true\n  - actual filetype: file\n";
+    check(&rt, &is_file(), &there, true, lines)?;
+    let lines = "var is dir = false\n  - actual filetype: file\n";
+    check(&rt, &is_dir(), &there, false, lines)?;
+    let lines = "var is dir = true\n  - actual filetype: dir\n";
+    check(&rt, &is_dir().follow_links(true), &linked, true, lines)?;
+    let lines = "var is symlink = false\n  - actual filetype: other\n";
+    check(&rt, &is_symlink(), &device, false, lines)?;
+    let lines = "var is symlink = true\n  - actual filetype: symlink\n";
+    check(&rt, &is_symlink(), &broken, true, lines)?;
+    let lines = "var is symlink = false\n  - error: not found\n";
+    check(&rt, &is_symlink().follow_links(true), &broken, false, lines)?;
+    has_parameter(&rt, &is_file(), "follow", "false")
+}
+
+#[test]
+fn kind_of_a_path(rt: HostRuntime) -> Result<(), Fail> {
+    let device = snapshot(rt.alloc(), Ok(Other), Ok(Other), Err(NotRegular))?;
+    let broken = snapshot(rt.alloc(), Ok(Symlink), Err(NotFound), Err(NotFound))?;
+    let other = FileTypePredicate::from_path(&device)?;
+    let lines = "var is other = true\n  - actual filetype: other\n";
+    check(&rt, &other, &device, true, lines)?;
+    has_parameter(&rt, &other, "follow", "true")?;
+    assert_eq!(rt; FileTypePredicate::from_path(&broken), Err(NotFound));
+    Ok(())
+}
+
+#[test]
+fn equality(rt: HostRuntime) -> Result<(), Fail> {
+    let alloc = rt.alloc();
+    let bytes = Vec::from_slice(alloc, b"a")?;
+    let none = Vec::new(alloc);
+    let folder = snapshot(alloc, Ok(Dir), Ok(Dir), Err(NotRegular))?;
+    let same = eq_file(file(alloc, b"a")?)?;
+    check(&rt, &same, &bytes, true, "var is p = true\n")?;
+    check(&rt, &same, &none, false, "var is p = false\n")?;
+    check(&rt, &same, &file(alloc, b"a")?, true, "var is p = true\n")?;
+    check(&rt, &same, &file(alloc, b"b")?, false, "var is p = false\n")?;
+    check(&rt, &same, &folder, false, "var is p = false\n")?;
+    has_parameter(&rt, &same, "content", "[97]")?;
+    assert_eq!(rt; eq_file(folder), Err(NotRegular));
+    Ok(())
+}
+
+#[test]
+fn text_equality(rt: HostRuntime) -> Result<(), Fail> {
+    let alloc = rt.alloc();
+    let other = eq_file(file(alloc, b"\xff")?)?;
+    assert!(rt; other.utf8().is_none());
+    let same = eq_file(file(alloc, b"a")?)?.utf8().ok_or("no text")?;
+    let a = String::from_str(alloc, "a")?;
+    let b = String::from_str(alloc, "b")?;
+    check(&rt, &same, &a, true, "var is p = true\n")?;
+    check(&rt, &same, &b, false, "var is p = false\n")?;
+    check(&rt, &same, &file(alloc, b"a")?, true, "var is p = true\n")?;
+    check(
+        &rt,
+        &same,
+        &file(alloc, b"\xff")?,
+        false,
+        "var is p = false\n",
+    )?;
+    has_parameter(&rt, &same, "content", "a")
+}
+
+#[test]
+fn content(rt: HostRuntime) -> Result<(), Fail> {
+    let alloc = rt.alloc();
+    let refused = snapshot(alloc, Ok(File), Ok(File), Err(PermissionDenied))?;
+    let same = eq_file(file(alloc, b"a")?)?.from_file_path();
+    let lines = "var is p = true\n  - var: p\n";
+    check(&rt, &same, &file(alloc, b"a")?, true, lines)?;
+    let lines = "var is p = false\n  - var: p\n";
+    check(&rt, &same, &file(alloc, b"b")?, false, lines)?;
+    let lines = "var is p = false\n  - var: p\n  - error: permission denied\n";
+    check(&rt, &same, &refused, false, lines)?;
+    assert_eq!(rt; same.parameters(alloc)?.len(), 0);
+    let children = same.children(alloc)?;
+    assert_eq!(rt; children.len(), 1);
+    assert_eq!(rt; children[0].name(), "predicate");
+    assert_eq!(rt; children[0].text(), "var is p");
+    assert_eq!(rt; children[0].parameters().len(), 1);
+    Ok(())
+}

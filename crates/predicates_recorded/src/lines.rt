@@ -1,0 +1,52 @@
+//! Tables of lines and of whole runs over them.
+use crate::cells::{bytes, cells, text};
+use crate::outcome::{Difference, compare};
+use crate::table::Table;
+use anyhow::{Context, Result, anyhow, bail};
+use predicates_explain::{number, run_between};
+use std::alloc::Global;
+
+/// Rows of a line and the number that is read from it, or `none`.
+pub struct NumberLines;
+
+impl Table for NumberLines {
+    fn replay(&self, alloc: Global, row: &str, wrong: &mut Vec<Difference>) -> Result<()> {
+        let cells = cells(alloc, row)?;
+        let [line, wanted] = cells.as_slice() else {
+            bail!("not two cells");
+        };
+        let line = text(alloc, line)?;
+        let came = match number(line.as_bytes()) {
+            Some(n) => n.to_string(alloc)?,
+            None => String::from_str(alloc, "none")?,
+        };
+        compare(alloc, wrong, "number", wanted, came.as_str())
+    }
+}
+
+/// Rows of the words `between LO HI`, the input, the status and what is written.
+pub struct BetweenRuns;
+
+impl Table for BetweenRuns {
+    fn replay(&self, alloc: Global, row: &str, wrong: &mut Vec<Difference>) -> Result<()> {
+        let cells = cells(alloc, row)?;
+        let [words, input, status, output] = cells.as_slice() else {
+            bail!("not four cells");
+        };
+        let bounds = words.strip_prefix("between ").context("another command")?;
+        let (lo, hi) = bounds.split_once(' ').context("one bound alone")?;
+        let lo = number(lo.as_bytes()).context("no number")?;
+        let hi = number(hi.as_bytes()).context("no number")?;
+        let input = bytes(alloc, input)?;
+        let mut written = Vec::new(alloc);
+        let mut input = input.as_slice();
+        let all = run_between(alloc, lo, hi, &mut input, &mut written).map_err(|fault| anyhow!(
+            "{fault}"
+        ))?;
+        compare(alloc, wrong, "status", status, if all { "0" } else { "1" })?;
+        let written = String::from_utf8(written)
+            .ok()
+            .context("written bytes that are no text")?;
+        compare(alloc, wrong, "output", output, written.as_str())
+    }
+}

@@ -1,0 +1,41 @@
+//! One table of recorded answers.
+use crate::outcome::Difference;
+use anyhow::{Context, Result};
+use std::alloc::Global;
+use std::fs;
+
+/// A table's kind: what its rows ask, and what is compared.
+pub trait Table {
+    /// Adds each cell of the row that differs from what comes.
+    fn replay(&self, alloc: Global, row: &str, wrong: &mut Vec<Difference>) -> Result<()>;
+}
+
+/// Replays each row of a table and prints how many there are and how many are wrong; before that,
+/// for each cell that is wrong, its line, what was wanted and what came.
+pub fn replay<T: Table>(rt: &HostRuntime, name: &str, table: &T) -> Result<()> {
+    let alloc = rt.alloc();
+    let path = format!(in alloc; "{name}.tsv")?;
+    let text = fs::read_to_string(rt, path.as_str()).context(format_args!("reading {path}"))?;
+    let text = text.as_str();
+    let mut rows = 0_u64;
+    let mut wrong_rows = 0_u64;
+    for row in text.strip_suffix('\n').unwrap_or(text).split('\n').skip(1) {
+        rows = rows.saturating_add(1);
+        let line = rows.saturating_add(1);
+        let mut wrong: Vec<Difference> = Vec::new(alloc);
+        table
+            .replay(alloc, row, &mut wrong)
+            .context(format_args!("{path}, line {line}"))?;
+        if !wrong.is_empty() {
+            wrong_rows = wrong_rows.saturating_add(1);
+        }
+        for difference in &wrong {
+            let column = difference.column;
+            let wanted = difference.wanted.as_str();
+            let came = difference.came.as_str();
+            println!(rt; "{path}, line {line}, {column}: wanted {wanted:?}, came {came:?}")?;
+        }
+    }
+    println!(rt; "{name}: {rows} rows, {wrong_rows} wrong")?;
+    Ok(())
+}

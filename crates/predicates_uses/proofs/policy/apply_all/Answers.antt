@@ -1,0 +1,14 @@
+use Rattle.std.proofs.Common.{◌∷◌, [], ◌≡◌, rules, arith, sym, subst, take, string_bytes}
+use Rattle.std.proofs.lemmas.List.{take_more}
+use Rattle.predicates_explain.specs.Tokens.{token_of}
+use Rattle.predicates_uses.specs.Applied.{AreApplied}
+use Rattle.predicates_uses.proofs.Applying.{one_more}
+use Rattle.predicates_uses.proofs.policy.apply_all.Goals as goal
+
+pub loop-token-preserved : goal.loop-token-preserved
+loop-token-preserved c =
+    let tokens = c.args.tokens.now in
+    let token = c.token-item.result in
+    let is : string_bytes token ≡ token_of c.in-Some.word = search rules in
+    subst (λ ts. AreApplied ts c.args.stack.now.items c.apply_word.new.stack.items) (sym (take_more tokens c.loop-token.token-index token (omega arith)))
+    (search (rules, one_more (take c.loop-token.token-index tokens) token c.args.stack.now.items c.loop-token.stack.items c.apply_word.new.stack.items c.in-Some.word c.loop-token.invariant is))

@@ -1,0 +1,6 @@
+pub mod Answer
+pub mod Either
+pub mod Unmet
+pub mod Sifted
+pub mod Applied
+pub mod Json

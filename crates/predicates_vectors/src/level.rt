@@ -1,0 +1,145 @@
+//! A predicate of the level below, or a combinator of the library over such predicates.
+ghost use Rattle.predicates.specs.And as And;
+ghost use Rattle.predicates.specs.Name as Name;
+ghost use Rattle.predicates.specs.Or as Or;
+ghost use Rattle.predicates.specs.Not.{inner_of};
+ghost use Rattle.predicates_core.proofs.Combined.{and_text_fits, or_text_fits, not_text_fits, named_text_fits, one_and, one_or, one_not, one_named};
+ghost use Rattle.predicates_vectors.specs.OneOf.{text_fits_by_type, one_by_type};
+
+use crate::one_of::OneOf;
+use predicates::boolean::{AndPredicate, NotPredicate, OrPredicate, PredicateBooleanExt};
+use predicates::name::{NamePredicate, PredicateNameExt};
+use predicates_core::Predicate;
+use predicates_core::reflection::{Case, Child, Parameter, PredicateReflection};
+use predicates_core::static_text::StaticText;
+use std::alloc::{AllocError, Global};
+use std::fmt;
+
+type Named<P, Item> = NamePredicate<P, Item, StaticText>;
+
+type One<P, Item> = OneOf<NotPredicate<P, Item>, Named<P, Item>>;
+
+type Both<P, Item> = OneOf<AndPredicate<P, P, Item>, OrPredicate<P, P, Item>>;
+
+type Combined<P, Item> = OneOf<One<P, Item>, Both<P, Item>>;
+
+/// A predicate of the level below, or a combinator of the library over such predicates.
+#[derive(Drop)]
+pub struct Level<P, Item> {
+    node: OneOf<P, Combined<P, Item>>,
+}
+
+impl<P, Item> Level<P, Item> {
+    pub fn below(predicate: P) -> Level<P, Item> {
+        Level {
+            node: OneOf::First(predicate),
+        }
+    }
+}
+
+impl<P: Predicate<Item> + Drop, Item> Level<P, Item> {
+    pub fn not(alloc: Global, part: P) -> Result<Level<P, Item>, AllocError> {
+        Level::of_one(alloc, OneOf::First(part.not()))
+    }
+
+    pub fn named(alloc: Global, part: P, name: StaticText) -> Result<Level<P, Item>, AllocError> {
+        let named = Box::new(alloc, part.name(name))?;
+        Level::of_one(alloc, OneOf::Second(named))
+    }
+
+    pub fn and(alloc: Global, left: P, right: P) -> Result<Level<P, Item>, AllocError> {
+        Level::of_both(alloc, OneOf::First(left.and(right)))
+    }
+
+    pub fn or(alloc: Global, left: P, right: P) -> Result<Level<P, Item>, AllocError> {
+        let both = Box::new(alloc, left.or(right))?;
+        Level::of_both(alloc, OneOf::Second(both))
+    }
+
+    fn of_one(alloc: Global, one: One<P, Item>) -> Result<Level<P, Item>, AllocError> {
+        Level::combined(alloc, OneOf::First(one))
+    }
+
+    fn of_both(alloc: Global, both: Both<P, Item>) -> Result<Level<P, Item>, AllocError> {
+        Level::combined(alloc, OneOf::Second(Box::new(alloc, both)?))
+    }
+
+    fn combined(alloc: Global, node: Combined<P, Item>) -> Result<Level<P, Item>, AllocError> {
+        Ok(Level {
+            node: OneOf::Second(Box::new(alloc, node)?),
+        })
+    }
+}
+
+impl<P: fmt::Display, Item> fmt::Display for Level<P, Item> {
+    ghost output = { λ p. ⟦<OneOf<P, Combined<P, Item>> as fmt::Display>⟧.output p.node };
+
+    fn fmt<W: fmt::Write>(&self, f: &mut fmt::Formatter<W>) -> fmt::Result {
+        self.node.fmt(f)
+    }
+}
+
+impl<P: PredicateReflection, Item> PredicateReflection for Level<P, Item> {
+    ghost parameters_of = { λ p. ⟦<OneOf<P, Combined<P, Item>> as PredicateReflection>⟧.parameters_of p.node };
+
+    ghost children_of = { λ p. ⟦<OneOf<P, Combined<P, Item>> as PredicateReflection>⟧.children_of p.node };
+
+    fn parameters(&self, alloc: Global) -> Result<Vec<Parameter>, AllocError> {
+        self.node.parameters(alloc)
+    }
+
+    fn children(&self, alloc: Global) -> Result<Vec<Child>, AllocError> {
+        self.node.children(alloc)
+    }
+}
+
+impl<P: Predicate<Item>, Item> Predicate<Item> for Level<P, Item> {
+    ghost lawful = { λ p. ⟦<OneOf<P, Combined<P, Item>> as Predicate<Item>>⟧.lawful p.node };
+
+    ghost formula = { λ p. ⟦<OneOf<P, Combined<P, Item>> as Predicate<Item>>⟧.formula p.node };
+
+    ghost steady = { λ p. ⟦<OneOf<P, Combined<P, Item>> as Predicate<Item>>⟧.steady p.node };
+
+    ghost text_fits = { λ p v f. text_fits_by_type
+        (λ q. P.formula q v) (λ q. ⟦<Combined<P, Item> as Predicate<Item>>⟧.formula q v) P.output ⟦<Combined<P, Item> as fmt::Display>⟧.output
+        (λ q. P.text_fits q v)
+        (text_fits_by_type
+        (λ q. ⟦<One<P, Item> as Predicate<Item>>⟧.formula q v) (λ q. ⟦<Both<P, Item> as Predicate<Item>>⟧.formula q v) ⟦<One<P, Item> as fmt::Display>⟧.output ⟦<Both<P, Item> as fmt::Display>⟧.output
+        (text_fits_by_type
+        (λ q. ⟦<NotPredicate<P, Item> as Predicate<Item>>⟧.formula q v) (λ q. ⟦<Named<P, Item> as Predicate<Item>>⟧.formula q v) ⟦<NotPredicate<P, Item> as fmt::Display>⟧.output ⟦<Named<P, Item> as fmt::Display>⟧.output
+        (λ q g h. not_text_fits h)
+        (λ q g h. named_text_fits h))
+        (text_fits_by_type
+        (λ q. ⟦<AndPredicate<P, P, Item> as Predicate<Item>>⟧.formula q v) (λ q. ⟦<OrPredicate<P, P, Item> as Predicate<Item>>⟧.formula q v) ⟦<AndPredicate<P, P, Item> as fmt::Display>⟧.output ⟦<OrPredicate<P, P, Item> as fmt::Display>⟧.output
+        (λ q g h. and_text_fits h)
+        (λ q g h. or_text_fits h)))
+        p.node f };
+
+    ghost one_formula = { λ p v f g. one_by_type
+        (λ q. P.one_formula q v)
+        (one_by_type
+        (one_by_type
+        (λ q h k lawful. one_not (λ x y. P.one_formula (inner_of q) v x y lawful))
+        (λ q h k lawful. one_named (λ x y. P.one_formula (Name.inner_of q) v x y lawful)))
+        (one_by_type
+        (λ q h k lawful. one_and
+        (λ x y. P.one_formula (And.left_of q) v x y lawful.0)
+        (λ x y. P.one_formula (And.right_of q) v x y lawful.1))
+        (λ q h k lawful. one_or
+        (λ x y. P.one_formula (Or.left_of q) v x y lawful.0)
+        (λ x y. P.one_formula (Or.right_of q) v x y lawful.1))))
+        p.node f g };
+
+    fn eval(&self, alloc: Global, item: &Item) -> Result<bool, AllocError> {
+        self.node.eval(alloc, item)
+    }
+
+    fn find_case(
+        &self,
+        alloc: Global,
+        expected: bool,
+        item: &Item,
+    ) -> Result<Option<Case>, AllocError> {
+        self.node.find_case(alloc, expected, item)
+    }
+}

@@ -1,0 +1,121 @@
+//! Predicates over numbers as postfix words: operands first, the left one of two first.
+use crate::escapes::unescaped;
+use predicates_core::static_text::StaticText;
+use std::alloc::{AllocError, Global};
+
+/// One word for a predicate over numbers.
+#[derive(Drop)]
+pub enum NumberWord {
+    Always,
+    Never,
+    Equal(i64),
+    Unequal(i64),
+    Less(i64),
+    AtMost(i64),
+    AtLeast(i64),
+    Greater(i64),
+    /// The function that answers whether the item is at least the number.
+    Called(i64),
+    Listed(Vec<i64>),
+    Sorted(Vec<i64>),
+    Hashed(Vec<i64>),
+    Named(StaticText),
+    Not,
+    And,
+    Or,
+}
+
+fn bare_word(word: &str) -> Option<NumberWord> {
+    Some(match word {
+        "always" => NumberWord::Always,
+        "never" => NumberWord::Never,
+        "not" => NumberWord::Not,
+        "and" => NumberWord::And,
+        "or" => NumberWord::Or,
+        _ => return None,
+    })
+}
+
+fn compared_word(name: &str, constant: i64) -> Option<NumberWord> {
+    Some(match name {
+        "eq" => NumberWord::Equal(constant),
+        "ne" => NumberWord::Unequal(constant),
+        "lt" => NumberWord::Less(constant),
+        "le" => NumberWord::AtMost(constant),
+        "ge" => NumberWord::AtLeast(constant),
+        "gt" => NumberWord::Greater(constant),
+        "at_least" => NumberWord::Called(constant),
+        _ => return None,
+    })
+}
+
+/// The numbers of a list with commas between them, which is a point where there are none.
+pub fn read_numbers(alloc: Global, list: &str) -> Result<Option<Vec<i64>>, AllocError> {
+    let mut numbers = Vec::new(alloc);
+    if list != "." {
+        for number in list.split(',') {
+            let Ok(number) = number.parse::<i64>() else {
+                return Ok(None);
+            };
+            numbers.push(number)?;
+        }
+    }
+    Ok(Some(numbers))
+}
+
+// The names that are given. A name is there for good, so it can't be made of what was read.
+const NAMES: [&str; 12] = [
+    "",
+    "a b",
+    "any",
+    "has a",
+    "high",
+    "low",
+    "n",
+    "name",
+    "non-empty",
+    "none",
+    "small",
+    "top",
+];
+
+/// The name that is written; none where it is not given.
+pub fn read_name(alloc: Global, written: &str) -> Result<Option<StaticText>, AllocError> {
+    let Some(read) = unescaped(alloc, written)? else {
+        return Ok(None);
+    };
+    for name in NAMES {
+        if name == read.as_str() {
+            return Ok(Some(StaticText::new(name)));
+        }
+    }
+    Ok(None)
+}
+
+fn read_number_word(alloc: Global, word: &str) -> Result<Option<NumberWord>, AllocError> {
+    let Some((name, value)) = word.split_once('=') else {
+        return Ok(bare_word(word));
+    };
+    Ok(match name {
+        "name" => read_name(alloc, value)?.map(NumberWord::Named),
+        "in_iter" => read_numbers(alloc, value)?.map(NumberWord::Listed),
+        "sorted" => read_numbers(alloc, value)?.map(NumberWord::Sorted),
+        "in_hash" => read_numbers(alloc, value)?.map(NumberWord::Hashed),
+        _ => match value.parse::<i64>() {
+            Ok(constant) => compared_word(name, constant),
+            Err(_) => None,
+        },
+    })
+}
+
+/// The words of a line that spaces part; none where one of them is unknown.
+pub fn read_number_words(alloc: Global, line: &str) -> Result<Option<Vec<NumberWord>>, AllocError> {
+    let mut words = Vec::new(alloc);
+    for word in line.split(' ') {
+        let Some(word) = read_number_word(alloc, word)? else {
+            return Ok(None);
+        };
+        words.push(word)?;
+    }
+    Ok(Some(words))
+}
