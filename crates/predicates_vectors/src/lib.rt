@@ -3,6 +3,7 @@
 
 mod answers;
 mod at_least;
+mod choices;
 mod escapes;
 mod kept;
 mod level;
@@ -16,6 +17,7 @@ mod words;
 
 pub use answers::{Answers, ask};
 pub use at_least::AtLeast;
+pub use choices::greatest_choice;
 pub use escapes::unescaped;
 pub use kept::kept_leaves;
 pub use level::Level;
