@@ -141,5 +141,12 @@ pub(crate) fn ask<P: Predicate<Item>, Item>(
 ) -> usize
     requires { P.lawful predicate.now }
 {
-    answer(alloc, predicate, items, Question::of_number(question), rounds).unwrap_or(0)
+    answer(
+        alloc,
+        predicate,
+        items,
+        Question::of_number(question),
+        rounds,
+    )
+    .unwrap_or(0)
 }
