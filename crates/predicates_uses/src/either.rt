@@ -120,10 +120,10 @@ impl<P: Total<Item>, Q: Total<Item>, Item> Total<Item> for Either<P, Q> {
     ghost always_lawful = { λ p. (P.always_lawful (left_of p), Q.always_lawful (right_of p)) };
 
     ghost has_formula = { λ p v. record {
-        l = _;
-        r = _;
-        of_left = P.has_formula (left_of p) v;
-        of_right = Q.has_formula (right_of p) v;
-        is = refl;
+      l = _;
+      r = _;
+      of_left = P.has_formula (left_of p) v;
+      of_right = Q.has_formula (right_of p) v;
+      is = refl;
     } };
 }

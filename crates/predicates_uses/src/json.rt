@@ -32,16 +32,17 @@ fn child_json(alloc: Global, name: &str, case: Value) -> Result<Value, AllocErro
 {
     let mut members = Map::new(alloc);
     put(&mut members, alloc, "case", case)?;
-    put(&mut members, alloc, "name", Value::try_from_str(alloc, name)?)?;
+    put(
+        &mut members,
+        alloc,
+        "name",
+        Value::try_from_str(alloc, name)?,
+    )?;
     Ok(Value::Object(members))
 }
 
 // A node over its children.
-fn node_json(
-    alloc: Global,
-    case: &CaseView<'_>,
-    children: Vec<Value>,
-) -> Result<Value, AllocError>
+fn node_json(alloc: Global, case: &CaseView<'_>, children: Vec<Value>) -> Result<Value, AllocError>
     ensures { IfOk result (λ value.
         view value ≡ node_data case.now.root (items_view children.items)) }
 {
