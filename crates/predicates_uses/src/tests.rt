@@ -4,7 +4,7 @@ mod guide;
 mod own;
 
 use predicates::prelude::*;
-use predicates::reflection::{PredicateReflection, render};
+use predicates::reflection::{PredicateReflection, render, render_onto};
 use std::alloc::{AllocError, Global};
 use std::process::Abort;
 use std::test::Fail;
@@ -28,21 +28,23 @@ fn text(alloc: Global, text: &str) -> Result<String, AllocError> {
     String::from_str(alloc, text)
 }
 
-// The verdict on the item is this one, and has these lines; the other one has no case.
-fn is_explained<P: Predicate<Item>, Item>(
-    rt: &impl Abort,
+// Writes the lines of the verdict's case, and says so if the opposite has a case too.
+fn explain_onto<P: Predicate<Item>, Item>(
     alloc: Global,
+    out: &mut String,
     predicate: &P,
     item: &Item,
-    verdict: bool,
-    lines: &str,
-) -> Result<(), Fail>
+) -> Result<(), AllocError>
     requires { P.lawful predicate.now }
 {
-    assert_eq!(rt; predicate.eval(alloc, item)?, verdict, "{lines}");
-    assert_eq!(rt; case_of(alloc, predicate, verdict, item)?.as_str(), lines);
-    assert_eq!(rt; case_of(alloc, predicate, !verdict, item)?.as_str(), "none");
-    Ok(())
+    let verdict = predicate.eval(alloc, item)?;
+    if predicate.find_case(alloc, !verdict, item)?.is_some() {
+        out.push_str("both\n")?;
+    }
+    match predicate.find_case(alloc, verdict, item)? {
+        Some(case) => render_onto(alloc, out, &case),
+        None => Ok(out.push_str("none\n")?),
+    }
 }
 
 // The one parameter is this value under this name.

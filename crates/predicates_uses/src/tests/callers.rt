@@ -25,7 +25,7 @@ fn words(alloc: Global, tokens: &[&str]) -> Result<Vec<String>, AllocError> {
 }
 
 #[test]
-fn requires(rt: HostRuntime) -> Result<(), Fail> {
+fn requirements(rt: HostRuntime) -> Result<(), Fail> {
     let alloc = rt.alloc();
     let between = predicate::ge(5).and(predicate::le(10));
     assert!(rt; require(alloc, &between, &7).is_ok());
@@ -79,7 +79,10 @@ fn checks_files(rt: HostRuntime) -> Result<(), Fail> {
 #[test]
 fn reads_policies(rt: HostRuntime) -> Result<(), Fail> {
     let alloc = rt.alloc();
-    let tokens = words(alloc, ["empty", "trim", "not", "contains=#", "not", "and"].as_slice())?;
+    let tokens = words(
+        alloc,
+        ["empty", "trim", "not", "contains=#", "not", "and"].as_slice(),
+    )?;
     let Ok(policy) = read_policy(alloc, tokens.as_slice()) else {
         return Err("refused".into());
     };
