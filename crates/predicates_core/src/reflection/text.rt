@@ -27,25 +27,23 @@ fn write_product(out: &mut String, indent: &str, product: &Product) -> Result<()
     writeln!(out, "{indent}- {name}: {value}")
 }
 
-// Writes a case whose line stands below the indent, from its text on.
-fn write_case(
-    alloc: Global,
-    out: &mut String,
-    indent: &str,
-    case: &CaseView<'_>,
-) -> Result<(), AllocError>
-    ensures { OnOk result
-        (string_bytes out.new ≡ string_bytes out.old ++ tree_lines indent.now case.now) }
+// Writes a case whose line stands below the indent, from its text on. The indent comes back as it was.
+fn write_case(out: &mut String, indent: &mut String, case: &CaseView<'_>) -> Result<(), AllocError>
+    ensures lines { OnOk result
+        (string_bytes out.new ≡ string_bytes out.old ++ tree_lines (string_bytes indent.old) case.now) }
+    ensures indent { OnOk result (string_bytes indent.new ≡ string_bytes indent.old) }
 {
     write_verdict(out, case)?;
-    let deeper = format!(in alloc; "{indent}  ")?;
+    let above = indent.len();
+    indent.push_str("  ")?;
     for product in case.products() {
-        write_product(out, deeper.as_str(), product)?;
+        write_product(out, indent.as_str(), product)?;
     }
     for CaseChild { name, case } in case.children() {
-        write!(out, "{deeper}{name}: ")?;
-        write_case(alloc, out, deeper.as_str(), &case)?;
+        write!(out, "{indent}{name}: ")?;
+        write_case(out, indent, &case)?;
     }
+    indent.truncate(above);
     Ok(())
 }
 
@@ -53,7 +51,8 @@ fn write_case(
 pub fn render_onto(alloc: Global, out: &mut String, case: &Case) -> Result<(), AllocError>
     ensures { OnOk result (string_bytes out.new ≡ string_bytes out.old ++ lines case.now) }
 {
-    write_case(alloc, out, "", &case.root())?;
+    let mut indent = String::new(alloc);
+    write_case(out, &mut indent, &case.root())?;
     Ok(())
 }
 

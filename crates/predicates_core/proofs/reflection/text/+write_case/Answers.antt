@@ -16,11 +16,11 @@ write_case-requires t c =
     (c.loop-name.invariant.2 ∙ ap (λ r. ys ++ r) c.in-Some.ensures.steps) in
     search rules
 
-pub returns : goal.returns
-returns t c =
+pub returns-clause-lines : goal.returns-clause-lines
+returns-clause-lines t c =
     let ys : List NamedCase = map named_case c.loop-name.yielded in
     let items = c.products-product-items.result.now in
     let all : take c.loop-product.product-index items ≡ items = take_all _ items (omega arith) in
-    let whole = c.loop-product.invariant ∙ ap (λ ps. string_bytes c.write_verdict.new.out ++ flat_map (product_line (string_bytes c.in_ok-deeper.deeper)) ps) (all ∙ c.products-product-items.ensures) in
+    let whole = c.loop-product.invariant ∙ ap (λ ps. string_bytes c.write_verdict.new.out ++ flat_map (product_line (string_bytes c.push_str.new.self)) ps) (all ∙ c.products-product-items.ensures) in
     tree_lines-written _ _ _ _ _ _ c.args.case.now ys
-    c.in_ok-write_verdict.ensures c.in_ok-deeper.ensures.ok whole c.loop-name.invariant.3 (c.loop-name.invariant.2 ∙ ap (λ r. ys ++ r) c.in-None.ensures.steps.0 ∙ append-nil ys)
+    c.in_ok-write_verdict.ensures c.in_ok-push_str.ensures.bytes whole c.loop-name.invariant.3 (c.loop-name.invariant.2 ∙ ap (λ r. ys ++ r) c.in-None.ensures.steps.0 ∙ append-nil ys)

@@ -10,11 +10,12 @@ decreases-write_case l = node_count l.case.now.children
 
 abbrev pub invariant-loop-product : goal.invariant-loop-product
 invariant-loop-product l =
-    string_bytes l.out ≡ string_bytes l.initial.out ++ flat_map (product_line (string_bytes l.deeper)) (take l.product-index l.product-items)
+    string_bytes l.out ≡ string_bytes l.initial.out ++ flat_map (product_line (string_bytes l.indent)) (take l.product-index l.product-items)
 
 abbrev pub invariant-loop-name : goal.invariant-loop-name
 invariant-loop-name l =
     (goal.iterator-loop-name).can_next l.name-iterator
     × (goal.iterator-loop-name).is_finite l.name-iterator
     × (named_trees l.case.children ≡ map named_case l.yielded ++ l.name-iterator)
-    × (string_bytes l.out ≡ string_bytes l.initial.out ++ flat_map (child_lines (string_bytes l.deeper)) (map named_case l.yielded))
+    × (string_bytes l.out ≡ string_bytes l.initial.out ++ flat_map (child_lines (string_bytes l.initial.indent)) (map named_case l.yielded))
+    × (string_bytes l.indent ≡ string_bytes l.initial.indent)
