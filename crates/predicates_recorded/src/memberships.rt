@@ -59,7 +59,13 @@ fn compare_membership<P: Predicate<i64>>(
     let [parameter] = parameters.as_slice() else {
         bail!("not one parameter");
     };
-    compare(alloc, wrong, "name of the parameter", "values", parameter.name())?;
+    compare(
+        alloc,
+        wrong,
+        "name of the parameter",
+        "values",
+        parameter.name(),
+    )?;
     if values == "long" {
         return Ok(());
     }
@@ -108,19 +114,40 @@ impl Table for MembershipTable {
         let item = item.parse::<i64>().context("no number")?;
         let members = read_members(alloc, members)?;
         let listed = in_iter(alloc, members.clone()?)?;
-        let wanted = [("in_iter", *verdict_listed), ("in_iter_values", *values_listed)];
+        let wanted = [
+            ("in_iter", *verdict_listed),
+            ("in_iter_values", *values_listed),
+        ];
         compare_membership(alloc, wrong, &listed, item, wanted)?;
         let verdict = listed.eval(alloc, &item)?;
         let came = listed.find_case(alloc, verdict, &item)?;
-        compare(alloc, wrong, "case_in_iter", case, shown_case(alloc, &came)?.as_str())?;
+        compare(
+            alloc,
+            wrong,
+            "case_in_iter",
+            case,
+            shown_case(alloc, &came)?.as_str(),
+        )?;
         let came = listed.find_case(alloc, !verdict, &item)?;
-        compare(alloc, wrong, "the other case", "none", shown_case(alloc, &came)?.as_str())?;
+        compare(
+            alloc,
+            wrong,
+            "the other case",
+            "none",
+            shown_case(alloc, &came)?.as_str(),
+        )?;
         let sorted = listed.sort()?;
-        let wanted = [("sorted", *verdict_sorted), ("sorted_values", *values_sorted)];
+        let wanted = [
+            ("sorted", *verdict_sorted),
+            ("sorted_values", *values_sorted),
+        ];
         compare_membership(alloc, wrong, &sorted, item, wanted)?;
         compare_search(alloc, wrong, &sorted, item, verdict_sorted, most)?;
         let hashed = in_hash(alloc, members)?;
-        let wanted = [("in_hash", *verdict_hashed), ("in_hash_values", *values_hashed)];
+        let wanted = [
+            ("in_hash", *verdict_hashed),
+            ("in_hash_values", *values_hashed),
+        ];
         compare_membership(alloc, wrong, &hashed, item, wanted)
     }
 }

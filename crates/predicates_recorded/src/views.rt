@@ -7,9 +7,7 @@ use predicates::Predicate;
 use predicates::constant::always;
 use predicates::ord::eq;
 use predicates::str::count::count;
-use predicates::str::{
-    PredicateStrExt, contains, ends_with, lines_even, starts_with, trimmed,
-};
+use predicates::str::{PredicateStrExt, contains, ends_with, lines_even, starts_with, trimmed};
 use predicates_vectors::greatest_choice;
 use std::alloc::{AllocError, Global};
 
@@ -72,7 +70,13 @@ impl Table for TextPairs {
         if item.len() <= SHORT {
             let pattern = characters(alloc, pattern.as_str())?;
             let came = greatest_choice(pattern.as_slice(), item.as_slice()).to_string(alloc)?;
-            compare(alloc, wrong, "greatest choice of places", wanted_count, came.as_str())?;
+            compare(
+                alloc,
+                wrong,
+                "greatest choice of places",
+                wanted_count,
+                came.as_str(),
+            )?;
         }
         Ok(())
     }
@@ -89,7 +93,13 @@ impl Table for TrimmedTexts {
         };
         let item = text_of_digits(alloc, item)?;
         let came = trimmed(alloc, item.as_str())?;
-        compare(alloc, wrong, "trimmed_hex", wanted, digits(alloc, came.as_str())?.as_str())?;
+        compare(
+            alloc,
+            wrong,
+            "trimmed_hex",
+            wanted,
+            digits(alloc, came.as_str())?.as_str(),
+        )?;
         let predicate = eq(text_of_digits(alloc, wanted)?).trim();
         let came = answered(alloc, predicate, &item)?;
         compare(alloc, wrong, "equal behind trim", "true", came.as_str())
@@ -107,10 +117,22 @@ impl Table for EvenTexts {
         };
         let item = text_of_digits(alloc, item)?;
         let came = lines_even(alloc, item.as_str())?;
-        compare(alloc, wrong, "even_hex", wanted, digits(alloc, came.as_str())?.as_str())?;
+        compare(
+            alloc,
+            wrong,
+            "even_hex",
+            wanted,
+            digits(alloc, came.as_str())?.as_str(),
+        )?;
         let predicate = eq(text_of_digits(alloc, wanted)?).normalize();
         let came = answered(alloc, predicate, &item)?;
-        compare(alloc, wrong, "equal behind normalize", "true", came.as_str())
+        compare(
+            alloc,
+            wrong,
+            "equal behind normalize",
+            "true",
+            came.as_str(),
+        )
     }
 }
 
@@ -125,7 +147,13 @@ impl Table for ValidBytes {
         };
         let item = bytes(alloc, item)?;
         let came = always::<String>().from_utf8().eval(alloc, &item)?;
-        compare(alloc, wrong, "valid", wanted, came.to_string(alloc)?.as_str())
+        compare(
+            alloc,
+            wrong,
+            "valid",
+            wanted,
+            came.to_string(alloc)?.as_str(),
+        )
     }
 }
 
@@ -139,7 +167,10 @@ impl Table for DebugForms {
             bail!("not two cells");
         };
         let printed = eq(text_of_digits(alloc, item)?).to_string(alloc)?;
-        let came = printed.as_str().strip_prefix("var == ").context("another comparison")?;
+        let came = printed
+            .as_str()
+            .strip_prefix("var == ")
+            .context("another comparison")?;
         compare(alloc, wrong, "debug", wanted, came)
     }
 }
