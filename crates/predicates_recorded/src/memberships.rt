@@ -4,10 +4,8 @@ use crate::outcome::{Difference, compare};
 use crate::shown::shown_case;
 use crate::table::Table;
 use anyhow::{Context, Result, bail};
-use predicates::Predicate;
 use predicates::iter::{OrdInPredicate, Steps, in_hash, in_iter};
-use predicates::reflection::PredicateReflection;
-use predicates_vectors::read_numbers;
+use predicates_vectors::{Answers, ask, read_numbers};
 use std::alloc::Global;
 
 /// Rows of members, an item, three verdicts, three printed lists, a case, and how many comparisons
@@ -43,33 +41,37 @@ const LONGEST: u32 = 10_000;
 
 // Compares the verdict and the parameter `values`, whose cell is `long` for a list that is too long
 // to be written.
-fn compare_membership<P: Predicate<i64>>(
+fn compare_membership(
     alloc: Global,
     wrong: &mut Vec<Difference>,
-    predicate: &P,
-    item: i64,
-    wanted: [(&'static str, &str); 2],
-) -> Result<()>
-    requires { P.lawful predicate.now }
-{
-    let [(verdict_column, verdict), (values_column, values)] = wanted;
-    let came = predicate.eval(alloc, &item)?.to_string(alloc)?;
-    compare(alloc, wrong, verdict_column, verdict, came.as_str())?;
-    let parameters = predicate.parameters(alloc)?;
-    let [parameter] = parameters.as_slice() else {
+    answers: &Answers,
+    columns: [&'static str; 2],
+    wanted: [&str; 2],
+) -> Result<()> {
+    let came = answers.verdict.to_string(alloc)?;
+    compare(alloc, wrong, columns[0], wanted[0], came.as_str())?;
+    let [parameter] = answers.parameters.as_slice() else {
         bail!("not one parameter");
     };
-    compare(
-        alloc,
-        wrong,
-        "name of the parameter",
-        "values",
-        parameter.name(),
-    )?;
-    if values == "long" {
+    compare(alloc, wrong, "parameter", "values", parameter.name())?;
+    if wanted[1] == "long" {
         return Ok(());
     }
-    compare(alloc, wrong, values_column, values, parameter.value())
+    compare(alloc, wrong, columns[1], wanted[1], parameter.value())
+}
+
+// Compares the case for the verdict, and that there is none for its opposite.
+fn compare_case(
+    alloc: Global,
+    wrong: &mut Vec<Difference>,
+    answers: &Answers,
+    case: &str,
+) -> Result<()> {
+    let (of_verdict, opposite) = answers.cases();
+    let came = shown_case(alloc, of_verdict)?;
+    compare(alloc, wrong, "case_in_iter", case, came.as_str())?;
+    let came = shown_case(alloc, opposite)?;
+    compare(alloc, wrong, "the other case", "none", came.as_str())
 }
 
 // Compares what the search answers, and that it makes no more comparisons than the row allows.
@@ -99,12 +101,12 @@ impl Table for MembershipTable {
         let [
             members,
             item,
-            verdict_listed,
-            verdict_sorted,
-            verdict_hashed,
-            values_listed,
-            values_sorted,
-            values_hashed,
+            listed,
+            sorted,
+            hashed,
+            listed_values,
+            sorted_values,
+            hashed_values,
             case,
             most,
         ] = cells.as_slice()
@@ -113,41 +115,18 @@ impl Table for MembershipTable {
         };
         let item = item.parse::<i64>().context("no number")?;
         let members = read_members(alloc, members)?;
-        let listed = in_iter(alloc, members.clone()?)?;
-        let wanted = [
-            ("in_iter", *verdict_listed),
-            ("in_iter_values", *values_listed),
-        ];
-        compare_membership(alloc, wrong, &listed, item, wanted)?;
-        let verdict = listed.eval(alloc, &item)?;
-        let came = listed.find_case(alloc, verdict, &item)?;
-        compare(
-            alloc,
-            wrong,
-            "case_in_iter",
-            case,
-            shown_case(alloc, &came)?.as_str(),
-        )?;
-        let came = listed.find_case(alloc, !verdict, &item)?;
-        compare(
-            alloc,
-            wrong,
-            "the other case",
-            "none",
-            shown_case(alloc, &came)?.as_str(),
-        )?;
-        let sorted = listed.sort()?;
-        let wanted = [
-            ("sorted", *verdict_sorted),
-            ("sorted_values", *values_sorted),
-        ];
-        compare_membership(alloc, wrong, &sorted, item, wanted)?;
-        compare_search(alloc, wrong, &sorted, item, verdict_sorted, most)?;
-        let hashed = in_hash(alloc, members)?;
-        let wanted = [
-            ("in_hash", *verdict_hashed),
-            ("in_hash_values", *values_hashed),
-        ];
-        compare_membership(alloc, wrong, &hashed, item, wanted)
+        let all = in_iter(alloc, members.clone()?)?;
+        let answers = ask(alloc, &all, &item)?;
+        let columns = ["in_iter", "in_iter_values"];
+        compare_membership(alloc, wrong, &answers, columns, [*listed, *listed_values])?;
+        compare_case(alloc, wrong, &answers, case)?;
+        let all = all.sort()?;
+        let answers = ask(alloc, &all, &item)?;
+        let columns = ["sorted", "sorted_values"];
+        compare_membership(alloc, wrong, &answers, columns, [*sorted, *sorted_values])?;
+        compare_search(alloc, wrong, &all, item, sorted, most)?;
+        let answers = ask(alloc, &in_hash(alloc, members)?, &item)?;
+        let columns = ["in_hash", "in_hash_values"];
+        compare_membership(alloc, wrong, &answers, columns, [*hashed, *hashed_values])
     }
 }

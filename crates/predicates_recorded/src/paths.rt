@@ -173,11 +173,7 @@ impl Table for PathTable {
         let came = answers.verdict.to_string(alloc)?;
         compare_text(alloc, wrong, "verdict", verdict, came.as_str())?;
         compare_text(alloc, wrong, "text", printed, answers.text.as_str())?;
-        let (of_verdict, opposite) = if answers.verdict {
-            (&answers.case_true, &answers.case_false)
-        } else {
-            (&answers.case_false, &answers.case_true)
-        };
+        let (of_verdict, opposite) = answers.cases();
         let is_kind_of_device = *what == DEVICE && predicate.starts_with("is_");
         let given = text(alloc, products)?;
         let wanted = stated_products(alloc, given.as_str(), is_kind_of_device)?;

@@ -3,11 +3,11 @@ use crate::plain::PlainFormula;
 use crate::text_words::TextWord;
 use std::alloc::{AllocError, Global};
 
-// An item, as the predicates above or below `from_utf8` see it.
-#[derive(Clone, Copy)]
-enum PlainItem<'a> {
-    Text(&'a str),
-    Bytes(&'a [u8]),
+// An item, as the predicates above `from_utf8` see it, or as those below it do.
+#[derive(Drop)]
+enum PlainItem {
+    Text(String),
+    Bytes(Vec<u8>),
 }
 
 // How deep the words may be nested.
@@ -77,12 +77,82 @@ fn leaf_truth(alloc: Global, word: &TextWord, item: &str) -> Result<Option<bool>
     }))
 }
 
+// How many parts a word takes.
+fn part_count(word: &TextWord) -> u8 {
+    match word {
+        TextWord::And | TextWord::Or => 2,
+        TextWord::Not | TextWord::Named(_) => 1,
+        TextWord::Trim | TextWord::Normalize | TextWord::FromUtf8 => 1,
+        _ => 0,
+    }
+}
+
+// The item that the word's parts see, which for bytes that are no text is empty; none where the
+// word is not one of such items.
+fn seen_by_parts(
+    alloc: Global,
+    word: &TextWord,
+    item: &PlainItem,
+) -> Result<Option<PlainItem>, AllocError> {
+    let seen = match (word, item) {
+        (TextWord::Trim, PlainItem::Text(text)) => {
+            PlainItem::Text(String::from_str(alloc, text.as_str().trim())?)
+        }
+        (TextWord::Normalize, PlainItem::Text(text)) => {
+            PlainItem::Text(even(alloc, text.as_str())?)
+        }
+        (TextWord::FromUtf8, PlainItem::Bytes(bytes)) => {
+            let text = str::from_utf8(bytes.as_slice()).unwrap_or("");
+            PlainItem::Text(String::from_str(alloc, text)?)
+        }
+        (TextWord::Trim | TextWord::Normalize | TextWord::FromUtf8, _) => return Ok(None),
+        (_, PlainItem::Text(text)) => PlainItem::Text(text.clone()?),
+        (_, PlainItem::Bytes(bytes)) => PlainItem::Bytes(bytes.clone()?),
+    };
+    Ok(Some(seen))
+}
+
+// The formula of the word over those of its parts; none where they are not as many.
+fn combined(
+    alloc: Global,
+    word: &TextWord,
+    item: &PlainItem,
+    first: Option<PlainFormula>,
+    second: Option<PlainFormula>,
+) -> Result<Option<PlainFormula>, AllocError> {
+    Ok(match (word, item, first, second) {
+        (TextWord::And, _, Some(left), Some(right)) => {
+            let left = Box::new(alloc, left)?;
+            Some(PlainFormula::And(left, Box::new(alloc, right)?))
+        }
+        (TextWord::Or, _, Some(left), Some(right)) => {
+            let left = Box::new(alloc, left)?;
+            Some(PlainFormula::Or(left, Box::new(alloc, right)?))
+        }
+        (TextWord::Not, _, Some(part), None) => { Some(PlainFormula::Not(Box::new(alloc, part)?)) }
+        (TextWord::Named(_), _, Some(part), None) => {
+            Some(PlainFormula::Named(Box::new(alloc, part)?))
+        }
+        (TextWord::FromUtf8, PlainItem::Bytes(bytes), Some(part), None) => {
+            Some(match str::from_utf8(bytes.as_slice()) {
+                Ok(_) => part,
+                Err(_) => PlainFormula::Leaf(false),
+            })
+        }
+        (TextWord::Trim | TextWord::Normalize, _, Some(part), None) => Some(part),
+        (leaf, PlainItem::Text(text), None, None) => {
+            leaf_truth(alloc, leaf, text.as_str())?.map(PlainFormula::Leaf)
+        }
+        _ => None,
+    })
+}
+
 // The formula of the predicate at the words' end on the item. It takes the words.
 fn plain_from_words(
     alloc: Global,
     room: u32,
     words: &mut Vec<TextWord>,
-    item: PlainItem<'_>,
+    item: &PlainItem,
 ) -> Result<Option<PlainFormula>, AllocError> {
     if room == 0 {
         return Ok(None);
@@ -90,54 +160,25 @@ fn plain_from_words(
     let Some(word) = words.pop() else {
         return Ok(None);
     };
-    let is_both = matches!(&word, TextWord::And | TextWord::Or);
-    let last = if matches!(&word, TextWord::Not | TextWord::Named(_)) || is_both {
-        let Some(last) = plain_from_words(alloc, room - 1, words, item)? else {
+    let Some(seen) = seen_by_parts(alloc, &word, item)? else {
+        return Ok(None);
+    };
+    let mut parts: Vec<PlainFormula> = Vec::new(alloc);
+    for _ in 0..part_count(&word) {
+        let Some(part) = plain_from_words(alloc, room - 1, words, &seen)? else {
             return Ok(None);
         };
-        Some(Box::new(alloc, last)?)
-    } else {
-        None
-    };
-    let left = if is_both {
-        let Some(left) = plain_from_words(alloc, room - 1, words, item)? else {
-            return Ok(None);
-        };
-        Some(Box::new(alloc, left)?)
-    } else {
-        None
-    };
-    Ok(match (word, item, left, last) {
-        (TextWord::Not, _, None, Some(part)) => Some(PlainFormula::Not(part)),
-        (TextWord::Named(_), _, None, Some(part)) => Some(PlainFormula::Named(part)),
-        (TextWord::And, _, Some(left), Some(right)) => Some(PlainFormula::And(left, right)),
-        (TextWord::Or, _, Some(left), Some(right)) => Some(PlainFormula::Or(left, right)),
-        (TextWord::Trim, PlainItem::Text(text), _, _) => {
-            plain_from_words(alloc, room - 1, words, PlainItem::Text(text.trim()))?
-        }
-        (TextWord::Normalize, PlainItem::Text(text), _, _) => {
-            let even = even(alloc, text)?;
-            plain_from_words(alloc, room - 1, words, PlainItem::Text(even.as_str()))?
-        }
-        (TextWord::FromUtf8, PlainItem::Bytes(bytes), _, _) => match str::from_utf8(bytes) {
-            Ok(text) => plain_from_words(alloc, room - 1, words, PlainItem::Text(text))?,
-            // The part is read all the same, so that its words are taken.
-            Err(_) => match plain_from_words(alloc, room - 1, words, PlainItem::Text(""))? {
-                Some(_) => Some(PlainFormula::Leaf(false)),
-                None => None,
-            },
-        },
-        (word, PlainItem::Text(text), _, _) => {
-            leaf_truth(alloc, &word, text)?.map(PlainFormula::Leaf)
-        }
-        _ => None,
-    })
+        parts.push(part)?;
+    }
+    // The right one of two parts is read before the left one.
+    let first = parts.pop();
+    combined(alloc, &word, item, first, parts.pop())
 }
 
 fn plain_item(
     alloc: Global,
     mut words: Vec<TextWord>,
-    item: PlainItem<'_>,
+    item: &PlainItem,
 ) -> Result<Option<PlainFormula>, AllocError> {
     let formula = plain_from_words(alloc, ROOM, &mut words, item)?;
     Ok(if words.is_empty() { formula } else { None })
@@ -149,7 +190,11 @@ pub fn plain_text(
     words: Vec<TextWord>,
     item: &str,
 ) -> Result<Option<PlainFormula>, AllocError> {
-    plain_item(alloc, words, PlainItem::Text(item))
+    plain_item(
+        alloc,
+        words,
+        &PlainItem::Text(String::from_str(alloc, item)?),
+    )
 }
 
 /// The formula that the words mean on bytes; none where they are not one predicate of bytes.
@@ -158,5 +203,9 @@ pub fn plain_bytes(
     words: Vec<TextWord>,
     item: &[u8],
 ) -> Result<Option<PlainFormula>, AllocError> {
-    plain_item(alloc, words, PlainItem::Bytes(item))
+    plain_item(
+        alloc,
+        words,
+        &PlainItem::Bytes(Vec::from_slice(alloc, item)?),
+    )
 }
