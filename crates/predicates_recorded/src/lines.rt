@@ -3,7 +3,9 @@ use crate::cells::{bytes, cells, text};
 use crate::outcome::{Difference, compare};
 use crate::table::Table;
 use anyhow::{Context, Result, anyhow, bail};
-use predicates_explain::{number, run_between};
+use predicates_explain::{
+    TextCheck, WordFault, apply_word, number, read_word, run_between, run_text,
+};
 use std::alloc::Global;
 
 /// Rows of a line and the number that is read from it, or `none`.
@@ -43,10 +45,58 @@ impl Table for BetweenRuns {
         let all = run_between(alloc, lo, hi, &mut input, &mut written).map_err(|fault| anyhow!(
             "{fault}"
         ))?;
-        compare(alloc, wrong, "status", status, if all { "0" } else { "1" })?;
-        let written = String::from_utf8(written)
-            .ok()
-            .context("written bytes that are no text")?;
-        compare(alloc, wrong, "output", output, written.as_str())
+        compare_run(alloc, wrong, [status, output], all, written)
+    }
+}
+
+// Compares the status and what was written.
+fn compare_run(
+    alloc: Global,
+    wrong: &mut Vec<Difference>,
+    wanted: [&str; 2],
+    all: bool,
+    written: Vec<u8>,
+) -> Result<()> {
+    let [status, output] = wanted;
+    compare(alloc, wrong, "status", status, if all { "0" } else { "1" })?;
+    let written = String::from_utf8(written)
+        .ok()
+        .context("written bytes that are no text")?;
+    compare(alloc, wrong, "output", output, written.as_str())
+}
+
+// The check that the words leave, as the program has it.
+fn read_check(alloc: Global, words: &str) -> Result<TextCheck> {
+    let mut stack: Vec<TextCheck> = Vec::new(alloc);
+    for word in words.split(' ') {
+        let word = text(alloc, word)?;
+        let word = read_word(alloc, word.as_str())?.context("an unknown word")?;
+        apply_word(alloc, &mut stack, word).map_err(|fault: WordFault| anyhow!("{fault}"))?;
+    }
+    let check = stack.pop().context("no check")?;
+    if !stack.is_empty() {
+        bail!("several checks");
+    }
+    Ok(check)
+}
+
+/// Rows of the words `text TOKEN..`, the input, the status and what is written.
+pub struct TextRuns;
+
+impl Table for TextRuns {
+    fn replay(&self, alloc: Global, row: &str, wrong: &mut Vec<Difference>) -> Result<()> {
+        let cells = cells(alloc, row)?;
+        let [words, input, status, output] = cells.as_slice() else {
+            bail!("not four cells");
+        };
+        let words = words.strip_prefix("text ").context("another command")?;
+        let check = read_check(alloc, words)?;
+        let input = bytes(alloc, input)?;
+        let mut written = Vec::new(alloc);
+        let mut input = input.as_slice();
+        let all = run_text(alloc, &check, &mut input, &mut written).map_err(|fault| anyhow!(
+            "{fault}"
+        ))?;
+        compare_run(alloc, wrong, [status, output], all, written)
     }
 }

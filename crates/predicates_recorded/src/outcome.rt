@@ -11,6 +11,24 @@ pub struct Difference {
     pub came: String,
 }
 
+/// Adds a difference where the text that is wanted is not the one that came.
+pub fn compare_text(
+    alloc: Global,
+    wrong: &mut Vec<Difference>,
+    column: &'static str,
+    wanted: &str,
+    came: &str,
+) -> Result<()> {
+    if wanted != came {
+        wrong.push(Difference {
+            column,
+            wanted: String::from_str(alloc, wanted)?,
+            came: String::from_str(alloc, came)?,
+        })?;
+    }
+    Ok(())
+}
+
 /// Adds a difference where the text that the cell is written for is not the one that came.
 pub fn compare(
     alloc: Global,
@@ -20,12 +38,5 @@ pub fn compare(
     came: &str,
 ) -> Result<()> {
     let wanted = text(alloc, cell)?;
-    if wanted.as_str() != came {
-        wrong.push(Difference {
-            column,
-            wanted,
-            came: String::from_str(alloc, came)?,
-        })?;
-    }
-    Ok(())
+    compare_text(alloc, wrong, column, wanted.as_str(), came)
 }

@@ -35,6 +35,15 @@ pub fn ask<P: Predicate<Item>, Item>(
 }
 
 impl Answers {
+    /// The case for the verdict, and that for its opposite.
+    pub fn cases(&self) -> (&Option<Case>, &Option<Case>) {
+        if self.verdict {
+            (&self.case_true, &self.case_false)
+        } else {
+            (&self.case_false, &self.case_true)
+        }
+    }
+
     /// The leaves that the case for the verdict keeps of the formula; none where there is no such
     /// case, where there is one for the opposite, or where it is not cut from the formula.
     pub fn kept(
@@ -42,11 +51,7 @@ impl Answers {
         alloc: Global,
         formula: &PlainFormula,
     ) -> Result<Option<Vec<usize>>, AllocError> {
-        let (wanted, other) = if self.verdict {
-            (&self.case_true, &self.case_false)
-        } else {
-            (&self.case_false, &self.case_true)
-        };
+        let (wanted, other) = self.cases();
         match wanted {
             Some(case) if other.is_none() => kept_leaves(alloc, formula, case),
             _ => Ok(None),

@@ -15,13 +15,13 @@ use predicates_core::static_text::StaticText;
 use std::alloc::{AllocError, Global};
 use std::fmt;
 
-type Named<P, Item> = NamePredicate<P, Item, StaticText>;
+pub(crate) type Named<P, Item> = NamePredicate<P, Item, StaticText>;
 
-type One<P, Item> = OneOf<NotPredicate<P, Item>, Named<P, Item>>;
+pub(crate) type One<P, Item> = OneOf<NotPredicate<P, Item>, Named<P, Item>>;
 
-type Both<P, Item> = OneOf<AndPredicate<P, P, Item>, OrPredicate<P, P, Item>>;
+pub(crate) type Both<P, Item> = OneOf<AndPredicate<P, P, Item>, OrPredicate<P, P, Item>>;
 
-type Combined<P, Item> = OneOf<One<P, Item>, Both<P, Item>>;
+pub(crate) type Combined<P, Item> = OneOf<One<P, Item>, Both<P, Item>>;
 
 /// A predicate of the level below, or a combinator of the library over such predicates.
 #[derive(Drop)]

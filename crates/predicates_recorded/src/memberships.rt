@@ -1,0 +1,132 @@
+//! The table of members and items.
+use crate::cells::cells;
+use crate::outcome::{Difference, compare};
+use crate::shown::shown_case;
+use crate::table::Table;
+use anyhow::{Context, Result, bail};
+use predicates::iter::{OrdInPredicate, Steps, in_hash, in_iter};
+use predicates_vectors::{Answers, ask, read_numbers};
+use std::alloc::Global;
+
+/// Rows of members, an item, three verdicts, three printed lists, a case, and how many comparisons
+/// a search makes at most.
+pub struct MembershipTable;
+
+// The members that a cell is written for. A list that is too long is written as its first two
+// members, two points and its last one, as far apart as the first two.
+fn read_members(alloc: Global, cell: &str) -> Result<Vec<i64>> {
+    let Some((front, last)) = cell.split_once(",..,") else {
+        return read_numbers(alloc, cell)?.context("no numbers");
+    };
+    let front = read_numbers(alloc, front)?.context("no numbers")?;
+    let [first, second] = front.as_slice() else {
+        bail!("not two members before the points");
+    };
+    let last = last.parse::<i64>().context("no number")?;
+    let step = second.saturating_sub(*first);
+    let mut members: Vec<i64> = Vec::new(alloc);
+    let mut member = *first;
+    for _ in 0..LONGEST {
+        if member > last {
+            break;
+        }
+        members.push(member)?;
+        member = member.saturating_add(step);
+    }
+    Ok(members)
+}
+
+// No list of the table has more members.
+const LONGEST: u32 = 10_000;
+
+// Compares the verdict and the parameter `values`, whose cell is `long` for a list that is too long
+// to be written.
+fn compare_membership(
+    alloc: Global,
+    wrong: &mut Vec<Difference>,
+    answers: &Answers,
+    columns: [&'static str; 2],
+    wanted: [&str; 2],
+) -> Result<()> {
+    let came = answers.verdict.to_string(alloc)?;
+    compare(alloc, wrong, columns[0], wanted[0], came.as_str())?;
+    let [parameter] = answers.parameters.as_slice() else {
+        bail!("not one parameter");
+    };
+    compare(alloc, wrong, "parameter", "values", parameter.name())?;
+    if wanted[1] == "long" {
+        return Ok(());
+    }
+    compare(alloc, wrong, columns[1], wanted[1], parameter.value())
+}
+
+// Compares the case for the verdict, and that there is none for its opposite.
+fn compare_case(
+    alloc: Global,
+    wrong: &mut Vec<Difference>,
+    answers: &Answers,
+    case: &str,
+) -> Result<()> {
+    let (of_verdict, opposite) = answers.cases();
+    let came = shown_case(alloc, of_verdict)?;
+    compare(alloc, wrong, "case_in_iter", case, came.as_str())?;
+    let came = shown_case(alloc, opposite)?;
+    compare(alloc, wrong, "the other case", "none", came.as_str())
+}
+
+// Compares what the search answers, and that it makes no more comparisons than the row allows.
+fn compare_search(
+    alloc: Global,
+    wrong: &mut Vec<Difference>,
+    sorted: &OrdInPredicate<i64>,
+    item: i64,
+    verdict: &str,
+    most: &str,
+) -> Result<()> {
+    let most_count = most.parse::<usize>().context("no number")?;
+    let mut steps = Steps::new();
+    let came = sorted.search_counted(&item, &mut steps).to_string(alloc)?;
+    compare(alloc, wrong, "searched", verdict, came.as_str())?;
+    let count = steps.count();
+    if count > most_count {
+        let came = count.to_string(alloc)?;
+        compare(alloc, wrong, "most_comparisons", most, came.as_str())?;
+    }
+    Ok(())
+}
+
+impl Table for MembershipTable {
+    fn replay(&self, alloc: Global, row: &str, wrong: &mut Vec<Difference>) -> Result<()> {
+        let cells = cells(alloc, row)?;
+        let [
+            members,
+            item,
+            listed,
+            sorted,
+            hashed,
+            listed_values,
+            sorted_values,
+            hashed_values,
+            case,
+            most,
+        ] = cells.as_slice()
+        else {
+            bail!("not ten cells");
+        };
+        let item = item.parse::<i64>().context("no number")?;
+        let members = read_members(alloc, members)?;
+        let all = in_iter(alloc, members.clone()?)?;
+        let answers = ask(alloc, &all, &item)?;
+        let columns = ["in_iter", "in_iter_values"];
+        compare_membership(alloc, wrong, &answers, columns, [*listed, *listed_values])?;
+        compare_case(alloc, wrong, &answers, case)?;
+        let all = all.sort()?;
+        let answers = ask(alloc, &all, &item)?;
+        let columns = ["sorted", "sorted_values"];
+        compare_membership(alloc, wrong, &answers, columns, [*sorted, *sorted_values])?;
+        compare_search(alloc, wrong, &all, item, sorted, most)?;
+        let answers = ask(alloc, &in_hash(alloc, members)?, &item)?;
+        let columns = ["in_hash", "in_hash_values"];
+        compare_membership(alloc, wrong, &answers, columns, [*hashed, *hashed_values])
+    }
+}

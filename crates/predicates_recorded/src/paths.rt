@@ -1,0 +1,185 @@
+//! The table of predicates of paths.
+use crate::cells::{cells, text};
+use crate::outcome::{Difference, compare_text};
+use crate::table::Table;
+use anyhow::{Context, Result, anyhow, bail};
+use predicates::Predicate;
+use predicates::boolean::PredicateBooleanExt;
+use predicates::ord::eq;
+use predicates::path::{
+    FileType, PathFault, PredicateFileContentExt, Snapshot, eq_file, exists, is_dir, is_file,
+    is_symlink, missing,
+};
+use predicates::reflection::{Case, Product};
+use predicates::str::{PredicateStrExt, is_empty};
+use predicates_vectors::{Answers, ask};
+use std::alloc::{AllocError, Global};
+
+/// Rows of a predicate, what stands at the path, the verdict, the printed text and the products of
+/// the case for the verdict.
+pub struct PathTable;
+
+// What stands at the path of a device.
+const DEVICE: &str = "device";
+
+// A path to a file with the content, by way of a link or not.
+fn file(alloc: Global, path: &str, plain: FileType, bytes: &[u8]) -> Result<Snapshot, AllocError> {
+    let path = String::from_str(alloc, path)?;
+    let content = Ok(Vec::from_slice(alloc, bytes)?);
+    Ok(Snapshot::from_parts(path, Ok(plain), Ok(FileType::File), content))
+}
+
+// A path that leads to something without a content, which is the fault where nothing is there.
+fn other(
+    alloc: Global,
+    path: &str,
+    plain: Result<FileType, PathFault>,
+    followed: Result<FileType, PathFault>,
+) -> Result<Snapshot, AllocError> {
+    let path = String::from_str(alloc, path)?;
+    let fault = match followed {
+        Ok(_) => PathFault::NotRegular,
+        Err(fault) => fault,
+    };
+    Ok(Snapshot::from_parts(path, plain, followed, Err(fault)))
+}
+
+// The snapshot that is taken where this stands, made of its parts: the folder of the recorded
+// answers is not at hand.
+fn snapshot(alloc: Global, what: &str) -> Result<Option<Snapshot>, AllocError> {
+    let link = Ok(FileType::Symlink);
+    let dir = Ok(FileType::Dir);
+    let nothing = Err(PathFault::NotFound);
+    Ok(Some(match what {
+        "regular file a" => file(alloc, "$ROOT/file_a", FileType::File, b"a")?,
+        "regular file b" => file(alloc, "$ROOT/file_b", FileType::File, b"b")?,
+        "empty file" => file(alloc, "$ROOT/empty", FileType::File, b"")?,
+        "file with byte ff" => file(alloc, "$ROOT/bytes", FileType::File, &[255])?,
+        "link to file a" => file(alloc, "$ROOT/to_file", FileType::Symlink, b"a")?,
+        "directory" => other(alloc, "$ROOT/dir", dir, dir)?,
+        "link to directory" => other(alloc, "$ROOT/to_dir", link, dir)?,
+        "dangling link" => other(alloc, "$ROOT/dangling", link, nothing)?,
+        DEVICE => other(alloc, "/dev/null", Ok(FileType::Other), Ok(FileType::Other))?,
+        "nothing" => other(alloc, "$ROOT/nothing", nothing, nothing)?,
+        _ => return Ok(None),
+    }))
+}
+
+// What a test of kinds answers.
+fn answer_kind(alloc: Global, name: &str, item: &Snapshot) -> Result<Option<Answers>, AllocError> {
+    let (name, follow) = match name.split_once(' ') {
+        Some((name, "follow")) => (name, true),
+        Some(_) => return Ok(None),
+        None => (name, false),
+    };
+    let predicate = match name {
+        "is_file" => is_file(),
+        "is_dir" => is_dir(),
+        "is_symlink" => is_symlink(),
+        _ => return Ok(None),
+    };
+    Ok(Some(ask(alloc, &predicate.follow_links(follow), item)?))
+}
+
+// What the predicate of the words answers; none where it is none of a path.
+fn answer(alloc: Global, name: &str, item: &Snapshot) -> Result<Option<Answers>> {
+    if name == "exists" {
+        return Ok(Some(ask(alloc, &exists(), item)?));
+    }
+    if name == "missing" {
+        return Ok(Some(ask(alloc, &missing(), item)?));
+    }
+    if let Some(rest) = name.strip_prefix("eq_file a") {
+        let compared = snapshot(alloc, "regular file a")?.context("no file")?;
+        let same = eq_file(compared).map_err(|fault| anyhow!("{fault}"))?;
+        return Ok(match rest {
+            "" => Some(ask(alloc, &same, item)?),
+            " utf8" => {
+                let same = same.utf8().context("no text")?;
+                Some(ask(alloc, &same, item)?)
+            }
+            _ => None,
+        });
+    }
+    Ok(match name {
+        "eq=a from_utf8 from_file_path" => {
+            let constant = String::from_str(alloc, "a")?;
+            Some(ask(alloc, &eq(constant).from_utf8().from_file_path(), item)?)
+        }
+        "empty not from_utf8 from_file_path" => {
+            let predicate = is_empty().not().from_utf8().from_file_path();
+            Some(ask(alloc, &predicate, item)?)
+        }
+        _ => answer_kind(alloc, name, item)?,
+    })
+}
+
+// The lines of a case's products.
+fn shown_products(alloc: Global, products: &[Product]) -> Result<String> {
+    let mut text = String::new(alloc);
+    for product in products {
+        let name = product.name();
+        let value = product.value();
+        writeln!(text, "{name}: {value}")?;
+    }
+    Ok(text)
+}
+
+// The text of an error in place of the one that the system or the decoder gave.
+fn stated_error(given: &str) -> Option<&'static str> {
+    Some(match given {
+        "No such file or directory (os error 2)" => "not found",
+        "Is a directory (os error 21)" => "not a regular file",
+        "invalid utf-8 sequence of 1 bytes from index 0" => "Invalid UTF-8 string",
+        _ => return None,
+    })
+}
+
+// The lines of the products that are wanted where the original gave these: each error has the text
+// that is stated for it, and a device's kind is told as it is.
+fn stated_products(alloc: Global, given: &str, is_kind_of_device: bool) -> Result<String> {
+    if is_kind_of_device {
+        return Ok(String::from_str(alloc, "actual filetype: other\n")?);
+    }
+    let mut text = String::new(alloc);
+    for line in given.lines() {
+        match line.strip_prefix("error: ") {
+            Some(error) => {
+                let stated = stated_error(error).context("an unknown error")?;
+                writeln!(text, "error: {stated}")?;
+            }
+            None => writeln!(text, "{line}")?,
+        }
+    }
+    Ok(text)
+}
+
+// The lines of the root's products.
+fn root_products(alloc: Global, case: &Option<Case>) -> Result<String> {
+    match case {
+        Some(case) => shown_products(alloc, case.root().products()),
+        None => Ok(String::from_str(alloc, "no case for the verdict")?),
+    }
+}
+
+impl Table for PathTable {
+    fn replay(&self, alloc: Global, row: &str, wrong: &mut Vec<Difference>) -> Result<()> {
+        let cells = cells(alloc, row)?;
+        let [predicate, what, verdict, printed, products] = cells.as_slice() else {
+            bail!("not five cells");
+        };
+        let item = snapshot(alloc, what)?.context("an unknown thing at the path")?;
+        let answers = answer(alloc, predicate, &item)?.context("an unknown predicate")?;
+        let came = answers.verdict.to_string(alloc)?;
+        compare_text(alloc, wrong, "verdict", verdict, came.as_str())?;
+        compare_text(alloc, wrong, "text", printed, answers.text.as_str())?;
+        let (of_verdict, opposite) = answers.cases();
+        let is_kind_of_device = *what == DEVICE && predicate.starts_with("is_");
+        let given = text(alloc, products)?;
+        let wanted = stated_products(alloc, given.as_str(), is_kind_of_device)?;
+        let came = root_products(alloc, of_verdict)?;
+        compare_text(alloc, wrong, "products", wanted.as_str(), came.as_str())?;
+        let came = if opposite.is_some() { "some" } else { "none" };
+        compare_text(alloc, wrong, "case for the opposite", "none", came)
+    }
+}

@@ -1,0 +1,184 @@
+//! Tables of texts, and of what is made of them.
+use crate::cells::{bytes, cells, text};
+use crate::outcome::{Difference, compare};
+use crate::table::Table;
+use anyhow::{Context, Result, bail};
+use predicates::Predicate;
+use predicates::constant::always;
+use predicates::ord::eq;
+use predicates::str::count::count;
+use predicates::str::{PredicateStrExt, contains, ends_with, lines_even, starts_with, trimmed};
+use predicates_vectors::greatest_choice;
+use std::alloc::{AllocError, Global};
+
+// The text of which a cell holds the bytes as hexadecimal digits.
+fn text_of_digits(alloc: Global, cell: &str) -> Result<String> {
+    String::from_utf8(bytes(alloc, cell)?)
+        .ok()
+        .context("bytes that are no text")
+}
+
+// Whether the predicate holds of the text, as it is written.
+fn answered<P: Predicate<String> + Drop>(
+    alloc: Global,
+    predicate: P,
+    item: &String,
+) -> Result<String, AllocError>
+    requires { P.lawful predicate }
+{
+    predicate.eval(alloc, item)?.to_string(alloc)
+}
+
+// The characters of a text.
+fn characters(alloc: Global, text: &str) -> Result<Vec<char>, AllocError> {
+    let mut characters = Vec::new(alloc);
+    for character in text.chars() {
+        characters.push(character)?;
+    }
+    Ok(characters)
+}
+
+/// Rows of a pattern, a text, three verdicts and how often the pattern stands in the text.
+pub struct TextPairs;
+
+// The greatest number of characters of which every choice of places is tried.
+const SHORT: usize = 7;
+
+impl Table for TextPairs {
+    fn replay(&self, alloc: Global, row: &str, wrong: &mut Vec<Difference>) -> Result<()> {
+        let cells = cells(alloc, row)?;
+        let [pattern, item, starts, ends, contained, wanted_count] = cells.as_slice() else {
+            bail!("not six cells");
+        };
+        let pattern = text(alloc, pattern)?;
+        let item = text(alloc, item)?;
+        let came = answered(alloc, starts_with(pattern.clone()?), &item)?;
+        compare(alloc, wrong, "starts", starts, came.as_str())?;
+        let came = answered(alloc, ends_with(pattern.clone()?), &item)?;
+        compare(alloc, wrong, "ends", ends, came.as_str())?;
+        let came = answered(alloc, contains(pattern.clone()?), &item)?;
+        compare(alloc, wrong, "contains", contained, came.as_str())?;
+        let came = count(pattern.as_str(), item.as_str()).to_string(alloc)?;
+        compare(alloc, wrong, "count", wanted_count, came.as_str())?;
+        let number = wanted_count.parse::<usize>().context("no number")?;
+        let came = answered(alloc, contains(pattern.clone()?).count(number), &item)?;
+        compare(alloc, wrong, "counted", "true", came.as_str())?;
+        let other = number.saturating_add(1);
+        let came = answered(alloc, contains(pattern.clone()?).count(other), &item)?;
+        compare(alloc, wrong, "counted as one more", "false", came.as_str())?;
+        let item = characters(alloc, item.as_str())?;
+        if item.len() <= SHORT {
+            let pattern = characters(alloc, pattern.as_str())?;
+            let came = greatest_choice(pattern.as_slice(), item.as_slice()).to_string(alloc)?;
+            compare(
+                alloc,
+                wrong,
+                "greatest choice of places",
+                wanted_count,
+                came.as_str(),
+            )?;
+        }
+        Ok(())
+    }
+}
+
+/// Rows of a text and what is left without the white space at its ends.
+pub struct TrimmedTexts;
+
+impl Table for TrimmedTexts {
+    fn replay(&self, alloc: Global, row: &str, wrong: &mut Vec<Difference>) -> Result<()> {
+        let cells = cells(alloc, row)?;
+        let [item, wanted] = cells.as_slice() else {
+            bail!("not two cells");
+        };
+        let item = text_of_digits(alloc, item)?;
+        let came = trimmed(alloc, item.as_str())?;
+        compare(
+            alloc,
+            wrong,
+            "trimmed_hex",
+            wanted,
+            digits(alloc, came.as_str())?.as_str(),
+        )?;
+        let predicate = eq(text_of_digits(alloc, wanted)?).trim();
+        let came = answered(alloc, predicate, &item)?;
+        compare(alloc, wrong, "equal behind trim", "true", came.as_str())
+    }
+}
+
+/// Rows of a text and the same with even line endings.
+pub struct EvenTexts;
+
+impl Table for EvenTexts {
+    fn replay(&self, alloc: Global, row: &str, wrong: &mut Vec<Difference>) -> Result<()> {
+        let cells = cells(alloc, row)?;
+        let [item, wanted] = cells.as_slice() else {
+            bail!("not two cells");
+        };
+        let item = text_of_digits(alloc, item)?;
+        let came = lines_even(alloc, item.as_str())?;
+        compare(
+            alloc,
+            wrong,
+            "even_hex",
+            wanted,
+            digits(alloc, came.as_str())?.as_str(),
+        )?;
+        let predicate = eq(text_of_digits(alloc, wanted)?).normalize();
+        let came = answered(alloc, predicate, &item)?;
+        compare(
+            alloc,
+            wrong,
+            "equal behind normalize",
+            "true",
+            came.as_str(),
+        )
+    }
+}
+
+/// Rows of bytes and whether they are a text.
+pub struct ValidBytes;
+
+impl Table for ValidBytes {
+    fn replay(&self, alloc: Global, row: &str, wrong: &mut Vec<Difference>) -> Result<()> {
+        let cells = cells(alloc, row)?;
+        let [item, wanted] = cells.as_slice() else {
+            bail!("not two cells");
+        };
+        let item = bytes(alloc, item)?;
+        let came = always::<String>().from_utf8().eval(alloc, &item)?;
+        compare(
+            alloc,
+            wrong,
+            "valid",
+            wanted,
+            came.to_string(alloc)?.as_str(),
+        )
+    }
+}
+
+/// Rows of a text and its debug form, which is what a comparison prints.
+pub struct DebugForms;
+
+impl Table for DebugForms {
+    fn replay(&self, alloc: Global, row: &str, wrong: &mut Vec<Difference>) -> Result<()> {
+        let cells = cells(alloc, row)?;
+        let [item, wanted] = cells.as_slice() else {
+            bail!("not two cells");
+        };
+        let printed = eq(text_of_digits(alloc, item)?).to_string(alloc)?;
+        let came = printed
+            .as_str()
+            .strip_prefix("var == ")
+            .context("another comparison")?;
+        compare(alloc, wrong, "debug", wanted, came)
+    }
+}
+
+// The bytes of a text as hexadecimal digits, which is a point where there are none.
+fn digits(alloc: Global, text: &str) -> Result<String, AllocError> {
+    if text.is_empty() {
+        return String::from_str(alloc, ".");
+    }
+    hex::encode(alloc, text.as_bytes())
+}
