@@ -2,6 +2,7 @@
 mod callers;
 mod guide;
 mod own;
+mod reason;
 
 use predicates::prelude::*;
 use predicates::reflection::{PredicateReflection, render, render_onto};

@@ -2,6 +2,7 @@
 use super::{explain_onto, has_parameter, text};
 use predicates::path::{FileType, FileTypePredicate, PathFault, Snapshot};
 use predicates::prelude::*;
+use predicates::reflection::render;
 use predicates::static_text::StaticText;
 use predicates::{BoxPredicate, TextPredicate};
 use std::alloc::{AllocError, Global};
@@ -12,6 +13,21 @@ fn file(alloc: Global, path: &str, content: &[u8]) -> Result<Snapshot, AllocErro
     let content = Vec::from_slice(alloc, content)?;
     let kind = Ok(FileType::File);
     Ok(Snapshot::from_parts(text(alloc, path)?, kind, kind, Ok(content)))
+}
+
+#[test]
+fn first_example(rt: HostRuntime) -> Result<(), Fail> {
+    let alloc = rt.alloc();
+    let between = predicate::ge(5).and(predicate::le(10));
+    assert!(rt; between.eval(alloc, &7)?);
+    assert!(rt; between.find_case(alloc, false, &7)?.is_none());
+    let case = between.find_case(alloc, false, &11)?.ok_or("it holds")?;
+    let lines = render(alloc, &case)?;
+    assert_eq!(rt;
+        lines.as_str(),
+        "(var >= 5 && var <= 10) = false\n  right: var <= 10 = false\n    - var: 11\n"
+    );
+    Ok(())
 }
 
 #[test]
@@ -99,7 +115,8 @@ fn functions(rt: HostRuntime) -> Result<(), Fail> {
     let mut out = String::new(alloc);
     let bound = 5;
     let big = predicate::function(move |x: &i32| *x >= bound).fn_name("big");
-    explain_onto(alloc, &mut out, &big.and(predicate::le(10)), &3)?;
+    let middle = big.and(predicate::le(10));
+    explain_onto(alloc, &mut out, &middle, &3)?;
     assert_eq!(rt;
         out.as_str(),
         "(big(var) && var <= 10) = false\n  left: big(var) = false\n"
@@ -172,12 +189,11 @@ fn views(rt: HostRuntime) -> Result<(), Fail> {
 fn kinds(rt: HostRuntime) -> Result<(), Fail> {
     let alloc = rt.alloc();
     let mut out = String::new(alloc);
-    let gone = PathFault::NotFound;
     let link = Snapshot::from_parts(
-        text(alloc, "l")?,
+        String::from_str(alloc, "l")?,
         Ok(FileType::Symlink),
-        Err(gone),
-        Err(gone),
+        Err(PathFault::NotFound),
+        Err(PathFault::NotFound),
     );
     explain_onto(alloc, &mut out, &predicate::path::exists(), &link)?;
     explain_onto(alloc, &mut out, &predicate::path::missing(), &link)?;
