@@ -45,48 +45,60 @@ pub fn median(mut times: Vec<f64>) -> f64 {
     times[times.len() / 2]
 }
 
-// The shortest time of a batch, and a hundred times what a call takes before its first round.
-fn batch(asked: &Asked<'_>) -> f64 {
-    let before = (0..3).map(|_| took(asked, 0)).fold(f64::INFINITY, f64::min);
-    (before * 100.0).clamp(4e6, 1e9)
+/// A side with what a call takes before its first round, and so many rounds that this is little.
+struct Side<'a> {
+    asked: &'a Asked<'a>,
+    making: f64,
+    rounds: usize,
 }
 
-fn rounds_of(asked: &Asked<'_>, batch: f64) -> usize {
-    let mut rounds = 1;
-    loop {
-        let time = took(asked, rounds);
-        if time >= batch {
-            return rounds;
+impl<'a> Side<'a> {
+    fn new(asked: &'a Asked<'a>) -> Side<'a> {
+        let making = (0..3).map(|_| took(asked, 0)).fold(f64::INFINITY, f64::min);
+        Side { asked, making, rounds: 1 }
+    }
+
+    // A call should take so long: twenty times what comes before its first round, and some milliseconds.
+    fn wanted(&self) -> f64 {
+        (self.making * 20.0).clamp(4e6, 4e8)
+    }
+
+    fn settle(&mut self, wanted: f64) {
+        loop {
+            let time = took(self.asked, self.rounds);
+            if time >= wanted {
+                return;
+            }
+            let rounds = self.rounds as f64 * (wanted * 1.1 / time.max(1.0));
+            self.rounds = (rounds.min(self.rounds as f64 * 64.0).ceil() as usize).max(self.rounds + 1);
         }
-        let wanted = rounds as f64 * (batch * 1.1 / time.max(1.0));
-        rounds = (wanted.min(rounds as f64 * 64.0).ceil() as usize).max(rounds + 1);
+    }
+
+    fn one_round(&self) -> f64 {
+        (took(self.asked, self.rounds) - self.making).max(0.0) / self.rounds as f64
     }
 }
 
 /// The time of one answer on both sides, of which each round gives so many.
 pub fn beside(port: &Asked<'_>, original: &Asked<'_>, answers: usize) -> Pair {
-    let batch = batch(port).max(batch(original));
-    let port_rounds = rounds_of(port, batch);
-    let original_rounds = rounds_of(original, batch);
-    let pairs = ((3e9 / (2.0 * batch)) as usize).clamp(7, 15);
-    let times: Vec<(f64, f64)> = (0..pairs)
-        .map(|_| {
-            let port = took(port, port_rounds) / (port_rounds * answers) as f64;
-            let original = took(original, original_rounds) / (original_rounds * answers) as f64;
-            (port, original)
-        })
-        .collect();
+    let (mut port, mut original) = (Side::new(port), Side::new(original));
+    let wanted = port.wanted().max(original.wanted());
+    port.settle(wanted);
+    original.settle(wanted);
+    let pairs = ((1e9 / (2.0 * wanted)) as usize).clamp(9, 25);
+    let times: Vec<(f64, f64)> = (0..pairs).map(|_| (port.one_round(), original.one_round())).collect();
     Pair {
-        port: median(times.iter().map(|t| t.0).collect()),
-        original: median(times.iter().map(|t| t.1).collect()),
+        port: median(times.iter().map(|t| t.0).collect()) / answers as f64,
+        original: median(times.iter().map(|t| t.1).collect()) / answers as f64,
         ratio: median(times.iter().map(|t| t.0 / t.1).collect()),
     }
 }
 
 /// The time of one answer of a side that has nothing beside it.
 pub fn alone(port: &Asked<'_>) -> f64 {
-    let rounds = rounds_of(port, batch(port));
-    median((0..9).map(|_| took(port, rounds) / rounds as f64).collect())
+    let mut port = Side::new(port);
+    port.settle(port.wanted());
+    median((0..9).map(|_| port.one_round()).collect())
 }
 
 /// Both sides give the same answers, so they do the same work.

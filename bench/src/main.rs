@@ -1,5 +1,5 @@
 //! Times the port's predicates beside the original's, in one process and in turn, and prints tables.
-//! beside PORT_EXPLAIN ORIGINAL_EXPLAIN LINES [ROW]
+//! beside PORT_EXPLAIN ORIGINAL_EXPLAIN ORIGINAL_TEXT LINES [ROW]
 
 mod clock;
 mod port;
@@ -11,12 +11,13 @@ mod table;
 mod tree;
 
 use std::env;
-use std::path::PathBuf;
+use programs::Programs;
+use std::path::Path;
 
 fn main() {
     let words: Vec<String> = env::args().skip(1).collect();
-    let [port, original, lines, only @ ..] = words.as_slice() else {
-        eprintln!("usage: beside PORT_EXPLAIN ORIGINAL_EXPLAIN LINES [ROW]");
+    let [port, original, original_text, lines, only @ ..] = words.as_slice() else {
+        eprintln!("usage: beside PORT_EXPLAIN ORIGINAL_EXPLAIN ORIGINAL_TEXT LINES [ROW]");
         std::process::exit(2);
     };
     let only = only.first().map_or("", String::as_str);
@@ -24,7 +25,8 @@ fn main() {
     println!("Each cell: the port's time / the original's = the median of their ratios.\n");
     // First, while this process is small: a child's peak of memory begins with that of its parent.
     if lines > 0 {
-        programs::print(&PathBuf::from(port), &PathBuf::from(original), lines);
+        let programs = Programs { port: Path::new(port), original: Path::new(original), original_text: Path::new(original_text) };
+        programs::print(&programs, lines);
     }
     rows::print(only);
     table::print_misses();

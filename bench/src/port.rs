@@ -5,6 +5,16 @@ use crate::question::Question;
 unsafe extern "C" {
     fn bench_between(lo: i64, hi: i64, items: *const i64, len: usize, question: u8, rounds: usize) -> usize;
     fn bench_between_tree(lo: i64, hi: i64, items: *const i64, len: usize, question: u8, rounds: usize) -> usize;
+    fn bench_chosen(
+        first: u8,
+        lo: i64,
+        second: u8,
+        hi: i64,
+        items: *const i64,
+        len: usize,
+        question: u8,
+        rounds: usize,
+    ) -> usize;
     fn bench_nots(depth: usize, items: *const i64, len: usize, question: u8, rounds: usize) -> usize;
     fn bench_row(ands: u16, items: *const i64, len: usize, question: u8, rounds: usize) -> usize;
     fn bench_full(levels: u8, items: *const i64, len: usize, question: u8, rounds: usize) -> usize;
@@ -14,18 +24,58 @@ unsafe extern "C" {
     fn bench_make_listed(m: *const i64, mlen: usize, item: i64, rounds: usize) -> usize;
     fn bench_make_sorted(m: *const i64, mlen: usize, item: i64, rounds: usize) -> usize;
     fn bench_make_hashed(m: *const i64, mlen: usize, item: i64, rounds: usize) -> usize;
-    fn bench_contains(p: *const u8, plen: usize, t: *const u8, tlen: usize, question: u8, rounds: usize) -> usize;
-    fn bench_count(p: *const u8, plen: usize, count: usize, t: *const u8, tlen: usize, question: u8, rounds: usize)
-        -> usize;
-    fn bench_matches(p: *const u8, plen: usize, count: usize, t: *const u8, tlen: usize, question: u8, rounds: usize)
-        -> usize;
-    fn bench_starts_with(p: *const u8, plen: usize, t: *const u8, tlen: usize, question: u8, rounds: usize) -> usize;
-    fn bench_trimmed(t: *const u8, tlen: usize, question: u8, rounds: usize) -> usize;
-    fn bench_from_utf8(t: *const u8, tlen: usize, question: u8, rounds: usize) -> usize;
+    fn bench_contains(
+        p: *const u8,
+        plen: usize,
+        t: *const u8,
+        tlen: usize,
+        copies: usize,
+        question: u8,
+        rounds: usize,
+    ) -> usize;
+    fn bench_count(
+        p: *const u8,
+        plen: usize,
+        count: usize,
+        t: *const u8,
+        tlen: usize,
+        copies: usize,
+        question: u8,
+        rounds: usize,
+    ) -> usize;
+    fn bench_matches(
+        p: *const u8,
+        plen: usize,
+        count: usize,
+        t: *const u8,
+        tlen: usize,
+        copies: usize,
+        question: u8,
+        rounds: usize,
+    ) -> usize;
+    fn bench_starts_with(
+        p: *const u8,
+        plen: usize,
+        t: *const u8,
+        tlen: usize,
+        copies: usize,
+        question: u8,
+        rounds: usize,
+    ) -> usize;
+    fn bench_trimmed(t: *const u8, tlen: usize, copies: usize, question: u8, rounds: usize) -> usize;
+    fn bench_from_utf8(t: *const u8, tlen: usize, copies: usize, question: u8, rounds: usize) -> usize;
 }
 
 pub fn between(lo: i64, hi: i64, items: &[i64], question: Question, rounds: usize) -> usize {
     unsafe { bench_between(lo, hi, items.as_ptr(), items.len(), question.number(), rounds) }
+}
+
+/// The numbers of the comparisons by "at least" and "at most".
+pub const GE_LE: (u8, u8) = (2, 1);
+
+pub fn chosen(lo: i64, hi: i64, items: &[i64], question: Question, rounds: usize) -> usize {
+    let (first, second) = GE_LE;
+    unsafe { bench_chosen(first, lo, second, hi, items.as_ptr(), items.len(), question.number(), rounds) }
 }
 
 pub fn between_tree(lo: i64, hi: i64, items: &[i64], question: Question, rounds: usize) -> usize {
@@ -87,30 +137,39 @@ pub fn make_member(held: Held, members: &[i64], item: i64, rounds: usize) -> usi
     }
 }
 
-pub fn contains(pattern: &str, text: &str, question: Question, rounds: usize) -> usize {
-    let (p, plen, t, tlen) = (pattern.as_ptr(), pattern.len(), text.as_ptr(), text.len());
-    unsafe { bench_contains(p, plen, t, tlen, question.number(), rounds) }
+/// A text, and how many copies of it there are.
+#[derive(Clone, Copy)]
+pub struct Copied<'a> {
+    pub bytes: &'a [u8],
+    pub copies: usize,
 }
 
-pub fn count(pattern: &str, count: usize, text: &str, question: Question, rounds: usize) -> usize {
-    let (p, plen, t, tlen) = (pattern.as_ptr(), pattern.len(), text.as_ptr(), text.len());
-    unsafe { bench_count(p, plen, count, t, tlen, question.number(), rounds) }
+pub fn contains(pattern: &str, text: Copied<'_>, question: Question, rounds: usize) -> usize {
+    let (p, plen, Copied { bytes, copies }) = (pattern.as_ptr(), pattern.len(), text);
+    unsafe { bench_contains(p, plen, bytes.as_ptr(), bytes.len(), copies, question.number(), rounds) }
 }
 
-pub fn matches(pattern: &str, count: usize, text: &str, question: Question, rounds: usize) -> usize {
-    let (p, plen, t, tlen) = (pattern.as_ptr(), pattern.len(), text.as_ptr(), text.len());
-    unsafe { bench_matches(p, plen, count, t, tlen, question.number(), rounds) }
+pub fn count(pattern: &str, count: usize, text: Copied<'_>, question: Question, rounds: usize) -> usize {
+    let (p, plen, Copied { bytes, copies }) = (pattern.as_ptr(), pattern.len(), text);
+    unsafe { bench_count(p, plen, count, bytes.as_ptr(), bytes.len(), copies, question.number(), rounds) }
 }
 
-pub fn starts_with(pattern: &str, text: &str, question: Question, rounds: usize) -> usize {
-    let (p, plen, t, tlen) = (pattern.as_ptr(), pattern.len(), text.as_ptr(), text.len());
-    unsafe { bench_starts_with(p, plen, t, tlen, question.number(), rounds) }
+pub fn matches(pattern: &str, count: usize, text: Copied<'_>, question: Question, rounds: usize) -> usize {
+    let (p, plen, Copied { bytes, copies }) = (pattern.as_ptr(), pattern.len(), text);
+    unsafe { bench_matches(p, plen, count, bytes.as_ptr(), bytes.len(), copies, question.number(), rounds) }
 }
 
-pub fn trimmed(text: &str, question: Question, rounds: usize) -> usize {
-    unsafe { bench_trimmed(text.as_ptr(), text.len(), question.number(), rounds) }
+pub fn starts_with(pattern: &str, text: Copied<'_>, question: Question, rounds: usize) -> usize {
+    let (p, plen, Copied { bytes, copies }) = (pattern.as_ptr(), pattern.len(), text);
+    unsafe { bench_starts_with(p, plen, bytes.as_ptr(), bytes.len(), copies, question.number(), rounds) }
 }
 
-pub fn from_utf8(bytes: &[u8], question: Question, rounds: usize) -> usize {
-    unsafe { bench_from_utf8(bytes.as_ptr(), bytes.len(), question.number(), rounds) }
+pub fn trimmed(text: Copied<'_>, question: Question, rounds: usize) -> usize {
+    let Copied { bytes, copies } = text;
+    unsafe { bench_trimmed(bytes.as_ptr(), bytes.len(), copies, question.number(), rounds) }
+}
+
+pub fn from_utf8(text: Copied<'_>, question: Question, rounds: usize) -> usize {
+    let Copied { bytes, copies } = text;
+    unsafe { bench_from_utf8(bytes.as_ptr(), bytes.len(), copies, question.number(), rounds) }
 }

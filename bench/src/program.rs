@@ -1,7 +1,7 @@
 //! Runs of the two programs `explain` over a million lines.
 
 use std::fs::{self, File};
-use std::io::{BufWriter, Write};
+use std::io::{BufRead, BufReader, BufWriter, Write};
 use std::path::{Path, PathBuf};
 use std::process::{Command, ExitStatus, Stdio};
 
@@ -55,6 +55,24 @@ pub fn run(program: &Path, words: &[&str], input: &Path, output: Option<&Path>) 
     let seconds = usage.user.seconds() + usage.system.seconds();
     let status: ExitStatus = std::os::unix::process::ExitStatusExt::from_raw(status);
     (Run { seconds, kilobytes: usage.most_kilobytes }, status.code().unwrap_or(-1))
+}
+
+/// Whether two files are the same. It holds little of them, since a child's peak of memory begins with this process's.
+pub fn same(one: &Path, other: &Path) -> bool {
+    let open = |path| BufReader::with_capacity(1 << 16, File::open(path).expect("an output file"));
+    let (mut one, mut other) = (open(one), open(other));
+    loop {
+        let (left, right) = (one.fill_buf().expect("an output"), other.fill_buf().expect("an output"));
+        let len = left.len().min(right.len());
+        if left[..len] != right[..len] {
+            return false;
+        }
+        if len == 0 {
+            return left.len() == right.len();
+        }
+        one.consume(len);
+        other.consume(len);
+    }
 }
 
 /// A folder for inputs and outputs, which is emptied at the end.

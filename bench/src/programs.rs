@@ -1,8 +1,8 @@
 //! The programs: lines a second, and peaks of memory.
 
 use crate::clock::median;
-use crate::program::{run, Folder};
-use std::fs;
+use crate::program::{run, same, Folder};
+use crate::table::missed;
 use std::path::Path;
 
 fn numbers(lines: usize) -> impl Iterator<Item = String> {
@@ -14,65 +14,63 @@ fn words(lines: usize) -> impl Iterator<Item = String> {
     (0..lines).map(move |at| words[(at * at + at / 7) % words.len()].to_string())
 }
 
+/// The programs that are run: the port's, the original's, and the original's for one check of texts.
+pub struct Programs<'a> {
+    pub port: &'a Path,
+    pub original: &'a Path,
+    pub original_text: &'a Path,
+}
+
 struct Task<'a> {
     name: &'a str,
     words: &'a [&'a str],
     input: &'a Path,
-    has_original: bool,
+    original: &'a Path,
 }
 
-fn print_task(port: &Path, original: &Path, folder: &Folder, lines: usize, task: &Task<'_>) {
+fn print_task(port: &Path, folder: &Folder, lines: usize, task: &Task<'_>) {
     let (ours, theirs) = (folder.path("ours"), folder.path("theirs"));
     let (_, status) = run(port, task.words, task.input, Some(&ours));
-    if status > 1 {
-        println!("| {} | not there: status {status} | | | | |", task.name);
-        return;
+    assert!(status < 2, "{}: status {status}", task.name);
+    run(task.original, task.words, task.input, Some(&theirs));
+    assert!(same(&ours, &theirs), "{}: the outputs differ", task.name);
+    let (mut port_runs, mut original_runs) = (Vec::new(), Vec::new());
+    for _ in 0..7 {
+        port_runs.push(run(port, task.words, task.input, None).0);
+        original_runs.push(run(task.original, task.words, task.input, None).0);
     }
-    let mut programs = vec![port];
-    if task.has_original {
-        run(original, task.words, task.input, Some(&theirs));
-        let same = fs::read(&ours).expect("an output") == fs::read(&theirs).expect("an output");
-        assert!(same, "{}: the outputs differ", task.name);
-        programs.push(original);
-    }
-    let mut runs = vec![Vec::new(); programs.len()];
-    for _ in 0..5 {
-        for (program, runs) in programs.iter().zip(&mut runs) {
-            runs.push(run(program, task.words, task.input, None).0);
-        }
-    }
-    let speed = |at: usize| lines as f64 / median(runs[at].iter().map(|run| run.seconds).collect()) / 1e6;
-    let memory = |at: usize| runs[at].iter().map(|run| run.kilobytes).max().unwrap_or(0);
-    if task.has_original {
-        let ratio = median(runs[0].iter().zip(&runs[1]).map(|(a, b)| b.seconds / a.seconds).collect());
-        let mark = if ratio < 1.0 { " !" } else { "" };
-        println!(
-            "| {} | {:.2} | {:.2} | {ratio:.2}{mark} | {} kB | {} kB |",
-            task.name,
-            speed(0),
-            speed(1),
-            memory(0),
-            memory(1)
-        );
-    } else {
-        println!("| {} | {:.2} | | | {} kB | |", task.name, speed(0), memory(0));
-    }
+    let seconds = |runs: &[crate::program::Run]| median(runs.iter().map(|run| run.seconds).collect());
+    let speed = |runs: &[crate::program::Run]| lines as f64 / seconds(runs) / 1e6;
+    let memory = |runs: &[crate::program::Run]| runs.iter().map(|run| run.kilobytes).max().unwrap_or(0);
+    let neighbours = port_runs.iter().zip(&original_runs);
+    let ratio = median(neighbours.map(|(port, original)| port.seconds / original.seconds).collect());
+    let mark = missed(task.name, ratio, 1.0);
+    println!(
+        "| {} | {:.2} | {:.2} | {ratio:.2}{mark} | {} kB | {} kB |",
+        task.name,
+        speed(&port_runs),
+        speed(&original_runs),
+        memory(&port_runs),
+        memory(&original_runs)
+    );
 }
 
-pub fn print(port: &Path, original: &Path, lines: usize) {
+pub fn print(programs: &Programs<'_>, lines: usize) {
     let folder = Folder::new();
     let numbers = folder.write("numbers", numbers(lines));
     let words = folder.write("words", words(lines));
-    println!("| The program over {lines} lines, output thrown away | million lines a second, port | original | port / original | peak memory, port | original |");
+    println!("| `explain` over {lines} lines | million lines a second, port | original | time, port / original | peak memory, port | original |");
     println!("|---|---|---|---|---|---|");
+    let between = ["between", "5", "10"];
     let check = ["text", "empty", "trim", "contains=a", "or"];
+    let Programs { port, original, original_text } = *programs;
     let tasks = [
-        Task { name: "`between 5 10`, numbers", words: &["between", "5", "10"], input: &numbers, has_original: true },
-        Task { name: "`between 5 10`, no line a number", words: &["between", "5", "10"], input: &words, has_original: true },
-        Task { name: "`text empty trim contains=a or`", words: &check, input: &words, has_original: false },
+        Task { name: "`between 5 10`, numbers", words: &between, input: &numbers, original },
+        Task { name: "`between 5 10`, no line a number", words: &between, input: &words, original },
+        Task { name: "`text empty trim contains=a or`", words: &check, input: &words, original: original_text },
     ];
     for task in &tasks {
-        print_task(port, original, &folder, lines, task);
+        print_task(port, &folder, lines, task);
     }
     println!();
 }

@@ -17,14 +17,20 @@ pub fn time(ns: f64) -> String {
     }
 }
 
+/// The mark of a ratio, which is kept where it is above the target.
+pub fn missed(what: &str, ratio: f64, target: f64) -> &'static str {
+    // What is printed as the target meets it.
+    if ratio < target + 0.005 {
+        return "";
+    }
+    let line = format!("{what}: {ratio:.2}, where at most {target:.2} is wanted");
+    MISSES.with(|misses| misses.borrow_mut().push(line));
+    " !"
+}
+
 /// Both times and their ratio, which is marked where it is above the target.
 pub fn cell(what: &str, pair: Pair, target: f64) -> String {
-    let above = pair.ratio > target;
-    if above {
-        let line = format!("{what}: {:.2}, where at most {target:.2} is wanted", pair.ratio);
-        MISSES.with(|misses| misses.borrow_mut().push(line));
-    }
-    let mark = if above { " !" } else { "" };
+    let mark = missed(what, pair.ratio, target);
     format!("{} / {} = {:.2}{mark}", time(pair.port), time(pair.original), pair.ratio)
 }
 

@@ -28,6 +28,21 @@ fn print_between(only: &str, items: &[i64]) {
         }
         .print();
     }
+    let name = "the same, operators chosen at run time";
+    if name.contains(only) {
+        Row {
+            name: name.to_string(),
+            target: 1.1,
+            naming: (Address, Address),
+            items: items.len(),
+            port: &|question, rounds| port::chosen(lo, hi, items, question, rounds),
+            original: &|question, naming, rounds| {
+                let between = predicate::ge(lo).and(predicate::le(hi));
+                ask(black_box(&between), items, question, naming, rounds)
+            },
+        }
+        .print();
+    }
     let name = "the same as an enum";
     if name.contains(only) {
         Row {

@@ -4,7 +4,6 @@ use predicates::boolean::PredicateBooleanExt;
 use predicates_core::Predicate;
 use predicates_text::{PredicateStrExt, contains, is_empty, is_match, starts_with};
 use std::alloc::{AllocError, Global};
-use std::slice;
 
 // The text that the bytes are; other bytes are refused as memory is.
 fn text(alloc: Global, bytes: &[u8]) -> Result<String, AllocError> {
@@ -14,18 +13,28 @@ fn text(alloc: Global, bytes: &[u8]) -> Result<String, AllocError> {
     }
 }
 
-// The sum of the answers about the text over so many rounds, and zero where memory is refused.
+// So many texts that the bytes are. The compiler sees neither the texts nor how many there are.
+fn copied(alloc: Global, bytes: &[u8], copies: usize) -> Result<Vec<String>, AllocError> {
+    let mut all = Vec::new(alloc);
+    for _ in 0..copies {
+        all.push(text(alloc, bytes)?)?;
+    }
+    Ok(all)
+}
+
+// The sum of the answers about so many copies of the text, and zero where memory is refused.
 fn ask_of_text<P: Predicate<String>>(
     alloc: Global,
     predicate: &P,
     bytes: &[u8],
+    copies: usize,
     question: u8,
     rounds: usize,
 ) -> usize
     requires { P.lawful predicate.now }
 {
-    match text(alloc, bytes) {
-        Ok(item) => ask(alloc, predicate, slice::from_ref(&item), question, rounds),
+    match copied(alloc, bytes, copies) {
+        Ok(items) => ask(alloc, predicate, &items, question, rounds),
         Err(_) => 0,
     }
 }
@@ -36,11 +45,12 @@ pub extern "C" fn bench_contains(
     alloc: Global,
     pattern: &[u8],
     bytes: &[u8],
+    copies: usize,
     question: u8,
     rounds: usize,
 ) -> usize {
     match text(alloc, pattern) {
-        Ok(pattern) => ask_of_text(alloc, &contains(pattern), bytes, question, rounds),
+        Ok(pattern) => ask_of_text(alloc, &contains(pattern), bytes, copies, question, rounds),
         Err(_) => 0,
     }
 }
@@ -52,13 +62,14 @@ pub extern "C" fn bench_count(
     pattern: &[u8],
     count: usize,
     bytes: &[u8],
+    copies: usize,
     question: u8,
     rounds: usize,
 ) -> usize {
     match text(alloc, pattern) {
         Ok(pattern) => {
             let predicate = contains(pattern).count(count);
-            ask_of_text(alloc, &predicate, bytes, question, rounds)
+            ask_of_text(alloc, &predicate, bytes, copies, question, rounds)
         }
         Err(_) => 0,
     }
@@ -70,11 +81,19 @@ pub extern "C" fn bench_starts_with(
     alloc: Global,
     pattern: &[u8],
     bytes: &[u8],
+    copies: usize,
     question: u8,
     rounds: usize,
 ) -> usize {
     match text(alloc, pattern) {
-        Ok(pattern) => ask_of_text(alloc, &starts_with(pattern), bytes, question, rounds),
+        Ok(pattern) => ask_of_text(
+            alloc,
+            &starts_with(pattern),
+            bytes,
+            copies,
+            question,
+            rounds,
+        ),
         Err(_) => 0,
     }
 }
@@ -86,6 +105,7 @@ pub extern "C" fn bench_matches(
     pattern: &[u8],
     count: usize,
     bytes: &[u8],
+    copies: usize,
     question: u8,
     rounds: usize,
 ) -> usize {
@@ -93,15 +113,36 @@ pub extern "C" fn bench_matches(
         return 0;
     };
     match is_match(alloc, pattern) {
-        Ok(predicate) => ask_of_text(alloc, &predicate.count(count), bytes, question, rounds),
+        Ok(predicate) => ask_of_text(
+            alloc,
+            &predicate.count(count),
+            bytes,
+            copies,
+            question,
+            rounds,
+        ),
         Err(_) => 0,
     }
 }
 
 /// Asks whether nothing is left of the text without the white space at its ends.
 #[unsafe(no_mangle)]
-pub extern "C" fn bench_trimmed(alloc: Global, bytes: &[u8], question: u8, rounds: usize) -> usize {
-    ask_of_text(alloc, &is_empty().trim(), bytes, question, rounds)
+pub extern "C" fn bench_trimmed(
+    alloc: Global,
+    bytes: &[u8],
+    copies: usize,
+    question: u8,
+    rounds: usize,
+) -> usize {
+    ask_of_text(alloc, &is_empty().trim(), bytes, copies, question, rounds)
+}
+
+fn copied_bytes(alloc: Global, bytes: &[u8], copies: usize) -> Result<Vec<Vec<u8>>, AllocError> {
+    let mut all = Vec::new(alloc);
+    for _ in 0..copies {
+        all.push(Vec::from_slice(alloc, bytes)?)?;
+    }
+    Ok(all)
 }
 
 /// Asks whether the bytes are a text that is not empty.
@@ -109,13 +150,14 @@ pub extern "C" fn bench_trimmed(alloc: Global, bytes: &[u8], question: u8, round
 pub extern "C" fn bench_from_utf8(
     alloc: Global,
     bytes: &[u8],
+    copies: usize,
     question: u8,
     rounds: usize,
 ) -> usize {
-    match Vec::from_slice(alloc, bytes) {
-        Ok(item) => {
+    match copied_bytes(alloc, bytes, copies) {
+        Ok(items) => {
             let predicate = is_empty().not().from_utf8();
-            ask(alloc, &predicate, slice::from_ref(&item), question, rounds)
+            ask(alloc, &predicate, &items, question, rounds)
         }
         Err(_) => 0,
     }
