@@ -39,25 +39,69 @@ fn read_members(alloc: Global, cell: &str) -> Result<Vec<i64>> {
 // No list of the table has more members.
 const LONGEST: u32 = 10_000;
 
+// The debug form of a list whose members stand in order, each once.
+fn written(alloc: Global, members: &[i64], brackets: [char; 2]) -> Result<String> {
+    let mut text = String::new(alloc);
+    text.push(brackets[0])?;
+    for (place, member) in members.iter().enumerate() {
+        let comma = if place > 0 { ", " } else { "" };
+        write!(text, "{comma}{member}")?;
+    }
+    text.push(brackets[1])?;
+    Ok(text)
+}
+
+// The brackets of a debug form.
+const OF_LIST: [char; 2] = ['[', ']'];
+
+const OF_SET: [char; 2] = ['{', '}'];
+
+// What a row tells of one of the three memberships.
+#[derive(Clone, Copy)]
+struct Wanted<'a> {
+    column: &'static str,
+    verdict: &'a str,
+    values: &'a str,
+    brackets: [char; 2],
+}
+
+impl<'a> Wanted<'a> {
+    fn new(
+        column: &'static str,
+        verdict: &'a str,
+        values: &'a str,
+        brackets: [char; 2],
+    ) -> Wanted<'a> {
+        Wanted {
+            column,
+            verdict,
+            values,
+            brackets,
+        }
+    }
+}
+
 // Compares the verdict and the parameter `values`, whose cell is `long` for a list that is too long
 // to be written.
 fn compare_membership(
     alloc: Global,
     wrong: &mut Vec<Difference>,
     answers: &Answers,
-    columns: [&'static str; 2],
-    wanted: [&str; 2],
+    members: &[i64],
+    wanted: Wanted<'_>,
 ) -> Result<()> {
+    let column = wanted.column;
     let came = answers.verdict.to_string(alloc)?;
-    compare(alloc, wrong, columns[0], wanted[0], came.as_str())?;
+    compare(alloc, wrong, column, wanted.verdict, came.as_str())?;
     let [parameter] = answers.parameters.as_slice() else {
         bail!("not one parameter");
     };
-    compare(alloc, wrong, "parameter", "values", parameter.name())?;
-    if wanted[1] == "long" {
-        return Ok(());
+    compare(alloc, wrong, column, "values", parameter.name())?;
+    if wanted.values == "long" {
+        let written = written(alloc, members, wanted.brackets)?;
+        return compare(alloc, wrong, column, written.as_str(), parameter.value());
     }
-    compare(alloc, wrong, columns[1], wanted[1], parameter.value())
+    compare(alloc, wrong, column, wanted.values, parameter.value())
 }
 
 // Compares the case for the verdict, and that there is none for its opposite.
@@ -117,16 +161,16 @@ impl Table for MembershipTable {
         let members = read_members(alloc, members)?;
         let all = in_iter(alloc, members.clone()?)?;
         let answers = ask(alloc, &all, &item)?;
-        let columns = ["in_iter", "in_iter_values"];
-        compare_membership(alloc, wrong, &answers, columns, [*listed, *listed_values])?;
+        let wanted = Wanted::new("in_iter", listed, listed_values, OF_LIST);
+        compare_membership(alloc, wrong, &answers, members.as_slice(), wanted)?;
         compare_case(alloc, wrong, &answers, case)?;
         let all = all.sort()?;
         let answers = ask(alloc, &all, &item)?;
-        let columns = ["sorted", "sorted_values"];
-        compare_membership(alloc, wrong, &answers, columns, [*sorted, *sorted_values])?;
+        let wanted = Wanted::new("sorted", sorted, sorted_values, OF_LIST);
+        compare_membership(alloc, wrong, &answers, members.as_slice(), wanted)?;
         compare_search(alloc, wrong, &all, item, sorted, most)?;
-        let answers = ask(alloc, &in_hash(alloc, members)?, &item)?;
-        let columns = ["in_hash", "in_hash_values"];
-        compare_membership(alloc, wrong, &answers, columns, [*hashed, *hashed_values])
+        let answers = ask(alloc, &in_hash(alloc, members.clone()?)?, &item)?;
+        let wanted = Wanted::new("in_hash", hashed, hashed_values, OF_SET);
+        compare_membership(alloc, wrong, &answers, members.as_slice(), wanted)
     }
 }
