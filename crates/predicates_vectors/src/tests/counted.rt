@@ -36,7 +36,7 @@ fn a_hashed_set_hashes_its_members(rt: HostRuntime) -> Result<(), Fail> {
     };
     assert!(rt; set.eval(alloc, &item)?);
     assert!(rt; calls.hashed.get() != 0);
-    // A look-up hashes too, and compares less often than there are members to scan.
+    // A look-up hashes its item.
     calls.hashed.set(0);
     assert!(rt; set.eval(alloc, &item)?);
     assert!(rt; calls.hashed.get() != 0);

@@ -61,9 +61,9 @@ impl<'a> Predicate<i64> for CountingLeaf<'a> {
         &self,
         alloc: Global,
         expected: bool,
-        _item: &i64,
+        item: &i64,
     ) -> Result<Option<Case>, AllocError> {
-        if !expected {
+        if self.eval(alloc, item)? != expected {
             return Ok(None);
         }
         Ok(Some(alone(alloc, self.to_string(alloc)?, expected)))
