@@ -3,7 +3,7 @@ mod boxes;
 mod cases;
 mod contents;
 mod counted;
-mod counting_leaf;
+mod counting;
 mod counting_member;
 mod decoding;
 mod generated;
