@@ -1,9 +1,9 @@
 -- How far a run has come in its input.
-use Rattle.std.proofs.Common.{◌≡◌, ℕ, ◌+◌, Bool, true, List, [], ◌∷◌, ◌++◌, length, All, Option, Some, ◌↔◌, IsTrue, refl, sym, ◌∙◌, ap, arith, append_assoc, append-nil, length-append, add-zero}
-use Rattle.std.specs.Io.KnownBytes.{Appends, Keeps}
-use Rattle.std.proofs.KnownBytes.{Appends-nil, Appends-trans, Appends-kept}
-use Rattle.std.proofs.lemmas.List.Elements.{All-nil, All-push, All-pop}
-use Rattle.predicates_explain.specs.Runs.{input_lines, AreAnswers, HasRun}
+use Rattle.std.proofs.Common.{◌≡◌, ℕ, ◌+◌, Bool, List, [], ◌∷◌, ◌++◌, length, All, Option, Some, ◌↔◌, IsTrue, refl, sym, ◌∙◌, ap, arith, append_assoc, append-nil, length-append, add-zero}
+use Rattle.std.specs.Io.KnownBytes.{Appends}
+use Rattle.std.proofs.KnownBytes.{Appends-trans}
+use Rattle.std.proofs.lemmas.List.Elements.{All-push, All-pop}
+use Rattle.predicates_explain.specs.Runs.{input_lines, AreAnswers}
 
 -- an answer after others
 AreAnswers-more : (IsAnswer : ℕ → List ℕ → List ℕ → Type 0) (number : ℕ) (done : List (List ℕ)) (line written more : List ℕ)
@@ -32,17 +32,6 @@ pub record HasAnswered (IsAnswer : ℕ → List ℕ → List ℕ → Type 0) (Is
   pub items : IsTrue all ↔ All IsItem taken
 
 module _ (IsAnswer : ℕ → List ℕ → List ℕ → Type 0) (IsItem : List ℕ → Type 0) where
-  pub has_answered_none : (reader writer : Option (List ℕ)) → HasAnswered IsAnswer IsItem reader reader writer writer 0 true
-  has_answered_none reader writer = record {
-    taken = [];
-    written = [];
-    left = λ bytes known. (bytes, known, refl);
-    counts = refl;
-    appends = Appends-nil writer;
-    answers = refl;
-    items = (λ _. All-nil IsItem, λ _. refl);
-  }
-
   -- one more line is taken and answered
   pub has_answered_more : (r0 r1 r2 w0 w1 w2 : Option (List ℕ)) (count : ℕ) (all is_item both : Bool) (line more : List ℕ)
       → HasAnswered IsAnswer IsItem r0 r1 w0 w1 count all
@@ -62,18 +51,4 @@ module _ (IsAnswer : ℕ → List ℕ → List ℕ → Type 0) (IsItem : List �
       λ true. let parts = joins.0 true in All-push IsItem h.taken line (h.items.0 parts.0) (item.0 parts.1),
       λ every. let parts = All-pop IsItem (h.taken ++ line ∷ []) h.taken (Some line) refl every in joins.1 (h.items.1 parts.0, item.1 parts.1),
     );
-  }
-
-  -- nothing is left
-  pub has_run : (r0 r1 r2 w0 w1 w2 : Option (List ℕ)) (count : ℕ) (all : Bool) → HasAnswered IsAnswer IsItem r0 r1 w0 w1 count all
-      → ((bytes : List ℕ) → r1 ≡ Some bytes → (r2 ≡ Some []) × (input_lines bytes ≡ [])) → Keeps w1 w2
-      → HasRun IsAnswer IsItem r0 r2 w0 w2 all
-  has_run r0 r1 r2 w0 w1 w2 count all h end kept = record {
-    taken = h.taken;
-    written = h.written;
-    whole = λ bytes known. let l = h.left bytes known in let e = end l.0 l.1 in
-        (sym (l.2 ∙ ap (λ others. h.taken ++ others) e.1 ∙ append-nil h.taken), e.0);
-    appends = Appends-kept _ _ _ _ h.appends kept;
-    answers = h.answers;
-    items = h.items;
   }

@@ -24,6 +24,7 @@ pub struct AndPredicate<M1, M2, Item> {
 impl<M1, M2, Item> AndPredicate<M1, M2, Item> {
     ghost use Rattle.predicates.specs.And.{left_of, right_of};
 
+    /// Both parts; the left one is asked first.
     pub fn new(a: M1, b: M2) -> AndPredicate<M1, M2, Item>
         ensures left { left_of result ≡ a }
         ensures right { right_of result ≡ b }

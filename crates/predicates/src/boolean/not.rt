@@ -23,6 +23,7 @@ pub struct NotPredicate<M, Item> {
 impl<M, Item> NotPredicate<M, Item> {
     ghost use Rattle.predicates.specs.Not.{inner_of};
 
+    /// The opposite of the part.
     pub fn new(inner: M) -> NotPredicate<M, Item>
         ensures { inner_of result ≡ inner }
     {

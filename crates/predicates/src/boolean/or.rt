@@ -24,6 +24,7 @@ pub struct OrPredicate<M1, M2, Item> {
 impl<M1, M2, Item> OrPredicate<M1, M2, Item> {
     ghost use Rattle.predicates.specs.Or.{left_of, right_of};
 
+    /// At least one part; the left one is asked first.
     pub fn new(a: M1, b: M2) -> OrPredicate<M1, M2, Item>
         ensures left { left_of result ≡ a }
         ensures right { right_of result ≡ b }
