@@ -1,5 +1,6 @@
 //! What no contract says: that calls succeed, and where faults come from.
 mod streams;
+mod texts;
 
 use crate::{RunFault, explain_one, explain_total, number, run_between};
 use predicates::boolean::PredicateBooleanExt;
@@ -17,15 +18,20 @@ const ELEVEN: &str =
 const ZERO: &str =
     "0: false\n(var >= 5 && var <= 10) = false\n  left: var >= 5 = false\n    - var: 0\n";
 
+// Two lines, the second of them cut short.
+const CUT: &str =
+    "7: true\n(var >= 5 && var <= 10) = true\n  left: var >= 5 = true\n    - var: 7\n  right: var <= 10 = true\n    - var: 7\n1: false\n(var >= 5 && var <= 10) = false\n  left: var >= 5 = false\n    - var: 1\n";
+
 const LEAST: &str =
     "-9223372036854775808: false\n(var >= 5 && var <= 10) = false\n  left: var >= 5 = false\n    - var: -9223372036854775808\n";
 
 // Inputs, what is written for them between 5 and 10, and whether every line is an item.
-const ROWS: [(&str, &str, bool); 13] = [
+const ROWS: [(&str, &str, bool); 14] = [
     ("", "", true),
     ("+7", SEVEN, true),
     ("7", SEVEN, true),
     ("7\r\n", SEVEN, true),
+    ("7\n1", CUT, true),
     ("00011\n", ELEVEN, true),
     ("-0", ZERO, true),
     ("-9223372036854775808", LEAST, true),

@@ -41,6 +41,7 @@ fn counts(rt: HostRuntime) -> Result<(), Fail> {
         let verdict = check.eval(alloc, &item)?;
         let case = check.find_case(alloc, verdict, &item)?.ok_or("no case")?;
         assert_eq!(rt; last_value(&case), Some(counted));
+        assert!(rt; check.find_case(alloc, !verdict, &item)?.is_none());
         assert_eq!(rt; verdict, set.to_string(alloc)?.as_str() == counted);
     }
     Ok(())

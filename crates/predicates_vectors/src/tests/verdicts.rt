@@ -6,11 +6,13 @@ use predicates::constant::{always, never};
 use predicates::function::function;
 use predicates::iter::{in_hash, in_iter};
 use predicates::ord::{eq, ge, gt, le, lt, ne};
+use predicates::str::{contains, ends_with, is_empty, starts_with};
 use predicates_core::Predicate;
+use std::alloc::{AllocError, Global};
 use std::test::Fail;
 
 // The verdict, where its case has that result and there is none for the opposite.
-fn verdict<P: Predicate<Item>, Item>(
+pub(super) fn verdict<P: Predicate<Item>, Item>(
     rt: &HostRuntime,
     predicate: &P,
     item: &Item,
@@ -109,6 +111,69 @@ fn functions(rt: HostRuntime) -> Result<(), Fail> {
     let between = at_least.and(le(10));
     assert_eq!(rt; verdict(&rt, &between, &7)?, YES);
     assert_eq!(rt; verdict(&rt, &between, &3)?, NO);
+    Ok(())
+}
+
+// A text with a number.
+#[derive(Drop)]
+struct Greeting {
+    text: String,
+    number: i64,
+}
+
+#[test]
+fn functions_of_fields(rt: HostRuntime) -> Result<(), Fail> {
+    let greets = function(|g: &Greeting| g.text.as_str() == "hello").and(function(
+        |g: &Greeting| g.number == 42,
+    ));
+    for (text, number, wanted) in [("hello", 42, YES), ("goodbye", 0, NO), ("hello", 0, NO)] {
+        let greeting = Greeting {
+            text: String::from_str(rt.alloc(), text)?,
+            number,
+        };
+        assert_eq!(rt; verdict(&rt, &greets, &greeting)?, wanted);
+    }
+    Ok(())
+}
+
+fn letters(alloc: Global) -> Result<Vec<String>, AllocError> {
+    let mut letters = Vec::new(alloc);
+    for letter in ["a", "c", "e"] {
+        letters.push(String::from_str(alloc, letter)?)?;
+    }
+    Ok(letters)
+}
+
+#[test]
+fn memberships_of_texts(rt: HostRuntime) -> Result<(), Fail> {
+    let alloc = rt.alloc();
+    let listed = in_iter(alloc, letters(alloc)?)?;
+    let sorted = in_iter(alloc, letters(alloc)?)?.sort()?;
+    let hashed = in_hash(alloc, letters(alloc)?)?;
+    for (item, wanted) in [("a", YES), ("b", NO), ("c", YES)] {
+        let item = String::from_str(alloc, item)?;
+        assert_eq!(rt; verdict(&rt, &listed, &item)?, wanted);
+        assert_eq!(rt; verdict(&rt, &sorted, &item)?, wanted);
+        assert_eq!(rt; verdict(&rt, &hashed, &item)?, wanted);
+    }
+    Ok(())
+}
+
+#[test]
+fn parts_of_texts(rt: HostRuntime) -> Result<(), Fail> {
+    let alloc = rt.alloc();
+    let text = |text: &str| String::from_str(alloc, text);
+    let hello = starts_with(text("Hello")?);
+    assert_eq!(rt; verdict(&rt, &hello, &text("Hello World")?)?, YES);
+    assert_eq!(rt; verdict(&rt, &hello, &text("Goodbye World")?)?, NO);
+    let world = ends_with(text("World")?);
+    assert_eq!(rt; verdict(&rt, &world, &text("Hello World")?)?, YES);
+    assert_eq!(rt; verdict(&rt, &world, &text("Hello Moon")?)?, NO);
+    let two = contains(text("Two")?);
+    assert_eq!(rt; verdict(&rt, &two, &text("One Two Three")?)?, YES);
+    assert_eq!(rt; verdict(&rt, &two, &text("Four Five Six")?)?, NO);
+    assert_eq!(rt; verdict(&rt, &is_empty(), &text("")?)?, YES);
+    assert_eq!(rt; verdict(&rt, &is_empty(), &text("Food World")?)?, NO);
     Ok(())
 }
 
