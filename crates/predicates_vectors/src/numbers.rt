@@ -63,6 +63,53 @@ fn only<T: Drop>(mut stack: Vec<T>) -> Option<T> {
     if stack.is_empty() { Some(last) } else { None }
 }
 
+// Whether a leaf is true of a number; none where the word names no leaf.
+fn leaf_truth(word: &NumberWord, item: i64) -> Option<bool> {
+    Some(match word {
+        NumberWord::Always => true,
+        NumberWord::Never => false,
+        NumberWord::Equal(c) => item == *c,
+        NumberWord::Unequal(c) => item != *c,
+        NumberWord::Less(c) => item < *c,
+        NumberWord::AtMost(c) => item <= *c,
+        NumberWord::AtLeast(c) => item >= *c,
+        NumberWord::Greater(c) => item > *c,
+        NumberWord::Called(c) => item >= *c,
+        NumberWord::Listed(list) | NumberWord::Sorted(list) | NumberWord::Hashed(list) => {
+            list.as_slice().contains(&item)
+        }
+        _ => return None,
+    })
+}
+
+// The formula of a combinator over the last ones of the stack; none where there are too few, or
+// where the word names no combinator.
+fn combined(
+    alloc: Global,
+    word: &NumberWord,
+    stack: &mut Vec<PlainFormula>,
+) -> Result<Option<PlainFormula>, AllocError> {
+    let Some(last) = stack.pop() else {
+        return Ok(None);
+    };
+    let last = Box::new(alloc, last)?;
+    if let NumberWord::Named(_) = word {
+        return Ok(Some(PlainFormula::Named(last)));
+    }
+    if let NumberWord::Not = word {
+        return Ok(Some(PlainFormula::Not(last)));
+    }
+    let Some(left) = stack.pop() else {
+        return Ok(None);
+    };
+    let left = Box::new(alloc, left)?;
+    Ok(match word {
+        NumberWord::And => Some(PlainFormula::And(left, last)),
+        NumberWord::Or => Some(PlainFormula::Or(left, last)),
+        _ => None,
+    })
+}
+
 /// The formula that the words mean on a number; none where they are not one predicate.
 pub fn plain_number(
     alloc: Global,
@@ -71,43 +118,12 @@ pub fn plain_number(
 ) -> Result<Option<PlainFormula>, AllocError> {
     let mut stack: Vec<PlainFormula> = Vec::new(alloc);
     for word in words {
-        let made = match word {
-            NumberWord::Always => PlainFormula::Leaf(true),
-            NumberWord::Never => PlainFormula::Leaf(false),
-            NumberWord::Equal(c) => PlainFormula::Leaf(item == *c),
-            NumberWord::Unequal(c) => PlainFormula::Leaf(item != *c),
-            NumberWord::Less(c) => PlainFormula::Leaf(item < *c),
-            NumberWord::AtMost(c) => PlainFormula::Leaf(item <= *c),
-            NumberWord::AtLeast(c) => PlainFormula::Leaf(item >= *c),
-            NumberWord::Greater(c) => PlainFormula::Leaf(item > *c),
-            NumberWord::Called(c) => PlainFormula::Leaf(item >= *c),
-            NumberWord::Listed(list) | NumberWord::Sorted(list) | NumberWord::Hashed(list) => {
-                PlainFormula::Leaf(list.as_slice().contains(&item))
-            }
-            NumberWord::Named(_) => {
-                let Some(part) = stack.pop() else {
-                    return Ok(None);
-                };
-                PlainFormula::Named(Box::new(alloc, part)?)
-            }
-            NumberWord::Not => {
-                let Some(part) = stack.pop() else {
-                    return Ok(None);
-                };
-                PlainFormula::Not(Box::new(alloc, part)?)
-            }
-            NumberWord::And => {
-                let (Some(right), Some(left)) = (stack.pop(), stack.pop()) else {
-                    return Ok(None);
-                };
-                PlainFormula::And(Box::new(alloc, left)?, Box::new(alloc, right)?)
-            }
-            NumberWord::Or => {
-                let (Some(right), Some(left)) = (stack.pop(), stack.pop()) else {
-                    return Ok(None);
-                };
-                PlainFormula::Or(Box::new(alloc, left)?, Box::new(alloc, right)?)
-            }
+        let made = match leaf_truth(word, item) {
+            Some(truth) => PlainFormula::Leaf(truth),
+            None => match combined(alloc, word, &mut stack)? {
+                Some(made) => made,
+                None => return Ok(None),
+            },
         };
         stack.push(made)?;
     }
