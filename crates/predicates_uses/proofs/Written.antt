@@ -1,8 +1,8 @@
 -- A forest is written child by child.
-use Rattle.std.proofs.Common.{◌≡◌, ℕ, List, [], ◌∷◌, ◌++◌, map, refl, sym, ap, ◌∙◌}
-use Rattle.serde_json.specs.Data.{Data, Items, item}
+use Rattle.std.proofs.Common.{◌≡◌, map, refl, ap}
+use Rattle.serde_json.specs.Data.{Data, item}
 use Rattle.serde_json.specs.View.{items_of}
-use Rattle.predicates_core.specs.Tree.{Tree, Forest, empty, branch, named_trees}
+use Rattle.predicates_core.specs.Tree.{Forest, empty, branch, named_trees}
 use Rattle.predicates_core.specs.Describe.{CaseNode, NamedCase}
 use Rattle.predicates_uses.specs.Json.{child_data, case_data, forest_data}
 

@@ -1,5 +1,5 @@
 -- Items that are kept or rejected by a formula.
-use Rattle.std.specs.Prelude.{◌≡◌, Bool, not, List, map, filter, All}
+use Rattle.std.specs.Prelude.{◌≡◌, not, List, map, filter, All}
 use Rattle.predicates_core.specs.Formula.{Formula, truth}
 use Rattle.predicates_core.specs.Shows.{Explains}
 use Rattle.predicates_uses.specs.declared.sifted.Rejection.{Rejection}

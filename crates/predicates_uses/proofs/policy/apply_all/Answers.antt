@@ -1,4 +1,4 @@
-use Rattle.std.proofs.Common.{◌∷◌, [], ◌≡◌, rules, arith, sym, subst, take, string_bytes}
+use Rattle.std.proofs.Common.{◌≡◌, rules, arith, sym, subst, take, string_bytes}
 use Rattle.std.proofs.lemmas.List.{take_more}
 use Rattle.predicates_explain.specs.Tokens.{token_of}
 use Rattle.predicates_uses.specs.Applied.{AreApplied}
