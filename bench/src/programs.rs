@@ -26,6 +26,8 @@ struct Task<'a> {
     words: &'a [&'a str],
     input: &'a Path,
     original: &'a Path,
+    /// The greatest ratio of times that is wanted.
+    target: f64,
 }
 
 fn print_task(port: &Path, folder: &Folder, lines: usize, task: &Task<'_>) {
@@ -44,7 +46,7 @@ fn print_task(port: &Path, folder: &Folder, lines: usize, task: &Task<'_>) {
     let memory = |runs: &[crate::program::Run]| runs.iter().map(|run| run.kilobytes).max().unwrap_or(0);
     let neighbours = port_runs.iter().zip(&original_runs);
     let ratio = median(neighbours.map(|(port, original)| port.seconds / original.seconds).collect());
-    let mark = missed(task.name, ratio, 1.0);
+    let mark = missed(task.name, ratio, task.target);
     println!(
         "| {} | {:.2} | {:.2} | {ratio:.2}{mark} | {} kB | {} kB |",
         task.name,
@@ -65,9 +67,15 @@ pub fn print(programs: &Programs<'_>, lines: usize) {
     let check = ["text", "empty", "trim", "contains=a", "or"];
     let Programs { port, original, original_text } = *programs;
     let tasks = [
-        Task { name: "`between 5 10`, numbers", words: &between, input: &numbers, original },
-        Task { name: "`between 5 10`, no line a number", words: &between, input: &words, original },
-        Task { name: "`text empty trim contains=a or`", words: &check, input: &words, original: original_text },
+        Task { name: "`between 5 10`, numbers", words: &between, input: &numbers, original, target: 1.0 },
+        Task { name: "`between 5 10`, no line a number", words: &between, input: &words, original, target: 1.0 },
+        Task {
+            name: "`text empty trim contains=a or`",
+            words: &check,
+            input: &words,
+            original: original_text,
+            target: f64::INFINITY,
+        },
     ];
     for task in &tasks {
         print_task(port, &folder, lines, task);

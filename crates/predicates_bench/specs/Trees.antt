@@ -1,5 +1,5 @@
 -- What a tree of checks prints, and its formula on a number.
-use Rattle.std.specs.Prelude.{ℤ, Some, codes}
+use Rattle.std.specs.Prelude.{ℕ, ◌+◌, ℤ, Some, codes}
 use Rattle.std.specs.Fmt.{signed_decimal}
 use Rattle.std.specs.Ordering.{int_cmp}
 use Rattle.predicates_core.specs.Label.{Entry, showing}
@@ -31,3 +31,10 @@ HasFormula (LeafTree p) n = IsExactly (leaf_formula p n)
 HasFormula (NotTree _ inner) n = IsNot (not_text (tree_text inner)) (HasFormula inner n)
 HasFormula (AndTree _ left _ right) n = IsAnd (infix_text (codes " && ") (tree_text left) (tree_text right)) (HasFormula left n) (HasFormula right n)
 HasFormula (OrTree _ left _ right) n = IsOr (infix_text (codes " || ") (tree_text left) (tree_text right)) (HasFormula left n) (HasFormula right n)
+
+-- how many nodes it has
+abbrev pub node_count : Tree → ℕ
+node_count (LeafTree _) = 1
+node_count (NotTree _ inner) = node_count inner + 1
+node_count (AndTree _ left _ right) = node_count left + node_count right + 1
+node_count (OrTree _ left _ right) = node_count left + node_count right + 1

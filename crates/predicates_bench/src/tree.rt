@@ -1,5 +1,7 @@
 //! A check of numbers whose shape is chosen at run time, as a caller writes one who has no boxes.
-ghost use Rattle.std.specs.Prelude.{[]};
+ghost use Rattle.std.specs.Prelude.{[], IfOk};
+ghost use Rattle.predicates_core.specs.Combined.{IsAnd, IsNot, IsOr};
+ghost use Rattle.predicates_core.specs.Shows.{IsAnswer};
 ghost use Rattle.predicates_core.specs.Tree.{empty};
 ghost use Rattle.predicates_bench.specs.Trees.{tree_text, HasFormula};
 ghost use Rattle.predicates_bench.specs.TreeLaws.{tree_text_fits, one_tree};
@@ -82,64 +84,119 @@ impl Predicate<i64> for Tree {
         }
     }
 
-    #[tactic(auto, using(predicates_core::proofs::Combined::combined))]
     fn find_case(
         &self,
         alloc: Global,
         expected: bool,
         item: &i64,
     ) -> Result<Option<Case>, AllocError> {
+        self.find(alloc, expected, item)
+    }
+}
+
+// Each kind of tree has a function of its own, since a function pays at entry for all its locals.
+impl Tree {
+    #[cycle(find)]
+    #[tactic(auto, using(predicates_core::proofs::Combined::combined))]
+    fn find(&self, alloc: Global, expected: bool, item: &i64) -> Result<Option<Case>, AllocError>
+        ensures { IfOk result (IsAnswer (HasFormula self.now item.now) expected) }
+    {
         match self {
             Tree::Leaf(leaf) => leaf.find_case(alloc, expected, item),
-            Tree::Not(inner) => {
-                let Some(part) = inner.find_case(alloc, !expected, item)? else {
+            Tree::Not(inner) => self.find_not(alloc, inner, expected, item),
+            Tree::And(left, right) => self.find_and(alloc, left, right, expected, item),
+            Tree::Or(left, right) => self.find_or(alloc, left, right, expected, item),
+        }
+    }
+
+    #[cycle(find)]
+    #[tactic(auto, using(predicates_core::proofs::Combined::combined))]
+    fn find_not(
+        &self,
+        alloc: Global,
+        inner: &Tree,
+        expected: bool,
+        item: &i64,
+    ) -> Result<Option<Case>, AllocError>
+        ensures { IfOk result
+            (IsAnswer (IsNot (tree_text self.now) (HasFormula inner.now item.now)) expected) }
+    {
+        let Some(part) = inner.find(alloc, !expected, item)? else {
+            return Ok(None);
+        };
+        let text = self.to_string(alloc)?;
+        Ok(Some(over_one(alloc, text, expected, "predicate", part)?))
+    }
+
+    #[cycle(find)]
+    #[tactic(auto, using(predicates_core::proofs::Combined::combined))]
+    fn find_and(
+        &self,
+        alloc: Global,
+        left: &Tree,
+        right: &Tree,
+        expected: bool,
+        item: &i64,
+    ) -> Result<Option<Case>, AllocError>
+        ensures { IfOk result
+            (IsAnswer (IsAnd (tree_text self.now) (HasFormula left.now item.now) (HasFormula right.now item.now)) expected) }
+    {
+        match left.find(alloc, expected, item)? {
+            None if expected => Ok(None),
+            None => {
+                let Some(right) = right.find(alloc, expected, item)? else {
                     return Ok(None);
                 };
                 let text = self.to_string(alloc)?;
-                Ok(Some(over_one(alloc, text, expected, "predicate", part)?))
+                Ok(Some(over_one(alloc, text, expected, "right", right)?))
             }
-            Tree::And(left, right) => match left.find_case(alloc, expected, item)? {
-                None if expected => Ok(None),
-                None => {
-                    let Some(right) = right.find_case(alloc, expected, item)? else {
-                        return Ok(None);
-                    };
-                    let text = self.to_string(alloc)?;
-                    Ok(Some(over_one(alloc, text, expected, "right", right)?))
-                }
-                Some(left) if !expected => {
-                    let text = self.to_string(alloc)?;
-                    Ok(Some(over_one(alloc, text, expected, "left", left)?))
-                }
-                Some(left) => {
-                    let Some(right) = right.find_case(alloc, expected, item)? else {
-                        return Ok(None);
-                    };
-                    let text = self.to_string(alloc)?;
-                    Ok(Some(over_both(alloc, text, expected, left, right)?))
-                }
-            },
-            Tree::Or(left, right) => match left.find_case(alloc, expected, item)? {
-                None if !expected => Ok(None),
-                None => {
-                    let Some(right) = right.find_case(alloc, expected, item)? else {
-                        return Ok(None);
-                    };
-                    let text = self.to_string(alloc)?;
-                    Ok(Some(over_one(alloc, text, expected, "right", right)?))
-                }
-                Some(left) if expected => {
-                    let text = self.to_string(alloc)?;
-                    Ok(Some(over_one(alloc, text, expected, "left", left)?))
-                }
-                Some(left) => {
-                    let Some(right) = right.find_case(alloc, expected, item)? else {
-                        return Ok(None);
-                    };
-                    let text = self.to_string(alloc)?;
-                    Ok(Some(over_both(alloc, text, expected, left, right)?))
-                }
-            },
+            Some(left) if !expected => {
+                let text = self.to_string(alloc)?;
+                Ok(Some(over_one(alloc, text, expected, "left", left)?))
+            }
+            Some(left) => {
+                let Some(right) = right.find(alloc, expected, item)? else {
+                    return Ok(None);
+                };
+                let text = self.to_string(alloc)?;
+                Ok(Some(over_both(alloc, text, expected, left, right)?))
+            }
+        }
+    }
+
+    #[cycle(find)]
+    #[tactic(auto, using(predicates_core::proofs::Combined::combined))]
+    fn find_or(
+        &self,
+        alloc: Global,
+        left: &Tree,
+        right: &Tree,
+        expected: bool,
+        item: &i64,
+    ) -> Result<Option<Case>, AllocError>
+        ensures { IfOk result
+            (IsAnswer (IsOr (tree_text self.now) (HasFormula left.now item.now) (HasFormula right.now item.now)) expected) }
+    {
+        match left.find(alloc, expected, item)? {
+            None if !expected => Ok(None),
+            None => {
+                let Some(right) = right.find(alloc, expected, item)? else {
+                    return Ok(None);
+                };
+                let text = self.to_string(alloc)?;
+                Ok(Some(over_one(alloc, text, expected, "right", right)?))
+            }
+            Some(left) if expected => {
+                let text = self.to_string(alloc)?;
+                Ok(Some(over_one(alloc, text, expected, "left", left)?))
+            }
+            Some(left) => {
+                let Some(right) = right.find(alloc, expected, item)? else {
+                    return Ok(None);
+                };
+                let text = self.to_string(alloc)?;
+                Ok(Some(over_both(alloc, text, expected, left, right)?))
+            }
         }
     }
 }
