@@ -4,3 +4,4 @@ pub mod Unmet
 pub mod Sifted
 pub mod Applied
 pub mod Json
+pub mod PolicyFault

@@ -1,6 +1,7 @@
 //! A policy that is made from words at run time.
-ghost use Rattle.std.specs.Prelude.{◌≡◌, [], ◌∷◌, IfOk, OnOk};
-ghost use Rattle.predicates_uses.specs.Applied.{AreApplied};
+ghost use Rattle.std.specs.Prelude.{◌≡◌, [], ◌∷◌, IfOk, IfErr, OnOk};
+ghost use Rattle.predicates_uses.specs.Applied.{AreApplied, IsFaultOf};
+ghost use Rattle.predicates_uses.specs.PolicyFault.{of_word};
 ghost use Rattle.predicates_uses.specs.declared.policy.PolicyFault.TheVariants.{NoMemory};
 
 use predicates_explain::{TextCheck, WordFault, apply_word, read_word};
@@ -30,6 +31,8 @@ impl From<AllocError> for PolicyFault {
 }
 
 impl From<WordFault> for PolicyFault {
+    ghost from_gives = { λ fault found. found ≡ of_word fault };
+
     fn from(fault: WordFault) -> PolicyFault {
         match fault {
             WordFault::Operand => PolicyFault::Operand,
@@ -45,7 +48,8 @@ fn apply_all(
     stack: &mut Vec<TextCheck>,
     tokens: &[String],
 ) -> Result<(), PolicyFault>
-    ensures { OnOk result (AreApplied tokens.now stack.old.items stack.new.items) }
+    ensures applied { OnOk result (AreApplied tokens.now stack.old.items stack.new.items) }
+    ensures fault { IfErr result (IsFaultOf tokens.now stack.old.items) }
 {
     for token in tokens {
         let Some(word) = read_word(alloc, token)? else {
@@ -58,7 +62,8 @@ fn apply_all(
 
 /// The one check that words in postfix order make, such as `empty trim not`.
 pub fn read_policy(alloc: Global, tokens: &[String]) -> Result<TextCheck, PolicyFault>
-    ensures { IfOk result (λ check. AreApplied tokens.now [] (check ∷ [])) }
+    ensures applied { IfOk result (λ check. AreApplied tokens.now [] (check ∷ [])) }
+    ensures fault { IfErr result (IsFaultOf tokens.now []) }
 {
     let mut stack = Vec::new(alloc);
     apply_all(alloc, &mut stack, tokens)?;

@@ -20,6 +20,11 @@ pub enum Unmet {
 }
 
 impl fmt::Display for Unmet {
+    ghost use Rattle.std.specs.Prelude.{Some};
+    ghost use Rattle.predicates_uses.specs.Unmet.{unmet_text};
+
+    ghost output = { λ unmet. Some (unmet_text unmet) };
+
     fn fmt<W: fmt::Write>(&self, f: &mut fmt::Formatter<W>) -> fmt::Result {
         match self {
             Unmet::Fails(lines) => write!(f, "{lines}"),

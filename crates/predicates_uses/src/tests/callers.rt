@@ -30,12 +30,13 @@ fn requirements(rt: HostRuntime) -> Result<(), Fail> {
     let between = predicate::ge(5).and(predicate::le(10));
     assert!(rt; require(alloc, &between, &7).is_ok());
     match require(alloc, &between, &11) {
-        Err(Unmet::Fails(lines)) => assert_eq!(rt;
-            lines.as_str(),
+        Err(unmet) => assert_eq!(rt;
+            unmet.to_string(alloc)?.as_str(),
             "(var >= 5 && var <= 10) = false\n  right: var <= 10 = false\n    - var: 11\n"
         ),
-        _ => return Err("another answer".into()),
+        Ok(()) => return Err("met".into()),
     }
+    assert_eq!(rt; Unmet::NoMemory.to_string(alloc)?.as_str(), "no memory");
     Ok(())
 }
 
