@@ -94,9 +94,6 @@ with_product_value (Or label l r) p w = refl
 with_product_value (Not label f) p w = refl
 with_product_value (Named label name f) p w = refl
 
-pub with_product_size : (f : Formula) (p : Product) → size (with_product f p) ≡ size f
-with_product_size f p = sym (length-actual (with_product f p)) ∙ ap length (with_product_actual f p) ∙ length-actual f
-
 pub with_product_truth : (f : Formula) (p : Product) → truth (with_product f p) ≡ truth f
 with_product_truth f p = same_function_truth (with_product f p) f (with_product_actual f p) (λ w e. with_product_value f p w)
 

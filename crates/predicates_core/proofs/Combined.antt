@@ -12,14 +12,6 @@ use Rattle.predicates_core.proofs.Numbers.{shifted}
 use Rattle.predicates_core.proofs.Combine.{first-And_both, first-And_left, first-And_right, first-Or_both, first-Or_left, first-Or_right, first-Not, first-Named}
 use Rattle.predicates_core.proofs.Shown.{shows_both, shows_left, shows_right, shows_part, not_empty, numbers_of}
 
--- where both tests are passed, both are lawful
-pub both_lawful : {A B : Type 0} {a b : Bool} → (a ≡ true → A) → (b ≡ true → B) → (a && b) ≡ true → A × B
-both_lawful {A} {B} {a} {b} left right h = by a b left right h
-  where
-    by : (a b : Bool) → (a ≡ true → A) → (b ≡ true → B) → (a && b) ≡ true → A × B
-    by true b left right h = (left refl, right h)
-    by false b left right h = absurd (cc)
-
 -- an entry fits what is printed just so
 pub fits_itself : (entry : Option (List ℕ)) → FitsEntry entry entry
 fits_itself None = tt

@@ -1,5 +1,5 @@
 -- Lemmas on forests.
-use Rattle.std.proofs.Common.{◌≡◌, ◌+◌, ◌<◌, arith, ℕ, List, [], ◌∷◌, ◌++◌, refl, ap, sym, ◌∙◌, map, zero, suc, length, get_or}
+use Rattle.std.proofs.Common.{◌≡◌, ◌+◌, ◌<◌, arith, ℕ, List, [], ◌∷◌, ◌++◌, refl, ap, map}
 use Rattle.predicates_core.specs.Tree.{Forest, Tree, empty, branch, forest, named_trees, node_count, add_last}
 use Rattle.predicates_core.specs.Held.{named}
 use Rattle.predicates_core.specs.declared.reflection.case.Branch.{Branch}
@@ -26,19 +26,6 @@ module _ {N : Type 0} where
   pub node_count-child : (f : Forest N) (ys : List (List ℕ × Tree N)) (x : List ℕ × Tree N) (zs : List (List ℕ × Tree N))
       → named_trees f ≡ ys ++ x ∷ zs → node_count x.1.children < node_count f
   node_count-child f ys x zs e = rw (total-named_trees f, e) (total-member ys x zs)
-
-  total-at : (ts : List (List ℕ × Tree N)) (i : ℕ) (d : List ℕ × Tree N) → i < length ts → node_count (get_or ts i d).1.children < total ts
-  total-at [] i d h = absurd (omega arith)
-  total-at (t ∷ ts) zero d h = omega arith
-  total-at (t ∷ ts) (suc i) d h = omega (arith, total-at ts i d (omega arith))
-
-  -- the same, of the child at an index
-  pub node_count-item : (f : Forest N) (ts : List (List ℕ × Tree N)) (i : ℕ) (x : List ℕ × Tree N)
-      → ts ≡ named_trees f → i < length ts → x ≡ get_or ts i x → node_count x.1.children < node_count f
-  node_count-item f ts i x e h is =
-      let same : node_count x.1.children ≡ node_count (get_or ts i x).1.children = ap (λ (y : List ℕ × Tree N). node_count y.1.children) is in
-      let all : node_count f ≡ total ts = total-named_trees f ∙ ap total (sym e) in
-      omega (arith, total-at ts i x h)
 
 -- a branch pushed last stands last in the forest
 pub forest_push : (bs : List Branch) (b : Branch) → forest (map named (bs ++ b ∷ [])) ≡ add_last (forest (map named bs)) b.name b.case

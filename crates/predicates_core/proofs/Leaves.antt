@@ -1,14 +1,12 @@
 -- Leaves, and the cases that explain them.
 use Rattle.std.proofs.Common.{◌≡◌, ℕ, Bool, List, [], ◌∷◌, ◌++◌, Option, Some, refl, sym, ap, ◌∙◌, subst}
-use Rattle.std.specs.Prelude.{◌&&◌}
 use Rattle.predicates_core.specs.Label.{Label, Entry, plain, showing, Fits, FitsEntry, FitsProducts}
-use Rattle.predicates_core.specs.Formula.{Formula, Leaf, And, truth, text_of, HasTruth, IsLeaf}
+use Rattle.predicates_core.specs.Formula.{Formula, Leaf, truth, text_of, HasTruth, IsLeaf}
 use Rattle.predicates_core.specs.Tree.{Tree, empty}
 use Rattle.predicates_core.specs.Describe.{CaseNode, with_product}
 use Rattle.predicates_core.specs.Shows.{FitsNode, Shows, Explains, IsCaseOf, IsNode}
 use Rattle.predicates_core.specs.Leaves.{IsExactly, IsShowing}
-use Rattle.predicates_core.proofs.Values.{truth-Leaf, truth-And}
-use Rattle.predicates_core.specs.Combined.{IsAnd}
+use Rattle.predicates_core.proofs.Values.{truth-Leaf}
 use Rattle.predicates_core.proofs.Combine.{first-Leaf}
 use Rattle.predicates_core.proofs.Combined.{fits_itself, node_of_text}
 
@@ -57,11 +55,5 @@ module _ {text : Option (List ℕ)} {own b : Bool} where
       products = subst (λ ps. FitsProducts (record { name = name; value = value } ∷ []) (ps ++ (name, s.bytes) ∷ [])) (sym node.products) (refl, s.fits, tt);
     }) node.children));
   }
-
--- the truth of two leaves combined
-pub truth_of_two : {text : Entry} {la lb : Label} {ta tb b : Bool} → HasTruth (IsAnd text (IsExactly (Leaf la ta)) (IsExactly (Leaf lb tb))) b → b ≡ ta && tb
-truth_of_two {text} {la} {lb} {ta} {tb} {b} h =
-    sym (h.at (And (plain text) (Leaf la ta) (Leaf lb tb)) (record { l = Leaf la ta; r = Leaf lb tb; of_left = record { is = refl }; of_right = record { is = refl }; is = refl }))
-    ∙ truth-And (plain text) (Leaf la ta) (Leaf lb tb) ∙ (λ i. truth-Leaf la ta i && truth-Leaf lb tb i)
 
 pub ruleset leaves = (HasTruth-exactly, IsCaseOf-leaf, IsCaseOf-showing)

@@ -14,9 +14,6 @@ use Rattle.predicates_text.specs.Views.{lines_even}
 use Rattle.predicates_text.specs.EvenLines.{even_after}
 use Rattle.predicates_text.proofs.Cuts.{chars_cut}
 
-even_whole : (cs : List ℕ) → lines_even cs ≡ even_after 0 cs
-even_whole cs = refl
-
 -- past any other character than a carriage return, a text begins anew
 anew : (last : ℕ) (cs : List ℕ) → eqb last 13 ≡ false → even_after last cs ≡ even_after 0 cs
 anew last [] e = refl
