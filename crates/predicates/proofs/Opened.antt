@@ -2,7 +2,6 @@
 use Rattle.std.proofs.Common.{◌≡◌, refl, sym, ap, ◌∙◌, ℕ, Bool, true, false, cond, List, Option, None, Some, Result, Ok, Err}
 use Rattle.std.specs.Prelude.{not, IfOk, string_bytes}
 use Rattle.std.proofs.lemmas.Slice.Eq.{bytes_eq-Decides}
-use Rattle.predicates_core.specs.Text.{Text}
 use Rattle.predicates_core.specs.Label.{Label, Entry, Fits}
 use Rattle.predicates_core.specs.Formula.{Formula, Leaf, And, Or, Not, Named, text_of, value, actual, truth, HasTruth}
 use Rattle.predicates_core.specs.Shows.{FitsNode, Shows, Explains, IsCaseOf, IsAnswer}

@@ -1,5 +1,5 @@
 -- The formula of a box, which prints a text that it keeps.
-use Rattle.std.specs.Prelude.{◌≡◌, ℕ, Bool, true, cond, List, Option, None, Some, string_bytes, bytes_eq}
+use Rattle.std.specs.Prelude.{◌≡◌, ℕ, Bool, true, cond, List, None, Some, string_bytes, bytes_eq}
 use Rattle.predicates_core.specs.Text.{Text}
 use Rattle.predicates_core.specs.Label.{Label, Entry, Fits}
 use Rattle.predicates_core.specs.Formula.{Formula, Leaf, And, Or, Not, Named, text_of}

@@ -1,5 +1,5 @@
 -- The laws of a box: its printed text fits its formula, and it has one on each text.
-use Rattle.std.specs.Prelude.{◌≡◌, refl, ℕ, Bool, true, false, cond, List, None, Some, bytes_eq}
+use Rattle.std.specs.Prelude.{◌≡◌, refl, ℕ, Bool, true, false, cond, List, None, Some}
 use Rattle.std.proofs.Common.{sym, ap, ◌∙◌}
 use Rattle.std.proofs.lemmas.Slice.Eq.{bytes_eq-Decides}
 use Rattle.predicates_core.specs.Label.{Entry, FitsEntry}
