@@ -1,5 +1,5 @@
 //! Whether a path leads to the bytes of a file.
-ghost use Rattle.std.specs.Prelude.{◌≡◌, refl, [], codes, Ok, Err, Some, IsOkAnd, MatchOption, MatchResult};
+ghost use Rattle.std.specs.Prelude.{◌≡◌, refl, codes, Ok, Err, Some, IsOkAnd, MatchOption, MatchResult};
 ghost use Rattle.std.specs.Str.{IsUtf8};
 ghost use Rattle.predicates_core.specs.Tree.{empty};
 ghost use Rattle.predicates_core.specs.Label.{value_of};

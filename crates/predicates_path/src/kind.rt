@@ -1,5 +1,5 @@
 //! Which kind of thing stands at a path.
-ghost use Rattle.std.specs.Prelude.{◌≡◌, refl, true, false, [], codes, Ok, Err, Some, IfOk, IsOkAnd, MatchResult};
+ghost use Rattle.std.specs.Prelude.{◌≡◌, refl, true, false, codes, Ok, Err, Some, IfOk, IsOkAnd, MatchResult};
 ghost use Rattle.predicates_core.specs.Label.{value_of};
 ghost use Rattle.predicates_core.specs.Tree.{empty};
 ghost use Rattle.predicates_core.specs.Leaves.{IsExactly, IsShowing, word};

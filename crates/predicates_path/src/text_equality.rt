@@ -1,5 +1,5 @@
 //! Whether a path leads to the text of a file.
-ghost use Rattle.std.specs.Prelude.{◌≡◌, refl, [], codes, Some, string_bytes};
+ghost use Rattle.std.specs.Prelude.{◌≡◌, refl, codes, Some, string_bytes};
 ghost use Rattle.predicates_core.specs.Tree.{empty};
 ghost use Rattle.predicates_core.specs.Label.{value_of};
 ghost use Rattle.predicates_core.specs.Leaves.{IsExactly};
