@@ -30,6 +30,7 @@ pub struct Level<P, Item> {
 }
 
 impl<P, Item> Level<P, Item> {
+    /// The predicate itself, one level up.
     pub fn below(predicate: P) -> Level<P, Item> {
         Level {
             node: OneOf::First(predicate),
@@ -38,19 +39,23 @@ impl<P, Item> Level<P, Item> {
 }
 
 impl<P: Predicate<Item> + Drop, Item> Level<P, Item> {
+    /// The opposite of the part; takes memory for the node.
     pub fn not(alloc: Global, part: P) -> Result<Level<P, Item>, AllocError> {
         Level::of_one(alloc, OneOf::First(part.not()))
     }
 
+    /// The part under a name; takes memory for the node.
     pub fn named(alloc: Global, part: P, name: StaticText) -> Result<Level<P, Item>, AllocError> {
         let named = Box::new(alloc, part.name(name))?;
         Level::of_one(alloc, OneOf::Second(named))
     }
 
+    /// Both parts; takes memory for the node.
     pub fn and(alloc: Global, left: P, right: P) -> Result<Level<P, Item>, AllocError> {
         Level::of_both(alloc, OneOf::First(left.and(right)))
     }
 
+    /// At least one part; takes memory for the node.
     pub fn or(alloc: Global, left: P, right: P) -> Result<Level<P, Item>, AllocError> {
         let both = Box::new(alloc, left.or(right))?;
         Level::of_both(alloc, OneOf::Second(both))
