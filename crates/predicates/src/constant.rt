@@ -7,7 +7,7 @@ ghost use Rattle.predicates_core.specs.Leaves.{IsExactly, word};
 ghost use Rattle.predicates.specs.Constant.{answer_of};
 ghost use Rattle.predicates_core.proofs.Leaves.{exactly_text_fits, one_exactly};
 
-use predicates_core::node::alone;
+use predicates_core::node::{alone, printed};
 use predicates_core::reflection::{Case, Child, Parameter, PredicateReflection};
 use predicates_core::{Content, Predicate, ReadsContent, Total};
 use std::alloc::{AllocError, Global};
@@ -90,7 +90,7 @@ impl<Item> Predicate<Item> for BooleanPredicate<Item> {
         if self.retval != expected {
             return Ok(None);
         }
-        Ok(Some(alone(alloc, self.to_string(alloc)?, expected)))
+        Ok(Some(alone(alloc, printed(alloc, self)?, expected)))
     }
 }
 

@@ -8,7 +8,7 @@ mod tests;
 
 use predicates_core::Predicate;
 use predicates_core::lasting::Lasting;
-use predicates_core::node::alone;
+use predicates_core::node::{alone, printed};
 use predicates_core::reflection::{Case, Child, Parameter, PredicateReflection};
 use predicates_core::static_text::StaticText;
 use std::alloc::{AllocError, Global};
@@ -103,6 +103,6 @@ impl<F: Fn(&T) -> bool, T> Predicate<T> for FnPredicate<F, T> {
         if self.eval(alloc, item)? != expected {
             return Ok(None);
         }
-        Ok(Some(alone(alloc, self.to_string(alloc)?, expected)))
+        Ok(Some(alone(alloc, printed(alloc, self)?, expected)))
     }
 }

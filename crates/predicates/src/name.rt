@@ -11,7 +11,7 @@ ghost use Rattle.predicates.specs.Name.{inner_of, name_of};
 mod tests;
 
 use predicates_core::lasting::Lasting;
-use predicates_core::node::over_one;
+use predicates_core::node::{over_one, printed};
 use predicates_core::reflection::{Case, Child, Parameter, PredicateReflection, describe};
 use predicates_core::{Content, Predicate, ReadsContent, Total};
 use std::alloc::{AllocError, Global};
@@ -78,7 +78,7 @@ impl<M: Predicate<Item>, Item, N: Lasting> Predicate<Item> for NamePredicate<M, 
         let Some(part) = self.inner.find_case(alloc, expected, item)? else {
             return Ok(None);
         };
-        let text = self.to_string(alloc)?;
+        let text = printed(alloc, self)?;
         Ok(Some(over_one(alloc, text, expected, self.name.text(), part)?))
     }
 }

@@ -8,7 +8,7 @@ ghost use Rattle.predicates_bench.specs.TreeLaws.{tree_text_fits, one_tree};
 
 use predicates::ord::OrdPredicate;
 use predicates_core::Predicate;
-use predicates_core::node::{over_both, over_one};
+use predicates_core::node::{over_both, over_one, printed};
 use predicates_core::reflection::{Case, Child, Parameter, PredicateReflection};
 use std::alloc::{AllocError, Global};
 use std::fmt;
@@ -124,7 +124,7 @@ impl Tree {
         let Some(part) = inner.find(alloc, !expected, item)? else {
             return Ok(None);
         };
-        let text = self.to_string(alloc)?;
+        let text = printed(alloc, self)?;
         Ok(Some(over_one(alloc, text, expected, "predicate", part)?))
     }
 
@@ -147,18 +147,18 @@ impl Tree {
                 let Some(right) = right.find(alloc, expected, item)? else {
                     return Ok(None);
                 };
-                let text = self.to_string(alloc)?;
+                let text = printed(alloc, self)?;
                 Ok(Some(over_one(alloc, text, expected, "right", right)?))
             }
             Some(left) if !expected => {
-                let text = self.to_string(alloc)?;
+                let text = printed(alloc, self)?;
                 Ok(Some(over_one(alloc, text, expected, "left", left)?))
             }
             Some(left) => {
                 let Some(right) = right.find(alloc, expected, item)? else {
                     return Ok(None);
                 };
-                let text = self.to_string(alloc)?;
+                let text = printed(alloc, self)?;
                 Ok(Some(over_both(alloc, text, expected, left, right)?))
             }
         }
@@ -183,18 +183,18 @@ impl Tree {
                 let Some(right) = right.find(alloc, expected, item)? else {
                     return Ok(None);
                 };
-                let text = self.to_string(alloc)?;
+                let text = printed(alloc, self)?;
                 Ok(Some(over_one(alloc, text, expected, "right", right)?))
             }
             Some(left) if expected => {
-                let text = self.to_string(alloc)?;
+                let text = printed(alloc, self)?;
                 Ok(Some(over_one(alloc, text, expected, "left", left)?))
             }
             Some(left) => {
                 let Some(right) = right.find(alloc, expected, item)? else {
                     return Ok(None);
                 };
-                let text = self.to_string(alloc)?;
+                let text = printed(alloc, self)?;
                 Ok(Some(over_both(alloc, text, expected, left, right)?))
             }
         }

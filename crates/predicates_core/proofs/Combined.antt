@@ -1,11 +1,11 @@
 -- The truth of a combined formula, and the cases that explain it, from those of its parts.
 use Rattle.std.proofs.Common.{◌≡◌, ℕ, Bool, true, false, List, [], ◌∷◌, ◌++◌, Option, Some, None, codes, refl, sym, ap, ◌∙◌, subst}
-use Rattle.std.specs.Prelude.{not, ◌&&◌, ◌||◌}
+use Rattle.std.specs.Prelude.{not, ◌&&◌, ◌||◌, is_some}
 use Rattle.predicates_core.specs.Label.{Entry, plain, Fits, FitsEntry, FitsProducts}
 use Rattle.predicates_core.specs.Formula.{Formula, And, Or, Not, Named, truth, size, text_of, HasTruth}
 use Rattle.predicates_core.specs.Tree.{Tree, empty}
 use Rattle.predicates_core.specs.Describe.{CaseNode, NamedCase}
-use Rattle.predicates_core.specs.Shows.{FitsNode, ShowsPart, ShowsBoth, Shows, Explains, IsCaseOf, IsNode}
+use Rattle.predicates_core.specs.Shows.{FitsNode, ShowsPart, ShowsBoth, Shows, Explains, IsCaseOf, IsAnswer, IsNode, found_parts}
 use Rattle.predicates_core.specs.Combined.{IsAnd, IsOr, IsNot, IsNamed}
 use Rattle.predicates_core.proofs.Values.{truth-And, truth-Or, truth-Not, truth-Named}
 use Rattle.predicates_core.proofs.Numbers.{shifted}
@@ -211,6 +211,28 @@ module _ {text : Option (List ℕ)} {left right : Formula → Type 0} {b : Bool}
 pub not-not : (b : Bool) → not (not b) ≡ b
 not-not true = refl
 not-not false = refl
+
+-- from what was found for the parts, as options; the right part was asked where the left one left the verdict to it
+module _ {text : Option (List ℕ)} {left right : Formula → Type 0} {bytes : List ℕ} {b : Bool} {t : Tree CaseNode} where
+  pub IsCaseOf-and_asked : (c d : Option (Tree CaseNode)) → IsNode (Some bytes) b (found_parts c d) t → Fits text bytes → IsAnswer left b c → is_some c ≡ b → IsAnswer right b d → is_some d ≡ true → IsCaseOf (IsAnd text left right) b t
+  IsCaseOf-and_asked c None written fits x e y e' = absurd (cc)
+  IsCaseOf-and_asked None (Some d) written fits x e y e' = IsCaseOf-and_right written fits x y (sym e)
+  IsCaseOf-and_asked (Some c) (Some d) written fits x e y e' = IsCaseOf-and_both written fits x y (sym e)
+
+  pub IsCaseOf-and_decided : (c d : Option (Tree CaseNode)) → IsNode (Some bytes) b (found_parts c d) t → Fits text bytes → IsAnswer left b c → is_some c ≡ true → b ≡ false → d ≡ None → IsCaseOf (IsAnd text left right) b t
+  IsCaseOf-and_decided None d written fits x e e' n = absurd (cc)
+  IsCaseOf-and_decided (Some c) None written fits x e e' n = IsCaseOf-and_left written fits x e'
+  IsCaseOf-and_decided (Some c) (Some d) written fits x e e' n = absurd (cc)
+
+  pub IsCaseOf-or_asked : (c d : Option (Tree CaseNode)) → IsNode (Some bytes) b (found_parts c d) t → Fits text bytes → IsAnswer left b c → is_some c ≡ not b → IsAnswer right b d → is_some d ≡ true → IsCaseOf (IsOr text left right) b t
+  IsCaseOf-or_asked c None written fits x e y e' = absurd (cc)
+  IsCaseOf-or_asked None (Some d) written fits x e y e' = IsCaseOf-or_right written fits x y (sym (not-not b) ∙ ap not (sym e))
+  IsCaseOf-or_asked (Some c) (Some d) written fits x e y e' = IsCaseOf-or_both written fits x y (sym (not-not b) ∙ ap not (sym e))
+
+  pub IsCaseOf-or_decided : (c d : Option (Tree CaseNode)) → IsNode (Some bytes) b (found_parts c d) t → Fits text bytes → IsAnswer left b c → is_some c ≡ true → b ≡ true → d ≡ None → IsCaseOf (IsOr text left right) b t
+  IsCaseOf-or_decided None d written fits x e e' n = absurd (cc)
+  IsCaseOf-or_decided (Some c) None written fits x e e' n = IsCaseOf-or_left written fits x e'
+  IsCaseOf-or_decided (Some c) (Some d) written fits x e e' n = absurd (cc)
 
 module _ {part : Formula → Type 0} {b : Bool} {c t : Tree CaseNode} where
   pub IsCaseOf-not : {text : Option (List ℕ)} → {bytes : List ℕ} → IsNode (Some bytes) b ((codes "predicate", c) ∷ []) t → Fits text bytes → IsCaseOf part (not b) c → IsCaseOf (IsNot text part) b t

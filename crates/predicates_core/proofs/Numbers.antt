@@ -105,14 +105,19 @@ one_of_two (x ∷ L) M (y ∷ front) k back e =
     let ih = one_of_two L M front k back (cc) in
     ⊎_elim (λ a. inl (a.0, cc, a.2)) (λ b. inr (b.0, cc, b.2)) ih
 
+-- a list that stands in the middle after its numbers were shifted stood there before
+abbrev OneOfShifted : ℕ → List ℕ → List ℕ → List ℕ → Type 0
+OneOfShifted n R front back = (f : List ℕ) × (j : ℕ) × (b : List ℕ) × (R ≡ f ++ j ∷ b) × (front ≡ shifted n f) × (back ≡ shifted n b)
+
+one_further : (n x y : ℕ) (R front back : List ℕ) → y ≡ n + x → OneOfShifted n R front back → OneOfShifted n (x ∷ R) (y ∷ front) back
+one_further n x y R front back e a = (x ∷ a.0, a.1, a.2, ap (λ z. x ∷ z) a.3, cc, a.5)
+
 pub one_of_shifted : (n : ℕ) (R front : List ℕ) (k : ℕ) (back : List ℕ) → shifted n R ≡ front ++ k ∷ back
     → (f : List ℕ) × (j : ℕ) × (b : List ℕ) × (R ≡ f ++ j ∷ b) × (front ≡ shifted n f) × (back ≡ shifted n b)
 one_of_shifted n [] [] k back e = absurd (cc)
 one_of_shifted n [] (y ∷ front) k back e = absurd (cc)
 one_of_shifted n (x ∷ R) [] k back e = ([], x, R, refl, refl, cc)
-one_of_shifted n (x ∷ R) (y ∷ front) k back e =
-    let ih = one_of_shifted n R front k back (cc) in
-    (x ∷ ih.0, ih.1, ih.2, ap (λ z. x ∷ z) ih.3, cc, ih.5)
+one_of_shifted n (x ∷ R) (y ∷ front) k back e = one_further n x y R front back (cc) (one_of_shifted n R front k back (cc))
 
 pub shifted_append : (n : ℕ) (L R : List ℕ) → shifted n (L ++ R) ≡ shifted n L ++ shifted n R
 shifted_append n [] R = refl

@@ -1,5 +1,5 @@
 -- When a case shows a formula, cut down to some of its leaves.
-use Rattle.std.specs.Prelude.{◌≡◌, ℕ, ◌-◌, Bool, not, List, [], ◌∷◌, map, filter, Option, MatchOption, codes, nat_lt, nat_le}
+use Rattle.std.specs.Prelude.{◌≡◌, ℕ, ◌-◌, Bool, not, List, [], ◌∷◌, map, filter, Option, Some, None, MatchOption, codes, nat_lt, nat_le}
 use Rattle.predicates_core.specs.Label.{Label, Entry, FitsText, FitsProducts}
 use Rattle.predicates_core.specs.Formula.{Formula, Leaf, And, Or, Not, Named, size, truth, HasTruth}
 use Rattle.predicates_core.specs.Reason.{IsFirstReason}
@@ -57,3 +57,10 @@ pub record IsNode (entry : Entry) (b : Bool) (parts : List NamedCase) (t : Tree 
   pub result : t.root.result ≡ b
   pub products : t.root.products ≡ []
   pub children : t.children ≡ forest parts
+
+-- the parts whose cases were found, under their names
+abbrev pub found_parts : Option (Tree CaseNode) → Option (Tree CaseNode) → List NamedCase
+found_parts None None = []
+found_parts None (Some right) = (codes "right", right) ∷ []
+found_parts (Some left) None = (codes "left", left) ∷ []
+found_parts (Some left) (Some right) = (codes "left", left) ∷ (codes "right", right) ∷ []

@@ -1,11 +1,23 @@
 //! Nodes of cases, from their printed text and their parts.
-ghost use Rattle.std.specs.Prelude.{[], ◌∷◌, codes, Some, IfOk, string_bytes};
-ghost use Rattle.predicates_core.specs.Shows.{IsNode};
+ghost use Rattle.std.specs.Prelude.{◌≡◌, [], ◌∷◌, codes, Some, IfOk, IfSome, string_bytes};
+ghost use Rattle.predicates_core.specs.Shows.{IsNode, found_parts};
 ghost use Rattle.predicates_core.specs.Leaves.{IsShowing};
 
 use crate::reflection::{Case, Product};
 use std::alloc::{AllocError, Global};
 use std::fmt;
+
+// The bytes that a printed text has room for at first.
+const ROOM: usize = 64;
+
+/// What the value prints; it has room for 64 bytes at first, so that a short text takes memory once.
+pub fn printed<T: fmt::Display>(alloc: Global, value: &T) -> Result<String, AllocError>
+    ensures { IfOk result (λ text. IfSome (T.output value.now) (λ bytes. string_bytes text ≡ bytes)) }
+{
+    let mut text = String::with_capacity(alloc, ROOM)?;
+    text.write(value)?;
+    Ok(text)
+}
 
 /// A node alone.
 pub fn alone(alloc: Global, text: String, outcome: bool) -> Case
@@ -42,6 +54,28 @@ pub fn over_both(
     alone(alloc, text, outcome)
         .add_child("left", left)?
         .add_child("right", right)
+}
+
+/// A node over the parts whose cases were found: the left one, the right one, both or none.
+#[inline(never)]
+pub fn over_found(
+    alloc: Global,
+    text: String,
+    outcome: bool,
+    left: Option<Case>,
+    right: Option<Case>,
+) -> Result<Case, AllocError>
+    ensures { IfOk result
+        (IsNode (Some (string_bytes text)) outcome (found_parts left right)) }
+{
+    let mut case = alone(alloc, text, outcome);
+    if let Some(left) = left {
+        case = case.add_child("left", left)?;
+    }
+    if let Some(right) = right {
+        case = case.add_child("right", right)?;
+    }
+    Ok(case)
 }
 
 /// The case with a value more under the name, the last of its root's products.

@@ -85,5 +85,5 @@ pub fn default_find_case<P: Predicate<Item>, Item>(
     if predicate.eval(alloc, item)? != expected {
         return Ok(None);
     }
-    Ok(Some(node::alone(alloc, predicate.to_string(alloc)?, expected)))
+    Ok(Some(node::alone(alloc, node::printed(alloc, predicate)?, expected)))
 }

@@ -11,6 +11,7 @@ mod product;
 mod text;
 
 use crate::lasting::Lasting;
+use crate::node::printed;
 pub use case::{Case, CaseChild, CaseChildren, CaseView};
 pub use child::Child;
 pub use parameter::Parameter;
@@ -48,7 +49,7 @@ pub fn describe<P: PredicateReflection, N: Lasting + Copy>(
 {
     Ok(Child::new(
         name.text(),
-        part.to_string(alloc)?,
+        printed(alloc, part)?,
         part.parameters(alloc)?,
         part.children(alloc)?,
     ))

@@ -5,7 +5,7 @@ ghost use Rattle.predicates_text.specs.Handed.{trimmed_bytes, even_bytes};
 ghost use Rattle.predicates_explain.specs.Checks.{check_text, check_formula, HasFormula, IsSteadyCheck};
 ghost use Rattle.predicates_explain.specs.CheckLaws.{check_text_fits, one_check, has_check_formula};
 
-use predicates::node::{over_both, over_one};
+use predicates::node::{over_both, over_one, printed};
 use predicates::ord::EqPredicate;
 use predicates::reflection::{Case, Child, Parameter, PredicateReflection};
 use predicates::str::{
@@ -159,7 +159,7 @@ impl Predicate<String> for TextCheck {
                 let Some(part) = inner.find_case(alloc, !expected, item)? else {
                     return Ok(None);
                 };
-                let text = self.to_string(alloc)?;
+                let text = printed(alloc, self)?;
                 Ok(Some(over_one(alloc, text, expected, "predicate", part)?))
             }
             TextCheck::And(left, right) => match left.find_case(alloc, expected, item)? {
@@ -168,18 +168,18 @@ impl Predicate<String> for TextCheck {
                     let Some(right) = right.find_case(alloc, expected, item)? else {
                         return Ok(None);
                     };
-                    let text = self.to_string(alloc)?;
+                    let text = printed(alloc, self)?;
                     Ok(Some(over_one(alloc, text, expected, "right", right)?))
                 }
                 Some(left) if !expected => {
-                    let text = self.to_string(alloc)?;
+                    let text = printed(alloc, self)?;
                     Ok(Some(over_one(alloc, text, expected, "left", left)?))
                 }
                 Some(left) => {
                     let Some(right) = right.find_case(alloc, expected, item)? else {
                         return Ok(None);
                     };
-                    let text = self.to_string(alloc)?;
+                    let text = printed(alloc, self)?;
                     Ok(Some(over_both(alloc, text, expected, left, right)?))
                 }
             },
@@ -189,18 +189,18 @@ impl Predicate<String> for TextCheck {
                     let Some(right) = right.find_case(alloc, expected, item)? else {
                         return Ok(None);
                     };
-                    let text = self.to_string(alloc)?;
+                    let text = printed(alloc, self)?;
                     Ok(Some(over_one(alloc, text, expected, "right", right)?))
                 }
                 Some(left) if expected => {
-                    let text = self.to_string(alloc)?;
+                    let text = printed(alloc, self)?;
                     Ok(Some(over_one(alloc, text, expected, "left", left)?))
                 }
                 Some(left) => {
                     let Some(right) = right.find_case(alloc, expected, item)? else {
                         return Ok(None);
                     };
-                    let text = self.to_string(alloc)?;
+                    let text = printed(alloc, self)?;
                     Ok(Some(over_both(alloc, text, expected, left, right)?))
                 }
             },

@@ -9,7 +9,7 @@ ghost use Rattle.predicates_path.specs.ContentLaws.{content_text_fits, one_conte
 
 use crate::fault::show_fault;
 use crate::{PathFault, Snapshot};
-use predicates_core::node::alone;
+use predicates_core::node::{alone, printed};
 use predicates_core::reflection::{Case, Child, Parameter, PredicateReflection, describe};
 use predicates_core::{Predicate, Total};
 use std::alloc::{AllocError, Global};
@@ -32,7 +32,7 @@ impl<P: fmt::Display> FileContentPredicate<P> {
         ensures { IfOk result (IsCaseOf
             (IsExactly (without_content (P.output (part_of self.now)) (path_of item.now) fault)) false) }
     {
-        let node = alone(alloc, self.to_string(alloc)?, false);
+        let node = alone(alloc, printed(alloc, self)?, false);
         let case = item.show_path(alloc, node)?;
         Ok(show_fault(alloc, case, fault)?)
     }

@@ -11,7 +11,7 @@ ghost use Rattle.predicates_path.specs.TextEquality as text;
 
 use crate::text_equality::StrFilePredicate;
 use crate::{PathFault, Snapshot};
-use predicates_core::node::alone;
+use predicates_core::node::{alone, printed};
 use predicates_core::reflection::{Case, Child, Parameter, PredicateReflection};
 use predicates_core::{Predicate, Total};
 use std::alloc::{AllocError, Global};
@@ -113,7 +113,7 @@ impl Predicate<Snapshot> for BinaryFilePredicate {
         if self.eval(alloc, item)? != expected {
             return Ok(None);
         }
-        Ok(Some(alone(alloc, self.to_string(alloc)?, expected)))
+        Ok(Some(alone(alloc, printed(alloc, self)?, expected)))
     }
 }
 
@@ -140,7 +140,7 @@ impl Predicate<Vec<u8>> for BinaryFilePredicate {
         if self.eval(alloc, item)? != expected {
             return Ok(None);
         }
-        Ok(Some(alone(alloc, self.to_string(alloc)?, expected)))
+        Ok(Some(alone(alloc, printed(alloc, self)?, expected)))
     }
 }
 

@@ -6,7 +6,7 @@ ghost use Rattle.predicates_core.proofs.Leaves.{exactly_text_fits, one_exactly};
 ghost use Rattle.predicates_path.specs.Existence.{asks_presence, existence_text, existence_formula};
 
 use crate::Snapshot;
-use predicates_core::node::alone;
+use predicates_core::node::{alone, printed};
 use predicates_core::reflection::{Case, Child, Parameter, PredicateReflection};
 use predicates_core::{Predicate, Total};
 use std::alloc::{AllocError, Global};
@@ -81,7 +81,7 @@ impl Predicate<Snapshot> for ExistencePredicate {
         if self.eval(alloc, item)? != expected {
             return Ok(None);
         }
-        let case = alone(alloc, self.to_string(alloc)?, expected);
+        let case = alone(alloc, printed(alloc, self)?, expected);
         Ok(Some(item.show_path(alloc, case)?))
     }
 }

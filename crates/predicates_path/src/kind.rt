@@ -11,7 +11,7 @@ ghost use Rattle.predicates_path.specs.Kind.{tested_kind, follows, found_kind, s
 use crate::fault::show_fault;
 use crate::file_type::show_kind;
 use crate::{FileType, PathFault, Snapshot};
-use predicates_core::node::alone;
+use predicates_core::node::{alone, printed};
 use predicates_core::reflection::{Case, Child, Parameter, PredicateReflection};
 use predicates_core::{Predicate, Total};
 use std::alloc::{AllocError, Global};
@@ -163,7 +163,7 @@ impl Predicate<Snapshot> for FileTypePredicate {
         if self.eval(alloc, item)? != expected {
             return Ok(None);
         }
-        let case = alone(alloc, self.to_string(alloc)?, expected);
+        let case = alone(alloc, printed(alloc, self)?, expected);
         Ok(Some(show_found(alloc, case, self.found(item))?))
     }
 }

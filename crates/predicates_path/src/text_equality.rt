@@ -8,7 +8,7 @@ ghost use Rattle.predicates_path.specs.Equality.{equality_text, has_bytes, equal
 ghost use Rattle.predicates_path.specs.TextEquality.{compared_path, compared_text};
 
 use crate::Snapshot;
-use predicates_core::node::alone;
+use predicates_core::node::{alone, printed};
 use predicates_core::reflection::{Case, Child, Parameter, PredicateReflection};
 use predicates_core::{Predicate, ReadsContent, Total};
 use std::alloc::{AllocError, Global};
@@ -89,7 +89,7 @@ impl Predicate<Snapshot> for StrFilePredicate {
         if self.eval(alloc, item)? != expected {
             return Ok(None);
         }
-        Ok(Some(alone(alloc, self.to_string(alloc)?, expected)))
+        Ok(Some(alone(alloc, printed(alloc, self)?, expected)))
     }
 }
 
@@ -116,7 +116,7 @@ impl Predicate<String> for StrFilePredicate {
         if self.eval(alloc, item)? != expected {
             return Ok(None);
         }
-        Ok(Some(alone(alloc, self.to_string(alloc)?, expected)))
+        Ok(Some(alone(alloc, printed(alloc, self)?, expected)))
     }
 }
 

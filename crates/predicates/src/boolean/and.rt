@@ -6,7 +6,7 @@ ghost use Rattle.predicates_core.specs.Parts.{two_parts};
 ghost use Rattle.predicates_core.specs.Combined.{infix_text, IsAnd};
 ghost use Rattle.predicates_core.proofs.Combined.{and_text_fits, one_and};
 
-use predicates_core::node::{over_both, over_one};
+use predicates_core::node::{over_found, printed};
 use predicates_core::reflection::{Case, Child, Parameter, PredicateReflection, describe};
 use predicates_core::{Content, Predicate, ReadsContent, Total};
 use std::alloc::{AllocError, Global};
@@ -96,27 +96,22 @@ impl<M1: Predicate<Item>, M2: Predicate<Item>, Item> Predicate<Item>
         expected: bool,
         item: &Item,
     ) -> Result<Option<Case>, AllocError> {
-        match self.a.find_case(alloc, expected, item)? {
-            None if expected => Ok(None),
-            None => {
-                let Some(right) = self.b.find_case(alloc, expected, item)? else {
-                    return Ok(None);
-                };
-                let text = self.to_string(alloc)?;
-                Ok(Some(over_one(alloc, text, expected, "right", right)?))
+        let left = self.a.find_case(alloc, expected, item)?;
+        let right = if left.is_some() == expected {
+            let right = self.b.find_case(alloc, expected, item)?;
+            if right.is_none() {
+                return Ok(None);
             }
-            Some(left) if !expected => {
-                let text = self.to_string(alloc)?;
-                Ok(Some(over_one(alloc, text, expected, "left", left)?))
+            right
+        } else {
+            // The left part decides.
+            if left.is_none() {
+                return Ok(None);
             }
-            Some(left) => {
-                let Some(right) = self.b.find_case(alloc, expected, item)? else {
-                    return Ok(None);
-                };
-                let text = self.to_string(alloc)?;
-                Ok(Some(over_both(alloc, text, expected, left, right)?))
-            }
-        }
+            None
+        };
+        let text = printed(alloc, self)?;
+        Ok(Some(over_found(alloc, text, expected, left, right)?))
     }
 }
 

@@ -6,7 +6,7 @@ ghost use Rattle.predicates_core.specs.Parts.{part};
 ghost use Rattle.predicates_core.specs.Combined.{not_text, IsNot};
 ghost use Rattle.predicates_core.proofs.Combined.{not_text_fits, one_not};
 
-use predicates_core::node::over_one;
+use predicates_core::node::{over_one, printed};
 use predicates_core::reflection::{Case, Child, Parameter, PredicateReflection, describe};
 use predicates_core::{Content, Predicate, ReadsContent, Total};
 use std::alloc::{AllocError, Global};
@@ -86,7 +86,7 @@ impl<M: Predicate<Item>, Item> Predicate<Item> for NotPredicate<M, Item> {
         let Some(part) = self.inner.find_case(alloc, !expected, item)? else {
             return Ok(None);
         };
-        let text = self.to_string(alloc)?;
+        let text = printed(alloc, self)?;
         Ok(Some(over_one(alloc, text, expected, "predicate", part)?))
     }
 }

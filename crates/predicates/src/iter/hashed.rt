@@ -9,7 +9,7 @@ ghost use Rattle.predicates.specs.Members.{KeepsFirst, KeepsMembers, has_equal, 
 ghost use Rattle.predicates.specs.HashableIn.{members_of};
 
 use indexmap::IndexSet;
-use predicates_core::node::{alone, showing_item};
+use predicates_core::node::{alone, printed, showing_item};
 use predicates_core::reflection::{Case, Child, Parameter, PredicateReflection};
 use predicates_core::{Predicate, ReadsContent, Total};
 use std::alloc::{AllocError, Global};
@@ -97,7 +97,7 @@ impl<T: fmt::Debug + Eq + Hash> Predicate<T> for HashableInPredicate<T> {
         if self.eval(alloc, item)? != expected {
             return Ok(None);
         }
-        let case = alone(alloc, self.to_string(alloc)?, expected);
+        let case = alone(alloc, printed(alloc, self)?, expected);
         Ok(Some(showing_item(alloc, case, item)?))
     }
 }

@@ -11,7 +11,7 @@ ghost use Rattle.predicates.specs.In.{members_of};
 ghost use Rattle.predicates.specs.OrdIn as OrdIn;
 
 use crate::iter::sorted::OrdInPredicate;
-use predicates_core::node::{alone, showing_item};
+use predicates_core::node::{alone, printed, showing_item};
 use predicates_core::reflection::{Case, Child, Parameter, PredicateReflection};
 use predicates_core::{Predicate, ReadsContent, Total};
 use std::alloc::{AllocError, Global};
@@ -116,7 +116,7 @@ impl<T: fmt::Debug + PartialEq> Predicate<T> for InPredicate<T> {
         if self.eval(alloc, item)? != expected {
             return Ok(None);
         }
-        let case = alone(alloc, self.to_string(alloc)?, expected);
+        let case = alone(alloc, printed(alloc, self)?, expected);
         Ok(Some(showing_item(alloc, case, item)?))
     }
 }

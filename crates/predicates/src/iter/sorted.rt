@@ -2,7 +2,7 @@
 ghost use Rattle.std.specs.List.Sorted.{IsSorted};
 
 use crate::iter::steps::Steps;
-use predicates_core::node::{alone, showing_item};
+use predicates_core::node::{alone, printed, showing_item};
 use predicates_core::reflection::{Case, Child, Parameter, PredicateReflection};
 use predicates_core::{Predicate, ReadsContent, Total};
 use std::alloc::{AllocError, Global};
@@ -106,7 +106,7 @@ impl<T: fmt::Debug + Ord> Predicate<T> for OrdInPredicate<T> {
         if self.eval(alloc, item)? != expected {
             return Ok(None);
         }
-        let case = alone(alloc, self.to_string(alloc)?, expected);
+        let case = alone(alloc, printed(alloc, self)?, expected);
         Ok(Some(showing_item(alloc, case, item)?))
     }
 }

@@ -7,7 +7,7 @@ ghost use Rattle.predicates.specs.Makers.{equal_to, unequal_to};
 ghost use Rattle.predicates_core.specs.Leaves.{IsExactly};
 ghost use Rattle.predicates_core.proofs.Leaves.{exactly_text_fits, one_exactly};
 
-use predicates_core::node::{alone, showing_item};
+use predicates_core::node::{alone, printed, showing_item};
 use predicates_core::reflection::{Case, Child, Parameter, PredicateReflection};
 use predicates_core::{Predicate, ReadsContent, Total};
 use std::alloc::{AllocError, Global};
@@ -96,7 +96,7 @@ impl<T: fmt::Debug + PartialEq> Predicate<T> for EqPredicate<T> {
         if self.eval(alloc, item)? != expected {
             return Ok(None);
         }
-        let case = alone(alloc, self.to_string(alloc)?, expected);
+        let case = alone(alloc, printed(alloc, self)?, expected);
         Ok(Some(showing_item(alloc, case, item)?))
     }
 }

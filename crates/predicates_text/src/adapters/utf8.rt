@@ -7,7 +7,7 @@ ghost use Rattle.predicates_text.specs.HandedLaws.{decoded_text_fits, one_decode
 ghost use Rattle.predicates_text.specs.Made.{text_or_other};
 ghost use Rattle.predicates_text.specs.Inner.{utf8_part};
 
-use predicates_core::node::{alone, showing, showing_text};
+use predicates_core::node::{alone, printed, showing, showing_text};
 use predicates_core::reflection::{Case, Child, Parameter, PredicateReflection, describe};
 use predicates_core::{Predicate, ReadsContent, Total};
 use std::alloc::{AllocError, Global};
@@ -96,7 +96,7 @@ impl<P: Predicate<String>> Predicate<Vec<u8>> for Utf8Predicate<P> {
             if expected {
                 return Ok(None);
             }
-            let case = alone(alloc, self.to_string(alloc)?, expected);
+            let case = alone(alloc, printed(alloc, self)?, expected);
             return Ok(Some(showing_text(alloc, case, "error", "Invalid UTF-8 string")?));
         };
         let Some(case) = self.inner.find_case(alloc, expected, &text)? else {

@@ -7,6 +7,7 @@ ghost use Rattle.predicates_text.specs.Leaves.{empty_text, empty_formula};
 
 use crate::node::text_node;
 use crate::parts;
+use predicates_core::node::printed;
 use predicates_core::reflection::{Case, Child, Parameter, PredicateReflection};
 use predicates_core::{Predicate, ReadsContent, Total};
 use std::alloc::{AllocError, Global};
@@ -67,8 +68,8 @@ impl Predicate<String> for IsEmptyPredicate {
         if parts::is_empty(item) != expected {
             return Ok(None);
         }
-        let printed = self.to_string(alloc)?;
-        Ok(Some(text_node(alloc, printed, expected, item)?))
+        let text = printed(alloc, self)?;
+        Ok(Some(text_node(alloc, text, expected, item)?))
     }
 }
 

@@ -8,6 +8,7 @@ ghost use Rattle.predicates_text.specs.Held.{starts_pattern};
 
 use crate::node::text_node;
 use crate::parts;
+use predicates_core::node::printed;
 use predicates_core::reflection::{Case, Child, Parameter, PredicateReflection};
 use predicates_core::{Predicate, ReadsContent, Total};
 use std::alloc::{AllocError, Global};
@@ -73,8 +74,8 @@ impl Predicate<String> for StartsWithPredicate {
         if parts::starts_with(&self.pattern, item) != expected {
             return Ok(None);
         }
-        let printed = self.to_string(alloc)?;
-        Ok(Some(text_node(alloc, printed, expected, item)?))
+        let text = printed(alloc, self)?;
+        Ok(Some(text_node(alloc, text, expected, item)?))
     }
 }
 

@@ -10,7 +10,7 @@ ghost use Rattle.predicates_text.specs.Pattern.{match_text, match_count_formula,
 
 use crate::node::text_node;
 use crate::pattern::search::match_count;
-use predicates_core::node::showing;
+use predicates_core::node::{printed, showing};
 use predicates_core::reflection::{Case, Child, Parameter, PredicateReflection};
 use predicates_core::{Predicate, ReadsContent, Total};
 use regex::Regex;
@@ -91,8 +91,8 @@ impl Predicate<String> for RegexMatchesPredicate {
         if (count == self.count) != expected {
             return Ok(None);
         }
-        let printed = self.to_string(alloc)?;
-        let case = text_node(alloc, printed, expected, item)?;
+        let text = printed(alloc, self)?;
+        let case = text_node(alloc, text, expected, item)?;
         Ok(Some(showing(case, "actual count", count.to_string(alloc)?)?))
     }
 }

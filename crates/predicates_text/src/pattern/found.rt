@@ -12,6 +12,7 @@ ghost use Rattle.predicates_text.specs.Pattern.{match_text, match_formula, regex
 use crate::node::text_node;
 use crate::pattern::search::has_match;
 use crate::pattern::{RegexError, RegexMatchesPredicate};
+use predicates_core::node::printed;
 use predicates_core::reflection::{Case, Child, Parameter, PredicateReflection};
 use predicates_core::{Predicate, ReadsContent, Total};
 use regex::Regex;
@@ -97,8 +98,8 @@ impl Predicate<String> for RegexPredicate {
         if found != expected {
             return Ok(None);
         }
-        let printed = self.to_string(alloc)?;
-        Ok(Some(text_node(alloc, printed, expected, item)?))
+        let text = printed(alloc, self)?;
+        Ok(Some(text_node(alloc, text, expected, item)?))
     }
 }
 

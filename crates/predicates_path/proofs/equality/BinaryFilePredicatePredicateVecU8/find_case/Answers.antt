@@ -3,4 +3,4 @@ use Rattle.predicates_path.proofs.Leaves.{IsCaseOf-bare}
 use Rattle.predicates_path.proofs.equality.BinaryFilePredicatePredicateVecU8.find_case.Goals as goal
 
 pub returns : goal.returns
-returns c = IsCaseOf-bare c.alone.ensures c.in_ok-to_string.ensures.ok c.in_ok-eval.ensures.truth (search rules)
+returns c = IsCaseOf-bare c.alone.ensures c.in_ok-printed.ensures c.in_ok-eval.ensures.truth (search rules)

@@ -3,4 +3,4 @@ use Rattle.predicates_path.proofs.Leaves.{IsCaseOf-one}
 use Rattle.predicates_path.proofs.existence.ExistencePredicatePredicateSnapshot.find_case.Goals as goal
 
 pub returns : goal.returns
-returns c = IsCaseOf-one c.in_ok-show_path.ensures c.alone-case.ensures c.in_ok-to_string.ensures.ok c.in_ok-eval.ensures.truth (search rules)
+returns c = IsCaseOf-one c.in_ok-show_path.ensures c.alone-case.ensures c.in_ok-printed.ensures c.in_ok-eval.ensures.truth (search rules)

@@ -1,12 +1,10 @@
 use Rattle.std.proofs.Common.{rules}
-use Rattle.predicates_core.proofs.Combined.{IsCaseOf-and_both, IsCaseOf-and_left, IsCaseOf-and_right}
+use Rattle.predicates_core.proofs.Combined.{IsCaseOf-and_asked, IsCaseOf-and_decided}
 use Rattle.predicates.proofs.boolean.and.AndPredicatePredicate.find_case.Goals as goal
+use Rattle.predicates.proofs.boolean.and.AndPredicatePredicate.find_case.Goals.{then-is_some-expected+in_ok-right+else-is_none, else-is_some-expected+else-is_none-2}
 
-pub returns-in_ok-over_one-in-None-2 : goal.returns-in_ok-over_one-in-None-2
-returns-in_ok-over_one-in-None-2 g c = IsCaseOf-and_right c.in_ok-over_one-in-None-2.ensures (search rules) (search rules) (search rules) (search rules)
-
-pub returns-in_ok-over_one-in-Some : goal.returns-in_ok-over_one-in-Some
-returns-in_ok-over_one-in-Some g c = IsCaseOf-and_left c.in_ok-over_one-in-Some.ensures (search rules) (search rules) (search rules)
-
-pub returns-in_ok-over_both-in-Some-2 : goal.returns-in_ok-over_both-in-Some-2
-returns-in_ok-over_both-in-Some-2 g c = IsCaseOf-and_both c.in_ok-over_both-in-Some-2.ensures (search rules) (search rules) (search rules) (search rules)
+pub returns : goal.returns
+returns g c = elim c.if-is_some-expected.branch [
+  | then-is_some-expected+in_ok-right+else-is_none w ↦ IsCaseOf-and_asked c.in_ok-left.left c.if-is_some-expected.right c.in_ok-over_found.ensures (search rules) (search rules) (search rules) (search rules) (search rules)
+  | else-is_some-expected+else-is_none-2 w ↦ IsCaseOf-and_decided c.in_ok-left.left c.if-is_some-expected.right c.in_ok-over_found.ensures (search rules) (search rules) (search rules) (search rules) (search rules)
+]

@@ -3,4 +3,4 @@ use Rattle.predicates_text.proofs.Showing.{IsCaseOf-text}
 use Rattle.predicates_text.proofs.basics.empty.IsEmptyPredicatePredicateString.find_case.Goals as goal
 
 pub returns : goal.returns
-returns c = IsCaseOf-text c.in_ok-text_node.ensures c.in_ok-printed.ensures.ok (search rules)
+returns c = IsCaseOf-text c.in_ok-text_node.ensures c.in_ok-text.ensures (search rules)

@@ -3,4 +3,4 @@ use Rattle.predicates_text.proofs.Showing.{IsCaseOf-counted}
 use Rattle.predicates_text.proofs.pattern.counted.RegexMatchesPredicatePredicateString.find_case.Goals as goal
 
 pub returns : goal.returns
-returns c = IsCaseOf-counted _ (search rules) c.in_ok-case.ensures c.in_ok-printed.ensures.ok (search rules)
+returns c = IsCaseOf-counted _ (search rules) c.in_ok-case.ensures c.in_ok-text.ensures (search rules)
