@@ -8,7 +8,7 @@ ghost use Rattle.predicates_bench.specs.TreeLaws.{tree_text_fits, one_tree};
 
 use predicates::ord::OrdPredicate;
 use predicates_core::Predicate;
-use predicates_core::node::{over_both, over_one, printed};
+use predicates_core::node::{over_found, over_one, printed};
 use predicates_core::reflection::{Case, Child, Parameter, PredicateReflection};
 use std::alloc::{AllocError, Global};
 use std::fmt;
@@ -141,27 +141,22 @@ impl Tree {
         ensures { IfOk result
             (IsAnswer (IsAnd (tree_text self.now) (HasFormula left.now item.now) (HasFormula right.now item.now)) expected) }
     {
-        match left.find(alloc, expected, item)? {
-            None if expected => Ok(None),
-            None => {
-                let Some(right) = right.find(alloc, expected, item)? else {
-                    return Ok(None);
-                };
-                let text = printed(alloc, self)?;
-                Ok(Some(over_one(alloc, text, expected, "right", right)?))
+        let left = left.find(alloc, expected, item)?;
+        let right = if left.is_some() == expected {
+            let right = right.find(alloc, expected, item)?;
+            if right.is_none() {
+                return Ok(None);
             }
-            Some(left) if !expected => {
-                let text = printed(alloc, self)?;
-                Ok(Some(over_one(alloc, text, expected, "left", left)?))
+            right
+        } else {
+            // The left part decides.
+            if left.is_none() {
+                return Ok(None);
             }
-            Some(left) => {
-                let Some(right) = right.find(alloc, expected, item)? else {
-                    return Ok(None);
-                };
-                let text = printed(alloc, self)?;
-                Ok(Some(over_both(alloc, text, expected, left, right)?))
-            }
-        }
+            None
+        };
+        let text = printed(alloc, self)?;
+        Ok(Some(over_found(alloc, text, expected, left, right)?))
     }
 
     #[cycle(find)]
@@ -177,26 +172,21 @@ impl Tree {
         ensures { IfOk result
             (IsAnswer (IsOr (tree_text self.now) (HasFormula left.now item.now) (HasFormula right.now item.now)) expected) }
     {
-        match left.find(alloc, expected, item)? {
-            None if !expected => Ok(None),
-            None => {
-                let Some(right) = right.find(alloc, expected, item)? else {
-                    return Ok(None);
-                };
-                let text = printed(alloc, self)?;
-                Ok(Some(over_one(alloc, text, expected, "right", right)?))
+        let left = left.find(alloc, expected, item)?;
+        let right = if left.is_some() == expected {
+            // The left part decides.
+            if left.is_none() {
+                return Ok(None);
             }
-            Some(left) if expected => {
-                let text = printed(alloc, self)?;
-                Ok(Some(over_one(alloc, text, expected, "left", left)?))
+            None
+        } else {
+            let right = right.find(alloc, expected, item)?;
+            if right.is_none() {
+                return Ok(None);
             }
-            Some(left) => {
-                let Some(right) = right.find(alloc, expected, item)? else {
-                    return Ok(None);
-                };
-                let text = printed(alloc, self)?;
-                Ok(Some(over_both(alloc, text, expected, left, right)?))
-            }
-        }
+            right
+        };
+        let text = printed(alloc, self)?;
+        Ok(Some(over_found(alloc, text, expected, left, right)?))
     }
 }

@@ -56,12 +56,26 @@ pub fn render_onto(alloc: Global, out: &mut String, case: &Case) -> Result<(), A
     Ok(())
 }
 
+// About as many bytes as the lines of the node itself take.
+fn room(case: &CaseView<'_>) -> usize {
+    let mut room = 32usize;
+    if let Some(text) = case.predicate() {
+        room = room.saturating_add(text.len());
+    }
+    for product in case.products() {
+        room = room
+            .saturating_add(product.value().len())
+            .saturating_add(16);
+    }
+    room
+}
+
 /// The lines of a case: one a node, indented by two spaces for each depth, with the node's
 /// products and then its children below it.
 pub fn render(alloc: Global, case: &Case) -> Result<String, AllocError>
     ensures { IfOk result (λ text. string_bytes text ≡ lines case.now) }
 {
-    let mut out = String::new(alloc);
+    let mut out = String::with_capacity(alloc, room(&case.root()))?;
     render_onto(alloc, &mut out, case)?;
     Ok(out)
 }
