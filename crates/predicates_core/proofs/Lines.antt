@@ -34,15 +34,22 @@ forest_lines-trees_lines depth (branch name node below next) =
 pub lines-tree_lines : (t : Tree CaseNode) → lines t ≡ tree_lines [] t
 lines-tree_lines t = ap (λ ls. tail_lines (indented 1) t.root ++ ls) (forest_lines-trees_lines 1 t.children)
 
+-- the lines of a part that is the whole
+pub lines_of_all : {T : Type 0} (line : T → List ℕ) (before after : List ℕ) (part whole : List T)
+    → after ≡ before ++ flat_map line part
+    → part ≡ whole
+    → after ≡ before ++ flat_map line whole
+lines_of_all line before after part whole written e = written ∙ ap (λ ts. before ++ flat_map line ts) e
+
 -- what is written, put together
-pub tree_lines-written : (old w p o indent d : List ℕ) (t : Tree CaseNode) (ys : List NamedCase)
+pub tree_lines-written : (old w p o indent : List ℕ) (t : Tree CaseNode) (ys : List NamedCase)
     → w ≡ old ++ verdict t.root
-    → d ≡ indent ++ codes "  "
-    → p ≡ w ++ flat_map (product_line d) t.root.products
-    → o ≡ p ++ flat_map (child_lines d) ys
+    → p ≡ w ++ flat_map (product_line (deeper indent)) t.root.products
+    → o ≡ p ++ flat_map (child_lines (deeper indent)) ys
     → named_trees t.children ≡ ys
     → o ≡ old ++ tree_lines indent t
-tree_lines-written old w p o indent d t ys hw hd hp ho hy =
+tree_lines-written old w p o indent t ys hw hp ho hy =
+    let d = deeper indent in
     let products = flat_map (product_line d) t.root.products in
     let children = flat_map (child_lines d) ys in
     let v = verdict t.root in
@@ -50,4 +57,3 @@ tree_lines-written old w p o indent d t ys hw hd hp ho hy =
     let below : children ≡ trees_lines d t.children = ap (flat_map (child_lines d)) (sym hy) ∙ sym (trees_lines-flat_map d t.children) in
     ho ∙ ap (λ l. l ++ children) (hp ∙ ap (λ l. l ++ products) hw) ∙ regrouped
     ∙ ap (λ l. old ++ ((v ++ products) ++ l)) below
-    ∙ ap (λ e. old ++ ((v ++ flat_map (product_line e) t.root.products) ++ trees_lines e t.children)) hd

@@ -1,7 +1,7 @@
 //! The text of a case.
 ghost use Rattle.std.specs.Prelude.{◌≡◌, ◌++◌, OnOk, IfOk, string_bytes};
 ghost use Rattle.predicates_core.specs.Lines.{verdict, product_line, lines};
-ghost use Rattle.predicates_core.specs.Written.{tree_lines};
+ghost use Rattle.predicates_core.specs.Written.{deeper, tree_lines};
 
 use crate::reflection::{Case, CaseChild, CaseView, Product};
 use std::alloc::{AllocError, Global};
@@ -17,33 +17,33 @@ fn write_verdict(out: &mut String, case: &CaseView<'_>) -> Result<(), AllocError
     writeln!(out, "{text} = {outcome}")
 }
 
-// Writes the line of a product.
+// Writes the line of a product, which stands two spaces deeper than its node.
 fn write_product(out: &mut String, indent: &str, product: &Product) -> Result<(), AllocError>
     ensures { OnOk result
-        (string_bytes out.new ≡ string_bytes out.old ++ product_line indent.now product.now) }
+        (string_bytes out.new ≡ string_bytes out.old ++ product_line (deeper indent.now) product.now) }
 {
     let name = product.name();
     let value = product.value();
-    writeln!(out, "{indent}- {name}: {value}")
+    writeln!(out, "{indent}  - {name}: {value}")
 }
 
-// Writes a case whose line stands below the indent, from its text on. The indent comes back as it was.
+// Writes a case whose line stands at the indent, from its text on. The indent comes back as it was.
 fn write_case(out: &mut String, indent: &mut String, case: &CaseView<'_>) -> Result<(), AllocError>
     ensures lines { OnOk result
         (string_bytes out.new ≡ string_bytes out.old ++ tree_lines (string_bytes indent.old) case.now) }
     ensures indent { OnOk result (string_bytes indent.new ≡ string_bytes indent.old) }
 {
     write_verdict(out, case)?;
-    let above = indent.len();
-    indent.push_str("  ")?;
     for product in case.products() {
         write_product(out, indent.as_str(), product)?;
     }
     for CaseChild { name, case } in case.children() {
+        let above = indent.len();
+        indent.push_str("  ")?;
         write!(out, "{indent}{name}: ")?;
         write_case(out, indent, &case)?;
+        indent.truncate(above);
     }
-    indent.truncate(above);
     Ok(())
 }
 

@@ -1,11 +1,10 @@
-use Rattle.std.proofs.Common.{List, ◌≡◌, ◌++◌, ◌<◌, rules, ap, ◌∙◌, map, append-nil, take, arith, string_bytes, flat_map}
+use Rattle.std.proofs.Common.{List, ◌≡◌, ◌++◌, ◌<◌, rules, ap, ◌∙◌, map, append-nil, take, arith}
 use Rattle.std.proofs.lemmas.List.{take_all}
-use Rattle.predicates_core.specs.Lines.{product_line}
 use Rattle.predicates_core.specs.Read.{named_case}
 use Rattle.predicates_core.specs.Tree.{node_count}
 use Rattle.predicates_core.specs.Describe.{NamedCase}
 use Rattle.predicates_core.proofs.Forests.{node_count-child}
-use Rattle.predicates_core.proofs.Lines.{tree_lines-written}
+use Rattle.predicates_core.proofs.Lines.{lines_of_all, tree_lines-written}
 use Rattle.predicates_core.proofs.reflection.text.+write_case.Goals as goal
 
 pub write_case-requires : goal.write_case-requires
@@ -21,6 +20,5 @@ returns-clause-lines t c =
     let ys : List NamedCase = map named_case c.loop-name.yielded in
     let items = c.products-product-items.result.now in
     let all : take c.loop-product.product-index items ≡ items = take_all _ items (omega arith) in
-    let whole = c.loop-product.invariant ∙ ap (λ ps. string_bytes c.write_verdict.new.out ++ flat_map (product_line (string_bytes c.push_str.new.self)) ps) (all ∙ c.products-product-items.ensures) in
-    tree_lines-written _ _ _ _ _ _ c.args.case.now ys
-    c.in_ok-write_verdict.ensures c.in_ok-push_str.ensures.bytes whole c.loop-name.invariant.3 (c.loop-name.invariant.2 ∙ ap (λ r. ys ++ r) c.in-None.ensures.steps.0 ∙ append-nil ys)
+    let products = lines_of_all _ _ _ _ _ c.loop-product.invariant (all ∙ c.products-product-items.ensures) in
+    tree_lines-written _ _ _ _ _ c.args.case.now ys c.in_ok-write_verdict.ensures products c.loop-name.invariant.3 (c.loop-name.invariant.2 ∙ ap (λ r. ys ++ r) c.in-None.ensures.steps.0 ∙ append-nil ys)

@@ -2,7 +2,7 @@ use Rattle.std.proofs.Common.{◌≡◌, ◌++◌, take, map, flat_map, string_b
 use Rattle.predicates_core.specs.Read.{named_case}
 use Rattle.predicates_core.specs.Tree.{named_trees, node_count}
 use Rattle.predicates_core.specs.Lines.{product_line}
-use Rattle.predicates_core.specs.Written.{child_lines}
+use Rattle.predicates_core.specs.Written.{deeper, child_lines}
 use Rattle.predicates_core.proofs.reflection.text.+write_case.Given as goal
 
 abbrev pub decreases-write_case : goal.decreases-write_case
@@ -10,12 +10,12 @@ decreases-write_case l = node_count l.case.now.children
 
 abbrev pub invariant-loop-product : goal.invariant-loop-product
 invariant-loop-product l =
-    string_bytes l.out ≡ string_bytes l.initial.out ++ flat_map (product_line (string_bytes l.indent)) (take l.product-index l.product-items)
+    string_bytes l.out ≡ string_bytes l.initial.out ++ flat_map (product_line (deeper (string_bytes l.indent))) (take l.product-index l.product-items)
 
 abbrev pub invariant-loop-name : goal.invariant-loop-name
 invariant-loop-name l =
     (goal.iterator-loop-name).can_next l.name-iterator
     × (goal.iterator-loop-name).is_finite l.name-iterator
     × (named_trees l.case.children ≡ map named_case l.yielded ++ l.name-iterator)
-    × (string_bytes l.out ≡ string_bytes l.initial.out ++ flat_map (child_lines (string_bytes l.initial.indent)) (map named_case l.yielded))
+    × (string_bytes l.out ≡ string_bytes l.initial.out ++ flat_map (child_lines (deeper (string_bytes l.initial.indent))) (map named_case l.yielded))
     × (string_bytes l.indent ≡ string_bytes l.initial.indent)
