@@ -5,16 +5,18 @@ ghost use Rattle.predicates_core.specs.Written.{deeper, tree_lines};
 
 use crate::reflection::{Case, CaseChild, CaseView, Product};
 use std::alloc::{AllocError, Global};
-use std::fmt::Write;
 
 // Writes a node's text and its result, to the end of the line.
 fn write_verdict(out: &mut String, case: &CaseView<'_>) -> Result<(), AllocError>
     ensures { OnOk result
         (string_bytes out.new ≡ string_bytes out.old ++ verdict case.now.root) }
 {
-    let text = case.predicate().unwrap_or("predicate");
-    let outcome = case.result();
-    writeln!(out, "{text} = {outcome}")
+    out.push_str(case.predicate().unwrap_or("predicate"))?;
+    out.push_str(if case.result() {
+        " = true\n"
+    } else {
+        " = false\n"
+    })
 }
 
 // Writes the line of a product, which stands two spaces deeper than its node.
@@ -22,9 +24,12 @@ fn write_product(out: &mut String, indent: &str, product: &Product) -> Result<()
     ensures { OnOk result
         (string_bytes out.new ≡ string_bytes out.old ++ product_line (deeper indent.now) product.now) }
 {
-    let name = product.name();
-    let value = product.value();
-    writeln!(out, "{indent}  - {name}: {value}")
+    out.push_str(indent)?;
+    out.push_str("  - ")?;
+    out.push_str(product.name())?;
+    out.push_str(": ")?;
+    out.push_str(product.value())?;
+    out.push_str("\n")
 }
 
 // Writes a case whose line stands at the indent, from its text on. The indent comes back as it was.
@@ -40,7 +45,9 @@ fn write_case(out: &mut String, indent: &mut String, case: &CaseView<'_>) -> Res
     for CaseChild { name, case } in case.children() {
         let above = indent.len();
         indent.push_str("  ")?;
-        write!(out, "{indent}{name}: ")?;
+        out.push_str(indent.as_str())?;
+        out.push_str(name)?;
+        out.push_str(": ")?;
         write_case(out, indent, &case)?;
         indent.truncate(above);
     }
