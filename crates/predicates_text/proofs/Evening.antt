@@ -134,10 +134,14 @@ line_turn done t line written a r x ud ut split is taken strip =
           ∙ ap (λ l. chars done ++ l) (sym evened);
     }
 
+-- a text without a carriage return is the view of itself
+pub even_without_return : (t : List ℕ) → IsUtf8 t → FindsChar 13 t None → chars t ≡ lines_even (chars t)
+even_without_return t u none = sym (last_stays 0 (chars t) refl (none_passes (λ c. eqb c 13) t u none))
+
 -- the last line
 pub line_end : (done t written : List ℕ) → IsUtf8 done → IsUtf8 t → FindsChar 13 t None → written ≡ done ++ t → chars written ≡ chars done ++ lines_even (chars t)
 line_end done t written ud ut none is =
-    ap chars is ∙ chars-append done t ud ∙ ap (λ l. chars done ++ l) (sym (last_stays 0 (chars t) refl (none_passes (λ c. eqb c 13) t ut none)))
+    ap chars is ∙ chars-append done t ud ∙ ap (λ l. chars done ++ l) (even_without_return t ut none)
 
 -- ---- laws of even line endings
 

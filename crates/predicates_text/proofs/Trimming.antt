@@ -1,12 +1,12 @@
 -- What std's `trim` and the search for a carriage return give, in the words of `specs/Views`.
-use Rattle.std.proofs.Common.{◌≡◌, List, [], ◌∷◌, ◌++◌, ℕ, suc, ◌+◌, ◌-◌, ◌≤◌, Bool, true, false, cond, ◌&&◌, ◌||◌, eqb, leb, ltb, length, take, drop, sym, ◌∙◌, ap, refl, ⊎_elim, arith, length-append, reverse}
+use Rattle.std.proofs.Common.{◌≡◌, List, [], ◌∷◌, ◌++◌, ℕ, suc, ◌+◌, ◌-◌, ◌≤◌, Bool, true, false, cond, ◌&&◌, ◌||◌, eqb, leb, ltb, length, take, drop, sym, ◌∙◌, ap, refl, ⊎_elim, arith, length-append, min, reverse}
 use Rattle.std.specs.List.{prefix_len, suffix_len}
 use Rattle.std.specs.Char.{is_whitespace}
-use Rattle.std.specs.Str.{chars, IsUtf8, encode_utf8_all, all_scalars, skip_leading_whitespace, drop_trailing_whitespace, trim_start, trim_end, trim}
+use Rattle.std.specs.Str.{chars, IsUtf8, encode_utf8_all, all_scalars, skip_leading_whitespace, drop_trailing_whitespace, trim_start, trim_end, trim, IsTrim}
 use Rattle.std.proofs.lemmas.Bool.{cases_Bool, cases_lt}
 use Rattle.std.proofs.lemmas.Bool.Decides.{nat_tests, eqb_tells}
 use Rattle.std.proofs.lemmas.Str.{chars-encodes, scalars-chars}
-use Rattle.std.proofs.lemmas.List.{reverse-append, length-reverse, length-take, take-append-drop}
+use Rattle.std.proofs.lemmas.List.{reverse-append, length-reverse, length-drop, length-take, nil_from_length, take_all, take-append-drop}
 use Rattle.std.proofs.lemmas.List.Folds.{prefix_len-append, length-prefix_len}
 use Rattle.std.proofs.lemmas.List.Sums.{suffix_len-le-length}
 use lib.Utf8.{scalar}
@@ -190,3 +190,18 @@ view_of_trim (Err e) t kept u is made = tt
 pub trimmed_stays : {E : Type 0} (r : Result Text E) (t : List ℕ) → IfOk r (λ s. chars (string_bytes s) ≡ trimmed (chars t)) → IfOk r (λ s. trimmed (chars (string_bytes s)) ≡ chars (string_bytes s))
 trimmed_stays (Ok s) t view = ap trimmed view ∙ trimmed_twice (chars t) ∙ sym view
 trimmed_stays (Err e) t view = tt
+
+-- what is left of a list and is as long as it is all of it
+all_of_length : (l : List ℕ) (m n : ℕ) → length (take n (drop m l)) ≡ length l → take n (drop m l) ≡ l
+all_of_length [] m n e = nil_from_length (take n (drop m [])) e
+all_of_length (c ∷ l) m n e =
+    let long = length-take n (drop m (c ∷ l)) ∙ ap (min n) (length-drop m (c ∷ l)) in
+    let none : m ≡ 0 = omega (arith, long, e) in
+    let whole : length (c ∷ l) ≤ n = omega (arith, long, e) in
+    ap (λ k. take n (drop k (c ∷ l))) none ∙ take_all n (c ∷ l) whole
+
+-- a text that std's `trim` leaves as long as it was is the view of itself
+pub trim_of_length : (t kept : List ℕ) → IsUtf8 t → IsTrim t kept → kept ≡ trim t → length kept ≡ length t → chars t ≡ trimmed (chars t)
+trim_of_length t kept u part is long =
+    let same : kept ≡ t = part.2 ∙ all_of_length t part.0 part.1 (ap length (sym part.2) ∙ long) in
+    ap chars (sym same ∙ is) ∙ trim_chars t u

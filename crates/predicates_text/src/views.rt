@@ -1,5 +1,5 @@
 //! The texts that are made of a text.
-ghost use Rattle.std.specs.Prelude.{◌≡◌, ◌≢◌, All, IfOk, string_bytes};
+ghost use Rattle.std.specs.Prelude.{◌≡◌, ◌≢◌, All, IfOk, MatchOption, string_bytes};
 ghost use Rattle.std.specs.Str.{chars};
 ghost use Rattle.predicates_text.specs.Views.{trimmed, lines_even, carriage_return};
 
@@ -12,6 +12,19 @@ pub fn trimmed(alloc: Global, text: &str) -> Result<String, AllocError>
     ensures again { IfOk result (λ s. trimmed (chars (string_bytes s)) ≡ chars (string_bytes s)) }
 {
     String::from_str(alloc, text.trim())
+}
+
+// The text without the white space at its ends, or none where it has none there.
+pub(crate) fn trimmed_copy(alloc: Global, text: &str) -> Result<Option<String>, AllocError>
+    ensures { IfOk result (λ copy. MatchOption copy
+        (chars text.now ≡ trimmed (chars text.now))
+        (λ s. chars (string_bytes s) ≡ trimmed (chars text.now))) }
+{
+    let rest = text.trim();
+    if rest.len() == text.len() {
+        return Ok(None);
+    }
+    Ok(Some(String::from_str(alloc, rest)?))
 }
 
 /// The text in which each line ends by one line feed.
@@ -31,4 +44,16 @@ pub fn lines_even(alloc: Global, text: &str) -> Result<String, AllocError>
     }
     even.push_str(rest)?;
     Ok(even)
+}
+
+// The text with even line endings, or none where each line already ends so.
+pub(crate) fn lines_even_copy(alloc: Global, text: &str) -> Result<Option<String>, AllocError>
+    ensures { IfOk result (λ copy. MatchOption copy
+        (chars text.now ≡ lines_even (chars text.now))
+        (λ s. chars (string_bytes s) ≡ lines_even (chars text.now))) }
+{
+    match text.find('\r') {
+        None => Ok(None),
+        Some(_) => Ok(Some(lines_even(alloc, text)?)),
+    }
 }

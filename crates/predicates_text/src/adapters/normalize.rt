@@ -6,7 +6,7 @@ ghost use Rattle.predicates_text.specs.HandedLaws.{each_text_fits, one_each, has
 ghost use Rattle.predicates_text.specs.Made.{has_even_lines, even_lines_are};
 ghost use Rattle.predicates_text.specs.Inner.{normalized_part};
 
-use crate::views::lines_even;
+use crate::views::lines_even_copy;
 use predicates_core::reflection::{Case, Child, Parameter, PredicateReflection, describe};
 use predicates_core::{Predicate, ReadsContent, Total};
 use std::alloc::{AllocError, Global};
@@ -66,8 +66,10 @@ impl<P: Predicate<String>> Predicate<String> for NormalizedPredicate<P> {
 
     #[tactic(auto, using(crate::proofs::Handing::handing))]
     fn eval(&self, alloc: Global, item: &String) -> Result<bool, AllocError> {
-        let view = lines_even(alloc, item)?;
-        self.inner.eval(alloc, &view)
+        match lines_even_copy(alloc, item)? {
+            None => self.inner.eval(alloc, item),
+            Some(view) => self.inner.eval(alloc, &view),
+        }
     }
 
     #[tactic(auto, using(crate::proofs::Handing::handing))]
@@ -77,8 +79,10 @@ impl<P: Predicate<String>> Predicate<String> for NormalizedPredicate<P> {
         expected: bool,
         item: &String,
     ) -> Result<Option<Case>, AllocError> {
-        let view = lines_even(alloc, item)?;
-        self.inner.find_case(alloc, expected, &view)
+        match lines_even_copy(alloc, item)? {
+            None => self.inner.find_case(alloc, expected, item),
+            Some(view) => self.inner.find_case(alloc, expected, &view),
+        }
     }
 }
 

@@ -6,7 +6,7 @@ ghost use Rattle.predicates_text.specs.HandedLaws.{each_text_fits, one_each, has
 ghost use Rattle.predicates_text.specs.Made.{has_trimmed, trimmed_is};
 ghost use Rattle.predicates_text.specs.Inner.{trim_part};
 
-use crate::views::trimmed;
+use crate::views::trimmed_copy;
 use predicates_core::reflection::{Case, Child, Parameter, PredicateReflection, describe};
 use predicates_core::{Predicate, ReadsContent, Total};
 use std::alloc::{AllocError, Global};
@@ -66,8 +66,10 @@ impl<P: Predicate<String>> Predicate<String> for TrimPredicate<P> {
 
     #[tactic(auto, using(crate::proofs::Handing::handing))]
     fn eval(&self, alloc: Global, item: &String) -> Result<bool, AllocError> {
-        let view = trimmed(alloc, item)?;
-        self.inner.eval(alloc, &view)
+        match trimmed_copy(alloc, item)? {
+            None => self.inner.eval(alloc, item),
+            Some(view) => self.inner.eval(alloc, &view),
+        }
     }
 
     #[tactic(auto, using(crate::proofs::Handing::handing))]
@@ -77,8 +79,10 @@ impl<P: Predicate<String>> Predicate<String> for TrimPredicate<P> {
         expected: bool,
         item: &String,
     ) -> Result<Option<Case>, AllocError> {
-        let view = trimmed(alloc, item)?;
-        self.inner.find_case(alloc, expected, &view)
+        match trimmed_copy(alloc, item)? {
+            None => self.inner.find_case(alloc, expected, item),
+            Some(view) => self.inner.find_case(alloc, expected, &view),
+        }
     }
 }
 
