@@ -8,3 +8,4 @@ mod Showing
 pub mod Trimming
 pub mod Evening
 pub mod Handing
+pub mod OneByte

@@ -1,6 +1,6 @@
 //! How often one text stands in another.
 ghost use Rattle.std.specs.Str.{chars};
-ghost use Rattle.std.specs.Prelude.{◌≡◌, ◌≢◌, ◌+◌, [], length, MatchOption};
+ghost use Rattle.std.specs.Prelude.{◌≡◌, ◌≢◌, ◌+◌, [], length, filter, nat_eq, MatchOption};
 ghost use Rattle.predicates_text.specs.Count.{IsCountOf, IsPastFirst, IsNowhere, count_of};
 
 /// The greatest number of places of the pattern in the text of which no two overlap.
@@ -15,6 +15,12 @@ pub fn count(pattern: &str, text: &str) -> usize
     if pattern.is_empty() {
         return text.chars().count() + 1;
     }
+    // One character of ASCII stands wherever its byte does.
+    if let [byte] = pattern.as_bytes() {
+        if byte.is_ascii() {
+            return count_byte(*byte, text);
+        }
+    }
     let mut count = 0;
     let mut rest = text;
     while let Some(after) = past_first(pattern, rest) {
@@ -22,6 +28,16 @@ pub fn count(pattern: &str, text: &str) -> usize
         rest = after;
     }
     count
+}
+
+// How often the byte stands in the text.
+fn count_byte(byte: u8, text: &str) -> usize
+    ensures { result ≡ length (filter (nat_eq byte) text.now) }
+{
+    text.as_bytes()
+        .iter()
+        .filter(|other| byte == **other)
+        .count()
 }
 
 // What follows the first place of the pattern, if it has one.

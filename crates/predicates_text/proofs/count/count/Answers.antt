@@ -1,8 +1,9 @@
-use Rattle.std.proofs.Common.{rules, ◌≡◌, ap, ◌+◌, length, arith, subst}
+use Rattle.std.proofs.Common.{rules, ◌≡◌, sym, ap, ◌+◌, length, arith, subst}
 use Rattle.std.specs.Str.{chars}
 use Rattle.std.proofs.lemmas.Str.{chars_from_encodes}
 use Rattle.predicates_text.specs.Count.{IsCountOf}
 use Rattle.predicates_text.proofs.Counted.{count_of_is}
+use Rattle.predicates_text.proofs.OneByte.{byte_count}
 use Rattle.predicates_text.proofs.Counting.{count_empty_text, counted_on, no_items}
 use Rattle.predicates_text.proofs.count.count.Goals as goal
 
@@ -29,7 +30,7 @@ loop-after-preserved c =
 pub returns : goal.returns
 returns c =
     let same : c.loop-after.count + 0 ≡ c.loop-after.count = omega arith in
-    let none = c.in_default.ensures in
+    let none = c.in_default-past_first.ensures in
     let counts = subst (λ m. IsCountOf (chars c.args.pattern.now) (chars c.args.text.now) m) same
     (c.loop-after.invariant.2.among_characters 0 none.among_characters) in
     record {
@@ -37,4 +38,14 @@ returns c =
       bytes = λ _. subst (λ m. IsCountOf c.args.pattern.now c.args.text.now m) same (c.loop-after.invariant.2.among_bytes 0 none.among_bytes);
       empty = λ e. absurd (grind (arith, ap length e));
       value = count_of_is (chars c.args.pattern.now) (chars c.args.text.now) c.loop-after.count counts;
+    }
+
+pub returns-then-is_ascii : goal.returns-then-is_ascii
+returns-then-is_ascii c =
+    let known = byte_count c.args.pattern.now c.args.text.now c.as_bytes.result.now c.count_byte.result c.as_bytes.ensures.value c.in-len1.len_at_least c.in-len1.len_below (sym c.if-is_ascii.ensures) c.utf8.text c.count_byte.ensures in
+    record {
+      greatest = known.among_characters;
+      bytes = λ _. known.among_bytes;
+      empty = λ e. absurd (grind (arith, c.in-len1.len_at_least, ap length e, ap length c.as_bytes.ensures.value));
+      value = known.value;
     }
