@@ -1,10 +1,10 @@
 -- How often one ASCII character stands in a text is how often its byte does.
-use Rattle.std.proofs.Common.{◌≡◌, List, [], ◌∷◌, ◌++◌, ℕ, zero, suc, ◌+◌, ◌≤◌, ◌<◌, true, false, eqb, length, filter, get_or, sym, ◌∙◌, ap, refl, subst, ⊎_elim, arith, length-append, append-nil}
+use Rattle.std.proofs.Common.{◌≡◌, List, [], ◌∷◌, ◌++◌, ℕ, zero, suc, Bool, cond, take, ◌+◌, ◌≤◌, ◌<◌, true, false, eqb, length, filter, get_or, sym, ◌∙◌, ap, refl, subst, ⊎_elim, arith, length-append, append-nil}
 use Rattle.std.specs.Char.{encode_utf8, is_ascii}
 use Rattle.std.specs.Str.{chars, IsUtf8, IsAscii, encode_utf8_all}
 use Rattle.std.proofs.lemmas.Bool.{cases_Bool, cases_lt}
 use Rattle.std.proofs.lemmas.Bool.Decides.{nat_tests}
-use Rattle.std.proofs.lemmas.List.Elements.{filter-append}
+use Rattle.std.proofs.lemmas.List.Elements.{filter-append, filter_more}
 use Rattle.std.proofs.lemmas.Str.{inside_one, encode_ascii, encodes-chars, chars-IsAscii}
 use Rattle.predicates_text.specs.Count.{IsCountOf, count_of, count_past}
 use Rattle.predicates_text.proofs.Counted.{count_of_counts, count_of_is}
@@ -14,6 +14,16 @@ times b t = length (filter (eqb b) t)
 
 times_append : (b : ℕ) (s t : List ℕ) → times b (s ++ t) ≡ times b s + times b t
 times_append b s t = ap length (filter-append (eqb b) s t) ∙ length-append (filter (eqb b) s) (filter (eqb b) t)
+
+-- the byte at a place is one more where it is the same
+pub times_more : (b : ℕ) (t : List ℕ) (i n m : ℕ) → i < length t → n ≡ times b (take i t) → m ≡ n + cond (eqb b (get_or t i 0)) 1 0 → m ≡ times b (take (i + 1) t)
+times_more b t i n m lt so_far more =
+    more ∙ ap (λ k. k + cond (eqb b (get_or t i 0)) 1 0) so_far ∙ ap (λ k. times b (take i t) + k) (of_one (eqb b (get_or t i 0)))
+    ∙ sym (ap length (filter_more (eqb b) t i 0 lt) ∙ length-append (filter (eqb b) (take i t)) (cond (eqb b (get_or t i 0)) (get_or t i 0 ∷ []) []))
+  where
+    of_one : (same : Bool) → cond same 1 0 ≡ length (cond same (get_or t i 0 ∷ []) [])
+    of_one true = refl
+    of_one false = refl
 
 -- a byte that stands at no place
 never : (b : ℕ) (l : List ℕ) → ((k : ℕ) → k < length l → eqb b (get_or l k 0) ≡ false) → times b l ≡ 0

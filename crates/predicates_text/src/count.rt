@@ -34,10 +34,13 @@ pub fn count(pattern: &str, text: &str) -> usize
 fn count_byte(byte: u8, text: &str) -> usize
     ensures { result ≡ length (filter (nat_eq byte) text.now) }
 {
-    text.as_bytes()
-        .iter()
-        .filter(|other| byte == **other)
-        .count()
+    let mut count = 0;
+    for other in text.as_bytes() {
+        if byte == *other {
+            count += 1;
+        }
+    }
+    count
 }
 
 // What follows the first place of the pattern, if it has one.
