@@ -58,5 +58,3 @@ module _ {name : List ℕ} {value : Entry} {part : Formula → Type 0} where
     truth = HasTruth-with_product h.truth;
     explains = λ f p. rw (p.is, s.is) (explains_with_product p.inner c (record { name = name; value = value }) s.bytes s.fits (h.explains p.inner p.of_part));
   }
-
-pub ruleset added = (HasTruth-with_product, IsCaseOf-with_product)

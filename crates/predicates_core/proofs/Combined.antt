@@ -72,7 +72,7 @@ HasTruth-named {name} of_part = record { at = λ f h. ap truth h.is ∙ truth-Na
 
 -- ---- cases
 
-node_fits : (text : Entry) (b v : Bool) (parts : List NamedCase) (t : Tree CaseNode) → IsNode text b parts t → v ≡ b → FitsNode (plain text) v t.root
+pub node_fits : (text : Entry) (b v : Bool) (parts : List NamedCase) (t : Tree CaseNode) → IsNode text b parts t → v ≡ b → FitsNode (plain text) v t.root
 node_fits text b v parts t h e = record { text = h.text; result = h.result ∙ sym e; products = subst (FitsProducts []) (sym h.products) tt }
 
 module _ (text : Entry) (l r : Formula) (b : Bool) (t : Tree CaseNode) where

@@ -1,6 +1,5 @@
-use Rattle.std.proofs.Common.{List, ◌≡◌, ◌++◌, ◌<◌, rules, ap, ◌∙◌, map, append-nil, take, arith, string_bytes, flat_map}
+use Rattle.std.proofs.Common.{List, ◌≡◌, ◌++◌, ◌<◌, rules, ap, ◌∙◌, map, append-nil, take, arith}
 use Rattle.std.proofs.lemmas.List.{take_all}
-use Rattle.predicates_core.specs.Lines.{product_line}
 use Rattle.predicates_core.specs.Read.{named_case}
 use Rattle.predicates_core.specs.Tree.{node_count}
 use Rattle.predicates_core.specs.Describe.{NamedCase}
@@ -21,6 +20,6 @@ returns-clause-lines t c =
     let ys : List NamedCase = map named_case c.loop-name.yielded in
     let items = c.products-product-items.result.now in
     let all : take c.loop-product.product-index items ≡ items = take_all _ items (omega arith) in
-    let whole = c.loop-product.invariant ∙ ap (λ ps. string_bytes c.write_verdict.new.out ++ flat_map (product_line (string_bytes c.push_str.new.self)) ps) (all ∙ c.products-product-items.ensures) in
+    let whole = rw (all ∙ c.products-product-items.ensures) at c.loop-product.invariant in
     tree_lines-written _ _ _ _ _ _ c.args.case.now ys
     c.in_ok-write_verdict.ensures c.in_ok-push_str.ensures.bytes whole c.loop-name.invariant.3 (c.loop-name.invariant.2 ∙ ap (λ r. ys ++ r) c.in-None.ensures.steps.0 ∙ append-nil ys)
