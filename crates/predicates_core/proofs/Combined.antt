@@ -8,6 +8,7 @@ use Rattle.predicates_core.specs.Describe.{CaseNode, NamedCase}
 use Rattle.predicates_core.specs.Shows.{FitsNode, ShowsPart, ShowsBoth, Shows, Explains, IsCaseOf, IsAnswer, IsNode, found_parts}
 use Rattle.predicates_core.specs.Combined.{IsAnd, IsOr, IsNot, IsNamed}
 use Rattle.predicates_core.proofs.Values.{truth-And, truth-Or, truth-Not, truth-Named}
+pub use Rattle.predicates_core.proofs.Values.{not-not}
 use Rattle.predicates_core.proofs.Numbers.{shifted}
 use Rattle.predicates_core.proofs.Combine.{first-And_both, first-And_left, first-And_right, first-Or_both, first-Or_left, first-Or_right, first-Not, first-Named}
 use Rattle.predicates_core.proofs.Shown.{shows_both, shows_left, shows_right, shows_part, not_empty, numbers_of}
@@ -207,10 +208,6 @@ module _ {text : Option (List ℕ)} {left right : Formula → Type 0} {b : Bool}
         truth = whole;
         explains = λ f h. subst (λ g. Explains g t) (sym h.is) (explains_or_right text h.l h.r b t c (x.at h.l h.of_left ∙ ap not e) (y.truth.at h.r h.of_right ∙ e) (y.explains h.r h.of_right) node (ap truth (sym h.is) ∙ whole.at f h));
       }
-
-pub not-not : (b : Bool) → not (not b) ≡ b
-not-not true = refl
-not-not false = refl
 
 -- from what was found for the parts, as options; the right part was asked where the left one left the verdict to it
 module _ {text : Option (List ℕ)} {left right : Formula → Type 0} {bytes : List ℕ} {b : Bool} {t : Tree CaseNode} where
