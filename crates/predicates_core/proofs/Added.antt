@@ -1,6 +1,6 @@
 -- One product more at the root: the truth and the first reason stay, and the case has the product too.
-use Rattle.std.proofs.Common.{◌≡◌, refl, sym, ap, ◌∙◌, ℕ, Bool, List, [], ◌∷◌, ◌++◌}
-use Rattle.predicates_core.specs.Label.{Label, Entry, Product, Fits, FitsProducts}
+use Rattle.std.proofs.Common.{◌≡◌, refl, sym, ap, ◌∙◌, ℕ, Bool, List, [], ◌∷◌, ◌++◌, Option}
+use Rattle.predicates_core.specs.Label.{Label, Entry, Product, Fits, FitsEntry, FitsProducts}
 use Rattle.predicates_core.specs.Formula.{Formula, Leaf, And, Or, Not, Named, text_of, truth, HasTruth, with_product}
 use Rattle.predicates_core.specs.Shows.{FitsNode, Shows, Explains, IsCaseOf}
 use Rattle.predicates_core.specs.Tree.{Tree}
@@ -41,7 +41,7 @@ explains_with_product f c p bytes fits x = record {
 }
 
 -- the text of the root stays
-pub text-with_product : (f : Formula) (p : Product) → text_of (with_product f p) ≡ text_of f
+text-with_product : (f : Formula) (p : Product) → text_of (with_product f p) ≡ text_of f
 unfolding with_product
 text-with_product (Leaf label t) p = refl
 text-with_product (And label l r) p = refl
@@ -50,6 +50,12 @@ text-with_product (Not label f) p = refl
 text-with_product (Named label name f) p = refl
 
 module _ {name : List ℕ} {value : Entry} {part : Formula → Type 0} where
+  pub with_product_text_fits : {text : Option (List ℕ)} {f : Formula} → ((g : Formula) → part g → FitsEntry (text_of g) text) → IsWithProduct name value part f → FitsEntry (text_of f) text
+  with_product_text_fits fits p = rw (p.is, text-with_product p.inner (record { name = name; value = value })) (fits p.inner p.of_part)
+
+  pub one_with_product : {f g : Formula} → ((x y : Formula) → part x → part y → x ≡ y) → IsWithProduct name value part f → IsWithProduct name value part g → f ≡ g
+  one_with_product one p q = p.is ∙ ap (λ z. with_product z (record { name = name; value = value })) (one p.inner q.inner p.of_part q.of_part) ∙ sym q.is
+
   pub HasTruth-with_product : {b : Bool} → HasTruth part b → HasTruth (IsWithProduct name value part) b
   HasTruth-with_product h = record { at = λ f p. ap truth p.is ∙ with_product_truth p.inner (record { name = name; value = value }) ∙ h.at p.inner p.of_part }
 
@@ -58,5 +64,3 @@ module _ {name : List ℕ} {value : Entry} {part : Formula → Type 0} where
     truth = HasTruth-with_product h.truth;
     explains = λ f p. rw (p.is, s.is) (explains_with_product p.inner c (record { name = name; value = value }) s.bytes s.fits (h.explains p.inner p.of_part));
   }
-
-pub ruleset added = (HasTruth-with_product, IsCaseOf-with_product)

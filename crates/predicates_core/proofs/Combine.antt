@@ -13,8 +13,8 @@ pub record SameReasons (f g : Formula) : Type 0 where
   pub there : (S : List ℕ) → IsReason f S → IsReason g S
   pub back : (S : List ℕ) → IsReason g S → IsReason f S
 
-pub same_sym : {f g : Formula} → SameReasons f g → SameReasons g f
-same_sym s = record { there = s.back; back = s.there }
+pub same_symmetric : {f g : Formula} → SameReasons f g → SameReasons g f
+same_symmetric s = record { there = s.back; back = s.there }
 
 same_minimal : {f g : Formula} → SameReasons f g → (S : List ℕ) → IsMinimalReason f S → IsMinimalReason g S
 same_minimal s S m = record {
@@ -25,7 +25,7 @@ same_minimal s S m = record {
 pub same_first : {f g : Formula} → SameReasons f g → (S : List ℕ) → IsFirstReason f S → IsFirstReason g S
 same_first s S h = record {
   minimal = same_minimal s S h.minimal;
-  before_others = λ other m apart. h.before_others other (same_minimal (same_sym s) other m) apart;
+  before_others = λ other m apart. h.before_others other (same_minimal (same_symmetric s) other m) apart;
 }
 
 -- the same function of the same leaves
@@ -52,17 +52,17 @@ same_function_reasons f g e same =
       back = same_function_reason g f (sym e) (λ w ew. sym (same w (ew ∙ sym sizes)));
     }
 
-not_inj : (a b : Bool) → not a ≡ not b → a ≡ b
-not_inj true true e = refl
-not_inj false false e = refl
-not_inj true false e = absurd (cc)
-not_inj false true e = absurd (cc)
+not_injective : (a b : Bool) → not a ≡ not b → a ≡ b
+not_injective true true e = refl
+not_injective false false e = refl
+not_injective true false e = absurd (cc)
+not_injective false true e = absurd (cc)
 
 pub not_reasons : (label : Label) (f : Formula) → SameReasons f (Not label f)
 unfolding size value actual truth
 not_reasons label f = record {
   there = λ S h. record { numbers = h.numbers; decides = λ w e at. ap not (h.decides w e at) };
-  back = λ S h. record { numbers = h.numbers; decides = λ w e at. not_inj (value f w) (value f (actual f)) (h.decides w e at) };
+  back = λ S h. record { numbers = h.numbers; decides = λ w e at. not_injective (value f w) (value f (actual f)) (h.decides w e at) };
 }
 
 pub named_reasons : (label : Label) (name : List ℕ) (f : Formula) → SameReasons f (Named label name f)
@@ -98,7 +98,7 @@ pub with_product_truth : (f : Formula) (p : Product) → truth (with_product f p
 with_product_truth f p = same_function_truth (with_product f p) f (with_product_actual f p) (λ w e. with_product_value f p w)
 
 pub first-with_product : (f : Formula) (p : Product) (S : List ℕ) → IsFirstReason f S → IsFirstReason (with_product f p) S
-first-with_product f p = same_first (same_sym (same_function_reasons (with_product f p) f (with_product_actual f p) (λ w e. with_product_value f p w)))
+first-with_product f p = same_first (same_symmetric (same_function_reasons (with_product f p) f (with_product_actual f p) (λ w e. with_product_value f p w)))
 
 -- a leaf's first reason is the leaf
 leaf_reason : (label : Label) (t : Bool) → IsReason (Leaf label t) (0 ∷ [])

@@ -3,11 +3,13 @@ use Rattle.std.proofs.Common.{◌≡◌, ℕ, Bool, true, false, List, [], ◌�
 use Rattle.std.specs.Prelude.{not, ◌&&◌, ◌||◌, is_some}
 use Rattle.predicates_core.specs.Label.{Entry, plain, Fits, FitsEntry, FitsProducts}
 use Rattle.predicates_core.specs.Formula.{Formula, And, Or, Not, Named, truth, size, text_of, HasTruth}
-use Rattle.predicates_core.specs.Tree.{Tree, empty}
+use Rattle.predicates_core.specs.Reason.{IsFirstReason}
+use Rattle.predicates_core.specs.Tree.{Tree, empty, forest}
 use Rattle.predicates_core.specs.Describe.{CaseNode, NamedCase}
 use Rattle.predicates_core.specs.Shows.{FitsNode, ShowsPart, ShowsBoth, Shows, Explains, IsCaseOf, IsAnswer, IsNode, found_parts}
 use Rattle.predicates_core.specs.Combined.{IsAnd, IsOr, IsNot, IsNamed}
 use Rattle.predicates_core.proofs.Values.{truth-And, truth-Or, truth-Not, truth-Named}
+pub use Rattle.predicates_core.proofs.Values.{not-not}
 use Rattle.predicates_core.proofs.Numbers.{shifted}
 use Rattle.predicates_core.proofs.Combine.{first-And_both, first-And_left, first-And_right, first-Or_both, first-Or_left, first-Or_right, first-Not, first-Named}
 use Rattle.predicates_core.proofs.Shown.{shows_both, shows_left, shows_right, shows_part, not_empty, numbers_of}
@@ -72,57 +74,23 @@ HasTruth-named {name} of_part = record { at = λ f h. ap truth h.is ∙ truth-Na
 
 -- ---- cases
 
-node_fits : (text : Entry) (b v : Bool) (parts : List NamedCase) (t : Tree CaseNode) → IsNode text b parts t → v ≡ b → FitsNode (plain text) v t.root
+pub node_fits : (text : Entry) (b v : Bool) (parts : List NamedCase) (t : Tree CaseNode) → IsNode text b parts t → v ≡ b → FitsNode (plain text) v t.root
 node_fits text b v parts t h e = record { text = h.text; result = h.result ∙ sym e; products = subst (FitsProducts []) (sym h.products) tt }
 
-module _ (text : Entry) (l r : Formula) (b : Bool) (t : Tree CaseNode) where
-  pub explains_and_both : (c d : Tree CaseNode) → truth l ≡ true → truth r ≡ true → Explains l c → Explains r d → IsNode text b ((codes "left", c) ∷ (codes "right", d) ∷ []) t → truth (And (plain text) l r) ≡ b → Explains (And (plain text) l r) t
-  unfolding Shows
-  explains_and_both c d el er x y node e = record {
-    leaves = x.leaves ++ shifted (size l) y.leaves;
-    first = first-And_both (plain text) l r x.leaves y.leaves el er x.first y.first;
-    shown = (node_fits text b _ _ t node e, subst (λ ch. ShowsBoth (Shows l) (Shows r) (size l) ch (x.leaves ++ shifted (size l) y.leaves)) (sym node.children) (shows_both (Shows l) (Shows r) (size l) x.leaves y.leaves c d (numbers_of l x.leaves x.first) (not_empty l x.leaves x.first) (not_empty r y.leaves y.first) x.shown y.shown));
-  }
+-- leaves that are the first reason of the formula f over l and r, and that the cases under their names show
+abbrev IsShownBelow : Formula → Formula → Formula → List NamedCase → Type 0
+IsShownBelow f l r cases = (leaves : List ℕ) × IsFirstReason f leaves × ShowsBoth (Shows l) (Shows r) (size l) (forest cases) leaves
 
-  pub explains_and_left : (c : Tree CaseNode) → truth l ≡ false → Explains l c → IsNode text b ((codes "left", c) ∷ []) t → truth (And (plain text) l r) ≡ b → Explains (And (plain text) l r) t
-  unfolding Shows
-  explains_and_left c el x node e = record {
-    leaves = x.leaves;
-    first = first-And_left (plain text) l r x.leaves el x.first;
-    shown = (node_fits text b _ _ t node e, subst (λ ch. ShowsBoth (Shows l) (Shows r) (size l) ch x.leaves) (sym node.children) (shows_left (Shows l) (Shows r) (size l) x.leaves c (numbers_of l x.leaves x.first) (not_empty l x.leaves x.first) x.shown));
-  }
+module _ {f : Formula} (l r : Formula) where
+  both_below : {c d : Tree CaseNode} (x : Explains l c) (y : Explains r d) → IsFirstReason f (x.leaves ++ shifted (size l) y.leaves) → IsShownBelow f l r ((codes "left", c) ∷ (codes "right", d) ∷ [])
+  both_below {c} {d} x y first =
+      (_, first, shows_both (Shows l) (Shows r) (size l) x.leaves y.leaves c d (numbers_of l x.leaves x.first) (not_empty l x.leaves x.first) (not_empty r y.leaves y.first) x.shown y.shown)
 
-  pub explains_and_right : (d : Tree CaseNode) → truth l ≡ true → truth r ≡ false → Explains r d → IsNode text b ((codes "right", d) ∷ []) t → truth (And (plain text) l r) ≡ b → Explains (And (plain text) l r) t
-  unfolding Shows
-  explains_and_right d el er y node e = record {
-    leaves = shifted (size l) y.leaves;
-    first = first-And_right (plain text) l r y.leaves el er y.first;
-    shown = (node_fits text b _ _ t node e, subst (λ ch. ShowsBoth (Shows l) (Shows r) (size l) ch (shifted (size l) y.leaves)) (sym node.children) (shows_right (Shows l) (Shows r) (size l) y.leaves d (not_empty r y.leaves y.first) y.shown));
-  }
+  left_below : {c : Tree CaseNode} (x : Explains l c) → IsFirstReason f x.leaves → IsShownBelow f l r ((codes "left", c) ∷ [])
+  left_below {c} x first = (_, first, shows_left (Shows l) (Shows r) (size l) x.leaves c (numbers_of l x.leaves x.first) (not_empty l x.leaves x.first) x.shown)
 
-  pub explains_or_both : (c d : Tree CaseNode) → truth l ≡ false → truth r ≡ false → Explains l c → Explains r d → IsNode text b ((codes "left", c) ∷ (codes "right", d) ∷ []) t → truth (Or (plain text) l r) ≡ b → Explains (Or (plain text) l r) t
-  unfolding Shows
-  explains_or_both c d el er x y node e = record {
-    leaves = x.leaves ++ shifted (size l) y.leaves;
-    first = first-Or_both (plain text) l r x.leaves y.leaves el er x.first y.first;
-    shown = (node_fits text b _ _ t node e, subst (λ ch. ShowsBoth (Shows l) (Shows r) (size l) ch (x.leaves ++ shifted (size l) y.leaves)) (sym node.children) (shows_both (Shows l) (Shows r) (size l) x.leaves y.leaves c d (numbers_of l x.leaves x.first) (not_empty l x.leaves x.first) (not_empty r y.leaves y.first) x.shown y.shown));
-  }
-
-  pub explains_or_left : (c : Tree CaseNode) → truth l ≡ true → Explains l c → IsNode text b ((codes "left", c) ∷ []) t → truth (Or (plain text) l r) ≡ b → Explains (Or (plain text) l r) t
-  unfolding Shows
-  explains_or_left c el x node e = record {
-    leaves = x.leaves;
-    first = first-Or_left (plain text) l r x.leaves el x.first;
-    shown = (node_fits text b _ _ t node e, subst (λ ch. ShowsBoth (Shows l) (Shows r) (size l) ch x.leaves) (sym node.children) (shows_left (Shows l) (Shows r) (size l) x.leaves c (numbers_of l x.leaves x.first) (not_empty l x.leaves x.first) x.shown));
-  }
-
-  pub explains_or_right : (d : Tree CaseNode) → truth l ≡ false → truth r ≡ true → Explains r d → IsNode text b ((codes "right", d) ∷ []) t → truth (Or (plain text) l r) ≡ b → Explains (Or (plain text) l r) t
-  unfolding Shows
-  explains_or_right d el er y node e = record {
-    leaves = shifted (size l) y.leaves;
-    first = first-Or_right (plain text) l r y.leaves el er y.first;
-    shown = (node_fits text b _ _ t node e, subst (λ ch. ShowsBoth (Shows l) (Shows r) (size l) ch (shifted (size l) y.leaves)) (sym node.children) (shows_right (Shows l) (Shows r) (size l) y.leaves d (not_empty r y.leaves y.first) y.shown));
-  }
+  right_below : {d : Tree CaseNode} (y : Explains r d) → IsFirstReason f (shifted (size l) y.leaves) → IsShownBelow f l r ((codes "right", d) ∷ [])
+  right_below {d} y first = (_, first, shows_right (Shows l) (Shows r) (size l) y.leaves d (not_empty r y.leaves y.first) y.shown)
 
 module _ (inner : Formula) (b : Bool) (t c : Tree CaseNode) where
   pub explains_not : (text : Entry) → Explains inner c → IsNode text b ((codes "predicate", c) ∷ []) t → truth (Not (plain text) inner) ≡ b → Explains (Not (plain text) inner) t
@@ -152,65 +120,66 @@ node_of_text {entry} {bytes} h fits = record {
   children = h.children;
 }
 
+-- the whole joins a formula of each part, and is shown where its node fits and its children show both parts
+record IsJoined (text : Entry) (left right whole : Formula → Type 0) (join : Formula → Formula → Formula) : Type 0 where
+  parts : (f : Formula) → whole f → (l : Formula) × (r : Formula) × left l × right r × (f ≡ join l r)
+  shown : (l r : Formula) (t : Tree CaseNode) (leaves : List ℕ) → FitsNode (plain text) (truth (join l r)) t.root → ShowsBoth (Shows l) (Shows r) (size l) t.children leaves → Shows (join l r) t leaves
+
+joined_case : {text : Entry} {left right whole : Formula → Type 0} {join : Formula → Formula → Formula} {b : Bool} {t : Tree CaseNode} {bytes : List ℕ} {cases : List NamedCase} → IsJoined text left right whole join → HasTruth whole b → IsNode (Some bytes) b cases t → Fits text bytes
+    → ((l r : Formula) → left l → right r → IsShownBelow (join l r) l r cases) → IsCaseOf whole b t
+joined_case {text} {b} {t} {cases} joined is written fits below =
+    let node : IsNode text b cases t = node_of_text written fits in
+    record {
+      truth = is;
+      explains = λ f h.
+          let p = joined.parts f h in
+          let x = below p.0 p.1 p.2 p.3 in
+          let children = subst (λ ch. ShowsBoth (Shows p.0) (Shows p.1) (size p.0) ch x.0) (sym node.children) x.2 in
+          subst (λ g. Explains g t) (sym p.4) (record {
+            leaves = x.0;
+            first = x.1;
+            shown = joined.shown p.0 p.1 t x.0 (node_fits text b _ cases t node (ap truth (sym p.4) ∙ is.at f h)) children;
+          });
+    }
+
+module _ {text : Option (List ℕ)} {left right : Formula → Type 0} where
+  joined_by_and : IsJoined text left right (IsAnd text left right) (And (plain text))
+  unfolding Shows
+  joined_by_and = record { parts = λ f h. (h.l, h.r, h.of_left, h.of_right, h.is); shown = λ l r t leaves node children. (node, children) }
+
+  joined_by_or : IsJoined text left right (IsOr text left right) (Or (plain text))
+  unfolding Shows
+  joined_by_or = record { parts = λ f h. (h.l, h.r, h.of_left, h.of_right, h.is); shown = λ l r t leaves node children. (node, children) }
+
 module _ {text : Option (List ℕ)} {left right : Formula → Type 0} {b : Bool} {c d t : Tree CaseNode} where
   pub IsCaseOf-and_both : {bytes : List ℕ} → IsNode (Some bytes) b ((codes "left", c) ∷ (codes "right", d) ∷ []) t → Fits text bytes → IsCaseOf left b c → IsCaseOf right b d → b ≡ true → IsCaseOf (IsAnd text left right) b t
-  IsCaseOf-and_both written fits x y e =
-      let node : IsNode text b ((codes "left", c) ∷ (codes "right", d) ∷ []) t = node_of_text written fits in
-      let whole : HasTruth (IsAnd text left right) b = HasTruth-and_by_right x.truth e y.truth in
-      record {
-        truth = whole;
-        explains = λ f h. subst (λ g. Explains g t) (sym h.is) (explains_and_both text h.l h.r b t c d (x.truth.at h.l h.of_left ∙ e) (y.truth.at h.r h.of_right ∙ e) (x.explains h.l h.of_left) (y.explains h.r h.of_right) node (ap truth (sym h.is) ∙ whole.at f h));
-      }
+  IsCaseOf-and_both written fits x y e = joined_case joined_by_and (HasTruth-and_by_right x.truth e y.truth) written fits (λ l r of_l of_r.
+      let left_shown = x.explains l of_l in
+      let right_shown = y.explains r of_r in
+      both_below l r left_shown right_shown (first-And_both (plain text) l r left_shown.leaves right_shown.leaves (x.truth.at l of_l ∙ e) (y.truth.at r of_r ∙ e) left_shown.first right_shown.first))
 
   pub IsCaseOf-or_both : {bytes : List ℕ} → IsNode (Some bytes) b ((codes "left", c) ∷ (codes "right", d) ∷ []) t → Fits text bytes → IsCaseOf left b c → IsCaseOf right b d → b ≡ false → IsCaseOf (IsOr text left right) b t
-  IsCaseOf-or_both written fits x y e =
-      let node : IsNode text b ((codes "left", c) ∷ (codes "right", d) ∷ []) t = node_of_text written fits in
-      let whole : HasTruth (IsOr text left right) b = HasTruth-or_by_right x.truth e y.truth in
-      record {
-        truth = whole;
-        explains = λ f h. subst (λ g. Explains g t) (sym h.is) (explains_or_both text h.l h.r b t c d (x.truth.at h.l h.of_left ∙ e) (y.truth.at h.r h.of_right ∙ e) (x.explains h.l h.of_left) (y.explains h.r h.of_right) node (ap truth (sym h.is) ∙ whole.at f h));
-      }
+  IsCaseOf-or_both written fits x y e = joined_case joined_by_or (HasTruth-or_by_right x.truth e y.truth) written fits (λ l r of_l of_r.
+      let left_shown = x.explains l of_l in
+      let right_shown = y.explains r of_r in
+      both_below l r left_shown right_shown (first-Or_both (plain text) l r left_shown.leaves right_shown.leaves (x.truth.at l of_l ∙ e) (y.truth.at r of_r ∙ e) left_shown.first right_shown.first))
 
 module _ {text : Option (List ℕ)} {left right : Formula → Type 0} {b : Bool} {c t : Tree CaseNode} where
   pub IsCaseOf-and_left : {bytes : List ℕ} → IsNode (Some bytes) b ((codes "left", c) ∷ []) t → Fits text bytes → IsCaseOf left b c → b ≡ false → IsCaseOf (IsAnd text left right) b t
-  IsCaseOf-and_left written fits x e =
-      let node : IsNode text b ((codes "left", c) ∷ []) t = node_of_text written fits in
-      let whole : HasTruth (IsAnd text left right) b = HasTruth-and_by_left x.truth e in
-      record {
-        truth = whole;
-        explains = λ f h. subst (λ g. Explains g t) (sym h.is) (explains_and_left text h.l h.r b t c (x.truth.at h.l h.of_left ∙ e) (x.explains h.l h.of_left) node (ap truth (sym h.is) ∙ whole.at f h));
-      }
+  IsCaseOf-and_left written fits x e = joined_case joined_by_and (HasTruth-and_by_left x.truth e) written fits (λ l r of_l of_r.
+      let left_shown = x.explains l of_l in left_below l r left_shown (first-And_left (plain text) l r left_shown.leaves (x.truth.at l of_l ∙ e) left_shown.first))
 
   pub IsCaseOf-and_right : {bytes : List ℕ} → IsNode (Some bytes) b ((codes "right", c) ∷ []) t → Fits text bytes → HasTruth left (not b) → IsCaseOf right b c → b ≡ false → IsCaseOf (IsAnd text left right) b t
-  IsCaseOf-and_right written fits x y e =
-      let node : IsNode text b ((codes "right", c) ∷ []) t = node_of_text written fits in
-      let whole : HasTruth (IsAnd text left right) b = HasTruth-and_by_right x (ap not e) y.truth in
-      record {
-        truth = whole;
-        explains = λ f h. subst (λ g. Explains g t) (sym h.is) (explains_and_right text h.l h.r b t c (x.at h.l h.of_left ∙ ap not e) (y.truth.at h.r h.of_right ∙ e) (y.explains h.r h.of_right) node (ap truth (sym h.is) ∙ whole.at f h));
-      }
+  IsCaseOf-and_right written fits x y e = joined_case joined_by_and (HasTruth-and_by_right x (ap not e) y.truth) written fits (λ l r of_l of_r.
+      let right_shown = y.explains r of_r in right_below l r right_shown (first-And_right (plain text) l r right_shown.leaves (x.at l of_l ∙ ap not e) (y.truth.at r of_r ∙ e) right_shown.first))
 
   pub IsCaseOf-or_left : {bytes : List ℕ} → IsNode (Some bytes) b ((codes "left", c) ∷ []) t → Fits text bytes → IsCaseOf left b c → b ≡ true → IsCaseOf (IsOr text left right) b t
-  IsCaseOf-or_left written fits x e =
-      let node : IsNode text b ((codes "left", c) ∷ []) t = node_of_text written fits in
-      let whole : HasTruth (IsOr text left right) b = HasTruth-or_by_left x.truth e in
-      record {
-        truth = whole;
-        explains = λ f h. subst (λ g. Explains g t) (sym h.is) (explains_or_left text h.l h.r b t c (x.truth.at h.l h.of_left ∙ e) (x.explains h.l h.of_left) node (ap truth (sym h.is) ∙ whole.at f h));
-      }
+  IsCaseOf-or_left written fits x e = joined_case joined_by_or (HasTruth-or_by_left x.truth e) written fits (λ l r of_l of_r.
+      let left_shown = x.explains l of_l in left_below l r left_shown (first-Or_left (plain text) l r left_shown.leaves (x.truth.at l of_l ∙ e) left_shown.first))
 
   pub IsCaseOf-or_right : {bytes : List ℕ} → IsNode (Some bytes) b ((codes "right", c) ∷ []) t → Fits text bytes → HasTruth left (not b) → IsCaseOf right b c → b ≡ true → IsCaseOf (IsOr text left right) b t
-  IsCaseOf-or_right written fits x y e =
-      let node : IsNode text b ((codes "right", c) ∷ []) t = node_of_text written fits in
-      let whole : HasTruth (IsOr text left right) b = HasTruth-or_by_right x (ap not e) y.truth in
-      record {
-        truth = whole;
-        explains = λ f h. subst (λ g. Explains g t) (sym h.is) (explains_or_right text h.l h.r b t c (x.at h.l h.of_left ∙ ap not e) (y.truth.at h.r h.of_right ∙ e) (y.explains h.r h.of_right) node (ap truth (sym h.is) ∙ whole.at f h));
-      }
-
-pub not-not : (b : Bool) → not (not b) ≡ b
-not-not true = refl
-not-not false = refl
+  IsCaseOf-or_right written fits x y e = joined_case joined_by_or (HasTruth-or_by_right x (ap not e) y.truth) written fits (λ l r of_l of_r.
+      let right_shown = y.explains r of_r in right_below l r right_shown (first-Or_right (plain text) l r right_shown.leaves (x.at l of_l ∙ ap not e) (y.truth.at r of_r ∙ e) right_shown.first))
 
 -- from what was found for the parts, as options; the right part was asked where the left one left the verdict to it
 module _ {text : Option (List ℕ)} {left right : Formula → Type 0} {bytes : List ℕ} {b : Bool} {t : Tree CaseNode} where

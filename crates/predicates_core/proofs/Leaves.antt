@@ -1,14 +1,15 @@
 -- Leaves, and the cases that explain them.
-use Rattle.std.proofs.Common.{◌≡◌, ℕ, Bool, List, [], ◌∷◌, ◌++◌, Option, Some, refl, sym, ap, ◌∙◌, subst}
-use Rattle.predicates_core.specs.Label.{Label, Entry, plain, showing, Fits, FitsEntry, FitsProducts}
-use Rattle.predicates_core.specs.Formula.{Formula, Leaf, truth, text_of, HasTruth, IsLeaf}
-use Rattle.predicates_core.specs.Tree.{Tree, empty}
-use Rattle.predicates_core.specs.Describe.{CaseNode, with_product}
-use Rattle.predicates_core.specs.Shows.{FitsNode, Shows, Explains, IsCaseOf, IsNode}
+use Rattle.std.proofs.Common.{◌≡◌, ℕ, Bool, List, [], ◌∷◌, Some, refl, sym, ap, ◌∙◌, subst}
+use Rattle.predicates_core.specs.Label.{Label, Entry, plain, showing, showing_both, with_last, Fits, FitsEntry}
+use Rattle.predicates_core.specs.Formula.{Formula, Leaf, truth, text_of, HasTruth, with_product}
+use Rattle.predicates_core.specs.Tree.{Tree}
+use Rattle.predicates_core.specs.Describe.{CaseNode}
+use Rattle.predicates_core.specs.Shows.{Shows, Explains, IsCaseOf, IsNode}
 use Rattle.predicates_core.specs.Leaves.{IsExactly, IsShowing}
 use Rattle.predicates_core.proofs.Values.{truth-Leaf}
 use Rattle.predicates_core.proofs.Combine.{first-Leaf}
-use Rattle.predicates_core.proofs.Combined.{fits_itself, node_of_text}
+use Rattle.predicates_core.proofs.Combined.{fits_itself, node_fits, node_of_text}
+use Rattle.predicates_core.proofs.Added.{IsCaseOf-with_product}
 
 pub HasTruth-same : {F : Formula → Type 0} {a b : Bool} → HasTruth F a → a ≡ b → HasTruth F b
 HasTruth-same {F} h e = subst (HasTruth F) e h
@@ -17,9 +18,6 @@ pub one_exactly : {f g h : Formula} → IsExactly h f → IsExactly h g → f �
 one_exactly x y = x.is ∙ sym y.is
 
 module _ {label : Label} {own : Bool} where
-  pub leaf_exactly : {f : Formula} → IsExactly (Leaf label own) f → IsLeaf f
-  leaf_exactly h = subst IsLeaf (sym h.is) tt
-
   pub exactly_text_fits : {f : Formula} → IsExactly (Leaf label own) f → FitsEntry (text_of f) label.text
   exactly_text_fits h = subst (λ g. FitsEntry (text_of g) label.text) (sym h.is) (fits_itself label.text)
 
@@ -29,31 +27,39 @@ module _ {label : Label} {own : Bool} where
   pub own_truth : {b : Bool} → HasTruth (IsExactly (Leaf label own)) b → own ≡ b
   own_truth h = sym (truth-Leaf label own) ∙ h.at (Leaf label own) (record { is = refl })
 
-  pub explains_exactly : (b : Bool) (t : Tree CaseNode) → own ≡ b → FitsNode label b t.root → t.children ≡ empty → Explains (Leaf label own) t
-  unfolding Shows
-  explains_exactly b t e fits children = record {
-    leaves = 0 ∷ [];
-    first = first-Leaf label own;
-    shown = (record { text = fits.text; result = fits.result ∙ sym e; products = fits.products }, children, refl);
-  }
+-- with one product more, the last, on both sides
+one_more : (label : Label) {own b : Bool} {c t : Tree CaseNode} {name : List ℕ} {value : Entry} → IsShowing name value c t → IsCaseOf (IsExactly (Leaf label own)) b c
+    → IsCaseOf (IsExactly (Leaf (with_last label (record { name = name; value = value })) own)) b t
+unfolding with_product
+one_more label {own} s h =
+    let more = IsCaseOf-with_product s h in
+    record {
+      truth = HasTruth-exactly (own_truth h.truth);
+      explains = λ f x. more.explains f (record { inner = Leaf label own; of_part = record { is = refl }; is = x.is });
+    }
 
-module _ {text : Option (List ℕ)} {own b : Bool} where
+explains_bare : (text : Entry) (own b : Bool) (t : Tree CaseNode) → own ≡ b → IsNode text b [] t → Explains (Leaf (plain text) own) t
+unfolding Shows
+explains_bare text own b t e node = record {
+  leaves = 0 ∷ [];
+  first = first-Leaf (plain text) own;
+  shown = (node_fits text b own [] t node e, node.children, refl);
+}
+
+module _ {text : Entry} {own b : Bool} where
   -- the node alone explains a leaf that has no products
   pub IsCaseOf-leaf : {t : Tree CaseNode} {bytes : List ℕ} → IsNode (Some bytes) b [] t → Fits text bytes → HasTruth (IsExactly (Leaf (plain text) own)) b → IsCaseOf (IsExactly (Leaf (plain text) own)) b t
-  IsCaseOf-leaf {t} written fits h = let node : IsNode text b [] t = node_of_text written fits in record {
+  IsCaseOf-leaf {t} written fits h = record {
     truth = h;
-    explains = λ f x. subst (λ g. Explains g t) (sym x.is) (explains_exactly b t (own_truth h) (record { text = node.text; result = node.result; products = subst (FitsProducts []) (sym node.products) tt }) node.children);
+    explains = λ f x. subst (λ g. Explains g t) (sym x.is) (explains_bare text own b t (own_truth h) (node_of_text written fits));
   }
 
   -- the node with its product explains a leaf that has one
   pub IsCaseOf-showing : {c t : Tree CaseNode} {name : List ℕ} {value : Entry} {bytes : List ℕ} → IsShowing name value c t → IsNode (Some bytes) b [] c → Fits text bytes → HasTruth (IsExactly (Leaf (showing text name value) own)) b → IsCaseOf (IsExactly (Leaf (showing text name value) own)) b t
-  IsCaseOf-showing {c} {t} {name} {value} s written fits h = let node : IsNode text b [] c = node_of_text written fits in record {
-    truth = h;
-    explains = λ f x. subst (λ g. Explains g t) (sym x.is) (subst (λ u. Explains (Leaf (showing text name value) own) u) (sym s.is) (explains_exactly b (with_product c (name, s.bytes)) (own_truth h) (record {
-      text = node.text;
-      result = node.result;
-      products = subst (λ ps. FitsProducts (record { name = name; value = value } ∷ []) (ps ++ (name, s.bytes) ∷ [])) (sym node.products) (refl, s.fits, tt);
-    }) node.children));
-  }
+  IsCaseOf-showing s written fits h = one_more (plain text) s (IsCaseOf-leaf written fits (HasTruth-exactly (own_truth h)))
+
+  -- the node with its two products explains a leaf that has both
+  pub IsCaseOf-showing_both : {c d t : Tree CaseNode} {first second : List ℕ} {v w : Entry} {bytes : List ℕ} → IsShowing first v c d → IsShowing second w d t → IsNode (Some bytes) b [] c → Fits text bytes → HasTruth (IsExactly (Leaf (showing_both text first v second w) own)) b → IsCaseOf (IsExactly (Leaf (showing_both text first v second w) own)) b t
+  IsCaseOf-showing_both {first} {v} r s written fits h = one_more (showing text first v) s (IsCaseOf-showing r written fits (HasTruth-exactly (own_truth h)))
 
 pub ruleset leaves = (HasTruth-exactly, IsCaseOf-leaf, IsCaseOf-showing)

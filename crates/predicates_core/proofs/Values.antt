@@ -1,7 +1,7 @@
 -- Values of formulas: what a formula is made of, and that it takes both values.
 use Rattle.std.proofs.Common.{◌≡◌, ℕ, ◌+◌, List, [], ◌∷◌, ◌++◌, Bool, true, false, length, take, drop, refl, ap, ◌∙◌, arith, length-append}
 use Rattle.std.specs.Prelude.{not, ◌&&◌, ◌||◌}
-use Rattle.std.proofs.Math.Seq.{take-append_seam, drop-append_seam}
+use Rattle.std.proofs.lemmas.List.{take_at, drop_at}
 use Rattle.predicates_core.specs.Label.{Label}
 use Rattle.predicates_core.specs.Formula.{Formula, Leaf, And, Or, Not, Named, size, IsValuation, value, actual, truth}
 
@@ -29,12 +29,6 @@ length-reaching (Or label l r) b = omega (arith, length-append (reaching l b) (r
 length-reaching (Not label f) b = length-reaching f (not b)
 length-reaching (Named label name f) b = length-reaching f b
 
-pub take_front : (n : ℕ) (v w : List Bool) → length v ≡ n → take n (v ++ w) ≡ v
-take_front n v w e = rw (← e) (take-append_seam v w)
-
-pub drop_front : (n : ℕ) (v w : List Bool) → length v ≡ n → drop n (v ++ w) ≡ w
-drop_front n v w e = rw (← e) (drop-append_seam v w)
-
 -- the formula joins two parts: its leaves are theirs, and its value is made of their values
 pub record Joins (op : Bool → Bool → Bool) (f l r : Formula) : Type 0 where
   pub sizes : size f ≡ size l + size r
@@ -50,7 +44,7 @@ unfolding size actual value
 or_joins label l r = record { sizes = refl; actuals = refl; values = λ w. refl }
 
 pub joined_value : {op : Bool → Bool → Bool} {f l r : Formula} → Joins op f l r → (v w : List Bool) → IsValuation l v → value f (v ++ w) ≡ op (value l v) (value r w)
-joined_value {op} {f} {l} {r} j v w e = j.values (v ++ w) ∙ cc (take_front (size l) v w e, drop_front (size l) v w e)
+joined_value {op} {f} {l} {r} j v w e = j.values (v ++ w) ∙ cc (take_at v w (size l) e, drop_at v w (size l) e)
 
 pub joined_truth : {op : Bool → Bool → Bool} {f l r : Formula} → Joins op f l r → truth f ≡ op (truth l) (truth r)
 unfolding truth
@@ -74,9 +68,9 @@ pub truth-Named : (label : Label) (name : List ℕ) (f : Formula) → truth (Nam
 unfolding truth value actual
 truth-Named label name f = refl
 
-pub not_not : (b : Bool) → not (not b) ≡ b
-not_not true = refl
-not_not false = refl
+pub not-not : (b : Bool) → not (not b) ≡ b
+not-not true = refl
+not-not false = refl
 
 and_same : (b : Bool) → (b && b) ≡ b
 and_same true = refl
@@ -91,5 +85,5 @@ unfolding reaching value
 value-reaching (Leaf label t) b = refl
 value-reaching (And label l r) b = joined_value (and_joins label l r) (reaching l b) (reaching r b) (length-reaching l b) ∙ cc (value-reaching l b, value-reaching r b, and_same b)
 value-reaching (Or label l r) b = joined_value (or_joins label l r) (reaching l b) (reaching r b) (length-reaching l b) ∙ cc (value-reaching l b, value-reaching r b, or_same b)
-value-reaching (Not label f) b = ap not (value-reaching f (not b)) ∙ not_not b
+value-reaching (Not label f) b = ap not (value-reaching f (not b)) ∙ not-not b
 value-reaching (Named label name f) b = value-reaching f b

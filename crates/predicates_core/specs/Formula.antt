@@ -1,6 +1,6 @@
 -- The formula of a predicate on an item, its leaves, and its value under every choice of truths for the leaves.
 use Rattle.std.specs.Prelude.{◌≡◌, ℕ, ◌+◌, List, [], ◌∷◌, ◌++◌, length, take, drop, Bool, false, not, ◌&&◌, ◌||◌, slice_index_or}
-use Rattle.predicates_core.specs.Label.{Label, Product, Entry}
+use Rattle.predicates_core.specs.Label.{Label, Product, Entry, with_last}
 
 pub data Formula : Type 0 where
   Leaf : Label → Bool → Formula
@@ -46,9 +46,6 @@ label_of (And label l r) = label
 label_of (Or label l r) = label
 label_of (Not label f) = label
 label_of (Named label name f) = label
-
-abbrev with_last : Label → Product → Label
-with_last label p = record label { products = label.products ++ p ∷ [] }
 
 -- the formula with one more product, the last of its root
 unfoldable pub with_product : Formula → Product → Formula

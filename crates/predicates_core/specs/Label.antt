@@ -1,5 +1,5 @@
 -- What a node of a case has to carry: a text, and products, each a name with a value.
-use Rattle.std.specs.Prelude.{◌≡◌, ℕ, List, [], ◌∷◌, Option, Some, IfSome, MatchOption}
+use Rattle.std.specs.Prelude.{◌≡◌, ℕ, List, [], ◌∷◌, ◌++◌, Option, Some, IfSome, MatchOption}
 use Rattle.predicates_core.specs.Describe.{NamedBytes}
 
 -- A text that is given, or that is left open where a part does not state what it prints.
@@ -26,9 +26,21 @@ pub record Label : Type 0 where
 abbrev pub plain : Entry → Label
 plain text = record { text = text; products = [] }
 
+-- one value under a name
+abbrev pub value_of : List ℕ → Entry → List Product
+value_of name value = record { name = name; value = value } ∷ []
+
 -- a label with one product
 abbrev pub showing : Entry → List ℕ → Entry → Label
-showing text name value = record { text = text; products = record { name = name; value = value } ∷ [] }
+showing text name value = record { text = text; products = value_of name value }
+
+-- a label with two products
+abbrev pub showing_both : Entry → List ℕ → Entry → List ℕ → Entry → Label
+showing_both text first v second w = record { text = text; products = record { name = first; value = v } ∷ value_of second w }
+
+-- the label with one product more, the last
+abbrev pub with_last : Label → Product → Label
+with_last label p = record label { products = label.products ++ p ∷ [] }
 
 -- the text is there, and fits
 abbrev pub FitsText : Entry → Option (List ℕ) → Type 0
@@ -40,7 +52,3 @@ FitsProducts [] [] = Unit {0}
 FitsProducts [] (g ∷ gs) = ⊥
 FitsProducts (p ∷ ps) [] = ⊥
 FitsProducts (p ∷ ps) (g ∷ gs) = (g.0 ≡ p.name) × Fits p.value g.1 × FitsProducts ps gs
-
--- one value under a name
-abbrev pub value_of : List ℕ → Entry → List Product
-value_of name value = record { name = name; value = value } ∷ []

@@ -1,13 +1,12 @@
 -- The formulas of predicates of bytes that are asked about contents.
 use Rattle.std.specs.Prelude.{◌≡◌, ℕ, false, List, Result, Ok, Err, Some, codes}
-use Rattle.predicates_core.specs.Label.{Entry}
+use Rattle.predicates_core.specs.Label.{Entry, showing_both}
 use Rattle.predicates_core.specs.Formula.{Formula, Leaf, with_product}
 use Rattle.predicates_core.specs.Leaves.{IsExactly}
 use Rattle.predicates_core.specs.Added.{IsWithProduct}
 use Rattle.predicates_path.specs.declared.content.FileContentPredicate.{FileContentPredicate}
 use Rattle.predicates_path.specs.declared.fault.PathFault.{PathFault}
 use Rattle.predicates_path.specs.Fault.{fault_text}
-use Rattle.predicates_path.specs.Leaves.{showing_both}
 use Rattle.predicates_path.specs.Snapshot.{Bytes}
 
 -- the predicate of bytes

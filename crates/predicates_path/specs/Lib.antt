@@ -1,4 +1,3 @@
-pub mod Leaves
 pub mod Fault
 pub mod FileType
 pub mod Snapshot

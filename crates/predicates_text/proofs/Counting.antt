@@ -4,7 +4,7 @@ use Rattle.std.specs.List.{AllByRecursion}
 use Rattle.std.proofs.Math.Seq.{drop-append_seam}
 use Rattle.std.proofs.lemmas.List.{drop-append-le}
 use Rattle.std.proofs.lemmas.List.Elements.{All-from_recursion, recursion_from_All}
-use Rattle.std.proofs.lemmas.List.{take-append-le, take-append-drop, length-take, take_at}
+use Rattle.std.proofs.lemmas.List.{take-append-le, take-append-drop, length-take, length-map, take_at, nil_from_length}
 use Rattle.std.proofs.lemmas.Bool.{cases_lt}
 use Rattle.std.specs.Str.{chars, IsUtf8, encode_utf8_all}
 use Rattle.std.specs.Str.Pattern.{FindsText, LacksTextAt, FindsTextPrefix, SplitsAroundMatch, StripsPrefix}
@@ -14,7 +14,7 @@ use Rattle.predicates_text.proofs.Cuts.{chars_cut, cut_around, lacks_around, lac
 use Rattle.predicates_text.proofs.Found.{empty_chars}
 use Rattle.predicates_text.specs.Parts.{StandsAt}
 use Rattle.predicates_text.specs.Count.{AreApart, IsChoiceOfPlaces, IsCountOf, IsPastFirst, IsNowhere}
-use Rattle.predicates_text.proofs.Choices.{Far, IsChoice, far_from_pairs, pairs_from_far, choice_bound, choice_more, choice_moved_up, choice_moved_down, moved, length-moved}
+use Rattle.predicates_text.proofs.Choices.{Far, IsChoice, far_from_pairs, pairs_from_far, choice_bound, choice_more, choice_moved_up, choice_moved_down, moved}
 
 -- a choice of places, in the words of `Choices`: the gap is the length, or 1 for the empty text
 module _ (s t : List ℕ) (gap : ℕ) (wide : (a b : ℕ) → AreApart (length s) a b → Far gap a b) (back : (a b : ℕ) → Far gap a b → AreApart (length s) a b) where
@@ -80,7 +80,7 @@ count_more s t front rest n some e first counted =
             (choice_more P Q (length s) (length front) chosen.0 here
             (λ k at. subst (λ l. StandsAt s t (k + l)) long (place_in s t (front ++ s) rest k head at))
             (choice_from s rest (length s) (full_gap s some) (full_gap_back s some) chosen.0 chosen.1)),
-        ap suc (length-moved (length front + length s) chosen.0 ∙ chosen.2),
+        ap suc (length-map chosen.0 _ ∙ chosen.2),
       );
       greatest = λ places h. choice_bound P Q (length s) (length front) n first
           (λ k within at. subst (λ l. StandsAt s rest (k - l)) long (place_past s t (front ++ s) rest k head (omega (arith, long, within)) at))
@@ -118,7 +118,7 @@ count_empty (c ∷ cs) =
             (choice_more (StandsAt [] (c ∷ cs)) (StandsAt [] cs) 1 0 chosen.0 ([], c ∷ cs, refl, refl)
             (λ k at. place_in [] (c ∷ cs) (c ∷ []) cs k refl at)
             (choice_from [] cs 1 unit_gap unit_gap_back chosen.0 chosen.1)),
-        ap suc (length-moved 1 chosen.0 ∙ chosen.2),
+        ap suc (length-map chosen.0 _ ∙ chosen.2),
       );
       greatest = λ places h. choice_bound (StandsAt [] (c ∷ cs)) (StandsAt [] cs) 1 0 (suc (length cs)) (λ k at. omega arith)
           (λ k within at. place_past [] (c ∷ cs) (c ∷ []) cs k refl within at)
@@ -172,13 +172,9 @@ count_missing_bytes : (p t : List ℕ) → FindsText p t None → IsCountOf p t 
 count_missing_bytes p t lacks = count_none p t (λ i at.
     lacks_bytes p t i at (lacks i (omega (arith, ap length at.2, at.3, length-append at.0 (p ++ at.1)))))
 
-pub no_items : (cs : List ℕ) → length cs ≡ 0 → cs ≡ []
-no_items [] e = refl
-no_items (c ∷ cs) e = absurd (omega (arith, e))
-
 chars_some : (p : List ℕ) → IsUtf8 p → 1 ≤ length p → 1 ≤ length (chars p)
 chars_some p u l = ⊎_elim
-    (λ none. absurd (omega (arith, (empty_chars p u).1 (no_items (chars p) (omega (arith, none))), l)))
+    (λ none. absurd (omega (arith, (empty_chars p u).1 (nil_from_length (chars p) (omega (arith, none))), l)))
     (λ some. some)
     (cases_lt (length (chars p)) 1)
 
@@ -236,7 +232,7 @@ count_later s t c n some from counted =
         choice_to s (c ∷ t) (length s) (full_gap s some) (full_gap_back s some) _
             (choice_moved_up P Q (length s) 1 chosen.0 (λ k at. place_in s (c ∷ t) (c ∷ []) t k refl at)
             (choice_from s t (length s) (full_gap s some) (full_gap_back s some) chosen.0 chosen.1)),
-        length-moved 1 chosen.0 ∙ chosen.2,
+        length-map chosen.0 _ ∙ chosen.2,
       );
       greatest = λ places h. choice_moved_down P Q (length s) 1 n from
           (λ k within at. place_past s (c ∷ t) (c ∷ []) t k refl within at)

@@ -1,15 +1,14 @@
 -- A predicate that hands a text on answers as the other does on that text.
-use Rattle.std.proofs.Common.{◌≡◌, sym, ap, ◌∙◌, subst, ℕ, Bool, false, List, [], Option, None, Some, Result, Ok, Err}
+use Rattle.std.proofs.Common.{◌≡◌, sym, subst, ℕ, Bool, false, List, [], Option, None, Some, Result, Ok, Err}
 use Rattle.std.specs.Prelude.{IfOk, codes, string_bytes}
 use Rattle.std.specs.Str.{IsUtf8}
 use Rattle.predicates_core.specs.Text.{Text}
 use Rattle.predicates_core.specs.Label.{Fits}
-use Rattle.predicates_core.specs.Formula.{Formula, truth, HasTruth}
+use Rattle.predicates_core.specs.Formula.{Formula, HasTruth}
 use Rattle.predicates_core.specs.Tree.{Tree}
 use Rattle.predicates_core.specs.Describe.{CaseNode}
 use Rattle.predicates_core.specs.Shows.{IsNode, IsCaseOf, IsAnswer}
 use Rattle.predicates_core.specs.Leaves.{IsShowing}
-use Rattle.predicates_core.proofs.Values.{truth-Leaf}
 use Rattle.predicates_core.proofs.Leaves.{IsCaseOf-showing, HasTruth-exactly}
 use Rattle.predicates_core.proofs.Added.{HasTruth-with_product, IsCaseOf-with_product}
 use Rattle.predicates_text.specs.Handed.{IsOfEach, IsDecoded}
@@ -48,7 +47,7 @@ module _ {text : Option (List ℕ)} {has : Text → Formula → Type 0} {bytes :
   }
 
   pub HasTruth-undecoded : {b : Bool} → ¬ (IsUtf8 bytes) → b ≡ false → HasTruth (IsDecoded text has bytes) b
-  HasTruth-undecoded n e = record { at = λ f p. ap truth (p.of_other n).is ∙ truth-Leaf _ false ∙ sym e }
+  HasTruth-undecoded n e = record { at = λ f p. (HasTruth-exactly (sym e)).at f (p.of_other n) }
 
   pub IsCaseOf-undecoded : {b : Bool} {c d : Tree CaseNode} {printed : List ℕ} → ¬ (IsUtf8 bytes) → b ≡ false → IsShowing (codes "error") (Some (codes "Invalid UTF-8 string")) c d → IsNode (Some printed) b [] c → Fits text printed → IsCaseOf (IsDecoded text has bytes) b d
   IsCaseOf-undecoded {b} {c} {d} n e s node fits =

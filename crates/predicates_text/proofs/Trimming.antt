@@ -3,7 +3,7 @@ use Rattle.std.proofs.Common.{◌≡◌, List, [], ◌∷◌, ◌++◌, ℕ, suc
 use Rattle.std.specs.List.{prefix_len, suffix_len}
 use Rattle.std.specs.Char.{is_whitespace}
 use Rattle.std.specs.Str.{chars, IsUtf8, encode_utf8_all, all_scalars, skip_leading_whitespace, drop_trailing_whitespace, trim_start, trim_end, trim, IsTrim}
-use Rattle.std.proofs.lemmas.Bool.{cases_Bool, cases_lt}
+use Rattle.std.proofs.lemmas.Bool.{and_parts, and_from, cases_Bool, cases_lt}
 use Rattle.std.proofs.lemmas.Bool.Decides.{nat_tests, eqb_tells}
 use Rattle.std.proofs.lemmas.Str.{chars-encodes, scalars-chars}
 use Rattle.std.proofs.lemmas.List.{reverse-append, length-reverse, length-drop, length-take, nil_from_length, take_all, take-append-drop}
@@ -13,17 +13,6 @@ use lib.Utf8.{scalar}
 use Rattle.std.specs.Prelude.{Result, Ok, Err, IfOk, string_bytes}
 use Rattle.predicates_core.specs.Text.{Text}
 use Rattle.predicates_text.specs.Views.{is_white_space, trimmed}
-
-and_left : (a b : Bool) → (a && b) ≡ true → a ≡ true
-and_left true b e = refl
-and_left false b e = e
-
-and_right : (a b : Bool) → (a && b) ≡ true → b ≡ true
-and_right true b e = e
-and_right false b e = absurd (cc)
-
-and_both : (a b : Bool) → a ≡ true → b ≡ true → (a && b) ≡ true
-and_both a b e f = λ i. e i && f i
 
 -- std's test is the list of ranges
 range_of_one : (n c : ℕ) → eqb c n ≡ (leb n c && leb c n)
@@ -138,7 +127,7 @@ trimmed_is cs =
 scalars_skipped : (cs : List ℕ) → all_scalars cs ≡ true → all_scalars (skip_leading_whitespace cs) ≡ true
 scalars_skipped [] e = refl
 scalars_skipped (c ∷ cs) e = ⊎_elim
-    (λ is. rw is (scalars_skipped cs (and_right (scalar c) (all_scalars cs) e)))
+    (λ is. rw is (scalars_skipped cs (and_parts (scalar c) (all_scalars cs) e).1))
     (λ is. rw is e)
     (cases_Bool (is_whitespace c))
 
@@ -146,7 +135,7 @@ scalars_kept : (cs : List ℕ) → all_scalars cs ≡ true → all_scalars (drop
 scalars_kept [] e = refl
 scalars_kept (c ∷ cs) e = ⊎_elim
     (λ is. rw is refl)
-    (λ is. rw is (and_both (scalar c) (all_scalars (drop_trailing_whitespace cs)) (and_left (scalar c) (all_scalars cs) e) (scalars_kept cs (and_right (scalar c) (all_scalars cs) e))))
+    (λ is. rw is (and_from (scalar c) (all_scalars (drop_trailing_whitespace cs)) (and_parts (scalar c) (all_scalars cs) e).0 (scalars_kept cs (and_parts (scalar c) (all_scalars cs) e).1)))
     (cases_Bool (is_whitespace c && eqb (length (drop_trailing_whitespace cs)) 0))
 
 -- what std's `trim` gives

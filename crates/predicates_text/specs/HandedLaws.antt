@@ -1,14 +1,14 @@
 -- The laws of predicates that hand a text on.
-use Rattle.std.specs.Prelude.{◌≡◌, refl, ℕ, List, Option, Some, true, false, codes, string_bytes}
+use Rattle.std.specs.Prelude.{◌≡◌, refl, ℕ, List, Option, true, false, string_bytes}
 use Rattle.std.specs.Str.{IsUtf8, is_utf8}
-use Rattle.std.proofs.Common.{sym, ap, ◌∙◌, subst, ◌⊎◌, ⊎_elim}
+use Rattle.std.proofs.Common.{subst, ◌⊎◌, ⊎_elim}
 use Rattle.std.proofs.lemmas.Str.{IsUtf8-from_is_utf8, is_utf8-from_IsUtf8, IsUtf8-string_bytes}
 use Rattle.std.proofs.lemmas.Bool.{cases_Bool}
 use Rattle.predicates_core.specs.Text.{Text}
 use Rattle.predicates_core.specs.Label.{FitsEntry}
-use Rattle.predicates_core.specs.Formula.{Formula, text_of, with_product}
-use Rattle.predicates_core.proofs.Added.{text-with_product}
-use Rattle.predicates_core.proofs.Combined.{fits_itself}
+use Rattle.predicates_core.specs.Formula.{Formula, text_of}
+use Rattle.predicates_core.proofs.Leaves.{exactly_text_fits, one_exactly}
+use Rattle.predicates_core.proofs.Added.{with_product_text_fits, one_with_product}
 use Rattle.predicates_text.specs.Handed.{IsOfEach, IsDecoded, decoded_formula}
 
 module _ {has : Text → Formula → Type 0} {handed : Text → Type 0} where
@@ -28,16 +28,10 @@ TextOrNot bytes = ((t : Text) × (string_bytes t ≡ bytes)) ⊎ ¬ (IsUtf8 byte
 
 module _ {text : Option (List ℕ)} {has : Text → Formula → Type 0} {bytes : List ℕ} where
   pub decoded_text_fits : {f : Formula} → TextOrNot bytes → ((t : Text) (g : Formula) → has t g → FitsEntry (text_of g) text) → IsDecoded text has bytes f → FitsEntry (text_of f) text
-  decoded_text_fits {f} v fits h = ⊎_elim
-      (λ t. let w = h.of_text t.0 t.1 in subst (λ g. FitsEntry (text_of g) text) (sym w.is) (subst (λ e. FitsEntry e text) (sym (text-with_product w.inner _)) (fits t.0 w.inner w.of_part)))
-      (λ n. subst (λ g. FitsEntry (text_of g) text) (sym (h.of_other n).is) (fits_itself text))
-      v
+  decoded_text_fits v fits h = ⊎_elim (λ t. with_product_text_fits (fits t.0) (h.of_text t.0 t.1)) (λ n. exactly_text_fits (h.of_other n)) v
 
   pub one_decoded : {f g : Formula} → TextOrNot bytes → ((t : Text) (x y : Formula) → has t x → has t y → x ≡ y) → IsDecoded text has bytes f → IsDecoded text has bytes g → f ≡ g
-  one_decoded {f} {g} v one h k = ⊎_elim
-      (λ t. let x = h.of_text t.0 t.1 in let y = k.of_text t.0 t.1 in x.is ∙ ap (λ z. with_product z (record { name = codes "var as str"; value = Some bytes })) (one t.0 x.inner y.inner x.of_part y.of_part) ∙ sym y.is)
-      (λ n. (h.of_other n).is ∙ sym (k.of_other n).is)
-      v
+  one_decoded v one h k = ⊎_elim (λ t. one_with_product (one t.0) (h.of_text t.0 t.1) (k.of_text t.0 t.1)) (λ n. one_exactly (h.of_other n) (k.of_other n)) v
 
 -- that formula is had
 pub has_decoded_formula : (content : List ℕ → Formula) (text : Option (List ℕ)) (has : Text → Formula → Type 0) (bytes : List ℕ) → ((t : Text) → has t (content (string_bytes t))) → IsDecoded text has bytes (decoded_formula content text bytes)

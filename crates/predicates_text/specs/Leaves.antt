@@ -1,8 +1,8 @@
 -- What the tests of texts print and show, and when they hold.
-use Rattle.std.specs.Prelude.{ℕ, Bool, List, [], ◌∷◌, ◌++◌, ◌==◌, Some, codes}
+use Rattle.std.specs.Prelude.{ℕ, Bool, List, ◌++◌, ◌==◌, Some, codes}
 use Rattle.std.specs.Fmt.{◌++?◌, debug_str, decimal}
 use Rattle.std.specs.Str.{chars}
-use Rattle.predicates_core.specs.Label.{Entry, showing}
+use Rattle.predicates_core.specs.Label.{Entry, showing, showing_both}
 use Rattle.predicates_core.specs.Formula.{Formula, Leaf}
 use Rattle.predicates_text.specs.Parts.{is_empty, is_front, is_back, is_part}
 use Rattle.predicates_text.specs.Count.{count_of}
@@ -13,11 +13,7 @@ text_leaf text bytes own = Leaf (showing text (codes "var") (Some bytes)) own
 
 -- a leaf that shows the text itself, and then a number as `actual count`
 abbrev pub counted_leaf : Entry → List ℕ → ℕ → Bool → Formula
-counted_leaf text bytes n own =
-    Leaf (record {
-      text = text;
-      products = record { name = codes "var"; value = Some bytes } ∷ record { name = codes "actual count"; value = Some (decimal n) } ∷ [];
-    }) own
+counted_leaf text bytes n own = Leaf (showing_both text (codes "var") (Some bytes) (codes "actual count") (Some (decimal n))) own
 
 -- the text has no characters
 abbrev pub empty_text : Entry

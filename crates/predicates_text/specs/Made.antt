@@ -14,6 +14,7 @@ use Rattle.std.proofs.lemmas.Str.{chars-encodes, encodes-chars, scalars-chars, e
 use Rattle.predicates_text.specs.Views.{lines_even}
 use Rattle.predicates_text.specs.EvenLines.{IsNoLonger, lines_even_fits}
 use Rattle.predicates_text.specs.Handed.{IsTrimmedOf, HasEvenLinesOf, trimmed_bytes, even_bytes}
+use Rattle.predicates_text.specs.HandedLaws.{TextOrNot}
 
 -- a text of given bytes, where another has room for it
 pub string_with : (v : Text) (xs : List ℕ) → IsUtf8 xs → length xs ≤ length (string_bytes v) → (t : Text) × (string_bytes t ≡ xs)
@@ -71,7 +72,7 @@ pub bytes_of_chars : (t : Text) (cs : List ℕ) → chars (string_bytes t) ≡ c
 bytes_of_chars t cs e = sym (encodes-chars (string_bytes t) (IsUtf8-string_bytes t)) ∙ ap encode_utf8_all e
 
 -- bytes are those of a text, or not UTF-8
-pub text_or_other : (v : Vec ℕ Global) → ((t : Text) × (string_bytes t ≡ v.items)) ⊎ ¬ (IsUtf8 v.items)
+pub text_or_other : (v : Vec ℕ Global) → TextOrNot v.items
 text_or_other v = ⊎_elim (λ u. inl (has_decoded v u)) inr (text_or_not v.items)
 
 -- the bytes of each text that is handed on

@@ -125,7 +125,7 @@ fn views(rt: HostRuntime) -> Result<(), Fail> {
 }
 
 #[test]
-fn adapters(rt: HostRuntime) -> Result<(), Fail> {
+fn trimmed_and_even_texts(rt: HostRuntime) -> Result<(), Fail> {
     let alloc = rt.alloc();
     let spaces = String::from_str(alloc, "    ")?;
     let blank = is_empty().trim();
@@ -143,7 +143,13 @@ fn adapters(rt: HostRuntime) -> Result<(), Fail> {
         case_of(alloc, &lines, true, &returns)?.as_str(),
         "var.ends_with(\"a\\n\") = true\n  - var: a\n\n"
     );
-    let decoded = blank.from_utf8();
+    Ok(())
+}
+
+#[test]
+fn decoded_bytes(rt: HostRuntime) -> Result<(), Fail> {
+    let alloc = rt.alloc();
+    let decoded = is_empty().trim().from_utf8();
     let text = bytes_of(alloc, b"  a")?;
     assert_eq!(rt;
         case_of(alloc, &decoded, false, &text)?.as_str(),

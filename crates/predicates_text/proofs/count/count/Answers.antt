@@ -1,10 +1,11 @@
 use Rattle.std.proofs.Common.{rules, ◌≡◌, sym, ap, ◌+◌, length, arith, subst}
 use Rattle.std.specs.Str.{chars}
+use Rattle.std.proofs.lemmas.List.{nil_from_length}
 use Rattle.std.proofs.lemmas.Str.{chars_from_encodes}
 use Rattle.predicates_text.specs.Count.{IsCountOf}
 use Rattle.predicates_text.proofs.Counted.{count_of_is}
 use Rattle.predicates_text.proofs.OneByte.{byte_count}
-use Rattle.predicates_text.proofs.Counting.{count_empty_text, counted_on, no_items}
+use Rattle.predicates_text.proofs.Counting.{count_empty_text, counted_on}
 use Rattle.predicates_text.proofs.count.count.Goals as goal
 
 pub returns-then-is_empty : goal.returns-then-is_empty
@@ -14,7 +15,7 @@ returns-then-is_empty c =
     let counts = count_empty_text c.args.pattern.now c.args.text.now c.count.result c.utf8.pattern none counted in
     record {
       greatest = counts;
-      bytes = λ some. absurd (some (no_items c.args.pattern.now none));
+      bytes = λ some. absurd (some (nil_from_length c.args.pattern.now none));
       empty = λ _. ap (λ n. n + 1) counted;
       value = count_of_is (chars c.args.pattern.now) (chars c.args.text.now) (c.count.result + 1) counts;
     }
