@@ -145,7 +145,7 @@ impl Predicate<String> for TextCheck {
     }
 }
 
-// Each word over checks has a function of its own, since a function pays at entry for all its locals.
+// Each word over checks has a function of its own: at entry a function pays for all its locals.
 impl TextCheck {
     #[cycle(find)]
     #[tactic(auto, using(predicates_core::proofs::Combined::combined))]
