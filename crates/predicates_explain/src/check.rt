@@ -1,11 +1,13 @@
 //! A check of texts, made of words.
 ghost use Rattle.std.specs.Prelude.{◌≡◌, [], IfOk, string_bytes};
+ghost use Rattle.predicates_core.specs.Combined.{IsAnd, IsNot, IsOr};
+ghost use Rattle.predicates_core.specs.Shows.{IsAnswer};
 ghost use Rattle.predicates_core.specs.Tree.{empty};
 ghost use Rattle.predicates_text.specs.Handed.{trimmed_bytes, even_bytes};
 ghost use Rattle.predicates_explain.specs.Checks.{check_text, check_formula, HasFormula, IsSteadyCheck};
 ghost use Rattle.predicates_explain.specs.CheckLaws.{check_text_fits, one_check, has_check_formula};
 
-use predicates::node::{over_both, over_one, printed};
+use predicates::node::{over_found, over_one, printed};
 use predicates::ord::EqPredicate;
 use predicates::reflection::{Case, Child, Parameter, PredicateReflection};
 use predicates::str::{
@@ -133,13 +135,23 @@ impl Predicate<String> for TextCheck {
         }
     }
 
-    #[tactic(auto, using(predicates_core::proofs::Combined::combined))]
     fn find_case(
         &self,
         alloc: Global,
         expected: bool,
         item: &String,
     ) -> Result<Option<Case>, AllocError> {
+        self.find(alloc, expected, item)
+    }
+}
+
+// Each word over checks has a function of its own: at entry a function pays for all its locals.
+impl TextCheck {
+    #[cycle(find)]
+    #[tactic(auto, using(predicates_core::proofs::Combined::combined))]
+    fn find(&self, alloc: Global, expected: bool, item: &String) -> Result<Option<Case>, AllocError>
+        ensures { IfOk result (IsAnswer (HasFormula self.now (string_bytes item.now)) expected) }
+    {
         match self {
             TextCheck::Empty(leaf) => leaf.find_case(alloc, expected, item),
             TextCheck::Equals(leaf) => leaf.find_case(alloc, expected, item),
@@ -147,64 +159,125 @@ impl Predicate<String> for TextCheck {
             TextCheck::Ends(leaf) => leaf.find_case(alloc, expected, item),
             TextCheck::Contains(leaf) => leaf.find_case(alloc, expected, item),
             TextCheck::Matches(leaf) => leaf.find_case(alloc, expected, item),
-            TextCheck::Trim(inner) => {
-                let view = without_ends(alloc, item)?;
-                inner.find_case(alloc, expected, &view)
-            }
-            TextCheck::Normalize(inner) => {
-                let view = with_even_lines(alloc, item)?;
-                inner.find_case(alloc, expected, &view)
-            }
-            TextCheck::Not(inner) => {
-                let Some(part) = inner.find_case(alloc, !expected, item)? else {
-                    return Ok(None);
-                };
-                let text = printed(alloc, self)?;
-                Ok(Some(over_one(alloc, text, expected, "predicate", part)?))
-            }
-            TextCheck::And(left, right) => match left.find_case(alloc, expected, item)? {
-                None if expected => Ok(None),
-                None => {
-                    let Some(right) = right.find_case(alloc, expected, item)? else {
-                        return Ok(None);
-                    };
-                    let text = printed(alloc, self)?;
-                    Ok(Some(over_one(alloc, text, expected, "right", right)?))
-                }
-                Some(left) if !expected => {
-                    let text = printed(alloc, self)?;
-                    Ok(Some(over_one(alloc, text, expected, "left", left)?))
-                }
-                Some(left) => {
-                    let Some(right) = right.find_case(alloc, expected, item)? else {
-                        return Ok(None);
-                    };
-                    let text = printed(alloc, self)?;
-                    Ok(Some(over_both(alloc, text, expected, left, right)?))
-                }
-            },
-            TextCheck::Or(left, right) => match left.find_case(alloc, expected, item)? {
-                None if !expected => Ok(None),
-                None => {
-                    let Some(right) = right.find_case(alloc, expected, item)? else {
-                        return Ok(None);
-                    };
-                    let text = printed(alloc, self)?;
-                    Ok(Some(over_one(alloc, text, expected, "right", right)?))
-                }
-                Some(left) if expected => {
-                    let text = printed(alloc, self)?;
-                    Ok(Some(over_one(alloc, text, expected, "left", left)?))
-                }
-                Some(left) => {
-                    let Some(right) = right.find_case(alloc, expected, item)? else {
-                        return Ok(None);
-                    };
-                    let text = printed(alloc, self)?;
-                    Ok(Some(over_both(alloc, text, expected, left, right)?))
-                }
-            },
+            TextCheck::Trim(inner) => inner.find_trimmed(alloc, expected, item),
+            TextCheck::Normalize(inner) => inner.find_normalized(alloc, expected, item),
+            TextCheck::Not(inner) => self.find_not(alloc, inner, expected, item),
+            TextCheck::And(left, right) => self.find_and(alloc, left, right, expected, item),
+            TextCheck::Or(left, right) => self.find_or(alloc, left, right, expected, item),
         }
+    }
+
+    // The case of the text without the white space at its ends.
+    #[cycle(find)]
+    fn find_trimmed(
+        &self,
+        alloc: Global,
+        expected: bool,
+        item: &String,
+    ) -> Result<Option<Case>, AllocError>
+        ensures { IfOk result
+            (IsAnswer (HasFormula self.now (trimmed_bytes (string_bytes item.now))) expected) }
+    {
+        let view = without_ends(alloc, item)?;
+        self.find(alloc, expected, &view)
+    }
+
+    // The case of the text with even line endings.
+    #[cycle(find)]
+    fn find_normalized(
+        &self,
+        alloc: Global,
+        expected: bool,
+        item: &String,
+    ) -> Result<Option<Case>, AllocError>
+        ensures { IfOk result
+            (IsAnswer (HasFormula self.now (even_bytes (string_bytes item.now))) expected) }
+    {
+        let view = with_even_lines(alloc, item)?;
+        self.find(alloc, expected, &view)
+    }
+
+    #[cycle(find)]
+    #[tactic(auto, using(predicates_core::proofs::Combined::combined))]
+    fn find_not(
+        &self,
+        alloc: Global,
+        inner: &TextCheck,
+        expected: bool,
+        item: &String,
+    ) -> Result<Option<Case>, AllocError>
+        ensures { IfOk result (IsAnswer (IsNot (check_text self.now)
+            (HasFormula inner.now (string_bytes item.now))) expected) }
+    {
+        let Some(part) = inner.find(alloc, !expected, item)? else {
+            return Ok(None);
+        };
+        let text = printed(alloc, self)?;
+        Ok(Some(over_one(alloc, text, expected, "predicate", part)?))
+    }
+
+    #[cycle(find)]
+    #[tactic(auto, using(predicates_core::proofs::Combined::combined))]
+    fn find_and(
+        &self,
+        alloc: Global,
+        left: &TextCheck,
+        right: &TextCheck,
+        expected: bool,
+        item: &String,
+    ) -> Result<Option<Case>, AllocError>
+        ensures { IfOk result (IsAnswer (IsAnd (check_text self.now)
+            (HasFormula left.now (string_bytes item.now))
+            (HasFormula right.now (string_bytes item.now))) expected) }
+    {
+        let left = left.find(alloc, expected, item)?;
+        let right = if left.is_some() == expected {
+            let right = right.find(alloc, expected, item)?;
+            if right.is_none() {
+                return Ok(None);
+            }
+            right
+        } else {
+            // The left part decides.
+            if left.is_none() {
+                return Ok(None);
+            }
+            None
+        };
+        let text = printed(alloc, self)?;
+        Ok(Some(over_found(alloc, text, expected, left, right)?))
+    }
+
+    #[cycle(find)]
+    #[tactic(auto, using(predicates_core::proofs::Combined::combined))]
+    fn find_or(
+        &self,
+        alloc: Global,
+        left: &TextCheck,
+        right: &TextCheck,
+        expected: bool,
+        item: &String,
+    ) -> Result<Option<Case>, AllocError>
+        ensures { IfOk result (IsAnswer (IsOr (check_text self.now)
+            (HasFormula left.now (string_bytes item.now))
+            (HasFormula right.now (string_bytes item.now))) expected) }
+    {
+        let left = left.find(alloc, expected, item)?;
+        let right = if left.is_some() == expected {
+            // The left part decides.
+            if left.is_none() {
+                return Ok(None);
+            }
+            None
+        } else {
+            let right = right.find(alloc, expected, item)?;
+            if right.is_none() {
+                return Ok(None);
+            }
+            right
+        };
+        let text = printed(alloc, self)?;
+        Ok(Some(over_found(alloc, text, expected, left, right)?))
     }
 }
 

@@ -1,9 +1,11 @@
 //! A run over the lines of an input, which writes an answer to each.
-ghost use Rattle.std.specs.Prelude.{◌≡◌, ◌↔◌, ℕ, List, [], ◌∷◌, IsTrue, IfOk, OnOk, Some, Ok, true, false, string_bytes};
+ghost use Rattle.std.specs.Prelude.{◌≡◌, ◌≢◌, ◌↔◌, ℕ, List, [], ◌∷◌, IsTrue, IfOk, OnOk, Some, Ok, true, false, string_bytes};
 ghost use Rattle.std.specs.Option.{ForSome};
+ghost use Rattle.std.specs.IoError.{error_kind};
 ghost use Rattle.std.specs.Io.BufRead.{strip_last};
 ghost use Rattle.std.specs.Io.KnownBytes.{Appends, Keeps};
 ghost use Rattle.predicates_explain.specs.Runs.{input_lines, HasRun};
+ghost use Rattle.predicates_explain.specs.declared.fault.RunFault.TheVariants.{NoMemory};
 
 use crate::fault::RunFault;
 use std::alloc::{AllocError, Global};
@@ -34,7 +36,10 @@ pub(crate) trait AnswerLine {
 }
 
 // What a read or a write that failed comes to, unless it wanted memory.
-fn fault_of(error: &io::Error, fault: RunFault) -> RunFault {
+fn fault_of(error: &io::Error, fault: RunFault) -> RunFault
+    ensures memory { error_kind error.now ≡ ErrorKind.OutOfMemory → result ≡ NoMemory }
+    ensures other { error_kind error.now ≢ ErrorKind.OutOfMemory → result ≡ fault }
+{
     if error.kind() == ErrorKind::OutOfMemory {
         RunFault::NoMemory
     } else {
