@@ -50,6 +50,7 @@ fn counts(rt: HostRuntime) -> Result<(), Fail> {
         ("", "", 1),
         ("", "äb", 3),
         ("ä", "ää", 2),
+        ("a", "äaäa", 2),
         ("x", "abc", 0),
         ("abc", "ab", 0),
         ("Two", "One Two Three Two One", 2),
@@ -143,6 +144,8 @@ fn trimmed_and_even_texts(rt: HostRuntime) -> Result<(), Fail> {
         case_of(alloc, &lines, true, &returns)?.as_str(),
         "var.ends_with(\"a\\n\") = true\n  - var: a\n\n"
     );
+    let even = String::from_str(alloc, "a\n")?;
+    assert!(rt; lines.eval(alloc, &even)? && !blank.eval(alloc, &even)?);
     Ok(())
 }
 
