@@ -1,5 +1,7 @@
 // What no clause says: that the calls answer with ample memory, and how a case prints.
-use crate::node::{alone, over_both, over_one, showing, showing_item, showing_text};
+use crate::node::{
+    alone, over_both, over_found, over_one, printed, showing, showing_item, showing_text,
+};
 use crate::reflection::{Case, CaseChild, Child, Parameter, Product, render};
 use std::alloc::{AllocError, Global};
 use std::test::Fail;
@@ -36,6 +38,24 @@ fn a_case_of_three_nodes(rt: HostRuntime) -> Result<(), Fail> {
             assert_eq!(rt; part.case.products().len(), 1);
         }
     }
+    Ok(())
+}
+
+#[test]
+fn parts_that_were_found(rt: HostRuntime) -> Result<(), Fail> {
+    let alloc = rt.alloc();
+    let long = "0123456789 0123456789 0123456789 0123456789 0123456789 0123456789 0123456789";
+    assert_eq!(rt; printed(alloc, &"")?.as_str(), "");
+    assert_eq!(rt; printed(alloc, &long)?.as_str(), long);
+    let seven = alone(alloc, printed(alloc, &7)?, true);
+    let none = over_found(alloc, printed(alloc, &"none")?, false, None, None)?;
+    let left = over_found(alloc, printed(alloc, &"a")?, false, Some(seven), None)?;
+    let right = over_found(alloc, printed(alloc, &"b")?, true, None, Some(none))?;
+    let both = over_found(alloc, printed(alloc, &-1)?, true, Some(left), Some(right))?;
+    assert_eq!(rt;
+        render(alloc, &both)?.as_str(),
+        "-1 = true\n  left: a = false\n    left: 7 = true\n  right: b = true\n    right: none = false\n"
+    );
     Ok(())
 }
 
