@@ -12,7 +12,8 @@ use predicates_core::{Predicate, ReadsContent, Total};
 use std::alloc::{AllocError, Global};
 use std::fmt;
 
-/// Hands on what is left of a text without the white space at its ends.
+/// Hands on what is left of a text without the white space at its ends. It takes memory for a copy
+/// only where there is some.
 #[derive(Debug, Clone, Copy, PartialEq, Eq, Drop)]
 pub struct TrimPredicate<P> {
     inner: P,
