@@ -34,10 +34,10 @@ named_text_fits {name} h = subst (λ g. FitsEntry (text_of g) (Some name)) (sym 
 
 module _ {text : Option (List ℕ)} {left right : Formula → Type 0} {f g : Formula} where
   pub one_and : ((x y : Formula) → left x → left y → x ≡ y) → ((x y : Formula) → right x → right y → x ≡ y) → IsAnd text left right f → IsAnd text left right g → f ≡ g
-  one_and of_left of_right h k = h.is ∙ (λ i. And (plain text) (of_left h.l k.l h.of_left k.of_left i) (of_right h.r k.r h.of_right k.of_right i)) ∙ sym k.is
+  one_and of_left of_right h k = h.is ∙ (λ i. And (plain text) (of_left h.left_formula k.left_formula h.of_left k.of_left i) (of_right h.right_formula k.right_formula h.of_right k.of_right i)) ∙ sym k.is
 
   pub one_or : ((x y : Formula) → left x → left y → x ≡ y) → ((x y : Formula) → right x → right y → x ≡ y) → IsOr text left right f → IsOr text left right g → f ≡ g
-  one_or of_left of_right h k = h.is ∙ (λ i. Or (plain text) (of_left h.l k.l h.of_left k.of_left i) (of_right h.r k.r h.of_right k.of_right i)) ∙ sym k.is
+  one_or of_left of_right h k = h.is ∙ (λ i. Or (plain text) (of_left h.left_formula k.left_formula h.of_left k.of_left i) (of_right h.right_formula k.right_formula h.of_right k.of_right i)) ∙ sym k.is
 
 module _ {part : Formula → Type 0} {f g : Formula} where
   pub one_not : {text : Option (List ℕ)} → ((x y : Formula) → part x → part y → x ≡ y) → IsNot text part f → IsNot text part g → f ≡ g
@@ -46,24 +46,32 @@ module _ {part : Formula → Type 0} {f g : Formula} where
   pub one_named : {name : List ℕ} → ((x y : Formula) → part x → part y → x ≡ y) → IsNamed name part f → IsNamed name part g → f ≡ g
   one_named {name} one h k = h.is ∙ ap (Named (plain (Some name)) name) (one h.inner k.inner h.of_part k.of_part) ∙ sym k.is
 
+-- where the parts have a formula, the whole has one
+module _ {text : Option (List ℕ)} {left right : Formula → Type 0} {f g : Formula} where
+  pub has_and : left f → right g → IsAnd text left right (And (plain text) f g)
+  has_and of_left of_right = record { left_formula = f; right_formula = g; of_left = of_left; of_right = of_right; is = refl }
+
+  pub has_or : left f → right g → IsOr text left right (Or (plain text) f g)
+  has_or of_left of_right = record { left_formula = f; right_formula = g; of_left = of_left; of_right = of_right; is = refl }
+
 -- ---- truth
 
 module _ {text : Option (List ℕ)} {left right : Formula → Type 0} {a b : Bool} where
   -- the left part is true, so the right part decides
   pub HasTruth-and_by_right : HasTruth left a → a ≡ true → HasTruth right b → HasTruth (IsAnd text left right) b
-  HasTruth-and_by_right of_l e of_r = record { at = λ f h. ap truth h.is ∙ truth-And (plain text) h.l h.r ∙ (λ i. (of_l.at h.l h.of_left ∙ e) i && of_r.at h.r h.of_right i) }
+  HasTruth-and_by_right of_l e of_r = record { at = λ f h. ap truth h.is ∙ truth-And (plain text) h.left_formula h.right_formula ∙ (λ i. (of_l.at h.left_formula h.of_left ∙ e) i && of_r.at h.right_formula h.of_right i) }
 
   -- the left part is false, so the right part decides
   pub HasTruth-or_by_right : HasTruth left a → a ≡ false → HasTruth right b → HasTruth (IsOr text left right) b
-  HasTruth-or_by_right of_l e of_r = record { at = λ f h. ap truth h.is ∙ truth-Or (plain text) h.l h.r ∙ (λ i. (of_l.at h.l h.of_left ∙ e) i || of_r.at h.r h.of_right i) }
+  HasTruth-or_by_right of_l e of_r = record { at = λ f h. ap truth h.is ∙ truth-Or (plain text) h.left_formula h.right_formula ∙ (λ i. (of_l.at h.left_formula h.of_left ∙ e) i || of_r.at h.right_formula h.of_right i) }
 
 module _ {text : Option (List ℕ)} {left right : Formula → Type 0} {a : Bool} where
   -- the left part is false, and decides
   pub HasTruth-and_by_left : HasTruth left a → a ≡ false → HasTruth (IsAnd text left right) a
-  HasTruth-and_by_left of_l e = record { at = λ f h. ap truth h.is ∙ truth-And (plain text) h.l h.r ∙ (λ i. (of_l.at h.l h.of_left ∙ e) i && truth h.r) ∙ sym e }
+  HasTruth-and_by_left of_l e = record { at = λ f h. ap truth h.is ∙ truth-And (plain text) h.left_formula h.right_formula ∙ (λ i. (of_l.at h.left_formula h.of_left ∙ e) i && truth h.right_formula) ∙ sym e }
 
   pub HasTruth-or_by_left : HasTruth left a → a ≡ true → HasTruth (IsOr text left right) a
-  HasTruth-or_by_left of_l e = record { at = λ f h. ap truth h.is ∙ truth-Or (plain text) h.l h.r ∙ (λ i. (of_l.at h.l h.of_left ∙ e) i || truth h.r) ∙ sym e }
+  HasTruth-or_by_left of_l e = record { at = λ f h. ap truth h.is ∙ truth-Or (plain text) h.left_formula h.right_formula ∙ (λ i. (of_l.at h.left_formula h.of_left ∙ e) i || truth h.right_formula) ∙ sym e }
 
 module _ {text : Option (List ℕ)} {part : Formula → Type 0} {a b : Bool} where
   pub HasTruth-not : HasTruth part a → b ≡ not a → HasTruth (IsNot text part) b
@@ -145,11 +153,11 @@ joined_case {text} {b} {t} {cases} joined is written fits below =
 module _ {text : Option (List ℕ)} {left right : Formula → Type 0} where
   joined_by_and : IsJoined text left right (IsAnd text left right) (And (plain text))
   unfolding Shows
-  joined_by_and = record { parts = λ f h. (h.l, h.r, h.of_left, h.of_right, h.is); shown = λ l r t leaves node children. (node, children) }
+  joined_by_and = record { parts = λ f h. (h.left_formula, h.right_formula, h.of_left, h.of_right, h.is); shown = λ l r t leaves node children. (node, children) }
 
   joined_by_or : IsJoined text left right (IsOr text left right) (Or (plain text))
   unfolding Shows
-  joined_by_or = record { parts = λ f h. (h.l, h.r, h.of_left, h.of_right, h.is); shown = λ l r t leaves node children. (node, children) }
+  joined_by_or = record { parts = λ f h. (h.left_formula, h.right_formula, h.of_left, h.of_right, h.is); shown = λ l r t leaves node children. (node, children) }
 
 module _ {text : Option (List ℕ)} {left right : Formula → Type 0} {b : Bool} {c d t : Tree CaseNode} where
   pub IsCaseOf-and_both : {bytes : List ℕ} → IsNode (Some bytes) b ((codes "left", c) ∷ (codes "right", d) ∷ []) t → Fits text bytes → IsCaseOf left b c → IsCaseOf right b d → b ≡ true → IsCaseOf (IsAnd text left right) b t

@@ -14,18 +14,18 @@ not_text a = Some (codes "(! ") ++? a ++? Some (codes ")")
 
 -- f is `And` over a formula of each part
 pub record IsAnd (text : Option (List ℕ)) (left right : Formula → Type 0) (f : Formula) : Type 0 where
-  pub l : Formula
-  pub r : Formula
-  pub of_left : left l
-  pub of_right : right r
-  pub is : f ≡ And (plain text) l r
+  pub left_formula : Formula
+  pub right_formula : Formula
+  pub of_left : left left_formula
+  pub of_right : right right_formula
+  pub is : f ≡ And (plain text) left_formula right_formula
 
 pub record IsOr (text : Option (List ℕ)) (left right : Formula → Type 0) (f : Formula) : Type 0 where
-  pub l : Formula
-  pub r : Formula
-  pub of_left : left l
-  pub of_right : right r
-  pub is : f ≡ Or (plain text) l r
+  pub left_formula : Formula
+  pub right_formula : Formula
+  pub of_left : left left_formula
+  pub of_right : right right_formula
+  pub is : f ≡ Or (plain text) left_formula right_formula
 
 -- f is `Not` over a formula of the part
 pub record IsNot (text : Option (List ℕ)) (part : Formula → Type 0) (f : Formula) : Type 0 where

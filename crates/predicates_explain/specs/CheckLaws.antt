@@ -3,7 +3,7 @@ use Rattle.std.specs.Prelude.{◌≡◌, refl, ℕ, List}
 use Rattle.predicates_core.specs.Label.{FitsEntry}
 use Rattle.predicates_core.specs.Formula.{Formula, text_of}
 use Rattle.predicates_core.proofs.Leaves.{exactly_text_fits, one_exactly}
-use Rattle.predicates_core.proofs.Combined.{and_text_fits, or_text_fits, not_text_fits, one_and, one_or, one_not}
+use Rattle.predicates_core.proofs.Combined.{and_text_fits, or_text_fits, not_text_fits, one_and, one_or, one_not, has_and, has_or}
 use Rattle.predicates_text.specs.Handed.{trimmed_bytes, even_bytes}
 use Rattle.predicates_explain.specs.Checks.{check_text, check_formula, HasFormula}
 use Rattle.predicates_explain.specs.declared.check.TextCheck.{TextCheck, Empty, Equals, Starts, Ends, Contains, Matches, Trim', Normalize', Not', And', Or'}
@@ -44,5 +44,5 @@ has_check_formula (Matches p) bytes = record { is = refl }
 has_check_formula (Trim' _ inner) bytes = has_check_formula inner (trimmed_bytes bytes)
 has_check_formula (Normalize' _ inner) bytes = has_check_formula inner (even_bytes bytes)
 has_check_formula (Not' _ inner) bytes = record { inner = _; of_part = has_check_formula inner bytes; is = refl }
-has_check_formula (And' _ left _ right) bytes = record { l = _; r = _; of_left = has_check_formula left bytes; of_right = has_check_formula right bytes; is = refl }
-has_check_formula (Or' _ left _ right) bytes = record { l = _; r = _; of_left = has_check_formula left bytes; of_right = has_check_formula right bytes; is = refl }
+has_check_formula (And' _ left _ right) bytes = has_and (has_check_formula left bytes) (has_check_formula right bytes)
+has_check_formula (Or' _ left _ right) bytes = has_or (has_check_formula left bytes) (has_check_formula right bytes)

@@ -1,10 +1,10 @@
 //! A combinator of the caller's own.
-ghost use Rattle.std.specs.Prelude.{◌≡◌, refl, [], codes};
+ghost use Rattle.std.specs.Prelude.{◌≡◌, [], codes};
 ghost use Rattle.predicates_core.specs.Label.{plain};
 ghost use Rattle.predicates_core.specs.Formula.{Or};
 ghost use Rattle.predicates_core.specs.Parts.{two_parts};
 ghost use Rattle.predicates_core.specs.Combined.{IsOr};
-ghost use Rattle.predicates_core.proofs.Combined.{or_text_fits, one_or};
+ghost use Rattle.predicates_core.proofs.Combined.{or_text_fits, one_or, has_or};
 ghost use Rattle.predicates_uses.specs.Either.{either_text, left_of, right_of};
 
 use predicates::node::{over_both, over_one};
@@ -119,11 +119,7 @@ impl<P: Total<Item>, Q: Total<Item>, Item> Total<Item> for Either<P, Q> {
 
     ghost always_lawful = { λ p. (P.always_lawful (left_of p), Q.always_lawful (right_of p)) };
 
-    ghost has_formula = { λ p v. record {
-      l = _;
-      r = _;
-      of_left = P.has_formula (left_of p) v;
-      of_right = Q.has_formula (right_of p) v;
-      is = refl;
-    } };
+    ghost has_formula = { λ p v. has_or
+        (P.has_formula (left_of p) v)
+        (Q.has_formula (right_of p) v) };
 }

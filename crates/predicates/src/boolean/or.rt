@@ -1,10 +1,10 @@
 //! At least one part holds.
-ghost use Rattle.std.specs.Prelude.{◌≡◌, refl, [], codes};
+ghost use Rattle.std.specs.Prelude.{◌≡◌, [], codes};
 ghost use Rattle.predicates_core.specs.Label.{plain};
 ghost use Rattle.predicates_core.specs.Formula.{Or};
 ghost use Rattle.predicates_core.specs.Parts.{two_parts};
 ghost use Rattle.predicates_core.specs.Combined.{infix_text, IsOr};
-ghost use Rattle.predicates_core.proofs.Combined.{or_text_fits, one_or};
+ghost use Rattle.predicates_core.proofs.Combined.{or_text_fits, one_or, has_or};
 
 use predicates_core::node::{over_found, printed};
 use predicates_core::reflection::{Case, Child, Parameter, PredicateReflection, describe};
@@ -122,7 +122,7 @@ impl<M1: Total<Item>, M2: Total<Item>, Item> Total<Item> for OrPredicate<M1, M2,
 
     ghost always_lawful = { λ p. (M1.always_lawful p.a, M2.always_lawful p.b) };
 
-    ghost has_formula = { λ p v. record { l = _; r = _; of_left = M1.has_formula p.a v; of_right = M2.has_formula p.b v; is = refl } };
+    ghost has_formula = { λ p v. has_or (M1.has_formula p.a v) (M2.has_formula p.b v) };
 }
 
 impl<M1: ReadsContent<Item>, M2: ReadsContent<Item>, Item: Content> ReadsContent<Item>
@@ -134,5 +134,5 @@ impl<M1: ReadsContent<Item>, M2: ReadsContent<Item>, Item: Content> ReadsContent
 
     ghost always_lawful = { λ p. (M1.always_lawful p.a, M2.always_lawful p.b) };
 
-    ghost has_formula = { λ p v. record { l = _; r = _; of_left = M1.has_formula p.a v; of_right = M2.has_formula p.b v; is = refl } };
+    ghost has_formula = { λ p v. has_or (M1.has_formula p.a v) (M2.has_formula p.b v) };
 }
