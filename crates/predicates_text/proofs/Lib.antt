@@ -9,3 +9,4 @@ pub mod Trimming
 pub mod Evening
 pub mod Handing
 pub mod OneByte
+pub mod Searching

@@ -38,6 +38,15 @@ fn places(rt: HostRuntime) -> Result<(), Fail> {
     assert!(rt; parts::ends_with("World", "Hello World") && parts::ends_with("", "ä"));
     assert!(rt; !parts::ends_with("Hello", "Hello World") && !parts::contains("aa", "a"));
     assert!(rt; parts::is_empty("") && !parts::is_empty(" "));
+    let mut long = String::new(rt.alloc());
+    for _ in 0..300 {
+        long.push_str("aä")?;
+    }
+    assert!(rt; !parts::contains("b", &long) && !parts::contains("aa", &long));
+    long.push('b')?;
+    for pattern in ["", "b", "äb", "aäa", "ä"] {
+        assert!(rt; parts::contains(pattern, &long), "{pattern}");
+    }
     Ok(())
 }
 

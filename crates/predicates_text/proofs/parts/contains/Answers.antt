@@ -1,9 +1,12 @@
-use Rattle.predicates_text.proofs.Found.{contains_chars, contains_bytes}
-use Rattle.predicates_text.proofs.Telling.{part_tells, same_test}
+use Rattle.predicates_text.proofs.Searching.{search_tells, byte_search_tells}
 use Rattle.predicates_text.proofs.parts.contains.Goals as goal
+
+pub returns-then-text-lt-LONG : goal.returns-then-text-lt-LONG
+returns-then-text-lt-LONG c =
+    let told = search_tells _ _ _ c.utf8.pattern c.utf8.text c.contains.ensures.cases in
+    record { part = told.part; bytes = told.bytes; value = told.value }
 
 pub returns : goal.returns
 returns c =
-    let is = contains_chars c.args.pattern.now c.args.text.now c.contains.result c.utf8.pattern c.utf8.text c.contains.ensures.cases in
-    let bytes = contains_bytes c.args.pattern.now c.args.text.now c.contains.result c.utf8.pattern c.utf8.text c.contains.ensures.cases in
-    record { part = is; bytes = bytes; value = same_test _ _ is (part_tells _ _) }
+    let told = byte_search_tells _ _ _ _ _ _ c.as_bytes-2.ensures.value c.as_bytes.ensures.value c.is_some.ensures c.utf8.pattern c.utf8.text c.find.ensures in
+    record { part = told.part; bytes = told.bytes; value = told.value }
