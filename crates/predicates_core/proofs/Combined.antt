@@ -255,11 +255,11 @@ has_no_formula {a} h k f of_f = not_turned a (sym (h.at f of_f) ∙ k.at f of_f)
 case_of_none : {F : Formula → Type 0} {b : Bool} {t : Tree CaseNode} → ((f : Formula) → F f → ⊥) → IsCaseOf F b t
 case_of_none none = record { truth = record { at = λ f h. absurd (none f h) }; explains = λ f h. absurd (none f h) }
 
-module _ {text : Option (List ℕ)} {left right : Formula → Type 0} {bytes : List ℕ} {x y b : Bool} {t : Tree CaseNode} where
-  pub IsCaseOf-xor_asked : (c d : Option (Tree CaseNode)) → IsNode (Some bytes) b (found_parts c d) t → Fits text bytes → HasTruth left x → HasTruth right y → b ≡ differ x y → IsAnswer left x c → IsAnswer right y d → IsCaseOf (IsXor text left right) b t
-  IsCaseOf-xor_asked None d written fits of_l of_r e of_c of_d = case_of_none (λ f h. has_no_formula of_l of_c h.left_formula h.of_left)
-  IsCaseOf-xor_asked (Some c) None written fits of_l of_r e of_c of_d = case_of_none (λ f h. has_no_formula of_r of_d h.right_formula h.of_right)
-  IsCaseOf-xor_asked (Some c) (Some d) written fits of_l of_r e of_c of_d = IsCaseOf-xor written fits of_c of_d e
+module _ {text : Option (List ℕ)} {left right : Formula → Type 0} {bytes : List ℕ} {b : Bool} {t : Tree CaseNode} where
+  pub IsCaseOf-xor_asked : (x y : Bool) (c d : Option (Tree CaseNode)) → IsNode (Some bytes) b (found_parts c d) t → Fits text bytes → HasTruth left x → HasTruth right y → b ≡ differ x y → IsAnswer left x c → IsAnswer right y d → IsCaseOf (IsXor text left right) b t
+  IsCaseOf-xor_asked x y None d written fits of_l of_r e of_c of_d = case_of_none (λ f h. has_no_formula of_l of_c h.left_formula h.of_left)
+  IsCaseOf-xor_asked x y (Some c) None written fits of_l of_r e of_c of_d = case_of_none (λ f h. has_no_formula of_r of_d h.right_formula h.of_right)
+  IsCaseOf-xor_asked x y (Some c) (Some d) written fits of_l of_r e of_c of_d = IsCaseOf-xor written fits of_c of_d e
 
 module _ {part : Formula → Type 0} {b : Bool} {c t : Tree CaseNode} where
   pub IsCaseOf-not : {text : Option (List ℕ)} → {bytes : List ℕ} → IsNode (Some bytes) b ((codes "predicate", c) ∷ []) t → Fits text bytes → IsCaseOf part (not b) c → IsCaseOf (IsNot text part) b t
