@@ -17,6 +17,7 @@ unsafe extern "C" {
     ) -> usize;
     fn bench_nots(depth: usize, items: *const i64, len: usize, question: u8, rounds: usize) -> usize;
     fn bench_row(ands: u16, items: *const i64, len: usize, question: u8, rounds: usize) -> usize;
+    fn bench_xors(xors: u16, right: u8, items: *const i64, len: usize, question: u8, rounds: usize) -> usize;
     fn bench_full(levels: u8, items: *const i64, len: usize, question: u8, rounds: usize) -> usize;
     fn bench_listed(m: *const i64, mlen: usize, items: *const i64, len: usize, question: u8, rounds: usize) -> usize;
     fn bench_sorted(m: *const i64, mlen: usize, items: *const i64, len: usize, question: u8, rounds: usize) -> usize;
@@ -88,6 +89,10 @@ pub fn nots(depth: usize, items: &[i64], question: Question, rounds: usize) -> u
 
 pub fn row(ands: u16, items: &[i64], question: Question, rounds: usize) -> usize {
     unsafe { bench_row(ands, items.as_ptr(), items.len(), question.number(), rounds) }
+}
+
+pub fn xors(xors: u16, on_the_right: bool, items: &[i64], question: Question, rounds: usize) -> usize {
+    unsafe { bench_xors(xors, u8::from(on_the_right), items.as_ptr(), items.len(), question.number(), rounds) }
 }
 
 pub fn full(levels: u8, items: &[i64], question: Question, rounds: usize) -> usize {

@@ -1,6 +1,6 @@
 //! Checks of numbers, put together by type and by an enum.
 
-use super::Row;
+use super::{print_alone, Row};
 use crate::port;
 use crate::question::ask;
 use crate::tree::Tree;
@@ -107,6 +107,15 @@ fn print_row(only: &str, ands: u16, item: i64, kind: &str) {
     }
 }
 
+// The original has no `xor`. A chain's printed text alone grows with the square of its length.
+fn print_xors(only: &str, xors: u16, on_the_right: bool) {
+    let side = if on_the_right { "right" } else { "left" };
+    let name = format!("chain of {xors} `xor` on the {side}, enum, the port alone");
+    if name.contains(only) {
+        print_alone(&name, &|question, rounds| port::xors(xors, on_the_right, &[100], question, rounds));
+    }
+}
+
 pub fn print(only: &str) {
     let items: Vec<i64> = (0..1024).map(|at: i64| at * 7919 % 41 - 12).collect();
     print_between(only, &items);
@@ -119,4 +128,8 @@ pub fn print(only: &str) {
     print_full(only, 6, -1, "all false");
     print_row(only, 63, 100, "all true");
     print_row(only, 63, 62, "last false");
+    for xors in [8, 64, 256] {
+        print_xors(only, xors, false);
+        print_xors(only, xors, true);
+    }
 }

@@ -5,10 +5,10 @@ use Rattle.std.specs.Ordering.{int_cmp}
 use Rattle.predicates_core.specs.Label.{Entry, showing}
 use Rattle.predicates_core.specs.Formula.{Formula, Leaf}
 use Rattle.predicates_core.specs.Leaves.{IsExactly}
-use Rattle.predicates_core.specs.Combined.{infix_text, not_text, IsAnd, IsOr, IsNot}
+use Rattle.predicates_core.specs.Combined.{infix_text, not_text, IsAnd, IsOr, IsXor, IsNot}
 use Rattle.predicates.specs.Comparison.{ord_symbol, ord_truth, comparison_text}
 use Rattle.predicates.specs.declared.ord.order.OrdPredicate.{OrdPredicate}
-use Rattle.predicates_bench.specs.declared.tree.Tree.{Tree, Leaf as LeafTree, Not' as NotTree, And' as AndTree, Or' as OrTree}
+use Rattle.predicates_bench.specs.declared.tree.Tree.{Tree, Leaf as LeafTree, Not' as NotTree, And' as AndTree, Or' as OrTree, Xor' as XorTree}
 
 -- what a comparison prints
 abbrev pub leaf_text : OrdPredicate ℤ → Entry
@@ -24,6 +24,7 @@ tree_text (LeafTree p) = leaf_text p
 tree_text (NotTree _ inner) = not_text (tree_text inner)
 tree_text (AndTree _ left _ right) = infix_text (codes " && ") (tree_text left) (tree_text right)
 tree_text (OrTree _ left _ right) = infix_text (codes " || ") (tree_text left) (tree_text right)
+tree_text (XorTree _ left _ right) = infix_text (codes " ^ ") (tree_text left) (tree_text right)
 
 -- the formula on a number
 abbrev pub HasFormula : Tree → ℤ → Formula → Type 0
@@ -31,6 +32,7 @@ HasFormula (LeafTree p) n = IsExactly (leaf_formula p n)
 HasFormula (NotTree _ inner) n = IsNot (not_text (tree_text inner)) (HasFormula inner n)
 HasFormula (AndTree _ left _ right) n = IsAnd (infix_text (codes " && ") (tree_text left) (tree_text right)) (HasFormula left n) (HasFormula right n)
 HasFormula (OrTree _ left _ right) n = IsOr (infix_text (codes " || ") (tree_text left) (tree_text right)) (HasFormula left n) (HasFormula right n)
+HasFormula (XorTree _ left _ right) n = IsXor (infix_text (codes " ^ ") (tree_text left) (tree_text right)) (HasFormula left n) (HasFormula right n)
 
 -- how many nodes it has
 abbrev pub node_count : Tree → ℕ
@@ -38,3 +40,4 @@ node_count (LeafTree _) = 1
 node_count (NotTree _ inner) = node_count inner + 1
 node_count (AndTree _ left _ right) = node_count left + node_count right + 1
 node_count (OrTree _ left _ right) = node_count left + node_count right + 1
+node_count (XorTree _ left _ right) = node_count left + node_count right + 1

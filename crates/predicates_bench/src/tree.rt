@@ -1,6 +1,6 @@
 //! A check of numbers whose shape is chosen at run time, as a caller writes one who has no boxes.
 ghost use Rattle.std.specs.Prelude.{[], IfOk};
-ghost use Rattle.predicates_core.specs.Combined.{IsAnd, IsNot, IsOr};
+ghost use Rattle.predicates_core.specs.Combined.{IsAnd, IsNot, IsOr, IsXor};
 ghost use Rattle.predicates_core.specs.Shows.{IsAnswer};
 ghost use Rattle.predicates_core.specs.Tree.{empty};
 ghost use Rattle.predicates_bench.specs.Trees.{tree_text, HasFormula};
@@ -20,6 +20,7 @@ pub(crate) enum Tree {
     Not(Box<Tree>),
     And(Box<Tree>, Box<Tree>),
     Or(Box<Tree>, Box<Tree>),
+    Xor(Box<Tree>, Box<Tree>),
 }
 
 impl fmt::Display for Tree {
@@ -44,6 +45,13 @@ impl fmt::Display for Tree {
                 write!(f, "(")?;
                 (**left).fmt(f)?;
                 write!(f, " || ")?;
+                (**right).fmt(f)?;
+                write!(f, ")")
+            }
+            Tree::Xor(left, right) => {
+                write!(f, "(")?;
+                (**left).fmt(f)?;
+                write!(f, " ^ ")?;
                 (**right).fmt(f)?;
                 write!(f, ")")
             }
@@ -81,6 +89,7 @@ impl Predicate<i64> for Tree {
             Tree::Not(inner) => Ok(!inner.eval(alloc, item)?),
             Tree::And(left, right) => Ok(left.eval(alloc, item)? && right.eval(alloc, item)?),
             Tree::Or(left, right) => Ok(left.eval(alloc, item)? || right.eval(alloc, item)?),
+            Tree::Xor(left, right) => Ok(left.eval(alloc, item)? != right.eval(alloc, item)?),
         }
     }
 
@@ -106,6 +115,7 @@ impl Tree {
             Tree::Not(inner) => self.find_not(alloc, inner, expected, item),
             Tree::And(left, right) => self.find_and(alloc, left, right, expected, item),
             Tree::Or(left, right) => self.find_or(alloc, left, right, expected, item),
+            Tree::Xor(left, right) => self.find_xor(alloc, left, right, expected, item),
         }
     }
 
@@ -186,6 +196,30 @@ impl Tree {
             }
             right
         };
+        let text = printed(alloc, self)?;
+        Ok(Some(over_found(alloc, text, expected, left, right)?))
+    }
+
+    #[cycle(find)]
+    #[tactic(auto, using(predicates_core::proofs::Combined::combined))]
+    fn find_xor(
+        &self,
+        alloc: Global,
+        left: &Tree,
+        right: &Tree,
+        expected: bool,
+        item: &i64,
+    ) -> Result<Option<Case>, AllocError>
+        ensures { IfOk result
+            (IsAnswer (IsXor (tree_text self.now) (HasFormula left.now item.now) (HasFormula right.now item.now)) expected) }
+    {
+        let left_holds = left.eval(alloc, item)?;
+        let right_holds = right.eval(alloc, item)?;
+        if (left_holds != right_holds) != expected {
+            return Ok(None);
+        }
+        let left = left.find(alloc, left_holds, item)?;
+        let right = right.find(alloc, right_holds, item)?;
         let text = printed(alloc, self)?;
         Ok(Some(over_found(alloc, text, expected, left, right)?))
     }

@@ -23,6 +23,21 @@ fn row(alloc: Global, ands: u16) -> Result<Tree, AllocError> {
     Ok(tree)
 }
 
+// `ge(0).xor(ge(1))` and so on, with so many `xor`; what was made so far stands on the left, or on the right.
+fn chain(alloc: Global, xors: u16, on_the_right: bool) -> Result<Tree, AllocError> {
+    let mut tree = Tree::Leaf(ge(0));
+    for at in 0..xors {
+        let so_far = Box::new(alloc, tree)?;
+        let next = Box::new(alloc, Tree::Leaf(ge(i64::from(at) + 1)))?;
+        tree = if on_the_right {
+            Tree::Xor(next, so_far)
+        } else {
+            Tree::Xor(so_far, next)
+        };
+    }
+    Ok(tree)
+}
+
 // Each two neighbours as one, by `and` or by `or`.
 fn halved(alloc: Global, trees: Vec<Tree>, by_and: bool) -> Result<Vec<Tree>, AllocError> {
     let mut all = Vec::new(alloc);
@@ -96,6 +111,20 @@ pub extern "C" fn bench_row(
     rounds: usize,
 ) -> usize {
     ask_tree(alloc, row(alloc, ands), items, question, rounds)
+}
+
+/// Asks a chain of so many `xor` over `ge(0)`, `ge(1)` and so on, to the right where `on_the_right` is not 0.
+#[unsafe(no_mangle)]
+pub extern "C" fn bench_xors(
+    alloc: Global,
+    xors: u16,
+    on_the_right: u8,
+    items: &[i64],
+    question: u8,
+    rounds: usize,
+) -> usize {
+    let tree = chain(alloc, xors, on_the_right != 0);
+    ask_tree(alloc, tree, items, question, rounds)
 }
 
 /// Asks a full tree of so many levels, with `and` and `or` in turn.

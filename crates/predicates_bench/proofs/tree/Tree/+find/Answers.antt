@@ -1,5 +1,5 @@
 use Rattle.std.proofs.Common.{rules, arith, ap, ◌≡◌, ◌+◌}
-use Rattle.predicates_core.proofs.Combined.{IsCaseOf-and_asked, IsCaseOf-and_decided, IsCaseOf-or_asked, IsCaseOf-or_decided, IsCaseOf-not}
+use Rattle.predicates_core.proofs.Combined.{IsCaseOf-and_asked, IsCaseOf-and_decided, IsCaseOf-or_asked, IsCaseOf-or_decided, IsCaseOf-xor_asked, IsCaseOf-not}
 use Rattle.predicates_bench.specs.Trees.{node_count}
 use Rattle.predicates_bench.proofs.tree.Tree.+find.Goals as goal
 use Rattle.predicates_bench.proofs.tree.Tree.+find.Goals.{find_and-then-is_some-expected+in_ok-right+else-is_none, find_and-else-is_some-expected+else-is_none-2, find_or-then-is_some-expected+else-is_none, find_or-else-is_some-expected+in_ok-right+else-is_none-2}
@@ -19,6 +19,9 @@ find_or-returns t c = elim c.if-is_some-expected.branch [
   | find_or-else-is_some-expected+in_ok-right+else-is_none-2 w ↦ IsCaseOf-or_asked c.in_ok-left.left c.if-is_some-expected.right c.in_ok-over_found.ensures (search rules) (search rules) (search rules) (search rules) (search rules)
 ]
 
+pub find_xor-returns : goal.find_xor-returns
+find_xor-returns t c = IsCaseOf-xor_asked c.in_ok-left_holds.left_holds c.in_ok-right_holds.right_holds c.in_ok-left.left c.in_ok-right.right c.in_ok-over_found.ensures (search rules) (search rules) (search rules) (search rules) (search rules) (search rules)
+
 pub find-find_not-requires : goal.find-find_not-requires
 find-find_not-requires t c =
     let e : node_count c.args.self.now ≡ node_count c.in-Not.inner.value + 1 = ap node_count c.in-Not.is in
@@ -33,3 +36,8 @@ pub find-find_or-requires : goal.find-find_or-requires
 find-find_or-requires t c =
     let e : node_count c.args.self.now ≡ node_count c.in-Or.left.value + node_count c.in-Or.right.value + 1 = ap node_count c.in-Or.is in
     (omega (arith, c.decreases, e, ap node_count c.deref-in-Or.ensures, ap node_count c.deref-in-Or-2.ensures), tt)
+
+pub find-find_xor-requires : goal.find-find_xor-requires
+find-find_xor-requires t c =
+    let e : node_count c.args.self.now ≡ node_count c.in-Xor.left.value + node_count c.in-Xor.right.value + 1 = ap node_count c.in-Xor.is in
+    (omega (arith, c.decreases, e, ap node_count c.deref-in-Xor.ensures, ap node_count c.deref-in-Xor-2.ensures), tt)

@@ -13,3 +13,6 @@ decreases-find_and l = 2 * (node_count l.left.now + node_count l.right.now) + 1
 
 abbrev pub decreases-find_or : goal.decreases-find_or
 decreases-find_or l = 2 * (node_count l.left.now + node_count l.right.now) + 1
+
+abbrev pub decreases-find_xor : goal.decreases-find_xor
+decreases-find_xor l = 2 * (node_count l.left.now + node_count l.right.now) + 1
