@@ -1,8 +1,6 @@
 -- Lemmas on forests.
-use Rattle.std.proofs.Common.{◌≡◌, ◌+◌, ◌<◌, arith, ℕ, List, [], ◌∷◌, ◌++◌, refl, ap, map}
-use Rattle.predicates_core.specs.Tree.{Forest, Tree, empty, branch, forest, named_trees, node_count, add_last}
-use Rattle.predicates_core.specs.Held.{named}
-use Rattle.predicates_core.specs.declared.reflection.case.Branch.{Branch}
+use Rattle.std.proofs.Common.{◌≡◌, ◌+◌, ◌<◌, arith, ℕ, List, [], ◌∷◌, ◌++◌, refl, ap}
+use Rattle.predicates_core.specs.Tree.{Forest, Tree, empty, branch, forest, named_trees, node_count}
 
 module _ {N : Type 0} where
   pub named_trees-forest : (ts : List (List ℕ × Tree N)) → named_trees (forest ts) ≡ ts
@@ -26,8 +24,3 @@ module _ {N : Type 0} where
   pub node_count-child : (f : Forest N) (ys : List (List ℕ × Tree N)) (x : List ℕ × Tree N) (zs : List (List ℕ × Tree N))
       → named_trees f ≡ ys ++ x ∷ zs → node_count x.1.children < node_count f
   node_count-child f ys x zs e = rw (total-named_trees f, e) (total-member ys x zs)
-
--- a branch pushed last stands last in the forest
-pub forest_push : (bs : List Branch) (b : Branch) → forest (map named (bs ++ b ∷ [])) ≡ add_last (forest (map named bs)) b.name b.case
-forest_push [] b = refl
-forest_push (x ∷ bs) b = ap (branch x.name x.case.root x.case.children) (forest_push bs b)

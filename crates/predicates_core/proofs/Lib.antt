@@ -9,6 +9,7 @@ pub mod Leaves
 pub mod Added
 pub mod Forests
 pub mod Lines
+pub mod Preorder
 pub mod Fields
 pub mod Kept
 pub mod Existence

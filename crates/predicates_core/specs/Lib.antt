@@ -11,7 +11,6 @@ pub mod Added
 pub mod Parts
 pub mod Text
 pub mod Held
-pub mod Falls
 pub mod ChildFalls
 pub mod Lines
 pub mod Read

@@ -4,6 +4,7 @@ use crate::node::{
 };
 use crate::reflection::{Case, CaseChild, Child, Parameter, Product, render};
 use std::alloc::{AllocError, Global};
+use std::fmt::Write;
 use std::test::Fail;
 
 fn text(alloc: Global, text: &str) -> Result<String, AllocError> {
@@ -96,5 +97,96 @@ fn a_description(rt: HostRuntime) -> Result<(), Fail> {
     assert_eq!(rt; child.children()[0].name(), "left");
     assert_eq!(rt; child.children()[0].parameters()[0].name(), "value");
     assert_eq!(rt; child.children()[0].parameters()[0].value(), "true");
+    Ok(())
+}
+
+#[test]
+fn children_and_no_grandchildren(rt: HostRuntime) -> Result<(), Fail> {
+    let alloc = rt.alloc();
+    let a = over_one(
+        alloc,
+        text(alloc, "a")?,
+        true,
+        "c",
+        alone(alloc, text(alloc, "c")?, true),
+    )?;
+    let case = alone(alloc, text(alloc, "root")?, true)
+        .add_child("a", a)?
+        .add_child("b", alone(alloc, text(alloc, "b")?, false))?;
+    let mut found = Vec::new(alloc);
+    for CaseChild { name, case } in case.root().children() {
+        found.push((name, case.predicate(), case.children().count()))?;
+    }
+    let expected = [("a", Some("a"), 1), ("b", Some("b"), 0)];
+    assert_eq!(rt; found.as_slice(), expected.as_slice());
+    Ok(())
+}
+
+fn text_of(alloc: Global, length: usize) -> Result<String, AllocError> {
+    let mut text = String::new(alloc);
+    for _ in 0..length {
+        text.push('x')?;
+    }
+    Ok(text)
+}
+
+#[test]
+fn texts_of_any_length(rt: HostRuntime) -> Result<(), Fail> {
+    let alloc = rt.alloc();
+    for length in [0, 1, 300, 70_000] {
+        let expected = text_of(alloc, length)?;
+        let case = alone(alloc, printed(alloc, &expected)?, true);
+        let case = showing_text(alloc, case, "var", expected.as_str())?;
+        assert_eq!(rt; case.root().predicate(), Some(expected.as_str()));
+        for product in case.root().products() {
+            assert_eq!(rt; product.value(), expected.as_str());
+        }
+        let lines = format!(in alloc; "{expected} = true\n  - var: {expected}\n")?;
+        assert_eq!(rt; render(alloc, &case)?, lines);
+        let mut parameters = Vec::new(alloc);
+        parameters.push(Parameter::new("value", text_of(alloc, length)?))?;
+        let child = Child::new("part", expected, parameters, Vec::new(alloc));
+        assert_eq!(rt; child.text().len(), length);
+        assert_eq!(rt; child.parameters()[0].value(), child.text());
+    }
+    Ok(())
+}
+
+#[test]
+fn many_products_and_children(rt: HostRuntime) -> Result<(), Fail> {
+    let alloc = rt.alloc();
+    let mut case = Case::new(alloc, None, true);
+    let mut expected = text(alloc, "predicate = true\n")?;
+    for number in 0..300 {
+        case = showing_item(alloc, case, &number)?;
+        writeln!(expected, "  - var: {number}")?;
+    }
+    for number in 0..300 {
+        let inner = Case::new(alloc, None, true);
+        let part = over_one(alloc, printed(alloc, &number)?, false, "inner", inner)?;
+        case = case.add_child("part", part)?;
+        writeln!(
+            expected,
+            "  part: {number} = false\n    inner: predicate = true"
+        )?;
+    }
+    assert_eq!(rt; case.root().products().len(), 300);
+    assert_eq!(rt; case.root().children().count(), 300);
+    assert_eq!(rt; render(alloc, &case)?, expected);
+    Ok(())
+}
+
+#[test]
+fn a_chain_of_children(rt: HostRuntime) -> Result<(), Fail> {
+    let alloc = rt.alloc();
+    let mut case = Case::new(alloc, None, true);
+    let mut expected = text(alloc, "predicate = true\n")?;
+    let mut indent = String::new(alloc);
+    for _ in 0..1_000 {
+        case = over_one(alloc, text(alloc, "predicate")?, true, "part", case)?;
+        indent.push_str("  ")?;
+        writeln!(expected, "{indent}part: predicate = true")?;
+    }
+    assert_eq!(rt; render(alloc, &case)?, expected);
     Ok(())
 }

@@ -3,6 +3,9 @@ ghost use Rattle.std.specs.Prelude.{◌≡◌, ◌<◌, ◌^◌, length, IfOk, o
 ghost use Rattle.predicates_core.specs.Tree.{named_trees};
 ghost use Rattle.predicates_core.specs.Describe.{leaf, with_product, with_child};
 
+#[cfg(test)]
+mod tests;
+
 use crate::reflection::Product;
 use crate::static_text::StaticText;
 use std::alloc::{AllocError, Global};
@@ -16,40 +19,36 @@ struct Node {
     products: Vec<Product>,
 }
 
-// A case and the name that it stands under.
-#[cycle(case)]
+// A node below the root: the name that it stands under, and how many nodes its subtree has,
+// itself included.
 #[derive(Drop)]
-struct Branch {
+struct Entry {
     name: StaticText,
-    case: Case,
+    node: Node,
+    size: usize,
 }
 
-/// The reason of an answer, as a tree.
-#[cycle(case)]
+/// The reason of an answer, as a tree. The nodes below the root stand in one list, each followed by
+/// the nodes of its subtree.
 #[derive(Drop)]
 pub struct Case {
     root: Node,
-    children: Vec<Branch>,
+    below: Vec<Entry>,
 }
 
 impl Model for Case {
-    ghost use Rattle.predicates_core.specs.Tree.{Tree, forest, node_count};
+    ghost use Rattle.predicates_core.specs.Tree.{Tree};
     ghost use Rattle.predicates_core.specs.Describe.{CaseNode, coded_case_tree};
-    ghost use Rattle.std.specs.Prelude.{map};
 
     ghost Value = { Tree CaseNode };
 
     ghost coded = { coded_case_tree };
 
-    ghost use Rattle.predicates_core.specs.Held.{node_of, named};
+    ghost use Rattle.predicates_core.specs.Held.{node_of, trees, IsPreorder};
 
-    ghost view = { λ c. record { root = node_of c.root; children = forest (map named c.children.items) } };
+    ghost view = { λ c. record { root = node_of c.root; children = trees c.below.items } };
 
-    ghost size = { λ t. node_count t.children };
-
-    ghost use Rattle.predicates_core.specs.Falls.{depth_le-node_count};
-
-    ghost size_decreases = { λ c h. depth_le-node_count c.children.items };
+    ghost invariant = { λ c. IsPreorder c.below.items };
 }
 
 impl Case {
@@ -63,7 +62,7 @@ impl Case {
                 result: outcome,
                 products: Vec::new(alloc),
             },
-            children: Vec::new(alloc),
+            below: Vec::new(alloc),
         }
     }
 
@@ -76,28 +75,50 @@ impl Case {
     }
 
     /// The case with a child more, which is the last and stands under the name.
-    pub fn add_child(mut self, name: &'static str, child: Case) -> Result<Case, AllocError>
+    pub fn add_child(self, name: &'static str, child: Case) -> Result<Case, AllocError>
         ensures { IfOk result (λ c. c ≡ with_child self name.entry.now child) }
     {
-        self.children.push(Branch {
+        let Case { root, mut below } = self;
+        let Case {
+            root: node,
+            below: mut subtree,
+        } = child;
+        let size = subtree.len() + 1;
+        let entry = Entry {
             name: StaticText::new(name),
-            case: child,
-        })?;
-        Ok(self)
+            node,
+            size,
+        };
+        // Without a list of its own it keeps the child's, whose nodes move up by one place.
+        if below.is_empty() {
+            subtree.insert(0, entry)?;
+            return Ok(Case {
+                root,
+                below: subtree,
+            });
+        }
+        below.reserve(size)?;
+        below.push(entry)?;
+        below.append(&mut subtree)?;
+        Ok(Case { root, below })
     }
 
     /// A view of the root.
     pub fn root(&self) -> CaseView<'_>
         ensures { result ≡ self.now }
     {
-        CaseView { case: self }
+        CaseView {
+            node: &self.root,
+            below: self.below.as_slice(),
+        }
     }
 }
 
 /// A case, or a part of one.
 #[derive(Drop)]
 pub struct CaseView<'a> {
-    case: &'a Case,
+    node: &'a Node,
+    below: &'a [Entry],
 }
 
 impl<'a> Model for CaseView<'a> {
@@ -108,7 +129,11 @@ impl<'a> Model for CaseView<'a> {
 
     ghost coded = { coded_case_tree };
 
-    ghost view = { λ v. v.case.now };
+    ghost use Rattle.predicates_core.specs.Held.{node_of, trees, IsPreorder};
+
+    ghost view = { λ v. record { root = node_of v.node.now; children = trees v.below.now } };
+
+    ghost invariant = { λ v. IsPreorder v.below.now };
 }
 
 impl<'a> CaseView<'a> {
@@ -116,8 +141,7 @@ impl<'a> CaseView<'a> {
     pub fn predicate(&self) -> Option<&'a str>
         ensures { option_copied result ≡ self.now.root.text }
     {
-        let case = self.case;
-        match &case.root.text {
+        match &self.node.text {
             Some(text) => Some(text.as_str()),
             None => None,
         }
@@ -127,16 +151,14 @@ impl<'a> CaseView<'a> {
     pub fn result(&self) -> bool
         ensures { result ≡ self.now.root.result }
     {
-        let case = self.case;
-        case.root.result
+        self.node.result
     }
 
     /// The products of the node.
     pub fn products(&self) -> &'a [Product]
         ensures { result.now ≡ self.now.root.products }
     {
-        let case = self.case;
-        case.root.products.as_slice()
+        self.node.products.as_slice()
     }
 
     /// The children of the node, in order.
@@ -144,10 +166,7 @@ impl<'a> CaseView<'a> {
         ensures children { result ≡ named_trees self.now.children }
         ensures countable { length result < 2 ^ 64 }
     {
-        let case = self.case;
-        CaseChildren {
-            rest: case.children.as_slice(),
-        }
+        CaseChildren { rest: self.below }
     }
 }
 
@@ -161,20 +180,23 @@ pub struct CaseChild<'a> {
 /// The children of a node that are still to come.
 #[derive(Drop)]
 pub struct CaseChildren<'a> {
-    rest: &'a [Branch],
+    rest: &'a [Entry],
 }
 
 impl<'a> Model for CaseChildren<'a> {
-    ghost use Rattle.std.specs.Prelude.{List, map};
+    ghost use Rattle.std.specs.Prelude.{List};
+    ghost use Rattle.predicates_core.specs.Tree.{named_trees};
     ghost use Rattle.predicates_core.specs.Describe.{NamedCase, coded_named_cases};
 
     ghost Value = { List NamedCase };
 
     ghost coded = { coded_named_cases };
 
-    ghost use Rattle.predicates_core.specs.Held.{named};
+    ghost use Rattle.predicates_core.specs.Held.{trees, IsPreorder};
 
-    ghost view = { λ c. map named c.rest.now };
+    ghost view = { λ c. named_trees (trees c.rest.now) };
+
+    ghost invariant = { λ c. IsPreorder c.rest.now };
 }
 
 impl<'a> Iterator for CaseChildren<'a> {
@@ -189,10 +211,14 @@ impl<'a> Iterator for CaseChildren<'a> {
 
     fn next(&mut self) -> Option<CaseChild<'a>> {
         let (first, rest) = self.rest.split_first()?;
+        let (below, rest) = rest.split_at(first.size - 1);
         self.rest = rest;
         Some(CaseChild {
             name: first.name.as_str(),
-            case: first.case.root(),
+            case: CaseView {
+                node: &first.node,
+                below,
+            },
         })
     }
 }

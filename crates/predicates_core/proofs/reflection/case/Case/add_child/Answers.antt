@@ -1,5 +1,22 @@
-use Rattle.predicates_core.proofs.Forests.{forest_push}
+use Rattle.std.proofs.Common.{ap, refl, ◌∙◌, List, ◌++◌, arith}
+use Rattle.predicates_core.specs.Held.{node_of}
+use Rattle.predicates_core.specs.declared.reflection.case.Entry.{Entry}
+use Rattle.predicates_core.proofs.Preorder.{trees-push, preorder-push}
 use Rattle.predicates_core.proofs.reflection.case.Case.add_child.Goals as goal
 
+pub invariant_of-result-2 : goal.invariant_of-result-2
+invariant_of-result-2 c =
+    let es : List Entry = c.self.inside.below.items in
+    let subtree : List Entry = c.child.inside.below.items in
+    let pushed = rw c.in_ok-reserve.ensures.items at c.in_ok-push.ensures.items in
+    let all = c.in_ok-append.ensures.items ∙ ap (λ l. l ++ subtree) pushed in
+    preorder-push es _ subtree _ c.self.invariant c.child.invariant all (omega arith)
+
 pub returns : goal.returns
-returns c = rw (c.in_ok-push.ensures.items, ← c.self.view_is, forest_push, c.new.ensures)
+returns c =
+    let es : List Entry = c.self.inside.below.items in
+    let subtree : List Entry = c.child.inside.below.items in
+    let pushed = rw c.in_ok-reserve.ensures.items at c.in_ok-push.ensures.items in
+    let all = c.in_ok-append.ensures.items ∙ ap (λ l. l ++ subtree) pushed in
+    ap (λ f. record { root = node_of c.self.inside.root; children = f }) (trees-push es _ subtree _ c.self.invariant all (omega arith))
+    ∙ rw (← c.self.view_is, ← c.child.view_is, c.new.ensures) refl
