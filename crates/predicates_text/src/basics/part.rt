@@ -1,9 +1,9 @@
 //! Whether a text has a pattern in it.
-ghost use Rattle.std.specs.Prelude.{◌≡◌, [], refl, string_bytes};
+ghost use Rattle.std.specs.Prelude.{◌≡◌, [], string_bytes};
 ghost use Rattle.predicates_core.specs.Tree.{empty};
-ghost use Rattle.predicates_core.specs.Leaves.{IsExactly};
-ghost use Rattle.predicates_core.proofs.Leaves.{exactly_text_fits, one_exactly};
 ghost use Rattle.predicates_text.specs.Leaves.{contains_text, contains_formula};
+ghost use Rattle.predicates_text.specs.Meant.{IsContainsLeaf};
+ghost use Rattle.predicates_text.specs.MeantLaws.{contains_text_fits, one_contains, has_contains};
 ghost use Rattle.predicates_text.specs.Held.{contains_pattern, matches_pattern, matches_count};
 
 use crate::basics::MatchesPredicate;
@@ -62,20 +62,20 @@ impl PredicateReflection for ContainsPredicate {
 }
 
 impl Predicate<String> for ContainsPredicate {
-    ghost formula = { λ p v. IsExactly (contains_formula (contains_pattern p) (string_bytes v)) };
+    ghost formula = { λ p v. IsContainsLeaf (contains_pattern p) (string_bytes v) };
 
     ghost steady = { λ p v. Unit {0} };
 
-    ghost text_fits = { λ p v f. exactly_text_fits };
+    ghost text_fits = { λ p v f. contains_text_fits };
 
-    ghost one_formula = { λ p v f g lawful. one_exactly };
+    ghost one_formula = { λ p v f g lawful. one_contains };
 
-    #[tactic(auto, using(crate::proofs::Showing::text_leaves))]
+    #[tactic(auto, using(crate::proofs::Showing::meant_leaves))]
     fn eval(&self, _alloc: Global, item: &String) -> Result<bool, AllocError> {
         Ok(parts::contains(&self.pattern, item))
     }
 
-    #[tactic(auto, using(crate::proofs::Showing::text_leaves))]
+    #[tactic(auto, using(crate::proofs::Showing::meant_leaves))]
     fn find_case(
         &self,
         alloc: Global,
@@ -95,7 +95,7 @@ impl Total<String> for ContainsPredicate {
 
     ghost always_lawful = { λ p. tt };
 
-    ghost has_formula = { λ p v. record { is = refl } };
+    ghost has_formula = { λ p v. has_contains (contains_pattern p) (string_bytes v) };
 }
 
 impl ReadsContent<String> for ContainsPredicate {
@@ -103,5 +103,5 @@ impl ReadsContent<String> for ContainsPredicate {
 
     ghost always_lawful = { λ p. tt };
 
-    ghost has_formula = { λ p v. record { is = refl } };
+    ghost has_formula = { λ p v. has_contains (contains_pattern p) (string_bytes v) };
 }
