@@ -1,5 +1,7 @@
 //! Whether a text ends with a pattern.
-ghost use Rattle.std.specs.Prelude.{◌≡◌, [], string_bytes};
+ghost use Rattle.std.specs.Prelude.{◌≡◌, ◌↔◌, [], string_bytes};
+ghost use Rattle.predicates_core.specs.Text.{Text};
+ghost use Rattle.predicates_core.specs.Formula.{Formula};
 ghost use Rattle.predicates_core.specs.Tree.{empty};
 ghost use Rattle.predicates_text.specs.Leaves.{ends_text, ends_formula};
 ghost use Rattle.predicates_text.specs.Meant.{IsEndsLeaf};
@@ -22,7 +24,10 @@ pub struct EndsWithPredicate {
 
 /// The predicate of the texts that end with the pattern.
 pub fn ends_with(pattern: String) -> EndsWithPredicate
-    ensures { ends_pattern result ≡ string_bytes pattern }
+    ensures pattern { ends_pattern result ≡ string_bytes pattern }
+    ensures formula { (v : Text) (f : Formula) →
+        ⟦<EndsWithPredicate as Predicate<String>>⟧.formula result v f
+        ↔ IsEndsLeaf (string_bytes pattern) (string_bytes v) f }
 {
     EndsWithPredicate { pattern }
 }

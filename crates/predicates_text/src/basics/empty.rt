@@ -1,5 +1,7 @@
 //! Whether a text has no characters.
-ghost use Rattle.std.specs.Prelude.{[], string_bytes};
+ghost use Rattle.std.specs.Prelude.{◌↔◌, [], string_bytes};
+ghost use Rattle.predicates_core.specs.Text.{Text};
+ghost use Rattle.predicates_core.specs.Formula.{Formula};
 ghost use Rattle.predicates_core.specs.Tree.{empty};
 ghost use Rattle.predicates_text.specs.Leaves.{empty_text, empty_formula};
 ghost use Rattle.predicates_text.specs.Meant.{IsEmptyLeaf};
@@ -18,7 +20,11 @@ use std::fmt;
 pub struct IsEmptyPredicate;
 
 /// The predicate of the texts that have no characters.
-pub fn is_empty() -> IsEmptyPredicate {
+pub fn is_empty() -> IsEmptyPredicate
+    ensures { (v : Text) (f : Formula) →
+        ⟦<IsEmptyPredicate as Predicate<String>>⟧.formula result v f
+        ↔ IsEmptyLeaf (string_bytes v) f }
+{
     IsEmptyPredicate
 }
 

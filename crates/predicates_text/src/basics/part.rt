@@ -1,8 +1,10 @@
 //! Whether a text has a pattern in it.
-ghost use Rattle.std.specs.Prelude.{◌≡◌, [], string_bytes};
+ghost use Rattle.std.specs.Prelude.{◌≡◌, ◌↔◌, [], string_bytes};
+ghost use Rattle.predicates_core.specs.Text.{Text};
+ghost use Rattle.predicates_core.specs.Formula.{Formula};
 ghost use Rattle.predicates_core.specs.Tree.{empty};
 ghost use Rattle.predicates_text.specs.Leaves.{contains_text, contains_formula};
-ghost use Rattle.predicates_text.specs.Meant.{IsContainsLeaf};
+ghost use Rattle.predicates_text.specs.Meant.{IsContainsLeaf, IsCountedLeaf};
 ghost use Rattle.predicates_text.specs.MeantLaws.{contains_text_fits, one_contains, has_contains};
 ghost use Rattle.predicates_text.specs.Held.{contains_pattern, matches_pattern, matches_count};
 
@@ -23,7 +25,10 @@ pub struct ContainsPredicate {
 
 /// The predicate of the texts that have the pattern in them.
 pub fn contains(pattern: String) -> ContainsPredicate
-    ensures { contains_pattern result ≡ string_bytes pattern }
+    ensures pattern { contains_pattern result ≡ string_bytes pattern }
+    ensures formula { (v : Text) (f : Formula) →
+        ⟦<ContainsPredicate as Predicate<String>>⟧.formula result v f
+        ↔ IsContainsLeaf (string_bytes pattern) (string_bytes v) f }
 {
     ContainsPredicate { pattern }
 }
@@ -33,6 +38,9 @@ impl ContainsPredicate {
     pub fn count(self, count: usize) -> MatchesPredicate
         ensures pattern { matches_pattern result ≡ contains_pattern self }
         ensures count { matches_count result ≡ count }
+        ensures formula { (v : Text) (f : Formula) →
+            ⟦<MatchesPredicate as Predicate<String>>⟧.formula result v f
+            ↔ IsCountedLeaf (contains_pattern self) count (string_bytes v) f }
     {
         MatchesPredicate::new(self.pattern, count)
     }
