@@ -97,5 +97,5 @@ impl ReadsContent<String> for EndsWithPredicate {
 
     ghost always_lawful = { λ p. tt };
 
-    ghost has_formula = { λ p v. has_ends (ends_pattern p) (string_bytes v) };
+    ghost has_formula = { λ p t. has_ends (ends_pattern p) (string_bytes t) };
 }

@@ -102,5 +102,5 @@ impl ReadsContent<String> for MatchesPredicate {
 
     ghost always_lawful = { λ p. tt };
 
-    ghost has_formula = { λ p v. has_counted (matches_pattern p) (matches_count p) (string_bytes v) };
+    ghost has_formula = { λ p t. has_counted (matches_pattern p) (matches_count p) (string_bytes t) };
 }

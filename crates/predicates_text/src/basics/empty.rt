@@ -92,5 +92,5 @@ impl ReadsContent<String> for IsEmptyPredicate {
 
     ghost always_lawful = { λ p. tt };
 
-    ghost has_formula = { λ p v. has_empty (string_bytes v) };
+    ghost has_formula = { λ p t. has_empty (string_bytes t) };
 }

@@ -111,5 +111,5 @@ impl ReadsContent<String> for ContainsPredicate {
 
     ghost always_lawful = { λ p. tt };
 
-    ghost has_formula = { λ p v. has_contains (contains_pattern p) (string_bytes v) };
+    ghost has_formula = { λ p t. has_contains (contains_pattern p) (string_bytes t) };
 }
