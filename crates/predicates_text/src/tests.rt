@@ -1,5 +1,8 @@
+mod derives;
+mod sizes;
+
 use crate::{
-    PredicateStrExt, contains, count, ends_with, is_empty, is_match, lines_even, parts,
+    PredicateStrExt, RegexError, contains, count, ends_with, is_empty, is_match, lines_even, parts,
     starts_with, trimmed,
 };
 use predicates_core::Predicate;
@@ -26,6 +29,14 @@ fn bytes_of(alloc: Global, bytes: &[u8]) -> Result<Vec<u8>, AllocError> {
     let mut all = Vec::new(alloc);
     all.extend_from_slice(bytes)?;
     Ok(all)
+}
+
+// Whether the pattern is refused for its syntax, at these bytes of it.
+fn is_refused_at(alloc: Global, pattern: &str, from: usize, to: usize) -> Result<bool, AllocError> {
+    match is_match(alloc, String::from_str(alloc, pattern)?) {
+        Err(RegexError::Syntax(error)) => Ok(error.span.start == from && error.span.end == to),
+        _ => Ok(false),
+    }
 }
 
 #[test]
@@ -202,7 +213,9 @@ fn patterns(rt: HostRuntime) -> Result<(), Fail> {
         "var.is_match(T[a-z]*) = false\n  - var: One Two Three\n  - actual count: 2\n"
     );
     assert_eq!(rt; thrice.parameters(alloc)?[0].value(), "3");
-    assert!(rt; is_match(alloc, String::from_str(alloc, "(")?).is_err());
+    for (pattern, from, to) in [("(", 0, 1), ("a(b", 1, 2), ("ä(", 2, 3), ("b)", 1, 2)] {
+        assert!(rt; is_refused_at(alloc, pattern, from, to)?, "{pattern}");
+    }
     let nothing = is_match(alloc, String::new(alloc))?.count(3);
     assert!(rt; nothing.eval(alloc, &String::from_str(alloc, "äb")?)?);
     let backtracks = is_match(alloc, String::from_str(alloc, "(a+)+$")?)?;
