@@ -31,6 +31,23 @@ fn bytes_of(alloc: Global, bytes: &[u8]) -> Result<Vec<u8>, AllocError> {
     Ok(all)
 }
 
+// Whether its one child is a `predicate` with this text, and it has no parameters.
+fn tells_of_its_part<P: PredicateReflection>(
+    alloc: Global,
+    predicate: &P,
+    text: &str,
+) -> Result<bool, AllocError> {
+    let children = predicate.children(alloc)?;
+    let [child] = children.as_slice() else {
+        return Ok(false);
+    };
+    Ok(
+        child.name() == "predicate"
+            && child.text() == text
+            && predicate.parameters(alloc)?.is_empty(),
+    )
+}
+
 // Whether the pattern is refused for its syntax, at these bytes of it.
 fn is_refused_at(alloc: Global, pattern: &str, from: usize, to: usize) -> Result<bool, AllocError> {
     match is_match(alloc, String::from_str(alloc, pattern)?) {
@@ -155,8 +172,7 @@ fn trimmed_and_even_texts(rt: HostRuntime) -> Result<(), Fail> {
         case_of(alloc, &blank, true, &spaces)?.as_str(),
         "var.is_empty() = true\n  - var: \n"
     );
-    let children = blank.children(alloc)?;
-    assert!(rt; children.len() == 1 && children[0].name() == "predicate");
+    assert!(rt; tells_of_its_part(alloc, &blank, "var.is_empty()")?);
     let lines = ends_with(String::from_str(alloc, "a\n")?).normalize();
     let returns = String::from_str(alloc, "a\r")?;
     assert!(rt; lines.eval(alloc, &returns)?);
@@ -164,6 +180,7 @@ fn trimmed_and_even_texts(rt: HostRuntime) -> Result<(), Fail> {
         case_of(alloc, &lines, true, &returns)?.as_str(),
         "var.ends_with(\"a\\n\") = true\n  - var: a\n\n"
     );
+    assert!(rt; tells_of_its_part(alloc, &lines, "var.ends_with(\"a\\n\")")?);
     let even = String::from_str(alloc, "a\n")?;
     assert!(rt; lines.eval(alloc, &even)? && !blank.eval(alloc, &even)?);
     Ok(())
@@ -173,6 +190,7 @@ fn trimmed_and_even_texts(rt: HostRuntime) -> Result<(), Fail> {
 fn decoded_bytes(rt: HostRuntime) -> Result<(), Fail> {
     let alloc = rt.alloc();
     let decoded = is_empty().trim().from_utf8();
+    assert!(rt; tells_of_its_part(alloc, &decoded, "var.is_empty()")?);
     let text = bytes_of(alloc, b"  a")?;
     assert_eq!(rt;
         case_of(alloc, &decoded, false, &text)?.as_str(),

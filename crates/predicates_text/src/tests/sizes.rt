@@ -128,6 +128,14 @@ fn patterns_of_each_size(rt: HostRuntime) -> Result<(), Fail> {
             shows(alloc, &last, false, &text, &lines)?,
             "no match at {n}"
         );
+        // A pattern as long as the text, up to 10 000 bytes.
+        let part = repeated(alloc, "ab", n.min(5_000))?;
+        let whole = is_match(alloc, part.clone()?)?;
+        let lines = format!(in alloc; "var.is_match({part}) = true\n  - var: {text}\n")?;
+        assert!(rt;
+            shows(alloc, &whole, true, &text, &lines)?,
+            "pattern at {n}"
+        );
         let shown = format!(in alloc; "\n  - var: {text}\n  - actual count: {n}\n")?;
         let lines = format!(in alloc; "var.is_match(a.) = true{shown}")?;
         let counted = is_match(alloc, String::from_str(alloc, "a.")?)?.count(n);
