@@ -6,6 +6,7 @@ use Rattle.predicates_core.specs.Leaves.{IsExactly}
 use Rattle.predicates_core.specs.Combined.{infix_text, not_text, IsAnd, IsOr, IsXor, IsNot}
 use Rattle.predicates_text.specs.Held.{starts_pattern, ends_pattern, contains_pattern}
 use Rattle.predicates_text.specs.Leaves.{empty_text, empty_formula, starts_text, starts_formula, ends_text, ends_formula, contains_text, contains_formula}
+use Rattle.predicates_text.specs.Meant.{IsEmptyLeaf, IsStartsLeaf, IsEndsLeaf, IsContainsLeaf}
 use Rattle.predicates_text.specs.Pattern.{match_text, match_formula, regex_text, regex_meaning}
 use Rattle.predicates_text.specs.Handed.{trimmed_bytes, even_bytes}
 use Rattle.predicates.specs.TextEquality.{text_equality_text, text_equality_formula}
@@ -28,11 +29,11 @@ check_text (XorCheck _ left _ right) = infix_text (codes " ^ ") (check_text left
 
 -- the formula on a text with the bytes
 abbrev pub HasFormula : TextCheck → List ℕ → Formula → Type 0
-HasFormula (Empty p) bytes = IsExactly (empty_formula bytes)
+HasFormula (Empty p) bytes = IsEmptyLeaf bytes
 HasFormula (Equals p) bytes = IsExactly (text_equality_formula p bytes)
-HasFormula (Starts p) bytes = IsExactly (starts_formula (starts_pattern p) bytes)
-HasFormula (Ends p) bytes = IsExactly (ends_formula (ends_pattern p) bytes)
-HasFormula (Contains p) bytes = IsExactly (contains_formula (contains_pattern p) bytes)
+HasFormula (Starts p) bytes = IsStartsLeaf (starts_pattern p) bytes
+HasFormula (Ends p) bytes = IsEndsLeaf (ends_pattern p) bytes
+HasFormula (Contains p) bytes = IsContainsLeaf (contains_pattern p) bytes
 HasFormula (Matches p) bytes = IsExactly (match_formula (regex_text p) (regex_meaning p) bytes)
 HasFormula (Trim' _ inner) bytes = HasFormula inner (trimmed_bytes bytes)
 HasFormula (Normalize' _ inner) bytes = HasFormula inner (even_bytes bytes)

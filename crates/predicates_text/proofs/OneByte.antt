@@ -7,7 +7,7 @@ use Rattle.std.proofs.lemmas.Bool.Decides.{nat_tests}
 use Rattle.std.proofs.lemmas.List.Elements.{filter-append, filter_more}
 use Rattle.std.proofs.lemmas.Str.{inside_one, encode_ascii, encodes-chars, chars-IsAscii}
 use Rattle.predicates_text.specs.Count.{IsCountOf, count_of, count_past}
-use Rattle.predicates_text.proofs.Counted.{count_of_counts, count_of_is}
+use Rattle.predicates_text.specs.CountLaws.{count_of_counts, count_of_is}
 
 abbrev times : ℕ → List ℕ → ℕ
 times b t = length (filter (eqb b) t)

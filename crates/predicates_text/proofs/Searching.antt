@@ -10,7 +10,7 @@ use Rattle.std.proofs.lemmas.List.{length-drop, length-take-le, get_or-take, get
 use Rattle.memchr.specs.Find.{OccursAt, FindsNeedle}
 use Rattle.predicates_text.specs.Parts.{IsPartOf, is_part}
 use Rattle.predicates_text.proofs.Found.{contains_chars, contains_bytes}
-use Rattle.predicates_text.proofs.Telling.{part_tells, same_test}
+use Rattle.predicates_text.specs.PartLaws.{part_tells, same_test}
 
 -- where the bytes begin what is left from a place on, they occur there
 occurs : (p t rest : List ℕ) (i : ℕ) → i ≤ length t → drop i t ≡ p ++ rest → OccursAt t p i

@@ -194,3 +194,9 @@ pub trim_of_length : (t kept : List ℕ) → IsUtf8 t → IsTrim t kept → kept
 trim_of_length t kept u part is long =
     let same : kept ≡ t = part.2 ∙ all_of_length t part.0 part.1 (ap length (sym part.2) ∙ long) in
     ap chars (sym same ∙ is) ∙ trim_chars t u
+
+-- a copy of what is left of it
+pub trim_of_copy : (t kept : List ℕ) (s : Text) → IsUtf8 t → kept ≡ trim t → string_bytes s ≡ kept → chars (string_bytes s) ≡ trimmed (chars t)
+trim_of_copy t kept s u is made = ap chars (made ∙ is) ∙ trim_chars t u
+
+pub ruleset copy_of_trim = (trim_of_length, trim_of_copy)

@@ -1,7 +1,13 @@
 pub mod Parts
+pub mod PartLaws
+pub mod Choices
 pub mod Count
+pub mod Counting
+pub mod CountLaws
 pub mod Leaves
 pub mod Held
+pub mod Meant
+pub mod MeantLaws
 pub mod Shown
 pub mod Views
 pub mod EvenLines

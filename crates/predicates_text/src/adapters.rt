@@ -1,5 +1,9 @@
 //! Predicates that hand a view of the item on to another predicate.
-ghost use Rattle.std.specs.Prelude.{◌≡◌};
+ghost use Rattle.std.specs.Prelude.{◌≡◌, ◌↔◌, ℕ, Vec};
+ghost use Rattle.std.specs.declared.alloc.Global.{Global};
+ghost use Rattle.predicates_core.specs.Text.{Text};
+ghost use Rattle.predicates_core.specs.Formula.{Formula};
+ghost use Rattle.predicates_text.specs.Handed.{IsOfEach, IsDecoded, IsTrimmedOf, HasEvenLinesOf};
 ghost use Rattle.predicates_text.specs.Inner.{trim_part, normalized_part, utf8_part};
 
 mod normalize;
@@ -17,19 +21,28 @@ pub trait PredicateStrExt: Predicate<String> {
     fn trim(self) -> TrimPredicate<Self>
     where
         Self: Sized,
-        ensures { trim_part result ≡ self };
+        ensures inner { trim_part result ≡ self }
+        ensures formula { (v : Text) (f : Formula) →
+            ⟦<TrimPredicate<Self> as Predicate<String>>⟧.formula result v f
+            ↔ IsOfEach (Self.formula self) (IsTrimmedOf v) f };
 
     /// The predicate of a text with even line endings.
     fn normalize(self) -> NormalizedPredicate<Self>
     where
         Self: Sized,
-        ensures { normalized_part result ≡ self };
+        ensures inner { normalized_part result ≡ self }
+        ensures formula { (v : Text) (f : Formula) →
+            ⟦<NormalizedPredicate<Self> as Predicate<String>>⟧.formula result v f
+            ↔ IsOfEach (Self.formula self) (HasEvenLinesOf v) f };
 
     /// The predicate of the text that bytes are, which does not hold of other bytes.
     fn from_utf8(self) -> Utf8Predicate<Self>
     where
         Self: Sized,
-        ensures { utf8_part result ≡ self };
+        ensures inner { utf8_part result ≡ self }
+        ensures formula { (v : Vec ℕ Global) (f : Formula) →
+            ⟦<Utf8Predicate<Self> as Predicate<Vec<u8>>>⟧.formula result v f
+            ↔ IsDecoded (Self.output self) (Self.formula self) v.items f };
 }
 
 impl<P: Predicate<String>> PredicateStrExt for P {

@@ -15,6 +15,7 @@ pub fn trimmed(alloc: Global, text: &str) -> Result<String, AllocError>
 }
 
 // The text without the white space at its ends, or none where it has none there.
+#[tactic(auto, using(crate::proofs::Trimming::copy_of_trim))]
 pub(crate) fn trimmed_copy(alloc: Global, text: &str) -> Result<Option<String>, AllocError>
     ensures { IfOk result (λ copy. MatchOption copy
         (chars text.now ≡ trimmed (chars text.now))
@@ -39,7 +40,7 @@ pub fn lines_even(alloc: Global, text: &str) -> Result<String, AllocError>
     let mut rest = text;
     while let Some((line, after)) = rest.split_once('\r') {
         even.push_str(line)?;
-        even.push('\n')?;
+        even.push_str("\n")?;
         rest = after.strip_prefix('\n').unwrap_or(after);
     }
     even.push_str(rest)?;

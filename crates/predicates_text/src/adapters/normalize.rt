@@ -102,7 +102,7 @@ impl<P: ReadsContent<String>> ReadsContent<String> for NormalizedPredicate<P> {
 
     ghost always_lawful = { λ p. P.always_lawful (normalized_part p) };
 
-    ghost has_formula = { λ p v. has_each
-        (P.content_formula (normalized_part p)) (P.formula (normalized_part p)) (HasEvenLinesOf v) (even_bytes (string_bytes v))
-        (P.has_formula (normalized_part p)) (even_lines_are v) };
+    ghost has_formula = { λ p t. has_each
+        (P.content_formula (normalized_part p)) (P.formula (normalized_part p)) (HasEvenLinesOf t) (even_bytes (string_bytes t))
+        (P.has_formula (normalized_part p)) (even_lines_are t) };
 }

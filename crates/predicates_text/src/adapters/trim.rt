@@ -102,7 +102,7 @@ impl<P: ReadsContent<String>> ReadsContent<String> for TrimPredicate<P> {
 
     ghost always_lawful = { λ p. P.always_lawful (trim_part p) };
 
-    ghost has_formula = { λ p v. has_each
-        (P.content_formula (trim_part p)) (P.formula (trim_part p)) (IsTrimmedOf v) (trimmed_bytes (string_bytes v))
-        (P.has_formula (trim_part p)) (trimmed_is v) };
+    ghost has_formula = { λ p t. has_each
+        (P.content_formula (trim_part p)) (P.formula (trim_part p)) (IsTrimmedOf t) (trimmed_bytes (string_bytes t))
+        (P.has_formula (trim_part p)) (trimmed_is t) };
 }

@@ -1,9 +1,11 @@
 //! Whether a text ends with a pattern.
-ghost use Rattle.std.specs.Prelude.{◌≡◌, [], refl, string_bytes};
+ghost use Rattle.std.specs.Prelude.{◌≡◌, ◌↔◌, [], string_bytes};
+ghost use Rattle.predicates_core.specs.Text.{Text};
+ghost use Rattle.predicates_core.specs.Formula.{Formula};
 ghost use Rattle.predicates_core.specs.Tree.{empty};
-ghost use Rattle.predicates_core.specs.Leaves.{IsExactly};
-ghost use Rattle.predicates_core.proofs.Leaves.{exactly_text_fits, one_exactly};
 ghost use Rattle.predicates_text.specs.Leaves.{ends_text, ends_formula};
+ghost use Rattle.predicates_text.specs.Meant.{IsEndsLeaf};
+ghost use Rattle.predicates_text.specs.MeantLaws.{ends_text_fits, one_ends, has_ends};
 ghost use Rattle.predicates_text.specs.Held.{ends_pattern};
 
 use crate::node::text_node;
@@ -22,7 +24,10 @@ pub struct EndsWithPredicate {
 
 /// The predicate of the texts that end with the pattern.
 pub fn ends_with(pattern: String) -> EndsWithPredicate
-    ensures { ends_pattern result ≡ string_bytes pattern }
+    ensures pattern { ends_pattern result ≡ string_bytes pattern }
+    ensures formula { (v : Text) (f : Formula) →
+        ⟦<EndsWithPredicate as Predicate<String>>⟧.formula result v f
+        ↔ IsEndsLeaf (string_bytes pattern) (string_bytes v) f }
 {
     EndsWithPredicate { pattern }
 }
@@ -51,20 +56,20 @@ impl PredicateReflection for EndsWithPredicate {
 }
 
 impl Predicate<String> for EndsWithPredicate {
-    ghost formula = { λ p v. IsExactly (ends_formula (ends_pattern p) (string_bytes v)) };
+    ghost formula = { λ p v. IsEndsLeaf (ends_pattern p) (string_bytes v) };
 
     ghost steady = { λ p v. Unit {0} };
 
-    ghost text_fits = { λ p v f. exactly_text_fits };
+    ghost text_fits = { λ p v f. ends_text_fits };
 
-    ghost one_formula = { λ p v f g lawful. one_exactly };
+    ghost one_formula = { λ p v f g lawful. one_ends };
 
-    #[tactic(auto, using(crate::proofs::Showing::text_leaves))]
+    #[tactic(auto, using(crate::proofs::Showing::meant_leaves))]
     fn eval(&self, _alloc: Global, item: &String) -> Result<bool, AllocError> {
         Ok(parts::ends_with(&self.pattern, item))
     }
 
-    #[tactic(auto, using(crate::proofs::Showing::text_leaves))]
+    #[tactic(auto, using(crate::proofs::Showing::meant_leaves))]
     fn find_case(
         &self,
         alloc: Global,
@@ -84,7 +89,7 @@ impl Total<String> for EndsWithPredicate {
 
     ghost always_lawful = { λ p. tt };
 
-    ghost has_formula = { λ p v. record { is = refl } };
+    ghost has_formula = { λ p v. has_ends (ends_pattern p) (string_bytes v) };
 }
 
 impl ReadsContent<String> for EndsWithPredicate {
@@ -92,5 +97,5 @@ impl ReadsContent<String> for EndsWithPredicate {
 
     ghost always_lawful = { λ p. tt };
 
-    ghost has_formula = { λ p v. record { is = refl } };
+    ghost has_formula = { λ p t. has_ends (ends_pattern p) (string_bytes t) };
 }

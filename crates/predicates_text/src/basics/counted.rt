@@ -1,11 +1,11 @@
 //! Whether a text has a pattern in it so often.
-ghost use Rattle.std.specs.Prelude.{◌≡◌, Some, refl, codes, string_bytes};
+ghost use Rattle.std.specs.Prelude.{◌≡◌, Some, codes, string_bytes};
 ghost use Rattle.std.specs.Fmt.{decimal};
 ghost use Rattle.predicates_core.specs.Tree.{empty};
 ghost use Rattle.predicates_core.specs.Label.{value_of};
-ghost use Rattle.predicates_core.specs.Leaves.{IsExactly};
-ghost use Rattle.predicates_core.proofs.Leaves.{exactly_text_fits, one_exactly};
 ghost use Rattle.predicates_text.specs.Leaves.{contains_text, matches_formula};
+ghost use Rattle.predicates_text.specs.Meant.{IsCountedLeaf};
+ghost use Rattle.predicates_text.specs.MeantLaws.{counted_text_fits, one_counted, has_counted};
 ghost use Rattle.predicates_text.specs.Held.{matches_pattern, matches_count};
 
 use crate::count;
@@ -59,20 +59,20 @@ impl PredicateReflection for MatchesPredicate {
 }
 
 impl Predicate<String> for MatchesPredicate {
-    ghost formula = { λ p v. IsExactly (matches_formula (matches_pattern p) (matches_count p) (string_bytes v)) };
+    ghost formula = { λ p v. IsCountedLeaf (matches_pattern p) (matches_count p) (string_bytes v) };
 
     ghost steady = { λ p v. Unit {0} };
 
-    ghost text_fits = { λ p v f. exactly_text_fits };
+    ghost text_fits = { λ p v f. counted_text_fits };
 
-    ghost one_formula = { λ p v f g lawful. one_exactly };
+    ghost one_formula = { λ p v f g lawful. one_counted };
 
-    #[tactic(auto, using(crate::proofs::Showing::text_leaves))]
+    #[tactic(auto, using(crate::proofs::Showing::meant_leaves))]
     fn eval(&self, _alloc: Global, item: &String) -> Result<bool, AllocError> {
         Ok(count::count(&self.pattern, item) == self.count)
     }
 
-    #[tactic(auto, using(crate::proofs::Showing::text_leaves))]
+    #[tactic(auto, using(crate::proofs::Showing::meant_leaves))]
     fn find_case(
         &self,
         alloc: Global,
@@ -94,7 +94,7 @@ impl Total<String> for MatchesPredicate {
 
     ghost always_lawful = { λ p. tt };
 
-    ghost has_formula = { λ p v. record { is = refl } };
+    ghost has_formula = { λ p v. has_counted (matches_pattern p) (matches_count p) (string_bytes v) };
 }
 
 impl ReadsContent<String> for MatchesPredicate {
@@ -102,5 +102,5 @@ impl ReadsContent<String> for MatchesPredicate {
 
     ghost always_lawful = { λ p. tt };
 
-    ghost has_formula = { λ p v. record { is = refl } };
+    ghost has_formula = { λ p t. has_counted (matches_pattern p) (matches_count p) (string_bytes t) };
 }

@@ -1,9 +1,11 @@
 //! Whether a text has no characters.
-ghost use Rattle.std.specs.Prelude.{[], refl, string_bytes};
+ghost use Rattle.std.specs.Prelude.{◌↔◌, [], string_bytes};
+ghost use Rattle.predicates_core.specs.Text.{Text};
+ghost use Rattle.predicates_core.specs.Formula.{Formula};
 ghost use Rattle.predicates_core.specs.Tree.{empty};
-ghost use Rattle.predicates_core.specs.Leaves.{IsExactly};
-ghost use Rattle.predicates_core.proofs.Leaves.{exactly_text_fits, one_exactly};
 ghost use Rattle.predicates_text.specs.Leaves.{empty_text, empty_formula};
+ghost use Rattle.predicates_text.specs.Meant.{IsEmptyLeaf};
+ghost use Rattle.predicates_text.specs.MeantLaws.{empty_text_fits, one_empty, has_empty};
 
 use crate::node::text_node;
 use crate::parts;
@@ -18,7 +20,11 @@ use std::fmt;
 pub struct IsEmptyPredicate;
 
 /// The predicate of the texts that have no characters.
-pub fn is_empty() -> IsEmptyPredicate {
+pub fn is_empty() -> IsEmptyPredicate
+    ensures { (v : Text) (f : Formula) →
+        ⟦<IsEmptyPredicate as Predicate<String>>⟧.formula result v f
+        ↔ IsEmptyLeaf (string_bytes v) f }
+{
     IsEmptyPredicate
 }
 
@@ -45,20 +51,20 @@ impl PredicateReflection for IsEmptyPredicate {
 }
 
 impl Predicate<String> for IsEmptyPredicate {
-    ghost formula = { λ p v. IsExactly (empty_formula (string_bytes v)) };
+    ghost formula = { λ p v. IsEmptyLeaf (string_bytes v) };
 
     ghost steady = { λ p v. Unit {0} };
 
-    ghost text_fits = { λ p v f. exactly_text_fits };
+    ghost text_fits = { λ p v f. empty_text_fits };
 
-    ghost one_formula = { λ p v f g lawful. one_exactly };
+    ghost one_formula = { λ p v f g lawful. one_empty };
 
-    #[tactic(auto, using(crate::proofs::Showing::text_leaves))]
+    #[tactic(auto, using(crate::proofs::Showing::meant_leaves))]
     fn eval(&self, _alloc: Global, item: &String) -> Result<bool, AllocError> {
         Ok(parts::is_empty(item))
     }
 
-    #[tactic(auto, using(crate::proofs::Showing::text_leaves))]
+    #[tactic(auto, using(crate::proofs::Showing::meant_leaves))]
     fn find_case(
         &self,
         alloc: Global,
@@ -78,7 +84,7 @@ impl Total<String> for IsEmptyPredicate {
 
     ghost always_lawful = { λ p. tt };
 
-    ghost has_formula = { λ p v. record { is = refl } };
+    ghost has_formula = { λ p v. has_empty (string_bytes v) };
 }
 
 impl ReadsContent<String> for IsEmptyPredicate {
@@ -86,5 +92,5 @@ impl ReadsContent<String> for IsEmptyPredicate {
 
     ghost always_lawful = { λ p. tt };
 
-    ghost has_formula = { λ p v. record { is = refl } };
+    ghost has_formula = { λ p t. has_empty (string_bytes t) };
 }

@@ -1,9 +1,11 @@
 //! Whether a text begins with a pattern.
-ghost use Rattle.std.specs.Prelude.{◌≡◌, [], refl, string_bytes};
+ghost use Rattle.std.specs.Prelude.{◌≡◌, ◌↔◌, [], string_bytes};
+ghost use Rattle.predicates_core.specs.Text.{Text};
+ghost use Rattle.predicates_core.specs.Formula.{Formula};
 ghost use Rattle.predicates_core.specs.Tree.{empty};
-ghost use Rattle.predicates_core.specs.Leaves.{IsExactly};
-ghost use Rattle.predicates_core.proofs.Leaves.{exactly_text_fits, one_exactly};
 ghost use Rattle.predicates_text.specs.Leaves.{starts_text, starts_formula};
+ghost use Rattle.predicates_text.specs.Meant.{IsStartsLeaf};
+ghost use Rattle.predicates_text.specs.MeantLaws.{starts_text_fits, one_starts, has_starts};
 ghost use Rattle.predicates_text.specs.Held.{starts_pattern};
 
 use crate::node::text_node;
@@ -22,7 +24,10 @@ pub struct StartsWithPredicate {
 
 /// The predicate of the texts that begin with the pattern.
 pub fn starts_with(pattern: String) -> StartsWithPredicate
-    ensures { starts_pattern result ≡ string_bytes pattern }
+    ensures pattern { starts_pattern result ≡ string_bytes pattern }
+    ensures formula { (v : Text) (f : Formula) →
+        ⟦<StartsWithPredicate as Predicate<String>>⟧.formula result v f
+        ↔ IsStartsLeaf (string_bytes pattern) (string_bytes v) f }
 {
     StartsWithPredicate { pattern }
 }
@@ -51,20 +56,20 @@ impl PredicateReflection for StartsWithPredicate {
 }
 
 impl Predicate<String> for StartsWithPredicate {
-    ghost formula = { λ p v. IsExactly (starts_formula (starts_pattern p) (string_bytes v)) };
+    ghost formula = { λ p v. IsStartsLeaf (starts_pattern p) (string_bytes v) };
 
     ghost steady = { λ p v. Unit {0} };
 
-    ghost text_fits = { λ p v f. exactly_text_fits };
+    ghost text_fits = { λ p v f. starts_text_fits };
 
-    ghost one_formula = { λ p v f g lawful. one_exactly };
+    ghost one_formula = { λ p v f g lawful. one_starts };
 
-    #[tactic(auto, using(crate::proofs::Showing::text_leaves))]
+    #[tactic(auto, using(crate::proofs::Showing::meant_leaves))]
     fn eval(&self, _alloc: Global, item: &String) -> Result<bool, AllocError> {
         Ok(parts::starts_with(&self.pattern, item))
     }
 
-    #[tactic(auto, using(crate::proofs::Showing::text_leaves))]
+    #[tactic(auto, using(crate::proofs::Showing::meant_leaves))]
     fn find_case(
         &self,
         alloc: Global,
@@ -84,7 +89,7 @@ impl Total<String> for StartsWithPredicate {
 
     ghost always_lawful = { λ p. tt };
 
-    ghost has_formula = { λ p v. record { is = refl } };
+    ghost has_formula = { λ p v. has_starts (starts_pattern p) (string_bytes v) };
 }
 
 impl ReadsContent<String> for StartsWithPredicate {
@@ -92,5 +97,5 @@ impl ReadsContent<String> for StartsWithPredicate {
 
     ghost always_lawful = { λ p. tt };
 
-    ghost has_formula = { λ p v. record { is = refl } };
+    ghost has_formula = { λ p t. has_starts (starts_pattern p) (string_bytes t) };
 }

@@ -1,9 +1,11 @@
 //! Whether a text has a pattern in it.
-ghost use Rattle.std.specs.Prelude.{◌≡◌, [], refl, string_bytes};
+ghost use Rattle.std.specs.Prelude.{◌≡◌, ◌↔◌, [], string_bytes};
+ghost use Rattle.predicates_core.specs.Text.{Text};
+ghost use Rattle.predicates_core.specs.Formula.{Formula};
 ghost use Rattle.predicates_core.specs.Tree.{empty};
-ghost use Rattle.predicates_core.specs.Leaves.{IsExactly};
-ghost use Rattle.predicates_core.proofs.Leaves.{exactly_text_fits, one_exactly};
 ghost use Rattle.predicates_text.specs.Leaves.{contains_text, contains_formula};
+ghost use Rattle.predicates_text.specs.Meant.{IsContainsLeaf, IsCountedLeaf};
+ghost use Rattle.predicates_text.specs.MeantLaws.{contains_text_fits, one_contains, has_contains};
 ghost use Rattle.predicates_text.specs.Held.{contains_pattern, matches_pattern, matches_count};
 
 use crate::basics::MatchesPredicate;
@@ -23,7 +25,10 @@ pub struct ContainsPredicate {
 
 /// The predicate of the texts that have the pattern in them.
 pub fn contains(pattern: String) -> ContainsPredicate
-    ensures { contains_pattern result ≡ string_bytes pattern }
+    ensures pattern { contains_pattern result ≡ string_bytes pattern }
+    ensures formula { (v : Text) (f : Formula) →
+        ⟦<ContainsPredicate as Predicate<String>>⟧.formula result v f
+        ↔ IsContainsLeaf (string_bytes pattern) (string_bytes v) f }
 {
     ContainsPredicate { pattern }
 }
@@ -33,6 +38,9 @@ impl ContainsPredicate {
     pub fn count(self, count: usize) -> MatchesPredicate
         ensures pattern { matches_pattern result ≡ contains_pattern self }
         ensures count { matches_count result ≡ count }
+        ensures formula { (v : Text) (f : Formula) →
+            ⟦<MatchesPredicate as Predicate<String>>⟧.formula result v f
+            ↔ IsCountedLeaf (contains_pattern self) count (string_bytes v) f }
     {
         MatchesPredicate::new(self.pattern, count)
     }
@@ -62,20 +70,20 @@ impl PredicateReflection for ContainsPredicate {
 }
 
 impl Predicate<String> for ContainsPredicate {
-    ghost formula = { λ p v. IsExactly (contains_formula (contains_pattern p) (string_bytes v)) };
+    ghost formula = { λ p v. IsContainsLeaf (contains_pattern p) (string_bytes v) };
 
     ghost steady = { λ p v. Unit {0} };
 
-    ghost text_fits = { λ p v f. exactly_text_fits };
+    ghost text_fits = { λ p v f. contains_text_fits };
 
-    ghost one_formula = { λ p v f g lawful. one_exactly };
+    ghost one_formula = { λ p v f g lawful. one_contains };
 
-    #[tactic(auto, using(crate::proofs::Showing::text_leaves))]
+    #[tactic(auto, using(crate::proofs::Showing::meant_leaves))]
     fn eval(&self, _alloc: Global, item: &String) -> Result<bool, AllocError> {
         Ok(parts::contains(&self.pattern, item))
     }
 
-    #[tactic(auto, using(crate::proofs::Showing::text_leaves))]
+    #[tactic(auto, using(crate::proofs::Showing::meant_leaves))]
     fn find_case(
         &self,
         alloc: Global,
@@ -95,7 +103,7 @@ impl Total<String> for ContainsPredicate {
 
     ghost always_lawful = { λ p. tt };
 
-    ghost has_formula = { λ p v. record { is = refl } };
+    ghost has_formula = { λ p v. has_contains (contains_pattern p) (string_bytes v) };
 }
 
 impl ReadsContent<String> for ContainsPredicate {
@@ -103,5 +111,5 @@ impl ReadsContent<String> for ContainsPredicate {
 
     ghost always_lawful = { λ p. tt };
 
-    ghost has_formula = { λ p v. record { is = refl } };
+    ghost has_formula = { λ p t. has_contains (contains_pattern p) (string_bytes t) };
 }

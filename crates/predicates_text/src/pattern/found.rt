@@ -1,13 +1,15 @@
 //! Whether a regular expression has a match in a text.
-ghost use Rattle.std.specs.Prelude.{◌≡◌, ◌≢◌, [], refl, IfOk, IfErr, string_bytes};
+ghost use Rattle.std.specs.Prelude.{◌≡◌, ◌≢◌, ◌↔◌, [], refl, IfOk, IfErr, string_bytes};
 ghost use Rattle.regex.specs.Patterns.{default_config};
 ghost use Rattle.regex.specs.Sources.{IsRefusal};
 ghost use Rattle.regex.specs.Failures.{IsRightKind, HasSpanIn};
 ghost use Rattle.regex.specs.declared.error.Error.TheVariants.{Internal};
+ghost use Rattle.predicates_core.specs.Text.{Text};
+ghost use Rattle.predicates_core.specs.Formula.{Formula};
 ghost use Rattle.predicates_core.specs.Tree.{empty};
 ghost use Rattle.predicates_core.specs.Leaves.{IsExactly};
 ghost use Rattle.predicates_core.proofs.Leaves.{exactly_text_fits, one_exactly};
-ghost use Rattle.predicates_text.specs.Pattern.{match_text, match_formula, regex_text, regex_meaning, regex_matches_text, regex_matches_meaning, regex_matches_count, IsReadFromText};
+ghost use Rattle.predicates_text.specs.Pattern.{match_text, match_formula, match_count_formula, regex_text, regex_meaning, regex_matches_text, regex_matches_meaning, regex_matches_count, IsReadFromText};
 
 use crate::node::text_node;
 use crate::pattern::search::has_match;
@@ -30,6 +32,9 @@ pub struct RegexPredicate {
 pub fn is_match(alloc: Global, pattern: String) -> Result<RegexPredicate, RegexError>
     ensures pattern { IfOk result (λ p. regex_text p ≡ string_bytes pattern) }
     ensures read { IfOk result (λ p. IsReadFromText p) }
+    ensures formula { IfOk result (λ p. (v : Text) (f : Formula) →
+        ⟦<RegexPredicate as Predicate<String>>⟧.formula p v f
+        ↔ IsExactly (match_formula (string_bytes pattern) (regex_meaning p) (string_bytes v)) f) }
     ensures refused { IfErr result (IsRefusal default_config (string_bytes pattern)) }
     ensures kind { IfErr result (IsRightKind default_config (string_bytes pattern)) }
     ensures span { IfErr result (HasSpanIn (string_bytes pattern)) }
@@ -45,6 +50,10 @@ impl RegexPredicate {
         ensures pattern { regex_matches_text result ≡ regex_text self }
         ensures meaning { regex_matches_meaning result ≡ regex_meaning self }
         ensures count { regex_matches_count result ≡ count }
+        ensures formula { (v : Text) (f : Formula) →
+            ⟦<RegexMatchesPredicate as Predicate<String>>⟧.formula result v f
+            ↔ IsExactly (match_count_formula
+            (regex_text self) (regex_meaning self) count (string_bytes v)) f }
     {
         RegexMatchesPredicate::new(self.pattern, self.regex, count)
     }

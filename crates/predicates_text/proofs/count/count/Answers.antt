@@ -3,7 +3,7 @@ use Rattle.std.specs.Str.{chars}
 use Rattle.std.proofs.lemmas.List.{nil_from_length}
 use Rattle.std.proofs.lemmas.Str.{chars_from_encodes}
 use Rattle.predicates_text.specs.Count.{IsCountOf}
-use Rattle.predicates_text.proofs.Counted.{count_of_is}
+use Rattle.predicates_text.specs.CountLaws.{count_of_is}
 use Rattle.predicates_text.proofs.OneByte.{byte_count}
 use Rattle.predicates_text.proofs.Counting.{count_empty_text, counted_on}
 use Rattle.predicates_text.proofs.count.count.Goals as goal

@@ -1,5 +1,5 @@
 use Rattle.predicates_text.proofs.Found.{ends_chars}
-use Rattle.predicates_text.proofs.Telling.{back_tells, same_test}
+use Rattle.predicates_text.specs.PartLaws.{back_tells, same_test}
 use Rattle.predicates_text.proofs.parts.ends_with.Goals as goal
 
 pub returns : goal.returns

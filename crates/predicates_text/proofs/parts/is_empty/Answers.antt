@@ -1,7 +1,7 @@
 use Rattle.std.proofs.Common.{◌≡◌, ◌↔◌, [], IsTrue, arith}
 use Rattle.std.specs.Str.{chars}
 use Rattle.predicates_text.proofs.Found.{empty_chars}
-use Rattle.predicates_text.proofs.Telling.{empty_tells, same_test}
+use Rattle.predicates_text.specs.PartLaws.{empty_tells, same_test}
 use Rattle.predicates_text.proofs.parts.is_empty.Goals as goal
 
 pub returns : goal.returns

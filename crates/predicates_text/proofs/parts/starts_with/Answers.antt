@@ -1,5 +1,5 @@
 use Rattle.predicates_text.proofs.Found.{starts_chars}
-use Rattle.predicates_text.proofs.Telling.{front_tells, same_test}
+use Rattle.predicates_text.specs.PartLaws.{front_tells, same_test}
 use Rattle.predicates_text.proofs.parts.starts_with.Goals as goal
 
 pub returns : goal.returns

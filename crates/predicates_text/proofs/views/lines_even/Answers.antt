@@ -13,12 +13,10 @@ loop-line-init c =
 
 pub loop-line-preserved : goal.loop-line-preserved
 loop-line-preserved c =
-    let ascii : 10 < 128 = lit< tt in
-    let feed = c.in_ok-push.ensures.ascii ascii in
-    let written : string_bytes c.push.new.self ≡ (string_bytes c.loop-line.even ++ c.in-Some.line.now) ++ (10 ∷ []) =
-    c.in_ok-push.ensures.bytes ∙ ap (λ l. l ++ encode_utf8 10) c.in_ok-push_str.ensures.bytes ∙ ap (λ l. (string_bytes c.loop-line.even ++ c.in-Some.line.now) ++ l) feed in
-    let next : IsLineTurn (string_bytes c.loop-line.even) c.loop-line.rest.now (string_bytes c.push.new.self) c.unwrap_or-rest.result.now =
-    line_turn (string_bytes c.loop-line.even) c.loop-line.rest.now c.in-Some.line.now (string_bytes c.push.new.self) c.in-Some.after c.unwrap_or-rest.result c.strip_prefix.result
+    let written : string_bytes c.push_str-in-Some.new.self ≡ (string_bytes c.loop-line.even ++ c.in-Some.line.now) ++ (10 ∷ []) =
+    c.in_ok-push_str-2.ensures.bytes ∙ ap (λ l. l ++ (10 ∷ [])) c.in_ok-push_str.ensures.bytes in
+    let next : IsLineTurn (string_bytes c.loop-line.even) c.loop-line.rest.now (string_bytes c.push_str-in-Some.new.self) c.unwrap_or-rest.result.now =
+    line_turn (string_bytes c.loop-line.even) c.loop-line.rest.now c.in-Some.line.now (string_bytes c.push_str-in-Some.new.self) c.in-Some.after c.unwrap_or-rest.result c.strip_prefix.result
     (IsUtf8-string_bytes c.loop-line.even) c.loop-line.invariant.0 c.in-Some.ensures.cases written c.unwrap_or-rest.ensures c.strip_prefix.ensures.cases in
     (next.text, next.keeps ∙ c.loop-line.invariant.1)
 
@@ -26,7 +24,7 @@ pub returns : goal.returns
 returns c =
     let view : chars (string_bytes c.push_str-2.new.self) ≡ lines_even (chars c.args.text.now) =
     line_end (string_bytes c.loop-line.even) c.loop-line.rest.now (string_bytes c.push_str-2.new.self)
-    (IsUtf8-string_bytes c.loop-line.even) c.loop-line.invariant.0 c.in_default.ensures.cases c.in_ok-push_str-2.ensures.bytes
+    (IsUtf8-string_bytes c.loop-line.even) c.loop-line.invariant.0 c.in_default.ensures.cases c.in_ok-push_str-3.ensures.bytes
     ∙ c.loop-line.invariant.1 in
     record {
       view = view;

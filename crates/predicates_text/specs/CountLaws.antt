@@ -1,4 +1,4 @@
--- The count as a function is the count.
+-- The count as a function is the count, and there is one count.
 use Rattle.std.proofs.Common.{◌≡◌, List, [], ◌∷◌, ◌++◌, ℕ, zero, suc, ◌-◌, ◌≤◌, false, eqb, length, drop, sym, ◌∙◌, ap, refl, subst, ⊎_elim, arith, length-append}
 use Rattle.std.specs.List.{starts_with}
 use Rattle.std.proofs.lemmas.Bool.{cases_Bool, false≢true}
@@ -6,7 +6,7 @@ use Rattle.std.proofs.lemmas.Bool.Decides.{Decides-eqb}
 use Rattle.std.proofs.lemmas.Slice.Eq.{starts_is}
 use Rattle.predicates_text.specs.Parts.{StandsAt}
 use Rattle.predicates_text.specs.Count.{IsCountOf, count_of, count_past}
-use Rattle.predicates_text.proofs.Counting.{count_none, count_more, count_later, count_empty}
+use Rattle.predicates_text.specs.Counting.{count_none, count_more, count_later, count_empty}
 
 -- of two counts of one text in another, neither is larger
 pub count_unique : (s t : List ℕ) (m n : ℕ) → IsCountOf s t m → IsCountOf s t n → m ≡ n
