@@ -1,5 +1,7 @@
 pub mod BlockLemmas
+pub mod Ending
 pub mod Numerals
 pub mod Progress
 pub mod Same
 pub mod Splitting
+pub mod Typing

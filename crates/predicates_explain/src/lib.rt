@@ -6,6 +6,7 @@ mod block;
 mod check;
 mod fault;
 mod numeral;
+mod program;
 mod run;
 mod text;
 mod words;
@@ -15,6 +16,7 @@ pub use block::{explain_one, explain_total};
 pub use check::TextCheck;
 pub use fault::RunFault;
 pub use numeral::number;
+pub use program::{Ended, explain_words, run_program};
 pub use text::run_text;
 pub use words::{Word, WordFault, apply_word, read_word};
 
