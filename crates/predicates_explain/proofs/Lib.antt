@@ -1,5 +1,6 @@
 pub mod BlockLemmas
 pub mod Ending
+pub mod Meant
 pub mod Numerals
 pub mod Progress
 pub mod Same

@@ -5,6 +5,7 @@ mod between;
 mod block;
 mod check;
 mod fault;
+pub mod laws;
 mod numeral;
 mod program;
 mod run;

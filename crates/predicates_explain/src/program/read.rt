@@ -1,5 +1,5 @@
 //! What the words of a command line ask for.
-ghost use Rattle.std.specs.Prelude.{◌≡◌, ◌≢◌, ℤ, [], ◌∷◌, IfOk, IfErr, OnOk, MatchOption};
+ghost use Rattle.std.specs.Prelude.{◌≡◌, ◌≢◌, ◌↔◌, ℤ, [], ◌∷◌, IfOk, IfErr, IsTrue, OnOk, MatchOption};
 ghost use Rattle.predicates_explain.specs.declared.words.word.Word.{Word};
 ghost use Rattle.predicates_explain.specs.Tokens.{token_of};
 ghost use Rattle.predicates_explain.specs.Number.{Reads};
@@ -53,13 +53,19 @@ fn read_checks(alloc: Global, tokens: &[Vec<u8>]) -> Result<Vec<TextCheck>, End>
     Ok(stack)
 }
 
+fn is_one(count: usize) -> bool
+    ensures { IsTrue result ↔ (count ≡ 1) }
+{
+    count == 1
+}
+
 // The one check that the tokens leave.
 pub(super) fn read_check(alloc: Global, tokens: &[Vec<u8>]) -> Result<TextCheck, End>
     ensures made { IfOk result (λ check. Makes (typed tokens.now) [] (check ∷ [])) }
     ensures fault { IfErr result (HasTokensFault (typed tokens.now)) }
 {
     let mut stack = read_checks(alloc, tokens)?;
-    if stack.len() != 1 {
+    if !is_one(stack.len()) {
         return Err(End::Usage);
     }
     stack.pop().ok_or(End::Usage)
