@@ -49,7 +49,7 @@ fn many_lines(rt: HostRuntime) -> Result<(), Fail> {
 #[test]
 fn long_lines(rt: HostRuntime) -> Result<(), Fail> {
     let alloc = rt.alloc();
-    for size in [300usize, 70_000] {
+    for size in [256usize, 300, 70_000] {
         let mut number = repeated(alloc, "0", size)?;
         number.push(b'7')?;
         let written = answer(alloc, b"between|5|10", &number)?;
@@ -61,7 +61,11 @@ fn long_lines(rt: HostRuntime) -> Result<(), Fail> {
                 "line 1: false\nvar.contains(a) = false\n  - var: ",
             ),
             (
-                b"text|match=b$".as_slice(),
+                b"text|contains=b|normalize|trim",
+                "line 1: true\nvar.contains(b) = true\n  - var: ",
+            ),
+            (
+                b"text|match=b$",
                 "line 1: true\nvar.is_match(b$) = true\n  - var: ",
             ),
         ] {
