@@ -1,5 +1,8 @@
 pub mod BlockLemmas
+pub mod Ending
+pub mod Meant
 pub mod Numerals
 pub mod Progress
 pub mod Same
 pub mod Splitting
+pub mod Typing

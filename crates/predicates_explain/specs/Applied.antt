@@ -1,8 +1,5 @@
 -- What a word makes of a stack of checks.
 use Rattle.std.specs.Prelude.{◌≡◌, ℕ, List, [], ◌∷◌, ◌++◌, string_bytes}
-use Rattle.regex.specs.Patterns.{default_config}
-use Rattle.regex.specs.Sources.{IsRefusal}
-use Rattle.regex.specs.declared.error.Error.{Error}
 use Rattle.predicates.specs.Makers.{equal_to}
 use Rattle.predicates_text.specs.Held.{starts_pattern, ends_pattern, contains_pattern}
 use Rattle.predicates_text.specs.Pattern.{regex_text, IsReadFromText}
@@ -54,7 +51,7 @@ pub record IsApplied (word : Word) (old new : List TextCheck) : Type 0 where
   pub made : IsMade word old left check
   pub pushed : new ≡ left ++ check ∷ []
 
--- the word holds a regular expression that is refused
-abbrev pub IsRefusedPattern : Word → Type 0
-IsRefusedPattern (Matches text) = (error : Error) × IsRefusal default_config (string_bytes text) error
-IsRefusedPattern _ = ⊥
+-- the word holds a regular expression
+abbrev pub IsPattern : Word → Type 0
+IsPattern (Matches text) = Unit {0}
+IsPattern _ = ⊥

@@ -3,9 +3,12 @@ pub mod Applied
 pub mod Blocks
 pub mod CheckLaws
 pub mod Checks
+pub mod Ends
 pub mod Fault
+pub mod Meaning
 pub mod Number
 pub mod Runs
 pub mod TextAnswers
 pub mod Tokens
+pub mod Typed
 pub mod WordFault

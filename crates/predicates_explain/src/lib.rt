@@ -5,7 +5,9 @@ mod between;
 mod block;
 mod check;
 mod fault;
+pub mod laws;
 mod numeral;
+mod program;
 mod run;
 mod text;
 mod words;
@@ -15,6 +17,7 @@ pub use block::{explain_one, explain_total};
 pub use check::TextCheck;
 pub use fault::RunFault;
 pub use numeral::number;
+pub use program::{Ended, explain_words, run_program};
 pub use text::run_text;
 pub use words::{Word, WordFault, apply_word, read_word};
 

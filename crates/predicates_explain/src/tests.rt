@@ -1,5 +1,5 @@
 //! What no contract says: that calls succeed, and where faults come from.
-mod streams;
+pub(crate) mod streams;
 mod texts;
 
 use crate::{RunFault, explain_one, explain_total, number, run_between};

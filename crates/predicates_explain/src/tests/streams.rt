@@ -111,3 +111,69 @@ impl Write for Unflushed {
         Err(Error::from(ErrorKind::BrokenPipe))
     }
 }
+
+// A reader that fails after so many calls, with an error of this kind.
+#[derive(Drop)]
+pub struct FailingReader<'a> {
+    pub bytes: &'a [u8],
+    pub calls: usize,
+    pub kind: ErrorKind,
+}
+
+impl FailingReader<'_> {
+    fn call(&mut self) -> io::Result<()> {
+        if self.calls == 0 {
+            return Err(Error::from(self.kind));
+        }
+        self.calls -= 1;
+        Ok(())
+    }
+}
+
+impl Read for FailingReader<'_> {
+    fn read(&mut self, buf: &mut [u8]) -> io::Result<usize> {
+        self.call()?;
+        self.bytes.read(buf)
+    }
+}
+
+impl BufRead for FailingReader<'_> {
+    fn fill_buf(&mut self) -> io::Result<&[u8]> {
+        self.call()?;
+        Ok(self.bytes)
+    }
+
+    fn consume(&mut self, amount: usize) {
+        let all = self.bytes;
+        let taken = amount.min(all.len());
+        self.bytes = &all[taken..];
+    }
+}
+
+// A writer that fails after so many calls, with an error of this kind.
+#[derive(Drop)]
+pub struct FailingWriter {
+    pub calls: usize,
+    pub kind: ErrorKind,
+}
+
+impl FailingWriter {
+    fn call(&mut self) -> io::Result<()> {
+        if self.calls == 0 {
+            return Err(Error::from(self.kind));
+        }
+        self.calls -= 1;
+        Ok(())
+    }
+}
+
+impl Write for FailingWriter {
+    fn write(&mut self, buf: &[u8]) -> io::Result<usize> {
+        self.call()?;
+        Ok(buf.len())
+    }
+
+    fn flush(&mut self) -> io::Result<()> {
+        self.call()
+    }
+}

@@ -1,6 +1,6 @@
 //! What a word makes of the checks before it.
 ghost use Rattle.std.specs.Prelude.{◌≡◌, ◌≢◌, ◌↔◌, ◌<◌, [], ◌∷◌, ◌++◌, IfOk, IfErr, OnOk, Err, length};
-ghost use Rattle.predicates_explain.specs.Applied.{operand_count, IsMade, IsApplied, IsRefusedPattern};
+ghost use Rattle.predicates_explain.specs.Applied.{operand_count, IsMade, IsApplied, IsPattern};
 
 use crate::check::TextCheck;
 use crate::words::{Word, WordFault};
@@ -44,7 +44,7 @@ fn take_two(
 fn make_check(alloc: Global, stack: &mut Vec<TextCheck>, word: Word) -> Result<TextCheck, WordFault>
     ensures made { IfOk result (IsMade word stack.old.items stack.new.items) }
     ensures operand { (result ≡ Err WordFault.Operand) ↔ (length stack.old.items < operand_count word) }
-    ensures pattern { result ≡ Err WordFault.Pattern → IsRefusedPattern word }
+    ensures pattern { result ≡ Err WordFault.Pattern → IsPattern word }
     ensures unchanged { IfErr result (λ fault. fault ≢ WordFault.NoMemory → stack.new.items ≡ stack.old.items) }
 {
     match word {
@@ -79,7 +79,7 @@ fn make_check(alloc: Global, stack: &mut Vec<TextCheck>, word: Word) -> Result<T
 pub fn apply_word(alloc: Global, stack: &mut Vec<TextCheck>, word: Word) -> Result<(), WordFault>
     ensures applied { OnOk result (IsApplied word stack.old.items stack.new.items) }
     ensures operand { (result ≡ Err WordFault.Operand) ↔ (length stack.old.items < operand_count word) }
-    ensures pattern { result ≡ Err WordFault.Pattern → IsRefusedPattern word }
+    ensures pattern { result ≡ Err WordFault.Pattern → IsPattern word }
     ensures unchanged { IfErr result (λ fault. fault ≢ WordFault.NoMemory → stack.new.items ≡ stack.old.items) }
 {
     let check = make_check(alloc, stack, word)?;

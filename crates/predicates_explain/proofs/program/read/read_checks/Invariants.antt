@@ -1,0 +1,6 @@
+use Rattle.std.proofs.Common.{[], take}
+use Rattle.predicates_explain.specs.Typed.{typed, Makes}
+use Rattle.predicates_explain.proofs.program.read.read_checks.Given as goal
+
+abbrev pub invariant-loop-token : goal.invariant-loop-token
+invariant-loop-token l = Makes (typed (take l.token-index l.tokens)) [] l.stack.items

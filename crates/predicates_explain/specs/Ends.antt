@@ -1,0 +1,71 @@
+-- How a call of the program ends: its status, and what it says of it.
+use Rattle.std.specs.Prelude.{◌≡◌, ℕ, Bool, true, false, List, [], Option, Result, Ok, Err, IsTrue, codes}
+use Rattle.std.specs.Io.KnownBytes.{Appends}
+use Rattle.predicates_explain.specs.Typed.{FailsFirst, IsWrongToken, IsPatternToken, AreWrongTokens, AreWrongWords, AreRightWords, HasRefusedPattern, HasRunOf}
+use Rattle.predicates_explain.specs.declared.check.TextCheck.{TextCheck}
+use Rattle.predicates_explain.specs.declared.fault.RunFault.{RunFault}
+use Rattle.predicates_explain.specs.declared.fault.RunFault.TheVariants.{NoMemory as RunNoMemory, Input, Output}
+use Rattle.predicates_explain.specs.declared.program.end.End.{End}
+use Rattle.predicates_explain.specs.declared.program.end.End.TheVariants.{AllItems, NotAllItems, Usage, PatternRefused, NoMemory, InputOrOutput}
+use Rattle.predicates_explain.specs.declared.program.end.Ended.{Ended}
+
+abbrev pub status_of : End → ℕ
+status_of AllItems = 0
+status_of NotAllItems = 1
+status_of Usage = 2
+status_of PatternRefused = 2
+status_of NoMemory = 3
+status_of InputOrOutput = 3
+
+abbrev pub message_of : End → List ℕ
+message_of AllItems = []
+message_of NotAllItems = []
+message_of Usage = codes "usage: explain between LO HI\nusage: explain text TOKEN..\n"
+message_of PatternRefused = codes "explain: pattern refused\n"
+message_of NoMemory = codes "explain: no memory\n"
+message_of InputOrOutput = codes "explain: input or output fault\n"
+
+-- what a run that gave up comes to
+abbrev pub end_of_fault : RunFault → End
+end_of_fault RunNoMemory = NoMemory
+end_of_fault Input = InputOrOutput
+end_of_fault Output = InputOrOutput
+
+abbrev pub end_of_ran : Result Bool RunFault → End
+end_of_ran (Ok true) = AllItems
+end_of_ran (Ok false) = NotAllItems
+end_of_ran (Err fault) = end_of_fault fault
+
+-- what ends the reading of tokens at this one
+abbrev pub IsTokenFault : List TextCheck → List ℕ → End → Type 0
+IsTokenFault stack token Usage = IsWrongToken stack token
+IsTokenFault stack token PatternRefused = IsPatternToken stack token
+IsTokenFault stack token NoMemory = Unit {0}
+IsTokenFault stack token _ = ⊥
+
+-- what ends the reading of all tokens
+abbrev pub HasTokensFault : List (List ℕ) → End → Type 0
+HasTokensFault tokens Usage = AreWrongTokens tokens
+HasTokensFault tokens PatternRefused = FailsFirst tokens IsPatternToken
+HasTokensFault tokens NoMemory = Unit {0}
+HasTokensFault tokens _ = ⊥
+
+-- when the program ends so, for these words; `untouched` says that nothing was read or written
+abbrev pub EndsBy : List (List ℕ) → Type 0 → Option (List ℕ) → Option (List ℕ) → Option (List ℕ) → Option (List ℕ) → End → Type 0
+EndsBy words untouched r0 r1 w0 w1 AllItems = HasRunOf words r0 r1 w0 w1 true
+EndsBy words untouched r0 r1 w0 w1 NotAllItems = HasRunOf words r0 r1 w0 w1 false
+EndsBy words untouched r0 r1 w0 w1 Usage = AreWrongWords words × untouched
+EndsBy words untouched r0 r1 w0 w1 PatternRefused = HasRefusedPattern words × untouched
+EndsBy words untouched r0 r1 w0 w1 NoMemory = Unit {0}
+EndsBy words untouched r0 r1 w0 w1 InputOrOutput = AreRightWords words
+
+-- the status is that of an end, and where the message was told it is that of the same end
+pub record HasTold (end : End) (before after : Option (List ℕ)) (ended : Ended) : Type 0 where
+  pub status : ended.status ≡ status_of end
+  pub message : IsTrue ended.told → Appends before after (message_of end)
+
+-- the program ended as the words ask for
+pub record HasEnded (words : List (List ℕ)) (untouched : Type 0) (r0 r1 w0 w1 m0 m1 : Option (List ℕ)) (ended : Ended) : Type 0 where
+  pub end : End
+  pub by : EndsBy words untouched r0 r1 w0 w1 end
+  pub told : HasTold end m0 m1 ended

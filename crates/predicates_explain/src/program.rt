@@ -1,0 +1,12 @@
+//! The program `explain`: what its words ask for, what it writes, and how it ends.
+
+mod answer;
+mod end;
+mod read;
+mod runtime;
+#[cfg(test)]
+mod tests;
+
+pub use answer::explain_words;
+pub use end::Ended;
+pub use runtime::run_program;

@@ -1,0 +1,70 @@
+//! What the program does for the words of its command line.
+ghost use Rattle.std.specs.Prelude.{◌≡◌, ◌↔◌, IsTrue};
+ghost use Rattle.predicates_explain.specs.Ends.{end_of_ran, EndsBy, HasEnded};
+ghost use Rattle.predicates_explain.specs.Typed.{typed};
+
+use super::end::{End, Ended, end_of};
+use super::read::{read_bounds, read_check};
+use crate::between::run_between;
+use crate::fault::RunFault;
+use crate::text::run_text;
+use std::alloc::Global;
+use std::io::{BufRead, Write};
+
+// How a run ended.
+fn end_of_run(ran: Result<bool, RunFault>) -> End
+    ensures { result ≡ end_of_ran ran }
+{
+    match ran {
+        Ok(true) => End::AllItems,
+        Ok(false) => End::NotAllItems,
+        Err(fault) => end_of(fault),
+    }
+}
+
+fn is_name(word: &Vec<u8>, name: &str) -> bool
+    ensures { IsTrue result ↔ (word.now.items ≡ name.now) }
+{
+    word.as_slice() == name.as_bytes()
+}
+
+// Answers the input, if the words ask for it.
+fn run_words<R: BufRead, W: Write>(
+    alloc: Global,
+    words: &[Vec<u8>],
+    input: &mut R,
+    output: &mut W,
+) -> End
+    ensures { EndsBy (typed words.now) ((input.new ≡ input.old) × (output.new ≡ output.old))
+        (R.remaining input.old) (R.remaining input.new)
+        (W.contents output.old) (W.contents output.new) result }
+{
+    match words {
+        [name, bounds @ ..] if is_name(name, "between") => match read_bounds(bounds) {
+            Some((lo, hi)) => end_of_run(run_between(alloc, lo, hi, input, output)),
+            None => End::Usage,
+        },
+        [name, tokens @ ..] if is_name(name, "text") => match read_check(alloc, tokens) {
+            Ok(check) => end_of_run(run_text(alloc, &check, input, output)),
+            Err(end) => end,
+        },
+        _ => End::Usage,
+    }
+}
+
+/// Does what the words after the program's name ask for: answers the lines of the input on the output, and
+/// writes to `messages` what standard error is told. A word that is no text is a wrong word.
+pub fn explain_words<R: BufRead, W: Write, M: Write>(
+    alloc: Global,
+    words: &[Vec<u8>],
+    input: &mut R,
+    output: &mut W,
+    messages: &mut M,
+) -> Ended
+    ensures { HasEnded (typed words.now) ((input.new ≡ input.old) × (output.new ≡ output.old))
+        (R.remaining input.old) (R.remaining input.new)
+        (W.contents output.old) (W.contents output.new)
+        (M.contents messages.old) (M.contents messages.new) result }
+{
+    run_words(alloc, words, input, output).tell(messages)
+}

@@ -1,0 +1,79 @@
+//! The program over what its process is given.
+use super::answer::explain_words;
+use super::end::{End, Ended};
+use std::alloc::{AllocError, Global};
+use std::env::FillError;
+use std::io::{BufReader, BufWriter, Error, ErrorKind, Write};
+use std::rt::Env;
+use std::{io, str};
+
+// Standard error, as a place for texts.
+#[derive(Drop)]
+struct Messages<'a, E> {
+    rt: &'a E,
+}
+
+impl<E: Eprint> Write for Messages<'_, E> {
+    fn write(&mut self, buf: &[u8]) -> io::Result<usize> {
+        let Ok(text) = str::from_utf8(buf) else {
+            return Err(Error::from(ErrorKind::InvalidData));
+        };
+        self.rt.eprint(text)?;
+        Ok(buf.len())
+    }
+
+    fn flush(&mut self) -> io::Result<()> {
+        Ok(())
+    }
+}
+
+// The word at the place, or `None` past the last one.
+fn read_word<E: Env>(alloc: Global, rt: &E, place: usize) -> Result<Option<Vec<u8>>, AllocError> {
+    let mut room = 256usize;
+    for _ in 0..usize::BITS {
+        let mut word = Vec::new(alloc);
+        word.resize(room, 0)?;
+        match rt.arg(place, &mut word) {
+            Ok(taken) => {
+                word.truncate(taken);
+                return Ok(Some(word));
+            }
+            Err(FillError::NotPresent) => return Ok(None),
+            Err(FillError::TooLong) => room = room.saturating_add(room),
+        }
+    }
+    Err(AllocError)
+}
+
+// The words after the program's name.
+fn read_words<E: Env>(alloc: Global, rt: &E) -> Result<Vec<Vec<u8>>, AllocError> {
+    let mut words = Vec::new(alloc);
+    for place in 1..usize::MAX {
+        match read_word(alloc, rt, place)? {
+            Some(word) => words.push(word)?,
+            None => break,
+        }
+    }
+    Ok(words)
+}
+
+// Does what the words ask for, or has no memory for the words and the buffers.
+fn answer<E: Env + Input + Print + AllocGlobal, M: Write>(
+    rt: &E,
+    messages: &mut M,
+) -> io::Result<Ended> {
+    let alloc = rt.alloc();
+    let words = read_words(alloc, rt)?;
+    let mut input = BufReader::new(alloc, rt.reader())?;
+    let mut output = BufWriter::new(alloc, io::writer(rt))?;
+    Ok(explain_words(alloc, &words, &mut input, &mut output, messages))
+}
+
+/// Runs the program on the words, the streams and the memory of a process, and answers the process's status.
+pub fn run_program<E: Env + Input + Print + Eprint + AllocGlobal>(rt: &E) -> u8 {
+    let mut messages = Messages { rt };
+    match answer(rt, &mut messages) {
+        Ok(ended) => ended.status,
+        Err(_) => End::NoMemory.tell(&mut messages).status,
+    }
+}

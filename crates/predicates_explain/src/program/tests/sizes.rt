@@ -1,0 +1,131 @@
+//! Large and empty operands.
+use super::split_words;
+use crate::explain_one;
+use crate::program::explain_words;
+use predicates::ord::ge;
+use std::alloc::Global;
+use std::test::Fail;
+
+const SEVEN: &str =
+    "7: true\n(var >= 5 && var <= 10) = true\n  left: var >= 5 = true\n    - var: 7\n  right: var <= 10 = true\n    - var: 7\n";
+
+// What is written for the input, where every line is an item.
+fn answer(alloc: Global, line: &[u8], input: &[u8]) -> Result<Vec<u8>, Fail> {
+    let words = split_words(alloc, line)?;
+    let mut reader = input;
+    let mut written = Vec::new(alloc);
+    let mut told = Vec::new(alloc);
+    let ended = explain_words(alloc, &words, &mut reader, &mut written, &mut told);
+    if ended.status != 0 || !reader.is_empty() || !told.is_empty() {
+        return Err("another end".into());
+    }
+    Ok(written)
+}
+
+// The text, so many times.
+fn repeated(alloc: Global, text: &str, count: usize) -> Result<Vec<u8>, Fail> {
+    let mut all = Vec::new(alloc);
+    for _ in 0..count {
+        all.extend_from_slice(text.as_bytes())?;
+    }
+    Ok(all)
+}
+
+#[test]
+fn many_lines(rt: HostRuntime) -> Result<(), Fail> {
+    let alloc = rt.alloc();
+    for (count, last) in [(300, "line 300"), (70_000, "line 70000")] {
+        let input = repeated(alloc, "7\n", count)?;
+        let written = answer(alloc, b"between|5|10", &input)?;
+        assert!(rt; written == repeated(alloc, SEVEN, count)?, "at {count}");
+        let written = answer(alloc, b"text|empty", &input)?;
+        let mut end = String::from_str(alloc, last)?;
+        end.push_str(": false\nvar.is_empty() = false\n  - var: 7\n")?;
+        assert!(rt; written.ends_with(end.as_bytes()), "at {count}");
+    }
+    Ok(())
+}
+
+#[test]
+fn long_lines(rt: HostRuntime) -> Result<(), Fail> {
+    let alloc = rt.alloc();
+    for size in [256usize, 300, 70_000] {
+        let mut number = repeated(alloc, "0", size)?;
+        number.push(b'7')?;
+        let written = answer(alloc, b"between|5|10", &number)?;
+        assert_eq!(rt; written.as_slice(), SEVEN.as_bytes(), "at {size}");
+        let line = repeated(alloc, "b", size)?;
+        for (words, begin) in [
+            (
+                b"text|contains=a".as_slice(),
+                "line 1: false\nvar.contains(a) = false\n  - var: ",
+            ),
+            (
+                b"text|contains=b|normalize|trim",
+                "line 1: true\nvar.contains(b) = true\n  - var: ",
+            ),
+            (
+                b"text|match=b$",
+                "line 1: true\nvar.is_match(b$) = true\n  - var: ",
+            ),
+        ] {
+            let written = answer(alloc, words, &line)?;
+            let mut expected = Vec::new(alloc);
+            expected.extend_from_slice(begin.as_bytes())?;
+            expected.extend_from_slice(&line)?;
+            expected.push(b'\n')?;
+            assert!(rt; written == expected, "at {size}, {words:?}");
+        }
+    }
+    Ok(())
+}
+
+// 300 checks stand on the stack before they are joined.
+#[test]
+fn many_words(rt: HostRuntime) -> Result<(), Fail> {
+    let alloc = rt.alloc();
+    let mut line = Vec::new(alloc);
+    line.extend_from_slice(b"text")?;
+    line.extend_from_slice(&repeated(alloc, "|empty", 300)?)?;
+    line.extend_from_slice(&repeated(alloc, "|or", 299)?)?;
+    let written = answer(alloc, &line, b"\n")?;
+    assert!(rt; written.starts_with(b"line 1: true\n(var.is_empty() || (var.is_empty() || ("));
+    assert!(rt; written.ends_with(b") = true\n  left: var.is_empty() = true\n    - var: \n"));
+    Ok(())
+}
+
+// Texts and labels of no characters.
+#[test]
+fn nothing(rt: HostRuntime) -> Result<(), Fail> {
+    let alloc = rt.alloc();
+    for (words, expected) in [
+        (
+            b"text|match=".as_slice(),
+            "line 1: true\nvar.is_match() = true\n  - var: a\n",
+        ),
+        (
+            b"text|eq=",
+            "line 1: false\nvar == \"\" = false\n  - var: \"a\"\n",
+        ),
+        (
+            b"text|starts=",
+            "line 1: true\nvar.starts_with(\"\") = true\n  - var: a\n",
+        ),
+        (
+            b"text|ends=",
+            "line 1: true\nvar.ends_with(\"\") = true\n  - var: a\n",
+        ),
+        (
+            b"text|contains=",
+            "line 1: true\nvar.contains() = true\n  - var: a\n",
+        ),
+    ] {
+        let written = answer(alloc, words, b"a")?;
+        assert_eq!(rt; written.as_slice(), expected.as_bytes(), "at {words:?}");
+    }
+    assert_eq!(rt;
+        explain_one(alloc, &ge(5), "", &7)?.as_str(),
+        ": true\nvar >= 5 = true\n  - var: 7\n"
+    );
+    Ok(())
+}
