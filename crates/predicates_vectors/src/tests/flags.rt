@@ -1,15 +1,16 @@
 //! Flags, a width and a precision change no text of a predicate.
+use super::counting::Counting;
 use super::snapshots::{file, folder};
 use super::told::text;
 use predicates::boolean::PredicateBooleanExt;
-use predicates::constant::{always, never};
+use predicates::constant::{BooleanPredicate, always, never};
 use predicates::function::function;
 use predicates::iter::{in_hash, in_iter};
 use predicates::name::PredicateNameExt;
 use predicates::ord::{eq, ge, gt, le, lt, ne};
 use predicates::path::{
-    BinaryFilePredicate, FileTypePredicate, PredicateFileContentExt, Snapshot, StrFilePredicate,
-    eq_file, exists, is_dir, is_file, is_symlink, missing,
+    BinaryFilePredicate, FileType, FileTypePredicate, PathFault, PredicateFileContentExt, Snapshot,
+    StrFilePredicate, eq_file, exists, is_dir, is_file, is_symlink, missing,
 };
 use predicates::str::{
     PredicateStrExt, RegexPredicate, contains, ends_with, is_empty, is_match, starts_with,
@@ -18,6 +19,7 @@ use predicates::{BoxPredicate, TextPredicate};
 use predicates_core::Predicate;
 use predicates_core::static_text::StaticText;
 use std::alloc::{AllocError, Global};
+use std::cell::Cell;
 use std::fmt;
 use std::test::Fail;
 
@@ -84,6 +86,7 @@ fn flags_change_no_text_over_numbers(rt: HostRuntime) -> Result<(), Fail> {
     stands(alloc, "var in values", in_iter(alloc, [3, 1])?.sort()?)?;
     stands(alloc, "var in values", in_hash(alloc, [3, 1])?)?;
     stands(alloc, "small", lt(3).name("small"))?;
+    stands(alloc, "(var < 3 || var > 5)", lt(3).or(gt(5)))?;
     stands(alloc, "(! (var < 3 || var > 5))", lt(3).or(gt(5)).not())
 }
 
@@ -212,6 +215,53 @@ fn flags_change_no_text_in_boxes(rt: HostRuntime) -> Result<(), Fail> {
         "small",
         Box::new(alloc, is_empty().name(StaticText::new("small")))?,
     )?;
+    Ok(())
+}
+
+// A part that prints another text in a width.
+fn wide(evaluated: &Cell<usize>) -> Counting<'_, BooleanPredicate<String>> {
+    Counting {
+        held: always(),
+        evaluated,
+    }
+}
+
+#[test]
+fn parts_are_not_given_flags(rt: HostRuntime) -> Result<(), Fail> {
+    let alloc = rt.alloc();
+    let cell = Cell::new(0);
+    assert!(rt; prints(alloc, &wide(&cell).and(wide(&cell)), "(true && true)")?);
+    assert!(rt; prints(alloc, &wide(&cell).or(wide(&cell)), "(true || true)")?);
+    assert!(rt; prints(alloc, &wide(&cell).not(), "(! true)")?);
+    assert!(rt; prints(alloc, &wide(&cell).trim(), "true")?);
+    assert!(rt; prints(alloc, &wide(&cell).normalize(), "true")?);
+    assert!(rt; prints(alloc, &wide(&cell).from_utf8(), "true")?);
+    let of_file = wide(&cell).from_utf8().from_file_path();
+    assert!(rt; prints(alloc, &of_file, "true")?);
+    Ok(())
+}
+
+#[test]
+fn kinds_and_faults_of_paths(rt: HostRuntime) -> Result<(), Fail> {
+    let alloc = rt.alloc();
+    let kinds = [
+        (FileType::File, "file"),
+        (FileType::Dir, "dir"),
+        (FileType::Symlink, "symlink"),
+        (FileType::Other, "other"),
+    ];
+    for (kind, expected) in kinds {
+        assert!(rt; prints(alloc, &kind, expected)?, "{expected}");
+    }
+    let faults = [
+        (PathFault::NotFound, "not found"),
+        (PathFault::PermissionDenied, "permission denied"),
+        (PathFault::NotRegular, "not a regular file"),
+        (PathFault::Other, "other fault"),
+    ];
+    for (fault, expected) in faults {
+        assert!(rt; prints(alloc, &fault, expected)?, "{expected}");
+    }
     Ok(())
 }
 

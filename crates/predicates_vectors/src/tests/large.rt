@@ -43,7 +43,8 @@ fn nested_over_long_texts(rt: HostRuntime) -> Result<(), Fail> {
     let with_c = long_text(alloc, LENGTH, "c")?;
     let checks = starts_with(front.clone()?)
         .and(ends_with(text(alloc, "b")?))
-        .or(eq(with_c.clone()?).or(contains(with_b.clone()?).count(2)))
+        .or(eq(with_c.clone()?).or(contains(with_b.clone()?)))
+        .or(contains(with_b.clone()?).count(2))
         .trim()
         .name(StaticText::new(NAME));
     let held: Box<dyn TextPredicate> = Box::new(alloc, checks)?;
@@ -52,7 +53,9 @@ fn nested_over_long_texts(rt: HostRuntime) -> Result<(), Fail> {
     let left = format!(in alloc; "(var.starts_with(\"{front}\") && var.ends_with(\"b\"))")?;
     let right = format!(in alloc; "(var == \"{c}\" || var.contains({b}))")?;
     let (left, right) = (left.as_str(), right.as_str());
-    let all = format!(in alloc; "({left} || {right})")?;
+    let some = format!(in alloc; "({left} || {right})")?;
+    let some = some.as_str();
+    let all = format!(in alloc; "({some} || var.contains({b}))")?;
     let all = all.as_str();
     let mut found = String::new(alloc);
     tell(alloc, &mut found, &check, &format!(in alloc; "  {b}\n")?)?;
@@ -61,11 +64,12 @@ fn nested_over_long_texts(rt: HostRuntime) -> Result<(), Fail> {
 (! {NAME}) = false
   predicate: {NAME} = true
     {NAME}: {all} = true
-      left: {left} = true
-        left: var.starts_with(\"{front}\") = true
-          - var: {b}
-        right: var.ends_with(\"b\") = true
-          - var: {b}
+      left: {some} = true
+        left: {left} = true
+          left: var.starts_with(\"{front}\") = true
+            - var: {b}
+          right: var.ends_with(\"b\") = true
+            - var: {b}
 "
     )?;
     assert!(rt; found.as_str() == expected.as_str());
@@ -77,15 +81,18 @@ fn nested_over_long_texts(rt: HostRuntime) -> Result<(), Fail> {
 (! {NAME}) = true
   predicate: {NAME} = false
     {NAME}: {all} = false
-      left: {left} = false
-        right: var.ends_with(\"b\") = false
-          - var: {front}d
-      right: {right} = false
-        left: var == \"{c}\" = false
-          - var: \"{front}d\"
-        right: var.contains({b}) = false
-          - var: {front}d
-          - actual count: 0
+      left: {some} = false
+        left: {left} = false
+          right: var.ends_with(\"b\") = false
+            - var: {front}d
+        right: {right} = false
+          left: var == \"{c}\" = false
+            - var: \"{front}d\"
+          right: var.contains({b}) = false
+            - var: {front}d
+      right: var.contains({b}) = false
+        - var: {front}d
+        - actual count: 0
 (! {NAME})
   predicate: {NAME}
     {NAME}: {all}
