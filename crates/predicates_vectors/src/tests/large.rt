@@ -138,22 +138,23 @@ fn nested_over_long_contents(rt: HostRuntime) -> Result<(), Fail> {
     Ok(())
 }
 
-// The words of a formula over 2^depth leaves, at each level `and`; a leaf is true but the last one.
-fn add_parts(words: &mut Vec<NumberWord>, depth: u32, last: i64) -> Result<(), AllocError> {
-    if depth == 0 {
-        return Ok(words.push(NumberWord::AtMost(last))?);
+// The words of `and` over 128 leaves, seven levels deep, which are true but the last one.
+fn parts(alloc: Global, last: i64) -> Result<Vec<NumberWord>, AllocError> {
+    let mut words = Vec::new(alloc);
+    for number in 1..129_u32 {
+        words.push(NumberWord::AtMost(if number == 128 { last } else { 4 }))?;
+        for _ in 0..number.trailing_zeros() {
+            words.push(NumberWord::And)?;
+        }
     }
-    add_parts(words, depth - 1, 4)?;
-    add_parts(words, depth - 1, last)?;
-    Ok(words.push(NumberWord::And)?)
+    Ok(words)
 }
 
 #[test]
 fn parts_as_many_as_a_level_has(rt: HostRuntime) -> Result<(), Fail> {
     let alloc = rt.alloc();
     for (last, verdict, kept) in [(4, true, 128), (3, false, 1)] {
-        let mut words = Vec::new(alloc);
-        add_parts(&mut words, 7, last)?;
+        let words = parts(alloc, last)?;
         let formula = plain_number(alloc, words.as_slice(), 4)?.ok_or("no formula")?;
         let answers = answer_number(alloc, words, 4)?.ok_or("no predicate")?;
         let found = answers.kept(alloc, &formula)?.ok_or("no case")?;
