@@ -4,10 +4,10 @@ use super::told::{describe, tell, text};
 use predicates::boolean::PredicateBooleanExt;
 use predicates::ord::eq;
 use predicates::path::FileType::File;
-use predicates::path::PathFault::{NotFound, NotRegular, PermissionDenied};
+use predicates::path::PathFault::{NotFound, NotRegular, Other, PermissionDenied};
 use predicates::path::{
     BinaryFilePredicate, FileTypePredicate, PathFault, PredicateFileContentExt, Snapshot, eq_file,
-    exists,
+    exists, is_file,
 };
 use predicates::str::{PredicateStrExt, is_empty};
 use predicates_core::Predicate;
@@ -91,6 +91,9 @@ fn contents_of_files(rt: HostRuntime) -> Result<(), Fail> {
     let denied = snapshot(alloc, Ok(File), Ok(File), Err(PermissionDenied))?;
     tell(alloc, &mut out, &is_a, &denied)?;
     tell(alloc, &mut out, &is_a, &device(alloc)?)?;
+    let other = snapshot(alloc, Err(Other), Err(Other), Err(Other))?;
+    tell(alloc, &mut out, &is_a, &other)?;
+    tell(alloc, &mut out, &is_file(), &other)?;
     tell(alloc, &mut out, &is_a, &file(alloc, b"\xff")?)?;
     describe(alloc, &mut out, &is_a)?;
     let some = is_empty().not().from_utf8().from_file_path();
@@ -109,6 +112,11 @@ var == \"a\" = false
 var == \"a\" = false
   - var: p
   - error: not a regular file
+var == \"a\" = false
+  - var: p
+  - error: other fault
+var is file = false
+  - error: other fault
 var == \"a\" = false
   - error: Invalid UTF-8 string
   - var: p

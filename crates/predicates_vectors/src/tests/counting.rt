@@ -1,11 +1,12 @@
-//! A predicate that counts how often it is asked.
+//! A predicate that counts how often it is asked, and prints itself otherwise in a width.
 use predicates_core::Predicate;
 use predicates_core::reflection::{Case, Child, Parameter, PredicateReflection};
 use std::alloc::{AllocError, Global};
 use std::cell::Cell;
 use std::fmt;
 
-// Answers as what it holds does, and counts how often `eval` is called.
+// Answers as what it holds does, and counts how often `eval` is called. In a width it prints another
+// text.
 #[derive(Drop)]
 pub(super) struct Counting<'a, P> {
     pub(super) held: P,
@@ -16,7 +17,11 @@ impl<'a, P: fmt::Display> fmt::Display for Counting<'a, P> {
     ghost output = { λ p. P.output p.held };
 
     fn fmt<W: fmt::Write>(&self, f: &mut fmt::Formatter<W>) -> fmt::Result {
-        self.held.fmt(f)
+        if f.width().is_some() {
+            write!(f, "wide")
+        } else {
+            self.held.fmt(f)
+        }
     }
 }
 

@@ -1,4 +1,5 @@
 //! What the memberships, functions and names of the library show and say of themselves.
+use super::told::{describe, tell};
 use crate::answers::ask;
 use predicates::boolean::PredicateBooleanExt;
 use predicates::constant::never;
@@ -38,17 +39,35 @@ fn shown(parameters: &Vec<Parameter>) -> Option<(&'static str, &str)> {
 fn no_members(rt: HostRuntime) -> Result<(), Fail> {
     let alloc = rt.alloc();
     let none: [i64; 0] = [];
-    let hashed = ask(alloc, &in_hash(alloc, none)?, &1)?;
-    let case = hashed.case_false.ok_or("no case")?;
-    assert_eq!(rt;
-        render(alloc, &case)?.as_str(),
-        "var in values = false\n  - var: 1\n"
-    );
-    let mut steps = Steps::new();
     let sorted = in_iter(alloc, none)?.sort()?;
+    let mut steps = Steps::new();
     assert_eq!(rt;
         (sorted.search_counted(&1, &mut steps), steps.count()),
         (false, 0)
+    );
+    let mut found = String::new(alloc);
+    tell(alloc, &mut found, &in_iter(alloc, none)?, &1)?;
+    tell(alloc, &mut found, &sorted, &1)?;
+    tell(alloc, &mut found, &in_hash(alloc, none)?, &1)?;
+    describe(alloc, &mut found, &in_iter(alloc, none)?)?;
+    describe(alloc, &mut found, &sorted)?;
+    describe(alloc, &mut found, &in_hash(alloc, none)?)?;
+    assert_eq!(rt;
+        found.as_str(),
+        "\
+var in values = false
+  - var: 1
+var in values = false
+  - var: 1
+var in values = false
+  - var: 1
+var in values
+  - values: []
+var in values
+  - values: []
+var in values
+  - values: {}
+"
     );
     Ok(())
 }

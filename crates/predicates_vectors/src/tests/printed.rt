@@ -1,14 +1,7 @@
 //! How constants and predicates are printed.
 use super::told::{tell, text};
-use predicates::boolean::PredicateBooleanExt;
-use predicates::constant::always;
-use predicates::function::function;
-use predicates::name::PredicateNameExt;
-use predicates::ord::{eq, ge, le, ne};
-use predicates::path::{exists, is_dir};
-use predicates::str::{PredicateStrExt, contains, ends_with, is_empty, starts_with};
-use std::alloc::{AllocError, Global};
-use std::fmt;
+use predicates::ord::{eq, ne};
+use predicates::str::{contains, ends_with, starts_with};
 use std::test::Fail;
 
 #[test]
@@ -72,28 +65,5 @@ fn patterns_are_shown_or_stand_as_they_are(rt: HostRuntime) -> Result<(), Fail> 
     assert_eq!(rt; part.to_string(alloc)?.as_str(), "var.contains(a b)");
     let counted = part.count(2);
     assert_eq!(rt; counted.to_string(alloc)?.as_str(), "var.contains(a b)");
-    Ok(())
-}
-
-// Whether the alternate flag and a width leave the text as it is.
-fn is_plain<P: fmt::Display>(alloc: Global, predicate: &P) -> Result<bool, AllocError> {
-    let plain = predicate.to_string(alloc)?;
-    let alternate = format!(in alloc; "{predicate:#}")?;
-    let wide = format!(in alloc; "{predicate:>60}")?;
-    Ok(alternate.as_str() == plain.as_str() && wide.as_str() == plain.as_str())
-}
-
-#[test]
-fn flags_change_no_text(rt: HostRuntime) -> Result<(), Fail> {
-    let alloc = rt.alloc();
-    assert!(rt; is_plain(alloc, &always::<i64>())?);
-    assert!(rt; is_plain(alloc, &ge(5).and(le(10)).or(eq(1)).not())?);
-    assert!(rt; is_plain(alloc, &ge(5).name("n"))?);
-    assert!(rt; is_plain(alloc, &function(|n: &i64| *n >= 5).fn_name("big"))?);
-    assert!(rt; is_plain(alloc, &eq(text(alloc, "a")?).trim())?);
-    assert!(rt; is_plain(alloc, &is_empty().from_utf8())?);
-    assert!(rt; is_plain(alloc, &contains(text(alloc, "a")?).count(2))?);
-    assert!(rt; is_plain(alloc, &exists())?);
-    assert!(rt; is_plain(alloc, &is_dir())?);
     Ok(())
 }

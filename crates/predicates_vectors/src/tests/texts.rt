@@ -1,48 +1,43 @@
 //! What the tests of texts answer, and the count beside every choice of places.
+use super::told::{describe, tell, text};
 use crate::answers::ask;
 use crate::choices::greatest_choice;
 use predicates::str::{contains, ends_with, is_empty, is_match, starts_with};
-use predicates_core::Predicate;
-use predicates_core::reflection::Case;
 use std::alloc::{AllocError, Global};
 use std::test::Fail;
-
-// The value of the root's last product.
-fn last_value(case: &Case) -> Option<&str> {
-    match case.root().products() {
-        [.., last] => Some(last.value()),
-        _ => None,
-    }
-}
-
-fn text(alloc: Global, text: &str) -> Result<String, AllocError> {
-    String::from_str(alloc, text)
-}
 
 #[test]
 fn counts(rt: HostRuntime) -> Result<(), Fail> {
     let alloc = rt.alloc();
+    // A pattern, the count that is set, a text, and the verdict with the number of places.
     let rows = [
-        ("aba", 2, "ababa", "1"),
-        ("aa", 1, "aaaa", "2"),
-        ("aa", 2, "aaaaa", "2"),
-        ("", 1, "", "1"),
-        ("ä", 2, "ää", "2"),
-        ("x", 0, "abc", "0"),
-        ("abc", 0, "ab", "0"),
-        ("aa", 2, "aaaa", "2"),
-        ("", 3, "äb", "3"),
-        ("Two", 2, "One Two Three Two One", "2"),
-        ("Two", 2, "One Two Three", "1"),
+        ("aba", 2, "ababa", false, 1),
+        ("aa", 1, "aaaa", false, 2),
+        ("aa", 2, "aaaaa", true, 2),
+        ("", 1, "", true, 1),
+        ("ä", 2, "ää", true, 2),
+        ("x", 0, "abc", true, 0),
+        ("abc", 0, "ab", true, 0),
+        ("aa", 2, "aaaa", true, 2),
+        ("", 3, "äb", true, 3),
+        ("Two", 2, "One Two Three Two One", true, 2),
+        ("Two", 2, "One Two Three", false, 1),
     ];
-    for (pattern, set, item, counted) in rows {
+    for (pattern, set, item, verdict, count) in rows {
         let check = contains(text(alloc, pattern)?).count(set);
-        let item = text(alloc, item)?;
-        let verdict = check.eval(alloc, &item)?;
-        let case = check.find_case(alloc, verdict, &item)?.ok_or("no case")?;
-        assert_eq!(rt; last_value(&case), Some(counted));
-        assert!(rt; check.find_case(alloc, !verdict, &item)?.is_none());
-        assert_eq!(rt; verdict, set.to_string(alloc)?.as_str() == counted);
+        let mut found = String::new(alloc);
+        tell(alloc, &mut found, &check, &text(alloc, item)?)?;
+        describe(alloc, &mut found, &check)?;
+        let expected = format!(in alloc;
+            "\
+var.contains({pattern}) = {verdict}
+  - var: {item}
+  - actual count: {count}
+var.contains({pattern})
+  - count: {set}
+"
+        )?;
+        assert_eq!(rt; found.as_str(), expected.as_str());
     }
     Ok(())
 }
@@ -64,21 +59,57 @@ fn joined(alloc: Global, characters: &Vec<char>) -> Result<String, AllocError> {
     Ok(text)
 }
 
+// Whether the count that is set is told as the verdict says, with the number of places.
+fn is_counted(
+    alloc: Global,
+    [pattern, item]: [&str; 2],
+    set: usize,
+    count: usize,
+) -> Result<bool, AllocError> {
+    let check = contains(text(alloc, pattern)?).count(set);
+    let mut found = String::new(alloc);
+    tell(alloc, &mut found, &check, &text(alloc, item)?)?;
+    let verdict = set == count;
+    let expected = format!(in alloc;
+        "\
+var.contains({pattern}) = {verdict}
+  - var: {item}
+  - actual count: {count}
+"
+    )?;
+    Ok(found.as_str() == expected.as_str())
+}
+
 #[test]
 fn counts_beside_every_choice(rt: HostRuntime) -> Result<(), Fail> {
     let alloc = rt.alloc();
+    let mut asked = 0_u32;
     for len in 0..7 {
         for bits in 0..(1u32 << len) {
             let item = spelled(alloc, bits, len)?;
             let whole = joined(alloc, &item)?;
-            for pattern_len in 0..4 {
-                let pattern = spelled(alloc, bits, pattern_len)?;
+            // Each pattern of at most three characters, whether or not the text begins with it.
+            for number in 1..16_u32 {
+                let pattern = spelled(alloc, number, number.ilog2())?;
                 let greatest = greatest_choice(&pattern, &item);
-                let check = contains(joined(alloc, &pattern)?).count(greatest);
-                assert!(rt; ask(alloc, &check, &whole)?.verdict);
+                let pattern = joined(alloc, &pattern)?;
+                let parts = [pattern.as_str(), whole.as_str()];
+                for set in [
+                    greatest,
+                    greatest.saturating_add(1),
+                    greatest.saturating_sub(1),
+                ] {
+                    assert!(rt;
+                        is_counted(alloc, parts, set, greatest)?,
+                        "{pattern} in {whole}"
+                    );
+                    asked = asked.saturating_add(1);
+                }
             }
         }
     }
+    // 127 texts, 15 patterns and three counts.
+    assert_eq!(rt; asked, 5715);
     Ok(())
 }
 

@@ -88,26 +88,35 @@ var == \"a\"
 #[test]
 fn even_line_ends(rt: HostRuntime) -> Result<(), Fail> {
     let alloc = rt.alloc();
+    // An item, what is handed on, and its debug form.
     let rows = [
-        ("", ""),
-        ("\r", "\n"),
-        ("\n", "\n"),
-        ("\r\n", "\n"),
-        ("\n\r", "\n\n"),
-        ("\r\r\n\n", "\n\n\n"),
-        ("a\rb\r\n", "a\nb\n"),
-        ("a\n\r", "a\n\n"),
-        ("Hello World!\n", "Hello World!\n"),
-        ("Hello World!\r", "Hello World!\n"),
-        ("Hello World!\r\n", "Hello World!\n"),
+        ("", "", "\"\""),
+        ("\r", "\n", "\"\\n\""),
+        ("\n", "\n", "\"\\n\""),
+        ("\r\n", "\n", "\"\\n\""),
+        ("\n\r", "\n\n", "\"\\n\\n\""),
+        ("\r\r\n\n", "\n\n\n", "\"\\n\\n\\n\""),
+        ("a\rb\r\n", "a\nb\n", "\"a\\nb\\n\""),
+        ("a\n\r", "a\n\n", "\"a\\n\\n\""),
+        ("Hello World!\n", "Hello World!\n", "\"Hello World!\\n\""),
+        ("Hello World!\r", "Hello World!\n", "\"Hello World!\\n\""),
+        ("Hello World!\r\n", "Hello World!\n", "\"Hello World!\\n\""),
     ];
-    for (item, handed_on) in rows {
+    for (item, handed_on, shown) in rows {
         assert_eq!(rt; lines_even(alloc, item)?.as_str(), handed_on, "{item:?}");
         let same = eq(text(alloc, handed_on)?).normalize();
-        let item = text(alloc, item)?;
-        assert!(rt; same.eval(alloc, &item)?, "{item:?}");
-        assert!(rt; same.find_case(alloc, true, &item)?.is_some(), "{item:?}");
-        assert!(rt; same.find_case(alloc, false, &item)?.is_none(), "{item:?}");
+        let mut found = String::new(alloc);
+        tell(alloc, &mut found, &same, &text(alloc, item)?)?;
+        describe(alloc, &mut found, &same)?;
+        let expected = format!(in alloc;
+            "\
+var == {shown} = true
+  - var: {shown}
+var == {shown}
+  predicate: var == {shown}
+"
+        )?;
+        assert_eq!(rt; found.as_str(), expected.as_str());
     }
     let mut out = String::new(alloc);
     let hello = eq(text(alloc, "Hello World!\n")?).normalize();
