@@ -12,3 +12,5 @@ pub mod Lines
 pub mod Fields
 pub mod Kept
 pub mod Existence
+pub mod Alike
+pub mod OneCase
