@@ -1,5 +1,5 @@
 use Rattle.predicates.proofs.Memberships.{has_equal-first_of_equals, same_rearranged}
-use Rattle.predicates.proofs.laws.memberships.Goals as goal
+use Rattle.predicates.proofs.laws.rewriting.memberships.Goals as goal
 
 pub returns-clause-rearranged : goal.returns-clause-rearranged
 returns-clause-rearranged g c = λ sorted moved. (same_rearranged {eq = g.T.PartialEq.eq} moved).each c.args.item.now

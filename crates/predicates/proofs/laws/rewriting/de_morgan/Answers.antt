@@ -1,5 +1,5 @@
 use Rattle.predicates_core.proofs.Alike
-use Rattle.predicates.proofs.laws.de_morgan.Goals as goal
+use Rattle.predicates.proofs.laws.rewriting.de_morgan.Goals as goal
 
 pub returns-clause-not_both : goal.returns-clause-not_both
 returns-clause-not_both g c = λ f h of_f of_h. Alike.negated_and _ _ _ _ _ f h

@@ -1,5 +1,5 @@
 use Rattle.predicates.proofs.Opposites.{opposite_leaves, less_or_not, greater_or_not, twice}
-use Rattle.predicates.proofs.laws.complements.Goals as goal
+use Rattle.predicates.proofs.laws.rewriting.complements.Goals as goal
 
 pub returns-clause-lt_ge : goal.returns-clause-lt_ge
 returns-clause-lt_ge g c = opposite_leaves _ _ _ _ (less_or_not _)
