@@ -3,7 +3,7 @@ use Rattle.std.proofs.Common.{◌≡◌, refl, sym, ap, ◌∙◌, ℕ, Bool, tr
 use Rattle.std.specs.Prelude.{not, IfOk, string_bytes}
 use Rattle.std.proofs.lemmas.Slice.Eq.{bytes_eq-Decides}
 use Rattle.predicates_core.specs.Label.{Label, Entry, Fits}
-use Rattle.predicates_core.specs.Formula.{Formula, Leaf, And, Or, Not, Named, text_of, value, actual, truth, HasTruth}
+use Rattle.predicates_core.specs.Formula.{Formula, Leaf, And, Or, Xor, Not, Named, text_of, value, actual, truth, HasTruth}
 use Rattle.predicates_core.specs.Shows.{FitsNode, Shows, Explains, IsCaseOf, IsAnswer}
 use Rattle.predicates_core.specs.Tree.{Tree}
 use Rattle.predicates_core.specs.Describe.{CaseNode}
@@ -28,6 +28,7 @@ unfolding value
 value-opened (Leaf label own) w = refl
 value-opened (And label l r) w = refl
 value-opened (Or label l r) w = refl
+value-opened (Xor label l r) w = refl
 value-opened (Not label f) w = refl
 value-opened (Named label name f) w = refl
 
@@ -36,6 +37,7 @@ unfolding actual
 actual-opened (Leaf label own) = refl
 actual-opened (And label l r) = refl
 actual-opened (Or label l r) = refl
+actual-opened (Xor label l r) = refl
 actual-opened (Not label f) = refl
 actual-opened (Named label name f) = refl
 
@@ -50,6 +52,7 @@ unfolding Shows
 shows-opened (Leaf label own) t leaves h = (node-opened label _ _ t.root refl h.0, h.1, h.2)
 shows-opened (And label l r) t leaves h = (node-opened label _ _ t.root (truth-opened (And label l r)) h.0, h.1)
 shows-opened (Or label l r) t leaves h = (node-opened label _ _ t.root (truth-opened (Or label l r)) h.0, h.1)
+shows-opened (Xor label l r) t leaves h = (node-opened label _ _ t.root (truth-opened (Xor label l r)) h.0, h.1)
 shows-opened (Not label f) t leaves h = (node-opened label _ _ t.root (truth-opened (Not label f)) h.0, h.1)
 shows-opened (Named label name f) t leaves h = (node-opened label _ _ t.root (truth-opened (Named label name f)) h.0, h.1)
 

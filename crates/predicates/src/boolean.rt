@@ -2,16 +2,19 @@
 ghost use Rattle.std.specs.Prelude.{◌≡◌};
 ghost use Rattle.predicates.specs.And as And;
 ghost use Rattle.predicates.specs.Or as Or;
+ghost use Rattle.predicates.specs.Xor as Xor;
 ghost use Rattle.predicates.specs.Not.{inner_of};
 
 mod and;
 mod not;
 mod or;
+mod xor;
 
 pub use and::AndPredicate;
 pub use not::NotPredicate;
 pub use or::OrPredicate;
 use predicates_core::Predicate;
+pub use xor::XorPredicate;
 
 /// Combines any predicates over one item type.
 pub trait PredicateBooleanExt<Item>: Predicate<Item> {
@@ -29,6 +32,13 @@ pub trait PredicateBooleanExt<Item>: Predicate<Item> {
         ensures left { Or.left_of result ≡ self }
         ensures right { Or.right_of result ≡ other };
 
+    /// Exactly one of `self` and `other` holds; both are asked.
+    fn xor<B: Predicate<Item>>(self, other: B) -> XorPredicate<Self, B, Item>
+    where
+        Self: Sized,
+        ensures left { Xor.left_of result ≡ self }
+        ensures right { Xor.right_of result ≡ other };
+
     /// `self` does not hold.
     fn not(self) -> NotPredicate<Self, Item>
     where
@@ -43,6 +53,10 @@ impl<P: Predicate<Item>, Item> PredicateBooleanExt<Item> for P {
 
     fn or<B: Predicate<Item>>(self, other: B) -> OrPredicate<Self, B, Item> {
         OrPredicate::new(self, other)
+    }
+
+    fn xor<B: Predicate<Item>>(self, other: B) -> XorPredicate<Self, B, Item> {
+        XorPredicate::new(self, other)
     }
 
     fn not(self) -> NotPredicate<Self, Item> {

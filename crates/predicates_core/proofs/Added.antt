@@ -1,7 +1,7 @@
 -- One product more at the root: the truth and the first reason stay, and the case has the product too.
 use Rattle.std.proofs.Common.{◌≡◌, refl, sym, ap, ◌∙◌, ℕ, Bool, List, [], ◌∷◌, ◌++◌, Option}
 use Rattle.predicates_core.specs.Label.{Label, Entry, Product, Fits, FitsEntry, FitsProducts}
-use Rattle.predicates_core.specs.Formula.{Formula, Leaf, And, Or, Not, Named, text_of, truth, HasTruth, with_product}
+use Rattle.predicates_core.specs.Formula.{Formula, Leaf, And, Or, Xor, Not, Named, text_of, truth, HasTruth, with_product}
 use Rattle.predicates_core.specs.Shows.{FitsNode, Shows, Explains, IsCaseOf}
 use Rattle.predicates_core.specs.Tree.{Tree}
 use Rattle.predicates_core.specs.Describe as describe
@@ -30,6 +30,7 @@ unfolding Shows with_product
 shows_with_product (Leaf label t) c S p bytes fits h = (root_with_product label _ _ c p bytes refl fits h.0, h.1, h.2)
 shows_with_product (And label l r) c S p bytes fits h = (root_with_product label _ _ c p bytes (with_product_truth (And label l r) p) fits h.0, h.1)
 shows_with_product (Or label l r) c S p bytes fits h = (root_with_product label _ _ c p bytes (with_product_truth (Or label l r) p) fits h.0, h.1)
+shows_with_product (Xor label l r) c S p bytes fits h = (root_with_product label _ _ c p bytes (with_product_truth (Xor label l r) p) fits h.0, h.1)
 shows_with_product (Not label f) c S p bytes fits h = (root_with_product label _ _ c p bytes (with_product_truth (Not label f) p) fits h.0, h.1)
 shows_with_product (Named label name f) c S p bytes fits h = (root_with_product label _ _ c p bytes (with_product_truth (Named label name f) p) fits h.0, h.1)
 
@@ -46,6 +47,7 @@ unfolding with_product
 text-with_product (Leaf label t) p = refl
 text-with_product (And label l r) p = refl
 text-with_product (Or label l r) p = refl
+text-with_product (Xor label l r) p = refl
 text-with_product (Not label f) p = refl
 text-with_product (Named label name f) p = refl
 

@@ -2,10 +2,10 @@
 use Rattle.std.proofs.Common.{◌≡◌, ℕ, suc, zero, List, [], ◌∷◌, ◌++◌, Bool, true, false, length, refl, sym, ap, ◌∙◌, arith, length-append}
 use Rattle.std.specs.Prelude.{not, ◌&&◌, ◌||◌}
 use Rattle.predicates_core.specs.Label.{Label, Product}
-use Rattle.predicates_core.specs.Formula.{Formula, Leaf, And, Or, Not, Named, size, IsValuation, value, actual, truth, with_product}
+use Rattle.predicates_core.specs.Formula.{Formula, Leaf, And, Or, Xor, Not, Named, differ, size, IsValuation, value, actual, truth, with_product}
 use Rattle.predicates_core.specs.Reason.{AreIncreasing, AreEqualAt, IsReason, IsMinimalReason, IsFirstReason}
 use Rattle.predicates_core.proofs.Numbers.{shifted}
-use Rattle.predicates_core.proofs.Values.{and_joins, or_joins, length-actual}
+use Rattle.predicates_core.proofs.Values.{and_joins, or_joins, xor_joins, length-actual}
 use Rattle.predicates_core.proofs.First.{BothCount, LeftDecides, RightDecides, both_first, left_first, right_first}
 
 -- two formulas with the same reasons have the same first reason
@@ -83,6 +83,7 @@ unfolding actual with_product
 with_product_actual (Leaf label t) p = refl
 with_product_actual (And label l r) p = refl
 with_product_actual (Or label l r) p = refl
+with_product_actual (Xor label l r) p = refl
 with_product_actual (Not label f) p = refl
 with_product_actual (Named label name f) p = refl
 
@@ -91,6 +92,7 @@ unfolding value with_product
 with_product_value (Leaf label t) p w = refl
 with_product_value (And label l r) p w = refl
 with_product_value (Or label l r) p w = refl
+with_product_value (Xor label l r) p w = refl
 with_product_value (Not label f) p w = refl
 with_product_value (Named label name f) p w = refl
 
@@ -171,3 +173,13 @@ first-Or_left label l r S tl hl = left_first (or_joins label l r) (rw tl (left_w
 
 pub first-Or_right : (label : Label) (l r : Formula) (T : List ℕ) → truth l ≡ false → truth r ≡ true → IsFirstReason r T → IsFirstReason (Or label l r) (shifted (size l) T)
 first-Or_right label l r T tl tr hr = right_first (or_joins label l r) (rw (tl, tr) or_right) T hr
+
+-- each part's truth counts, whatever the other one is
+xor_both : (a b : Bool) → BothCount differ a b
+xor_both true true = record { left = elim [ true ↦ λ e. refl | false ↦ λ e. sym e ]; right = λ y. not_injective y true }
+xor_both true false = record { left = elim [ true ↦ λ e. refl | false ↦ λ e. e ]; right = λ y. not_injective y false }
+xor_both false true = record { left = elim [ true ↦ λ e. sym e | false ↦ λ e. refl ]; right = λ y e. e }
+xor_both false false = record { left = elim [ true ↦ λ e. e | false ↦ λ e. refl ]; right = λ y e. e }
+
+pub first-Xor : (label : Label) (l r : Formula) (S T : List ℕ) → IsFirstReason l S → IsFirstReason r T → IsFirstReason (Xor label l r) (S ++ shifted (size l) T)
+first-Xor label l r S T hl hr = both_first (xor_joins label l r) (xor_both (truth l) (truth r)) S T hl hr

@@ -2,16 +2,16 @@
 use Rattle.std.proofs.Common.{◌≡◌, ℕ, Bool, true, false, List, [], ◌∷◌, ◌++◌, Option, Some, None, codes, refl, sym, ap, ◌∙◌, subst}
 use Rattle.std.specs.Prelude.{not, ◌&&◌, ◌||◌, is_some}
 use Rattle.predicates_core.specs.Label.{Entry, plain, Fits, FitsEntry, FitsProducts}
-use Rattle.predicates_core.specs.Formula.{Formula, And, Or, Not, Named, truth, size, text_of, HasTruth}
+use Rattle.predicates_core.specs.Formula.{Formula, And, Or, Xor, Not, Named, differ, truth, size, text_of, HasTruth}
 use Rattle.predicates_core.specs.Reason.{IsFirstReason}
 use Rattle.predicates_core.specs.Tree.{Tree, empty, forest}
 use Rattle.predicates_core.specs.Describe.{CaseNode, NamedCase}
 use Rattle.predicates_core.specs.Shows.{FitsNode, ShowsPart, ShowsBoth, Shows, Explains, IsCaseOf, IsAnswer, IsNode, found_parts}
-use Rattle.predicates_core.specs.Combined.{IsAnd, IsOr, IsNot, IsNamed}
-use Rattle.predicates_core.proofs.Values.{truth-And, truth-Or, truth-Not, truth-Named}
+use Rattle.predicates_core.specs.Combined.{IsJoin, IsAnd, IsOr, IsXor, IsNot, IsNamed}
+use Rattle.predicates_core.proofs.Values.{truth-And, truth-Or, truth-Xor, truth-Not, truth-Named}
 pub use Rattle.predicates_core.proofs.Values.{not-not}
 use Rattle.predicates_core.proofs.Numbers.{shifted}
-use Rattle.predicates_core.proofs.Combine.{first-And_both, first-And_left, first-And_right, first-Or_both, first-Or_left, first-Or_right, first-Not, first-Named}
+use Rattle.predicates_core.proofs.Combine.{first-And_both, first-And_left, first-And_right, first-Or_both, first-Or_left, first-Or_right, first-Xor, first-Not, first-Named}
 use Rattle.predicates_core.proofs.Shown.{shows_both, shows_left, shows_right, shows_part, not_empty, numbers_of}
 
 -- an entry fits what is printed just so
@@ -19,12 +19,18 @@ pub fits_itself : (entry : Option (List ℕ)) → FitsEntry entry entry
 fits_itself None = tt
 fits_itself (Some bytes) = refl
 
+join_text_fits : {join : Formula → Formula → Formula} {left right : Formula → Type 0} (text : Option (List ℕ)) {f : Formula} → ((l r : Formula) → text_of (join l r) ≡ text) → IsJoin join left right f → FitsEntry (text_of f) text
+join_text_fits text printed h = subst (λ entry. FitsEntry entry text) (sym (ap text_of h.is ∙ printed h.left_formula h.right_formula)) (fits_itself text)
+
 module _ {text : Option (List ℕ)} {left right : Formula → Type 0} {f : Formula} where
   pub and_text_fits : IsAnd text left right f → FitsEntry (text_of f) text
-  and_text_fits h = subst (λ g. FitsEntry (text_of g) text) (sym h.is) (fits_itself text)
+  and_text_fits = join_text_fits text (λ l r. refl)
 
   pub or_text_fits : IsOr text left right f → FitsEntry (text_of f) text
-  or_text_fits h = subst (λ g. FitsEntry (text_of g) text) (sym h.is) (fits_itself text)
+  or_text_fits = join_text_fits text (λ l r. refl)
+
+  pub xor_text_fits : IsXor text left right f → FitsEntry (text_of f) text
+  xor_text_fits = join_text_fits text (λ l r. refl)
 
 pub not_text_fits : {text : Option (List ℕ)} {part : Formula → Type 0} {f : Formula} → IsNot text part f → FitsEntry (text_of f) text
 not_text_fits {text} h = subst (λ g. FitsEntry (text_of g) text) (sym h.is) (fits_itself text)
@@ -32,12 +38,18 @@ not_text_fits {text} h = subst (λ g. FitsEntry (text_of g) text) (sym h.is) (fi
 pub named_text_fits : {name : List ℕ} {part : Formula → Type 0} {f : Formula} → IsNamed name part f → FitsEntry (text_of f) (Some name)
 named_text_fits {name} h = subst (λ g. FitsEntry (text_of g) (Some name)) (sym h.is) (fits_itself (Some name))
 
+one_join : {join : Formula → Formula → Formula} {left right : Formula → Type 0} {f g : Formula} → ((x y : Formula) → left x → left y → x ≡ y) → ((x y : Formula) → right x → right y → x ≡ y) → IsJoin join left right f → IsJoin join left right g → f ≡ g
+one_join {join} of_left of_right h k = h.is ∙ (λ i. join (of_left h.left_formula k.left_formula h.of_left k.of_left i) (of_right h.right_formula k.right_formula h.of_right k.of_right i)) ∙ sym k.is
+
 module _ {text : Option (List ℕ)} {left right : Formula → Type 0} {f g : Formula} where
   pub one_and : ((x y : Formula) → left x → left y → x ≡ y) → ((x y : Formula) → right x → right y → x ≡ y) → IsAnd text left right f → IsAnd text left right g → f ≡ g
-  one_and of_left of_right h k = h.is ∙ (λ i. And (plain text) (of_left h.left_formula k.left_formula h.of_left k.of_left i) (of_right h.right_formula k.right_formula h.of_right k.of_right i)) ∙ sym k.is
+  one_and = one_join
 
   pub one_or : ((x y : Formula) → left x → left y → x ≡ y) → ((x y : Formula) → right x → right y → x ≡ y) → IsOr text left right f → IsOr text left right g → f ≡ g
-  one_or of_left of_right h k = h.is ∙ (λ i. Or (plain text) (of_left h.left_formula k.left_formula h.of_left k.of_left i) (of_right h.right_formula k.right_formula h.of_right k.of_right i)) ∙ sym k.is
+  one_or = one_join
+
+  pub one_xor : ((x y : Formula) → left x → left y → x ≡ y) → ((x y : Formula) → right x → right y → x ≡ y) → IsXor text left right f → IsXor text left right g → f ≡ g
+  one_xor = one_join
 
 module _ {part : Formula → Type 0} {f g : Formula} where
   pub one_not : {text : Option (List ℕ)} → ((x y : Formula) → part x → part y → x ≡ y) → IsNot text part f → IsNot text part g → f ≡ g
@@ -47,12 +59,18 @@ module _ {part : Formula → Type 0} {f g : Formula} where
   one_named {name} one h k = h.is ∙ ap (Named (plain (Some name)) name) (one h.inner k.inner h.of_part k.of_part) ∙ sym k.is
 
 -- where the parts have a formula, the whole has one
+has_join : {join : Formula → Formula → Formula} {left right : Formula → Type 0} (f g : Formula) → left f → right g → IsJoin join left right (join f g)
+has_join f g of_left of_right = record { left_formula = f; right_formula = g; of_left = of_left; of_right = of_right; is = refl }
+
 module _ {text : Option (List ℕ)} {left right : Formula → Type 0} {f g : Formula} where
   pub has_and : left f → right g → IsAnd text left right (And (plain text) f g)
-  has_and of_left of_right = record { left_formula = f; right_formula = g; of_left = of_left; of_right = of_right; is = refl }
+  has_and = has_join f g
 
   pub has_or : left f → right g → IsOr text left right (Or (plain text) f g)
-  has_or of_left of_right = record { left_formula = f; right_formula = g; of_left = of_left; of_right = of_right; is = refl }
+  has_or = has_join f g
+
+  pub has_xor : left f → right g → IsXor text left right (Xor (plain text) f g)
+  has_xor = has_join f g
 
 -- ---- truth
 
@@ -64,6 +82,10 @@ module _ {text : Option (List ℕ)} {left right : Formula → Type 0} {a b : Boo
   -- the left part is false, so the right part decides
   pub HasTruth-or_by_right : HasTruth left a → a ≡ false → HasTruth right b → HasTruth (IsOr text left right) b
   HasTruth-or_by_right of_l e of_r = record { at = λ f h. ap truth h.is ∙ truth-Or (plain text) h.left_formula h.right_formula ∙ (λ i. (of_l.at h.left_formula h.of_left ∙ e) i || of_r.at h.right_formula h.of_right i) }
+
+  -- both parts count
+  pub HasTruth-xor : {e : Bool} → HasTruth left a → HasTruth right b → e ≡ differ a b → HasTruth (IsXor text left right) e
+  HasTruth-xor of_l of_r e = record { at = λ f h. ap truth h.is ∙ truth-Xor (plain text) h.left_formula h.right_formula ∙ (λ i. differ (of_l.at h.left_formula h.of_left i) (of_r.at h.right_formula h.of_right i)) ∙ sym e }
 
 module _ {text : Option (List ℕ)} {left right : Formula → Type 0} {a : Bool} where
   -- the left part is false, and decides
@@ -128,36 +150,40 @@ node_of_text {entry} {bytes} h fits = record {
   children = h.children;
 }
 
--- the whole joins a formula of each part, and is shown where its node fits and its children show both parts
-record IsJoined (text : Entry) (left right whole : Formula → Type 0) (join : Formula → Formula → Formula) : Type 0 where
-  parts : (f : Formula) → whole f → (l : Formula) × (r : Formula) × left l × right r × (f ≡ join l r)
+-- a joined formula is shown where its node fits and its children show both parts
+record IsShownByParts (text : Entry) (join : Formula → Formula → Formula) : Type 0 where
   shown : (l r : Formula) (t : Tree CaseNode) (leaves : List ℕ) → FitsNode (plain text) (truth (join l r)) t.root → ShowsBoth (Shows l) (Shows r) (size l) t.children leaves → Shows (join l r) t leaves
 
-joined_case : {text : Entry} {left right whole : Formula → Type 0} {join : Formula → Formula → Formula} {b : Bool} {t : Tree CaseNode} {bytes : List ℕ} {cases : List NamedCase} → IsJoined text left right whole join → HasTruth whole b → IsNode (Some bytes) b cases t → Fits text bytes
-    → ((l r : Formula) → left l → right r → IsShownBelow (join l r) l r cases) → IsCaseOf whole b t
+joined_case : {text : Entry} {left right : Formula → Type 0} {join : Formula → Formula → Formula} {b : Bool} {t : Tree CaseNode} {bytes : List ℕ} {cases : List NamedCase} → IsShownByParts text join → HasTruth (IsJoin join left right) b → IsNode (Some bytes) b cases t → Fits text bytes
+    → ((l r : Formula) → left l → right r → IsShownBelow (join l r) l r cases) → IsCaseOf (IsJoin join left right) b t
 joined_case {text} {b} {t} {cases} joined is written fits below =
     let node : IsNode text b cases t = node_of_text written fits in
     record {
       truth = is;
       explains = λ f h.
-          let p = joined.parts f h in
-          let x = below p.0 p.1 p.2 p.3 in
-          let children = subst (λ ch. ShowsBoth (Shows p.0) (Shows p.1) (size p.0) ch x.0) (sym node.children) x.2 in
-          subst (λ g. Explains g t) (sym p.4) (record {
+          let l = h.left_formula in
+          let r = h.right_formula in
+          let x = below l r h.of_left h.of_right in
+          let children = subst (λ ch. ShowsBoth (Shows l) (Shows r) (size l) ch x.0) (sym node.children) x.2 in
+          subst (λ g. Explains g t) (sym h.is) (record {
             leaves = x.0;
             first = x.1;
-            shown = joined.shown p.0 p.1 t x.0 (node_fits text b _ cases t node (ap truth (sym p.4) ∙ is.at f h)) children;
+            shown = joined.shown l r t x.0 (node_fits text b _ cases t node (ap truth (sym h.is) ∙ is.at f h)) children;
           });
     }
 
-module _ {text : Option (List ℕ)} {left right : Formula → Type 0} where
-  joined_by_and : IsJoined text left right (IsAnd text left right) (And (plain text))
+module _ {text : Option (List ℕ)} where
+  joined_by_and : IsShownByParts text (And (plain text))
   unfolding Shows
-  joined_by_and = record { parts = λ f h. (h.left_formula, h.right_formula, h.of_left, h.of_right, h.is); shown = λ l r t leaves node children. (node, children) }
+  joined_by_and = record { shown = λ l r t leaves node children. (node, children) }
 
-  joined_by_or : IsJoined text left right (IsOr text left right) (Or (plain text))
+  joined_by_or : IsShownByParts text (Or (plain text))
   unfolding Shows
-  joined_by_or = record { parts = λ f h. (h.left_formula, h.right_formula, h.of_left, h.of_right, h.is); shown = λ l r t leaves node children. (node, children) }
+  joined_by_or = record { shown = λ l r t leaves node children. (node, children) }
+
+  joined_by_xor : IsShownByParts text (Xor (plain text))
+  unfolding Shows
+  joined_by_xor = record { shown = λ l r t leaves node children. (node, children) }
 
 module _ {text : Option (List ℕ)} {left right : Formula → Type 0} {b : Bool} {c d t : Tree CaseNode} where
   pub IsCaseOf-and_both : {bytes : List ℕ} → IsNode (Some bytes) b ((codes "left", c) ∷ (codes "right", d) ∷ []) t → Fits text bytes → IsCaseOf left b c → IsCaseOf right b d → b ≡ true → IsCaseOf (IsAnd text left right) b t
@@ -171,6 +197,13 @@ module _ {text : Option (List ℕ)} {left right : Formula → Type 0} {b : Bool}
       let left_shown = x.explains l of_l in
       let right_shown = y.explains r of_r in
       both_below l r left_shown right_shown (first-Or_both (plain text) l r left_shown.leaves right_shown.leaves (x.truth.at l of_l ∙ e) (y.truth.at r of_r ∙ e) left_shown.first right_shown.first))
+
+  -- both parts, each with its own truth
+  pub IsCaseOf-xor : {bytes : List ℕ} {x y : Bool} → IsNode (Some bytes) b ((codes "left", c) ∷ (codes "right", d) ∷ []) t → Fits text bytes → IsCaseOf left x c → IsCaseOf right y d → b ≡ differ x y → IsCaseOf (IsXor text left right) b t
+  IsCaseOf-xor written fits of_c of_d e = joined_case joined_by_xor (HasTruth-xor of_c.truth of_d.truth e) written fits (λ l r of_l of_r.
+      let left_shown = of_c.explains l of_l in
+      let right_shown = of_d.explains r of_r in
+      both_below l r left_shown right_shown (first-Xor (plain text) l r left_shown.leaves right_shown.leaves left_shown.first right_shown.first))
 
 module _ {text : Option (List ℕ)} {left right : Formula → Type 0} {b : Bool} {c t : Tree CaseNode} where
   pub IsCaseOf-and_left : {bytes : List ℕ} → IsNode (Some bytes) b ((codes "left", c) ∷ []) t → Fits text bytes → IsCaseOf left b c → b ≡ false → IsCaseOf (IsAnd text left right) b t
@@ -211,6 +244,23 @@ module _ {text : Option (List ℕ)} {left right : Formula → Type 0} {bytes : L
   IsCaseOf-or_decided (Some c) None written fits x e e' n = IsCaseOf-or_left written fits x e'
   IsCaseOf-or_decided (Some c) (Some d) written fits x e e' n = absurd (cc)
 
+-- each part was asked for its own truth, so none is found only where it has no formula
+has_no_formula : {F : Formula → Type 0} {a : Bool} → HasTruth F a → HasTruth F (not a) → (f : Formula) → F f → ⊥
+has_no_formula {a} h k f of_f = not_turned a (sym (h.at f of_f) ∙ k.at f of_f)
+  where
+    not_turned : (a : Bool) → a ≡ not a → ⊥
+    not_turned true e = absurd (cc)
+    not_turned false e = absurd (cc)
+
+case_of_none : {F : Formula → Type 0} {b : Bool} {t : Tree CaseNode} → ((f : Formula) → F f → ⊥) → IsCaseOf F b t
+case_of_none none = record { truth = record { at = λ f h. absurd (none f h) }; explains = λ f h. absurd (none f h) }
+
+module _ {text : Option (List ℕ)} {left right : Formula → Type 0} {bytes : List ℕ} {b : Bool} {t : Tree CaseNode} where
+  pub IsCaseOf-xor_asked : (x y : Bool) (c d : Option (Tree CaseNode)) → IsNode (Some bytes) b (found_parts c d) t → Fits text bytes → HasTruth left x → HasTruth right y → b ≡ differ x y → IsAnswer left x c → IsAnswer right y d → IsCaseOf (IsXor text left right) b t
+  IsCaseOf-xor_asked x y None d written fits of_l of_r e of_c of_d = case_of_none (λ f h. has_no_formula of_l of_c h.left_formula h.of_left)
+  IsCaseOf-xor_asked x y (Some c) None written fits of_l of_r e of_c of_d = case_of_none (λ f h. has_no_formula of_r of_d h.right_formula h.of_right)
+  IsCaseOf-xor_asked x y (Some c) (Some d) written fits of_l of_r e of_c of_d = IsCaseOf-xor written fits of_c of_d e
+
 module _ {part : Formula → Type 0} {b : Bool} {c t : Tree CaseNode} where
   pub IsCaseOf-not : {text : Option (List ℕ)} → {bytes : List ℕ} → IsNode (Some bytes) b ((codes "predicate", c) ∷ []) t → Fits text bytes → IsCaseOf part (not b) c → IsCaseOf (IsNot text part) b t
   IsCaseOf-not {text} written fits x =
@@ -231,4 +281,4 @@ module _ {part : Formula → Type 0} {b : Bool} {c t : Tree CaseNode} where
       }
 
 -- what is found for a part decides the whole
-pub ruleset combined = (HasTruth-and_by_right, HasTruth-and_by_left, HasTruth-or_by_right, HasTruth-or_by_left, HasTruth-not, HasTruth-named, IsCaseOf-and_both, IsCaseOf-and_left, IsCaseOf-and_right, IsCaseOf-or_both, IsCaseOf-or_left, IsCaseOf-or_right, IsCaseOf-not, IsCaseOf-named)
+pub ruleset combined = (HasTruth-and_by_right, HasTruth-and_by_left, HasTruth-or_by_right, HasTruth-or_by_left, HasTruth-xor, HasTruth-not, HasTruth-named, IsCaseOf-and_both, IsCaseOf-and_left, IsCaseOf-and_right, IsCaseOf-or_both, IsCaseOf-or_left, IsCaseOf-or_right, IsCaseOf-xor, IsCaseOf-not, IsCaseOf-named)

@@ -3,13 +3,14 @@ use Rattle.std.proofs.Common.{◌≡◌, ℕ, ◌+◌, List, [], ◌∷◌, ◌+
 use Rattle.std.specs.Prelude.{not, ◌&&◌, ◌||◌}
 use Rattle.std.proofs.lemmas.List.{take_at, drop_at}
 use Rattle.predicates_core.specs.Label.{Label}
-use Rattle.predicates_core.specs.Formula.{Formula, Leaf, And, Or, Not, Named, size, IsValuation, value, actual, truth}
+use Rattle.predicates_core.specs.Formula.{Formula, Leaf, And, Or, Xor, Not, Named, differ, size, IsValuation, value, actual, truth}
 
 pub length-actual : (f : Formula) → length (actual f) ≡ size f
 unfolding actual size
 length-actual (Leaf label t) = refl
 length-actual (And label l r) = omega (arith, length-append (actual l) (actual r), length-actual l, length-actual r)
 length-actual (Or label l r) = omega (arith, length-append (actual l) (actual r), length-actual l, length-actual r)
+length-actual (Xor label l r) = omega (arith, length-append (actual l) (actual r), length-actual l, length-actual r)
 length-actual (Not label f) = length-actual f
 length-actual (Named label name f) = length-actual f
 
@@ -18,6 +19,7 @@ pub reaching : Formula → Bool → List Bool
 reaching (Leaf label t) b = b ∷ []
 reaching (And label l r) b = reaching l b ++ reaching r b
 reaching (Or label l r) b = reaching l b ++ reaching r b
+reaching (Xor label l r) b = reaching l b ++ reaching r false
 reaching (Not label f) b = reaching f (not b)
 reaching (Named label name f) b = reaching f b
 
@@ -26,6 +28,7 @@ unfolding reaching size
 length-reaching (Leaf label t) b = refl
 length-reaching (And label l r) b = omega (arith, length-append (reaching l b) (reaching r b), length-reaching l b, length-reaching r b)
 length-reaching (Or label l r) b = omega (arith, length-append (reaching l b) (reaching r b), length-reaching l b, length-reaching r b)
+length-reaching (Xor label l r) b = omega (arith, length-append (reaching l b) (reaching r false), length-reaching l b, length-reaching r false)
 length-reaching (Not label f) b = length-reaching f (not b)
 length-reaching (Named label name f) b = length-reaching f b
 
@@ -43,6 +46,10 @@ pub or_joins : (label : Label) (l r : Formula) → Joins ◌||◌ (Or label l r)
 unfolding size actual value
 or_joins label l r = record { sizes = refl; actuals = refl; values = λ w. refl }
 
+pub xor_joins : (label : Label) (l r : Formula) → Joins differ (Xor label l r) l r
+unfolding size actual value
+xor_joins label l r = record { sizes = refl; actuals = refl; values = λ w. refl }
+
 pub joined_value : {op : Bool → Bool → Bool} {f l r : Formula} → Joins op f l r → (v w : List Bool) → IsValuation l v → value f (v ++ w) ≡ op (value l v) (value r w)
 joined_value {op} {f} {l} {r} j v w e = j.values (v ++ w) ∙ cc (take_at v w (size l) e, drop_at v w (size l) e)
 
@@ -59,6 +66,9 @@ truth-And label l r = joined_truth (and_joins label l r)
 
 pub truth-Or : (label : Label) (l r : Formula) → truth (Or label l r) ≡ truth l || truth r
 truth-Or label l r = joined_truth (or_joins label l r)
+
+pub truth-Xor : (label : Label) (l r : Formula) → truth (Xor label l r) ≡ differ (truth l) (truth r)
+truth-Xor label l r = joined_truth (xor_joins label l r)
 
 pub truth-Not : (label : Label) (f : Formula) → truth (Not label f) ≡ not (truth f)
 unfolding truth value actual
@@ -80,10 +90,15 @@ or_same : (b : Bool) → (b || b) ≡ b
 or_same true = refl
 or_same false = refl
 
+differ_false : (b : Bool) → differ b false ≡ b
+differ_false true = refl
+differ_false false = refl
+
 pub value-reaching : (f : Formula) (b : Bool) → value f (reaching f b) ≡ b
 unfolding reaching value
 value-reaching (Leaf label t) b = refl
 value-reaching (And label l r) b = joined_value (and_joins label l r) (reaching l b) (reaching r b) (length-reaching l b) ∙ cc (value-reaching l b, value-reaching r b, and_same b)
 value-reaching (Or label l r) b = joined_value (or_joins label l r) (reaching l b) (reaching r b) (length-reaching l b) ∙ cc (value-reaching l b, value-reaching r b, or_same b)
+value-reaching (Xor label l r) b = joined_value (xor_joins label l r) (reaching l b) (reaching r false) (length-reaching l b) ∙ cc (value-reaching l b, value-reaching r false, differ_false b)
 value-reaching (Not label f) b = ap not (value-reaching f (not b)) ∙ not-not b
 value-reaching (Named label name f) b = value-reaching f b

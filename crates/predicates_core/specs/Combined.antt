@@ -2,7 +2,7 @@
 use Rattle.std.specs.Prelude.{◌≡◌, ℕ, List, Option, Some, codes}
 use Rattle.std.specs.Fmt.{◌++?◌}
 use Rattle.predicates_core.specs.Label.{plain}
-use Rattle.predicates_core.specs.Formula.{Formula, And, Or, Not, Named}
+use Rattle.predicates_core.specs.Formula.{Formula, And, Or, Xor, Not, Named}
 
 -- the printed text of two parts with an operator between them
 abbrev pub infix_text : List ℕ → Option (List ℕ) → Option (List ℕ) → Option (List ℕ)
@@ -12,20 +12,23 @@ infix_text operator a b = Some (codes "(") ++? a ++? Some operator ++? b ++? Som
 abbrev pub not_text : Option (List ℕ) → Option (List ℕ)
 not_text a = Some (codes "(! ") ++? a ++? Some (codes ")")
 
--- f is `And` over a formula of each part
-pub record IsAnd (text : Option (List ℕ)) (left right : Formula → Type 0) (f : Formula) : Type 0 where
+-- f joins a formula of each part
+pub record IsJoin (join : Formula → Formula → Formula) (left right : Formula → Type 0) (f : Formula) : Type 0 where
   pub left_formula : Formula
   pub right_formula : Formula
   pub of_left : left left_formula
   pub of_right : right right_formula
-  pub is : f ≡ And (plain text) left_formula right_formula
+  pub is : f ≡ join left_formula right_formula
 
-pub record IsOr (text : Option (List ℕ)) (left right : Formula → Type 0) (f : Formula) : Type 0 where
-  pub left_formula : Formula
-  pub right_formula : Formula
-  pub of_left : left left_formula
-  pub of_right : right right_formula
-  pub is : f ≡ Or (plain text) left_formula right_formula
+module _ (text : Option (List ℕ)) (left right : Formula → Type 0) where
+  abbrev pub IsAnd : Formula → Type 0
+  IsAnd = IsJoin (And (plain text)) left right
+
+  abbrev pub IsOr : Formula → Type 0
+  IsOr = IsJoin (Or (plain text)) left right
+
+  abbrev pub IsXor : Formula → Type 0
+  IsXor = IsJoin (Xor (plain text)) left right
 
 -- f is `Not` over a formula of the part
 pub record IsNot (text : Option (List ℕ)) (part : Formula → Type 0) (f : Formula) : Type 0 where

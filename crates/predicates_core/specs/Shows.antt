@@ -1,7 +1,7 @@
 -- When a case shows a formula, cut down to some of its leaves.
 use Rattle.std.specs.Prelude.{◌≡◌, ℕ, ◌-◌, Bool, not, List, [], ◌∷◌, map, filter, Option, Some, None, MatchOption, codes, nat_lt, nat_le}
 use Rattle.predicates_core.specs.Label.{Label, Entry, FitsText, FitsProducts}
-use Rattle.predicates_core.specs.Formula.{Formula, Leaf, And, Or, Not, Named, size, truth, HasTruth}
+use Rattle.predicates_core.specs.Formula.{Formula, Leaf, And, Or, Xor, Not, Named, size, truth, HasTruth}
 use Rattle.predicates_core.specs.Reason.{IsFirstReason}
 use Rattle.predicates_core.specs.Tree.{Tree, Forest, empty, branch, forest}
 use Rattle.predicates_core.specs.Describe.{CaseNode, NamedCase}
@@ -33,6 +33,7 @@ unfoldable pub Shows : Formula → Tree CaseNode → List ℕ → Type 0
 Shows (Leaf label own) t s = FitsNode label own t.root × (t.children ≡ empty) × (s ≡ 0 ∷ [])
 Shows (And label l r) t s = FitsNode label (truth (And label l r)) t.root × ShowsBoth (Shows l) (Shows r) (size l) t.children s
 Shows (Or label l r) t s = FitsNode label (truth (Or label l r)) t.root × ShowsBoth (Shows l) (Shows r) (size l) t.children s
+Shows (Xor label l r) t s = FitsNode label (truth (Xor label l r)) t.root × ShowsBoth (Shows l) (Shows r) (size l) t.children s
 Shows (Not label f) t s = FitsNode label (truth (Not label f)) t.root × ShowsPart (Shows f) (codes "predicate") s t.children empty
 Shows (Named label name f) t s = FitsNode label (truth (Named label name f)) t.root × ShowsPart (Shows f) name s t.children empty
 

@@ -7,8 +7,8 @@ use Rattle.predicates.specs.Makers.{equal_to}
 use Rattle.predicates_text.specs.Held.{starts_pattern, ends_pattern, contains_pattern}
 use Rattle.predicates_text.specs.Pattern.{regex_text, IsReadFromText}
 use Rattle.predicates_explain.specs.declared.words.word.Word.{Word}
-use Rattle.predicates_explain.specs.declared.words.word.Word.TheVariants.{Empty, Equals, Starts, Ends, Contains, Matches, Trim, Normalize, Not, And, Or}
-use Rattle.predicates_explain.specs.declared.check.TextCheck.{TextCheck, Empty as EmptyCheck, Equals as EqualsCheck, Starts as StartsCheck, Ends as EndsCheck, Contains as ContainsCheck, Matches as MatchesCheck, Trim', Normalize', Not', And', Or'}
+use Rattle.predicates_explain.specs.declared.words.word.Word.TheVariants.{Empty, Equals, Starts, Ends, Contains, Matches, Trim, Normalize, Not, And, Or, Xor}
+use Rattle.predicates_explain.specs.declared.check.TextCheck.{TextCheck, Empty as EmptyCheck, Equals as EqualsCheck, Starts as StartsCheck, Ends as EndsCheck, Contains as ContainsCheck, Matches as MatchesCheck, Trim', Normalize', Not', And', Or', Xor'}
 
 -- how many checks a word takes
 abbrev pub operand_count : Word → ℕ
@@ -23,6 +23,7 @@ operand_count Normalize = 1
 operand_count Not = 1
 operand_count And = 2
 operand_count Or = 2
+operand_count Xor = 2
 
 -- the check is that of the word over these operands, the earlier one first
 abbrev pub IsCheckOf : Word → List TextCheck → TextCheck → Type 0
@@ -37,6 +38,7 @@ IsCheckOf Normalize (operand ∷ []) (Normalize' _ inner) = inner ≡ operand
 IsCheckOf Not (operand ∷ []) (Not' _ inner) = inner ≡ operand
 IsCheckOf And (left ∷ right ∷ []) (And' _ l _ r) = (l ≡ left) × (r ≡ right)
 IsCheckOf Or (left ∷ right ∷ []) (Or' _ l _ r) = (l ≡ left) × (r ≡ right)
+IsCheckOf Xor (left ∷ right ∷ []) (Xor' _ l _ r) = (l ≡ left) × (r ≡ right)
 IsCheckOf _ _ _ = ⊥
 
 -- the check is that of the word over the last of the old stack, and the others are left

@@ -3,10 +3,10 @@ use Rattle.std.specs.Prelude.{◌≡◌, refl, ℕ, List}
 use Rattle.predicates_core.specs.Label.{FitsEntry}
 use Rattle.predicates_core.specs.Formula.{Formula, text_of}
 use Rattle.predicates_core.proofs.Leaves.{exactly_text_fits, one_exactly}
-use Rattle.predicates_core.proofs.Combined.{and_text_fits, or_text_fits, not_text_fits, one_and, one_or, one_not, has_and, has_or}
+use Rattle.predicates_core.proofs.Combined.{and_text_fits, or_text_fits, xor_text_fits, not_text_fits, one_and, one_or, one_xor, one_not, has_and, has_or, has_xor}
 use Rattle.predicates_text.specs.Handed.{trimmed_bytes, even_bytes}
 use Rattle.predicates_explain.specs.Checks.{check_text, check_formula, HasFormula}
-use Rattle.predicates_explain.specs.declared.check.TextCheck.{TextCheck, Empty, Equals, Starts, Ends, Contains, Matches, Trim', Normalize', Not', And', Or'}
+use Rattle.predicates_explain.specs.declared.check.TextCheck.{TextCheck, Empty, Equals, Starts, Ends, Contains, Matches, Trim', Normalize', Not', And', Or', Xor'}
 
 pub check_text_fits : (c : TextCheck) (bytes : List ℕ) (f : Formula) → HasFormula c bytes f → FitsEntry (text_of f) (check_text c)
 check_text_fits (Empty p) bytes f h = exactly_text_fits h
@@ -20,6 +20,7 @@ check_text_fits (Normalize' _ inner) bytes f h = check_text_fits inner (even_byt
 check_text_fits (Not' _ inner) bytes f h = not_text_fits h
 check_text_fits (And' _ left _ right) bytes f h = and_text_fits h
 check_text_fits (Or' _ left _ right) bytes f h = or_text_fits h
+check_text_fits (Xor' _ left _ right) bytes f h = xor_text_fits h
 
 pub one_check : (c : TextCheck) (bytes : List ℕ) (f g : Formula) → HasFormula c bytes f → HasFormula c bytes g → f ≡ g
 one_check (Empty p) bytes f g h k = one_exactly h k
@@ -33,6 +34,7 @@ one_check (Normalize' _ inner) bytes f g h k = one_check inner (even_bytes bytes
 one_check (Not' _ inner) bytes f g h k = one_not (one_check inner bytes) h k
 one_check (And' _ left _ right) bytes f g h k = one_and (one_check left bytes) (one_check right bytes) h k
 one_check (Or' _ left _ right) bytes f g h k = one_or (one_check left bytes) (one_check right bytes) h k
+one_check (Xor' _ left _ right) bytes f g h k = one_xor (one_check left bytes) (one_check right bytes) h k
 
 pub has_check_formula : (c : TextCheck) (bytes : List ℕ) → HasFormula c bytes (check_formula c bytes)
 has_check_formula (Empty p) bytes = record { is = refl }
@@ -46,3 +48,4 @@ has_check_formula (Normalize' _ inner) bytes = has_check_formula inner (even_byt
 has_check_formula (Not' _ inner) bytes = record { inner = _; of_part = has_check_formula inner bytes; is = refl }
 has_check_formula (And' _ left _ right) bytes = has_and (has_check_formula left bytes) (has_check_formula right bytes)
 has_check_formula (Or' _ left _ right) bytes = has_or (has_check_formula left bytes) (has_check_formula right bytes)
+has_check_formula (Xor' _ left _ right) bytes = has_xor (has_check_formula left bytes) (has_check_formula right bytes)

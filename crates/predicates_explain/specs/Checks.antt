@@ -1,15 +1,15 @@
 -- What a check of texts prints, and its formula on a text, by the word that it stands for.
 use Rattle.std.specs.Prelude.{ℕ, ◌+◌, List, codes}
 use Rattle.predicates_core.specs.Label.{Entry, plain}
-use Rattle.predicates_core.specs.Formula.{Formula, And, Or, Not}
+use Rattle.predicates_core.specs.Formula.{Formula, And, Or, Xor, Not}
 use Rattle.predicates_core.specs.Leaves.{IsExactly}
-use Rattle.predicates_core.specs.Combined.{infix_text, not_text, IsAnd, IsOr, IsNot}
+use Rattle.predicates_core.specs.Combined.{infix_text, not_text, IsAnd, IsOr, IsXor, IsNot}
 use Rattle.predicates_text.specs.Held.{starts_pattern, ends_pattern, contains_pattern}
 use Rattle.predicates_text.specs.Leaves.{empty_text, empty_formula, starts_text, starts_formula, ends_text, ends_formula, contains_text, contains_formula}
 use Rattle.predicates_text.specs.Pattern.{match_text, match_formula, regex_text, regex_meaning}
 use Rattle.predicates_text.specs.Handed.{trimmed_bytes, even_bytes}
 use Rattle.predicates.specs.TextEquality.{text_equality_text, text_equality_formula}
-use Rattle.predicates_explain.specs.declared.check.TextCheck.{TextCheck, Empty, Equals, Starts, Ends, Contains, Matches, Trim', Normalize', Not' as NotCheck, And' as AndCheck, Or' as OrCheck}
+use Rattle.predicates_explain.specs.declared.check.TextCheck.{TextCheck, Empty, Equals, Starts, Ends, Contains, Matches, Trim', Normalize', Not' as NotCheck, And' as AndCheck, Or' as OrCheck, Xor' as XorCheck}
 
 -- the printed text
 abbrev pub check_text : TextCheck → Entry
@@ -24,6 +24,7 @@ check_text (Normalize' _ inner) = check_text inner
 check_text (NotCheck _ inner) = not_text (check_text inner)
 check_text (AndCheck _ left _ right) = infix_text (codes " && ") (check_text left) (check_text right)
 check_text (OrCheck _ left _ right) = infix_text (codes " || ") (check_text left) (check_text right)
+check_text (XorCheck _ left _ right) = infix_text (codes " ^ ") (check_text left) (check_text right)
 
 -- the formula on a text with the bytes
 abbrev pub HasFormula : TextCheck → List ℕ → Formula → Type 0
@@ -40,6 +41,8 @@ HasFormula (AndCheck _ left _ right) bytes =
     IsAnd (infix_text (codes " && ") (check_text left) (check_text right)) (HasFormula left bytes) (HasFormula right bytes)
 HasFormula (OrCheck _ left _ right) bytes =
     IsOr (infix_text (codes " || ") (check_text left) (check_text right)) (HasFormula left bytes) (HasFormula right bytes)
+HasFormula (XorCheck _ left _ right) bytes =
+    IsXor (infix_text (codes " ^ ") (check_text left) (check_text right)) (HasFormula left bytes) (HasFormula right bytes)
 
 -- the one such formula
 abbrev pub check_formula : TextCheck → List ℕ → Formula
@@ -56,6 +59,8 @@ check_formula (AndCheck _ left _ right) bytes =
     And (plain (infix_text (codes " && ") (check_text left) (check_text right))) (check_formula left bytes) (check_formula right bytes)
 check_formula (OrCheck _ left _ right) bytes =
     Or (plain (infix_text (codes " || ") (check_text left) (check_text right))) (check_formula left bytes) (check_formula right bytes)
+check_formula (XorCheck _ left _ right) bytes =
+    Xor (plain (infix_text (codes " ^ ") (check_text left) (check_text right))) (check_formula left bytes) (check_formula right bytes)
 
 -- `eval` takes no memory
 abbrev pub IsSteadyCheck : TextCheck → Type 0
@@ -70,6 +75,7 @@ IsSteadyCheck (Normalize' _ inner) = ⊥
 IsSteadyCheck (NotCheck _ inner) = IsSteadyCheck inner
 IsSteadyCheck (AndCheck _ left _ right) = IsSteadyCheck left × IsSteadyCheck right
 IsSteadyCheck (OrCheck _ left _ right) = IsSteadyCheck left × IsSteadyCheck right
+IsSteadyCheck (XorCheck _ left _ right) = IsSteadyCheck left × IsSteadyCheck right
 
 -- how many words it stands for
 abbrev pub word_count : TextCheck → ℕ
@@ -84,3 +90,4 @@ word_count (Normalize' _ inner) = word_count inner + 1
 word_count (NotCheck _ inner) = word_count inner + 1
 word_count (AndCheck _ left _ right) = word_count left + word_count right + 1
 word_count (OrCheck _ left _ right) = word_count left + word_count right + 1
+word_count (XorCheck _ left _ right) = word_count left + word_count right + 1

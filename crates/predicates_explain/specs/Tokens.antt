@@ -1,7 +1,7 @@
 -- The words of a check, as they are written on a command line.
 use Rattle.std.specs.Prelude.{ℕ, List, ◌++◌, codes, string_bytes}
 use Rattle.predicates_explain.specs.declared.words.word.Word.{Word}
-use Rattle.predicates_explain.specs.declared.words.word.Word.TheVariants.{Empty, Equals, Starts, Ends, Contains, Matches, Trim, Normalize, Not, And, Or}
+use Rattle.predicates_explain.specs.declared.words.word.Word.TheVariants.{Empty, Equals, Starts, Ends, Contains, Matches, Trim, Normalize, Not, And, Or, Xor}
 
 -- the token of a word: a name alone, or a name, `=` and a text
 abbrev pub token_of : Word → List ℕ
@@ -16,6 +16,7 @@ token_of Normalize = codes "normalize"
 token_of Not = codes "not"
 token_of And = codes "and"
 token_of Or = codes "or"
+token_of Xor = codes "xor"
 
 -- the word's token is a name alone
 abbrev pub IsName : Word → Type 0
@@ -30,3 +31,4 @@ IsName Normalize = Unit {0}
 IsName Not = Unit {0}
 IsName And = Unit {0}
 IsName Or = Unit {0}
+IsName Xor = Unit {0}

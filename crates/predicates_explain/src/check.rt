@@ -1,6 +1,6 @@
 //! A check of texts, made of words.
 ghost use Rattle.std.specs.Prelude.{◌≡◌, [], IfOk, string_bytes};
-ghost use Rattle.predicates_core.specs.Combined.{IsAnd, IsNot, IsOr};
+ghost use Rattle.predicates_core.specs.Combined.{IsAnd, IsNot, IsOr, IsXor};
 ghost use Rattle.predicates_core.specs.Shows.{IsAnswer};
 ghost use Rattle.predicates_core.specs.Tree.{empty};
 ghost use Rattle.predicates_text.specs.Handed.{trimmed_bytes, even_bytes};
@@ -32,6 +32,7 @@ pub enum TextCheck {
     Not(Box<TextCheck>),
     And(Box<TextCheck>, Box<TextCheck>),
     Or(Box<TextCheck>, Box<TextCheck>),
+    Xor(Box<TextCheck>, Box<TextCheck>),
 }
 
 impl fmt::Display for TextCheck {
@@ -62,6 +63,13 @@ impl fmt::Display for TextCheck {
                 write!(f, "(")?;
                 (**left).fmt(f)?;
                 write!(f, " || ")?;
+                (**right).fmt(f)?;
+                write!(f, ")")
+            }
+            TextCheck::Xor(left, right) => {
+                write!(f, "(")?;
+                (**left).fmt(f)?;
+                write!(f, " ^ ")?;
                 (**right).fmt(f)?;
                 write!(f, ")")
             }
@@ -132,6 +140,9 @@ impl Predicate<String> for TextCheck {
             TextCheck::Or(left, right) => {
                 Ok(left.eval(alloc, item)? || right.eval(alloc, item)?)
             }
+            TextCheck::Xor(left, right) => {
+                Ok(left.eval(alloc, item)? != right.eval(alloc, item)?)
+            }
         }
     }
 
@@ -164,6 +175,7 @@ impl TextCheck {
             TextCheck::Not(inner) => self.find_not(alloc, inner, expected, item),
             TextCheck::And(left, right) => self.find_and(alloc, left, right, expected, item),
             TextCheck::Or(left, right) => self.find_or(alloc, left, right, expected, item),
+            TextCheck::Xor(left, right) => self.find_xor(alloc, left, right, expected, item),
         }
     }
 
@@ -276,6 +288,31 @@ impl TextCheck {
             }
             right
         };
+        let text = printed(alloc, self)?;
+        Ok(Some(over_found(alloc, text, expected, left, right)?))
+    }
+
+    #[cycle(find)]
+    #[tactic(auto, using(predicates_core::proofs::Combined::combined))]
+    fn find_xor(
+        &self,
+        alloc: Global,
+        left: &TextCheck,
+        right: &TextCheck,
+        expected: bool,
+        item: &String,
+    ) -> Result<Option<Case>, AllocError>
+        ensures { IfOk result (IsAnswer (IsXor (check_text self.now)
+            (HasFormula left.now (string_bytes item.now))
+            (HasFormula right.now (string_bytes item.now))) expected) }
+    {
+        let left_holds = left.eval(alloc, item)?;
+        let right_holds = right.eval(alloc, item)?;
+        if (left_holds != right_holds) != expected {
+            return Ok(None);
+        }
+        let left = left.find(alloc, left_holds, item)?;
+        let right = right.find(alloc, right_holds, item)?;
         let text = printed(alloc, self)?;
         Ok(Some(over_found(alloc, text, expected, left, right)?))
     }

@@ -4,7 +4,7 @@ use predicates::prelude::*;
 use std::test::Fail;
 
 // Tokens, an input, what is written for it, and whether every line is a text.
-const ROWS: [(&[&str], &[u8], &str, bool); 5] = [
+const ROWS: [(&[&str], &[u8], &str, bool); 6] = [
     (
         &["empty", "trim", "contains=a", "or"],
         b"  \n",
@@ -15,6 +15,12 @@ const ROWS: [(&[&str], &[u8], &str, bool); 5] = [
         &["contains=a", "normalize", "match=T[a-z]*", "or"],
         b"Two",
         "line 1: true\n(var.contains(a) || var.is_match(T[a-z]*)) = true\n  right: var.is_match(T[a-z]*) = true\n    - var: Two\n",
+        true,
+    ),
+    (
+        &["empty", "contains=a", "xor"],
+        b"b",
+        "line 1: false\n(var.is_empty() ^ var.contains(a)) = false\n  left: var.is_empty() = false\n    - var: b\n  right: var.contains(a) = false\n    - var: b\n",
         true,
     ),
     (&["empty"], b"\xff\n", "line 1: not UTF-8\n", false),

@@ -68,6 +68,10 @@ fn make_check(alloc: Global, stack: &mut Vec<TextCheck>, word: Word) -> Result<T
             let (left, right) = take_two(alloc, stack)?;
             Ok(TextCheck::Or(left, right))
         }
+        Word::Xor => {
+            let (left, right) = take_two(alloc, stack)?;
+            Ok(TextCheck::Xor(left, right))
+        }
     }
 }
 

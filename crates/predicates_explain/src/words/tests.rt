@@ -17,7 +17,8 @@ fn tokens(rt: HostRuntime) -> Result<(), Fail> {
         Some(Word::Matches(pattern))
     );
     assert_eq!(rt; read_word(alloc, "normalize")?, Some(Word::Normalize));
-    for token in ["eq", "empty=", "xor", "", "=", "Empty", "starts", "or "] {
+    assert_eq!(rt; read_word(alloc, "xor")?, Some(Word::Xor));
+    for token in ["eq", "empty=", "xors", "", "=", "Empty", "starts", "or "] {
         assert_eq!(rt; read_word(alloc, token)?, None, "at {token:?}");
     }
     Ok(())
@@ -41,7 +42,7 @@ fn apply_tokens(
 fn operands(rt: HostRuntime) -> Result<(), Fail> {
     let alloc = rt.alloc();
     let mut stack = Vec::new(alloc);
-    for token in ["and", "or", "not", "trim", "normalize"] {
+    for token in ["and", "or", "xor", "not", "trim", "normalize"] {
         let answer = apply_tokens(alloc, &mut stack, &[token]);
         assert_eq!(rt; answer, Err(WordFault::Operand), "at {token}");
     }

@@ -30,6 +30,8 @@ pub enum Word {
     And,
     /// `or`: one or both of the last two checks, the earlier one as left.
     Or,
+    /// `xor`: exactly one of the last two checks, the earlier one as left.
+    Xor,
 }
 
 // The word whose token is a name, `=` and a text, or `None`.
@@ -69,6 +71,7 @@ pub fn read_word(alloc: Global, token: &str) -> Result<Option<Word>, AllocError>
         "not" => Ok(Some(Word::Not)),
         "and" => Ok(Some(Word::And)),
         "or" => Ok(Some(Word::Or)),
+        "xor" => Ok(Some(Word::Xor)),
         _ => read_with_text(alloc, token),
     }
 }

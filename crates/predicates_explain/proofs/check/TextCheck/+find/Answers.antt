@@ -1,5 +1,5 @@
 use Rattle.std.proofs.Common.{rules}
-use Rattle.predicates_core.proofs.Combined.{IsCaseOf-and_asked, IsCaseOf-and_decided, IsCaseOf-or_asked, IsCaseOf-or_decided, IsCaseOf-not}
+use Rattle.predicates_core.proofs.Combined.{IsCaseOf-and_asked, IsCaseOf-and_decided, IsCaseOf-or_asked, IsCaseOf-or_decided, IsCaseOf-xor_asked, IsCaseOf-not}
 use Rattle.predicates_explain.proofs.check.TextCheck.+find.Goals as goal
 use Rattle.predicates_explain.proofs.check.TextCheck.+find.Goals.{find_and-then-is_some-expected+in_ok-right+else-is_none, find_and-else-is_some-expected+else-is_none-2, find_or-then-is_some-expected+else-is_none, find_or-else-is_some-expected+in_ok-right+else-is_none-2}
 
@@ -17,3 +17,6 @@ find_or-returns t c = elim c.if-is_some-expected.branch [
   | find_or-then-is_some-expected+else-is_none w ↦ IsCaseOf-or_decided c.in_ok-left.left c.if-is_some-expected.right c.in_ok-over_found.ensures (search rules) (search rules) (search rules) (search rules) (search rules)
   | find_or-else-is_some-expected+in_ok-right+else-is_none-2 w ↦ IsCaseOf-or_asked c.in_ok-left.left c.if-is_some-expected.right c.in_ok-over_found.ensures (search rules) (search rules) (search rules) (search rules) (search rules)
 ]
+
+pub find_xor-returns : goal.find_xor-returns
+find_xor-returns t c = IsCaseOf-xor_asked c.in_ok-left_holds.left_holds c.in_ok-right_holds.right_holds c.in_ok-left.left c.in_ok-right.right c.in_ok-over_found.ensures (search rules) (search rules) (search rules) (search rules) (search rules) (search rules)

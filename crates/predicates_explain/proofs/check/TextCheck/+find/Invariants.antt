@@ -19,3 +19,6 @@ decreases-find_and l = 2 * (word_count l.left.now + word_count l.right.now) + 1
 
 abbrev pub decreases-find_or : goal.decreases-find_or
 decreases-find_or l = 2 * (word_count l.left.now + word_count l.right.now) + 1
+
+abbrev pub decreases-find_xor : goal.decreases-find_xor
+decreases-find_xor l = 2 * (word_count l.left.now + word_count l.right.now) + 1
