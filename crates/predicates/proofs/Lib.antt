@@ -4,3 +4,4 @@ pub mod Calls
 pub mod Given
 pub mod Names
 pub mod Opened
+pub mod Opposites

@@ -15,4 +15,5 @@ pub mod Name
 pub mod Boxed
 pub mod Printed
 pub mod PrintedLaws
+pub mod Laws
 pub mod TextEquality

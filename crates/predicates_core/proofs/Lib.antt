@@ -13,3 +13,5 @@ pub mod Preorder
 pub mod Fields
 pub mod Kept
 pub mod Existence
+pub mod Alike
+pub mod OneCase

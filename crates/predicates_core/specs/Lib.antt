@@ -6,6 +6,7 @@ pub mod Reason
 pub mod Laws
 pub mod Shows
 pub mod Combined
+pub mod Alike
 pub mod Leaves
 pub mod Added
 pub mod Parts

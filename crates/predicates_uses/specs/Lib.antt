@@ -5,3 +5,4 @@ pub mod Sifted
 pub mod Applied
 pub mod Json
 pub mod PolicyFault
+pub mod Plainly

@@ -2,6 +2,7 @@
 mod callers;
 mod guide;
 mod own;
+mod plainly;
 mod reason;
 
 use predicates::prelude::*;

@@ -1,0 +1,91 @@
+//! Laws of predicates, as contracts of calls that do nothing and take no memory: what a check may be
+//! rewritten to, with the same verdict and the same leaves in every case.
+ghost use Rattle.std.specs.Prelude.{◌≡◌, List, codes};
+ghost use Rattle.std.specs.List.Sorted.{IsPermutation};
+ghost use Rattle.predicates_core.specs.Formula.{Formula};
+ghost use Rattle.predicates_core.specs.Combined.{infix_text, not_text};
+ghost use Rattle.predicates_core.specs.Alike.{AreAlike, AreSameFunction, HasStatedLabels};
+ghost use Rattle.predicates.specs.Makers.{equal_to, unequal_to, less_than, at_most, at_least, greater_than};
+ghost use Rattle.predicates.specs.Members.{has_equal, first_of_equals};
+ghost use Rattle.predicates.specs.Laws.{opposite, twice_opposite, under_name, both_of, one_of, AreOpposite, HasAtMostOneCase, HasOneAnswer};
+
+use crate::ord::{EqPredicate, OrdPredicate};
+use predicates_core::Predicate;
+use std::fmt;
+use std::hash::Hash;
+
+/// `p.not().not()` has the verdict of `p`, and the same leaves explain it.
+pub fn double_negation<P: Predicate<Item>, Item>(predicate: &P, item: &Item)
+    ensures { (f : Formula) → P.formula predicate.now item.now f
+        → AreAlike (twice_opposite (P.output predicate.now) f) f }
+{}
+
+/// `p.name(name)` has the verdict of `p`, and the same leaves explain it.
+pub fn named<P: Predicate<Item>, Item>(predicate: &P, item: &Item, name: &'static str)
+    ensures { (f : Formula) → P.formula predicate.now item.now f
+        → AreAlike (under_name name.entry.now f) f }
+{}
+
+/// Two predicates that are the same function of the same leaves have the same verdict, and the same
+/// leaves explain it.
+pub fn same_function<P: Predicate<Item>, Q: Predicate<Item>, Item>(
+    predicate: &P,
+    other: &Q,
+    item: &Item,
+)
+    ensures { (f g : Formula) → P.formula predicate.now item.now f
+        → Q.formula other.now item.now g → AreSameFunction f g → AreAlike f g }
+{}
+
+/// `p.and(q).not()` and `p.not().or(q.not())` have the same verdict, and the same leaves explain it;
+/// so have `p.or(q).not()` and `p.not().and(q.not())`.
+pub fn de_morgan<P: Predicate<Item>, Q: Predicate<Item>, Item>(left: &P, right: &Q, item: &Item)
+    ensures not_both { (f g : Formula) → P.formula left.now item.now f → Q.formula right.now item.now g
+        → AreAlike
+        (opposite (infix_text (codes " && ") (P.output left.now) (Q.output right.now))
+        (both_of (codes " && ") (P.output left.now) (Q.output right.now) f g))
+        (one_of (codes " || ") (not_text (P.output left.now)) (not_text (Q.output right.now))
+        (opposite (P.output left.now) f) (opposite (Q.output right.now) g)) }
+    ensures not_either { (f g : Formula) → P.formula left.now item.now f → Q.formula right.now item.now g
+        → AreAlike
+        (opposite (infix_text (codes " || ") (P.output left.now) (Q.output right.now))
+        (one_of (codes " || ") (P.output left.now) (Q.output right.now) f g))
+        (both_of (codes " && ") (not_text (P.output left.now)) (not_text (Q.output right.now))
+        (opposite (P.output left.now) f) (opposite (Q.output right.now) g)) }
+{}
+
+/// Where a predicate's formula leaves no entry open, there is one case that explains it and no other,
+/// however it was found.
+pub fn one_case<P: Predicate<Item>, Item>(predicate: &P, item: &Item)
+    ensures { (f : Formula) → P.formula predicate.now item.now f → HasStatedLabels f
+        → HasAtMostOneCase f }
+{}
+
+/// Of the two questions for a case, that for a true and that for a false verdict, one finds a case and
+/// the other finds none.
+pub fn exactly_one<P: Predicate<Item>, Item>(predicate: &P, item: &Item)
+    ensures { (f : Formula) → P.formula predicate.now item.now f
+        → HasOneAnswer (P.formula predicate.now item.now) }
+{}
+
+/// `lt` and `ge`, `gt` and `le`, and `eq` and `ne` of one constant have opposite verdicts.
+pub fn complements<T: fmt::Debug + Ord>(constant: &T, item: &T)
+    ensures lt_ge { AreOpposite
+        (⟦<OrdPredicate<T> as Predicate<T>>⟧.formula (less_than constant.now) item.now)
+        (⟦<OrdPredicate<T> as Predicate<T>>⟧.formula (at_least constant.now) item.now) }
+    ensures gt_le { AreOpposite
+        (⟦<OrdPredicate<T> as Predicate<T>>⟧.formula (greater_than constant.now) item.now)
+        (⟦<OrdPredicate<T> as Predicate<T>>⟧.formula (at_most constant.now) item.now) }
+    ensures eq_ne { AreOpposite
+        (⟦<EqPredicate<T> as Predicate<T>>⟧.formula (equal_to constant.now) item.now)
+        (⟦<EqPredicate<T> as Predicate<T>>⟧.formula (unequal_to constant.now) item.now) }
+{}
+
+/// Some member equals the item in a list, in each rearrangement of it, and in what is left of it
+/// without the later of equal members, or in none of them.
+pub fn memberships<T: Ord + Hash>(members: &[T], item: &T)
+    ensures rearranged { (sorted : List T) → IsPermutation members.now sorted
+        → has_equal T.eq sorted item.now ≡ has_equal T.eq members.now item.now }
+    ensures first { has_equal T.eq (first_of_equals T.eq members.now) item.now
+        ≡ has_equal T.eq members.now item.now }
+{}

@@ -1,0 +1,29 @@
+-- When two formulas are explained alike, and when a formula has one case alone.
+use Rattle.std.specs.Prelude.{◌≡◌, ◌↔◌, ℕ, Bool, List, IsSome}
+use Rattle.std.specs.List.{AllByRecursion}
+use Rattle.predicates_core.specs.Label.{Label}
+use Rattle.predicates_core.specs.Formula.{Formula, Leaf, And, Or, Not, Named, IsValuation, value, actual, truth}
+use Rattle.predicates_core.specs.Reason.{IsFirstReason}
+
+-- the two formulas have the same truth and the same first reason
+pub record AreAlike (f g : Formula) : Type 0 where
+  pub truths : truth f ≡ truth g
+  pub reasons : (leaves : List ℕ) → IsFirstReason f leaves ↔ IsFirstReason g leaves
+
+-- the two formulas are the same function of the same leaves
+pub record AreSameFunction (f g : Formula) : Type 0 where
+  pub leaves : actual f ≡ actual g
+  pub values : (w : List Bool) → IsValuation f w → value f w ≡ value g w
+
+-- the label leaves no entry open
+pub record IsStated (label : Label) : Type 0 where
+  pub text : IsSome label.text
+  pub products : AllByRecursion (λ p. IsSome p.value) label.products
+
+-- no label of the formula leaves an entry open
+unfoldable pub HasStatedLabels : Formula → Type 0
+HasStatedLabels (Leaf label truth) = IsStated label
+HasStatedLabels (And label l r) = IsStated label × HasStatedLabels l × HasStatedLabels r
+HasStatedLabels (Or label l r) = IsStated label × HasStatedLabels l × HasStatedLabels r
+HasStatedLabels (Not label f) = IsStated label × HasStatedLabels f
+HasStatedLabels (Named label name f) = IsStated label × HasStatedLabels f
