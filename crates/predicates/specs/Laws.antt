@@ -1,7 +1,7 @@
 -- What the laws of predicates speak of.
 use Rattle.std.specs.Prelude.{◌≡◌, ℕ, true, false, not, List, Option, Some, is_some}
 use Rattle.predicates_core.specs.Label.{Entry, plain}
-use Rattle.predicates_core.specs.Formula.{Formula, And, Or, Not, Named, truth}
+use Rattle.predicates_core.specs.Formula.{Formula, And, Or, Xor, Not, Named, truth}
 use Rattle.predicates_core.specs.Tree.{Tree}
 use Rattle.predicates_core.specs.Describe.{CaseNode}
 use Rattle.predicates_core.specs.Shows.{Explains, IsAnswer}
@@ -19,12 +19,15 @@ twice_opposite printed f = opposite (not_text printed) (opposite printed f)
 abbrev pub under_name : List ℕ → Formula → Formula
 under_name name f = Named (plain (Some name)) name f
 
--- both formulas, or one of them, with the operator between their texts
+-- both formulas, at least one, or just one of them, with the operator between their texts
 abbrev pub both_of : List ℕ → Entry → Entry → Formula → Formula → Formula
 both_of operator a b f g = And (plain (infix_text operator a b)) f g
 
 abbrev pub one_of : List ℕ → Entry → Entry → Formula → Formula → Formula
 one_of operator a b f g = Or (plain (infix_text operator a b)) f g
+
+abbrev pub just_one_of : List ℕ → Entry → Entry → Formula → Formula → Formula
+just_one_of operator a b f g = Xor (plain (infix_text operator a b)) f g
 
 -- each formula of F has the opposite truth of each of G
 pub record AreOpposite (F G : Formula → Type 0) : Type 0 where

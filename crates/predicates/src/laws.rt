@@ -6,6 +6,6 @@ mod tests;
 
 pub use predicates_core::laws::first_reasons;
 pub use rewriting::{
-    complements, de_morgan, double_negation, exactly_one, memberships, named, one_case,
-    same_function,
+    complements, de_morgan, double_negation, exactly_one, exclusive_or, memberships, named,
+    one_case, same_function,
 };

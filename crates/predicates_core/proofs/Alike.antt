@@ -2,7 +2,7 @@
 use Rattle.std.proofs.Common.{◌≡◌, ℕ, List, Bool, true, false, refl, ap, ◌∙◌}
 use Rattle.std.specs.Prelude.{not, ◌&&◌, ◌||◌}
 use Rattle.predicates_core.specs.Label.{Label}
-use Rattle.predicates_core.specs.Formula.{Formula, And, Or, Not, Named, size, value, actual, truth}
+use Rattle.predicates_core.specs.Formula.{Formula, And, Or, Xor, Not, Named, differ, size, value, actual, truth}
 use Rattle.predicates_core.specs.Alike.{AreAlike, AreSameFunction}
 use Rattle.predicates_core.proofs.Values.{not-not, truth-Not, truth-Named}
 use Rattle.predicates_core.proofs.Combine.{SameReasons, same_symmetric, same_first, same_function_reasons, same_function_truth, not_reasons, named_reasons, first-Not}
@@ -40,3 +40,14 @@ negated_and a b c d e f g = same_function (Not a (And b f g)) (Or c (Not d f) (N
 pub negated_or : (a b c d e : Label) (f g : Formula) → AreAlike (Not a (Or b f g)) (And c (Not d f) (Not e g))
 unfolding size value actual
 negated_or a b c d e f g = same_function (Not a (Or b f g)) (And c (Not d f) (Not e g)) (record { leaves = refl; values = λ w h. not_or (value f _) (value g _) })
+
+not_differ : (a b : Bool) → not (differ a b) ≡ differ (not a) b
+not_differ true true = refl
+not_differ true false = refl
+not_differ false true = refl
+not_differ false false = refl
+
+-- the parts do not differ where the opposite of the left one differs from the right one
+pub negated_xor : (a b c d : Label) (f g : Formula) → AreAlike (Not a (Xor b f g)) (Xor c (Not d f) g)
+unfolding size value actual
+negated_xor a b c d f g = same_function (Not a (Xor b f g)) (Xor c (Not d f) g) (record { leaves = refl; values = λ w h. not_differ (value f _) (value g _) })

@@ -5,7 +5,7 @@ use Rattle.std.specs.List.{AllByRecursion}
 use Rattle.predicates_core.specs.Tree.{Tree, Forest, branch, empty}
 use Rattle.predicates_core.specs.Describe.{CaseNode, NamedBytes}
 use Rattle.predicates_core.specs.Label.{Label, Product, Entry, Fits, FitsText, FitsProducts}
-use Rattle.predicates_core.specs.Formula.{Formula, Leaf, And, Or, Not, Named, size}
+use Rattle.predicates_core.specs.Formula.{Formula, Leaf, And, Or, Xor, Not, Named, size}
 use Rattle.predicates_core.specs.Shows.{FitsNode, ShowsPart, ShowsBoth, Shows, Explains, left_share, right_share}
 use Rattle.predicates_core.specs.Alike.{IsStated, HasStatedLabels}
 use Rattle.predicates_core.proofs.First.{first_unique}
@@ -63,6 +63,8 @@ one_shown (Leaf label own) stated S c d hc hd = one_tree label _ c d stated hc.0
 one_shown (And label l r) stated S c d hc hd =
     one_tree label _ c d stated.0 hc.0 hd.0 (one_pair (Shows l) (Shows r) (size l) S c.children d.children (one_shown l stated.1) (one_shown r stated.2) hc.1 hd.1)
 one_shown (Or label l r) stated S c d hc hd =
+    one_tree label _ c d stated.0 hc.0 hd.0 (one_pair (Shows l) (Shows r) (size l) S c.children d.children (one_shown l stated.1) (one_shown r stated.2) hc.1 hd.1)
+one_shown (Xor label l r) stated S c d hc hd =
     one_tree label _ c d stated.0 hc.0 hd.0 (one_pair (Shows l) (Shows r) (size l) S c.children d.children (one_shown l stated.1) (one_shown r stated.2) hc.1 hd.1)
 one_shown (Not label f) stated S c d hc hd =
     one_tree label _ c d stated.0 hc.0 hd.0 (one_part (Shows f) (codes "predicate") S c.children d.children empty empty (one_shown f stated.1) refl hc.1 hd.1)

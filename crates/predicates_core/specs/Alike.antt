@@ -2,7 +2,7 @@
 use Rattle.std.specs.Prelude.{◌≡◌, ◌↔◌, ℕ, Bool, List, IsSome}
 use Rattle.std.specs.List.{AllByRecursion}
 use Rattle.predicates_core.specs.Label.{Label}
-use Rattle.predicates_core.specs.Formula.{Formula, Leaf, And, Or, Not, Named, IsValuation, value, actual, truth}
+use Rattle.predicates_core.specs.Formula.{Formula, Leaf, And, Or, Xor, Not, Named, IsValuation, value, actual, truth}
 use Rattle.predicates_core.specs.Reason.{IsFirstReason}
 
 -- the two formulas have the same truth and the same first reason
@@ -25,5 +25,6 @@ unfoldable pub HasStatedLabels : Formula → Type 0
 HasStatedLabels (Leaf label truth) = IsStated label
 HasStatedLabels (And label l r) = IsStated label × HasStatedLabels l × HasStatedLabels r
 HasStatedLabels (Or label l r) = IsStated label × HasStatedLabels l × HasStatedLabels r
+HasStatedLabels (Xor label l r) = IsStated label × HasStatedLabels l × HasStatedLabels r
 HasStatedLabels (Not label f) = IsStated label × HasStatedLabels f
 HasStatedLabels (Named label name f) = IsStated label × HasStatedLabels f

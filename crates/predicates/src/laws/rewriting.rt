@@ -7,7 +7,7 @@ ghost use Rattle.predicates_core.specs.Combined.{infix_text, not_text};
 ghost use Rattle.predicates_core.specs.Alike.{AreAlike, AreSameFunction, HasStatedLabels};
 ghost use Rattle.predicates.specs.Makers.{equal_to, unequal_to, less_than, at_most, at_least, greater_than};
 ghost use Rattle.predicates.specs.Members.{has_equal, first_of_equals};
-ghost use Rattle.predicates.specs.Laws.{opposite, twice_opposite, under_name, both_of, one_of, AreOpposite, HasAtMostOneCase, HasOneAnswer};
+ghost use Rattle.predicates.specs.Laws.{opposite, twice_opposite, under_name, both_of, one_of, just_one_of, AreOpposite, HasAtMostOneCase, HasOneAnswer};
 
 use crate::ord::{EqPredicate, OrdPredicate};
 use predicates_core::Predicate;
@@ -52,6 +52,16 @@ pub fn de_morgan<P: Predicate<Item>, Q: Predicate<Item>, Item>(left: &P, right: 
         (one_of (codes " || ") (P.output left.now) (Q.output right.now) f g))
         (both_of (codes " && ") (not_text (P.output left.now)) (not_text (Q.output right.now))
         (opposite (P.output left.now) f) (opposite (Q.output right.now) g)) }
+{}
+
+/// `p.xor(q).not()` and `p.not().xor(q)` have the same verdict, and the same leaves explain it.
+pub fn exclusive_or<P: Predicate<Item>, Q: Predicate<Item>, Item>(left: &P, right: &Q, item: &Item)
+    ensures { (f g : Formula) → P.formula left.now item.now f → Q.formula right.now item.now g
+        → AreAlike
+            (opposite (infix_text (codes " ^ ") (P.output left.now) (Q.output right.now))
+                (just_one_of (codes " ^ ") (P.output left.now) (Q.output right.now) f g))
+            (just_one_of (codes " ^ ") (not_text (P.output left.now)) (Q.output right.now)
+                (opposite (P.output left.now) f) g) }
 {}
 
 /// Where a predicate's formula leaves no entry open, there is one case that explains it and no other,

@@ -64,6 +64,31 @@ fn negations_of_both(rt: HostRuntime) -> Result<(), Fail> {
     Ok(())
 }
 
+#[test]
+fn negations_of_just_one(rt: HostRuntime) -> Result<(), Fail> {
+    let alloc = rt.alloc();
+    laws::exclusive_or(&lt(3), &lt(5), &4);
+    assert_eq!(rt;
+        explained(alloc, &lt(3).xor(lt(5)).not(), &4)?.as_str(),
+        "(! (var < 3 ^ var < 5)) = false\n  \
+           predicate: (var < 3 ^ var < 5) = true\n    \
+             left: var < 3 = false\n      \
+               - var: 4\n    \
+             right: var < 5 = true\n      \
+               - var: 4\n"
+    );
+    assert_eq!(rt;
+        explained(alloc, &lt(3).not().xor(lt(5)), &4)?.as_str(),
+        "((! var < 3) ^ var < 5) = false\n  \
+           left: (! var < 3) = true\n    \
+             predicate: var < 3 = false\n      \
+               - var: 4\n  \
+           right: var < 5 = true\n    \
+             - var: 4\n"
+    );
+    Ok(())
+}
+
 fn have_verdict<P: Predicate<i64>>(
     rt: &impl Abort,
     alloc: Global,
