@@ -164,6 +164,16 @@ pub preorder-push : (es : List Entry) (e : Entry) (subtree : List Entry) (all : 
 preorder-push es e subtree all s r ha size =
     rw (ha, append_assoc es (e ∷ []) subtree) (preorder-append es (e ∷ subtree) s (preorder-one e subtree size r))
 
+-- the same where there was no tree before it
+pub trees-first : (es : List Entry) (e : Entry) (subtree : List Entry) (all : List Entry)
+    → es ≡ [] → all ≡ e ∷ subtree → e.size ≡ length subtree + 1
+    → trees all ≡ add_last (trees es) e.name record { root = node_of e.node; children = trees subtree }
+trees-first es e subtree all none ha size = rw (none, ha) (trees-one e subtree size)
+
+pub preorder-first : (e : Entry) (subtree : List Entry) (all : List Entry)
+    → IsPreorder subtree → all ≡ e ∷ subtree → e.size ≡ length subtree + 1 → IsPreorder all
+preorder-first e subtree all r ha size = rw ha (preorder-one e subtree size r)
+
 length-trees_of-le : (k : ℕ) (es : List Entry) → length (named_trees (trees_of k es)) ≤ length es
 length-trees_of-le zero es = omega arith
 length-trees_of-le (suc k) [] = omega arith

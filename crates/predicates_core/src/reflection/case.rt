@@ -11,10 +11,11 @@ use crate::static_text::StaticText;
 use std::alloc::{AllocError, Global};
 use std::marker::Model;
 
-// What stands at one node.
+// What stands at one node. A text that is there or not in an `Option` would take a word more.
 #[derive(Drop)]
 struct Node {
-    text: Option<String>,
+    text: String,
+    has_text: bool,
     result: bool,
     products: Vec<Product>,
 }
@@ -56,9 +57,14 @@ impl Case {
     pub fn new(alloc: Global, predicate: Option<String>, outcome: bool) -> Case
         ensures { result ≡ leaf (option_map string_bytes predicate) outcome }
     {
+        let (text, has_text) = match predicate {
+            Some(text) => (text, true),
+            None => (String::new(alloc), false),
+        };
         Case {
             root: Node {
-                text: predicate,
+                text,
+                has_text,
                 result: outcome,
                 products: Vec::new(alloc),
             },
@@ -141,10 +147,10 @@ impl<'a> CaseView<'a> {
     pub fn predicate(&self) -> Option<&'a str>
         ensures { option_copied result ≡ self.now.root.text }
     {
-        match &self.node.text {
-            Some(text) => Some(text.as_str()),
-            None => None,
+        if !self.node.has_text {
+            return None;
         }
+        Some(self.node.text.as_str())
     }
 
     /// The result of the node.
