@@ -148,7 +148,7 @@ fn flags_change_no_text_over_texts(rt: HostRuntime) -> Result<(), Fail> {
 }
 
 #[test]
-fn flags_change_no_text_in_boxes(rt: HostRuntime) -> Result<(), Fail> {
+fn comparisons_and_memberships_in_boxes(rt: HostRuntime) -> Result<(), Fail> {
     let alloc = rt.alloc();
     stands_in_a_box(alloc, "true", Box::new(alloc, always())?)?;
     stands_in_a_box(alloc, "var == \"a b\"", Box::new(alloc, eq(a_b(alloc)?))?)?;
@@ -167,7 +167,12 @@ fn flags_change_no_text_in_boxes(rt: HostRuntime) -> Result<(), Fail> {
         alloc,
         "var in values",
         Box::new(alloc, in_hash(alloc, twice(alloc)?)?)?,
-    )?;
+    )
+}
+
+#[test]
+fn parts_of_texts_in_boxes(rt: HostRuntime) -> Result<(), Fail> {
+    let alloc = rt.alloc();
     stands_in_a_box(alloc, "var.is_empty()", Box::new(alloc, is_empty())?)?;
     stands_in_a_box(
         alloc,
@@ -188,7 +193,12 @@ fn flags_change_no_text_in_boxes(rt: HostRuntime) -> Result<(), Fail> {
         alloc,
         "var.contains(a b)",
         Box::new(alloc, contains(a_b(alloc)?).count(2))?,
-    )?;
+    )
+}
+
+#[test]
+fn patterns_in_boxes(rt: HostRuntime) -> Result<(), Fail> {
+    let alloc = rt.alloc();
     stands_in_a_box(
         alloc,
         "var.is_match(a+ b*)",
@@ -198,7 +208,12 @@ fn flags_change_no_text_in_boxes(rt: HostRuntime) -> Result<(), Fail> {
         alloc,
         "var.is_match(a+ b*)",
         Box::new(alloc, pattern(alloc)?.count(2))?,
-    )?;
+    )
+}
+
+#[test]
+fn views_and_names_in_boxes(rt: HostRuntime) -> Result<(), Fail> {
+    let alloc = rt.alloc();
     stands_in_a_box(alloc, "var.is_empty()", Box::new(alloc, is_empty().trim())?)?;
     stands_in_a_box(
         alloc,
@@ -214,8 +229,7 @@ fn flags_change_no_text_in_boxes(rt: HostRuntime) -> Result<(), Fail> {
         alloc,
         "small",
         Box::new(alloc, is_empty().name(StaticText::new("small")))?,
-    )?;
-    Ok(())
+    )
 }
 
 // A part that prints another text in a width.
