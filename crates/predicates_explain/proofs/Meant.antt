@@ -5,7 +5,7 @@ use Rattle.predicates_core.specs.Text.{Text}
 use Rattle.predicates_text.specs.Handed.{trimmed_bytes, even_bytes}
 use Rattle.predicates_explain.specs.Checks.{check_text, HasFormula}
 use Rattle.predicates_explain.specs.Meaning.{MeansByParts}
-use Rattle.predicates_explain.specs.declared.check.TextCheck.{TextCheck, Trim', Normalize', Not', And', Or'}
+use Rattle.predicates_explain.specs.declared.check.TextCheck.{TextCheck, Trim', Normalize', Not', And', Or', Xor'}
 
 on_view : (inner : TextCheck) (bytes : List ℕ) (view : Text) (f : Formula) → string_bytes view ≡ bytes → HasFormula inner bytes f ↔ HasFormula inner (string_bytes view) f
 on_view inner bytes view f e = (λ h. subst (λ b. HasFormula inner b f) (sym e) h, λ h. subst (λ b. HasFormula inner b f) e h)
@@ -16,4 +16,5 @@ means_by_parts (Normalize' place inner) text = λ view f e. on_view inner (even_
 means_by_parts (Not' place inner) text = λ f. (λ h. h, λ h. h)
 means_by_parts (And' place left other right) text = λ f. (λ h. h, λ h. h)
 means_by_parts (Or' place left other right) text = λ f. (λ h. h, λ h. h)
+means_by_parts (Xor' place left other right) text = λ f. (λ h. h, λ h. h)
 means_by_parts _ text = tt

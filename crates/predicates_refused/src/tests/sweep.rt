@@ -1,0 +1,183 @@
+//! A call whose requests for memory are refused in turn.
+use super::allocator;
+use super::answer::{Answer, tell};
+use std::alloc::{AllocError, Global};
+use std::process::Abort;
+use std::test::Fail;
+
+// More requests than any of the calls makes.
+const MOST: u16 = 4_000;
+
+/// A call that may ask for memory.
+pub trait Call {
+    // It may be made.
+    ghost ready: { Self → Type 0 } = { λ _. Unit {0} };
+
+    /// What the call takes and uses up.
+    type Operand: Drop;
+
+    /// Makes the operand, with ample memory.
+    fn operand(&self, alloc: Global) -> Result<Self::Operand, AllocError>;
+
+    /// Makes the call. Each error that stands for want of memory comes as this one.
+    fn call(&self, alloc: Global, operand: Self::Operand) -> Result<Answer, AllocError>
+        requires { ready self.now };
+}
+
+/// What a call does with a request that is refused.
+#[derive(Clone, Copy, PartialEq)]
+pub enum Memory {
+    /// It makes none.
+    Never,
+    /// It answers want of memory.
+    Taken,
+    /// That, where it asks for any.
+    Perhaps,
+    /// A library under it may go on by other means; the answer is then right.
+    GoesOn,
+}
+
+// What came of a run with one refusal or more.
+#[derive(Clone, Copy)]
+struct Outcome {
+    refused: bool,
+    answered: bool,
+}
+
+// Whether the call answers what it should, with ample memory.
+fn is_right<C: Call>(alloc: Global, call: &C, expected: &str) -> Result<bool, AllocError>
+    requires { C.ready call.now }
+{
+    let operand = call.operand(alloc)?;
+    let answer = call.call(alloc, operand)?;
+    let found = tell(alloc, &answer)?;
+    Ok(found.as_str() == expected)
+}
+
+// Makes the call once, with a request refused alone or with all after it.
+fn run<R: Abort + AllocGlobal, C: Call>(
+    rt: &R,
+    name: &str,
+    call: &C,
+    expected: &str,
+    nth: u16,
+    alone: bool,
+) -> Result<Outcome, Fail>
+    requires { C.ready call.now }
+{
+    let alloc = rt.alloc();
+    allocator::take_level(alloc);
+    let operand = call.operand(alloc)?;
+    allocator::refuse(alloc, nth, alone);
+    let answer = call.call(alloc, operand);
+    let refused = allocator::was_refused(alloc);
+    let answered = match answer {
+        Ok(answer) => {
+            let found = tell(alloc, &answer)?;
+            assert_eq!(rt;
+                found.as_str(),
+                expected,
+                "{name}: answered after refusal {nth}"
+            );
+            true
+        }
+        Err(AllocError) => false,
+    };
+    assert!(rt;
+        allocator::is_level(alloc),
+        "{name}: blocks are left after refusal {nth}"
+    );
+    assert!(rt;
+        answered || refused,
+        "{name}: no memory, though none was refused"
+    );
+    Ok(Outcome { refused, answered })
+}
+
+/// Makes the call again and again: its first request is refused, then its second, and so on until
+/// none is; once alone, and once with all after it.
+///
+/// Each run answers want of memory or what it should, leaves no block, and is right when it is made
+/// once more. Over an allocator that refuses nothing the call is made once.
+pub fn sweep<R: Abort + AllocGlobal + Print, C: Call>(
+    rt: &R,
+    name: &str,
+    call: &C,
+    expected: &str,
+    memory: Memory,
+) -> Result<(), Fail>
+    requires { C.ready call.now }
+{
+    let alloc = rt.alloc();
+    assert!(rt; is_right(alloc, call, expected)?, "{name}: another answer");
+    if !allocator::listens(alloc) {
+        return Ok(());
+    }
+    let mut requests = 0u64;
+    let mut refusals = 0u64;
+    let mut went_on = 0u64;
+    for alone in [true, false] {
+        for nth in 1..MOST {
+            let made = run(rt, name, call, expected, nth, alone)?;
+            if !made.refused {
+                break;
+            }
+            assert!(rt;
+                is_right(alloc, call, expected)?,
+                "{name}: another answer after refusal {nth}, with ample memory"
+            );
+            requests = requests.max(u64::from(nth));
+            refusals = refusals.saturating_add(1);
+            went_on = went_on.saturating_add(u64::from(made.answered));
+        }
+    }
+    println!(rt;
+        "{name}: {requests} requests, {refusals} refusals, {went_on} times it went on, 0 blocks left"
+    )?;
+    let errors = refusals.saturating_sub(went_on);
+    assert!(rt;
+        memory != Memory::Never || requests == 0,
+        "{name}: it asks for memory"
+    );
+    assert!(rt;
+        errors > 0 || memory == Memory::Perhaps || memory == Memory::Never,
+        "{name}: no refusal was met"
+    );
+    assert!(rt;
+        memory == Memory::GoesOn || went_on == 0,
+        "{name}: it went on"
+    );
+    assert!(rt;
+        requests.saturating_add(1) < u64::from(MOST),
+        "{name}: too many requests"
+    );
+    Ok(())
+}
+
+/// The time in which no request for memory may be made.
+#[derive(Drop)]
+pub struct Without<'a> {
+    name: &'a str,
+}
+
+impl<'a> Without<'a> {
+    /// From here on each request is refused.
+    pub fn begin(alloc: Global, name: &'a str) -> Without<'a> {
+        allocator::refuse(alloc, 1, false);
+        Without { name }
+    }
+
+    /// None was made, and what was answered is right.
+    pub fn end<R: Abort + AllocGlobal + Print>(self, rt: &R, right: bool) -> Result<(), Fail> {
+        let alloc = rt.alloc();
+        let listens = allocator::listens(alloc);
+        let asked = listens && allocator::was_refused(alloc);
+        let name = self.name;
+        assert!(rt; !asked, "{name}: it asks for memory");
+        assert!(rt; right, "{name}: another answer");
+        if listens {
+            println!(rt; "{name}: without memory")?;
+        }
+        Ok(())
+    }
+}
