@@ -14,7 +14,6 @@ mod memberships;
 mod nested;
 mod paths;
 mod patterns;
-mod prelude;
 mod printed;
 mod snapshots;
 mod texts;
