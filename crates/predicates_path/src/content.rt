@@ -1,8 +1,10 @@
 //! Predicates of bytes, asked about the content at a path.
-ghost use Rattle.std.specs.Prelude.{◌≡◌, false, [], codes, IfOk};
+ghost use Rattle.std.specs.Prelude.{◌≡◌, ◌↔◌, false, [], codes, IfOk};
 ghost use Rattle.predicates_core.specs.Parts.{part};
+ghost use Rattle.predicates_core.specs.Formula.{Formula};
 ghost use Rattle.predicates_core.specs.Leaves.{IsExactly};
 ghost use Rattle.predicates_core.specs.Shows.{IsCaseOf};
+ghost use Rattle.predicates_path.specs.declared.snapshot.Snapshot.{Snapshot};
 ghost use Rattle.predicates_path.specs.Snapshot.{path_of, held_of};
 ghost use Rattle.predicates_path.specs.Content.{IsOfContent, part_of, content_formula, without_content};
 ghost use Rattle.predicates_path.specs.ContentLaws.{content_text_fits, one_content, has_content_formula};
@@ -123,7 +125,10 @@ pub trait PredicateFileContentExt: Predicate<Vec<u8>> {
     fn from_file_path(self) -> FileContentPredicate<Self>
     where
         Self: Sized,
-        ensures { part_of result ≡ self };
+        ensures part { part_of result ≡ self }
+        ensures formula { (s : Snapshot) (f : Formula)
+            → ⟦<FileContentPredicate<Self> as Predicate<Snapshot>>⟧.formula result s f
+            ↔ IsOfContent (Self.output self) (Self.formula self) (path_of s) (held_of s) f };
 }
 
 impl<P: Predicate<Vec<u8>>> PredicateFileContentExt for P {

@@ -1,11 +1,14 @@
 //! Whether a path leads to the bytes of a file.
-ghost use Rattle.std.specs.Prelude.{◌≡◌, refl, codes, Ok, Err, Some, IsOkAnd, MatchOption, MatchResult};
+ghost use Rattle.std.specs.Prelude.{◌≡◌, ◌↔◌, refl, codes, Ok, Err, Some, IfOk, IfSome, IsOkAnd, MatchOption, MatchResult, string_bytes};
 ghost use Rattle.std.specs.Str.{IsUtf8};
 ghost use Rattle.predicates_core.specs.Tree.{empty};
 ghost use Rattle.predicates_core.specs.Label.{value_of};
+ghost use Rattle.predicates_core.specs.Formula.{Formula};
 ghost use Rattle.predicates_core.specs.Leaves.{IsExactly};
 ghost use Rattle.predicates_core.proofs.Leaves.{exactly_text_fits, one_exactly};
-ghost use Rattle.predicates_path.specs.Snapshot.{path_of, content_of};
+ghost use Rattle.predicates_path.specs.declared.snapshot.Snapshot.{Snapshot};
+ghost use Rattle.predicates_core.specs.Text.{Text};
+ghost use Rattle.predicates_path.specs.Snapshot.{Bytes, path_of, content_of};
 ghost use Rattle.predicates_path.specs.Equality.{compared_path, compared_bytes, equality_text, has_bytes, equals_content, equals_bytes};
 ghost use Rattle.predicates_path.specs.TextEquality as text;
 
@@ -27,9 +30,15 @@ pub struct BinaryFilePredicate {
 /// The predicate of contents that are the snapshot's. It is refused where the snapshot has none,
 /// with the fault that stands in its place. Takes no memory.
 pub fn eq_file(snapshot: Snapshot) -> Result<BinaryFilePredicate, PathFault>
-    ensures { MatchResult (content_of snapshot)
+    ensures content { MatchResult (content_of snapshot)
         (λ bytes. IsOkAnd result (λ p. (compared_path p ≡ path_of snapshot) × (compared_bytes p ≡ bytes)))
         (λ fault. result ≡ Err fault) }
+    ensures of_snapshots { IfOk result (λ p. (s : Snapshot) (f : Formula)
+        → ⟦<BinaryFilePredicate as Predicate<Snapshot>>⟧.formula p s f
+        ↔ IsExactly (equals_content (compared_path p) (compared_bytes p) s) f) }
+    ensures of_bytes { IfOk result (λ p. (v : Bytes) (f : Formula)
+        → ⟦<BinaryFilePredicate as Predicate<Vec<u8>>>⟧.formula p v f
+        ↔ IsExactly (equals_bytes (compared_path p) (compared_bytes p) v.items) f) }
 {
     let (path, content) = snapshot.into_file();
     Ok(BinaryFilePredicate {
@@ -39,10 +48,17 @@ pub fn eq_file(snapshot: Snapshot) -> Result<BinaryFilePredicate, PathFault>
 }
 
 impl BinaryFilePredicate {
-    /// The predicate of texts and contents that are these bytes, if they are UTF-8. Takes no memory.
+    /// The predicate of texts and contents that are these bytes. `Some` says that they are UTF-8.
+    /// Takes no memory.
     pub fn utf8(self) -> Option<StrFilePredicate>
-        ensures { MatchOption result (¬ (IsUtf8 (compared_bytes self)))
+        ensures text { MatchOption result (¬ (IsUtf8 (compared_bytes self)))
             (λ p. (text.compared_path p ≡ compared_path self) × (text.compared_text p ≡ compared_bytes self)) }
+        ensures of_snapshots { IfSome result (λ p. (s : Snapshot) (f : Formula)
+            → ⟦<StrFilePredicate as Predicate<Snapshot>>⟧.formula p s f
+            ↔ IsExactly (equals_content (text.compared_path p) (text.compared_text p) s) f) }
+        ensures of_texts { IfSome result (λ p. (v : Text) (f : Formula)
+            → ⟦<StrFilePredicate as Predicate<String>>⟧.formula p v f
+            ↔ IsExactly (equals_bytes (text.compared_path p) (text.compared_text p) (string_bytes v)) f) }
     {
         let BinaryFilePredicate { path, content } = self;
         match String::from_utf8(content) {
@@ -131,13 +147,14 @@ impl Predicate<Vec<u8>> for BinaryFilePredicate {
         Ok(self.has_bytes(item.as_slice()))
     }
 
+    #[tactic(auto, using(predicates_core::proofs::Leaves::leaves))]
     fn find_case(
         &self,
         alloc: Global,
         expected: bool,
         item: &Vec<u8>,
     ) -> Result<Option<Case>, AllocError> {
-        if self.eval(alloc, item)? != expected {
+        if self.has_bytes(item.as_slice()) != expected {
             return Ok(None);
         }
         Ok(Some(alone(alloc, printed(alloc, self)?, expected)))

@@ -1,9 +1,11 @@
 //! Whether a path leads to anything.
-ghost use Rattle.std.specs.Prelude.{◌≡◌, refl, true, false, [], Some};
+ghost use Rattle.std.specs.Prelude.{◌≡◌, ◌↔◌, refl, true, false, [], Some};
 ghost use Rattle.predicates_core.specs.Tree.{empty};
+ghost use Rattle.predicates_core.specs.Formula.{Formula};
 ghost use Rattle.predicates_core.specs.Leaves.{IsExactly};
 ghost use Rattle.predicates_core.proofs.Leaves.{exactly_text_fits, one_exactly};
 ghost use Rattle.predicates_path.specs.Existence.{asks_presence, existence_text, existence_formula};
+ghost use Rattle.predicates_path.specs.declared.snapshot.Snapshot.{Snapshot};
 
 use crate::Snapshot;
 use predicates_core::node::{alone, printed};
@@ -20,14 +22,18 @@ pub struct ExistencePredicate {
 
 /// The predicate of paths that lead to something.
 pub fn exists() -> ExistencePredicate
-    ensures { asks_presence result ≡ true }
+    ensures presence { asks_presence result ≡ true }
+    ensures formula { (s : Snapshot) (f : Formula)
+        → ⟦<ExistencePredicate as Predicate<Snapshot>>⟧.formula result s f ↔ IsExactly (existence_formula result s) f }
 {
     ExistencePredicate { exists: true }
 }
 
 /// The predicate of paths that lead to nothing, also of links without a target.
 pub fn missing() -> ExistencePredicate
-    ensures { asks_presence result ≡ false }
+    ensures presence { asks_presence result ≡ false }
+    ensures formula { (s : Snapshot) (f : Formula)
+        → ⟦<ExistencePredicate as Predicate<Snapshot>>⟧.formula result s f ↔ IsExactly (existence_formula result s) f }
 {
     ExistencePredicate { exists: false }
 }

@@ -1,9 +1,11 @@
 //! Which kind of thing stands at a path.
-ghost use Rattle.std.specs.Prelude.{◌≡◌, refl, true, false, codes, Ok, Err, Some, IfOk, IsOkAnd, MatchResult};
+ghost use Rattle.std.specs.Prelude.{◌≡◌, ◌↔◌, refl, true, false, codes, Ok, Err, Some, IfOk, IsOkAnd, MatchResult};
 ghost use Rattle.predicates_core.specs.Label.{value_of};
 ghost use Rattle.predicates_core.specs.Tree.{empty};
+ghost use Rattle.predicates_core.specs.Formula.{Formula};
 ghost use Rattle.predicates_core.specs.Leaves.{IsExactly, IsShowing, word};
 ghost use Rattle.predicates_core.proofs.Leaves.{exactly_text_fits, one_exactly};
+ghost use Rattle.predicates_path.specs.declared.snapshot.Snapshot.{Snapshot};
 ghost use Rattle.predicates_path.specs.Snapshot.{followed_of};
 ghost use Rattle.predicates_path.specs.FileType.{is_same_kind};
 ghost use Rattle.predicates_path.specs.Kind.{tested_kind, follows, found_kind, shown_name, shown_value, kind_predicate_text, kind_formula};
@@ -28,6 +30,8 @@ pub struct FileTypePredicate {
 pub fn is_file() -> FileTypePredicate
     ensures kind { tested_kind result ≡ FileType.File }
     ensures follow { follows result ≡ false }
+    ensures formula { (s : Snapshot) (f : Formula)
+        → ⟦<FileTypePredicate as Predicate<Snapshot>>⟧.formula result s f ↔ IsExactly (kind_formula result s) f }
 {
     FileTypePredicate {
         kind: FileType::File,
@@ -39,6 +43,8 @@ pub fn is_file() -> FileTypePredicate
 pub fn is_dir() -> FileTypePredicate
     ensures kind { tested_kind result ≡ FileType.Dir }
     ensures follow { follows result ≡ false }
+    ensures formula { (s : Snapshot) (f : Formula)
+        → ⟦<FileTypePredicate as Predicate<Snapshot>>⟧.formula result s f ↔ IsExactly (kind_formula result s) f }
 {
     FileTypePredicate {
         kind: FileType::Dir,
@@ -50,6 +56,8 @@ pub fn is_dir() -> FileTypePredicate
 pub fn is_symlink() -> FileTypePredicate
     ensures kind { tested_kind result ≡ FileType.Symlink }
     ensures follow { follows result ≡ false }
+    ensures formula { (s : Snapshot) (f : Formula)
+        → ⟦<FileTypePredicate as Predicate<Snapshot>>⟧.formula result s f ↔ IsExactly (kind_formula result s) f }
 {
     FileTypePredicate {
         kind: FileType::Symlink,
@@ -81,9 +89,11 @@ impl FileTypePredicate {
     /// The predicate of the kind that the snapshot's path leads to, which follows links. It is
     /// refused where there is no such kind, with the fault that stands in its place.
     pub fn from_path(snapshot: &Snapshot) -> Result<FileTypePredicate, PathFault>
-        ensures { MatchResult (followed_of snapshot.now)
+        ensures found { MatchResult (followed_of snapshot.now)
             (λ kind. IsOkAnd result (λ p. (tested_kind p ≡ kind) × (follows p ≡ true)))
             (λ fault. result ≡ Err fault) }
+        ensures formula { IfOk result (λ p. (s : Snapshot) (f : Formula)
+            → ⟦<FileTypePredicate as Predicate<Snapshot>>⟧.formula p s f ↔ IsExactly (kind_formula p s) f) }
     {
         Ok(FileTypePredicate {
             kind: snapshot.followed()?,
@@ -95,6 +105,8 @@ impl FileTypePredicate {
     pub fn follow_links(mut self, yes: bool) -> Self
         ensures kind { tested_kind result ≡ tested_kind self }
         ensures follow { follows result ≡ yes }
+        ensures formula { (s : Snapshot) (f : Formula)
+            → ⟦<FileTypePredicate as Predicate<Snapshot>>⟧.formula result s f ↔ IsExactly (kind_formula result s) f }
     {
         self.follow = yes;
         self

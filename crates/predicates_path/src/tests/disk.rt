@@ -1,6 +1,6 @@
 //! What `take` finds on a real file system.
 use crate::FileType::{Dir, File, Other, Symlink};
-use crate::PathFault::{NotFound, NotRegular};
+use crate::PathFault::{NotFound, NotRegular, Other as Fault};
 use crate::{FileType, PathFault, Snapshot};
 use std::io::{Read, Write};
 use std::os::unix::fs::symlink;
@@ -16,7 +16,7 @@ type Parts = (
 );
 
 // The names in the folder, and what stands under each.
-const ROWS: [(&str, Parts); 9] = [
+const ROWS: [(&str, Parts); 15] = [
     ("file", (Ok(File), Ok(File), Ok(b"hello"))),
     ("empty", (Ok(File), Ok(File), Ok(b""))),
     ("folder", (Ok(Dir), Ok(Dir), Err(NotRegular))),
@@ -26,6 +26,12 @@ const ROWS: [(&str, Parts); 9] = [
     ("to_device", (Ok(Symlink), Ok(Other), Err(NotRegular))),
     ("to_nothing", (Ok(Symlink), Err(NotFound), Err(NotFound))),
     ("nothing", (Err(NotFound), Err(NotFound), Err(NotFound))),
+    ("bytes", (Ok(File), Ok(File), Ok(b"\xff\x00\xfe"))),
+    ("lines", (Ok(File), Ok(File), Ok(b"a\n\n\n"))),
+    ("a name ", (Ok(File), Ok(File), Ok(b" "))),
+    ("a name", (Err(NotFound), Err(NotFound), Err(NotFound))),
+    ("file/", (Err(Fault), Err(Fault), Err(Fault))),
+    ("folder/", (Ok(Dir), Ok(Dir), Err(NotRegular))),
 ];
 
 // Makes a folder that is no other test's.
@@ -47,6 +53,9 @@ fn fill(rt: &HostRuntime, folder: &str) -> io::Result<()> {
     let alloc = rt.alloc();
     fs::write(rt, format!(in alloc; "{folder}/file")?, "hello")?;
     fs::write(rt, format!(in alloc; "{folder}/empty")?, "")?;
+    fs::write(rt, format!(in alloc; "{folder}/bytes")?, b"\xff\x00\xfe")?;
+    fs::write(rt, format!(in alloc; "{folder}/lines")?, "a\n\n\n")?;
+    fs::write(rt, format!(in alloc; "{folder}/a name ")?, " ")?;
     fs::create_dir(rt, format!(in alloc; "{folder}/folder")?)?;
     symlink(rt, "file", format!(in alloc; "{folder}/to_file")?)?;
     symlink(rt, "empty", format!(in alloc; "{folder}/to_empty")?)?;
@@ -79,6 +88,36 @@ fn what_stands_in_a_folder(rt: HostRuntime) -> Result<(), Fail> {
         assert_eq!(rt; snapshot.followed(), followed, "at {name}");
         assert_eq!(rt; snapshot.content(), content, "at {name}");
     }
+    Ok(())
+}
+
+// Takes what stands at the path of a file that is made with this content.
+fn take_written(rt: &HostRuntime, path: &str, content: &[u8]) -> io::Result<Snapshot> {
+    fs::write(rt, path, content)?;
+    Ok(Snapshot::take(rt, path)?)
+}
+
+#[test]
+fn a_long_content(rt: HostRuntime) -> Result<(), Fail> {
+    let mut content = Vec::new(rt.alloc());
+    for number in 0..70_001u32 {
+        content.push((number % 251) as u8)?;
+    }
+    let folder = new_folder(&rt)?;
+    let path = format!(in rt.alloc(); "{folder}/long")?;
+    let taken = take_written(&rt, path.as_str(), content.as_slice());
+    fs::remove_dir_all(&rt, folder.as_str())?;
+    assert_eq!(rt; taken?.content(), Ok(content.as_slice()));
+    Ok(())
+}
+
+#[test]
+fn an_empty_path(rt: HostRuntime) -> Result<(), Fail> {
+    let nothing = Snapshot::take(&rt, "")?;
+    assert_eq!(rt; nothing.path(), "");
+    assert_eq!(rt; nothing.plain(), Err(NotFound));
+    assert_eq!(rt; nothing.followed(), Err(NotFound));
+    assert_eq!(rt; nothing.content(), Err(NotFound));
     Ok(())
 }
 

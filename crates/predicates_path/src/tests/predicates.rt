@@ -8,6 +8,7 @@ use crate::{
 use predicates_core::Predicate;
 use predicates_core::reflection::{PredicateReflection, render};
 use std::alloc::{AllocError, Global};
+use std::fmt;
 use std::process::Abort;
 use std::test::Fail;
 
@@ -62,6 +63,80 @@ fn has_parameter<P: PredicateReflection>(
     assert_eq!(rt; parameters[0].name(), name);
     assert_eq!(rt; parameters[0].value(), value);
     assert_eq!(rt; predicate.children(rt.alloc())?.len(), 0);
+    Ok(())
+}
+
+// A value of a type that is copied, compared and shown, as the table of types has it.
+fn is_kept<T: fmt::Debug + Copy + Eq>(alloc: Global, value: T) -> Result<bool, AllocError> {
+    let copied = value;
+    let shown = format!(in alloc; "{value:?}")?;
+    Ok(copied == value && value.clone()? == copied && !shown.is_empty())
+}
+
+// A value of a type that is compared and shown.
+fn is_shown<T: fmt::Debug + Eq>(alloc: Global, value: &T) -> Result<bool, AllocError> {
+    let shown = format!(in alloc; "{value:?}")?;
+    Ok(value == value && !shown.is_empty())
+}
+
+#[test]
+fn derives(rt: HostRuntime) -> Result<(), Fail> {
+    let alloc = rt.alloc();
+    assert!(rt; is_kept(alloc, exists())?);
+    assert!(rt; is_kept(alloc, is_file())?);
+    assert!(rt; is_kept(alloc, Symlink)?);
+    assert!(rt; is_kept(alloc, NotRegular)?);
+    let same = eq_file(file(alloc, b"a")?)?;
+    assert!(rt; is_shown(alloc, &same)?);
+    assert!(rt; same != eq_file(file(alloc, b"b")?)?);
+    let same = same.utf8().ok_or("no text")?;
+    assert!(rt; is_shown(alloc, &same)?);
+    assert!(rt; same != eq_file(file(alloc, b"b")?)?.utf8().ok_or("no text")?);
+    assert!(rt; is_shown(alloc, &eq_file(file(alloc, b"a")?)?.from_file_path())?);
+    assert!(rt; exists() != missing() && is_file() != is_file().follow_links(true));
+    Ok(())
+}
+
+// A path and a content of this many bytes: each type holds of it or does not, and says why.
+fn sized(rt: &(impl Abort + AllocGlobal), length: usize) -> Result<(), Fail> {
+    let alloc = rt.alloc();
+    let mut text = String::new(alloc);
+    for _ in 0..length {
+        text.push('a')?;
+    }
+    let kept = Vec::from_slice(alloc, text.as_bytes())?;
+    let there = Snapshot::from_parts(text.clone()?, Ok(File), Ok(File), Ok(kept));
+    let gone = Err(NotFound);
+    let gone = Snapshot::from_parts(text.clone()?, Err(NotFound), Err(NotFound), gone);
+    let lines = format!(in alloc; "exists(var) = true\n  - var: {text}\n")?;
+    check(rt, &exists(), &there, true, lines.as_str())?;
+    let lines = format!(in alloc; "exists(var) = false\n  - var: {text}\n")?;
+    check(rt, &exists(), &gone, false, lines.as_str())?;
+    let same = eq_file(there)?;
+    let bytes = Vec::from_slice(alloc, text.as_bytes())?;
+    let lines = format!(in alloc; "var is {text} = true\n")?;
+    check(rt, &same, &bytes, true, lines.as_str())?;
+    let lines = format!(in alloc; "var is {text} = false\n")?;
+    check(rt, &same, &gone, false, lines.as_str())?;
+    let same = same.utf8().ok_or("no text")?;
+    check(rt, &same, &gone, false, lines.as_str())?;
+    has_parameter(rt, &same, "content", text.as_str())?;
+    let longer = format!(in alloc; "{text}a")?;
+    check(rt, &same, &longer, false, lines.as_str())?;
+    let there = Snapshot::from_parts(text.clone()?, Ok(File), Ok(File), Ok(bytes));
+    let none = eq_file(file(alloc, b"")?)?.from_file_path();
+    let verdict = length == 0;
+    let lines = format!(in alloc; "var is p = {verdict}\n  - var: {text}\n")?;
+    check(rt, &none, &there, verdict, lines.as_str())?;
+    let lines = format!(in alloc; "var is p = false\n  - var: {text}\n  - error: not found\n")?;
+    check(rt, &none, &gone, false, lines.as_str())
+}
+
+#[test]
+fn operands_of_any_size(rt: HostRuntime) -> Result<(), Fail> {
+    for length in [0, 1, 300, 70_000] {
+        sized(&rt, length)?;
+    }
     Ok(())
 }
 
