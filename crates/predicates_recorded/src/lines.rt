@@ -1,6 +1,6 @@
 //! Tables of lines and of whole runs over them.
 use crate::cells::{bytes, cells, text};
-use crate::outcome::{Difference, compare};
+use crate::outcome::{Difference, compare, compare_text};
 use crate::table::Table;
 use anyhow::{Context, Result, anyhow, bail};
 use predicates_explain::{
@@ -80,6 +80,19 @@ fn read_check(alloc: Global, words: &str) -> Result<TextCheck> {
     Ok(check)
 }
 
+// Compares what a check prints under flags, in a width and cut short with what it prints plainly.
+fn compare_flags(alloc: Global, wrong: &mut Vec<Difference>, check: &TextCheck) -> Result<()> {
+    let plain = format!(in alloc; "{check}\n{check}\n{check}\n{check}")?;
+    let flagged = format!(in alloc; "{check:#}\n{check:400}\n{check:<400}\n{check:.3}")?;
+    compare_text(
+        alloc,
+        wrong,
+        "text under flags",
+        plain.as_str(),
+        flagged.as_str(),
+    )
+}
+
 /// Rows of the words `text TOKEN..`, the input, the status and what is written.
 pub struct TextRuns;
 
@@ -91,6 +104,7 @@ impl Table for TextRuns {
         };
         let words = words.strip_prefix("text ").context("another command")?;
         let check = read_check(alloc, words)?;
+        compare_flags(alloc, wrong, &check)?;
         let input = bytes(alloc, input)?;
         let mut written = Vec::new(alloc);
         let mut input = input.as_slice();

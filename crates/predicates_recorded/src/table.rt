@@ -10,9 +10,9 @@ pub trait Table {
     fn replay(&self, alloc: Global, row: &str, wrong: &mut Vec<Difference>) -> Result<()>;
 }
 
-/// Replays each row of a table and prints how many there are and how many are wrong; before that,
-/// for each cell that is wrong, its line, what was wanted and what came.
-pub fn replay<T: Table>(rt: &HostRuntime, name: &str, table: &T) -> Result<()> {
+/// Whether a table has rows and each of them is right. It prints how many there are and how many are
+/// wrong; before that, for each cell that is wrong, its line, what was wanted and what came.
+pub fn replay<T: Table>(rt: &HostRuntime, name: &str, table: &T) -> Result<bool> {
     let alloc = rt.alloc();
     let path = format!(in alloc; "{name}.tsv")?;
     let text = fs::read_to_string(rt, path.as_str()).context(format_args!("reading {path}"))?;
@@ -37,5 +37,5 @@ pub fn replay<T: Table>(rt: &HostRuntime, name: &str, table: &T) -> Result<()> {
         }
     }
     println!(rt; "{name}: {rows} rows, {wrong_rows} wrong")?;
-    Ok(())
+    Ok(rows != 0 && wrong_rows == 0)
 }

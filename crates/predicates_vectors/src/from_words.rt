@@ -2,6 +2,7 @@
 ghost use Rattle.predicates.specs.And as And;
 ghost use Rattle.predicates.specs.Name as Name;
 ghost use Rattle.predicates.specs.Or as Or;
+ghost use Rattle.predicates.specs.Xor as Xor;
 ghost use Rattle.predicates.specs.Not.{inner_of};
 ghost use Rattle.predicates_vectors.specs.OneOf.{lawful_by_type};
 
@@ -18,6 +19,7 @@ pub enum Combinator {
     Named(StaticText),
     And,
     Or,
+    Xor,
 }
 
 /// A word that may name a combinator.
@@ -64,7 +66,9 @@ impl<P: FromWords<W, Item>, W: Word, Item> FromWords<W, Item> for Level<P, Item>
         (λ q. P.always_lawful (Name.inner_of q)))
         (lawful_by_type
         (λ q. (P.always_lawful (And.left_of q), P.always_lawful (And.right_of q)))
-        (λ q. (P.always_lawful (Or.left_of q), P.always_lawful (Or.right_of q)))))
+        (lawful_by_type
+        (λ q. (P.always_lawful (Or.left_of q), P.always_lawful (Or.right_of q)))
+        (λ q. (P.always_lawful (Xor.left_of q), P.always_lawful (Xor.right_of q))))))
         p.node };
 
     fn from_words(alloc: Global, words: &mut Vec<W>) -> Result<Option<Level<P, Item>>, AllocError> {
@@ -83,6 +87,10 @@ impl<P: FromWords<W, Item>, W: Word, Item> FromWords<W, Item> for Level<P, Item>
             },
             Some(Combinator::Or) => match two_from_words::<P, W, Item>(alloc, words)? {
                 Some((left, right)) => Some(Level::or(alloc, left, right)?),
+                None => None,
+            },
+            Some(Combinator::Xor) => match two_from_words::<P, W, Item>(alloc, words)? {
+                Some((left, right)) => Some(Level::xor(alloc, left, right)?),
                 None => None,
             },
             None => match P::from_words(alloc, words)? {

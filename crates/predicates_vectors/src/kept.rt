@@ -19,7 +19,9 @@ fn add_kept(
             kept.push(first)?;
             Ok(node.children().next().is_none())
         }
-        PlainFormula::And(left, right) | PlainFormula::Or(left, right) => {
+        PlainFormula::And(left, right)
+        | PlainFormula::Or(left, right)
+        | PlainFormula::Xor(left, right) => {
             let behind = first.saturating_add(left.leaf_count());
             let mut is_cut = true;
             for CaseChild { name, case } in node.children() {

@@ -2,12 +2,15 @@
 ghost use Rattle.predicates.specs.And as And;
 ghost use Rattle.predicates.specs.Name as Name;
 ghost use Rattle.predicates.specs.Or as Or;
+ghost use Rattle.predicates.specs.Xor as Xor;
 ghost use Rattle.predicates.specs.Not.{inner_of};
-ghost use Rattle.predicates_core.proofs.Combined.{and_text_fits, or_text_fits, not_text_fits, named_text_fits, one_and, one_or, one_not, one_named};
+ghost use Rattle.predicates_core.proofs.Combined.{and_text_fits, or_text_fits, xor_text_fits, not_text_fits, named_text_fits, one_and, one_or, one_xor, one_not, one_named};
 ghost use Rattle.predicates_vectors.specs.OneOf.{text_fits_by_type, one_by_type};
 
 use crate::one_of::OneOf;
-use predicates::boolean::{AndPredicate, NotPredicate, OrPredicate, PredicateBooleanExt};
+use predicates::boolean::{
+    AndPredicate, NotPredicate, OrPredicate, PredicateBooleanExt, XorPredicate,
+};
 use predicates::name::{NamePredicate, PredicateNameExt};
 use predicates_core::Predicate;
 use predicates_core::reflection::{Case, Child, Parameter, PredicateReflection};
@@ -19,7 +22,9 @@ pub(crate) type Named<P, Item> = NamePredicate<P, Item, StaticText>;
 
 pub(crate) type One<P, Item> = OneOf<NotPredicate<P, Item>, Named<P, Item>>;
 
-pub(crate) type Both<P, Item> = OneOf<AndPredicate<P, P, Item>, OrPredicate<P, P, Item>>;
+pub(crate) type Choice<P, Item> = OneOf<OrPredicate<P, P, Item>, XorPredicate<P, P, Item>>;
+
+pub(crate) type Both<P, Item> = OneOf<AndPredicate<P, P, Item>, Choice<P, Item>>;
 
 pub(crate) type Combined<P, Item> = OneOf<One<P, Item>, Both<P, Item>>;
 
@@ -57,12 +62,21 @@ impl<P: Predicate<Item> + Drop, Item> Level<P, Item> {
 
     /// At least one part; takes memory for the node.
     pub fn or(alloc: Global, left: P, right: P) -> Result<Level<P, Item>, AllocError> {
-        let both = Box::new(alloc, left.or(right))?;
-        Level::of_both(alloc, OneOf::Second(both))
+        Level::of_choice(alloc, OneOf::First(left.or(right)))
+    }
+
+    /// Exactly one part; takes memory for the node.
+    pub fn xor(alloc: Global, left: P, right: P) -> Result<Level<P, Item>, AllocError> {
+        let xor = Box::new(alloc, left.xor(right))?;
+        Level::of_choice(alloc, OneOf::Second(xor))
     }
 
     fn of_one(alloc: Global, one: One<P, Item>) -> Result<Level<P, Item>, AllocError> {
         Level::combined(alloc, OneOf::First(one))
+    }
+
+    fn of_choice(alloc: Global, choice: Choice<P, Item>) -> Result<Level<P, Item>, AllocError> {
+        Level::of_both(alloc, OneOf::Second(Box::new(alloc, choice)?))
     }
 
     fn of_both(alloc: Global, both: Both<P, Item>) -> Result<Level<P, Item>, AllocError> {
@@ -115,9 +129,12 @@ impl<P: Predicate<Item>, Item> Predicate<Item> for Level<P, Item> {
         (λ q g h. not_text_fits h)
         (λ q g h. named_text_fits h))
         (text_fits_by_type
-        (λ q. ⟦<AndPredicate<P, P, Item> as Predicate<Item>>⟧.formula q v) (λ q. ⟦<OrPredicate<P, P, Item> as Predicate<Item>>⟧.formula q v) ⟦<AndPredicate<P, P, Item> as fmt::Display>⟧.output ⟦<OrPredicate<P, P, Item> as fmt::Display>⟧.output
+        (λ q. ⟦<AndPredicate<P, P, Item> as Predicate<Item>>⟧.formula q v) (λ q. ⟦<Choice<P, Item> as Predicate<Item>>⟧.formula q v) ⟦<AndPredicate<P, P, Item> as fmt::Display>⟧.output ⟦<Choice<P, Item> as fmt::Display>⟧.output
         (λ q g h. and_text_fits h)
-        (λ q g h. or_text_fits h)))
+        (text_fits_by_type
+        (λ q. ⟦<OrPredicate<P, P, Item> as Predicate<Item>>⟧.formula q v) (λ q. ⟦<XorPredicate<P, P, Item> as Predicate<Item>>⟧.formula q v) ⟦<OrPredicate<P, P, Item> as fmt::Display>⟧.output ⟦<XorPredicate<P, P, Item> as fmt::Display>⟧.output
+        (λ q g h. or_text_fits h)
+        (λ q g h. xor_text_fits h))))
         p.node f };
 
     ghost one_formula = { λ p v f g. one_by_type
@@ -130,9 +147,13 @@ impl<P: Predicate<Item>, Item> Predicate<Item> for Level<P, Item> {
         (λ q h k lawful. one_and
         (λ x y. P.one_formula (And.left_of q) v x y lawful.0)
         (λ x y. P.one_formula (And.right_of q) v x y lawful.1))
+        (one_by_type
         (λ q h k lawful. one_or
         (λ x y. P.one_formula (Or.left_of q) v x y lawful.0)
-        (λ x y. P.one_formula (Or.right_of q) v x y lawful.1))))
+        (λ x y. P.one_formula (Or.right_of q) v x y lawful.1))
+        (λ q h k lawful. one_xor
+        (λ x y. P.one_formula (Xor.left_of q) v x y lawful.0)
+        (λ x y. P.one_formula (Xor.right_of q) v x y lawful.1)))))
         p.node f g };
 
     fn eval(&self, alloc: Global, item: &Item) -> Result<bool, AllocError> {

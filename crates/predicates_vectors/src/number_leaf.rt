@@ -86,7 +86,11 @@ impl NumberLeaf {
             NumberWord::Hashed(list) => {
                 NumberLeaf::other(alloc, OneOf::First(in_hash(alloc, list)?))?
             }
-            NumberWord::Named(_) | NumberWord::Not | NumberWord::And | NumberWord::Or => {
+            NumberWord::Named(_)
+            | NumberWord::Not
+            | NumberWord::And
+            | NumberWord::Or
+            | NumberWord::Xor => {
                 return Ok(None);
             }
         }))

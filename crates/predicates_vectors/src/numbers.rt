@@ -17,6 +17,7 @@ impl Word for NumberWord {
             NumberWord::Named(name) => Combinator::Named(StaticText::new(name.as_str())),
             NumberWord::And => Combinator::And,
             NumberWord::Or => Combinator::Or,
+            NumberWord::Xor => Combinator::Xor,
             _ => return None,
         })
     }
@@ -106,6 +107,7 @@ fn combined(
     Ok(match word {
         NumberWord::And => Some(PlainFormula::And(left, last)),
         NumberWord::Or => Some(PlainFormula::Or(left, last)),
+        NumberWord::Xor => Some(PlainFormula::Xor(left, last)),
         _ => None,
     })
 }

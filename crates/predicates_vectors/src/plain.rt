@@ -8,6 +8,7 @@ pub enum PlainFormula {
     Leaf(bool),
     And(Box<PlainFormula>, Box<PlainFormula>),
     Or(Box<PlainFormula>, Box<PlainFormula>),
+    Xor(Box<PlainFormula>, Box<PlainFormula>),
     Not(Box<PlainFormula>),
     Named(Box<PlainFormula>),
 }
@@ -17,7 +18,9 @@ impl PlainFormula {
     pub fn leaf_count(&self) -> usize {
         match self {
             PlainFormula::Leaf(_) => 1,
-            PlainFormula::And(left, right) | PlainFormula::Or(left, right) => {
+            PlainFormula::And(left, right)
+            | PlainFormula::Or(left, right)
+            | PlainFormula::Xor(left, right) => {
                 left.leaf_count().saturating_add(right.leaf_count())
             }
             PlainFormula::Not(part) | PlainFormula::Named(part) => part.leaf_count(),
@@ -30,6 +33,7 @@ impl PlainFormula {
             PlainFormula::Leaf(own) => *own,
             PlainFormula::And(left, right) => left.truth() && right.truth(),
             PlainFormula::Or(left, right) => left.truth() || right.truth(),
+            PlainFormula::Xor(left, right) => left.truth() != right.truth(),
             PlainFormula::Not(part) => !part.truth(),
             PlainFormula::Named(part) => part.truth(),
         }
@@ -39,9 +43,9 @@ impl PlainFormula {
     fn own_truths(&self, above: u32) -> u32 {
         match self {
             PlainFormula::Leaf(own) => above << 1 | u32::from(*own),
-            PlainFormula::And(left, right) | PlainFormula::Or(left, right) => {
-                left.own_truths(right.own_truths(above))
-            }
+            PlainFormula::And(left, right)
+            | PlainFormula::Or(left, right)
+            | PlainFormula::Xor(left, right) => { left.own_truths(right.own_truths(above)) }
             PlainFormula::Not(part) | PlainFormula::Named(part) => part.own_truths(above),
         }
     }
@@ -59,6 +63,11 @@ impl PlainFormula {
                 let (left, rest) = left.value(truths);
                 let (right, rest) = right.value(rest);
                 (left || right, rest)
+            }
+            PlainFormula::Xor(left, right) => {
+                let (left, rest) = left.value(truths);
+                let (right, rest) = right.value(rest);
+                (left != right, rest)
             }
             PlainFormula::Not(part) => {
                 let (part, rest) = part.value(truths);

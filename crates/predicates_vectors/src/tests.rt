@@ -14,6 +14,7 @@ mod memberships;
 mod nested;
 mod paths;
 mod patterns;
+mod prelude;
 mod printed;
 mod snapshots;
 mod texts;

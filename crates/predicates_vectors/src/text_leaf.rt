@@ -1,5 +1,6 @@
 //! A leaf of the library over texts.
 ghost use Rattle.predicates_core.proofs.Leaves.{exactly_text_fits, one_exactly};
+ghost use Rattle.predicates_text.specs.MeantLaws.{empty_text_fits, starts_text_fits, ends_text_fits, contains_text_fits, counted_text_fits, one_empty, one_starts, one_ends, one_contains, one_counted};
 ghost use Rattle.predicates_vectors.specs.OneOf.{text_fits_by_type, one_by_type};
 
 use crate::one_of::OneOf;
@@ -137,17 +138,17 @@ impl Predicate<String> for TextLeaf {
         (λ q g h. exactly_text_fits h)))
         (text_fits_by_type
         (λ q. ⟦<IsEmptyPredicate as Predicate<String>>⟧.formula q v) (λ q. ⟦<Found as Predicate<String>>⟧.formula q v) ⟦<IsEmptyPredicate as fmt::Display>⟧.output ⟦<Found as fmt::Display>⟧.output
-        (λ q g h. exactly_text_fits h)
+        (λ q g h. empty_text_fits h)
         (text_fits_by_type
         (λ q. ⟦<Ending as Predicate<String>>⟧.formula q v) (λ q. ⟦<Part as Predicate<String>>⟧.formula q v) ⟦<Ending as fmt::Display>⟧.output ⟦<Part as fmt::Display>⟧.output
         (text_fits_by_type
         (λ q. ⟦<StartsWithPredicate as Predicate<String>>⟧.formula q v) (λ q. ⟦<EndsWithPredicate as Predicate<String>>⟧.formula q v) ⟦<StartsWithPredicate as fmt::Display>⟧.output ⟦<EndsWithPredicate as fmt::Display>⟧.output
-        (λ q g h. exactly_text_fits h)
-        (λ q g h. exactly_text_fits h))
+        (λ q g h. starts_text_fits h)
+        (λ q g h. ends_text_fits h))
         (text_fits_by_type
         (λ q. ⟦<ContainsPredicate as Predicate<String>>⟧.formula q v) (λ q. ⟦<MatchesPredicate as Predicate<String>>⟧.formula q v) ⟦<ContainsPredicate as fmt::Display>⟧.output ⟦<MatchesPredicate as fmt::Display>⟧.output
-        (λ q g h. exactly_text_fits h)
-        (λ q g h. exactly_text_fits h))))
+        (λ q g h. contains_text_fits h)
+        (λ q g h. counted_text_fits h))))
         p.leaf f };
 
     ghost one_formula = { λ p v f g. one_by_type
@@ -157,14 +158,14 @@ impl Predicate<String> for TextLeaf {
         (λ q h k lawful. one_exactly)
         (λ q h k lawful. one_exactly)))
         (one_by_type
-        (λ q h k lawful. one_exactly)
+        (λ q h k lawful. one_empty)
         (one_by_type
         (one_by_type
-        (λ q h k lawful. one_exactly)
-        (λ q h k lawful. one_exactly))
+        (λ q h k lawful. one_starts)
+        (λ q h k lawful. one_ends))
         (one_by_type
-        (λ q h k lawful. one_exactly)
-        (λ q h k lawful. one_exactly))))
+        (λ q h k lawful. one_contains)
+        (λ q h k lawful. one_counted))))
         p.leaf f g };
 
     fn eval(&self, alloc: Global, item: &String) -> Result<bool, AllocError> {

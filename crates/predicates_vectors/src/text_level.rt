@@ -2,16 +2,17 @@
 ghost use Rattle.predicates.specs.And as And;
 ghost use Rattle.predicates.specs.Name as Name;
 ghost use Rattle.predicates.specs.Or as Or;
+ghost use Rattle.predicates.specs.Xor as Xor;
 ghost use Rattle.predicates.specs.Not.{inner_of};
-ghost use Rattle.predicates_core.proofs.Combined.{and_text_fits, or_text_fits, not_text_fits, named_text_fits, one_and, one_or, one_not, one_named};
+ghost use Rattle.predicates_core.proofs.Combined.{and_text_fits, or_text_fits, xor_text_fits, not_text_fits, named_text_fits, one_and, one_or, one_xor, one_not, one_named};
 ghost use Rattle.predicates_text.specs.HandedLaws.{each_text_fits, one_each};
 ghost use Rattle.predicates_text.specs.Inner.{trim_part, normalized_part};
 ghost use Rattle.predicates_text.specs.Made.{has_trimmed, has_even_lines};
 ghost use Rattle.predicates_vectors.specs.OneOf.{text_fits_by_type, one_by_type};
 
-use crate::level::{Both, Combined, Level, Named, One};
+use crate::level::{Both, Choice, Combined, Level, Named, One};
 use crate::one_of::OneOf;
-use predicates::boolean::{AndPredicate, NotPredicate, OrPredicate};
+use predicates::boolean::{AndPredicate, NotPredicate, OrPredicate, XorPredicate};
 use predicates::str::{NormalizedPredicate, PredicateStrExt, TrimPredicate};
 use predicates_core::Predicate;
 use predicates_core::reflection::{Case, Child, Parameter, PredicateReflection};
@@ -95,9 +96,12 @@ impl<P: Predicate<String>> Predicate<String> for TextLevel<P> {
         (λ q g h. not_text_fits h)
         (λ q g h. named_text_fits h))
         (text_fits_by_type
-        (λ q. ⟦<AndPredicate<P, P, String> as Predicate<String>>⟧.formula q v) (λ q. ⟦<OrPredicate<P, P, String> as Predicate<String>>⟧.formula q v) ⟦<AndPredicate<P, P, String> as fmt::Display>⟧.output ⟦<OrPredicate<P, P, String> as fmt::Display>⟧.output
+        (λ q. ⟦<AndPredicate<P, P, String> as Predicate<String>>⟧.formula q v) (λ q. ⟦<Choice<P, String> as Predicate<String>>⟧.formula q v) ⟦<AndPredicate<P, P, String> as fmt::Display>⟧.output ⟦<Choice<P, String> as fmt::Display>⟧.output
         (λ q g h. and_text_fits h)
-        (λ q g h. or_text_fits h)))
+        (text_fits_by_type
+        (λ q. ⟦<OrPredicate<P, P, String> as Predicate<String>>⟧.formula q v) (λ q. ⟦<XorPredicate<P, P, String> as Predicate<String>>⟧.formula q v) ⟦<OrPredicate<P, P, String> as fmt::Display>⟧.output ⟦<XorPredicate<P, P, String> as fmt::Display>⟧.output
+        (λ q g h. or_text_fits h)
+        (λ q g h. xor_text_fits h))))
         l.node)
         (text_fits_by_type
         (λ q. ⟦<TrimPredicate<P> as Predicate<String>>⟧.formula q v) (λ q. ⟦<NormalizedPredicate<P> as Predicate<String>>⟧.formula q v) ⟦<TrimPredicate<P> as fmt::Display>⟧.output ⟦<NormalizedPredicate<P> as fmt::Display>⟧.output
@@ -116,9 +120,13 @@ impl<P: Predicate<String>> Predicate<String> for TextLevel<P> {
         (λ q h k lawful. one_and
         (λ x y. P.one_formula (And.left_of q) v x y lawful.0)
         (λ x y. P.one_formula (And.right_of q) v x y lawful.1))
+        (one_by_type
         (λ q h k lawful. one_or
         (λ x y. P.one_formula (Or.left_of q) v x y lawful.0)
-        (λ x y. P.one_formula (Or.right_of q) v x y lawful.1))))
+        (λ x y. P.one_formula (Or.right_of q) v x y lawful.1))
+        (λ q h k lawful. one_xor
+        (λ x y. P.one_formula (Xor.left_of q) v x y lawful.0)
+        (λ x y. P.one_formula (Xor.right_of q) v x y lawful.1)))))
         l.node)
         (one_by_type
         (λ q h k lawful x y. one_each (has_trimmed v) (λ t. P.one_formula (trim_part q) t h k lawful) x y)

@@ -80,7 +80,7 @@ fn leaf_truth(alloc: Global, word: &TextWord, item: &str) -> Result<Option<bool>
 // How many parts a word takes.
 fn part_count(word: &TextWord) -> u8 {
     match word {
-        TextWord::And | TextWord::Or => 2,
+        TextWord::And | TextWord::Or | TextWord::Xor => 2,
         TextWord::Not | TextWord::Named(_) => 1,
         TextWord::Trim | TextWord::Normalize | TextWord::FromUtf8 => 1,
         _ => 0,
@@ -128,6 +128,10 @@ fn combined(
         (TextWord::Or, _, Some(left), Some(right)) => {
             let left = Box::new(alloc, left)?;
             Some(PlainFormula::Or(left, Box::new(alloc, right)?))
+        }
+        (TextWord::Xor, _, Some(left), Some(right)) => {
+            let left = Box::new(alloc, left)?;
+            Some(PlainFormula::Xor(left, Box::new(alloc, right)?))
         }
         (TextWord::Not, _, Some(part), None) => { Some(PlainFormula::Not(Box::new(alloc, part)?)) }
         (TextWord::Named(_), _, Some(part), None) => {

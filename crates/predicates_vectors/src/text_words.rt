@@ -29,6 +29,7 @@ pub enum TextWord {
     Not,
     And,
     Or,
+    Xor,
 }
 
 impl Word for TextWord {
@@ -38,6 +39,7 @@ impl Word for TextWord {
             TextWord::Named(name) => Combinator::Named(StaticText::new(name.as_str())),
             TextWord::And => Combinator::And,
             TextWord::Or => Combinator::Or,
+            TextWord::Xor => Combinator::Xor,
             _ => return None,
         })
     }
@@ -54,6 +56,7 @@ fn bare_word(word: &str) -> Option<TextWord> {
         "not" => TextWord::Not,
         "and" => TextWord::And,
         "or" => TextWord::Or,
+        "xor" => TextWord::Xor,
         _ => return None,
     })
 }

@@ -2,6 +2,7 @@
 ghost use Rattle.predicates.specs.And as And;
 ghost use Rattle.predicates.specs.Name as Name;
 ghost use Rattle.predicates.specs.Or as Or;
+ghost use Rattle.predicates.specs.Xor as Xor;
 ghost use Rattle.predicates.specs.Not.{inner_of};
 ghost use Rattle.predicates_text.specs.Inner.{trim_part, normalized_part, utf8_part};
 ghost use Rattle.predicates_vectors.specs.OneOf.{lawful_by_type};
@@ -64,7 +65,9 @@ impl<P: FromWords<TextWord, String>> FromWords<TextWord, String> for TextLevel<P
         (λ q. P.always_lawful (Name.inner_of q)))
         (lawful_by_type
         (λ q. (P.always_lawful (And.left_of q), P.always_lawful (And.right_of q)))
-        (λ q. (P.always_lawful (Or.left_of q), P.always_lawful (Or.right_of q)))))
+        (lawful_by_type
+        (λ q. (P.always_lawful (Or.left_of q), P.always_lawful (Or.right_of q)))
+        (λ q. (P.always_lawful (Xor.left_of q), P.always_lawful (Xor.right_of q))))))
         l.node)
         (lawful_by_type
         (λ q. P.always_lawful (trim_part q))

@@ -23,6 +23,7 @@ pub enum NumberWord {
     Not,
     And,
     Or,
+    Xor,
 }
 
 fn bare_word(word: &str) -> Option<NumberWord> {
@@ -32,6 +33,7 @@ fn bare_word(word: &str) -> Option<NumberWord> {
         "not" => NumberWord::Not,
         "and" => NumberWord::And,
         "or" => NumberWord::Or,
+        "xor" => NumberWord::Xor,
         _ => return None,
     })
 }

@@ -87,6 +87,7 @@ fn flags_change_no_text_over_numbers(rt: HostRuntime) -> Result<(), Fail> {
     stands(alloc, "var in values", in_hash(alloc, [3, 1])?)?;
     stands(alloc, "small", lt(3).name("small"))?;
     stands(alloc, "(var < 3 || var > 5)", lt(3).or(gt(5)))?;
+    stands(alloc, "(var < 3 ^ var > 5)", lt(3).xor(gt(5)))?;
     stands(alloc, "(! (var < 3 || var > 5))", lt(3).or(gt(5)).not())
 }
 
@@ -246,6 +247,7 @@ fn parts_are_not_given_flags(rt: HostRuntime) -> Result<(), Fail> {
     let cell = Cell::new(0);
     assert!(rt; prints(alloc, &wide(&cell).and(wide(&cell)), "(true && true)")?);
     assert!(rt; prints(alloc, &wide(&cell).or(wide(&cell)), "(true || true)")?);
+    assert!(rt; prints(alloc, &wide(&cell).xor(wide(&cell)), "(true ^ true)")?);
     assert!(rt; prints(alloc, &wide(&cell).not(), "(! true)")?);
     assert!(rt; prints(alloc, &wide(&cell).trim(), "true")?);
     assert!(rt; prints(alloc, &wide(&cell).normalize(), "true")?);

@@ -10,12 +10,13 @@ const ITEM: i64 = 4;
 
 // A true leaf, a false leaf, and the combinators.
 fn word(number: u64) -> NumberWord {
-    match number % 6 {
+    match number % 7 {
         0 => NumberWord::Less(5),
         1 => NumberWord::Less(3),
         2 => NumberWord::And,
         3 => NumberWord::Or,
-        4 => NumberWord::Not,
+        4 => NumberWord::Xor,
+        5 => NumberWord::Not,
         _ => NumberWord::Named(StaticText::new("name")),
     }
 }
@@ -38,13 +39,13 @@ fn all_formulas_of_at_most_six_words(rt: HostRuntime) -> Result<(), Fail> {
     let mut explained = 0_u64;
     let mut all = 1_u64;
     for length in 1..7_u64 {
-        all = all.saturating_mul(6);
+        all = all.saturating_mul(7);
         for number in 0..all {
             let mut words = Vec::new(alloc);
             let mut rest = number;
             for _ in 0..length {
                 words.push(word(rest))?;
-                rest /= 6;
+                rest /= 7;
             }
             match is_explained(alloc, words)? {
                 Some(right) => {
@@ -55,8 +56,8 @@ fn all_formulas_of_at_most_six_words(rt: HostRuntime) -> Result<(), Fail> {
             }
         }
     }
-    // 2, 4, 16, 64, 288 and 1344 formulas of 1 to 6 words.
-    assert_eq!(rt; explained, 1718);
+    // 2, 4, 20, 88, 464 and 2464 formulas of 1 to 6 words.
+    assert_eq!(rt; explained, 3042);
     Ok(())
 }
 
@@ -84,10 +85,10 @@ fn add_formula(
             .min(half);
         add_formula(words, state, half, left)?;
         add_formula(words, state, half, leaves.saturating_sub(left))?;
-        words.push(word(2 + next(state) % 2))?;
+        words.push(word(2 + next(state) % 3))?;
     } else if half > 0 && picked % 4 < 2 {
         add_formula(words, state, half, leaves)?;
-        words.push(word(4 + next(state) % 2))?;
+        words.push(word(5 + next(state) % 2))?;
     } else {
         words.push(word(picked / 4 % 2))?;
     }

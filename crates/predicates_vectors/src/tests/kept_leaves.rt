@@ -48,6 +48,16 @@ fn of_or(rt: HostRuntime) -> Result<(), Fail> {
 }
 
 #[test]
+fn of_xor(rt: HostRuntime) -> Result<(), Fail> {
+    assert!(rt; keeps(&rt, lt(3).xor(lt(5)), "lt=3 lt=5 xor", 4, true, &[0, 1])?);
+    let both = lt(3).xor(lt(5)).and(never());
+    assert!(rt; keeps(&rt, both, "lt=3 lt=5 xor never and", 4, false, &[2])?);
+    let either = never().or(lt(3).xor(lt(5)));
+    assert!(rt; keeps(&rt, either, "never lt=3 lt=5 xor or", 4, true, &[1, 2])?);
+    Ok(())
+}
+
+#[test]
 fn of_not(rt: HostRuntime) -> Result<(), Fail> {
     let neither = never().or(never()).not();
     assert!(rt; keeps(&rt, neither, "never never or not", 4, true, &[0, 1])?);

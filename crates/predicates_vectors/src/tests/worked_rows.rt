@@ -1,4 +1,5 @@
 //! Verdicts, cases and descriptions, each as a whole.
+use super::told::{describe, tell};
 use predicates::boolean::PredicateBooleanExt;
 use predicates::constant::{always, never};
 use predicates::ord::{eq, ge, gt, le, lt};
@@ -130,5 +131,50 @@ fn descriptions(rt: HostRuntime) -> Result<(), Fail> {
     assert_eq!(rt; (parts[1].name(), parts[1].text()), ("right", "var <= 10"));
     let text = eq(String::from_str(alloc, "a\n\"")?);
     assert_eq!(rt; text.to_string(alloc)?.as_str(), "var == \"a\\n\\\"\"");
+    Ok(())
+}
+
+#[test]
+fn parts_that_differ(rt: HostRuntime) -> Result<(), Fail> {
+    let alloc = rt.alloc();
+    let mut found = String::new(alloc);
+    let apart = lt(3).xor(lt(5));
+    for item in [4, 9, 2] {
+        tell(alloc, &mut found, &apart, &item)?;
+    }
+    describe(alloc, &mut found, &apart)?;
+    tell(alloc, &mut found, &lt(3).xor(lt(5)).and(never()), &4)?;
+    tell(alloc, &mut found, &never().or(lt(3).xor(lt(5))), &4)?;
+    assert_eq!(rt;
+        found.as_str(),
+        "\
+(var < 3 ^ var < 5) = true
+  left: var < 3 = false
+    - var: 4
+  right: var < 5 = true
+    - var: 4
+(var < 3 ^ var < 5) = false
+  left: var < 3 = false
+    - var: 9
+  right: var < 5 = false
+    - var: 9
+(var < 3 ^ var < 5) = false
+  left: var < 3 = true
+    - var: 2
+  right: var < 5 = true
+    - var: 2
+(var < 3 ^ var < 5)
+  left: var < 3
+  right: var < 5
+((var < 3 ^ var < 5) && false) = false
+  right: false = false
+(false || (var < 3 ^ var < 5)) = true
+  right: (var < 3 ^ var < 5) = true
+    left: var < 3 = false
+      - var: 4
+    right: var < 5 = true
+      - var: 4
+"
+    );
     Ok(())
 }
