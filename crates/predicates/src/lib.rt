@@ -6,6 +6,7 @@ mod boxed;
 pub mod constant;
 pub mod function;
 pub mod iter;
+pub mod laws;
 pub mod name;
 pub mod ord;
 pub mod prelude;
