@@ -7,7 +7,7 @@ use Rattle.std.specs.List.Sorted.{IsPermutation}
 use Rattle.std.proofs.lemmas.List.Sorted.{list_any-IsPermutation}
 use Rattle.std.proofs.lemmas.List.Folds.{list_any-append}
 use Rattle.std.proofs.lemmas.Map.Steps.{list_any_congr}
-use Rattle.predicates.specs.Members.{has_equal, keep_first, first_of_equals, HasSameMembers, KeepsFirst, KeepsMembers}
+use Rattle.predicates.specs.Members.{has_equal, keep_first, first_of_equals, HasSameMembers, GivesItems, KeepsFirst}
 
 or_false : (b : Bool) → (b || false) ≡ b
 or_false true = refl
@@ -44,11 +44,18 @@ module _ {T : Type 0} {eq : T → T → Bool} (laws : IsEquivalence eq) (item : 
 pub same_first : {T : Type 0} {eq : T → T → Bool} → IsEquivalence eq → (items : List T) → HasSameMembers eq (first_of_equals eq items) items
 same_first laws items = record { each = λ item. has_equal-first_of_equals laws item items }
 
+-- what `KeepsFirst` says but for the members
+pub record Kept {U S T : Type 0} (becomes : U → S → Type 0) (steps : S → Option T → S → Type 0) (eq : T → T → Bool) (iterable : U) (kept : List T) : Type 0 where
+  pub items : List T
+  pub given : GivesItems becomes steps iterable items
+  pub is : kept ≡ first_of_equals eq items
+
 -- the first of equal items have the members of all
-pub keeps_members : {U S T : Type 0} {becomes : U → S → Type 0} {steps : S → Option T → S → Type 0} {eq : T → T → Bool} {iterable : U} {kept : List T} → IsEquivalence eq → KeepsFirst becomes steps eq iterable kept → KeepsMembers becomes steps eq iterable kept
-keeps_members {eq = eq} laws first = record {
+pub keeps_first : {U S T : Type 0} {becomes : U → S → Type 0} {steps : S → Option T → S → Type 0} {eq : T → T → Bool} {iterable : U} {kept : List T} → IsEquivalence eq → Kept becomes steps eq iterable kept → KeepsFirst becomes steps eq iterable kept
+keeps_first {eq = eq} laws first = record {
   items = first.items;
   given = first.given;
+  is = first.is;
   same = subst (λ xs. HasSameMembers eq xs first.items) (sym first.is) (same_first laws first.items);
 }
 

@@ -29,16 +29,11 @@ pub record GivesItems {U S T : Type 0} (becomes : U → S → Type 0) (steps : S
   pub made : becomes iterable from
   pub drained : Drains steps from items
 
--- of the items that an iterator of the value gives, the first of equal ones are kept, in order
+-- of the items that an iterator of the value gives, the first of equal ones are kept, in order; they have the members of all of them
 pub record KeepsFirst {U S T : Type 0} (becomes : U → S → Type 0) (steps : S → Option T → S → Type 0) (eq : T → T → Bool) (iterable : U) (kept : List T) : Type 0 where
   pub items : List T
   pub given : GivesItems becomes steps iterable items
   pub is : kept ≡ first_of_equals eq items
-
--- what is kept has the members of what an iterator of the value gives
-pub record KeepsMembers {U S T : Type 0} (becomes : U → S → Type 0) (steps : S → Option T → S → Type 0) (eq : T → T → Bool) (iterable : U) (kept : List T) : Type 0 where
-  pub items : List T
-  pub given : GivesItems becomes steps iterable items
   pub same : HasSameMembers eq kept items
 
 -- some text has the bytes

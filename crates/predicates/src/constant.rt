@@ -15,7 +15,8 @@ use std::fmt;
 use std::marker::PhantomData;
 
 /// Always true, or always false.
-#[derive(Debug, Clone, Copy, PartialEq, Eq, Drop)]
+#[derive(Drop)]
+#[derive_where(Debug, Clone, Copy, PartialEq, Eq)]
 pub struct BooleanPredicate<Item> {
     retval: bool,
     item: PhantomData<Item>,

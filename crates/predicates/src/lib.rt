@@ -7,6 +7,7 @@ pub mod constant;
 pub mod function;
 pub mod iter;
 pub mod laws;
+pub mod meaning;
 pub mod name;
 pub mod ord;
 pub mod prelude;

@@ -134,5 +134,5 @@ impl<M1: ReadsContent<Item>, M2: ReadsContent<Item>, Item: Content> ReadsContent
 
     ghost always_lawful = { λ p. (M1.always_lawful p.a, M2.always_lawful p.b) };
 
-    ghost has_formula = { λ p v. has_or (M1.has_formula p.a v) (M2.has_formula p.b v) };
+    ghost has_formula = { λ p item. has_or (M1.has_formula p.a item) (M2.has_formula p.b item) };
 }

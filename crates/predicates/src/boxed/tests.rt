@@ -124,3 +124,38 @@ fn explained_boxed_or_not(rt: HostRuntime) -> Result<(), Fail> {
     assert_eq!(rt; case_of(alloc, &boxed, true, "4")?.as_str(), "none");
     Ok(())
 }
+
+#[test]
+fn boxes_long_texts(rt: HostRuntime) -> Result<(), Fail> {
+    let alloc = rt.alloc();
+    for length in [0usize, 1, 300, 70_000] {
+        let mut text = String::new(alloc);
+        for _ in 0..length {
+            text.push_str("a")?;
+        }
+        let held = predicate::eq(String::from_str(alloc, text.as_str())?);
+        let boxed = BoxPredicate::new(alloc, Box::new(alloc, held)?)?;
+        // `var == ` and two quotes
+        assert_eq!(rt; boxed.to_string(alloc)?.len(), length + 9, "of {length}");
+        let item = text.as_str();
+        assert!(rt;
+            case_of(alloc, &boxed, true, item)?.len() > 2 * length,
+            "of {length}"
+        );
+        assert_eq!(rt;
+            case_of(alloc, &boxed, false, item)?.as_str(),
+            "none",
+            "of {length}"
+        );
+        assert!(rt;
+            case_of(alloc, &boxed, false, "b")?.len() > length,
+            "of {length}"
+        );
+        assert_eq!(rt;
+            case_of(alloc, &boxed, true, "b")?.as_str(),
+            "none",
+            "of {length}"
+        );
+    }
+    Ok(())
+}

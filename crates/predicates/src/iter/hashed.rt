@@ -5,7 +5,7 @@ ghost use Rattle.predicates_core.specs.Label.{value_of};
 ghost use Rattle.predicates_core.specs.Tree.{empty};
 ghost use Rattle.predicates_core.specs.Leaves.{IsExactly};
 ghost use Rattle.predicates_core.proofs.Leaves.{exactly_text_fits, one_exactly};
-ghost use Rattle.predicates.specs.Members.{KeepsFirst, KeepsMembers, has_equal, member_text, member_leaf};
+ghost use Rattle.predicates.specs.Members.{KeepsFirst, has_equal, member_text, member_leaf};
 ghost use Rattle.predicates.specs.HashableIn.{members_of};
 
 use indexmap::IndexSet;
@@ -29,10 +29,8 @@ pub fn in_hash<I: IntoIterator<Item = T>, T: fmt::Debug + Hash + Eq + Drop>(
     iter: I,
 ) -> Result<HashableInPredicate<T>, AllocError>
     requires { IsFiniteIterable I.into_iter_gives I.IntoIter.can_next I.IntoIter.remaining iter }
-    ensures first { IfOk result (λ p.
+    ensures { IfOk result (λ p.
         KeepsFirst I.into_iter_gives I.IntoIter.next_gives T.eq iter (members_of p)) }
-    ensures same { IfOk result (λ p.
-        KeepsMembers I.into_iter_gives I.IntoIter.next_gives T.eq iter (members_of p)) }
 {
     let members = IndexSet::from_iter(alloc, iter)?;
     Ok(HashableInPredicate { members })

@@ -82,6 +82,71 @@ fn explains_no_members(rt: HostRuntime) -> Result<(), Fail> {
     Ok(())
 }
 
+// Whether it answers the verdict, and gives a case of that answer alone.
+fn answers<P: Predicate<i64>>(
+    alloc: Global,
+    predicate: &P,
+    item: i64,
+    verdict: bool,
+) -> Result<bool, AllocError>
+    requires { P.lawful predicate.now }
+{
+    let found = predicate.find_case(alloc, verdict, &item)?;
+    Ok(
+        predicate.eval(alloc, &item)? == verdict
+            && found.is_some()
+            && predicate.find_case(alloc, !verdict, &item)?.is_none(),
+    )
+}
+
+// The numbers from 0 to the first of the ends hold, and the second one does not; the printed
+// members have so many bytes.
+fn holds_numbers<P: Predicate<i64>>(
+    alloc: Global,
+    predicate: &P,
+    ends: (i64, i64),
+    bytes: usize,
+) -> Result<bool, AllocError>
+    requires { P.lawful predicate.now }
+{
+    let (last, next) = ends;
+    let parameters = predicate.parameters(alloc)?;
+    let Some(values) = parameters.first() else {
+        return Ok(false);
+    };
+    Ok(
+        values.value().len() == bytes
+            && answers(alloc, predicate, next, false)?
+            && answers(alloc, predicate, last, last >= 0)?
+            && answers(alloc, predicate, next / 2, last >= 0)?,
+    )
+}
+
+#[test]
+fn holds_many_members(rt: HostRuntime) -> Result<(), Fail> {
+    let alloc = rt.alloc();
+    // A number has as many bytes as digits, and a comma and a space stand between two.
+    for (last, next, bytes) in [
+        (-1, 0i64, 2usize),
+        (0, 1, 3),
+        (299, 300, 10 + 2 * 90 + 3 * 200 + 2 * 299 + 2),
+        (
+            69_999,
+            70_000,
+            10 + 2 * 90 + 3 * 900 + 4 * 9_000 + 5 * 60_000 + 2 * 69_999 + 2,
+        ),
+    ] {
+        let ends = (last, next);
+        let listed = in_iter(alloc, 0..next)?;
+        assert!(rt; holds_numbers(alloc, &listed, ends, bytes)?, "below {next}");
+        let hashed = in_hash(alloc, 0..next)?;
+        assert!(rt; holds_numbers(alloc, &hashed, ends, bytes)?, "below {next}");
+        let sorted = listed.sort()?;
+        assert!(rt; holds_numbers(alloc, &sorted, ends, bytes)?, "below {next}");
+    }
+    Ok(())
+}
+
 #[test]
 fn counts_comparisons(rt: HostRuntime) -> Result<(), Fail> {
     let sorted = in_iter(rt.alloc(), [4i64, 2, 6, 1, 3, 5, 7])?.sort()?;

@@ -1,5 +1,6 @@
 use crate::path::{FileType, PathFault, Snapshot};
 use crate::prelude::*;
+use crate::reflection::PredicateReflection;
 use std::alloc::{AllocError, Global};
 use std::test::Fail;
 
@@ -27,6 +28,45 @@ fn texts(rt: HostRuntime) -> Result<(), Fail> {
         let item = String::from_str(alloc, item)?;
         assert_eq!(rt; is_short_greeting(alloc, &item)?, verdict, "at {item}");
     }
+    Ok(())
+}
+
+#[test]
+fn each_name_prints_its_own_text(rt: HostRuntime) -> Result<(), Fail> {
+    let alloc = rt.alloc();
+    let (always, never) = (predicate::always::<i64>(), predicate::never::<i64>());
+    let called = predicate::function(|n: &i64| *n < 3);
+    let (eq, ne) = (predicate::eq(3), predicate::ne(3));
+    let (lt, le) = (predicate::lt(3), predicate::le(3));
+    let (ge, gt) = (predicate::ge(3), predicate::gt(3));
+    let found = format!(in alloc;
+        "{always}, {never}, {called}, {eq}, {ne}, {lt}, {le}, {ge}, {gt}"
+    )?;
+    assert_eq!(rt;
+        found.as_str(),
+        "true, false, fn(var), var == 3, var != 3, var < 3, var <= 3, var >= 3, var > 3"
+    );
+    let empty = predicate::str::is_empty();
+    let starts = predicate::str::starts_with(String::from_str(alloc, "a")?);
+    let ends = predicate::str::ends_with(String::from_str(alloc, "a")?);
+    let contains = predicate::str::contains(String::from_str(alloc, "a")?);
+    let found = format!(in alloc; "{empty}, {starts}, {ends}, {contains}")?;
+    assert_eq!(rt;
+        found.as_str(),
+        "var.is_empty(), var.starts_with(\"a\"), var.ends_with(\"a\"), var.contains(a)"
+    );
+    let (exists, missing) = (predicate::path::exists(), predicate::path::missing());
+    let file = predicate::path::is_file();
+    let (dir, symlink) = (predicate::path::is_dir(), predicate::path::is_symlink());
+    let found = format!(in alloc; "{exists}, {missing}, {file}, {dir}, {symlink}")?;
+    assert_eq!(rt;
+        found.as_str(),
+        "exists(var), missing(var), var is file, var is dir, var is symlink"
+    );
+    let listed = predicate::in_iter(alloc, [3i64, 3])?.parameters(alloc)?;
+    assert_eq!(rt; listed[0].value(), "[3, 3]");
+    let hashed = predicate::in_hash(alloc, [3i64, 3])?.parameters(alloc)?;
+    assert_eq!(rt; hashed[0].value(), "{3}");
     Ok(())
 }
 

@@ -13,4 +13,4 @@ returns c =
     let members = c.args.members.items in
     IfOk-weaker c.in_hash.result _ (λ (p : HashableInPredicate ℤ). members_of p ≡ first_of_equals int_eq members)
     (λ (p : HashableInPredicate ℤ) keeps. kept_from_gives members (λ it made. YieldsList-from_vec members (search rules) (search rules)) keeps)
-    c.in_hash.ensures.first
+    c.in_hash.ensures
