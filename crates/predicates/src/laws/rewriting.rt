@@ -58,10 +58,10 @@ pub fn de_morgan<P: Predicate<Item>, Q: Predicate<Item>, Item>(left: &P, right: 
 pub fn exclusive_or<P: Predicate<Item>, Q: Predicate<Item>, Item>(left: &P, right: &Q, item: &Item)
     ensures { (f g : Formula) → P.formula left.now item.now f → Q.formula right.now item.now g
         → AreAlike
-            (opposite (infix_text (codes " ^ ") (P.output left.now) (Q.output right.now))
-                (just_one_of (codes " ^ ") (P.output left.now) (Q.output right.now) f g))
-            (just_one_of (codes " ^ ") (not_text (P.output left.now)) (Q.output right.now)
-                (opposite (P.output left.now) f) g) }
+        (opposite (infix_text (codes " ^ ") (P.output left.now) (Q.output right.now))
+        (just_one_of (codes " ^ ") (P.output left.now) (Q.output right.now) f g))
+        (just_one_of (codes " ^ ") (not_text (P.output left.now)) (Q.output right.now)
+        (opposite (P.output left.now) f) g) }
 {}
 
 /// Where a predicate's formula leaves no entry open, there is one case that explains it and no other,
