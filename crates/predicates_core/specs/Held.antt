@@ -1,12 +1,12 @@
 -- The trees that a list of entries holds, in preorder.
-use Rattle.std.specs.Prelude.{ℕ, zero, suc, ◌-◌, ◌≤◌, List, [], ◌∷◌, length, take, drop, string_bytes, if◌then◌else◌, Some, None, ⊤}
+use Rattle.std.specs.Prelude.{ℕ, zero, suc, ◌-◌, ◌≤◌, List, [], ◌∷◌, length, take, drop, string_bytes, option_map, ⊤}
 use Rattle.predicates_core.specs.Tree.{Forest, empty, branch}
 use Rattle.predicates_core.specs.Describe.{CaseNode}
 use Rattle.predicates_core.specs.declared.reflection.case.Entry.{Entry}
 use Rattle.predicates_core.specs.declared.reflection.case.Node.{Node}
 
 abbrev pub node_of : Node → CaseNode
-node_of n = record { text = if n.has_text then Some (string_bytes n.text) else None; result = n.result; products = n.products.items }
+node_of n = record { text = option_map string_bytes n.text; result = n.result; products = n.products.items }
 
 -- the trees of at most so many entries: under the first entry stand the entries of its subtree without itself, and the rest follow it
 abbrev pub trees_of : ℕ → List Entry → Forest CaseNode

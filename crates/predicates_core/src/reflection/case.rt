@@ -11,11 +11,10 @@ use crate::static_text::StaticText;
 use std::alloc::{AllocError, Global};
 use std::marker::Model;
 
-// What stands at one node. A text that is there or not in an `Option` would take a word more.
+// What stands at one node.
 #[derive(Drop)]
 struct Node {
-    text: String,
-    has_text: bool,
+    text: Option<String>,
     result: bool,
     products: Vec<Product>,
 }
@@ -57,14 +56,9 @@ impl Case {
     pub fn new(alloc: Global, predicate: Option<String>, outcome: bool) -> Case
         ensures { result ≡ leaf (option_map string_bytes predicate) outcome }
     {
-        let (text, has_text) = match predicate {
-            Some(text) => (text, true),
-            None => (String::new(alloc), false),
-        };
         Case {
             root: Node {
-                text,
-                has_text,
+                text: predicate,
                 result: outcome,
                 products: Vec::new(alloc),
             },
@@ -147,10 +141,10 @@ impl<'a> CaseView<'a> {
     pub fn predicate(&self) -> Option<&'a str>
         ensures { option_copied result ≡ self.now.root.text }
     {
-        if !self.node.has_text {
-            return None;
+        match &self.node.text {
+            Some(text) => Some(text.as_str()),
+            None => None,
         }
-        Some(self.node.text.as_str())
     }
 
     /// The result of the node.
