@@ -2,6 +2,7 @@
 use Rattle.std.proofs.Common.{◌≡◌, ℕ, ◌+◌, List, [], ◌∷◌, ◌++◌, Bool, true, false, length, take, drop, refl, ap, ◌∙◌, arith, length-append}
 use Rattle.std.specs.Prelude.{not, ◌&&◌, ◌||◌}
 use Rattle.std.proofs.lemmas.List.{take_at, drop_at}
+use mathlib.Core.Bool.{beq}
 use Rattle.predicates_core.specs.Label.{Label}
 use Rattle.predicates_core.specs.Formula.{Formula, Leaf, And, Or, Xor, Not, Named, differ, size, IsValuation, value, actual, truth}
 
@@ -102,3 +103,16 @@ value-reaching (Or label l r) b = joined_value (or_joins label l r) (reaching l 
 value-reaching (Xor label l r) b = joined_value (xor_joins label l r) (reaching l b) (reaching r false) (length-reaching l b) ∙ cc (value-reaching l b, value-reaching r false, differ_false b)
 value-reaching (Not label f) b = ap not (value-reaching f (not b)) ∙ not-not b
 value-reaching (Named label name f) b = value-reaching f b
+
+-- what a comparison of two truths says
+pub same_truths : (a b : Bool) → beq a b ≡ true → a ≡ b
+same_truths true true e = refl
+same_truths false false e = refl
+same_truths true false e = absurd (cc)
+same_truths false true e = absurd (cc)
+
+pub other_truths : (a b : Bool) → beq a b ≡ false → a ≡ not b
+other_truths true true e = absurd (cc)
+other_truths false false e = absurd (cc)
+other_truths true false e = refl
+other_truths false true e = refl
