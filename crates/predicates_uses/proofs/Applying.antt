@@ -3,12 +3,12 @@ use Rattle.std.proofs.Common.{◌≡◌, ◌<◌, ℕ, suc, List, [], ◌∷◌,
 use Rattle.std.proofs.Math.Seq.{split_at}
 use Rattle.predicates_core.specs.Text.{Text}
 use Rattle.predicates_explain.specs.Tokens.{token_of}
-use Rattle.predicates_explain.specs.Applied.{IsApplied, IsRefusedPattern, operand_count}
+use Rattle.predicates_explain.specs.Applied.{IsApplied, IsPattern, operand_count}
 use Rattle.predicates_explain.specs.declared.words.word.Word.{Word}
 use Rattle.predicates_explain.specs.declared.words.fault.WordFault.{WordFault}
 use Rattle.predicates_explain.specs.declared.words.fault.WordFault.TheVariants.{Operand, Pattern, NoMemory}
 use Rattle.predicates_explain.specs.declared.check.TextCheck.{TextCheck}
-use Rattle.predicates_uses.specs.Applied.{AreApplied, StopsAt, TakesMore, HoldsRefused, IsFaultOf}
+use Rattle.predicates_uses.specs.Applied.{AreApplied, StopsAt, TakesMore, HoldsPattern, IsFaultOf}
 use Rattle.predicates_uses.specs.PolicyFault.{of_word}
 
 pub one_more : (tokens : List Text) (token : Text) (old between new : List TextCheck) (word : Word)
@@ -36,10 +36,10 @@ stops_at IsWrong tokens place token old stack within applied wrong = record {
 -- the fault of the word that stands there is one of the tokens
 pub fault_of_word : (tokens : List Text) (place : ℕ) (token : Text) (old stack : List TextCheck) (word : Word) (fault : WordFault)
     → place < length tokens → AreApplied (take place tokens) old stack → string_bytes (get_or tokens place token) ≡ token_of word
-    → (fault ≡ Operand → length stack < operand_count word) → (fault ≡ Pattern → IsRefusedPattern word)
+    → (fault ≡ Operand → length stack < operand_count word) → (fault ≡ Pattern → IsPattern word)
     → IsFaultOf tokens old (of_word fault)
 fault_of_word tokens place token old stack word Operand within applied is operand pattern =
     stops_at TakesMore tokens place token old stack within applied (word, is, operand refl)
 fault_of_word tokens place token old stack word Pattern within applied is operand pattern =
-    stops_at HoldsRefused tokens place token old stack within applied (word, is, pattern refl)
+    stops_at HoldsPattern tokens place token old stack within applied (word, is, pattern refl)
 fault_of_word tokens place token old stack word NoMemory within applied is operand pattern = tt

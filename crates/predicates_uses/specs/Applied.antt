@@ -2,7 +2,7 @@
 use Rattle.std.specs.Prelude.{◌≡◌, ◌≢◌, ◌<◌, List, [], ◌∷◌, ◌++◌, length, string_bytes}
 use Rattle.predicates_core.specs.Text.{Text}
 use Rattle.predicates_explain.specs.Tokens.{token_of}
-use Rattle.predicates_explain.specs.Applied.{IsApplied, IsRefusedPattern, operand_count}
+use Rattle.predicates_explain.specs.Applied.{IsApplied, IsPattern, operand_count}
 use Rattle.predicates_explain.specs.declared.words.word.Word.{Word}
 use Rattle.predicates_explain.specs.declared.check.TextCheck.{TextCheck}
 use Rattle.predicates_uses.specs.declared.policy.PolicyFault.{PolicyFault}
@@ -33,14 +33,14 @@ IsNoWord token stack = (word : Word) → string_bytes token ≢ token_of word
 abbrev pub TakesMore : Text → List TextCheck → Type 0
 TakesMore token stack = (word : Word) × (string_bytes token ≡ token_of word) × (length stack < operand_count word)
 
--- the token's word holds a regular expression that is refused
-abbrev pub HoldsRefused : Text → List TextCheck → Type 0
-HoldsRefused token stack = (word : Word) × (string_bytes token ≡ token_of word) × IsRefusedPattern word
+-- the token's word holds a regular expression
+abbrev pub HoldsPattern : Text → List TextCheck → Type 0
+HoldsPattern token stack = (word : Word) × (string_bytes token ≡ token_of word) × IsPattern word
 
 -- what a fault says of the tokens and the stack that they begin with
 abbrev pub IsFaultOf : List Text → List TextCheck → PolicyFault → Type 0
 IsFaultOf tokens old Unknown = StopsAt IsNoWord tokens old
 IsFaultOf tokens old Operand = StopsAt TakesMore tokens old
-IsFaultOf tokens old Pattern = StopsAt HoldsRefused tokens old
+IsFaultOf tokens old Pattern = StopsAt HoldsPattern tokens old
 IsFaultOf tokens old NotOne = (stack : List TextCheck) × AreApplied tokens old stack × (length stack ≢ 1)
 IsFaultOf tokens old NoMemory = Unit {0}
