@@ -5,6 +5,7 @@ mod tests;
 
 pub use crate::Predicate;
 pub use crate::boolean::PredicateBooleanExt;
+pub use crate::laws;
 pub use crate::name::PredicateNameExt;
 pub use predicates_path::PredicateFileContentExt;
 pub use predicates_text::PredicateStrExt;

@@ -4,7 +4,6 @@
 pub mod lasting;
 pub mod laws;
 pub mod node;
-pub mod own;
 mod predicate;
 pub mod reflection;
 pub mod static_text;

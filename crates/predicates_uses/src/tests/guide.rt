@@ -98,13 +98,15 @@ fn combinators(rt: HostRuntime) -> Result<(), Fail> {
     explain_onto(alloc, &mut out, &both, &4)?;
     let either = predicate::lt(3).or(predicate::gt(5));
     explain_onto(alloc, &mut out, &either, &4)?;
+    let just_one = predicate::lt(3).xor(predicate::lt(5));
+    explain_onto(alloc, &mut out, &just_one, &4)?;
     let outside = predicate::ge(5).and(predicate::le(10)).not();
     explain_onto(alloc, &mut out, &outside, &4)?;
     let named = predicate::str::is_empty().not().name("non-empty");
     explain_onto(alloc, &mut out, &named, &text(alloc, "")?)?;
     assert_eq!(rt;
         out.as_str(),
-        "(var < 3 && var < 5) = false\n  left: var < 3 = false\n    - var: 9\n(true && var < 3) = false\n  right: var < 3 = false\n    - var: 4\n(var < 3 || var > 5) = false\n  left: var < 3 = false\n    - var: 4\n  right: var > 5 = false\n    - var: 4\n(! (var >= 5 && var <= 10)) = true\n  predicate: (var >= 5 && var <= 10) = false\n    left: var >= 5 = false\n      - var: 4\nnon-empty = false\n  non-empty: (! var.is_empty()) = false\n    predicate: var.is_empty() = true\n      - var: \n"
+        "(var < 3 && var < 5) = false\n  left: var < 3 = false\n    - var: 9\n(true && var < 3) = false\n  right: var < 3 = false\n    - var: 4\n(var < 3 || var > 5) = false\n  left: var < 3 = false\n    - var: 4\n  right: var > 5 = false\n    - var: 4\n(var < 3 ^ var < 5) = true\n  left: var < 3 = false\n    - var: 4\n  right: var < 5 = true\n    - var: 4\n(! (var >= 5 && var <= 10)) = true\n  predicate: (var >= 5 && var <= 10) = false\n    left: var >= 5 = false\n      - var: 4\nnon-empty = false\n  non-empty: (! var.is_empty()) = false\n    predicate: var.is_empty() = true\n      - var: \n"
     );
     Ok(())
 }
