@@ -1,26 +1,13 @@
-//! Nested predicates over long texts, long names, and as many parts as a level has.
+//! Nested predicates over long contents, and as many parts as a level has.
 use super::snapshots::file;
-use super::told::{describe, tell, text};
+use super::told::tell;
 use crate::numbers::{answer_number, plain_number};
 use crate::words::NumberWord;
 use predicates::boolean::PredicateBooleanExt;
-use predicates::name::PredicateNameExt;
-use predicates::ord::eq;
 use predicates::path::PredicateFileContentExt;
-use predicates::str::{PredicateStrExt, contains, ends_with, is_empty, starts_with};
-use predicates::{BoxPredicate, TextPredicate};
-use predicates_core::static_text::StaticText;
+use predicates::str::{PredicateStrExt, is_empty};
 use std::alloc::{AllocError, Global};
 use std::test::Fail;
-
-// A name of 300 bytes.
-const NAME: &str = "\
-a name of fifty bytes, counted as they stand here;\
-a name of fifty bytes, counted as they stand here;\
-a name of fifty bytes, counted as they stand here;\
-a name of fifty bytes, counted as they stand here;\
-a name of fifty bytes, counted as they stand here;\
-a name of fifty bytes, counted as they stand here;";
 
 // One byte less than the texts here have.
 const LENGTH: u32 = 69_999;
@@ -33,73 +20,6 @@ fn long_text(alloc: Global, length: u32, end: &str) -> Result<String, AllocError
     }
     text.push_str(end)?;
     Ok(text)
-}
-
-#[test]
-fn nested_over_long_texts(rt: HostRuntime) -> Result<(), Fail> {
-    let alloc = rt.alloc();
-    let front = long_text(alloc, LENGTH, "")?;
-    let with_b = long_text(alloc, LENGTH, "b")?;
-    let with_c = long_text(alloc, LENGTH, "c")?;
-    let checks = starts_with(front.clone()?)
-        .and(ends_with(text(alloc, "b")?))
-        .or(eq(with_c.clone()?).or(contains(with_b.clone()?)))
-        .or(contains(with_b.clone()?).count(2))
-        .trim()
-        .name(StaticText::new(NAME));
-    let held: Box<dyn TextPredicate> = Box::new(alloc, checks)?;
-    let check = BoxPredicate::new(alloc, held)?.not();
-    let (front, b, c) = (front.as_str(), with_b.as_str(), with_c.as_str());
-    let left = format!(in alloc; "(var.starts_with(\"{front}\") && var.ends_with(\"b\"))")?;
-    let right = format!(in alloc; "(var == \"{c}\" || var.contains({b}))")?;
-    let (left, right) = (left.as_str(), right.as_str());
-    let some = format!(in alloc; "({left} || {right})")?;
-    let some = some.as_str();
-    let all = format!(in alloc; "({some} || var.contains({b}))")?;
-    let all = all.as_str();
-    let mut found = String::new(alloc);
-    tell(alloc, &mut found, &check, &format!(in alloc; "  {b}\n")?)?;
-    let expected = format!(in alloc;
-        "\
-(! {NAME}) = false
-  predicate: {NAME} = true
-    {NAME}: {all} = true
-      left: {some} = true
-        left: {left} = true
-          left: var.starts_with(\"{front}\") = true
-            - var: {b}
-          right: var.ends_with(\"b\") = true
-            - var: {b}
-"
-    )?;
-    assert!(rt; found.as_str() == expected.as_str());
-    let mut found = String::new(alloc);
-    tell(alloc, &mut found, &check, &format!(in alloc; "{front}d")?)?;
-    describe(alloc, &mut found, &check)?;
-    let expected = format!(in alloc;
-        "\
-(! {NAME}) = true
-  predicate: {NAME} = false
-    {NAME}: {all} = false
-      left: {some} = false
-        left: {left} = false
-          right: var.ends_with(\"b\") = false
-            - var: {front}d
-        right: {right} = false
-          left: var == \"{c}\" = false
-            - var: \"{front}d\"
-          right: var.contains({b}) = false
-            - var: {front}d
-      right: var.contains({b}) = false
-        - var: {front}d
-        - actual count: 0
-(! {NAME})
-  predicate: {NAME}
-    {NAME}: {all}
-"
-    )?;
-    assert!(rt; found.as_str() == expected.as_str());
-    Ok(())
 }
 
 #[test]
