@@ -1,30 +1,21 @@
 // What is written around a check changes no reason.
-use super::text;
 use crate::{Around, find_plain_case};
 use predicates::prelude::*;
 use predicates::reflection::render;
-use std::alloc::{AllocError, Global};
-use std::process::Abort;
 use std::test::Fail;
-
-fn found(alloc: Global, around: Around, expected: bool) -> Result<String, AllocError> {
-    match find_plain_case(alloc, &predicate::lt(3), around, expected, &9)? {
-        Some(case) => render(alloc, &case),
-        None => text(alloc, "none"),
-    }
-}
-
-fn is_explained_plainly(rt: &impl Abort, alloc: Global, around: Around) -> Result<(), Fail> {
-    assert_eq!(rt;
-        found(alloc, around, false)?.as_str(),
-        "var < 3 = false\n  - var: 9\n"
-    );
-    assert_eq!(rt; found(alloc, around, true)?.as_str(), "none");
-    Ok(())
-}
 
 #[test]
 fn explains_a_check_plainly(rt: HostRuntime) -> Result<(), Fail> {
-    is_explained_plainly(&rt, rt.alloc(), Around::Name("small"))?;
-    is_explained_plainly(&rt, rt.alloc(), Around::TwoNegations)
+    let alloc = rt.alloc();
+    let small = predicate::lt(3);
+    let named = Around::Name("small");
+    let case = find_plain_case(alloc, &small, named, false, &9)?.ok_or("it holds")?;
+    let found = render(alloc, &case)?;
+    assert_eq!(rt; found.as_str(), "var < 3 = false\n  - var: 9\n");
+    let turned = Around::TwoNegations;
+    let case = find_plain_case(alloc, &small, turned, false, &9)?.ok_or("it holds")?;
+    let found = render(alloc, &case)?;
+    assert_eq!(rt; found.as_str(), "var < 3 = false\n  - var: 9\n");
+    assert!(rt; find_plain_case(alloc, &small, Around::TwoNegations, true, &9)?.is_none());
+    Ok(())
 }
