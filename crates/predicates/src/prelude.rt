@@ -3,10 +3,9 @@
 #[cfg(test)]
 mod tests;
 
-pub use crate::Predicate;
 pub use crate::boolean::PredicateBooleanExt;
-pub use crate::laws;
 pub use crate::name::PredicateNameExt;
+pub use crate::{Predicate, laws};
 pub use predicates_path::PredicateFileContentExt;
 pub use predicates_text::PredicateStrExt;
 
