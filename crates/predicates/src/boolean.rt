@@ -1,4 +1,11 @@
 //! Combinators of predicates over one item type.
+//!
+//! ```
+//! let between = predicate::ge(5).and(predicate::le(10));
+//! let outside = predicate::ge(5).and(predicate::le(10)).not();
+//! ```
+//!
+//! Making one takes no memory. `eval` takes none where those of the parts take none.
 ghost use Rattle.std.specs.Prelude.{◌≡◌};
 ghost use Rattle.predicates.specs.And as And;
 ghost use Rattle.predicates.specs.Or as Or;

@@ -1,4 +1,9 @@
 //! Predicates of texts whose type is chosen at run time.
+//!
+//! ```
+//! let blank = predicate::str::is_empty().trim();
+//! let boxed = BoxPredicate::new(alloc, Box::new(alloc, blank)?)?;
+//! ```
 
 mod holder;
 mod seen;

@@ -1,4 +1,8 @@
 //! Predicates that answer the same on every item.
+//!
+//! ```
+//! let open = predicate::always().or(predicate::eq(5));
+//! ```
 ghost use Rattle.std.specs.Prelude.{◌≡◌, refl, true, false, codes, Some};
 ghost use Rattle.predicates_core.specs.Label.{plain, value_of};
 ghost use Rattle.predicates_core.specs.Formula.{Leaf};
@@ -14,7 +18,7 @@ use std::alloc::{AllocError, Global};
 use std::fmt;
 use std::marker::PhantomData;
 
-/// Always true, or always false.
+/// Always true, or always false. Made by `always` and `never`.
 #[derive(Drop)]
 #[derive_where(Debug, Clone, Copy, PartialEq, Eq)]
 pub struct BooleanPredicate<Item> {
@@ -22,7 +26,7 @@ pub struct BooleanPredicate<Item> {
     item: PhantomData<Item>,
 }
 
-/// The predicate that holds of every item.
+/// The predicate that holds of every item. It takes no memory, and neither does its `eval`.
 pub fn always<Item>() -> BooleanPredicate<Item>
     ensures { answer_of result ≡ true }
 {
@@ -32,7 +36,7 @@ pub fn always<Item>() -> BooleanPredicate<Item>
     }
 }
 
-/// The predicate that holds of no item.
+/// The predicate that holds of no item. It takes no memory, and neither does its `eval`.
 pub fn never<Item>() -> BooleanPredicate<Item>
     ensures { answer_of result ≡ false }
 {

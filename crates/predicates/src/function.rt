@@ -1,4 +1,8 @@
 //! Functions of the caller's own as predicates.
+//!
+//! ```
+//! let big = predicate::function(|x: &i32| *x >= 5).fn_name("big");
+//! ```
 ghost use Rattle.std.specs.Prelude.{◌≡◌, [], codes};
 ghost use Rattle.predicates_core.specs.Tree.{empty};
 ghost use Rattle.predicates.specs.Function.{HasOneAnswer, IsCall, call_text, call_text_fits, one_call, function_of, name_of};
@@ -15,7 +19,7 @@ use std::alloc::{AllocError, Global};
 use std::fmt;
 use std::marker::PhantomData;
 
-/// Holds of an item where a function answers true on it.
+/// Holds of an item where a function answers true on it. Made by `function`.
 #[derive(Drop)]
 pub struct FnPredicate<F, T> {
     function: F,
@@ -24,6 +28,9 @@ pub struct FnPredicate<F, T> {
 }
 
 /// The predicate that asks the function, under the name `fn`.
+///
+/// The function may be called on every item (`callable`) and has one answer for each
+/// (`one_answer`). It takes no memory, and neither does its `eval`. The function is kept.
 pub fn function<F: Fn(&T) -> bool, T>(function: F) -> FnPredicate<F, T>
     requires callable { F.IsAlwaysCallable function }
     requires one_answer { HasOneAnswer F.Fn function }
@@ -38,7 +45,7 @@ pub fn function<F: Fn(&T) -> bool, T>(function: F) -> FnPredicate<F, T>
 }
 
 impl<F, T> FnPredicate<F, T> {
-    /// The same predicate under another name.
+    /// The same predicate under another name; the old one is dropped. It takes no memory.
     pub fn fn_name<N: Lasting + Drop>(self, name: N) -> FnPredicate<F, T>
         ensures function { function_of result ≡ function_of self }
         ensures name { name_of result ≡ N.bytes name }

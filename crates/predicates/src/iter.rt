@@ -1,4 +1,12 @@
 //! Membership of the item among some values.
+//!
+//! ```
+//! let few = predicate::in_iter(alloc, [1, 3, 5])?;
+//! let many = predicate::in_iter(alloc, ports)?.sort()?;
+//! let distinct = predicate::in_hash(alloc, ports)?;
+//! ```
+//!
+//! Making one takes memory for its members. `eval` takes none, and never refuses.
 mod hashed;
 mod listed;
 mod sorted;

@@ -1,4 +1,41 @@
 //! Boolean checks that explain their answers.
+//!
+//! ```
+//! use predicates::prelude::*;
+//!
+//! let between = predicate::ge(5).and(predicate::le(10));
+//! assert!(rt; between.eval(alloc, &7)?);
+//! let case = between.find_case(alloc, false, &11)?.ok_or("it holds")?;
+//! let lines = render(alloc, &case)?;
+//! ```
+//!
+//! The lines show what decided, and nothing else:
+//!
+//! ```text
+//! (var >= 5 && var <= 10) = false
+//!   right: var <= 10 = false
+//!     - var: 11
+//! ```
+//!
+//! # Choosing a predicate
+//!
+//! Of any item: `always`, `never`; `eq`, `ne`, `lt`, `le`, `ge`, `gt`; `in_iter`, `in_hash` and
+//! `InPredicate::sort`; `function` over a function or a closure.
+//!
+//! Over other predicates: `and`, `or`, `xor`, `not`, and `name`.
+//!
+//! Of texts: `str::is_empty`, `str::starts_with`, `str::ends_with`, `str::contains` and its
+//! `count`, `str::is_match` and its `count`; `trim` and `normalize` over a predicate of texts, and
+//! `from_utf8`, which makes of it one of bytes.
+//!
+//! Of paths, over a `Snapshot`: `path::exists`, `path::missing`, `path::is_file`, `path::is_dir`,
+//! `path::is_symlink`, `path::eq_file`; `from_file_path` over a predicate of bytes.
+//!
+//! # Memory
+//!
+//! A call that may take memory is handed the allocator and answers a `Result`. `eval` and
+//! `find_case` are refused only where memory is. What is steady on an item, as comparisons are on
+//! each, evaluates without memory there.
 #![tactic(auto)]
 
 pub mod boolean;

@@ -1,4 +1,8 @@
 //! Predicates under a name.
+//!
+//! ```
+//! let blank = predicate::str::is_empty().trim().name("blank");
+//! ```
 ghost use Rattle.std.specs.Prelude.{◌≡◌, refl, [], Some};
 ghost use Rattle.predicates_core.specs.Label.{plain};
 ghost use Rattle.predicates_core.specs.Formula.{Named};
@@ -18,7 +22,8 @@ use std::alloc::{AllocError, Global};
 use std::fmt;
 use std::marker::PhantomData;
 
-/// Holds where its part does, and prints a name in place of its part's text.
+/// Holds where its part does, and prints a name in place of its part's text. Made by
+/// `PredicateNameExt::name`.
 #[derive(Debug, Clone, Copy, PartialEq, Eq, Drop)]
 pub struct NamePredicate<M, Item, N = &'static str> {
     inner: M,
@@ -109,7 +114,7 @@ impl<M: ReadsContent<Item>, Item: Content, N: Lasting> ReadsContent<Item>
 /// Names any predicate.
 pub trait PredicateNameExt<Item>: Predicate<Item> {
     /// The same predicate under a name, which is a `&'static str` or, where no lifetime may stand
-    /// in the type, a `StaticText`.
+    /// in the type, as in a box, a `StaticText`. It takes no memory.
     fn name<N: Lasting>(self, name: N) -> NamePredicate<Self, Item, N>
     where
         Self: Sized,

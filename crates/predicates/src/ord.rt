@@ -1,4 +1,12 @@
 //! Comparisons of the item, on the left, with a constant.
+//!
+//! ```
+//! let small = predicate::lt(10);
+//! assert!(rt; small.eval(alloc, &7)?);
+//! ```
+//!
+//! The constant is kept. Making a comparison takes no memory, and neither does its `eval`; `eval`
+//! never refuses.
 mod equality;
 mod order;
 

@@ -1,12 +1,22 @@
 //! What code that checks with predicates names.
+//!
+//! ```
+//! use predicates::prelude::*;
+//!
+//! let between = predicate::ge(5).and(predicate::le(10));
+//! let case = between.find_case(alloc, false, &11)?.ok_or("it holds")?;
+//! let lines = render(alloc, &case)?;
+//! ```
 
 #[cfg(test)]
 mod tests;
 
 pub use crate::boolean::PredicateBooleanExt;
 pub use crate::name::PredicateNameExt;
-pub use crate::{Predicate, laws};
-pub use predicates_path::PredicateFileContentExt;
+pub use crate::{BoxPredicate, Predicate, laws};
+pub use predicates_core::reflection::render;
+pub use predicates_core::static_text::StaticText;
+pub use predicates_path::{PredicateFileContentExt, Snapshot};
 pub use predicates_text::PredicateStrExt;
 
 /// The functions that make predicates.

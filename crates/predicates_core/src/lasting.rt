@@ -4,11 +4,13 @@ ghost use Rattle.std.specs.Prelude.{◌≡◌, ℕ, List};
 
 use crate::static_text::StaticText;
 
-/// A text that is there for good: the name of a predicate.
+/// A text that is there for good: the name of a predicate. A `&'static str` is one, and so is a
+/// `StaticText`, whose type names no lifetime.
 pub trait Lasting {
+    // The bytes of the text.
     ghost bytes: { Self → List ℕ };
 
-    /// The text itself.
+    /// The text itself. It takes no memory.
     fn text(&self) -> &'static str
         ensures { result.now ≡ bytes self.now };
 }

@@ -1,4 +1,11 @@
 //! Nodes of cases, from their printed text and their parts.
+//!
+//! ```
+//! let text = printed(alloc, self)?;
+//! Ok(Some(over_one(alloc, text, expected, "predicate", part)?))
+//! ```
+//!
+//! Each call is refused where memory is, and then drops what it was handed.
 ghost use Rattle.std.specs.Prelude.{◌≡◌, [], ◌∷◌, codes, Some, IfOk, IfSome, string_bytes};
 ghost use Rattle.predicates_core.specs.Shows.{IsNode, found_parts};
 ghost use Rattle.predicates_core.specs.Leaves.{IsShowing};
@@ -10,7 +17,8 @@ use std::fmt;
 // The bytes that a printed text has room for at first.
 const ROOM: usize = 64;
 
-/// What the value prints; it has room for 64 bytes at first, so that a short text takes memory once.
+/// What the value prints; it has room for 64 bytes at first, so that a short text takes memory
+/// once.
 pub fn printed<T: fmt::Display>(alloc: Global, value: &T) -> Result<String, AllocError>
     ensures { IfOk result (λ text. IfSome (T.output value.now) (λ bytes. string_bytes text ≡ bytes)) }
 {
@@ -19,14 +27,14 @@ pub fn printed<T: fmt::Display>(alloc: Global, value: &T) -> Result<String, Allo
     Ok(text)
 }
 
-/// A node alone.
+/// A node alone, without products. It takes no memory.
 pub fn alone(alloc: Global, text: String, outcome: bool) -> Case
     ensures { IsNode (Some (string_bytes text)) outcome [] result }
 {
     Case::new(alloc, Some(text), outcome)
 }
 
-/// A node over one part.
+/// A node over one part, which stands under the name.
 pub fn over_one(
     alloc: Global,
     text: String,
@@ -40,7 +48,7 @@ pub fn over_one(
     alone(alloc, text, outcome).add_child(name, part)
 }
 
-/// A node over a left and a right part.
+/// A node over a left and a right part, under the names `left` and `right`.
 pub fn over_both(
     alloc: Global,
     text: String,
@@ -78,14 +86,14 @@ pub fn over_found(
     Ok(case)
 }
 
-/// The case with a value more under the name, the last of its root's products.
+/// The case with a value more under the name, the last of its root's products; the value is kept.
 pub fn showing(case: Case, name: &'static str, value: String) -> Result<Case, AllocError>
     ensures { IfOk result (IsShowing name.entry.now (Some (string_bytes value)) case) }
 {
     case.add_product(Product::new(name, value))
 }
 
-/// The case with a text more under the name, the last of its root's products.
+/// The case with a text more under the name, the last of its root's products; the text is copied.
 pub fn showing_text(
     alloc: Global,
     case: Case,

@@ -1,4 +1,9 @@
 //! Boolean checks of one item.
+//!
+//! ```
+//! let holds = predicate.eval(alloc, &item)?;
+//! let reason = predicate.find_case(alloc, false, &item)?; // none where it holds
+//! ```
 ghost use Rattle.std.specs.Prelude.{◌≡◌, ℕ, List, string_bytes, not, IfOk, IsOk};
 ghost use Rattle.predicates_core.specs.Label.{FitsEntry};
 ghost use Rattle.predicates_core.specs.Formula.{Formula, HasTruth, IsLeaf, truth, text_of};
@@ -9,24 +14,32 @@ use crate::node;
 use crate::reflection::{Case, PredicateReflection};
 use std::alloc::{AllocError, Global};
 
-/// A boolean check of one item.
+/// A boolean check of one item, which explains its verdict.
+///
+/// An implementation states its formula on an item, and proves that both calls keep to it.
 pub trait Predicate<Item>: PredicateReflection {
-    // It may be asked about every item, and has one answer for each.
+    // It may be asked about every item, and has one answer for each: what both calls may rely on.
     ghost lawful: { Self → Type 0 } = { λ _. Unit {0} };
 
-    // The formula of a predicate on an item. A lawful one has at most one.
+    // The formulas that the predicate has on an item: what it means there.
     ghost formula: { Self → Item → Formula → Type 0 };
 
-    // On the item `eval` takes no memory.
+    // On the item `eval` takes no memory, so it answers.
     ghost steady: { Self → Item → Type 0 };
 
     /// Whether the predicate holds of the item.
+    ///
+    /// The one error is that memory was refused, never where the predicate is steady. There is then
+    /// no verdict, and the predicate is as before.
     fn eval(&self, alloc: Global, item: &Item) -> Result<bool, AllocError>
         requires { lawful self.now }
         ensures truth { IfOk result (HasTruth (formula self.now item.now)) }
         ensures steady { steady self.now item.now → IsOk result };
 
     /// A case that explains the verdict where it is the expected one, and none where it is not.
+    ///
+    /// It takes memory for the case, and what `eval` takes. The one error is that memory was
+    /// refused: there is then neither a case nor none, and the predicate is as before.
     fn find_case(
         &self,
         alloc: Global,
@@ -36,22 +49,30 @@ pub trait Predicate<Item>: PredicateReflection {
         requires { lawful self.now }
         ensures { IfOk result (IsAnswer (formula self.now item.now) expected) };
 
+    // To be proved: what it prints is the text of the root of each of its formulas.
     ghost text_fits: { (p : Self) (v : Item) (f : Formula) → formula p v f → FitsEntry (text_of f) (Self.output p) };
 
+    // To be proved: a lawful predicate has at most one formula on an item.
     ghost one_formula: { (p : Self) (v : Item) (f g : Formula) → lawful p → formula p v f → formula p v g → f ≡ g };
 }
 
 /// A predicate that may be asked about every item, whatever it holds, and has a formula on each.
+///
+/// It has no calls. Over it contracts are never empty, and no condition is asked.
 pub trait Total<Item>: Predicate<Item> {
+    // The formula that the predicate has on an item.
     ghost formula_of: { Self → Item → Formula };
 
+    // To be proved: it is lawful, whatever it holds.
     ghost always_lawful: { (p : Self) → Self.lawful p };
 
+    // To be proved: that formula is one of those that it states.
     ghost has_formula: { (p : Self) (v : Item) → Self.formula p v (formula_of p v) };
 }
 
 /// An item that has a content, whatever room or place it has in memory.
 pub trait Content {
+    // The content, as bytes.
     ghost content: { Self → List ℕ };
 }
 
@@ -59,16 +80,25 @@ impl Content for String {
     ghost content = { λ v. string_bytes v };
 }
 
-/// A predicate that may be asked about every item, and whose formula is a function of the item's content.
+/// A predicate that may be asked about every item, and whose formula is a function of the item's
+/// content.
+///
+/// It has no calls. What is to be boxed, trimmed or decoded has it.
 pub trait ReadsContent<Item: Content>: Predicate<Item> {
+    // The formula that the predicate has on an item with a content.
     ghost content_formula: { Self → List ℕ → Formula };
 
+    // To be proved: it is lawful, whatever it holds.
     ghost always_lawful: { (p : Self) → Self.lawful p };
 
+    // To be proved: that formula is one of those that it states.
     ghost has_formula: { (p : Self) (v : Item) → Self.formula p v (content_formula p (Item.content v)) };
 }
 
-/// The case of a predicate whose formula on the item is a single leaf, without products.
+/// The case of a predicate whose formula on the item is a single leaf: a node with the printed
+/// text, without products, where the verdict is `expected`, and none where it is not.
+///
+/// It takes memory for the text, and what `eval` takes, and is refused where that is.
 pub fn default_find_case<P: Predicate<Item>, Item>(
     alloc: Global,
     predicate: &P,

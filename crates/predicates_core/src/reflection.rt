@@ -1,4 +1,14 @@
-//! What predicates tell of themselves, apart from any item.
+//! What predicates tell of themselves, and the cases that explain their verdicts.
+//!
+//! ```
+//! use predicates::reflection::{PredicateReflection, render};
+//!
+//! let text = predicate.to_string(alloc)?;
+//! let parts = predicate.children(alloc)?;
+//! if let Some(case) = predicate.find_case(alloc, false, &item)? {
+//!     println!(rt; "{}", render(alloc, &case)?)?;
+//! }
+//! ```
 ghost use Rattle.std.specs.Prelude.{◌≡◌, List, [], IfOk, IsOk};
 ghost use Rattle.predicates_core.specs.Label.{Product, FitsProducts};
 ghost use Rattle.predicates_core.specs.Tree.{Forest, empty, forest};
@@ -21,9 +31,13 @@ use std::fmt;
 pub use text::{render, render_onto};
 
 /// A printed text, the values that a predicate was made with, and its parts.
+///
+/// Both calls take memory for what they answer, and none where there is nothing to tell.
 pub trait PredicateReflection: fmt::Display {
+    // The values that `parameters` is to give, in order.
     ghost parameters_of: { Self → List Product };
 
+    // The parts that `children` is to give, in order, each down to its leaves.
     ghost children_of: { Self → Forest Part };
 
     /// The values that the predicate was made with, in order; with none it does not refuse.
@@ -38,7 +52,7 @@ pub trait PredicateReflection: fmt::Display {
 }
 
 /// The description of a part that stands under a name: its printed text, its parameters and its own
-/// parts, down to the leaves.
+/// parts, down to the leaves. It takes memory for all of these, and is refused where that is.
 pub fn describe<P: PredicateReflection, N: Lasting + Copy>(
     alloc: Global,
     name: N,

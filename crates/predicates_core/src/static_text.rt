@@ -1,4 +1,8 @@
 //! Texts that are there for good, held without a lifetime.
+//!
+//! ```
+//! let any = predicate::always().name(StaticText::new("any"));
+//! ```
 
 ghost use Rattle.std.specs.Prelude.{◌≡◌, ℕ, List, length, ◌^◌, ◌<◌};
 ghost use denote.RawPtr.{Ptr};

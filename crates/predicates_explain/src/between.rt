@@ -74,8 +74,12 @@ impl<P: Total<i64>> AnswerLine for Numbers<P> {
     }
 }
 
-/// Writes, for each line of the input, the block that explains whether the number on it lies from `lo` to
-/// `hi`, and says whether every line was a number.
+/// Writes, for each line of the input, the block that explains whether the number on it lies from
+/// `lo` to `hi`, both included, and says whether every line was a number.
+///
+/// Lines end by a line feed, and one carriage return before it is dropped. A line that is no number
+/// is told as `line K: not a number`, with K from 1. It takes memory for one line and one block at
+/// a time. After a fault nothing is said of how much was written.
 pub fn run_between<R: BufRead, W: Write>(
     alloc: Global,
     lo: i64,

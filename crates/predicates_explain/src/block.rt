@@ -28,7 +28,8 @@ pub(crate) fn complete_block<P: Predicate<Item>, Item>(
     Ok(())
 }
 
-/// The label with the verdict, and the lines of a case that explains it; refused only where memory is.
+/// The label with the verdict, and the lines of a case that explains it: `11: false`, and the case
+/// below. It is refused only where memory is.
 pub fn explain_one<P: Predicate<Item>, Item>(
     alloc: Global,
     predicate: &P,
@@ -44,7 +45,8 @@ pub fn explain_one<P: Predicate<Item>, Item>(
     Ok(text)
 }
 
-/// What `explain_one` writes, for a predicate that has a formula on every item: the block of that formula.
+/// What `explain_one` writes, for a predicate that has a formula on every item: the block of that
+/// formula.
 pub fn explain_total<P: Total<Item>, Item>(
     alloc: Global,
     predicate: &P,

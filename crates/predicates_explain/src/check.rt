@@ -18,20 +18,36 @@ use predicates::{Predicate, ReadsContent, Total};
 use std::alloc::{AllocError, Global};
 use std::fmt;
 
-/// A check of texts, with a variant for each word. It tells of no parameters and no parts.
+/// A check of texts, with a variant for each word of `Word`. It tells of no parameters and no
+/// parts.
+///
+/// Its `eval` takes no memory but under `Matches`, `Trim` and `Normalize`. A check nested some
+/// thousands of words deep needs as much stack.
 #[derive(Drop)]
 pub enum TextCheck {
+    /// The text has no characters.
     Empty(IsEmptyPredicate),
+    /// The text is the constant.
     Equals(EqPredicate<String>),
+    /// The text begins with the pattern.
     Starts(StartsWithPredicate),
+    /// The text ends with the pattern.
     Ends(EndsWithPredicate),
+    /// The pattern has a place in the text.
     Contains(ContainsPredicate),
+    /// The regular expression has a match in the text.
     Matches(RegexPredicate),
+    /// The check holds of the text without the white space at its ends.
     Trim(Box<TextCheck>),
+    /// The check holds of the text with even line endings.
     Normalize(Box<TextCheck>),
+    /// The check does not hold.
     Not(Box<TextCheck>),
+    /// Both checks hold; the right one is asked only where the left one holds.
     And(Box<TextCheck>, Box<TextCheck>),
+    /// One or both checks hold; the right one is asked only where the left one does not hold.
     Or(Box<TextCheck>, Box<TextCheck>),
+    /// Exactly one check holds; both are asked.
     Xor(Box<TextCheck>, Box<TextCheck>),
 }
 

@@ -35,7 +35,8 @@ pub fn leaves_of_words(
         ↔ ⟦<RegexPredicate as Predicate<String>>⟧.formula matches.now text.now f }
 {}
 
-/// A check over checks has the formulas that its parts have on the text, or on the view, joined by its word.
+/// A check over checks has the formulas that its parts have on the text, or on the view, joined by
+/// its word.
 pub fn parts_of_checks(check: &TextCheck, text: &String)
     ensures { MeansByParts ⟦<TextCheck as Predicate<String>>⟧.formula ⟦<TextCheck as Display>⟧.output check.now text.now }
 {}

@@ -4,8 +4,8 @@ ghost use Rattle.predicates_explain.specs.Number.{Reads};
 
 use std::str;
 
-/// The number that the line writes, by an optional sign and one or more digits within 64 bits and nothing
-/// else; it takes no memory.
+/// The number that the line writes, by an optional `+` or `-` and one or more digits, within the 64
+/// bits of an `i64`; none for any other line. It takes no memory.
 pub fn number(line: &[u8]) -> Option<i64>
     ensures { (n : ℤ) → (result ≡ Some n) ↔ Reads line.now n }
 {

@@ -67,8 +67,13 @@ impl<P: Predicate<String>> AnswerLine for Texts<'_, P> {
     }
 }
 
-/// Writes, for each line of the input, the block that explains whether the predicate holds of it, and says
-/// whether every line was UTF-8. A carriage return at a line's end stays.
+/// Writes, for each line of the input, the block that explains whether the predicate holds of it,
+/// and says whether every line was UTF-8.
+///
+/// Lines end by a line feed; a carriage return before it stays. The label is `line K`, with K from
+/// 1, and a line that is no text is told as `line K: not UTF-8`. It takes memory for one line and
+/// one block at a time, and what the predicate takes. After a fault nothing is said of how much was
+/// written.
 pub fn run_text<P: Predicate<String>, R: BufRead, W: Write>(
     alloc: Global,
     predicate: &P,

@@ -1,4 +1,12 @@
 //! Words of a check of texts, in postfix order.
+//!
+//! ```
+//! let mut stack = Vec::new(alloc);
+//! for token in ["empty", "trim", "not"] {
+//!     let word = read_word(alloc, token)?.ok_or(PolicyFault::Unknown)?;
+//!     apply_word(alloc, &mut stack, word)?;
+//! }
+//! ```
 
 mod apply;
 mod fault;

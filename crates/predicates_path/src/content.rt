@@ -17,7 +17,8 @@ use predicates_core::{Predicate, Total};
 use std::alloc::{AllocError, Global};
 use std::fmt;
 
-/// Lends the content at a path to a predicate of bytes, and does not hold where there is none.
+/// Lends the content at a path to a predicate of bytes, and does not hold where there is none. Made
+/// by `PredicateFileContentExt::from_file_path`.
 #[derive(Debug, Clone, Copy, PartialEq, Eq, Drop)]
 pub struct FileContentPredicate<P> {
     inner: P,

@@ -20,7 +20,7 @@ use predicates_core::{Predicate, Total};
 use std::alloc::{AllocError, Global};
 use std::fmt;
 
-/// Whether a content is the bytes of a file.
+/// Whether a content is the bytes of a file. Made by `eq_file`.
 #[derive(Debug, PartialEq, Eq, Drop)]
 pub struct BinaryFilePredicate {
     path: String,
@@ -28,7 +28,7 @@ pub struct BinaryFilePredicate {
 }
 
 /// The predicate of contents that are the snapshot's. It is refused where the snapshot has none,
-/// with the fault that stands in its place. Takes no memory.
+/// with the fault that stands in its place; the path is then dropped. Takes no memory.
 pub fn eq_file(snapshot: Snapshot) -> Result<BinaryFilePredicate, PathFault>
     ensures content { MatchResult (content_of snapshot)
         (λ bytes. IsOkAnd result (λ p. (compared_path p ≡ path_of snapshot) × (compared_bytes p ≡ bytes)))
@@ -49,7 +49,7 @@ pub fn eq_file(snapshot: Snapshot) -> Result<BinaryFilePredicate, PathFault>
 
 impl BinaryFilePredicate {
     /// The predicate of texts and contents that are these bytes. `Some` says that they are UTF-8.
-    /// Takes no memory.
+    /// Where they are not, path and bytes are dropped. Takes no memory.
     pub fn utf8(self) -> Option<StrFilePredicate>
         ensures text { MatchOption result (¬ (IsUtf8 (compared_bytes self)))
             (λ p. (text.compared_path p ≡ compared_path self) × (text.compared_text p ≡ compared_bytes self)) }

@@ -14,13 +14,13 @@ use predicates_core::{Predicate, Total};
 use std::alloc::{AllocError, Global};
 use std::fmt;
 
-/// Whether a path leads to anything, where links are followed.
+/// Whether a path leads to anything, where links are followed. Made by `exists` and `missing`.
 #[derive(Debug, Clone, Copy, PartialEq, Eq)]
 pub struct ExistencePredicate {
     exists: bool,
 }
 
-/// The predicate of paths that lead to something.
+/// The predicate of paths that lead to something. It takes no memory.
 pub fn exists() -> ExistencePredicate
     ensures presence { asks_presence result ≡ true }
     ensures formula { (s : Snapshot) (f : Formula)
@@ -29,7 +29,7 @@ pub fn exists() -> ExistencePredicate
     ExistencePredicate { exists: true }
 }
 
-/// The predicate of paths that lead to nothing, also of links without a target.
+/// The predicate of paths that lead to nothing, also of links without a target. It takes no memory.
 pub fn missing() -> ExistencePredicate
     ensures presence { asks_presence result ≡ false }
     ensures formula { (s : Snapshot) (f : Formula)

@@ -10,12 +10,16 @@ use std::error::Error;
 use std::io::ErrorKind;
 use std::{fmt, io};
 
-/// Why a kind or a content is not there.
+/// Why a kind or a content is not there. It prints in words, as `not found`.
 #[derive(Debug, Clone, Copy, PartialEq, Eq)]
 pub enum PathFault {
+    /// Nothing stands there: `not found`.
     NotFound,
+    /// The system did not let it be read: `permission denied`.
     PermissionDenied,
+    /// What stands there is no regular file, so it has no content: `not a regular file`.
     NotRegular,
+    /// The system told of another error, want of memory excepted: `other fault`.
     Other,
 }
 

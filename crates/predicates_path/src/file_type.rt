@@ -10,12 +10,16 @@ use std::alloc::{AllocError, Global};
 use std::fmt;
 use std::fs::Metadata;
 
-/// The kind of what stands at a path. A device, a pipe or a socket is `Other`.
+/// The kind of what stands at a path. It prints in one word, as `file`.
 #[derive(Debug, Clone, Copy, PartialEq, Eq)]
 pub enum FileType {
+    /// A regular file: `file`.
     File,
+    /// A directory: `dir`.
     Dir,
+    /// A symbolic link, where links are not followed: `symlink`.
     Symlink,
+    /// A device, a pipe or a socket: `other`.
     Other,
 }
 

@@ -19,14 +19,16 @@ use predicates_core::{Predicate, Total};
 use std::alloc::{AllocError, Global};
 use std::fmt;
 
-/// Whether what stands at a path is of one kind.
+/// Whether what stands at a path is of one kind. Made by `is_file`, `is_dir`, `is_symlink` and
+/// `from_path`.
 #[derive(Debug, Clone, Copy, PartialEq, Eq)]
 pub struct FileTypePredicate {
     kind: FileType,
     follow: bool,
 }
 
-/// The predicate of paths where a regular file stands, without following links.
+/// The predicate of paths where a regular file stands, without following links. Where the kind is a
+/// fault, it does not hold. It takes no memory.
 pub fn is_file() -> FileTypePredicate
     ensures kind { tested_kind result ≡ FileType.File }
     ensures follow { follows result ≡ false }
@@ -39,7 +41,8 @@ pub fn is_file() -> FileTypePredicate
     }
 }
 
-/// The predicate of paths where a directory stands, without following links.
+/// The predicate of paths where a directory stands, without following links. Where the kind is a
+/// fault, it does not hold. It takes no memory.
 pub fn is_dir() -> FileTypePredicate
     ensures kind { tested_kind result ≡ FileType.Dir }
     ensures follow { follows result ≡ false }
@@ -52,7 +55,7 @@ pub fn is_dir() -> FileTypePredicate
     }
 }
 
-/// The predicate of paths where a link stands.
+/// The predicate of paths where a link stands, whatever it leads to. It takes no memory.
 pub fn is_symlink() -> FileTypePredicate
     ensures kind { tested_kind result ≡ FileType.Symlink }
     ensures follow { follows result ≡ false }
@@ -87,7 +90,8 @@ fn show_found(
 
 impl FileTypePredicate {
     /// The predicate of the kind that the snapshot's path leads to, which follows links. It is
-    /// refused where there is no such kind, with the fault that stands in its place.
+    /// refused where there is no such kind, with the fault that stands in its place. It takes no
+    /// memory.
     pub fn from_path(snapshot: &Snapshot) -> Result<FileTypePredicate, PathFault>
         ensures found { MatchResult (followed_of snapshot.now)
             (λ kind. IsOkAnd result (λ p. (tested_kind p ≡ kind) × (follows p ≡ true)))
@@ -101,7 +105,7 @@ impl FileTypePredicate {
         })
     }
 
-    /// The predicate of the same kind that follows links where `yes` is true.
+    /// The predicate of the same kind that follows links where `yes` is true. It takes no memory.
     pub fn follow_links(mut self, yes: bool) -> Self
         ensures kind { tested_kind result ≡ tested_kind self }
         ensures follow { follows result ≡ yes }

@@ -1,4 +1,14 @@
 //! Predicates over what stands at a path, taken once.
+//!
+//! ```
+//! let file = Snapshot::take(&rt, "run.sh")?;
+//! let script = predicate::path::is_file().follow_links(true);
+//! assert!(rt; script.eval(alloc, &file)?);
+//! ```
+//!
+//! Items are `Snapshot`s: a predicate itself never asks the file system. Making one of these
+//! predicates takes no memory, and neither does `eval`, but what a predicate of bytes takes under
+//! `from_file_path`.
 #![tactic(auto)]
 
 mod content;

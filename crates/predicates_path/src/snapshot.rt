@@ -1,4 +1,9 @@
 //! What stands at a path, taken once.
+//!
+//! ```
+//! let taken = Snapshot::take(&rt, "run.sh")?;
+//! let made = Snapshot::from_parts("l".to_owned(alloc)?, kind, kind, Ok(bytes));
+//! ```
 ghost use Rattle.std.specs.Prelude.{◌≡◌, Some, codes, IfOk, string_bytes};
 ghost use Rattle.predicates_core.specs.Leaves.{IsShowing};
 ghost use Rattle.std.specs.Fs.{file_type};
@@ -15,7 +20,8 @@ use std::fs::Metadata;
 use std::rt::Files;
 use std::{fs, io};
 
-/// A path with the kind and the content that were found there.
+/// A path with the kinds and the content that were found there, or the faults that stand in their
+/// place.
 #[derive(Drop)]
 pub struct Snapshot {
     path: String,
@@ -46,7 +52,9 @@ fn content(told: io::Result<Vec<u8>>) -> Result<Result<Vec<u8>, PathFault>, Allo
 
 impl Snapshot {
     /// Asks the file system once for each of the two kinds, and reads the content once where the
-    /// path leads to a regular file. Refused only for want of memory, here or in the system.
+    /// path leads to a regular file; it never waits for a pipe or a device. What fails is kept as a
+    /// `PathFault`. It is refused only for want of memory, here or in the system. It takes memory
+    /// for the path and the content.
     pub fn take<R: Files + AllocGlobal>(rt: &R, path: &str) -> Result<Snapshot, AllocError>
         ensures path { IfOk result (λ snapshot. path_of snapshot ≡ path.now) }
         ensures consistent { IfOk result IsConsistent }
@@ -94,21 +102,22 @@ impl Snapshot {
         self.path.as_str()
     }
 
-    /// The kind of what stands at the path, where a link is not followed.
+    /// The kind of what stands at the path, where a link is not followed, or why there is none.
     pub fn plain(&self) -> Result<FileType, PathFault>
         ensures { result ≡ plain_of self.now }
     {
         self.plain
     }
 
-    /// The kind of what the path leads to, where a link is followed.
+    /// The kind of what the path leads to, where a link is followed, or why there is none.
     pub fn followed(&self) -> Result<FileType, PathFault>
         ensures { result ≡ followed_of self.now }
     {
         self.followed
     }
 
-    /// The bytes of the file that the path leads to, where a link is followed.
+    /// The bytes of the file that the path leads to, where a link is followed, or why there are
+    /// none.
     pub fn content(&self) -> Result<&[u8], PathFault>
         ensures { read_bytes (λ bytes. bytes.now) result ≡ content_of self.now }
     {

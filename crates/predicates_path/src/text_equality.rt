@@ -14,7 +14,7 @@ use predicates_core::{Predicate, ReadsContent, Total};
 use std::alloc::{AllocError, Global};
 use std::fmt;
 
-/// Whether a text or a content is the text of a file.
+/// Whether a text or a content is the text of a file. Made by `BinaryFilePredicate::utf8`.
 #[derive(Debug, PartialEq, Eq, Drop)]
 pub struct StrFilePredicate {
     path: String,

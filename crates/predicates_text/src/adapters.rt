@@ -1,4 +1,9 @@
 //! Predicates that hand a view of the item on to another predicate.
+//!
+//! ```
+//! let blank = predicate::str::is_empty().trim();
+//! let utf8 = predicate::str::is_empty().not().from_utf8();
+//! ```
 ghost use Rattle.std.specs.Prelude.{◌≡◌, ◌↔◌, ℕ, Vec};
 ghost use Rattle.std.specs.declared.alloc.Global.{Global};
 ghost use Rattle.predicates_core.specs.Text.{Text};
@@ -17,7 +22,8 @@ pub use utf8::Utf8Predicate;
 
 /// Adapts any predicate of texts.
 pub trait PredicateStrExt: Predicate<String> {
-    /// The predicate of what is left of a text without the white space at its ends.
+    /// The predicate of what is left of a text without the white space at its ends. Its `eval`
+    /// takes memory for that, but none where there is no such space.
     fn trim(self) -> TrimPredicate<Self>
     where
         Self: Sized,
@@ -26,7 +32,9 @@ pub trait PredicateStrExt: Predicate<String> {
             ⟦<TrimPredicate<Self> as Predicate<String>>⟧.formula result v f
             ↔ IsOfEach (Self.formula self) (IsTrimmedOf v) f };
 
-    /// The predicate of a text with even line endings.
+    /// The predicate of a text with even line endings: a carriage return, with the line feed behind
+    /// it or alone, counts as a line feed. Its `eval` takes memory for that text, but none where
+    /// there is no carriage return.
     fn normalize(self) -> NormalizedPredicate<Self>
     where
         Self: Sized,
@@ -35,7 +43,8 @@ pub trait PredicateStrExt: Predicate<String> {
             ⟦<NormalizedPredicate<Self> as Predicate<String>>⟧.formula result v f
             ↔ IsOfEach (Self.formula self) (HasEvenLinesOf v) f };
 
-    /// The predicate of the text that bytes are, which does not hold of other bytes.
+    /// The predicate of the text that bytes are, which does not hold of other bytes. Its `eval`
+    /// takes memory for the text, and none on other bytes.
     fn from_utf8(self) -> Utf8Predicate<Self>
     where
         Self: Sized,

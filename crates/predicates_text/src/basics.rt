@@ -1,4 +1,9 @@
-//! Tests of a text against nothing and against a pattern.
+//! Tests of a text against nothing and against a pattern, which is a text itself.
+//!
+//! ```
+//! let greets = predicate::str::starts_with("Hello".to_owned(alloc)?);
+//! assert!(rt; greets.eval(alloc, &"Hello World".to_owned(alloc)?)?);
+//! ```
 
 mod back;
 mod counted;

@@ -1,4 +1,5 @@
-//! Whether one text stands at the front, at the back or anywhere in another.
+//! Whether one text stands at the front, at the back or anywhere in another. These calls take no
+//! memory.
 ghost use Rattle.std.specs.Prelude.{◌≡◌, ◌↔◌, [], IsTrue};
 ghost use Rattle.std.specs.Str.{chars};
 ghost use Rattle.predicates_text.specs.Parts.{IsFrontOf, IsBackOf, IsPartOf, is_empty, is_front, is_back, is_part};

@@ -1,4 +1,8 @@
-//! Tests of a text against a regular expression.
+//! Tests of a text against a regular expression, with the syntax and the meaning of `regex`.
+//!
+//! ```
+//! let word = predicate::str::is_match(alloc, "T[a-z]*".to_owned(alloc)?)?;
+//! ```
 
 mod counted;
 mod found;

@@ -13,7 +13,7 @@ use std::alloc::{AllocError, Global};
 use std::fmt;
 use std::marker::PhantomData;
 
-/// Both parts hold.
+/// Both parts hold. Made by `PredicateBooleanExt::and`.
 #[derive(Debug, Clone, Copy, PartialEq, Eq, Drop)]
 pub struct AndPredicate<M1, M2, Item> {
     a: M1,

@@ -13,7 +13,7 @@ use std::alloc::{AllocError, Global};
 use std::fmt;
 use std::marker::PhantomData;
 
-/// The part does not hold.
+/// The part does not hold. Made by `PredicateBooleanExt::not`.
 #[derive(Debug, Clone, Copy, PartialEq, Eq, Drop)]
 pub struct NotPredicate<M, Item> {
     inner: M,

@@ -13,7 +13,7 @@ use std::alloc::{AllocError, Global};
 use std::fmt;
 use std::marker::PhantomData;
 
-/// At least one part holds.
+/// At least one part holds. Made by `PredicateBooleanExt::or`.
 #[derive(Debug, Clone, Copy, PartialEq, Eq, Drop)]
 pub struct OrPredicate<M1, M2, Item> {
     a: M1,

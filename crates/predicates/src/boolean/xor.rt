@@ -16,7 +16,7 @@ use std::alloc::{AllocError, Global};
 use std::fmt;
 use std::marker::PhantomData;
 
-/// Exactly one part holds.
+/// Exactly one part holds. Made by `PredicateBooleanExt::xor`.
 #[derive(Debug, Clone, Copy, PartialEq, Eq, Drop)]
 pub struct XorPredicate<M1, M2, Item> {
     a: M1,

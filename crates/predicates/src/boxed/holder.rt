@@ -22,7 +22,8 @@ pub struct BoxPredicate {
 }
 
 impl BoxPredicate {
-    /// The predicate that is in the box. It keeps the printed text, and so takes memory.
+    /// The predicate that is in the box. It prints it once and keeps the text, and so takes memory;
+    /// where that is refused, the box is dropped.
     #[tactic(auto, using(crate::proofs::Opened::boxes))]
     pub fn new(alloc: Global, inner: Box<dyn TextPredicate>) -> Result<Self, AllocError>
         ensures holds { IfOk result (λ made. held_by made ≡ inner) }

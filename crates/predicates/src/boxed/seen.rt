@@ -13,8 +13,10 @@ use predicates_core::reflection::{Case, Child, Parameter};
 use predicates_core::{Predicate, ReadsContent};
 use std::alloc::{AllocError, Global};
 
-/// A predicate of texts, seen without its type. Every predicate whose formula is a function of the text's
-/// bytes is one: all but those with a stored function.
+/// A predicate of texts, seen without its type. Every predicate whose formula is a function of the
+/// text's bytes is one: all but those with a stored function.
+///
+/// What it promises is what `Predicate<String>` and `PredicateReflection` promise of the predicate.
 pub trait TextPredicate: Drop {
     // The formula on a text with the bytes.
     ghost text_formula: { Self → List ℕ → Formula };
@@ -25,17 +27,20 @@ pub trait TextPredicate: Drop {
     // The printed text, where its bytes are stated.
     ghost text_output: { Self → Option (List ℕ) };
 
+    // The values that `text_parameters` is to give, in order.
     ghost text_parameters_of: { Self → List Product };
 
+    // The parts that `text_children` is to give, in order.
     ghost text_children_of: { Self → Forest Part };
 
-    /// Whether the predicate holds of the text.
+    /// Whether the predicate holds of the text; refused only where memory is.
     fn text_eval(&self, alloc: Global, item: &String) -> Result<bool, AllocError>
         ensures truth { IfOk result
             (HasTruth (IsExactly (text_formula self.now (string_bytes item.now)))) }
         ensures steady { text_steady self.now item.now → IsOk result };
 
-    /// A case that explains the verdict where it is the expected one, and none where it is not.
+    /// A case that explains the verdict where it is the expected one, and none where it is not;
+    /// refused only where memory is.
     fn text_find_case(
         &self,
         alloc: Global,
@@ -55,7 +60,7 @@ pub trait TextPredicate: Drop {
         ensures fits { IfOk result (λ cs. FitsParts (text_children_of self.now) (forest cs.items)) }
         ensures none { text_children_of self.now ≡ empty → IsOk result };
 
-    /// The printed text.
+    /// The printed text, in memory of its own.
     fn text_printed(&self, alloc: Global) -> Result<String, AllocError>
         ensures fits { IfOk result (λ text. Fits (text_output self.now) (string_bytes text)) }
         ensures root { IfOk result (λ text. FitsRoots (text_formula self.now) (string_bytes text)) };

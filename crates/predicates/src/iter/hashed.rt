@@ -16,14 +16,16 @@ use std::alloc::{AllocError, Global};
 use std::fmt;
 use std::hash::Hash;
 
-/// Holds of an item that equals one of some values, of which the first of equal ones is kept.
+/// Holds of an item that equals one of some values, of which the first of equal ones is kept, in a
+/// hashed set. Made by `in_hash`.
 #[derive(Debug, Drop)]
 pub struct HashableInPredicate<T: Eq + Hash> {
     members: IndexSet<T>,
 }
 
 /// The predicate that holds of each item that equals one of those that the iterator gives, of which
-/// the first of equal ones stays in its place.
+/// the first of equal ones stays in its place and the others are dropped. The iterator has to end.
+/// Where memory is refused, it and what it gave are dropped.
 pub fn in_hash<I: IntoIterator<Item = T>, T: fmt::Debug + Hash + Eq + Drop>(
     alloc: Global,
     iter: I,

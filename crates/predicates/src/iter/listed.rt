@@ -17,14 +17,15 @@ use predicates_core::{Predicate, ReadsContent, Total};
 use std::alloc::{AllocError, Global};
 use std::fmt;
 
-/// Holds of an item that equals one of some values.
+/// Holds of an item that equals one of some values, which are asked one by one. Made by `in_iter`.
 #[derive(Debug, PartialEq, Eq, Drop)]
 pub struct InPredicate<T> {
     members: Vec<T>,
 }
 
 /// The predicate that holds of each item that equals one of those that the iterator gives, all of
-/// which are kept in order.
+/// which are kept in order. The iterator has to end. Where memory is refused, it and what it gave
+/// are dropped.
 pub fn in_iter<I: IntoIterator<Item = T>, T: fmt::Debug + PartialEq + Drop>(
     alloc: Global,
     iter: I,
@@ -47,7 +48,8 @@ impl<T: PartialEq> InPredicate<T> {
 }
 
 impl<T: Ord> InPredicate<T> {
-    /// The same members in ascending order, each as often as before.
+    /// The same members in ascending order, each as often as before, to be searched by halving.
+    /// Sorting takes memory; where it is refused, the members are dropped.
     #[tactic(auto, using(crate::proofs::Memberships::same_rearranged))]
     pub fn sort(self) -> Result<OrdInPredicate<T>, AllocError>
     where

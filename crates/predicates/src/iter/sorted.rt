@@ -9,7 +9,8 @@ use std::alloc::{AllocError, Global};
 use std::cmp::Ordering;
 use std::fmt;
 
-/// Holds of an item that equals one of some values, which are kept in ascending order.
+/// Holds of an item that equals one of some values, which are kept in ascending order and searched
+/// by halving. Made by `InPredicate::sort`.
 #[derive(Debug, PartialEq, Eq, Drop)]
 pub struct OrdInPredicate<T: Ord> {
     pub(crate) members: Vec<T>,
@@ -23,7 +24,8 @@ impl<T: Ord> OrdInPredicate<T> {
     ghost use Rattle.predicates.specs.OrdIn.{members_of};
 
     /// Whether some member equals the item. Afterwards `steps` is the number of comparisons of
-    /// this call.
+    /// this call, which is at most the number of binary digits of the number of members. It takes
+    /// no memory.
     pub fn search_counted(&self, item: &T, steps: &mut Steps) -> bool
         ensures member { result ≡ has_equal T.eq (members_of self.now) item.now }
         ensures bound { steps.new ≤ digits (length (members_of self.now)) }

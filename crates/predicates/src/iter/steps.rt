@@ -18,7 +18,7 @@ impl Model for Steps {
 }
 
 impl Steps {
-    /// No comparisons.
+    /// A count of no comparisons.
     pub fn new() -> Steps
         ensures { result ≡ 0 }
     {

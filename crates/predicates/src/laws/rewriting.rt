@@ -1,5 +1,10 @@
-//! Laws of predicates, as contracts of calls that do nothing and take no memory: what a check may be
-//! rewritten to, with the same verdict and the same leaves in every case.
+//! Laws of predicates, as contracts of calls that do nothing and take no memory: what a check may
+//! be rewritten to, with the same verdict and the same leaves in every case.
+//!
+//! ```
+//! // From here on a proof knows that the name changes neither the verdict nor the leaves.
+//! laws::named(&check, &item, "policy");
+//! ```
 ghost use Rattle.std.specs.Prelude.{◌≡◌, List, codes};
 ghost use Rattle.std.specs.List.Sorted.{IsPermutation};
 ghost use Rattle.predicates_core.specs.Formula.{Formula};
@@ -37,8 +42,8 @@ pub fn same_function<P: Predicate<Item>, Q: Predicate<Item>, Item>(
         → Q.formula other.now item.now g → AreSameFunction f g → AreAlike f g }
 {}
 
-/// `p.and(q).not()` and `p.not().or(q.not())` have the same verdict, and the same leaves explain it;
-/// so have `p.or(q).not()` and `p.not().and(q.not())`.
+/// `p.and(q).not()` and `p.not().or(q.not())` have the same verdict, and the same leaves explain
+/// it; so have `p.or(q).not()` and `p.not().and(q.not())`.
 pub fn de_morgan<P: Predicate<Item>, Q: Predicate<Item>, Item>(left: &P, right: &Q, item: &Item)
     ensures not_both { (f g : Formula) → P.formula left.now item.now f → Q.formula right.now item.now g
         → AreAlike
@@ -64,15 +69,15 @@ pub fn exclusive_or<P: Predicate<Item>, Q: Predicate<Item>, Item>(left: &P, righ
         (opposite (P.output left.now) f) g) }
 {}
 
-/// Where a predicate's formula leaves no entry open, there is one case that explains it and no other,
-/// however it was found.
+/// Where a predicate's formula leaves no entry open, there is one case that explains it and no
+/// other, however it was found.
 pub fn one_case<P: Predicate<Item>, Item>(predicate: &P, item: &Item)
     ensures { (f : Formula) → P.formula predicate.now item.now f → HasStatedLabels f
         → HasAtMostOneCase f }
 {}
 
-/// Of the two questions for a case, that for a true and that for a false verdict, one finds a case and
-/// the other finds none.
+/// Of the two questions for a case, that for a true and that for a false verdict, one finds a case
+/// and the other finds none.
 pub fn exactly_one<P: Predicate<Item>, Item>(predicate: &P, item: &Item)
     ensures { (f : Formula) → P.formula predicate.now item.now f
         → HasOneAnswer (P.formula predicate.now item.now) }

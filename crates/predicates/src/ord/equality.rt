@@ -33,7 +33,7 @@ impl fmt::Display for EqOps {
     }
 }
 
-/// Equality with a constant, or its opposite.
+/// Equality with a constant, or its opposite. Made by `eq` and `ne`.
 #[derive(Debug, Clone, Copy, PartialEq, Eq, Drop)]
 pub struct EqPredicate<T> {
     constant: T,

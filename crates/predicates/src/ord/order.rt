@@ -37,7 +37,8 @@ impl fmt::Display for OrdOps {
     }
 }
 
-/// The order of the item and a constant, with the item on the left.
+/// The order of the item and a constant, with the item on the left. Made by `lt`, `le`, `ge` and
+/// `gt`.
 #[derive(Debug, Clone, Copy, PartialEq, Eq, Drop)]
 pub struct OrdPredicate<T> {
     constant: T,

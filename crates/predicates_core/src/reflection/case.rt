@@ -1,4 +1,10 @@
 //! The tree that explains an answer.
+//!
+//! ```
+//! for CaseChild { name, case } in case.root().children() {
+//!     println!(rt; "{name}: {}", case.result())?;
+//! }
+//! ```
 ghost use Rattle.std.specs.Prelude.{◌≡◌, ◌<◌, ◌^◌, length, IfOk, option_copied, string_bytes, option_map};
 ghost use Rattle.predicates_core.specs.Tree.{named_trees};
 ghost use Rattle.predicates_core.specs.Describe.{leaf, with_product, with_child};
@@ -28,8 +34,10 @@ struct Entry {
     size: usize,
 }
 
-/// The reason of an answer, as a tree. The nodes below the root stand in one list, each followed by
-/// the nodes of its subtree.
+/// The reason of an answer, as a tree.
+///
+/// It owns its texts, so it outlives the predicate and the item. The nodes below the root stand in
+/// one list, each followed by the nodes of its subtree.
 #[derive(Drop)]
 pub struct Case {
     root: Node,
@@ -52,7 +60,8 @@ impl Model for Case {
 }
 
 impl Case {
-    /// A node without products and children.
+    /// A node without products and children. It takes no memory; the lists of the case take from
+    /// the allocator once they grow.
     pub fn new(alloc: Global, predicate: Option<String>, outcome: bool) -> Case
         ensures { result ≡ leaf (option_map string_bytes predicate) outcome }
     {
@@ -66,7 +75,8 @@ impl Case {
         }
     }
 
-    /// The case with a product more, which is the last of its root.
+    /// The case with a product more, which is the last of its root. Where memory is refused, the
+    /// case and the product are dropped.
     pub fn add_product(mut self, product: Product) -> Result<Case, AllocError>
         ensures { IfOk result (λ c. c ≡ with_product self product) }
     {
@@ -74,7 +84,8 @@ impl Case {
         Ok(self)
     }
 
-    /// The case with a child more, which is the last and stands under the name.
+    /// The case with a child more, which is the last and stands under the name. Where memory is
+    /// refused, the case and the child are dropped.
     pub fn add_child(self, name: &'static str, child: Case) -> Result<Case, AllocError>
         ensures { IfOk result (λ c. c ≡ with_child self name.entry.now child) }
     {
@@ -103,7 +114,7 @@ impl Case {
         Ok(Case { root, below })
     }
 
-    /// A view of the root.
+    /// A view of the root. Views copy nothing and take no memory.
     pub fn root(&self) -> CaseView<'_>
         ensures { result ≡ self.now }
     {
@@ -114,7 +125,7 @@ impl Case {
     }
 }
 
-/// A case, or a part of one.
+/// A view of a case, or of a part of one: of a node and what stands below it.
 #[derive(Drop)]
 pub struct CaseView<'a> {
     node: &'a Node,
@@ -137,7 +148,7 @@ impl<'a> Model for CaseView<'a> {
 }
 
 impl<'a> CaseView<'a> {
-    /// The text of the node, if it has one.
+    /// The printed text of the predicate that the node explains, if it has one.
     pub fn predicate(&self) -> Option<&'a str>
         ensures { option_copied result ≡ self.now.root.text }
     {
@@ -147,21 +158,21 @@ impl<'a> CaseView<'a> {
         }
     }
 
-    /// The result of the node.
+    /// What that predicate answers on its item.
     pub fn result(&self) -> bool
         ensures { result ≡ self.now.root.result }
     {
         self.node.result
     }
 
-    /// The products of the node.
+    /// The values that the node shows, in order.
     pub fn products(&self) -> &'a [Product]
         ensures { result.now ≡ self.now.root.products }
     {
         self.node.products.as_slice()
     }
 
-    /// The children of the node, in order.
+    /// The children of the node, each under its name, in order.
     pub fn children(&self) -> CaseChildren<'a>
         ensures children { result ≡ named_trees self.now.children }
         ensures countable { length result < 2 ^ 64 }
@@ -177,7 +188,7 @@ pub struct CaseChild<'a> {
     pub case: CaseView<'a>,
 }
 
-/// The children of a node that are still to come.
+/// The children of a node that are still to come. It ends, and takes no memory.
 #[derive(Drop)]
 pub struct CaseChildren<'a> {
     rest: &'a [Entry],

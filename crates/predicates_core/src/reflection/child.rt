@@ -42,7 +42,7 @@ impl Model for Child {
 }
 
 impl Child {
-    /// The description of a part that stands under the name.
+    /// The description of a part that stands under the name; all four are kept as they are.
     pub fn new(
         name: &'static str,
         text: String,

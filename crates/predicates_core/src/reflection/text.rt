@@ -54,7 +54,8 @@ fn write_case(out: &mut String, indent: &mut String, case: &CaseView<'_>) -> Res
     Ok(())
 }
 
-/// Writes the lines of a case after what the text holds; after a refusal some of them may stand there.
+/// Writes the lines of a case after what the text holds. It is refused where memory is, and some of
+/// the lines may then stand there.
 pub fn render_onto(alloc: Global, out: &mut String, case: &Case) -> Result<(), AllocError>
     ensures { OnOk result (string_bytes out.new ≡ string_bytes out.old ++ lines case.now) }
 {
@@ -78,7 +79,8 @@ fn room(case: &CaseView<'_>) -> usize {
 }
 
 /// The lines of a case: one a node, indented by two spaces for each depth, with the node's
-/// products and then its children below it.
+/// products and then its children below it. Each ends by a line feed. It takes memory for them, and
+/// is refused where that is.
 pub fn render(alloc: Global, case: &Case) -> Result<String, AllocError>
     ensures { IfOk result (λ text. string_bytes text ≡ lines case.now) }
 {

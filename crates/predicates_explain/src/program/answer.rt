@@ -52,8 +52,9 @@ fn run_words<R: BufRead, W: Write>(
     }
 }
 
-/// Does what the words after the program's name ask for: answers the lines of the input on the output, and
-/// writes to `messages` what standard error is told. A word that is no text is a wrong word.
+/// Does what the words after the program's name ask for: answers the lines of the input on the
+/// output, and writes to `messages` what standard error is told. A word that is no text is a wrong
+/// word. Wrong words and refused patterns leave the input and the output untouched.
 pub fn explain_words<R: BufRead, W: Write, M: Write>(
     alloc: Global,
     words: &[Vec<u8>],

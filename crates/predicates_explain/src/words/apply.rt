@@ -75,7 +75,11 @@ fn make_check(alloc: Global, stack: &mut Vec<TextCheck>, word: Word) -> Result<T
     }
 }
 
-/// Puts the check of the word last on the stack, over the operands that it takes off the end.
+/// Puts the check of the word last on the stack, over the operands that it takes off the end, of
+/// two the earlier one as left.
+///
+/// After `Operand` and `Pattern` the stack is as before, and the word is dropped. After `NoMemory`
+/// operands may be gone.
 pub fn apply_word(alloc: Global, stack: &mut Vec<TextCheck>, word: Word) -> Result<(), WordFault>
     ensures applied { OnOk result (IsApplied word stack.old.items stack.new.items) }
     ensures operand { (result ≡ Err WordFault.Operand) ↔ (length stack.old.items < operand_count word) }

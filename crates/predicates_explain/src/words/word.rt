@@ -58,7 +58,8 @@ fn read_with_text(alloc: Global, token: &str) -> Result<Option<Word>, AllocError
     Ok(None)
 }
 
-/// The word with the token, or `None` where no word has it. A text is all after the first `=`.
+/// The word with the token, or `None` where no word has it. A text is all after the first `=`, in
+/// memory of its own.
 pub fn read_word(alloc: Global, token: &str) -> Result<Option<Word>, AllocError>
     ensures { IfOk result (λ found. MatchOption found
         ((word : Word) → token.now ≢ token_of word)

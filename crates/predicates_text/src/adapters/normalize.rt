@@ -12,8 +12,8 @@ use predicates_core::{Predicate, ReadsContent, Total};
 use std::alloc::{AllocError, Global};
 use std::fmt;
 
-/// Hands on a text with even line endings. It takes memory for a copy only where there is a carriage
-/// return.
+/// Hands on a text with even line endings. It takes memory for a copy only where there is a
+/// carriage return. Made by `PredicateStrExt::normalize`.
 #[derive(Debug, Clone, Copy, PartialEq, Eq, Drop)]
 pub struct NormalizedPredicate<P> {
     inner: P,

@@ -13,7 +13,7 @@ use std::alloc::{AllocError, Global};
 use std::fmt;
 
 /// Hands on what is left of a text without the white space at its ends. It takes memory for a copy
-/// only where there is some.
+/// only where there is some. Made by `PredicateStrExt::trim`.
 #[derive(Debug, Clone, Copy, PartialEq, Eq, Drop)]
 pub struct TrimPredicate<P> {
     inner: P,

@@ -13,7 +13,8 @@ use predicates_core::{Predicate, ReadsContent, Total};
 use std::alloc::{AllocError, Global};
 use std::fmt;
 
-/// Hands on the text that the bytes are, and does not hold of other bytes.
+/// Hands on the text that the bytes are, and does not hold of other bytes. Made by
+/// `PredicateStrExt::from_utf8`.
 #[derive(Debug, Clone, Copy, PartialEq, Eq, Drop)]
 pub struct Utf8Predicate<P> {
     inner: P,

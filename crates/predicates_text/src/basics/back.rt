@@ -16,13 +16,14 @@ use predicates_core::{Predicate, ReadsContent, Total};
 use std::alloc::{AllocError, Global};
 use std::fmt;
 
-/// Whether a text ends with a pattern.
+/// Whether a text ends with a pattern. Made by `ends_with`.
 #[derive(Debug, PartialEq, Eq, Drop)]
 pub struct EndsWithPredicate {
     pattern: String,
 }
 
-/// The predicate of the texts that end with the pattern.
+/// The predicate of the texts that end with the pattern, which is kept. It takes no memory, and
+/// neither does its `eval`.
 pub fn ends_with(pattern: String) -> EndsWithPredicate
     ensures pattern { ends_pattern result ≡ string_bytes pattern }
     ensures formula { (v : Text) (f : Formula) →

@@ -16,7 +16,8 @@ use predicates_core::{Predicate, ReadsContent, Total};
 use std::alloc::{AllocError, Global};
 use std::fmt;
 
-/// Whether a text has a pattern in it so often, no two places overlapping.
+/// Whether a text has a pattern in it so often, no two places overlapping. Made by
+/// `ContainsPredicate::count`.
 #[derive(Debug, PartialEq, Eq, Drop)]
 pub struct MatchesPredicate {
     pattern: String,

@@ -15,11 +15,12 @@ use predicates_core::{Predicate, ReadsContent, Total};
 use std::alloc::{AllocError, Global};
 use std::fmt;
 
-/// Whether a text has no characters.
+/// Whether a text has no characters. Made by `is_empty`.
 #[derive(Debug, Clone, Copy, PartialEq, Eq, Drop)]
 pub struct IsEmptyPredicate;
 
-/// The predicate of the texts that have no characters.
+/// The predicate of the texts that have no characters. It takes no memory, and neither does its
+/// `eval`.
 pub fn is_empty() -> IsEmptyPredicate
     ensures { (v : Text) (f : Formula) →
         ⟦<IsEmptyPredicate as Predicate<String>>⟧.formula result v f

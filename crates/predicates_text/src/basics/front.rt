@@ -16,13 +16,14 @@ use predicates_core::{Predicate, ReadsContent, Total};
 use std::alloc::{AllocError, Global};
 use std::fmt;
 
-/// Whether a text begins with a pattern.
+/// Whether a text begins with a pattern. Made by `starts_with`.
 #[derive(Debug, PartialEq, Eq, Drop)]
 pub struct StartsWithPredicate {
     pattern: String,
 }
 
-/// The predicate of the texts that begin with the pattern.
+/// The predicate of the texts that begin with the pattern, which is kept. It takes no memory, and
+/// neither does its `eval`.
 pub fn starts_with(pattern: String) -> StartsWithPredicate
     ensures pattern { starts_pattern result ≡ string_bytes pattern }
     ensures formula { (v : Text) (f : Formula) →

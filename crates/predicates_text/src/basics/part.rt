@@ -17,13 +17,14 @@ use predicates_core::{Predicate, ReadsContent, Total};
 use std::alloc::{AllocError, Global};
 use std::fmt;
 
-/// Whether a text has a pattern in it.
+/// Whether a text has a pattern in it. Made by `contains`.
 #[derive(Debug, PartialEq, Eq, Drop)]
 pub struct ContainsPredicate {
     pattern: String,
 }
 
-/// The predicate of the texts that have the pattern in them.
+/// The predicate of the texts that have the pattern in them. The pattern is kept. It takes no
+/// memory, and neither does its `eval`.
 pub fn contains(pattern: String) -> ContainsPredicate
     ensures pattern { contains_pattern result ≡ string_bytes pattern }
     ensures formula { (v : Text) (f : Formula) →
@@ -34,7 +35,9 @@ pub fn contains(pattern: String) -> ContainsPredicate
 }
 
 impl ContainsPredicate {
-    /// The predicate of the texts that have the pattern in them so often, no two places overlapping.
+    /// The predicate of the texts in which the greatest number of places of the pattern, no two
+    /// overlapping, is `count`. The empty pattern has a place before each character and one at the
+    /// end. It takes no memory, and neither does its `eval`.
     pub fn count(self, count: usize) -> MatchesPredicate
         ensures pattern { matches_pattern result ≡ contains_pattern self }
         ensures count { matches_count result ≡ count }

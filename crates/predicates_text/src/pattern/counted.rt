@@ -17,7 +17,7 @@ use regex::Regex;
 use std::alloc::{AllocError, Global};
 use std::fmt;
 
-/// Whether a regular expression has so many matches in a text.
+/// Whether a regular expression has so many matches in a text. Made by `RegexPredicate::count`.
 #[derive(Drop)]
 pub struct RegexMatchesPredicate {
     pattern: String,

@@ -21,14 +21,16 @@ use regex::Regex;
 use std::alloc::{AllocError, Global};
 use std::fmt;
 
-/// Whether a regular expression has a match in a text.
+/// Whether a regular expression has a match in a text. Made by `is_match`.
 #[derive(Drop)]
 pub struct RegexPredicate {
     pattern: String,
     regex: Regex,
 }
 
-/// The predicate of the texts in which the pattern has a match, or why the pattern is refused.
+/// The predicate of the texts in which the pattern has a match anywhere, or why the pattern is
+/// refused: for its syntax, for its size, or for want of memory. A refused pattern is dropped.
+/// `eval` takes memory, and may be refused.
 pub fn is_match(alloc: Global, pattern: String) -> Result<RegexPredicate, RegexError>
     ensures pattern { IfOk result (λ p. regex_text p ≡ string_bytes pattern) }
     ensures read { IfOk result (λ p. IsReadFromText p) }
@@ -45,7 +47,8 @@ pub fn is_match(alloc: Global, pattern: String) -> Result<RegexPredicate, RegexE
 }
 
 impl RegexPredicate {
-    /// The predicate of the texts in which the pattern has so many matches.
+    /// The predicate of the texts in which the pattern has `count` matches, searched from the left
+    /// and without overlap. It takes no memory; `eval` does, and may be refused.
     pub fn count(self, count: usize) -> RegexMatchesPredicate
         ensures pattern { regex_matches_text result ≡ regex_text self }
         ensures meaning { regex_matches_meaning result ≡ regex_meaning self }
