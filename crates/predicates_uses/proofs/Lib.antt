@@ -1,3 +1,5 @@
 pub mod Sifting
+pub mod SiftingBy
+pub mod Asked
 pub mod Applying
 pub mod Written
