@@ -102,7 +102,10 @@ impl<P: Total<Item>, Q: Total<Item>, Item> Total<Item> for Either<P, Q> {
 
 /// What `Either` means: its formulas are `Or` over a formula of each part. It may be asked where its
 /// parts may, and takes no memory where they take none.
-pub fn alternatives<P: Predicate<Item>, Q: Predicate<Item>, Item>(either: &Either<P, Q>, item: &Item)
+pub fn alternatives<P: Predicate<Item>, Q: Predicate<Item>, Item>(
+    either: &Either<P, Q>,
+    item: &Item,
+)
     ensures formula { (f : Formula) → ⟦<Either<P, Q> as Predicate<Item>>⟧.formula either.now item.now f
         ↔ IsOr
         (either_text (P.output (left_of either.now)) (Q.output (right_of either.now)))

@@ -1,5 +1,5 @@
 //! An adapter of the caller's own.
-ghost use Rattle.std.specs.Prelude.{◌≡◌, length};
+ghost use Rattle.std.specs.Prelude.{◌≡◌, length, string_bytes};
 ghost use Rattle.predicates_uses.specs.Length.{asked_of};
 
 use predicates::reflection::{Case, Child, Parameter, PredicateReflection};
@@ -46,17 +46,15 @@ impl<P: PredicateReflection> PredicateReflection for OfLength<P> {
 }
 
 impl<P: Predicate<usize>> Predicate<String> for OfLength<P> {
-    ghost use Rattle.std.specs.Prelude.{string_len};
-
     ghost lawful = { λ p. P.lawful (asked_of p) };
 
-    ghost formula = { λ p v. P.formula (asked_of p) (string_len v) };
+    ghost formula = { λ p v. P.formula (asked_of p) (length (string_bytes v)) };
 
-    ghost steady = { λ p v. P.steady (asked_of p) (string_len v) };
+    ghost steady = { λ p v. P.steady (asked_of p) (length (string_bytes v)) };
 
-    ghost text_fits = { λ p v f. P.text_fits (asked_of p) (string_len v) f };
+    ghost text_fits = { λ p v f. P.text_fits (asked_of p) (length (string_bytes v)) f };
 
-    ghost one_formula = { λ p v f g. P.one_formula (asked_of p) (string_len v) f g };
+    ghost one_formula = { λ p v f g. P.one_formula (asked_of p) (length (string_bytes v)) f g };
 
     fn eval(&self, alloc: Global, item: &String) -> Result<bool, AllocError> {
         self.inner.eval(alloc, &item.len())
@@ -77,5 +75,5 @@ impl<P: Total<usize>> ReadsContent<String> for OfLength<P> {
 
     ghost always_lawful = { λ p. P.always_lawful (asked_of p) };
 
-    ghost has_formula = { λ p v. P.has_formula (asked_of p) (string_len v) };
+    ghost has_formula = { λ p v. P.has_formula (asked_of p) (length (string_bytes v)) };
 }

@@ -5,18 +5,24 @@ mod answer;
 mod either;
 mod files;
 mod json;
+mod last;
+mod length;
 mod plainly;
 mod policy;
 mod requirement;
 mod sifted;
+mod tested;
 #[cfg(test)]
 mod tests;
 
 pub use answer::IsTheAnswer;
-pub use either::Either;
+pub use either::{Either, alternatives};
 pub use files::{is_copy, no_script};
 pub use json::case_json;
+pub use last::LastFirst;
+pub use length::OfLength;
 pub use plainly::{Around, find_plain_case};
 pub use policy::{PolicyFault, read_policy};
 pub use requirement::{Unmet, require};
-pub use sifted::{Rejection, Sifted, sift};
+pub use sifted::{Rejection, Sifted, sift, sift_by};
+pub use tested::FortyTwo;

@@ -2,8 +2,8 @@
 ghost use Rattle.std.specs.Prelude.{IfOk};
 ghost use Rattle.predicates_uses.specs.Sifted.{IsSifted, IsSiftedBy};
 
-use predicates::{Predicate, Total};
 use predicates::reflection::Case;
+use predicates::{Predicate, Total};
 use std::alloc::{AllocError, Global};
 
 /// An item that was rejected, and the case that explains it.
