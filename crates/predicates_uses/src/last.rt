@@ -7,7 +7,7 @@ ghost use Rattle.predicates_uses.specs.Either.{either_text};
 ghost use Rattle.predicates_uses.specs.Last.{left_of, right_of};
 
 use predicates::Predicate;
-use predicates::node::over_found;
+use predicates::node::{over_both, over_one};
 use predicates::own::two_children;
 use predicates::reflection::{Case, Child, Parameter, PredicateReflection};
 use std::alloc::{AllocError, Global};
@@ -81,23 +81,34 @@ impl<P: Predicate<Item>, Q: Predicate<Item>, Item> Predicate<Item> for LastFirst
         Ok(left || right)
     }
 
+    #[tactic(auto, using(predicates_core::proofs::Combined::combined))]
     fn find_case(
         &self,
         alloc: Global,
         expected: bool,
         item: &Item,
     ) -> Result<Option<Case>, AllocError> {
-        let mut right = self.right.find_case(alloc, expected, item)?;
-        let left = self.left.find_case(alloc, expected, item)?;
-        if left.is_some() == expected {
-            if left.is_none() {
-                return Ok(None);
+        let right = self.right.find_case(alloc, expected, item)?;
+        match self.left.find_case(alloc, expected, item)? {
+            None if !expected => Ok(None),
+            None => {
+                let Some(right) = right else {
+                    return Ok(None);
+                };
+                let text = self.to_string(alloc)?;
+                Ok(Some(over_one(alloc, text, expected, "right", right)?))
             }
-            right = None;
-        } else if right.is_none() {
-            return Ok(None);
+            Some(left) if expected => {
+                let text = self.to_string(alloc)?;
+                Ok(Some(over_one(alloc, text, expected, "left", left)?))
+            }
+            Some(left) => {
+                let Some(right) = right else {
+                    return Ok(None);
+                };
+                let text = self.to_string(alloc)?;
+                Ok(Some(over_both(alloc, text, expected, left, right)?))
+            }
         }
-        let text = self.to_string(alloc)?;
-        Ok(Some(over_found(alloc, text, expected, left, right)?))
     }
 }
