@@ -8,3 +8,4 @@ pub mod PolicyFault
 pub mod Plainly
 pub mod Length
 pub mod Last
+pub mod Tree

@@ -6,8 +6,10 @@ ghost use Rattle.predicates_core.proofs.Combined.{or_text_fits, one_or};
 ghost use Rattle.predicates_uses.specs.Either.{either_text};
 ghost use Rattle.predicates_uses.specs.Last.{left_of, right_of};
 
+use crate::IsTheAnswer;
 use predicates::Predicate;
 use predicates::node::{over_both, over_one};
+use predicates::ord::lt;
 use predicates::own::two_children;
 use predicates::reflection::{Case, Child, Parameter, PredicateReflection};
 use std::alloc::{AllocError, Global};
@@ -111,4 +113,9 @@ impl<P: Predicate<Item>, Q: Predicate<Item>, Item> Predicate<Item> for LastFirst
             }
         }
     }
+}
+
+/// Whether the number is 42 or below 10.
+pub fn is_known(alloc: Global, number: &u32) -> Result<bool, AllocError> {
+    LastFirst::new(IsTheAnswer, lt(10)).eval(alloc, number)
 }

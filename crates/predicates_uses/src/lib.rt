@@ -11,18 +11,22 @@ mod plainly;
 mod policy;
 mod requirement;
 mod sifted;
+mod sifted_by;
 mod tested;
 #[cfg(test)]
 mod tests;
+mod tree;
 
 pub use answer::IsTheAnswer;
 pub use either::{Either, alternatives};
 pub use files::{is_copy, no_script};
 pub use json::case_json;
-pub use last::LastFirst;
+pub use last::{LastFirst, is_known};
 pub use length::OfLength;
 pub use plainly::{Around, find_plain_case};
 pub use policy::{PolicyFault, read_policy};
 pub use requirement::{Unmet, require};
-pub use sifted::{Rejection, Sifted, sift, sift_by};
+pub use sifted::{Rejection, Sifted, sift};
+pub use sifted_by::sift_by;
 pub use tested::FortyTwo;
+pub use tree::{Expectation, Failure, check_tree, expect};

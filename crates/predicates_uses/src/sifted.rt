@@ -1,9 +1,9 @@
 //! A filter that says why it rejects.
 ghost use Rattle.std.specs.Prelude.{IfOk};
-ghost use Rattle.predicates_uses.specs.Sifted.{IsSifted, IsSiftedBy};
+ghost use Rattle.predicates_uses.specs.Sifted.{IsSifted};
 
+use predicates::Total;
 use predicates::reflection::Case;
-use predicates::{Predicate, Total};
 use std::alloc::{AllocError, Global};
 
 /// An item that was rejected, and the case that explains it.
@@ -29,28 +29,6 @@ pub fn sift<P: Total<T>, T: Drop>(
 ) -> Result<Sifted<T>, AllocError>
     ensures { IfOk result (λ sifted.
         IsSifted (P.formula_of predicate.now) items.items sifted.kept.items sifted.rejected.items) }
-{
-    let mut kept = Vec::new(alloc);
-    let mut rejected = Vec::new(alloc);
-    for item in items {
-        match predicate.find_case(alloc, false, &item)? {
-            None => kept.push(item)?,
-            Some(reason) => rejected.push(Rejection { item, reason })?,
-        }
-    }
-    Ok(Sifted { kept, rejected })
-}
-
-/// The same by any predicate that may be asked, also one with a stored function.
-#[tactic(auto, using(crate::proofs::SiftingBy::sifting_by))]
-pub fn sift_by<P: Predicate<T>, T: Drop>(
-    alloc: Global,
-    predicate: &P,
-    items: Vec<T>,
-) -> Result<Sifted<T>, AllocError>
-    requires { P.lawful predicate.now }
-    ensures { IfOk result (λ sifted.
-        IsSiftedBy (P.formula predicate.now) items.items sifted.kept.items sifted.rejected.items) }
 {
     let mut kept = Vec::new(alloc);
     let mut rejected = Vec::new(alloc);

@@ -1,7 +1,7 @@
 use Rattle.std.proofs.Common.{rules, false}
 use Rattle.predicates_core.specs.Shows.{IsCaseOf}
 use Rattle.predicates_uses.proofs.SiftingBy.{rejected_by}
-use Rattle.predicates_uses.proofs.sifted.sift_by.Goals as goal
+use Rattle.predicates_uses.proofs.sifted_by.sift_by.Goals as goal
 
 pub loop-item-preserved : goal.loop-item-preserved
 loop-item-preserved g c =
