@@ -2,7 +2,7 @@
 use crate::node::{
     alone, over_both, over_found, over_one, printed, showing, showing_item, showing_text,
 };
-use crate::reflection::{Case, CaseChild, Child, Parameter, Product, render};
+use crate::reflection::{Case, CaseChild, Child, Parameter, Product, render, render_onto};
 use std::alloc::{AllocError, Global};
 use std::fmt::Write;
 use std::test::Fail;
@@ -143,6 +143,9 @@ fn texts_of_any_length(rt: HostRuntime) -> Result<(), Fail> {
         }
         let lines = format!(in alloc; "{expected} = true\n  - var: {expected}\n")?;
         assert_eq!(rt; render(alloc, &case)?, lines);
+        let mut onto = text_of(alloc, length)?;
+        render_onto(alloc, &mut onto, &case)?;
+        assert_eq!(rt; onto.len(), length + lines.len());
         let mut parameters = Vec::new(alloc);
         parameters.push(Parameter::new("value", text_of(alloc, length)?))?;
         let child = Child::new("part", expected, parameters, Vec::new(alloc));
