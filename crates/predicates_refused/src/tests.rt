@@ -10,6 +10,7 @@ mod members;
 mod nested;
 mod paths;
 mod patterns;
+mod planted;
 mod question;
 mod readers;
 mod reflected;

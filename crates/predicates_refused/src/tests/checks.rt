@@ -91,3 +91,24 @@ fn checks_of_patterns(rt: HostRuntime) -> Result<(), Fail> {
     };
     ask(&rt, check, &text(alloc, "Two")?, found)
 }
+
+// The empty pattern is at the front, at the back and within each text; equal it is to the empty one alone.
+#[test]
+fn empty_patterns(rt: HostRuntime) -> Result<(), Fail> {
+    let alloc = rt.alloc();
+    let stack = stacked(
+        alloc,
+        &["eq=", "starts=", "ends=", "contains=", "xor", "xor", "xor"],
+    )?;
+    let check = stack.first().ok_or("no check")?;
+    let part = "(var.ends_with(\"\") ^ var.contains())";
+    let printed = format!(in alloc; "(var == \"\" ^ (var.starts_with(\"\") ^ {part}))")?;
+    let lines = format!(in alloc;
+        "{printed} = true\n  left: var == \"\" = false\n    - var: \"a\"\n  right: (var.starts_with(\"\") ^ {part}) = true\n    left: var.starts_with(\"\") = true\n      - var: a\n    right: {part} = false\n      left: var.ends_with(\"\") = true\n        - var: a\n      right: var.contains() = true\n        - var: a\n"
+    )?;
+    let row = Row {
+        opposite: Perhaps,
+        ..leaf("a check of empty patterns", true, lines.as_str())
+    };
+    ask(&rt, check, &text(alloc, "a")?, row)
+}
