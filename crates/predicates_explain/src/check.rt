@@ -6,6 +6,9 @@ ghost use Rattle.predicates_core.specs.Tree.{empty};
 ghost use Rattle.predicates_text.specs.Handed.{trimmed_bytes, even_bytes};
 ghost use Rattle.predicates_explain.specs.Checks.{check_text, check_formula, HasFormula, IsSteadyCheck};
 ghost use Rattle.predicates_explain.specs.CheckLaws.{check_text_fits, one_check, has_check_formula};
+ghost use Rattle.predicates_explain.specs.Weight.{IsAlone};
+
+mod turn;
 
 use predicates::node::{over_found, over_one, printed};
 use predicates::ord::EqPredicate;
@@ -17,13 +20,13 @@ use predicates::str::{
 use predicates::{Predicate, ReadsContent, Total};
 use std::alloc::{AllocError, Global};
 use std::fmt;
+use turn::turn;
 
 /// A check of texts, with a variant for each word of `Word`. It tells of no parameters and no
 /// parts.
 ///
 /// Its `eval` takes no memory but under `Matches`, `Trim` and `Normalize`. A check nested some
 /// thousands of words deep needs as much stack.
-#[derive(Drop)]
 pub enum TextCheck {
     /// The text has no characters.
     Empty(IsEmptyPredicate),
@@ -49,6 +52,53 @@ pub enum TextCheck {
     Or(Box<TextCheck>, Box<TextCheck>),
     /// Exactly one check holds; both are asked.
     Xor(Box<TextCheck>, Box<TextCheck>),
+}
+
+impl TextCheck {
+    // Drops a check without parts.
+    fn end(self)
+        requires { IsAlone self }
+    {
+        match self {
+            TextCheck::Empty(_)
+            | TextCheck::Equals(_)
+            | TextCheck::Starts(_)
+            | TextCheck::Ends(_)
+            | TextCheck::Contains(_)
+            | TextCheck::Matches(_) => {}
+            _ => unreachable!(),
+        }
+    }
+}
+
+// A loop, so that a deep check does not run out of stack: left parts are turned to the right until there
+// are none. It takes no memory.
+impl Drop for TextCheck {
+    fn drop(mut self) {
+        loop {
+            match self {
+                TextCheck::Trim(inner) | TextCheck::Normalize(inner) | TextCheck::Not(inner) => {
+                    self = Box::into_inner(inner);
+                }
+                TextCheck::And(mut left, mut right)
+                | TextCheck::Or(mut left, mut right)
+                | TextCheck::Xor(mut left, mut right) => {
+                    if turn(&mut left, &mut right) {
+                        self = TextCheck::And(right, left);
+                    } else {
+                        Box::into_inner(left).end();
+                        self = Box::into_inner(right);
+                    }
+                }
+                TextCheck::Empty(_)
+                | TextCheck::Equals(_)
+                | TextCheck::Starts(_)
+                | TextCheck::Ends(_)
+                | TextCheck::Contains(_)
+                | TextCheck::Matches(_) => return,
+            }
+        }
+    }
 }
 
 impl fmt::Display for TextCheck {
