@@ -90,10 +90,12 @@ impl FileTypePredicate {
     /// refused where there is no such kind, with the fault that stands in its place.
     pub fn from_path(snapshot: &Snapshot) -> Result<FileTypePredicate, PathFault>
         ensures found { MatchResult (followed_of snapshot.now)
-            (λ kind. IsOkAnd result (λ p. (tested_kind p ≡ kind) × (follows p ≡ true)))
+            (λ kind. IsOkAnd result (λ p. tested_kind p ≡ kind))
             (λ fault. result ≡ Err fault) }
+        ensures follow { IfOk result (λ p. follows p ≡ true) }
         ensures formula { IfOk result (λ p. (s : Snapshot) (f : Formula)
-            → ⟦<FileTypePredicate as Predicate<Snapshot>>⟧.formula p s f ↔ IsExactly (kind_formula p s) f) }
+            → ⟦<FileTypePredicate as Predicate<Snapshot>>⟧.formula p s f
+            ↔ IsExactly (kind_formula p s) f) }
     {
         Ok(FileTypePredicate {
             kind: snapshot.followed()?,

@@ -2,7 +2,7 @@
 use Rattle.std.specs.Prelude.{◌≡◌, ◌≢◌, ◌⊎◌, List, [], ◌∷◌, ℕ, zero, suc, ◌+◌, ◌-◌, ◌≤◌, ◌<◌, nat_eq, length, All, AllPairs, if◌then◌else◌}
 use Rattle.std.specs.List.{starts_with}
 use Rattle.std.specs.Str.{chars}
-use Rattle.predicates_text.specs.Parts.{StandsAt}
+use Rattle.predicates_text.specs.Places.{StandsAt}
 
 -- two places that differ, one at least so far past the other
 abbrev pub AreApart : ℕ → ℕ → ℕ → Type 0

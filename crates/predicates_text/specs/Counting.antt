@@ -5,7 +5,7 @@ use Rattle.std.proofs.Math.Seq.{drop-append_seam}
 use Rattle.std.proofs.lemmas.List.{drop-append-le}
 use Rattle.std.proofs.lemmas.List.Elements.{All-from_recursion, recursion_from_All}
 use Rattle.std.proofs.lemmas.List.{length-map}
-use Rattle.predicates_text.specs.Parts.{StandsAt}
+use Rattle.predicates_text.specs.Places.{StandsAt}
 use Rattle.predicates_text.specs.Count.{AreApart, IsChoiceOfPlaces, IsCountOf}
 use Rattle.predicates_text.specs.Choices.{Far, IsChoice, far_from_pairs, pairs_from_far, choice_bound, choice_more, choice_moved_up, choice_moved_down, moved}
 

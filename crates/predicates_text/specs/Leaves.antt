@@ -4,7 +4,7 @@ use Rattle.std.specs.Fmt.{◌++?◌, debug_str, decimal}
 use Rattle.std.specs.Str.{chars}
 use Rattle.predicates_core.specs.Label.{Entry, showing, showing_both}
 use Rattle.predicates_core.specs.Formula.{Formula, Leaf}
-use Rattle.predicates_text.specs.Parts.{is_empty, is_front, is_back, is_part}
+use Rattle.predicates_text.specs.Places.{is_empty, is_front, is_back, is_part}
 use Rattle.predicates_text.specs.Count.{count_of}
 
 -- a leaf that shows the text itself as `var`

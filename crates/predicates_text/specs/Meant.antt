@@ -2,7 +2,7 @@
 use Rattle.std.specs.Prelude.{◌≡◌, ◌↔◌, ℕ, Bool, IsTrue, List, [], ◌==◌}
 use Rattle.std.specs.Str.{chars}
 use Rattle.predicates_core.specs.Formula.{Formula}
-use Rattle.predicates_text.specs.Parts.{IsFrontOf, IsBackOf, IsPartOf}
+use Rattle.predicates_text.specs.Places.{IsFrontOf, IsBackOf, IsPartOf}
 use Rattle.predicates_text.specs.Count.{IsCountOf}
 use Rattle.predicates_text.specs.Leaves.{text_leaf, counted_leaf, empty_text, starts_text, ends_text, contains_text}
 

@@ -6,7 +6,7 @@ use Rattle.predicates_core.specs.Label.{Entry, FitsEntry}
 use Rattle.predicates_core.specs.Formula.{Formula, text_of}
 use Rattle.predicates_core.proofs.Leaves.{exactly_text_fits}
 use Rattle.predicates_text.specs.Leaves.{text_leaf, counted_leaf, empty_text, starts_text, ends_text, contains_text, empty_formula, starts_formula, ends_formula, contains_formula, matches_formula}
-use Rattle.predicates_text.specs.PartLaws.{empty_tells, front_tells, back_tells, part_tells, same_test}
+use Rattle.predicates_text.specs.PlaceLaws.{empty_tells, front_tells, back_tells, part_tells, same_test}
 use Rattle.predicates_text.specs.CountLaws.{count_unique, count_of_counts}
 use Rattle.predicates_text.specs.Meant.{IsEmptyLeaf, IsStartsLeaf, IsEndsLeaf, IsContainsLeaf, IsCountedLeaf}
 

@@ -1,10 +1,10 @@
--- The tests of `specs/Parts` tell whether one text stands in another.
+-- The tests of `specs/Places` tell whether one text stands in another.
 use Rattle.std.proofs.Common.{◌≡◌, ◌↔◌, List, [], ◌∷◌, ◌++◌, ℕ, suc, Bool, true, false, IsTrue, length, drop, subst, sym, ap, refl, ⊎_elim, arith}
 use Rattle.std.specs.Prelude.{◌||◌}
 use Rattle.std.proofs.lemmas.Bool.{cases_Bool}
 use Rattle.std.proofs.lemmas.Bool.Decides.{Decides-eqb, nat_tests}
 use Rattle.std.proofs.lemmas.Slice.Eq.{starts_is, ends_is}
-use Rattle.predicates_text.specs.Parts.{IsFrontOf, IsBackOf, IsPartOf, is_empty, is_front, is_back, is_part}
+use Rattle.predicates_text.specs.Places.{IsFrontOf, IsBackOf, IsPartOf, is_empty, is_front, is_back, is_part}
 
 pub empty_tells : (t : List ℕ) → IsTrue (is_empty t) ↔ (t ≡ [])
 empty_tells [] = ((λ _. refl), λ _. refl)
