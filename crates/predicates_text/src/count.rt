@@ -46,7 +46,8 @@ fn count_byte(byte: u8, text: &str) -> usize
 // What follows the first place of the pattern, if it has one.
 fn past_first<'a>(text: &'a str, pattern: &str) -> Option<&'a str>
     requires { pattern.now ≢ [] }
-    ensures { MatchOption result (IsNowhere pattern.now text.now) (λ rest. IsPastFirst pattern.now text.now rest.now) }
+    ensures { MatchOption result (IsNowhere pattern.now text.now)
+        (λ rest. IsPastFirst pattern.now text.now rest.now) }
 {
     // A place at the front is seen without a search.
     if let Some(rest) = text.strip_prefix(pattern) {

@@ -1,7 +1,8 @@
 //! Whether one text stands at the front, at the back or anywhere in another.
 ghost use Rattle.std.specs.Prelude.{◌≡◌, ◌↔◌, [], IsTrue};
 ghost use Rattle.std.specs.Str.{chars};
-ghost use Rattle.predicates_text.specs.Places.{IsFrontOf, IsBackOf, IsPartOf, is_empty, is_front, is_back, is_part};
+ghost use Rattle.predicates_text.specs.Places.{IsFrontOf, IsBackOf, IsPartOf, is_empty, is_front};
+ghost use Rattle.predicates_text.specs.Places.{is_back, is_part};
 
 use memchr::memmem;
 

@@ -90,7 +90,8 @@ impl Predicate<String> for MatchesPredicate {
 }
 
 impl Total<String> for MatchesPredicate {
-    ghost formula_of = { λ p v. matches_formula (matches_pattern p) (matches_count p) (string_bytes v) };
+    ghost formula_of = { λ p v. matches_formula (matches_pattern p) (matches_count p)
+        (string_bytes v) };
 
     ghost always_lawful = { λ p. tt };
 

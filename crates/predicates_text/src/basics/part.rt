@@ -34,7 +34,8 @@ pub fn contains(pattern: String) -> ContainsPredicate
 }
 
 impl ContainsPredicate {
-    /// The predicate of the texts that have the pattern in them so often, no two places overlapping.
+    /// The predicate of the texts that have the pattern in them so often, no two places
+    /// overlapping.
     pub fn count(self, count: usize) -> MatchesPredicate
         ensures pattern { matches_pattern result ≡ contains_pattern self }
         ensures count { matches_count result ≡ count }
