@@ -1,10 +1,10 @@
 //! The part does not hold.
-ghost use Rattle.std.specs.Prelude.{◌≡◌, [], codes};
+ghost use Rattle.std.specs.Prelude.{◌≡◌, refl, [], codes};
 ghost use Rattle.predicates_core.specs.Label.{plain};
 ghost use Rattle.predicates_core.specs.Formula.{Not};
 ghost use Rattle.predicates_core.specs.Parts.{part};
 ghost use Rattle.predicates_core.specs.Combined.{not_text, IsNot};
-ghost use Rattle.predicates_core.proofs.Combined.{not_text_fits, one_not, has_not};
+ghost use Rattle.predicates_core.proofs.Combined.{not_text_fits, one_not};
 
 use predicates_core::node::{over_one, printed};
 use predicates_core::reflection::{Case, Child, Parameter, PredicateReflection, describe};
@@ -96,7 +96,7 @@ impl<M: Total<Item>, Item> Total<Item> for NotPredicate<M, Item> {
 
     ghost always_lawful = { λ p. M.always_lawful p.inner };
 
-    ghost has_formula = { λ p v. has_not (M.has_formula p.inner v) };
+    ghost has_formula = { λ p v. record { inner = _; of_part = M.has_formula p.inner v; is = refl } };
 }
 
 impl<M: ReadsContent<Item>, Item: Content> ReadsContent<Item> for NotPredicate<M, Item> {
@@ -104,5 +104,5 @@ impl<M: ReadsContent<Item>, Item: Content> ReadsContent<Item> for NotPredicate<M
 
     ghost always_lawful = { λ p. M.always_lawful p.inner };
 
-    ghost has_formula = { λ p v. has_not (M.has_formula p.inner v) };
+    ghost has_formula = { λ p v. record { inner = _; of_part = M.has_formula p.inner v; is = refl } };
 }
