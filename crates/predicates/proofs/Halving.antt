@@ -10,9 +10,13 @@ use Rattle.std.proofs.lemmas.List.{take-append-drop, drop-drop, get_or-take, get
 use Rattle.std.proofs.lemmas.List.Elements.{All-from_get_or}
 use Rattle.std.proofs.lemmas.List.Sorted.{searchable_from_sorted, IsNonDecreasingBy-take, IsNonDecreasingBy-drop}
 use Rattle.std.proofs.lemmas.List.Folds.{list_any-append, list_any_none}
-use Rattle.std.proofs.lemmas.Int.Digits.{number_lt, all_below_base_digits_of, number_digits_of, length-digits_of-le}
-use Rattle.predicates.specs.Digits.{digits, digits_more}
+use Rattle.std.proofs.lemmas.Int.Digits.{number_lt, all_below_base_digits_of, number_digits_of, length-digits_of-le, length-digits_of_step}
+use Rattle.predicates.specs.Digits.{digits}
 use Rattle.predicates.specs.Members.{has_equal}
+
+-- a number has one digit more than its half
+digits_more : (n : ℕ) → 0 < n → digits n ≡ 1 + digits (n / 2)
+digits_more n h = omega (arith, length-digits_of_step 2 n (omega arith) h)
 
 or_false : (b : Bool) → (b || false) ≡ b
 or_false true = refl

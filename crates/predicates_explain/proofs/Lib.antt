@@ -7,3 +7,4 @@ pub mod Progress
 pub mod Same
 pub mod Splitting
 pub mod Typing
+mod WordCount

@@ -5,6 +5,7 @@ use Rattle.std.specs.Io.BufRead.{strip_last}
 use Rattle.predicates_core.specs.Label.{plain, showing}
 use Rattle.predicates_core.specs.Formula.{Formula, Leaf, And}
 use Rattle.predicates_core.specs.Combined.{infix_text}
+use Rattle.predicates.specs.Comparison.{comparison_text}
 use Rattle.predicates_explain.specs.Blocks.{IsBlock}
 use Rattle.predicates_explain.specs.Number.{Reads}
 
@@ -24,18 +25,18 @@ pub data IsNumberAnswer (formula_of : ℤ → Formula) (number : ℕ) (line writ
   item : (n : ℤ) → Reads (without_return line) n → IsBlock (signed_decimal n) (formula_of n) written → IsNumberAnswer formula_of number line written
   no_item : ((n : ℤ) → ¬ (Reads (without_return line) n)) → written ≡ no_number number → IsNumberAnswer formula_of number line written
 
--- what a comparison with a constant prints
-abbrev pub comparison_text : List ℕ → ℤ → List ℕ
-comparison_text symbol constant = codes "var " ++ (symbol ++ (codes " " ++ signed_decimal constant))
+-- what a comparison with a number prints
+abbrev pub number_text : List ℕ → ℤ → Option (List ℕ)
+number_text symbol constant = comparison_text symbol (Some (signed_decimal constant))
 
--- a comparison of n with a constant, which shows n
+-- a comparison of n with a number, which shows n
 abbrev pub comparison : List ℕ → ℤ → ℤ → Bool → Formula
 comparison symbol constant n holds =
-    Leaf (showing (Some (comparison_text symbol constant)) (codes "var") (Some (signed_decimal n))) holds
+    Leaf (showing (number_text symbol constant) (codes "var") (Some (signed_decimal n))) holds
 
 -- what `ge(lo).and(le(hi))` prints
 abbrev pub between_text : ℤ → ℤ → Option (List ℕ)
-between_text lo hi = infix_text (codes " && ") (Some (comparison_text (codes ">=") lo)) (Some (comparison_text (codes "<=") hi))
+between_text lo hi = infix_text (codes " && ") (number_text (codes ">=") lo) (number_text (codes "<=") hi)
 
 -- the formula of `ge(lo).and(le(hi))` on n: n is lo, hi or between
 abbrev pub between_formula : ℤ → ℤ → ℤ → Formula

@@ -1,5 +1,5 @@
 -- What a check of texts prints, and its formula on a text, by the word that it stands for.
-use Rattle.std.specs.Prelude.{ℕ, ◌+◌, List, codes}
+use Rattle.std.specs.Prelude.{ℕ, List, codes}
 use Rattle.predicates_core.specs.Label.{Entry, plain}
 use Rattle.predicates_core.specs.Formula.{Formula, And, Or, Xor, Not}
 use Rattle.predicates_core.specs.Leaves.{IsExactly}
@@ -77,18 +77,3 @@ IsSteadyCheck (NotCheck _ inner) = IsSteadyCheck inner
 IsSteadyCheck (AndCheck _ left _ right) = IsSteadyCheck left × IsSteadyCheck right
 IsSteadyCheck (OrCheck _ left _ right) = IsSteadyCheck left × IsSteadyCheck right
 IsSteadyCheck (XorCheck _ left _ right) = IsSteadyCheck left × IsSteadyCheck right
-
--- how many words it stands for
-abbrev pub word_count : TextCheck → ℕ
-word_count (Empty p) = 1
-word_count (Equals p) = 1
-word_count (Starts p) = 1
-word_count (Ends p) = 1
-word_count (Contains p) = 1
-word_count (Matches p) = 1
-word_count (Trim' _ inner) = word_count inner + 1
-word_count (Normalize' _ inner) = word_count inner + 1
-word_count (NotCheck _ inner) = word_count inner + 1
-word_count (AndCheck _ left _ right) = word_count left + word_count right + 1
-word_count (OrCheck _ left _ right) = word_count left + word_count right + 1
-word_count (XorCheck _ left _ right) = word_count left + word_count right + 1

@@ -4,6 +4,7 @@ ghost use Rattle.predicates_generated.specs.Level.{all_parts};
 use crate::answers::{Answers, ask};
 use crate::level::Level;
 use crate::printed::print;
+use crate::told::{describe, tell};
 use predicates_core::Predicate;
 use predicates_core::static_text::StaticText;
 use std::alloc::{AllocError, Global};
@@ -107,18 +108,55 @@ pub fn answer<P: FromWords<W, Item>, W: Drop, Item>(
     }
 }
 
+// The predicate of the words that were read; a line where there is none.
+fn read<P: FromWords<W, Item>, W: Drop, Item>(
+    alloc: Global,
+    out: &mut String,
+    words: Option<Vec<W>>,
+) -> Result<Option<P>, AllocError> {
+    let predicate = match words {
+        Some(words) => whole::<P, W, Item>(alloc, words)?,
+        None => None,
+    };
+    if predicate.is_none() {
+        out.push_str("no predicate\n")?;
+    }
+    Ok(predicate)
+}
+
 /// Writes what `print` does of the predicate of the words; a line where the words are not one.
 pub fn print_words<P: FromWords<W, Item>, W: Drop, Item>(
     alloc: Global,
     out: &mut String,
     words: Option<Vec<W>>,
 ) -> Result<(), AllocError> {
-    let predicate = match words {
-        Some(words) => whole::<P, W, Item>(alloc, words)?,
-        None => None,
-    };
-    match predicate {
+    match read::<P, W, Item>(alloc, out, words)? {
         Some(predicate) => print(alloc, out, predicate),
-        None => Ok(out.push_str("no predicate\n")?),
+        None => Ok(()),
+    }
+}
+
+/// Writes what `tell` does of the predicate of the words; a line where the words are not one.
+pub fn tell_words<P: FromWords<W, Item>, W: Drop, Item>(
+    alloc: Global,
+    out: &mut String,
+    words: Option<Vec<W>>,
+    item: &Item,
+) -> Result<(), AllocError> {
+    match read::<P, W, Item>(alloc, out, words)? {
+        Some(predicate) => tell(alloc, out, &predicate, item),
+        None => Ok(()),
+    }
+}
+
+/// Writes what `describe` does of the predicate of the words; a line where the words are not one.
+pub fn describe_words<P: FromWords<W, Item>, W: Drop, Item>(
+    alloc: Global,
+    out: &mut String,
+    words: Option<Vec<W>>,
+) -> Result<(), AllocError> {
+    match read::<P, W, Item>(alloc, out, words)? {
+        Some(predicate) => describe(alloc, out, &predicate),
+        None => Ok(()),
     }
 }

@@ -28,7 +28,9 @@ pub use at_least::AtLeast;
 pub use choices::greatest_choice;
 pub use counting::Counting;
 pub use escapes::unescaped;
-pub use from_words::{Combinator, FromWords, Word, answer, print_words};
+pub use from_words::{
+    Combinator, FromWords, Word, answer, describe_words, print_words, tell_words,
+};
 pub use kept::kept_leaves;
 pub use level::Level;
 pub use number_leaf::NumberLeaf;
@@ -40,6 +42,6 @@ pub use text_leaf::TextLeaf;
 pub use text_level::TextLevel;
 pub use text_plain::{plain_bytes, plain_text};
 pub use text_words::{TextWord, read_text_words};
-pub use texts::{answer_bytes, answer_text, print_bytes, print_text};
+pub use texts::{answer_bytes, answer_text, describe_text, print_bytes, print_text, tell_text};
 pub use told::{describe, tell, text};
 pub use words::{NumberWord, read_name, read_number_words, read_numbers};

@@ -4,7 +4,7 @@ ghost use Rattle.predicates_generated.specs.Level.{all_parts};
 ghost use Rattle.predicates_generated.specs.OneOf.{lawful_by_type};
 
 use crate::answers::Answers;
-use crate::from_words::{FromWords, answer, print_words};
+use crate::from_words::{FromWords, answer, describe_words, print_words, tell_words};
 use crate::level::Level;
 use crate::text_leaf::TextLeaf;
 use crate::text_level::TextLevel;
@@ -126,6 +126,22 @@ pub fn answer_bytes(
 /// Writes what `print` does of the predicate of texts of the words.
 pub fn print_text(alloc: Global, out: &mut String, words: &str) -> Result<(), AllocError> {
     print_words::<Text, TextWord, String>(alloc, out, read_text_words(alloc, words)?)
+}
+
+/// Writes what `tell` does of the predicate of texts of the words.
+pub fn tell_text(
+    alloc: Global,
+    out: &mut String,
+    words: &str,
+    item: &str,
+) -> Result<(), AllocError> {
+    let item = String::from_str(alloc, item)?;
+    tell_words::<Text, TextWord, String>(alloc, out, read_text_words(alloc, words)?, &item)
+}
+
+/// Writes what `describe` does of the predicate of texts of the words.
+pub fn describe_text(alloc: Global, out: &mut String, words: &str) -> Result<(), AllocError> {
+    describe_words::<Text, TextWord, String>(alloc, out, read_text_words(alloc, words)?)
 }
 
 /// Writes what `print` does of the predicate of bytes of the words.

@@ -6,8 +6,10 @@ ghost use Rattle.predicates_core.specs.Leaves.{IsExactly};
 ghost use Rattle.predicates_core.specs.Shows.{IsCaseOf};
 ghost use Rattle.predicates_path.specs.declared.snapshot.Snapshot.{Snapshot};
 ghost use Rattle.predicates_path.specs.Snapshot.{path_of, held_of};
-ghost use Rattle.predicates_path.specs.Content.{IsOfContent, part_of, content_formula, without_content};
-ghost use Rattle.predicates_path.specs.ContentLaws.{content_text_fits, one_content, has_content_formula};
+ghost use Rattle.predicates_path.specs.Content.{IsOfContent, part_of, content_formula};
+ghost use Rattle.predicates_path.specs.Content.{without_content};
+ghost use Rattle.predicates_path.specs.ContentLaws.{content_text_fits, one_content};
+ghost use Rattle.predicates_path.specs.ContentLaws.{has_content_formula};
 
 use crate::fault::show_fault;
 use crate::{PathFault, Snapshot};
@@ -33,7 +35,8 @@ impl<P: fmt::Display> FileContentPredicate<P> {
         fault: PathFault,
     ) -> Result<Case, AllocError>
         ensures { IfOk result (IsCaseOf
-            (IsExactly (without_content (P.output (part_of self.now)) (path_of item.now) fault)) false) }
+            (IsExactly (without_content (P.output (part_of self.now)) (path_of item.now) fault))
+            false) }
     {
         let node = alone(alloc, printed(alloc, self)?, false);
         let case = item.show_path(alloc, node)?;
@@ -54,7 +57,8 @@ impl<P: PredicateReflection> PredicateReflection for FileContentPredicate<P> {
     ghost parameters_of = { λ p. [] };
 
     ghost children_of = { λ p. part
-        (codes "predicate") (P.output (part_of p)) (P.parameters_of (part_of p)) (P.children_of (part_of p)) };
+        (codes "predicate") (P.output (part_of p)) (P.parameters_of (part_of p))
+        (P.children_of (part_of p)) };
 
     fn parameters(&self, alloc: Global) -> Result<Vec<Parameter>, AllocError> {
         Ok(Vec::new(alloc))
@@ -70,13 +74,15 @@ impl<P: PredicateReflection> PredicateReflection for FileContentPredicate<P> {
 impl<P: Predicate<Vec<u8>>> Predicate<Snapshot> for FileContentPredicate<P> {
     ghost lawful = { λ p. P.lawful (part_of p) };
 
-    ghost formula = { λ p s. IsOfContent (P.output (part_of p)) (P.formula (part_of p)) (path_of s) (held_of s) };
+    ghost formula = { λ p s. IsOfContent (P.output (part_of p)) (P.formula (part_of p)) (path_of s)
+        (held_of s) };
 
     ghost steady = { λ p s. IfOk (held_of s) (P.steady (part_of p)) };
 
     ghost text_fits = { λ p s f. content_text_fits (held_of s) (λ v. P.text_fits (part_of p) v) };
 
-    ghost one_formula = { λ p s f g lawful. one_content (held_of s) (λ v x y. P.one_formula (part_of p) v x y lawful) };
+    ghost one_formula = { λ p s f g lawful. one_content (held_of s)
+        (λ v x y. P.one_formula (part_of p) v x y lawful) };
 
     #[tactic(auto, using(crate::proofs::ContentCases::content_cases))]
     fn eval(&self, alloc: Global, item: &Snapshot) -> Result<bool, AllocError> {
@@ -111,12 +117,14 @@ impl<P: Predicate<Vec<u8>>> Predicate<Snapshot> for FileContentPredicate<P> {
 }
 
 impl<P: Total<Vec<u8>>> Total<Snapshot> for FileContentPredicate<P> {
-    ghost formula_of = { λ p s. content_formula (P.output (part_of p)) (P.formula_of (part_of p)) (path_of s) (held_of s) };
+    ghost formula_of = { λ p s. content_formula (P.output (part_of p)) (P.formula_of (part_of p))
+        (path_of s) (held_of s) };
 
     ghost always_lawful = { λ p. P.always_lawful (part_of p) };
 
     ghost has_formula = { λ p s. has_content_formula
-        (P.output (part_of p)) (P.formula (part_of p)) (P.formula_of (part_of p)) (path_of s) (held_of s) (P.has_formula (part_of p)) };
+        (P.output (part_of p)) (P.formula (part_of p)) (P.formula_of (part_of p)) (path_of s)
+        (held_of s) (P.has_formula (part_of p)) };
 }
 
 /// Asks any predicate of bytes about contents.

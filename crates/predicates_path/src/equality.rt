@@ -1,5 +1,6 @@
 //! Whether a path leads to the bytes of a file.
-ghost use Rattle.std.specs.Prelude.{◌≡◌, ◌↔◌, refl, codes, Ok, Err, Some, IfOk, IfSome, IsOkAnd, MatchOption, MatchResult, string_bytes};
+ghost use Rattle.std.specs.Prelude.{◌≡◌, ◌↔◌, refl, codes, Ok, Err, Some, IfOk, IfSome, IsOkAnd};
+ghost use Rattle.std.specs.Prelude.{MatchOption, MatchResult, string_bytes};
 ghost use Rattle.std.specs.Str.{IsUtf8};
 ghost use Rattle.predicates_core.specs.Tree.{empty};
 ghost use Rattle.predicates_core.specs.Label.{value_of};
@@ -9,7 +10,8 @@ ghost use Rattle.predicates_core.proofs.Leaves.{exactly_text_fits, one_exactly};
 ghost use Rattle.predicates_path.specs.declared.snapshot.Snapshot.{Snapshot};
 ghost use Rattle.predicates_core.specs.Text.{Text};
 ghost use Rattle.predicates_path.specs.Snapshot.{Bytes, path_of, content_of};
-ghost use Rattle.predicates_path.specs.Equality.{compared_path, compared_bytes, equality_text, has_bytes, equals_content, equals_bytes};
+ghost use Rattle.predicates_path.specs.Equality.{compared_path, compared_bytes, equality_text};
+ghost use Rattle.predicates_path.specs.Equality.{has_bytes, equals_content, equals_bytes};
 ghost use Rattle.predicates_path.specs.TextEquality as text;
 
 use crate::text_equality::StrFilePredicate;
@@ -31,7 +33,8 @@ pub struct BinaryFilePredicate {
 /// with the fault that stands in its place; the path is then dropped. Takes no memory.
 pub fn eq_file(snapshot: Snapshot) -> Result<BinaryFilePredicate, PathFault>
     ensures content { MatchResult (content_of snapshot)
-        (λ bytes. IsOkAnd result (λ p. (compared_path p ≡ path_of snapshot) × (compared_bytes p ≡ bytes)))
+        (λ bytes. IsOkAnd result
+        (λ p. (compared_path p ≡ path_of snapshot) × (compared_bytes p ≡ bytes)))
         (λ fault. result ≡ Err fault) }
     ensures of_snapshots { IfOk result (λ p. (s : Snapshot) (f : Formula)
         → ⟦<BinaryFilePredicate as Predicate<Snapshot>>⟧.formula p s f
@@ -52,13 +55,15 @@ impl BinaryFilePredicate {
     /// Where they are not, path and bytes are dropped. Takes no memory.
     pub fn utf8(self) -> Option<StrFilePredicate>
         ensures text { MatchOption result (¬ (IsUtf8 (compared_bytes self)))
-            (λ p. (text.compared_path p ≡ compared_path self) × (text.compared_text p ≡ compared_bytes self)) }
+            (λ p. (text.compared_path p ≡ compared_path self)
+            × (text.compared_text p ≡ compared_bytes self)) }
         ensures of_snapshots { IfSome result (λ p. (s : Snapshot) (f : Formula)
             → ⟦<StrFilePredicate as Predicate<Snapshot>>⟧.formula p s f
             ↔ IsExactly (equals_content (text.compared_path p) (text.compared_text p) s) f) }
         ensures of_texts { IfSome result (λ p. (v : Text) (f : Formula)
             → ⟦<StrFilePredicate as Predicate<String>>⟧.formula p v f
-            ↔ IsExactly (equals_bytes (text.compared_path p) (text.compared_text p) (string_bytes v)) f) }
+            ↔ IsExactly
+            (equals_bytes (text.compared_path p) (text.compared_text p) (string_bytes v)) f) }
     {
         let BinaryFilePredicate { path, content } = self;
         match String::from_utf8(content) {

@@ -24,7 +24,8 @@ pub struct ExistencePredicate {
 pub fn exists() -> ExistencePredicate
     ensures presence { asks_presence result ≡ true }
     ensures formula { (s : Snapshot) (f : Formula)
-        → ⟦<ExistencePredicate as Predicate<Snapshot>>⟧.formula result s f ↔ IsExactly (existence_formula result s) f }
+        → ⟦<ExistencePredicate as Predicate<Snapshot>>⟧.formula result s f
+        ↔ IsExactly (existence_formula result s) f }
 {
     ExistencePredicate { exists: true }
 }
@@ -33,7 +34,8 @@ pub fn exists() -> ExistencePredicate
 pub fn missing() -> ExistencePredicate
     ensures presence { asks_presence result ≡ false }
     ensures formula { (s : Snapshot) (f : Formula)
-        → ⟦<ExistencePredicate as Predicate<Snapshot>>⟧.formula result s f ↔ IsExactly (existence_formula result s) f }
+        → ⟦<ExistencePredicate as Predicate<Snapshot>>⟧.formula result s f
+        ↔ IsExactly (existence_formula result s) f }
 {
     ExistencePredicate { exists: false }
 }

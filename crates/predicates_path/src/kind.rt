@@ -1,5 +1,6 @@
 //! Which kind of thing stands at a path.
-ghost use Rattle.std.specs.Prelude.{◌≡◌, ◌↔◌, refl, true, false, codes, Ok, Err, Some, IfOk, IsOkAnd, MatchResult};
+ghost use Rattle.std.specs.Prelude.{◌≡◌, ◌↔◌, refl, true, false, codes, Ok, Err, Some, IfOk};
+ghost use Rattle.std.specs.Prelude.{IsOkAnd, MatchResult};
 ghost use Rattle.predicates_core.specs.Label.{value_of};
 ghost use Rattle.predicates_core.specs.Tree.{empty};
 ghost use Rattle.predicates_core.specs.Formula.{Formula};
@@ -8,7 +9,8 @@ ghost use Rattle.predicates_core.proofs.Leaves.{exactly_text_fits, one_exactly};
 ghost use Rattle.predicates_path.specs.declared.snapshot.Snapshot.{Snapshot};
 ghost use Rattle.predicates_path.specs.Snapshot.{followed_of};
 ghost use Rattle.predicates_path.specs.FileType.{is_same_kind};
-ghost use Rattle.predicates_path.specs.Kind.{tested_kind, follows, found_kind, shown_name, shown_value, kind_predicate_text, kind_formula};
+ghost use Rattle.predicates_path.specs.Kind.{tested_kind, follows, found_kind, shown_name};
+ghost use Rattle.predicates_path.specs.Kind.{shown_value, kind_predicate_text, kind_formula};
 
 use crate::fault::show_fault;
 use crate::file_type::show_kind;
@@ -33,7 +35,8 @@ pub fn is_file() -> FileTypePredicate
     ensures kind { tested_kind result ≡ FileType.File }
     ensures follow { follows result ≡ false }
     ensures formula { (s : Snapshot) (f : Formula)
-        → ⟦<FileTypePredicate as Predicate<Snapshot>>⟧.formula result s f ↔ IsExactly (kind_formula result s) f }
+        → ⟦<FileTypePredicate as Predicate<Snapshot>>⟧.formula result s f
+        ↔ IsExactly (kind_formula result s) f }
 {
     FileTypePredicate {
         kind: FileType::File,
@@ -47,7 +50,8 @@ pub fn is_dir() -> FileTypePredicate
     ensures kind { tested_kind result ≡ FileType.Dir }
     ensures follow { follows result ≡ false }
     ensures formula { (s : Snapshot) (f : Formula)
-        → ⟦<FileTypePredicate as Predicate<Snapshot>>⟧.formula result s f ↔ IsExactly (kind_formula result s) f }
+        → ⟦<FileTypePredicate as Predicate<Snapshot>>⟧.formula result s f
+        ↔ IsExactly (kind_formula result s) f }
 {
     FileTypePredicate {
         kind: FileType::Dir,
@@ -60,7 +64,8 @@ pub fn is_symlink() -> FileTypePredicate
     ensures kind { tested_kind result ≡ FileType.Symlink }
     ensures follow { follows result ≡ false }
     ensures formula { (s : Snapshot) (f : Formula)
-        → ⟦<FileTypePredicate as Predicate<Snapshot>>⟧.formula result s f ↔ IsExactly (kind_formula result s) f }
+        → ⟦<FileTypePredicate as Predicate<Snapshot>>⟧.formula result s f
+        ↔ IsExactly (kind_formula result s) f }
 {
     FileTypePredicate {
         kind: FileType::Symlink,
@@ -94,10 +99,12 @@ impl FileTypePredicate {
     /// memory.
     pub fn from_path(snapshot: &Snapshot) -> Result<FileTypePredicate, PathFault>
         ensures found { MatchResult (followed_of snapshot.now)
-            (λ kind. IsOkAnd result (λ p. (tested_kind p ≡ kind) × (follows p ≡ true)))
+            (λ kind. IsOkAnd result (λ p. tested_kind p ≡ kind))
             (λ fault. result ≡ Err fault) }
+        ensures follow { IfOk result (λ p. follows p ≡ true) }
         ensures formula { IfOk result (λ p. (s : Snapshot) (f : Formula)
-            → ⟦<FileTypePredicate as Predicate<Snapshot>>⟧.formula p s f ↔ IsExactly (kind_formula p s) f) }
+            → ⟦<FileTypePredicate as Predicate<Snapshot>>⟧.formula p s f
+            ↔ IsExactly (kind_formula p s) f) }
     {
         Ok(FileTypePredicate {
             kind: snapshot.followed()?,
@@ -110,7 +117,8 @@ impl FileTypePredicate {
         ensures kind { tested_kind result ≡ tested_kind self }
         ensures follow { follows result ≡ yes }
         ensures formula { (s : Snapshot) (f : Formula)
-            → ⟦<FileTypePredicate as Predicate<Snapshot>>⟧.formula result s f ↔ IsExactly (kind_formula result s) f }
+            → ⟦<FileTypePredicate as Predicate<Snapshot>>⟧.formula result s f
+            ↔ IsExactly (kind_formula result s) f }
     {
         self.follow = yes;
         self

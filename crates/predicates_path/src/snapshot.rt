@@ -9,7 +9,8 @@ ghost use Rattle.predicates_core.specs.Leaves.{IsShowing};
 ghost use Rattle.std.specs.Fs.{file_type};
 ghost use Rattle.predicates_path.specs.FileType.{IsKindOf};
 ghost use Rattle.predicates_path.specs.Fault.{TellsAs};
-ghost use Rattle.predicates_path.specs.Snapshot.{path_of, plain_of, followed_of, held_of, content_of, read_bytes, IsConsistent};
+ghost use Rattle.predicates_path.specs.Snapshot.{path_of, plain_of, followed_of, held_of};
+ghost use Rattle.predicates_path.specs.Snapshot.{content_of, read_bytes, IsConsistent};
 
 use crate::fault::{PathFault, path_fault};
 use crate::file_type::{FileType, kind_of};

@@ -4,7 +4,8 @@ ghost use Rattle.predicates_core.specs.Tree.{empty};
 ghost use Rattle.predicates_core.specs.Label.{value_of};
 ghost use Rattle.predicates_core.specs.Leaves.{IsExactly};
 ghost use Rattle.predicates_core.proofs.Leaves.{exactly_text_fits, one_exactly};
-ghost use Rattle.predicates_path.specs.Equality.{equality_text, has_bytes, equals_content, equals_bytes};
+ghost use Rattle.predicates_path.specs.Equality.{equality_text, has_bytes, equals_content};
+ghost use Rattle.predicates_path.specs.Equality.{equals_bytes};
 ghost use Rattle.predicates_path.specs.TextEquality.{compared_path, compared_text};
 
 use crate::Snapshot;
@@ -94,7 +95,8 @@ impl Predicate<Snapshot> for StrFilePredicate {
 }
 
 impl Predicate<String> for StrFilePredicate {
-    ghost formula = { λ p v. IsExactly (equals_bytes (compared_path p) (compared_text p) (string_bytes v)) };
+    ghost formula = { λ p v. IsExactly
+        (equals_bytes (compared_path p) (compared_text p) (string_bytes v)) };
 
     ghost steady = { λ p v. Unit {0} };
 

@@ -58,7 +58,7 @@ impl Table for TextPairs {
         compare(alloc, wrong, "ends", ends, came.as_str())?;
         let came = answered(alloc, contains(pattern.clone()?), &item)?;
         compare(alloc, wrong, "contains", contained, came.as_str())?;
-        let came = count(pattern.as_str(), item.as_str()).to_string(alloc)?;
+        let came = count(item.as_str(), pattern.as_str()).to_string(alloc)?;
         compare(alloc, wrong, "count", wanted_count, came.as_str())?;
         let number = wanted_count.parse::<usize>().context("no number")?;
         let came = answered(alloc, contains(pattern.clone()?).count(number), &item)?;

@@ -8,7 +8,7 @@ use Rattle.std.proofs.Common.{None}
 use Rattle.std.proofs.lemmas.Str.{encodes-chars, encodes-append, length-le-encodes}
 use Rattle.predicates_text.proofs.Cuts.{chars_cut, cut_around, lacks_around, lacks_bytes, bytes_around, IsCutAround}
 use Rattle.predicates_text.proofs.Found.{empty_chars}
-use Rattle.predicates_text.specs.Parts.{StandsAt}
+use Rattle.predicates_text.specs.Places.{StandsAt}
 use Rattle.predicates_text.specs.Count.{IsCountOf, IsPastFirst, IsNowhere}
 use Rattle.predicates_text.specs.Counting.{count_none, count_more, count_empty}
 

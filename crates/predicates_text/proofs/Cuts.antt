@@ -4,7 +4,7 @@ use Rattle.std.specs.Str.{chars, IsUtf8, IsCharBoundary, encode_utf8_all}
 use Rattle.std.specs.Str.Pattern.{HasTextAt, LacksTextAt}
 use Rattle.std.proofs.Math.Seq.{drop-append_seam}
 use Rattle.std.proofs.lemmas.List.{take-append-drop}
-use Rattle.predicates_text.specs.Parts.{StandsAt}
+use Rattle.predicates_text.specs.Places.{StandsAt}
 use Rattle.std.proofs.lemmas.Str.{encodes-chars, encodes-append, chars-append, IsUtf8-append, IsUtf8-drop, IsUtf8-take, IsCharBoundary-from_drop}
 
 -- a cut between bytes that begin with a text is one between characters

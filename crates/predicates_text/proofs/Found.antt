@@ -1,10 +1,10 @@
--- What std's searches for a text answer, in the words of `specs/Parts`.
+-- What std's searches for a text answer, in the words of `specs/Places`.
 use Rattle.std.proofs.Common.{◌≡◌, ◌↔◌, List, [], ◌∷◌, ◌++◌, ℕ, Bool, true, false, IsTrue, None, sym, ◌∙◌, ap, refl, length, ◌-◌, take, drop, arith, length-append}
 use Rattle.std.specs.Bool.{MatchBool}
 use Rattle.std.specs.Str.{chars, IsUtf8, encode_utf8_all}
 use Rattle.std.specs.Str.Pattern.{HasPrefixMatch, HasSuffixMatch, HasMatch, FindsText, FindsTextPrefix, FindsTextSuffix}
 use Rattle.std.proofs.lemmas.Str.{encodes-chars, chars-nil, IsUtf8-take}
-use Rattle.predicates_text.specs.Parts.{IsFrontOf, IsBackOf, IsPartOf}
+use Rattle.predicates_text.specs.Places.{IsFrontOf, IsBackOf, IsPartOf}
 use Rattle.predicates_text.proofs.Cuts.{chars_cut, bytes_cut, cut_around, lacks_around, bytes_around, lacks_bytes, IsCutAround}
 
 pub empty_chars : (t : List ℕ) → IsUtf8 t → (length t ≡ 0) ↔ (chars t ≡ [])

@@ -8,9 +8,9 @@ use Rattle.std.proofs.lemmas.Bool.{cases_lt}
 use Rattle.std.proofs.lemmas.Str.{IsUtf8-drop, IsCharBoundary-start, IsCharBoundary-from_take, IsCharBoundary-from_rest}
 use Rattle.std.proofs.lemmas.List.{length-drop, length-take-le, get_or-take, get_or-drop, get_or_append_left, drop-drop, take-append-drop, ext_get_or}
 use Rattle.memchr.specs.Find.{OccursAt, FindsNeedle}
-use Rattle.predicates_text.specs.Parts.{IsPartOf, is_part}
+use Rattle.predicates_text.specs.Places.{IsPartOf, is_part}
 use Rattle.predicates_text.proofs.Found.{contains_chars, contains_bytes}
-use Rattle.predicates_text.specs.PartLaws.{part_tells, same_test}
+use Rattle.predicates_text.specs.PlaceLaws.{part_tells, same_test}
 
 -- where the bytes begin what is left from a place on, they occur there
 occurs : (p t rest : List ℕ) (i : ℕ) → i ≤ length t → drop i t ≡ p ++ rest → OccursAt t p i

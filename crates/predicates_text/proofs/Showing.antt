@@ -11,7 +11,7 @@ use Rattle.predicates_core.specs.Shows.{IsCaseOf}
 use Rattle.predicates_core.specs.Leaves.{IsExactly, IsShowing}
 use Rattle.predicates_core.proofs.Leaves.{HasTruth-exactly, IsCaseOf-showing, IsCaseOf-showing_both}
 use Rattle.predicates_text.specs.Shown.{IsTextNode}
-use Rattle.predicates_text.specs.Parts.{is_empty, is_front, is_back, is_part}
+use Rattle.predicates_text.specs.Places.{is_empty, is_front, is_back, is_part}
 use Rattle.predicates_text.specs.Count.{count_of}
 use Rattle.predicates_text.specs.Leaves.{text_leaf, counted_leaf, empty_text, starts_text, ends_text, contains_text}
 use Rattle.predicates_text.specs.Meant.{IsEmptyLeaf, IsStartsLeaf, IsEndsLeaf, IsContainsLeaf, IsCountedLeaf}

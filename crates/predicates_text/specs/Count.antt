@@ -1,8 +1,9 @@
 -- How often one text stands in another, when no two places may overlap.
-use Rattle.std.specs.Prelude.{◌≡◌, ◌≢◌, ◌⊎◌, List, [], ◌∷◌, ℕ, zero, suc, ◌+◌, ◌-◌, ◌≤◌, ◌<◌, nat_eq, length, All, AllPairs, if◌then◌else◌}
+use Rattle.std.specs.Prelude.{◌≡◌, ◌≢◌, ◌⊎◌, List, [], ◌∷◌, ℕ, zero, suc, ◌+◌, ◌-◌, ◌≤◌, ◌<◌}
+use Rattle.std.specs.Prelude.{nat_eq, length, All, AllPairs, if◌then◌else◌}
 use Rattle.std.specs.List.{starts_with}
 use Rattle.std.specs.Str.{chars}
-use Rattle.predicates_text.specs.Parts.{StandsAt}
+use Rattle.predicates_text.specs.Places.{StandsAt}
 
 -- two places that differ, one at least so far past the other
 abbrev pub AreApart : ℕ → ℕ → ℕ → Type 0
@@ -21,7 +22,8 @@ pub record IsCountOf (s t : List ℕ) (n : ℕ) : Type 0 where
 -- t has one more place than its back `rest`, among the characters and among the bytes
 pub record IsPastFirst (pattern text rest : List ℕ) : Type 0 where
   pub shorter : length rest < length text
-  pub among_characters : (n : ℕ) → IsCountOf (chars pattern) (chars rest) n → IsCountOf (chars pattern) (chars text) (suc n)
+  pub among_characters : (n : ℕ) → IsCountOf (chars pattern) (chars rest) n
+      → IsCountOf (chars pattern) (chars text) (suc n)
   pub among_bytes : (n : ℕ) → IsCountOf pattern rest n → IsCountOf pattern text (suc n)
 
 -- the pattern has no place in the text, among the characters and among the bytes
@@ -33,7 +35,8 @@ pub record IsNowhere (pattern text : List ℕ) : Type 0 where
 unfoldable pub count_past : List ℕ → ℕ → List ℕ → ℕ
 count_past s zero [] = if starts_with nat_eq [] s then 1 else 0
 count_past s (suc passed) [] = 0
-count_past s zero (c ∷ t) = if starts_with nat_eq (c ∷ t) s then suc (count_past s (length s - 1) t) else count_past s zero t
+count_past s zero (c ∷ t) = if starts_with nat_eq (c ∷ t) s then suc (count_past s (length s - 1) t)
+    else count_past s zero t
 count_past s (suc passed) (c ∷ t) = count_past s passed t
 
 -- the count as a function

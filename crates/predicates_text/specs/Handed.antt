@@ -24,8 +24,9 @@ abbrev pub even_bytes : List ℕ → List ℕ
 even_bytes bytes = encode_utf8_all (view.lines_even (chars bytes))
 
 -- f is had on each text that may be handed on
-pub record IsOfEach (has : Text → Formula → Type 0) (handed : Text → Type 0) (f : Formula) : Type 0 where
-  pub each : (t : Text) → handed t → has t f
+pub record IsOfEach (has : Text → Formula → Type 0) (handed : Text → Type 0) (f : Formula) : Type 0
+  where
+    pub each : (t : Text) → handed t → has t f
 
 -- what is said of bytes that are no text
 abbrev pub undecoded : Option (List ℕ) → Formula
@@ -35,11 +36,15 @@ undecoded text = Leaf (showing text (codes "error") (Some (codes "Invalid UTF-8 
 abbrev pub decoded : List ℕ → Formula → Formula
 decoded bytes f = with_product f (record { name = codes "var as str"; value = Some bytes })
 
--- f is had on each text with the bytes, with the text as a product more, or is a leaf where there is none
-pub record IsDecoded (text : Option (List ℕ)) (has : Text → Formula → Type 0) (bytes : List ℕ) (f : Formula) : Type 0 where
-  pub of_text : (t : Text) → string_bytes t ≡ bytes → IsWithProduct (codes "var as str") (Some bytes) (has t) f
+-- f is had on each text with the bytes, with the text as a product more, or is a leaf where there
+-- is none
+pub record IsDecoded (text : Option (List ℕ)) (has : Text → Formula → Type 0) (bytes : List ℕ)
+    (f : Formula) : Type 0 where
+  pub of_text : (t : Text) → string_bytes t ≡ bytes
+      → IsWithProduct (codes "var as str") (Some bytes) (has t) f
   pub of_other : ¬ (IsUtf8 bytes) → IsExactly (undecoded text) f
 
 -- the one such formula, from those of texts by their bytes
 unfoldable pub decoded_formula : (List ℕ → Formula) → Option (List ℕ) → List ℕ → Formula
-decoded_formula content text bytes = if is_utf8 bytes then decoded bytes (content bytes) else undecoded text
+decoded_formula content text bytes = if is_utf8 bytes then decoded bytes (content bytes) else
+    undecoded text

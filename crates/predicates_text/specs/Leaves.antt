@@ -4,7 +4,7 @@ use Rattle.std.specs.Fmt.{◌++?◌, debug_str, decimal}
 use Rattle.std.specs.Str.{chars}
 use Rattle.predicates_core.specs.Label.{Entry, showing, showing_both}
 use Rattle.predicates_core.specs.Formula.{Formula, Leaf}
-use Rattle.predicates_text.specs.Parts.{is_empty, is_front, is_back, is_part}
+use Rattle.predicates_text.specs.Places.{is_empty, is_front, is_back, is_part}
 use Rattle.predicates_text.specs.Count.{count_of}
 
 -- a leaf that shows the text itself as `var`
@@ -13,7 +13,8 @@ text_leaf text bytes own = Leaf (showing text (codes "var") (Some bytes)) own
 
 -- a leaf that shows the text itself, and then a number as `actual count`
 abbrev pub counted_leaf : Entry → List ℕ → ℕ → Bool → Formula
-counted_leaf text bytes n own = Leaf (showing_both text (codes "var") (Some bytes) (codes "actual count") (Some (decimal n))) own
+counted_leaf text bytes n own = Leaf
+    (showing_both text (codes "var") (Some bytes) (codes "actual count") (Some (decimal n))) own
 
 -- the text has no characters
 abbrev pub empty_text : Entry
@@ -27,21 +28,24 @@ abbrev pub starts_text : List ℕ → Entry
 starts_text pattern = Some (codes "var.starts_with(") ++? debug_str pattern ++? Some (codes ")")
 
 abbrev pub starts_formula : List ℕ → List ℕ → Formula
-starts_formula pattern bytes = text_leaf (starts_text pattern) bytes (is_front (chars pattern) (chars bytes))
+starts_formula pattern bytes = text_leaf (starts_text pattern) bytes
+    (is_front (chars pattern) (chars bytes))
 
 -- the pattern is a back of the text
 abbrev pub ends_text : List ℕ → Entry
 ends_text pattern = Some (codes "var.ends_with(") ++? debug_str pattern ++? Some (codes ")")
 
 abbrev pub ends_formula : List ℕ → List ℕ → Formula
-ends_formula pattern bytes = text_leaf (ends_text pattern) bytes (is_back (chars pattern) (chars bytes))
+ends_formula pattern bytes = text_leaf (ends_text pattern) bytes
+    (is_back (chars pattern) (chars bytes))
 
 -- the pattern has a place in the text
 abbrev pub contains_text : List ℕ → Entry
 contains_text pattern = Some (codes "var.contains(" ++ (pattern ++ codes ")"))
 
 abbrev pub contains_formula : List ℕ → List ℕ → Formula
-contains_formula pattern bytes = text_leaf (contains_text pattern) bytes (is_part (chars pattern) (chars bytes))
+contains_formula pattern bytes = text_leaf (contains_text pattern) bytes
+    (is_part (chars pattern) (chars bytes))
 
 -- the pattern has so many places in the text, of which no two overlap
 abbrev pub matches_formula : List ℕ → ℕ → List ℕ → Formula

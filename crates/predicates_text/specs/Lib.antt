@@ -1,5 +1,5 @@
-pub mod Parts
-pub mod PartLaws
+pub mod Places
+pub mod PlaceLaws
 pub mod Choices
 pub mod Count
 pub mod Counting

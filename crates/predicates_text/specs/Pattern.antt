@@ -42,7 +42,8 @@ match_text pattern = Some (codes "var.is_match(" ++ (pattern ++ codes ")"))
 
 -- the pattern has a match in the text
 abbrev pub match_formula : List ℕ → Re → List ℕ → Formula
-match_formula pattern meaning bytes = text_leaf (match_text pattern) bytes (is_some (find_str meaning bytes 0))
+match_formula pattern meaning bytes = text_leaf (match_text pattern) bytes
+    (is_some (find_str meaning bytes 0))
 
 -- the pattern has so many matches in the text
 abbrev pub match_count_formula : List ℕ → Re → ℕ → List ℕ → Formula

@@ -1,12 +1,15 @@
--- What the adapters hand on: a text without white space at its ends, and one with even line endings.
-use Rattle.std.specs.Prelude.{List, [], ◌∷◌, ℕ, ◌-◌, Bool, ◌&&◌, not, ◌==◌, nat_le, length, map, filter, slice_range, if◌then◌else◌}
+-- What the adapters hand on: a text without white space at its ends, and one with even line
+-- endings.
+use Rattle.std.specs.Prelude.{List, [], ◌∷◌, ℕ, ◌-◌, Bool, ◌&&◌, not, ◌==◌, nat_le, length, map}
+use Rattle.std.specs.Prelude.{filter, slice_range, if◌then◌else◌}
 use Rattle.std.specs.List.{list_any, prefix_len, suffix_len, zip}
 
 -- the characters with the property White_Space, as ranges
 abbrev pub white_space_ranges : List (ℕ × ℕ)
 white_space_ranges =
     (0x9, 0xD) ∷ (0x20, 0x20) ∷ (0x85, 0x85) ∷ (0xA0, 0xA0) ∷ (0x1680, 0x1680) ∷ (0x2000, 0x200A)
-    ∷ (0x2028, 0x2028) ∷ (0x2029, 0x2029) ∷ (0x202F, 0x202F) ∷ (0x205F, 0x205F) ∷ (0x3000, 0x3000) ∷ []
+    ∷ (0x2028, 0x2028) ∷ (0x2029, 0x2029) ∷ (0x202F, 0x202F) ∷ (0x205F, 0x205F) ∷ (0x3000, 0x3000) ∷
+    []
 
 abbrev pub is_white_space : ℕ → Bool
 is_white_space c = list_any (λ range. nat_le range.0 c && nat_le c range.1) white_space_ranges
@@ -28,8 +31,10 @@ with_previous t = zip (0 ∷ t) t
 -- the text without each line feed that stands directly after a carriage return
 abbrev pub without_paired_line_feeds : List ℕ → List ℕ
 without_paired_line_feeds t =
-    map (λ pair. pair.1) (filter (λ pair. not (pair.0 == carriage_return && pair.1 == line_feed)) (with_previous t))
+    map (λ pair. pair.1)
+    (filter (λ pair. not (pair.0 == carriage_return && pair.1 == line_feed)) (with_previous t))
 
 -- that text, with each carriage return turned into a line feed
 abbrev pub lines_even : List ℕ → List ℕ
-lines_even t = map (λ c. if c == carriage_return then line_feed else c) (without_paired_line_feeds t)
+lines_even t = map (λ c. if c == carriage_return then line_feed else c)
+    (without_paired_line_feeds t)

@@ -6,7 +6,7 @@ ghost use Rattle.predicates_text.specs.Count.{IsCountOf, IsPastFirst, IsNowhere,
 /// The greatest number of places of the pattern in the text of which no two overlap.
 ///
 /// The empty pattern has a place before each character and one at the end.
-pub fn count(pattern: &str, text: &str) -> usize
+pub fn count(text: &str, pattern: &str) -> usize
     ensures greatest { IsCountOf (chars pattern.now) (chars text.now) result }
     ensures bytes { pattern.now ≢ [] → IsCountOf pattern.now text.now result }
     ensures empty { pattern.now ≡ [] → result ≡ length (chars text.now) + 1 }
@@ -23,7 +23,7 @@ pub fn count(pattern: &str, text: &str) -> usize
     }
     let mut count = 0;
     let mut rest = text;
-    while let Some(after) = past_first(pattern, rest) {
+    while let Some(after) = past_first(rest, pattern) {
         count += 1;
         rest = after;
     }
@@ -44,9 +44,10 @@ fn count_byte(byte: u8, text: &str) -> usize
 }
 
 // What follows the first place of the pattern, if it has one.
-fn past_first<'a>(pattern: &str, text: &'a str) -> Option<&'a str>
+fn past_first<'a>(text: &'a str, pattern: &str) -> Option<&'a str>
     requires { pattern.now ≢ [] }
-    ensures { MatchOption result (IsNowhere pattern.now text.now) (λ rest. IsPastFirst pattern.now text.now rest.now) }
+    ensures { MatchOption result (IsNowhere pattern.now text.now)
+        (λ rest. IsPastFirst pattern.now text.now rest.now) }
 {
     // A place at the front is seen without a search.
     if let Some(rest) = text.strip_prefix(pattern) {

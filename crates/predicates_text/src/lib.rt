@@ -14,8 +14,8 @@ mod adapters;
 mod basics;
 pub mod count;
 mod node;
-pub mod parts;
 mod pattern;
+pub mod places;
 #[cfg(test)]
 mod tests;
 mod views;

@@ -1,7 +1,5 @@
 //! Equality with a constant.
-ghost use Rattle.std.specs.Prelude.{◌≡◌, refl, [], codes};
-ghost use Rattle.predicates_core.specs.Label.{showing};
-ghost use Rattle.predicates_core.specs.Formula.{Leaf};
+ghost use Rattle.std.specs.Prelude.{◌≡◌, refl, []};
 ghost use Rattle.predicates_core.specs.Tree.{empty};
 ghost use Rattle.predicates.specs.Makers.{equal_to, unequal_to};
 ghost use Rattle.predicates_core.specs.Leaves.{IsExactly};
@@ -67,9 +65,9 @@ impl<T: fmt::Debug> PredicateReflection for EqPredicate<T> {
 }
 
 impl<T: fmt::Debug + PartialEq> Predicate<T> for EqPredicate<T> {
-    ghost use Rattle.predicates.specs.Comparison.{eq_symbol, eq_truth, comparison_text};
+    ghost use Rattle.predicates.specs.Comparison.{eq_leaf};
 
-    ghost formula = { λ p v. IsExactly (Leaf (showing (comparison_text (eq_symbol p.op) (T.debug_output p.constant)) (codes "var") (T.debug_output v)) (eq_truth p.op (T.eq v p.constant))) };
+    ghost formula = { λ p v. IsExactly (eq_leaf p.op (T.debug_output p.constant) (T.debug_output v) (T.eq v p.constant)) };
 
     ghost steady = { λ p v. Unit {0} };
 
@@ -102,9 +100,9 @@ impl<T: fmt::Debug + PartialEq> Predicate<T> for EqPredicate<T> {
 }
 
 impl<T: fmt::Debug + PartialEq> Total<T> for EqPredicate<T> {
-    ghost use Rattle.predicates.specs.Comparison.{eq_symbol, eq_truth, comparison_text};
+    ghost use Rattle.predicates.specs.Comparison.{eq_leaf};
 
-    ghost formula_of = { λ p v. Leaf (showing (comparison_text (eq_symbol p.op) (T.debug_output p.constant)) (codes "var") (T.debug_output v)) (eq_truth p.op (T.eq v p.constant)) };
+    ghost formula_of = { λ p v. eq_leaf p.op (T.debug_output p.constant) (T.debug_output v) (T.eq v p.constant) };
 
     ghost always_lawful = { λ p. tt };
 
@@ -114,9 +112,9 @@ impl<T: fmt::Debug + PartialEq> Total<T> for EqPredicate<T> {
 impl ReadsContent<String> for EqPredicate<String> {
     ghost use Rattle.std.specs.Prelude.{string_bytes, bytes_eq};
     ghost use Rattle.std.specs.Fmt.{debug_str};
-    ghost use Rattle.predicates.specs.Comparison.{eq_symbol, eq_truth, comparison_text};
+    ghost use Rattle.predicates.specs.Comparison.{eq_leaf};
 
-    ghost content_formula = { λ p bytes. Leaf (showing (comparison_text (eq_symbol p.op) (debug_str (string_bytes p.constant))) (codes "var") (debug_str bytes)) (eq_truth p.op (bytes_eq bytes (string_bytes p.constant))) };
+    ghost content_formula = { λ p bytes. eq_leaf p.op (debug_str (string_bytes p.constant)) (debug_str bytes) (bytes_eq bytes (string_bytes p.constant)) };
 
     ghost always_lawful = { λ p. tt };
 

@@ -1,7 +1,5 @@
 //! The order of the item and a constant.
-ghost use Rattle.std.specs.Prelude.{◌≡◌, refl, [], codes};
-ghost use Rattle.predicates_core.specs.Label.{showing};
-ghost use Rattle.predicates_core.specs.Formula.{Leaf};
+ghost use Rattle.std.specs.Prelude.{◌≡◌, refl, []};
 ghost use Rattle.predicates_core.specs.Tree.{empty};
 ghost use Rattle.predicates.specs.Makers.{less_than, at_most, at_least, greater_than};
 ghost use Rattle.predicates_core.specs.Leaves.{IsExactly};
@@ -72,9 +70,9 @@ impl<T: fmt::Debug> PredicateReflection for OrdPredicate<T> {
 }
 
 impl<T: fmt::Debug + Ord> Predicate<T> for OrdPredicate<T> {
-    ghost use Rattle.predicates.specs.Comparison.{ord_symbol, ord_truth, comparison_text};
+    ghost use Rattle.predicates.specs.Comparison.{ord_leaf};
 
-    ghost formula = { λ p v. IsExactly (Leaf (showing (comparison_text (ord_symbol p.op) (T.debug_output p.constant)) (codes "var") (T.debug_output v)) (ord_truth p.op (T.cmp v p.constant))) };
+    ghost formula = { λ p v. IsExactly (ord_leaf p.op (T.debug_output p.constant) (T.debug_output v) (T.cmp v p.constant)) };
 
     ghost steady = { λ p v. Unit {0} };
 
@@ -109,9 +107,9 @@ impl<T: fmt::Debug + Ord> Predicate<T> for OrdPredicate<T> {
 }
 
 impl<T: fmt::Debug + Ord> Total<T> for OrdPredicate<T> {
-    ghost use Rattle.predicates.specs.Comparison.{ord_symbol, ord_truth, comparison_text};
+    ghost use Rattle.predicates.specs.Comparison.{ord_leaf};
 
-    ghost formula_of = { λ p v. Leaf (showing (comparison_text (ord_symbol p.op) (T.debug_output p.constant)) (codes "var") (T.debug_output v)) (ord_truth p.op (T.cmp v p.constant)) };
+    ghost formula_of = { λ p v. ord_leaf p.op (T.debug_output p.constant) (T.debug_output v) (T.cmp v p.constant) };
 
     ghost always_lawful = { λ p. tt };
 
@@ -123,9 +121,9 @@ impl ReadsContent<String> for OrdPredicate<String> {
     ghost use Rattle.std.specs.Cmp.Lexicographic.{slice_cmp};
     ghost use Rattle.std.specs.Ordering.{nat_cmp};
     ghost use Rattle.std.specs.Fmt.{debug_str};
-    ghost use Rattle.predicates.specs.Comparison.{ord_symbol, ord_truth, comparison_text};
+    ghost use Rattle.predicates.specs.Comparison.{ord_leaf};
 
-    ghost content_formula = { λ p bytes. Leaf (showing (comparison_text (ord_symbol p.op) (debug_str (string_bytes p.constant))) (codes "var") (debug_str bytes)) (ord_truth p.op (slice_cmp nat_cmp bytes (string_bytes p.constant))) };
+    ghost content_formula = { λ p bytes. ord_leaf p.op (debug_str (string_bytes p.constant)) (debug_str bytes) (slice_cmp nat_cmp bytes (string_bytes p.constant)) };
 
     ghost always_lawful = { λ p. tt };
 

@@ -41,7 +41,8 @@ impl<P: PredicateReflection> PredicateReflection for NormalizedPredicate<P> {
     ghost parameters_of = { λ p. [] };
 
     ghost children_of = { λ p. part
-        (codes "predicate") (P.output (normalized_part p)) (P.parameters_of (normalized_part p)) (P.children_of (normalized_part p)) };
+        (codes "predicate") (P.output (normalized_part p)) (P.parameters_of (normalized_part p))
+        (P.children_of (normalized_part p)) };
 
     fn parameters(&self, alloc: Global) -> Result<Vec<Parameter>, AllocError> {
         Ok(Vec::new(alloc))
@@ -61,9 +62,11 @@ impl<P: Predicate<String>> Predicate<String> for NormalizedPredicate<P> {
 
     ghost steady = { λ p v. ⊥ };
 
-    ghost text_fits = { λ p v f h. each_text_fits (P.output (normalized_part p)) (has_even_lines v) (λ t. P.text_fits (normalized_part p) t f) h };
+    ghost text_fits = { λ p v f h. each_text_fits (P.output (normalized_part p)) (has_even_lines v)
+        (λ t. P.text_fits (normalized_part p) t f) h };
 
-    ghost one_formula = { λ p v f g lawful h k. one_each (has_even_lines v) (λ t. P.one_formula (normalized_part p) t f g lawful) h k };
+    ghost one_formula = { λ p v f g lawful h k. one_each (has_even_lines v)
+        (λ t. P.one_formula (normalized_part p) t f g lawful) h k };
 
     #[tactic(auto, using(crate::proofs::Handing::handing))]
     fn eval(&self, alloc: Global, item: &String) -> Result<bool, AllocError> {
@@ -93,7 +96,8 @@ impl<P: ReadsContent<String>> Total<String> for NormalizedPredicate<P> {
     ghost always_lawful = { λ p. P.always_lawful (normalized_part p) };
 
     ghost has_formula = { λ p v. has_each
-        (P.content_formula (normalized_part p)) (P.formula (normalized_part p)) (HasEvenLinesOf v) (even_bytes (string_bytes v))
+        (P.content_formula (normalized_part p)) (P.formula (normalized_part p)) (HasEvenLinesOf v)
+        (even_bytes (string_bytes v))
         (P.has_formula (normalized_part p)) (even_lines_are v) };
 }
 
@@ -103,6 +107,7 @@ impl<P: ReadsContent<String>> ReadsContent<String> for NormalizedPredicate<P> {
     ghost always_lawful = { λ p. P.always_lawful (normalized_part p) };
 
     ghost has_formula = { λ p t. has_each
-        (P.content_formula (normalized_part p)) (P.formula (normalized_part p)) (HasEvenLinesOf t) (even_bytes (string_bytes t))
+        (P.content_formula (normalized_part p)) (P.formula (normalized_part p)) (HasEvenLinesOf t)
+        (even_bytes (string_bytes t))
         (P.has_formula (normalized_part p)) (even_lines_are t) };
 }

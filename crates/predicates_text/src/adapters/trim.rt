@@ -41,7 +41,8 @@ impl<P: PredicateReflection> PredicateReflection for TrimPredicate<P> {
     ghost parameters_of = { λ p. [] };
 
     ghost children_of = { λ p. part
-        (codes "predicate") (P.output (trim_part p)) (P.parameters_of (trim_part p)) (P.children_of (trim_part p)) };
+        (codes "predicate") (P.output (trim_part p)) (P.parameters_of (trim_part p))
+        (P.children_of (trim_part p)) };
 
     fn parameters(&self, alloc: Global) -> Result<Vec<Parameter>, AllocError> {
         Ok(Vec::new(alloc))
@@ -61,9 +62,11 @@ impl<P: Predicate<String>> Predicate<String> for TrimPredicate<P> {
 
     ghost steady = { λ p v. ⊥ };
 
-    ghost text_fits = { λ p v f h. each_text_fits (P.output (trim_part p)) (has_trimmed v) (λ t. P.text_fits (trim_part p) t f) h };
+    ghost text_fits = { λ p v f h. each_text_fits (P.output (trim_part p)) (has_trimmed v)
+        (λ t. P.text_fits (trim_part p) t f) h };
 
-    ghost one_formula = { λ p v f g lawful h k. one_each (has_trimmed v) (λ t. P.one_formula (trim_part p) t f g lawful) h k };
+    ghost one_formula = { λ p v f g lawful h k. one_each (has_trimmed v)
+        (λ t. P.one_formula (trim_part p) t f g lawful) h k };
 
     #[tactic(auto, using(crate::proofs::Handing::handing))]
     fn eval(&self, alloc: Global, item: &String) -> Result<bool, AllocError> {
@@ -93,7 +96,8 @@ impl<P: ReadsContent<String>> Total<String> for TrimPredicate<P> {
     ghost always_lawful = { λ p. P.always_lawful (trim_part p) };
 
     ghost has_formula = { λ p v. has_each
-        (P.content_formula (trim_part p)) (P.formula (trim_part p)) (IsTrimmedOf v) (trimmed_bytes (string_bytes v))
+        (P.content_formula (trim_part p)) (P.formula (trim_part p)) (IsTrimmedOf v)
+        (trimmed_bytes (string_bytes v))
         (P.has_formula (trim_part p)) (trimmed_is v) };
 }
 
@@ -103,6 +107,7 @@ impl<P: ReadsContent<String>> ReadsContent<String> for TrimPredicate<P> {
     ghost always_lawful = { λ p. P.always_lawful (trim_part p) };
 
     ghost has_formula = { λ p t. has_each
-        (P.content_formula (trim_part p)) (P.formula (trim_part p)) (IsTrimmedOf t) (trimmed_bytes (string_bytes t))
+        (P.content_formula (trim_part p)) (P.formula (trim_part p)) (IsTrimmedOf t)
+        (trimmed_bytes (string_bytes t))
         (P.has_formula (trim_part p)) (trimmed_is t) };
 }

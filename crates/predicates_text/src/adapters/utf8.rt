@@ -1,9 +1,11 @@
 //! Bytes that may be text.
-ghost use Rattle.std.specs.Prelude.{◌≡◌, [], Some, IfOk, IfSome, IsOk, MatchOption, codes, string_bytes};
+ghost use Rattle.std.specs.Prelude.{◌≡◌, [], Some, IfOk, IfSome, IsOk, MatchOption, codes};
+ghost use Rattle.std.specs.Prelude.{string_bytes};
 ghost use Rattle.std.specs.Str.{IsUtf8};
 ghost use Rattle.predicates_core.specs.Parts.{part};
 ghost use Rattle.predicates_text.specs.Handed.{IsDecoded, decoded_formula};
-ghost use Rattle.predicates_text.specs.HandedLaws.{decoded_text_fits, one_decoded, has_decoded_formula};
+ghost use Rattle.predicates_text.specs.HandedLaws.{decoded_text_fits, one_decoded};
+ghost use Rattle.predicates_text.specs.HandedLaws.{has_decoded_formula};
 ghost use Rattle.predicates_text.specs.Made.{text_or_other};
 ghost use Rattle.predicates_text.specs.Inner.{utf8_part};
 
@@ -32,7 +34,9 @@ impl<P> Utf8Predicate<P> {
 
 // The text that the bytes are, or nothing. Other bytes take no memory.
 fn decoded(alloc: Global, bytes: &Vec<u8>) -> Result<Option<String>, AllocError>
-    ensures text { IfOk result (λ found. MatchOption found (¬ (IsUtf8 bytes.now.items)) (λ s. string_bytes s ≡ bytes.now.items)) }
+    ensures text { IfOk result
+        (λ found. MatchOption found (¬ (IsUtf8 bytes.now.items))
+        (λ s. string_bytes s ≡ bytes.now.items)) }
     ensures utf8 { IfOk result (λ found. IfSome found (λ _. IsUtf8 bytes.now.items)) }
     ensures other { ¬ (IsUtf8 bytes.now.items) → IsOk result }
 {
@@ -55,7 +59,8 @@ impl<P: PredicateReflection> PredicateReflection for Utf8Predicate<P> {
     ghost parameters_of = { λ p. [] };
 
     ghost children_of = { λ p. part
-        (codes "predicate") (P.output (utf8_part p)) (P.parameters_of (utf8_part p)) (P.children_of (utf8_part p)) };
+        (codes "predicate") (P.output (utf8_part p)) (P.parameters_of (utf8_part p))
+        (P.children_of (utf8_part p)) };
 
     fn parameters(&self, alloc: Global) -> Result<Vec<Parameter>, AllocError> {
         Ok(Vec::new(alloc))
@@ -77,7 +82,8 @@ impl<P: Predicate<String>> Predicate<Vec<u8>> for Utf8Predicate<P> {
 
     ghost text_fits = { λ p v f h. decoded_text_fits (text_or_other v) (P.text_fits (utf8_part p)) h };
 
-    ghost one_formula = { λ p v f g lawful h k. one_decoded (text_or_other v) (λ t x y. P.one_formula (utf8_part p) t x y lawful) h k };
+    ghost one_formula = { λ p v f g lawful h k. one_decoded (text_or_other v)
+        (λ t x y. P.one_formula (utf8_part p) t x y lawful) h k };
 
     #[tactic(auto, using(crate::proofs::Handing::decoding))]
     fn eval(&self, alloc: Global, item: &Vec<u8>) -> Result<bool, AllocError> {
@@ -109,10 +115,12 @@ impl<P: Predicate<String>> Predicate<Vec<u8>> for Utf8Predicate<P> {
 }
 
 impl<P: ReadsContent<String>> Total<Vec<u8>> for Utf8Predicate<P> {
-    ghost formula_of = { λ p v. decoded_formula (P.content_formula (utf8_part p)) (P.output (utf8_part p)) v.items };
+    ghost formula_of = { λ p v. decoded_formula (P.content_formula (utf8_part p))
+        (P.output (utf8_part p)) v.items };
 
     ghost always_lawful = { λ p. P.always_lawful (utf8_part p) };
 
     ghost has_formula = { λ p v. has_decoded_formula
-        (P.content_formula (utf8_part p)) (P.output (utf8_part p)) (P.formula (utf8_part p)) v.items (P.has_formula (utf8_part p)) };
+        (P.content_formula (utf8_part p)) (P.output (utf8_part p)) (P.formula (utf8_part p)) v.items
+        (P.has_formula (utf8_part p)) };
 }

@@ -9,7 +9,7 @@ ghost use Rattle.predicates_text.specs.MeantLaws.{ends_text_fits, one_ends, has_
 ghost use Rattle.predicates_text.specs.Held.{ends_pattern};
 
 use crate::node::text_node;
-use crate::parts;
+use crate::places;
 use predicates_core::node::printed;
 use predicates_core::reflection::{Case, Child, Parameter, PredicateReflection};
 use predicates_core::{Predicate, ReadsContent, Total};
@@ -67,7 +67,7 @@ impl Predicate<String> for EndsWithPredicate {
 
     #[tactic(auto, using(crate::proofs::Showing::meant_leaves))]
     fn eval(&self, _alloc: Global, item: &String) -> Result<bool, AllocError> {
-        Ok(parts::ends_with(&self.pattern, item))
+        Ok(places::ends_with(item, &self.pattern))
     }
 
     #[tactic(auto, using(crate::proofs::Showing::meant_leaves))]
@@ -77,7 +77,7 @@ impl Predicate<String> for EndsWithPredicate {
         expected: bool,
         item: &String,
     ) -> Result<Option<Case>, AllocError> {
-        if parts::ends_with(&self.pattern, item) != expected {
+        if places::ends_with(item, &self.pattern) != expected {
             return Ok(None);
         }
         let text = printed(alloc, self)?;

@@ -70,7 +70,7 @@ impl Predicate<String> for MatchesPredicate {
 
     #[tactic(auto, using(crate::proofs::Showing::meant_leaves))]
     fn eval(&self, _alloc: Global, item: &String) -> Result<bool, AllocError> {
-        Ok(count::count(&self.pattern, item) == self.count)
+        Ok(count::count(item, &self.pattern) == self.count)
     }
 
     #[tactic(auto, using(crate::proofs::Showing::meant_leaves))]
@@ -80,7 +80,7 @@ impl Predicate<String> for MatchesPredicate {
         expected: bool,
         item: &String,
     ) -> Result<Option<Case>, AllocError> {
-        let count = count::count(&self.pattern, item);
+        let count = count::count(item, &self.pattern);
         if (count == self.count) != expected {
             return Ok(None);
         }
@@ -91,7 +91,8 @@ impl Predicate<String> for MatchesPredicate {
 }
 
 impl Total<String> for MatchesPredicate {
-    ghost formula_of = { λ p v. matches_formula (matches_pattern p) (matches_count p) (string_bytes v) };
+    ghost formula_of = { λ p v. matches_formula (matches_pattern p) (matches_count p)
+        (string_bytes v) };
 
     ghost always_lawful = { λ p. tt };
 

@@ -8,7 +8,7 @@ ghost use Rattle.predicates_text.specs.Meant.{IsEmptyLeaf};
 ghost use Rattle.predicates_text.specs.MeantLaws.{empty_text_fits, one_empty, has_empty};
 
 use crate::node::text_node;
-use crate::parts;
+use crate::places;
 use predicates_core::node::printed;
 use predicates_core::reflection::{Case, Child, Parameter, PredicateReflection};
 use predicates_core::{Predicate, ReadsContent, Total};
@@ -62,7 +62,7 @@ impl Predicate<String> for IsEmptyPredicate {
 
     #[tactic(auto, using(crate::proofs::Showing::meant_leaves))]
     fn eval(&self, _alloc: Global, item: &String) -> Result<bool, AllocError> {
-        Ok(parts::is_empty(item))
+        Ok(places::is_empty(item))
     }
 
     #[tactic(auto, using(crate::proofs::Showing::meant_leaves))]
@@ -72,7 +72,7 @@ impl Predicate<String> for IsEmptyPredicate {
         expected: bool,
         item: &String,
     ) -> Result<Option<Case>, AllocError> {
-        if parts::is_empty(item) != expected {
+        if places::is_empty(item) != expected {
             return Ok(None);
         }
         let text = printed(alloc, self)?;

@@ -10,7 +10,7 @@ ghost use Rattle.predicates_text.specs.Held.{contains_pattern, matches_pattern, 
 
 use crate::basics::MatchesPredicate;
 use crate::node::text_node;
-use crate::parts;
+use crate::places;
 use predicates_core::node::printed;
 use predicates_core::reflection::{Case, Child, Parameter, PredicateReflection};
 use predicates_core::{Predicate, ReadsContent, Total};
@@ -83,7 +83,7 @@ impl Predicate<String> for ContainsPredicate {
 
     #[tactic(auto, using(crate::proofs::Showing::meant_leaves))]
     fn eval(&self, _alloc: Global, item: &String) -> Result<bool, AllocError> {
-        Ok(parts::contains(&self.pattern, item))
+        Ok(places::contains(item, &self.pattern))
     }
 
     #[tactic(auto, using(crate::proofs::Showing::meant_leaves))]
@@ -93,7 +93,7 @@ impl Predicate<String> for ContainsPredicate {
         expected: bool,
         item: &String,
     ) -> Result<Option<Case>, AllocError> {
-        if parts::contains(&self.pattern, item) != expected {
+        if places::contains(item, &self.pattern) != expected {
             return Ok(None);
         }
         let text = printed(alloc, self)?;

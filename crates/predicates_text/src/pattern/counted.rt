@@ -6,7 +6,9 @@ ghost use Rattle.predicates_core.specs.Tree.{empty};
 ghost use Rattle.predicates_core.specs.Label.{value_of};
 ghost use Rattle.predicates_core.specs.Leaves.{IsExactly};
 ghost use Rattle.predicates_core.proofs.Leaves.{exactly_text_fits, one_exactly};
-ghost use Rattle.predicates_text.specs.Pattern.{match_text, match_count_formula, regex_matches_text, regex_matches_meaning, regex_matches_count};
+ghost use Rattle.predicates_text.specs.Pattern.{match_text, match_count_formula};
+ghost use Rattle.predicates_text.specs.Pattern.{regex_matches_text, regex_matches_meaning};
+ghost use Rattle.predicates_text.specs.Pattern.{regex_matches_count};
 
 use crate::node::text_node;
 use crate::pattern::search::match_count;
@@ -67,7 +69,8 @@ impl PredicateReflection for RegexMatchesPredicate {
 
 impl Predicate<String> for RegexMatchesPredicate {
     ghost formula = { λ p v. IsExactly
-        (match_count_formula (regex_matches_text p) (regex_matches_meaning p) (regex_matches_count p) (string_bytes v)) };
+        (match_count_formula (regex_matches_text p) (regex_matches_meaning p)
+        (regex_matches_count p) (string_bytes v)) };
 
     ghost steady = { λ p v. ⊥ };
 

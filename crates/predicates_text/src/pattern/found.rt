@@ -9,7 +9,10 @@ ghost use Rattle.predicates_core.specs.Formula.{Formula};
 ghost use Rattle.predicates_core.specs.Tree.{empty};
 ghost use Rattle.predicates_core.specs.Leaves.{IsExactly};
 ghost use Rattle.predicates_core.proofs.Leaves.{exactly_text_fits, one_exactly};
-ghost use Rattle.predicates_text.specs.Pattern.{match_text, match_formula, match_count_formula, regex_text, regex_meaning, regex_matches_text, regex_matches_meaning, regex_matches_count, IsReadFromText};
+ghost use Rattle.predicates_text.specs.Pattern.{match_text, match_formula, match_count_formula};
+ghost use Rattle.predicates_text.specs.Pattern.{regex_text, regex_meaning, regex_matches_text};
+ghost use Rattle.predicates_text.specs.Pattern.{regex_matches_meaning, regex_matches_count};
+ghost use Rattle.predicates_text.specs.Pattern.{IsReadFromText};
 
 use crate::node::text_node;
 use crate::pattern::search::has_match;
@@ -86,7 +89,8 @@ impl PredicateReflection for RegexPredicate {
 }
 
 impl Predicate<String> for RegexPredicate {
-    ghost formula = { λ p v. IsExactly (match_formula (regex_text p) (regex_meaning p) (string_bytes v)) };
+    ghost formula = { λ p v. IsExactly
+        (match_formula (regex_text p) (regex_meaning p) (string_bytes v)) };
 
     ghost steady = { λ p v. ⊥ };
 

@@ -1,5 +1,5 @@
 use Rattle.std.proofs.Common.{◌+◌, ◌*◌}
-use Rattle.predicates_explain.specs.Checks.{word_count}
+use Rattle.predicates_explain.proofs.WordCount.{word_count}
 use Rattle.predicates_explain.proofs.check.TextCheck.+find.Given as goal
 
 abbrev pub decreases-find : goal.decreases-find

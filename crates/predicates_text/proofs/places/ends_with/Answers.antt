@@ -1,6 +1,6 @@
 use Rattle.predicates_text.proofs.Found.{ends_chars}
-use Rattle.predicates_text.specs.PartLaws.{back_tells, same_test}
-use Rattle.predicates_text.proofs.parts.ends_with.Goals as goal
+use Rattle.predicates_text.specs.PlaceLaws.{back_tells, same_test}
+use Rattle.predicates_text.proofs.places.ends_with.Goals as goal
 
 pub returns : goal.returns
 returns c =

@@ -1,30 +1,50 @@
--- The tests of `specs/Parts` tell whether one text stands in another.
-use Rattle.std.proofs.Common.{◌≡◌, ◌↔◌, List, [], ◌∷◌, ◌++◌, ℕ, suc, Bool, true, false, IsTrue, length, drop, subst, sym, ap, refl, ⊎_elim, arith}
+-- The tests of `specs/Places` tell whether one text stands in another.
+use Rattle.std.proofs.Common.{◌≡◌, ◌↔◌, List, [], ◌∷◌, ◌++◌, ℕ, suc, Bool, true, false, IsTrue}
+use Rattle.std.proofs.Common.{length, drop, subst, sym, ap, refl, ⊎_elim, arith}
 use Rattle.std.specs.Prelude.{◌||◌}
 use Rattle.std.proofs.lemmas.Bool.{cases_Bool}
 use Rattle.std.proofs.lemmas.Bool.Decides.{Decides-eqb, nat_tests}
 use Rattle.std.proofs.lemmas.Slice.Eq.{starts_is, ends_is}
-use Rattle.predicates_text.specs.Parts.{IsFrontOf, IsBackOf, IsPartOf, is_empty, is_front, is_back, is_part}
+use Rattle.predicates_text.specs.Places.{IsFrontOf, IsBackOf, IsPartOf, is_empty, is_front, is_back}
+use Rattle.predicates_text.specs.Places.{is_part}
 
 pub empty_tells : (t : List ℕ) → IsTrue (is_empty t) ↔ (t ≡ [])
 empty_tells [] = ((λ _. refl), λ _. refl)
-empty_tells (c ∷ t) = ((λ e. absurd (grind (arith, nat_tests, e))), λ e. absurd (omega (arith, ap length e)))
+empty_tells
+    (c ∷ t) = (
+      (λ e. absurd (grind (arith, nat_tests, e))),
+      λ e. absurd
+          (omega (arith, ap length e)),
+    )
 
 pub front_tells : (s t : List ℕ) → IsTrue (is_front s t) ↔ IsFrontOf s t
-front_tells s t = let is = starts_is Decides-eqb t s (is_front s t) refl in ((λ e. (drop (length s) t, is.0 e)), λ f. is.1 f.0 f.1)
+front_tells s t = let is = starts_is Decides-eqb t s (is_front s t) refl in
+    ((λ e. (drop (length s) t, is.0 e)), λ f. is.1 f.0 f.1)
 
 pub back_tells : (s t : List ℕ) → IsTrue (is_back s t) ↔ IsBackOf s t
-back_tells s t = let is = ends_is Decides-eqb t s (is_back s t) refl in ((λ e. (_, is.0 e)), λ f. is.1 f.0 f.1)
+back_tells s t = let is = ends_is Decides-eqb t s (is_back s t) refl in
+    ((λ e. (_, is.0 e)), λ f. is.1 f.0 f.1)
 
 -- what stands at the front, or past the first character
 part_in : (s t : List ℕ) → IsTrue (is_part s t) → IsPartOf s t
 unfolding is_part
-part_in s [] e = let f = (front_tells s []).0 e in record { place = 0; stands = ([], f.0, f.1, refl) }
+part_in s [] e = let f = (front_tells s []).0 e in record
+    { place = 0; stands = ([], f.0, f.1, refl) }
 part_in s (c ∷ t) e = ⊎_elim
-    (λ is. let f = (front_tells s (c ∷ t)).0 is in record { place = 0; stands = ([], f.0, f.1, refl) })
+    (λ is. let f = (front_tells s (c ∷ t)).0 is in record
+    { place = 0; stands = ([], f.0, f.1, refl) })
     (λ other.
     let later : IsPartOf s t = part_in s t (subst (λ b. IsTrue (b || is_part s t)) other e) in
-    record { place = suc later.place; stands = (c ∷ later.stands.0, later.stands.1, ap (λ l. c ∷ l) later.stands.2, ap suc later.stands.3) })
+    record {
+      place = suc later.place;
+      stands = (
+        c ∷ later.stands.0,
+        later.stands.1,
+        ap (λ l. c ∷ l) later.stands.2,
+        ap suc
+            later.stands.3,
+      );
+    })
     (cases_Bool (is_front s (c ∷ t)))
 
 part_from : (s t front rest : List ℕ) → t ≡ front ++ (s ++ rest) → IsTrue (is_part s t)

@@ -2,7 +2,8 @@
 //! memory.
 ghost use Rattle.std.specs.Prelude.{◌≡◌, ◌↔◌, [], IsTrue};
 ghost use Rattle.std.specs.Str.{chars};
-ghost use Rattle.predicates_text.specs.Parts.{IsFrontOf, IsBackOf, IsPartOf, is_empty, is_front, is_back, is_part};
+ghost use Rattle.predicates_text.specs.Places.{IsFrontOf, IsBackOf, IsPartOf, is_empty, is_front};
+ghost use Rattle.predicates_text.specs.Places.{is_back, is_part};
 
 use memchr::memmem;
 
@@ -18,7 +19,7 @@ pub fn is_empty(text: &str) -> bool
 }
 
 /// Whether the text begins with the pattern.
-pub fn starts_with(pattern: &str, text: &str) -> bool
+pub fn starts_with(text: &str, pattern: &str) -> bool
     ensures front { IsTrue result ↔ IsFrontOf (chars pattern.now) (chars text.now) }
     ensures value { result ≡ is_front (chars pattern.now) (chars text.now) }
 {
@@ -26,7 +27,7 @@ pub fn starts_with(pattern: &str, text: &str) -> bool
 }
 
 /// Whether the text ends with the pattern.
-pub fn ends_with(pattern: &str, text: &str) -> bool
+pub fn ends_with(text: &str, pattern: &str) -> bool
     ensures back { IsTrue result ↔ IsBackOf (chars pattern.now) (chars text.now) }
     ensures value { result ≡ is_back (chars pattern.now) (chars text.now) }
 {
@@ -34,7 +35,7 @@ pub fn ends_with(pattern: &str, text: &str) -> bool
 }
 
 /// Whether the pattern has a place in the text.
-pub fn contains(pattern: &str, text: &str) -> bool
+pub fn contains(text: &str, pattern: &str) -> bool
     ensures part { IsTrue result ↔ IsPartOf (chars pattern.now) (chars text.now) }
     ensures bytes { IsTrue result ↔ IsPartOf pattern.now text.now }
     ensures value { result ≡ is_part (chars pattern.now) (chars text.now) }

@@ -1,5 +1,5 @@
 use Rattle.predicates_text.proofs.Searching.{search_tells, byte_search_tells}
-use Rattle.predicates_text.proofs.parts.contains.Goals as goal
+use Rattle.predicates_text.proofs.places.contains.Goals as goal
 
 pub returns-then-text-lt-LONG : goal.returns-then-text-lt-LONG
 returns-then-text-lt-LONG c =

@@ -1,6 +1,6 @@
 use Rattle.predicates_text.proofs.Found.{starts_chars}
-use Rattle.predicates_text.specs.PartLaws.{front_tells, same_test}
-use Rattle.predicates_text.proofs.parts.starts_with.Goals as goal
+use Rattle.predicates_text.specs.PlaceLaws.{front_tells, same_test}
+use Rattle.predicates_text.proofs.places.starts_with.Goals as goal
 
 pub returns : goal.returns
 returns c =

@@ -11,7 +11,8 @@ IsBackOf s t = (front : List ℕ) × (t ≡ front ++ s)
 
 -- s stands in t from place i on
 abbrev pub StandsAt : List ℕ → List ℕ → ℕ → Type 0
-StandsAt s t i = (front : List ℕ) × (rest : List ℕ) × (t ≡ front ++ (s ++ rest)) × (length front ≡ i)
+StandsAt s t i = (front : List ℕ) × (rest : List ℕ) × (t ≡ front ++ (s ++ rest))
+    × (length front ≡ i)
 
 -- s has a place in t
 pub record IsPartOf (s t : List ℕ) : Type 0 where

@@ -1,8 +1,8 @@
 use Rattle.std.proofs.Common.{◌≡◌, ◌↔◌, [], IsTrue, arith}
 use Rattle.std.specs.Str.{chars}
 use Rattle.predicates_text.proofs.Found.{empty_chars}
-use Rattle.predicates_text.specs.PartLaws.{empty_tells, same_test}
-use Rattle.predicates_text.proofs.parts.is_empty.Goals as goal
+use Rattle.predicates_text.specs.PlaceLaws.{empty_tells, same_test}
+use Rattle.predicates_text.proofs.places.is_empty.Goals as goal
 
 pub returns : goal.returns
 returns c =
