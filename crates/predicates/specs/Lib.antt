@@ -17,3 +17,4 @@ pub mod Printed
 pub mod PrintedLaws
 pub mod Laws
 pub mod TextEquality
+pub mod Own

@@ -47,6 +47,7 @@ pub mod laws;
 pub mod meaning;
 pub mod name;
 pub mod ord;
+pub mod own;
 pub mod prelude;
 #[cfg(test)]
 mod tests;

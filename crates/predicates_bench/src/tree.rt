@@ -1,6 +1,8 @@
 //! A check of numbers whose shape is chosen at run time, as a caller writes one who has no boxes.
-ghost use Rattle.std.specs.Prelude.{[], IfOk};
-ghost use Rattle.predicates_core.specs.Combined.{IsAnd, IsNot, IsOr, IsXor};
+ghost use Rattle.std.specs.Prelude.{[], codes, IfOk};
+ghost use mathlib.Core.Bool.{beq};
+ghost use Rattle.predicates_core.specs.Combined.{infix_text, not_text, IsAnd, IsNot, IsOr, IsXor};
+ghost use Rattle.predicates_core.specs.Formula.{HasTruth};
 ghost use Rattle.predicates_core.specs.Shows.{IsAnswer};
 ghost use Rattle.predicates_core.specs.Tree.{empty};
 ghost use Rattle.predicates_bench.specs.Trees.{tree_text, HasFormula};
@@ -8,7 +10,7 @@ ghost use Rattle.predicates_bench.specs.TreeLaws.{tree_text_fits, one_tree};
 
 use predicates::ord::OrdPredicate;
 use predicates_core::Predicate;
-use predicates_core::node::{over_found, over_one, printed};
+use predicates_core::node::{joined, joined_by_left, joined_by_right, negated};
 use predicates_core::reflection::{Case, Child, Parameter, PredicateReflection};
 use std::alloc::{AllocError, Global};
 use std::fmt;
@@ -82,66 +84,91 @@ impl Predicate<i64> for Tree {
 
     ghost one_formula = { λ t n f g lawful. one_tree t n f g };
 
-    #[tactic(auto, using(predicates_core::proofs::Combined::combined))]
     fn eval(&self, alloc: Global, item: &i64) -> Result<bool, AllocError> {
-        match self {
-            Tree::Leaf(leaf) => leaf.eval(alloc, item),
-            Tree::Not(inner) => Ok(!inner.eval(alloc, item)?),
-            Tree::And(left, right) => Ok(left.eval(alloc, item)? && right.eval(alloc, item)?),
-            Tree::Or(left, right) => Ok(left.eval(alloc, item)? || right.eval(alloc, item)?),
-            Tree::Xor(left, right) => Ok(left.eval(alloc, item)? != right.eval(alloc, item)?),
-        }
+        self.holds(alloc, item, true)
     }
 
+    // `eval` first, so that no case is made in vain; below the root no part is asked by it.
     fn find_case(
         &self,
         alloc: Global,
         expected: bool,
         item: &i64,
     ) -> Result<Option<Case>, AllocError> {
+        if self.eval(alloc, item)? != expected {
+            return Ok(None);
+        }
         self.find(alloc, expected, item)
+    }
+}
+
+impl Tree {
+    // Whether the verdict is the wanted one. The last part is asked in the place of the whole, so that a
+    // chain is a loop.
+    #[tactic(auto, using(crate::proofs::TreeTexts::asked))]
+    fn holds(&self, alloc: Global, item: &i64, wanted: bool) -> Result<bool, AllocError>
+        ensures { IfOk result (λ holds. HasTruth (HasFormula self.now item.now) (beq holds wanted)) }
+    {
+        match self {
+            Tree::Leaf(leaf) => Ok(leaf.eval(alloc, item)? == wanted),
+            Tree::Not(inner) => inner.holds(alloc, item, !wanted),
+            Tree::And(left, right) => {
+                if left.holds(alloc, item, true)? {
+                    right.holds(alloc, item, wanted)
+                } else {
+                    Ok(!wanted)
+                }
+            }
+            Tree::Or(left, right) => {
+                if left.holds(alloc, item, true)? {
+                    Ok(wanted)
+                } else {
+                    right.holds(alloc, item, wanted)
+                }
+            }
+            Tree::Xor(left, right) => {
+                let first = left.holds(alloc, item, true)?;
+                right.holds(alloc, item, first != wanted)
+            }
+        }
     }
 }
 
 // Each kind of tree has a function of its own, since a function pays at entry for all its locals.
 impl Tree {
     #[cycle(find)]
-    #[tactic(auto, using(predicates_core::proofs::Combined::combined))]
     fn find(&self, alloc: Global, expected: bool, item: &i64) -> Result<Option<Case>, AllocError>
         ensures { IfOk result (IsAnswer (HasFormula self.now item.now) expected) }
     {
         match self {
             Tree::Leaf(leaf) => leaf.find_case(alloc, expected, item),
-            Tree::Not(inner) => self.find_not(alloc, inner, expected, item),
-            Tree::And(left, right) => self.find_and(alloc, left, right, expected, item),
-            Tree::Or(left, right) => self.find_or(alloc, left, right, expected, item),
-            Tree::Xor(left, right) => self.find_xor(alloc, left, right, expected, item),
+            Tree::Not(inner) => Tree::find_not(alloc, inner, expected, item),
+            Tree::And(left, right) => Tree::find_and(alloc, left, right, expected, item),
+            Tree::Or(left, right) => Tree::find_or(alloc, left, right, expected, item),
+            Tree::Xor(left, right) => Tree::find_xor(alloc, left, right, expected, item),
         }
     }
 
     #[cycle(find)]
     #[tactic(auto, using(predicates_core::proofs::Combined::combined))]
     fn find_not(
-        &self,
         alloc: Global,
         inner: &Tree,
         expected: bool,
         item: &i64,
     ) -> Result<Option<Case>, AllocError>
         ensures { IfOk result
-            (IsAnswer (IsNot (tree_text self.now) (HasFormula inner.now item.now)) expected) }
+            (IsAnswer (IsNot (not_text (tree_text inner.now)) (HasFormula inner.now item.now)) expected) }
     {
         let Some(part) = inner.find(alloc, !expected, item)? else {
             return Ok(None);
         };
-        let text = printed(alloc, self)?;
-        Ok(Some(over_one(alloc, text, expected, "predicate", part)?))
+        Ok(Some(negated(alloc, expected, part)?))
     }
 
     #[cycle(find)]
     #[tactic(auto, using(predicates_core::proofs::Combined::combined))]
     fn find_and(
-        &self,
         alloc: Global,
         left: &Tree,
         right: &Tree,
@@ -149,30 +176,34 @@ impl Tree {
         item: &i64,
     ) -> Result<Option<Case>, AllocError>
         ensures { IfOk result
-            (IsAnswer (IsAnd (tree_text self.now) (HasFormula left.now item.now) (HasFormula right.now item.now)) expected) }
+            (IsAnswer (IsAnd
+            (infix_text (codes " && ") (tree_text left.now) (tree_text right.now))
+            (HasFormula left.now item.now)
+            (HasFormula right.now item.now)) expected) }
     {
-        let left = left.find(alloc, expected, item)?;
-        let right = if left.is_some() == expected {
-            let right = right.find(alloc, expected, item)?;
-            if right.is_none() {
-                return Ok(None);
+        match (expected, left.find(alloc, expected, item)?) {
+            (true, None) => Ok(None),
+            (true, Some(first)) => {
+                let Some(second) = right.find(alloc, expected, item)? else {
+                    return Ok(None);
+                };
+                Ok(Some(joined(alloc, " && ", expected, first, second)?))
             }
-            right
-        } else {
-            // The left part decides.
-            if left.is_none() {
-                return Ok(None);
+            (false, Some(decides)) => {
+                Ok(Some(joined_by_left(alloc, " && ", expected, decides, right)?))
             }
-            None
-        };
-        let text = printed(alloc, self)?;
-        Ok(Some(over_found(alloc, text, expected, left, right)?))
+            (false, None) => {
+                let Some(decides) = right.find(alloc, expected, item)? else {
+                    return Ok(None);
+                };
+                Ok(Some(joined_by_right(alloc, " && ", expected, left, decides)?))
+            }
+        }
     }
 
     #[cycle(find)]
     #[tactic(auto, using(predicates_core::proofs::Combined::combined))]
     fn find_or(
-        &self,
         alloc: Global,
         left: &Tree,
         right: &Tree,
@@ -180,30 +211,34 @@ impl Tree {
         item: &i64,
     ) -> Result<Option<Case>, AllocError>
         ensures { IfOk result
-            (IsAnswer (IsOr (tree_text self.now) (HasFormula left.now item.now) (HasFormula right.now item.now)) expected) }
+            (IsAnswer (IsOr
+            (infix_text (codes " || ") (tree_text left.now) (tree_text right.now))
+            (HasFormula left.now item.now)
+            (HasFormula right.now item.now)) expected) }
     {
-        let left = left.find(alloc, expected, item)?;
-        let right = if left.is_some() == expected {
-            // The left part decides.
-            if left.is_none() {
-                return Ok(None);
+        match (expected, left.find(alloc, expected, item)?) {
+            (false, None) => Ok(None),
+            (false, Some(first)) => {
+                let Some(second) = right.find(alloc, expected, item)? else {
+                    return Ok(None);
+                };
+                Ok(Some(joined(alloc, " || ", expected, first, second)?))
             }
-            None
-        } else {
-            let right = right.find(alloc, expected, item)?;
-            if right.is_none() {
-                return Ok(None);
+            (true, Some(decides)) => {
+                Ok(Some(joined_by_left(alloc, " || ", expected, decides, right)?))
             }
-            right
-        };
-        let text = printed(alloc, self)?;
-        Ok(Some(over_found(alloc, text, expected, left, right)?))
+            (true, None) => {
+                let Some(decides) = right.find(alloc, expected, item)? else {
+                    return Ok(None);
+                };
+                Ok(Some(joined_by_right(alloc, " || ", expected, left, decides)?))
+            }
+        }
     }
 
     #[cycle(find)]
     #[tactic(auto, using(predicates_core::proofs::Combined::combined))]
     fn find_xor(
-        &self,
         alloc: Global,
         left: &Tree,
         right: &Tree,
@@ -211,16 +246,22 @@ impl Tree {
         item: &i64,
     ) -> Result<Option<Case>, AllocError>
         ensures { IfOk result
-            (IsAnswer (IsXor (tree_text self.now) (HasFormula left.now item.now) (HasFormula right.now item.now)) expected) }
+            (IsAnswer (IsXor
+            (infix_text (codes " ^ ") (tree_text left.now) (tree_text right.now))
+            (HasFormula left.now item.now)
+            (HasFormula right.now item.now)) expected) }
     {
         let left_holds = left.eval(alloc, item)?;
         let right_holds = right.eval(alloc, item)?;
         if (left_holds != right_holds) != expected {
             return Ok(None);
         }
-        let left = left.find(alloc, left_holds, item)?;
-        let right = right.find(alloc, right_holds, item)?;
-        let text = printed(alloc, self)?;
-        Ok(Some(over_found(alloc, text, expected, left, right)?))
+        let Some(first) = left.find(alloc, left_holds, item)? else {
+            return Ok(None);
+        };
+        let Some(second) = right.find(alloc, right_holds, item)? else {
+            return Ok(None);
+        };
+        Ok(Some(joined(alloc, " ^ ", expected, first, second)?))
     }
 }

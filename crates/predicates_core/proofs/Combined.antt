@@ -245,7 +245,7 @@ module _ {text : Option (List ℕ)} {left right : Formula → Type 0} {bytes : L
   IsCaseOf-or_decided (Some c) (Some d) written fits x e e' n = absurd (cc)
 
 -- each part was asked for its own truth, so none is found only where it has no formula
-has_no_formula : {F : Formula → Type 0} {a : Bool} → HasTruth F a → HasTruth F (not a) → (f : Formula) → F f → ⊥
+pub has_no_formula : {F : Formula → Type 0} {a : Bool} → HasTruth F a → HasTruth F (not a) → (f : Formula) → F f → ⊥
 has_no_formula {a} h k f of_f = not_turned a (sym (h.at f of_f) ∙ k.at f of_f)
   where
     not_turned : (a : Bool) → a ≡ not a → ⊥

@@ -5,6 +5,7 @@ pub mod First
 pub mod Combine
 pub mod Shown
 pub mod Combined
+pub mod Retold
 pub mod Leaves
 pub mod Added
 pub mod Forests

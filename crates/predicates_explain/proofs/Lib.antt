@@ -1,4 +1,5 @@
 pub mod BlockLemmas
+pub mod CheckTexts
 pub mod Ending
 pub mod Meant
 pub mod Numerals

@@ -11,4 +11,5 @@ pub mod Runs
 pub mod TextAnswers
 pub mod Tokens
 pub mod Typed
+pub mod Weight
 pub mod WordFault

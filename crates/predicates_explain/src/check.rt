@@ -1,13 +1,16 @@
 //! A check of texts, made of words.
-ghost use Rattle.std.specs.Prelude.{◌≡◌, [], IfOk, string_bytes};
-ghost use Rattle.predicates_core.specs.Combined.{IsAnd, IsNot, IsOr, IsXor};
+ghost use Rattle.std.specs.Prelude.{◌≡◌, [], IfOk, codes, string_bytes};
+ghost use Rattle.predicates_core.specs.Combined.{infix_text, not_text, IsAnd, IsNot, IsOr, IsXor};
 ghost use Rattle.predicates_core.specs.Shows.{IsAnswer};
 ghost use Rattle.predicates_core.specs.Tree.{empty};
 ghost use Rattle.predicates_text.specs.Handed.{trimmed_bytes, even_bytes};
 ghost use Rattle.predicates_explain.specs.Checks.{check_text, check_formula, HasFormula, IsSteadyCheck};
 ghost use Rattle.predicates_explain.specs.CheckLaws.{check_text_fits, one_check, has_check_formula};
+ghost use Rattle.predicates_explain.specs.Weight.{IsAlone};
 
-use predicates::node::{over_found, over_one, printed};
+mod turn;
+
+use predicates::node::{joined, joined_by_left, joined_by_right, negated};
 use predicates::ord::EqPredicate;
 use predicates::reflection::{Case, Child, Parameter, PredicateReflection};
 use predicates::str::{
@@ -17,13 +20,13 @@ use predicates::str::{
 use predicates::{Predicate, ReadsContent, Total};
 use std::alloc::{AllocError, Global};
 use std::fmt;
+use turn::turn;
 
 /// A check of texts, with a variant for each word of `Word`. It tells of no parameters and no
 /// parts.
 ///
 /// Its `eval` takes no memory but under `Matches`, `Trim` and `Normalize`. A check nested some
 /// thousands of words deep needs as much stack.
-#[derive(Drop)]
 pub enum TextCheck {
     /// The text has no characters.
     Empty(IsEmptyPredicate),
@@ -49,6 +52,53 @@ pub enum TextCheck {
     Or(Box<TextCheck>, Box<TextCheck>),
     /// Exactly one check holds; both are asked.
     Xor(Box<TextCheck>, Box<TextCheck>),
+}
+
+impl TextCheck {
+    // Drops a check without parts.
+    fn end(self)
+        requires { IsAlone self }
+    {
+        match self {
+            TextCheck::Empty(_)
+            | TextCheck::Equals(_)
+            | TextCheck::Starts(_)
+            | TextCheck::Ends(_)
+            | TextCheck::Contains(_)
+            | TextCheck::Matches(_) => {}
+            _ => unreachable!(),
+        }
+    }
+}
+
+// A loop, so that a deep check does not run out of stack: left parts are turned to the right until there
+// are none. It takes no memory.
+impl Drop for TextCheck {
+    fn drop(mut self) {
+        loop {
+            match self {
+                TextCheck::Trim(inner) | TextCheck::Normalize(inner) | TextCheck::Not(inner) => {
+                    self = Box::into_inner(inner);
+                }
+                TextCheck::And(mut left, mut right)
+                | TextCheck::Or(mut left, mut right)
+                | TextCheck::Xor(mut left, mut right) => {
+                    if turn(&mut left, &mut right) {
+                        self = TextCheck::And(right, left);
+                    } else {
+                        Box::into_inner(left).end();
+                        self = Box::into_inner(right);
+                    }
+                }
+                TextCheck::Empty(_)
+                | TextCheck::Equals(_)
+                | TextCheck::Starts(_)
+                | TextCheck::Ends(_)
+                | TextCheck::Contains(_)
+                | TextCheck::Matches(_) => return,
+            }
+        }
+    }
 }
 
 impl fmt::Display for TextCheck {
@@ -162,18 +212,30 @@ impl Predicate<String> for TextCheck {
         }
     }
 
+    // A check of several words is evaluated first, so that no case is made in vain.
     fn find_case(
         &self,
         alloc: Global,
         expected: bool,
         item: &String,
     ) -> Result<Option<Case>, AllocError> {
+        if !self.is_single() && self.eval(alloc, item)? != expected {
+            return Ok(None);
+        }
         self.find(alloc, expected, item)
     }
 }
 
 // Each word over checks has a function of its own: at entry a function pays for all its locals.
 impl TextCheck {
+    // A single word, or such a word about a view of the text.
+    fn is_single(&self) -> bool {
+        !matches!(
+            self,
+            TextCheck::Not(_) | TextCheck::And(_, _) | TextCheck::Or(_, _) | TextCheck::Xor(_, _)
+        )
+    }
+
     #[cycle(find)]
     #[tactic(auto, using(predicates_core::proofs::Combined::combined))]
     fn find(&self, alloc: Global, expected: bool, item: &String) -> Result<Option<Case>, AllocError>
@@ -188,10 +250,10 @@ impl TextCheck {
             TextCheck::Matches(leaf) => leaf.find_case(alloc, expected, item),
             TextCheck::Trim(inner) => inner.find_trimmed(alloc, expected, item),
             TextCheck::Normalize(inner) => inner.find_normalized(alloc, expected, item),
-            TextCheck::Not(inner) => self.find_not(alloc, inner, expected, item),
-            TextCheck::And(left, right) => self.find_and(alloc, left, right, expected, item),
-            TextCheck::Or(left, right) => self.find_or(alloc, left, right, expected, item),
-            TextCheck::Xor(left, right) => self.find_xor(alloc, left, right, expected, item),
+            TextCheck::Not(inner) => TextCheck::find_not(alloc, inner, expected, item),
+            TextCheck::And(left, right) => TextCheck::find_and(alloc, left, right, expected, item),
+            TextCheck::Or(left, right) => TextCheck::find_or(alloc, left, right, expected, item),
+            TextCheck::Xor(left, right) => TextCheck::find_xor(alloc, left, right, expected, item),
         }
     }
 
@@ -228,97 +290,99 @@ impl TextCheck {
     #[cycle(find)]
     #[tactic(auto, using(predicates_core::proofs::Combined::combined))]
     fn find_not(
-        &self,
         alloc: Global,
         inner: &TextCheck,
         expected: bool,
         item: &String,
     ) -> Result<Option<Case>, AllocError>
-        ensures { IfOk result (IsAnswer (IsNot (check_text self.now)
+        ensures { IfOk result (IsAnswer (IsNot (not_text (check_text inner.now))
             (HasFormula inner.now (string_bytes item.now))) expected) }
     {
         let Some(part) = inner.find(alloc, !expected, item)? else {
             return Ok(None);
         };
-        let text = printed(alloc, self)?;
-        Ok(Some(over_one(alloc, text, expected, "predicate", part)?))
+        Ok(Some(negated(alloc, expected, part)?))
     }
 
     #[cycle(find)]
     #[tactic(auto, using(predicates_core::proofs::Combined::combined))]
     fn find_and(
-        &self,
         alloc: Global,
         left: &TextCheck,
         right: &TextCheck,
         expected: bool,
         item: &String,
     ) -> Result<Option<Case>, AllocError>
-        ensures { IfOk result (IsAnswer (IsAnd (check_text self.now)
+        ensures { IfOk result (IsAnswer (IsAnd
+            (infix_text (codes " && ") (check_text left.now) (check_text right.now))
             (HasFormula left.now (string_bytes item.now))
             (HasFormula right.now (string_bytes item.now))) expected) }
     {
-        let left = left.find(alloc, expected, item)?;
-        let right = if left.is_some() == expected {
-            let right = right.find(alloc, expected, item)?;
-            if right.is_none() {
-                return Ok(None);
+        match (expected, left.find(alloc, expected, item)?) {
+            (true, None) => Ok(None),
+            (true, Some(first)) => {
+                let Some(second) = right.find(alloc, expected, item)? else {
+                    return Ok(None);
+                };
+                Ok(Some(joined(alloc, " && ", expected, first, second)?))
             }
-            right
-        } else {
-            // The left part decides.
-            if left.is_none() {
-                return Ok(None);
+            (false, Some(decides)) => {
+                Ok(Some(joined_by_left(alloc, " && ", expected, decides, right)?))
             }
-            None
-        };
-        let text = printed(alloc, self)?;
-        Ok(Some(over_found(alloc, text, expected, left, right)?))
+            (false, None) => {
+                let Some(decides) = right.find(alloc, expected, item)? else {
+                    return Ok(None);
+                };
+                Ok(Some(joined_by_right(alloc, " && ", expected, left, decides)?))
+            }
+        }
     }
 
     #[cycle(find)]
     #[tactic(auto, using(predicates_core::proofs::Combined::combined))]
     fn find_or(
-        &self,
         alloc: Global,
         left: &TextCheck,
         right: &TextCheck,
         expected: bool,
         item: &String,
     ) -> Result<Option<Case>, AllocError>
-        ensures { IfOk result (IsAnswer (IsOr (check_text self.now)
+        ensures { IfOk result (IsAnswer (IsOr
+            (infix_text (codes " || ") (check_text left.now) (check_text right.now))
             (HasFormula left.now (string_bytes item.now))
             (HasFormula right.now (string_bytes item.now))) expected) }
     {
-        let left = left.find(alloc, expected, item)?;
-        let right = if left.is_some() == expected {
-            // The left part decides.
-            if left.is_none() {
-                return Ok(None);
+        match (expected, left.find(alloc, expected, item)?) {
+            (false, None) => Ok(None),
+            (false, Some(first)) => {
+                let Some(second) = right.find(alloc, expected, item)? else {
+                    return Ok(None);
+                };
+                Ok(Some(joined(alloc, " || ", expected, first, second)?))
             }
-            None
-        } else {
-            let right = right.find(alloc, expected, item)?;
-            if right.is_none() {
-                return Ok(None);
+            (true, Some(decides)) => {
+                Ok(Some(joined_by_left(alloc, " || ", expected, decides, right)?))
             }
-            right
-        };
-        let text = printed(alloc, self)?;
-        Ok(Some(over_found(alloc, text, expected, left, right)?))
+            (true, None) => {
+                let Some(decides) = right.find(alloc, expected, item)? else {
+                    return Ok(None);
+                };
+                Ok(Some(joined_by_right(alloc, " || ", expected, left, decides)?))
+            }
+        }
     }
 
     #[cycle(find)]
     #[tactic(auto, using(predicates_core::proofs::Combined::combined))]
     fn find_xor(
-        &self,
         alloc: Global,
         left: &TextCheck,
         right: &TextCheck,
         expected: bool,
         item: &String,
     ) -> Result<Option<Case>, AllocError>
-        ensures { IfOk result (IsAnswer (IsXor (check_text self.now)
+        ensures { IfOk result (IsAnswer (IsXor
+            (infix_text (codes " ^ ") (check_text left.now) (check_text right.now))
             (HasFormula left.now (string_bytes item.now))
             (HasFormula right.now (string_bytes item.now))) expected) }
     {
@@ -327,10 +391,13 @@ impl TextCheck {
         if (left_holds != right_holds) != expected {
             return Ok(None);
         }
-        let left = left.find(alloc, left_holds, item)?;
-        let right = right.find(alloc, right_holds, item)?;
-        let text = printed(alloc, self)?;
-        Ok(Some(over_found(alloc, text, expected, left, right)?))
+        let Some(first) = left.find(alloc, left_holds, item)? else {
+            return Ok(None);
+        };
+        let Some(second) = right.find(alloc, right_holds, item)? else {
+            return Ok(None);
+        };
+        Ok(Some(joined(alloc, " ^ ", expected, first, second)?))
     }
 }
 

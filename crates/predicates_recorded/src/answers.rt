@@ -2,7 +2,7 @@
 use crate::outcome::{Difference, compare};
 use crate::shown::{shown_case, shown_numbers};
 use anyhow::Result;
-use predicates_vectors::{Answers, PlainFormula, first_reason};
+use predicates_generated::{Answers, PlainFormula, first_reason};
 use std::alloc::Global;
 
 /// Compares the verdict, the kept leaves and both cases with a row's cells, and the kept leaves

@@ -1,6 +1,6 @@
 //! The cells of a table's row, and what is written in them.
 use anyhow::Context;
-use predicates_vectors::unescaped;
+use predicates_generated::unescaped;
 use std::alloc::{AllocError, Global};
 
 /// The cells of a row.

@@ -5,7 +5,7 @@ use crate::shown::shown_case;
 use crate::table::Table;
 use anyhow::{Context, Result, bail};
 use predicates::iter::{OrdInPredicate, Steps, in_hash, in_iter};
-use predicates_vectors::{Answers, ask, read_numbers};
+use predicates_generated::{Answers, ask, read_numbers};
 use std::alloc::Global;
 
 /// Rows of members, an item, three verdicts, three printed lists, a case, and how many comparisons

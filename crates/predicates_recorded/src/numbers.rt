@@ -4,7 +4,7 @@ use crate::cells::cells;
 use crate::outcome::Difference;
 use crate::table::Table;
 use anyhow::{Context, Result, bail};
-use predicates_vectors::{answer_number, plain_number, read_number_words};
+use predicates_generated::{answer_number, plain_number, read_number_words};
 use std::alloc::Global;
 
 /// Rows of a predicate, a number, the verdict, the kept leaves and both cases.

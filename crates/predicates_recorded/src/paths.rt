@@ -12,7 +12,7 @@ use predicates::path::{
 };
 use predicates::reflection::{Case, Product};
 use predicates::str::{PredicateStrExt, is_empty};
-use predicates_vectors::{Answers, ask};
+use predicates_generated::{Answers, ask};
 use std::alloc::{AllocError, Global};
 
 /// Rows of a predicate, what stands at the path, the verdict, the printed text and the products of

@@ -4,7 +4,7 @@ use crate::outcome::{Difference, compare};
 use crate::shown::shown_description;
 use crate::table::Table;
 use anyhow::{Context, Result, bail};
-use predicates_vectors::{
+use predicates_generated::{
     Answers, TextWord, answer_bytes, answer_number, answer_text, read_number_words, read_text_words,
 };
 use std::alloc::{AllocError, Global};

@@ -4,7 +4,7 @@ use crate::cells::{bytes, cells, text};
 use crate::outcome::Difference;
 use crate::table::Table;
 use anyhow::{Context, Result, bail};
-use predicates_vectors::{answer_bytes, answer_text, plain_bytes, plain_text, read_text_words};
+use predicates_generated::{answer_bytes, answer_text, plain_bytes, plain_text, read_text_words};
 use std::alloc::Global;
 
 /// Rows of a predicate, a text, the verdict, the kept leaves and both cases.

@@ -8,7 +8,7 @@ use predicates::constant::always;
 use predicates::ord::eq;
 use predicates::str::count::count;
 use predicates::str::{PredicateStrExt, contains, ends_with, lines_even, starts_with, trimmed};
-use predicates_vectors::greatest_choice;
+use predicates_generated::greatest_choice;
 use std::alloc::{AllocError, Global};
 
 // The text of which a cell holds the bytes as hexadecimal digits.

@@ -1,3 +1,6 @@
+mod derives;
+mod sizes;
+
 use crate::{
     PredicateStrExt, contains, count, ends_with, is_empty, is_match, lines_even, parts,
     starts_with, trimmed,

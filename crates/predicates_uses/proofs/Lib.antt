@@ -1,3 +1,6 @@
 pub mod Sifting
+pub mod Trees
+pub mod SiftingBy
+pub mod Asked
 pub mod Applying
 pub mod Written

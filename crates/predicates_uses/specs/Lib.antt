@@ -6,3 +6,6 @@ pub mod Applied
 pub mod Json
 pub mod PolicyFault
 pub mod Plainly
+pub mod Length
+pub mod Last
+pub mod Tree

@@ -5,7 +5,7 @@ ghost use Rattle.predicates_core.specs.Leaves.{IsExactly};
 ghost use Rattle.predicates_core.proofs.Leaves.{exactly_text_fits, one_exactly};
 ghost use Rattle.predicates_uses.specs.Answer.{answer_text, answer_formula};
 
-use predicates::node::{alone, showing_item};
+use predicates::own::showing_case;
 use predicates::reflection::{Case, Child, Parameter, PredicateReflection};
 use predicates::{Predicate, Total};
 use std::alloc::{AllocError, Global};
@@ -51,18 +51,13 @@ impl Predicate<u32> for IsTheAnswer {
         Ok(*item == 42)
     }
 
-    #[tactic(auto, using(predicates_core::proofs::Leaves::leaves))]
     fn find_case(
         &self,
         alloc: Global,
         expected: bool,
         item: &u32,
     ) -> Result<Option<Case>, AllocError> {
-        if self.eval(alloc, item)? != expected {
-            return Ok(None);
-        }
-        let case = alone(alloc, self.to_string(alloc)?, expected);
-        Ok(Some(showing_item(alloc, case, item)?))
+        showing_case(alloc, self, *item == 42, expected, item)
     }
 }
 

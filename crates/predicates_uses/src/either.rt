@@ -1,14 +1,14 @@
 //! A combinator of the caller's own.
-ghost use Rattle.std.specs.Prelude.{◌≡◌, [], codes};
+ghost use Rattle.std.specs.Prelude.{◌≡◌, ◌↔◌, [], codes};
 ghost use Rattle.predicates_core.specs.Label.{plain};
-ghost use Rattle.predicates_core.specs.Formula.{Or};
+ghost use Rattle.predicates_core.specs.Formula.{Formula, Or};
 ghost use Rattle.predicates_core.specs.Parts.{two_parts};
 ghost use Rattle.predicates_core.specs.Combined.{IsOr};
 ghost use Rattle.predicates_core.proofs.Combined.{or_text_fits, one_or, has_or};
 ghost use Rattle.predicates_uses.specs.Either.{either_text, left_of, right_of};
 
-use predicates::node::{over_both, over_one};
-use predicates::reflection::{Case, Child, Parameter, PredicateReflection, describe};
+use predicates::own::{or_case, two_children};
+use predicates::reflection::{Case, Child, Parameter, PredicateReflection};
 use predicates::{Predicate, Total};
 use std::alloc::{AllocError, Global};
 use std::fmt;
@@ -52,10 +52,7 @@ impl<P: PredicateReflection, Q: PredicateReflection> PredicateReflection for Eit
     }
 
     fn children(&self, alloc: Global) -> Result<Vec<Child>, AllocError> {
-        let mut children = Vec::new(alloc);
-        children.push(describe(alloc, "left", &self.left)?)?;
-        children.push(describe(alloc, "right", &self.right)?)?;
-        Ok(children)
+        two_children(alloc, &self.left, &self.right)
     }
 }
 
@@ -80,34 +77,13 @@ impl<P: Predicate<Item>, Q: Predicate<Item>, Item> Predicate<Item> for Either<P,
         Ok(self.left.eval(alloc, item)? || self.right.eval(alloc, item)?)
     }
 
-    #[tactic(auto, using(predicates_core::proofs::Combined::combined))]
     fn find_case(
         &self,
         alloc: Global,
         expected: bool,
         item: &Item,
     ) -> Result<Option<Case>, AllocError> {
-        match self.left.find_case(alloc, expected, item)? {
-            None if !expected => Ok(None),
-            None => {
-                let Some(right) = self.right.find_case(alloc, expected, item)? else {
-                    return Ok(None);
-                };
-                let text = self.to_string(alloc)?;
-                Ok(Some(over_one(alloc, text, expected, "right", right)?))
-            }
-            Some(left) if expected => {
-                let text = self.to_string(alloc)?;
-                Ok(Some(over_one(alloc, text, expected, "left", left)?))
-            }
-            Some(left) => {
-                let Some(right) = self.right.find_case(alloc, expected, item)? else {
-                    return Ok(None);
-                };
-                let text = self.to_string(alloc)?;
-                Ok(Some(over_both(alloc, text, expected, left, right)?))
-            }
-        }
+        or_case(alloc, self, &self.left, &self.right, expected, item)
     }
 }
 
@@ -123,3 +99,27 @@ impl<P: Total<Item>, Q: Total<Item>, Item> Total<Item> for Either<P, Q> {
         (P.has_formula (left_of p) v)
         (Q.has_formula (right_of p) v) };
 }
+
+/// What `Either` means: its formulas are `Or` over a formula of each part. It may be asked where its
+/// parts may, and takes no memory where they take none.
+pub fn alternatives<P: Predicate<Item>, Q: Predicate<Item>, Item>(
+    either: &Either<P, Q>,
+    item: &Item,
+)
+    ensures formula { (f : Formula) → ⟦<Either<P, Q> as Predicate<Item>>⟧.formula either.now item.now f
+        ↔ IsOr
+        (either_text (P.output (left_of either.now)) (Q.output (right_of either.now)))
+        (P.formula (left_of either.now) item.now)
+        (Q.formula (right_of either.now) item.now)
+        f }
+    ensures lawful { ⟦<Either<P, Q> as Predicate<Item>>⟧.lawful either.now
+        ↔ P.lawful (left_of either.now) × Q.lawful (right_of either.now) }
+    ensures steady { ⟦<Either<P, Q> as Predicate<Item>>⟧.steady either.now item.now
+        ↔ P.steady (left_of either.now) item.now × Q.steady (right_of either.now) item.now }
+    ensures values { ⟦<Either<P, Q> as PredicateReflection>⟧.parameters_of either.now ≡ [] }
+    ensures parts { ⟦<Either<P, Q> as PredicateReflection>⟧.children_of either.now ≡ two_parts
+        (codes "left") (P.output (left_of either.now))
+        (P.parameters_of (left_of either.now)) (P.children_of (left_of either.now))
+        (codes "right") (Q.output (right_of either.now))
+        (Q.parameters_of (right_of either.now)) (Q.children_of (right_of either.now)) }
+{}

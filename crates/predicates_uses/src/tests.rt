@@ -1,9 +1,11 @@
 // What no clause says: that the calls answer with ample memory, and how cases print.
 mod callers;
+mod counted;
 mod guide;
 mod own;
 mod plainly;
 mod reason;
+mod tree;
 
 use predicates::prelude::*;
 use predicates::reflection::{PredicateReflection, render, render_onto};

@@ -95,6 +95,10 @@ impl<M1: Predicate<Item>, M2: Predicate<Item>, Item> Predicate<Item> for OrPredi
         expected: bool,
         item: &Item,
     ) -> Result<Option<Case>, AllocError> {
+        // So no case of a part is made in vain.
+        if self.eval(alloc, item)? != expected {
+            return Ok(None);
+        }
         let left = self.a.find_case(alloc, expected, item)?;
         let right = if left.is_some() == expected {
             // The left part decides.

@@ -9,6 +9,13 @@ use predicates_core::static_text::StaticText;
 use std::alloc::{AllocError, Global};
 use std::test::Fail;
 
+// A name of 300 bytes.
+const LONG: &str = "\
+0123456789 0123456789 0123456789 0123456789 0123456789 0123456789 012345678\
+0123456789 0123456789 0123456789 0123456789 0123456789 0123456789 012345678\
+0123456789 0123456789 0123456789 0123456789 0123456789 0123456789 012345678\
+0123456789 0123456789 0123456789 0123456789 0123456789 0123456789 012345678";
+
 // The case of the verdict, as any user of any predicate asks for it.
 fn explained<P: Predicate<Item>, Item>(
     alloc: Global,
@@ -107,5 +114,25 @@ fn copied(rt: HostRuntime) -> Result<(), Fail> {
     let held = other.name(StaticText::new("held")).not();
     assert_eq!(rt; held.eval(rt.alloc(), &1)?, false);
     assert_eq!(rt; held.children(rt.alloc())?[0].text(), "held");
+    Ok(())
+}
+
+#[test]
+fn names_of_no_bytes_and_of_300(rt: HostRuntime) -> Result<(), Fail> {
+    let alloc = rt.alloc();
+    assert_eq!(rt; LONG.len(), 300);
+    for name in ["", LONG] {
+        let named = lt(3).name(name);
+        for (item, verdict) in [(1, true), (3, false)] {
+            let lines = format!(in alloc;
+                "{name} = {verdict}\n  {name}: var < 3 = {verdict}\n    - var: {item}\n"
+            )?;
+            assert_eq!(rt; written(alloc, &named, &item)?, lines);
+        }
+        assert_eq!(rt; named.children(alloc)?[0].name(), name);
+        let asked = function(|x: &i32| *x < 3).fn_name(name);
+        let lines = format!(in alloc; "{name}(var) = false\n")?;
+        assert_eq!(rt; written(alloc, &asked, &3)?, lines);
+    }
     Ok(())
 }

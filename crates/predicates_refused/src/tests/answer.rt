@@ -1,6 +1,11 @@
 //! What a call answered, and how it reads.
+use predicates::Predicate;
+use predicates::str::RegexPredicate;
 use predicates_core::reflection::{Case, Child, Parameter, render};
+use predicates_explain::{TextCheck, Word};
+use predicates_path::Snapshot;
 use std::alloc::{AllocError, Global};
+use std::str;
 
 /// What a call answered.
 #[derive(Drop)]
@@ -10,6 +15,14 @@ pub enum Answer {
     Case(Option<Case>),
     Parameters(Vec<Parameter>),
     Children(Vec<Child>),
+    Pattern(RegexPredicate),
+    Snapshot(Snapshot),
+    Word(Option<Word>),
+    Checks(Vec<TextCheck>),
+    /// Whether each line was an item, and what was written.
+    Run(bool, Vec<u8>),
+    /// An error that stands for something else than want of memory.
+    OtherFault,
 }
 
 // A line for each child and, indented, one for each of its parts.
@@ -35,6 +48,39 @@ fn tell_parameters(alloc: Global, parameters: &[Parameter]) -> Result<String, Al
     Ok(lines)
 }
 
+// A line for each check.
+fn tell_checks(alloc: Global, checks: &[TextCheck]) -> Result<String, AllocError> {
+    let mut lines = String::new(alloc);
+    for check in checks {
+        lines.push_str(format!(in alloc; "{check}\n")?.as_str())?;
+    }
+    Ok(lines)
+}
+
+// How many bytes of content there are, or the fault.
+fn tell_snapshot(alloc: Global, snapshot: &Snapshot) -> Result<String, AllocError> {
+    let (path, plain, followed) = (snapshot.path(), snapshot.plain(), snapshot.followed());
+    let bytes = match snapshot.content() {
+        Ok(bytes) => Ok(bytes.len()),
+        Err(fault) => Err(fault),
+    };
+    format!(in alloc; "{path} {plain:?} {followed:?} {bytes:?}")
+}
+
+// Whether each line was an item, and below it what was written.
+fn tell_run(alloc: Global, all: bool, written: &[u8]) -> Result<String, AllocError> {
+    match str::from_utf8(written) {
+        Ok(written) => format!(in alloc; "{all}\n{written}"),
+        Err(_) => String::from_str(alloc, "no text was written"),
+    }
+}
+
+// Whether the pattern matches a text.
+fn tell_pattern(alloc: Global, pattern: &RegexPredicate) -> Result<String, AllocError> {
+    let found = pattern.eval(alloc, &String::from_str(alloc, "One Two")?)?;
+    format!(in alloc; "{pattern} {found}")
+}
+
 /// The answer as a text, which a row compares as a whole.
 pub fn tell(alloc: Global, answer: &Answer) -> Result<String, AllocError> {
     match answer {
@@ -44,5 +90,11 @@ pub fn tell(alloc: Global, answer: &Answer) -> Result<String, AllocError> {
         Answer::Case(Some(case)) => render(alloc, case),
         Answer::Parameters(parameters) => tell_parameters(alloc, parameters.as_slice()),
         Answer::Children(children) => tell_children(alloc, children.as_slice()),
+        Answer::Pattern(pattern) => tell_pattern(alloc, pattern),
+        Answer::Snapshot(snapshot) => tell_snapshot(alloc, snapshot),
+        Answer::Word(word) => format!(in alloc; "{word:?}"),
+        Answer::Checks(checks) => tell_checks(alloc, checks.as_slice()),
+        Answer::Run(all, written) => tell_run(alloc, *all, written.as_slice()),
+        Answer::OtherFault => String::from_str(alloc, "another fault"),
     }
 }

@@ -10,6 +10,7 @@ ghost use Rattle.predicates_text.specs.Inner.{utf8_part};
 use predicates_core::node::{alone, printed, showing, showing_text};
 use predicates_core::reflection::{Case, Child, Parameter, PredicateReflection, describe};
 use predicates_core::{Predicate, ReadsContent, Total};
+use simdutf8::compat::from_utf8;
 use std::alloc::{AllocError, Global};
 use std::fmt;
 
@@ -35,7 +36,7 @@ fn decoded(alloc: Global, bytes: &Vec<u8>) -> Result<Option<String>, AllocError>
     ensures utf8 { IfOk result (λ found. IfSome found (λ _. IsUtf8 bytes.now.items)) }
     ensures other { ¬ (IsUtf8 bytes.now.items) → IsOk result }
 {
-    match str::from_utf8(bytes.as_slice()) {
+    match from_utf8(bytes.as_slice()) {
         Ok(text) => Ok(Some(String::from_str(alloc, text)?)),
         Err(_) => Ok(None),
     }

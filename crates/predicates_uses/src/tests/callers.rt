@@ -1,6 +1,9 @@
 // The callers, with ample memory.
 use super::text;
-use crate::{PolicyFault, Unmet, case_json, is_copy, no_script, read_policy, require, sift};
+use crate::{
+    IsTheAnswer, PolicyFault, Unmet, case_json, is_copy, no_script, read_policy, require, sift,
+    sift_by,
+};
 use predicates::path::{FileType, PathFault, Snapshot};
 use predicates::prelude::*;
 use predicates::reflection::render;
@@ -36,6 +39,13 @@ fn requirements(rt: HostRuntime) -> Result<(), Fail> {
         ),
         Ok(()) => return Err("met".into()),
     }
+    match require(alloc, &IsTheAnswer, &41) {
+        Err(unmet) => assert_eq!(rt;
+            unmet.to_string(alloc)?.as_str(),
+            "var.is_the_answer() = false\n  - var: 41\n"
+        ),
+        Ok(()) => return Err("met".into()),
+    }
     assert_eq!(rt; Unmet::NoMemory.to_string(alloc)?.as_str(), "no memory");
     Ok(())
 }
@@ -51,6 +61,48 @@ fn sifts(rt: HostRuntime) -> Result<(), Fail> {
     assert_eq!(rt;
         render(alloc, &sifted.rejected[1].reason)?.as_str(),
         "(var >= 5 && var <= 10) = false\n  right: var <= 10 = false\n    - var: 11\n"
+    );
+    Ok(())
+}
+
+#[test]
+fn sifts_by_a_function(rt: HostRuntime) -> Result<(), Fail> {
+    let alloc = rt.alloc();
+    let bound = 5;
+    let big = predicate::function(move |x: &i32| *x >= bound).fn_name("big");
+    let sifted = sift_by(alloc, &big, vec![in alloc; 4, 7, 3, 5]?)?;
+    assert_eq!(rt; sifted.kept.as_slice(), [7, 5].as_slice());
+    assert_eq!(rt; sifted.rejected.len(), 2);
+    assert_eq!(rt; sifted.rejected[1].item, 3);
+    let lines = render(alloc, &sifted.rejected[1].reason)?;
+    assert_eq!(rt; lines.as_str(), "big(var) = false\n");
+    Ok(())
+}
+
+// Behind a link, and with white space before the mark.
+#[test]
+fn checks_scripts(rt: HostRuntime) -> Result<(), Fail> {
+    let alloc = rt.alloc();
+    let content = Vec::from_slice(alloc, b"#!/bin/sh\n")?;
+    let (kind, followed) = (Ok(FileType::Symlink), Ok(FileType::File));
+    let link = Snapshot::from_parts(text(alloc, "link")?, kind, followed, Ok(content));
+    assert!(rt; no_script(alloc, &link)?.is_none());
+    let case = no_script(alloc, &file(alloc, "a", b" #!")?)?.ok_or("a script")?;
+    assert_eq!(rt;
+        render(alloc, &case)?.as_str(),
+        "script = false\n  script: (var is file && var.starts_with(\"#!\")) = false\n    right: var.starts_with(\"#!\") = false\n      - var:  #!\n      - var as str:  #!\n      - var: a\n"
+    );
+    let nothing = Err(PathFault::NotFound);
+    let lost = Snapshot::from_parts(
+        text(alloc, "lost")?,
+        kind,
+        nothing,
+        Err(PathFault::NotFound),
+    );
+    let case = no_script(alloc, &lost)?.ok_or("a script")?;
+    assert_eq!(rt;
+        render(alloc, &case)?.as_str(),
+        "script = false\n  script: (var is file && var.starts_with(\"#!\")) = false\n    left: var is file = false\n      - error: not found\n"
     );
     Ok(())
 }
@@ -106,6 +158,29 @@ fn reads_policies(rt: HostRuntime) -> Result<(), Fail> {
             Err(found) => assert_eq!(rt; found, fault),
             Ok(_) => return Err("accepted".into()),
         }
+    }
+    Ok(())
+}
+
+// 301 words, of which 300 turn the verdict round; none make no check.
+#[test]
+fn reads_no_words_and_many(rt: HostRuntime) -> Result<(), Fail> {
+    let alloc = rt.alloc();
+    match read_policy(alloc, &[]) {
+        Err(found) => assert_eq!(rt; found, PolicyFault::NotOne),
+        Ok(_) => return Err("accepted".into()),
+    }
+    let mut tokens = words(alloc, ["empty"].as_slice())?;
+    for _ in 0..300u32 {
+        tokens.push(text(alloc, "not")?)?;
+    }
+    let Ok(policy) = read_policy(alloc, tokens.as_slice()) else {
+        return Err("refused".into());
+    };
+    assert!(rt; require(alloc, &policy, &text(alloc, "")?).is_ok());
+    match require(alloc, &policy, &text(alloc, "a")?) {
+        Err(Unmet::Fails(lines)) => assert!(rt; lines.as_str().ends_with("  - var: a\n")),
+        _ => return Err("another answer".into()),
     }
     Ok(())
 }

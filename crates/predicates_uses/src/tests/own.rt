@@ -1,9 +1,31 @@
-use super::case_of;
-use crate::{Either, IsTheAnswer};
+use super::{case_of, explain_onto, text};
+use crate::{Either, FortyTwo, IsTheAnswer, LastFirst, OfLength, is_known};
 use predicates::default_find_case;
+use predicates::own::leaf;
 use predicates::prelude::*;
 use predicates::reflection::{PredicateReflection, render};
+use std::alloc::{AllocError, Global};
 use std::test::Fail;
+
+// Writes the text, the children, and the case of the verdict on 42 and on 41.
+fn tell_onto<P: Predicate<u32>>(
+    alloc: Global,
+    out: &mut String,
+    predicate: &P,
+) -> Result<(), AllocError>
+    requires { P.lawful predicate.now }
+{
+    out.push_str(predicate.to_string(alloc)?.as_str())?;
+    for child in predicate.children(alloc)? {
+        out.push_str("; ")?;
+        out.push_str(child.name())?;
+        out.push_str(": ")?;
+        out.push_str(child.text())?;
+    }
+    out.push_str("\n")?;
+    explain_onto(alloc, out, predicate, &42)?;
+    explain_onto(alloc, out, predicate, &41)
+}
 
 #[test]
 fn a_leaf_of_the_callers_own(rt: HostRuntime) -> Result<(), Fail> {
@@ -37,14 +59,90 @@ fn a_combinator_of_the_callers_own(rt: HostRuntime) -> Result<(), Fail> {
         case_of(alloc, &either, false, &40)?.as_str(),
         "either(var.is_the_answer(), var in values) = false\n  left: var.is_the_answer() = false\n    - var: 40\n  right: var in values = false\n    - var: 40\n"
     );
-    let children = either.children(alloc)?;
-    assert_eq!(rt; children.len(), 2);
-    assert_eq!(rt; children[1].name(), "right");
     assert_eq!(rt; either.parameters(alloc)?.len(), 0);
     let under = either.not().name("answer");
     assert_eq!(rt;
         case_of(alloc, &under, false, &42)?.as_str(),
         "answer = false\n  answer: (! either(var.is_the_answer(), var in values)) = false\n    predicate: either(var.is_the_answer(), var in values) = true\n      left: var.is_the_answer() = true\n        - var: 42\n"
+    );
+    Ok(())
+}
+
+#[test]
+fn under_not_and_under_a_name(rt: HostRuntime) -> Result<(), Fail> {
+    let alloc = rt.alloc();
+    let mut out = String::new(alloc);
+    tell_onto(alloc, &mut out, &IsTheAnswer.not())?;
+    tell_onto(alloc, &mut out, &IsTheAnswer.name("answer"))?;
+    let either = Either::new(IsTheAnswer, predicate::lt(10));
+    tell_onto(alloc, &mut out, &either.not())?;
+    tell_onto(alloc, &mut out, &either.name("answer"))?;
+    assert_eq!(rt;
+        out.as_str(),
+        "(! var.is_the_answer()); predicate: var.is_the_answer()\n(! var.is_the_answer()) = false\n  predicate: var.is_the_answer() = true\n    - var: 42\n(! var.is_the_answer()) = true\n  predicate: var.is_the_answer() = false\n    - var: 41\nanswer; answer: var.is_the_answer()\nanswer = true\n  answer: var.is_the_answer() = true\n    - var: 42\nanswer = false\n  answer: var.is_the_answer() = false\n    - var: 41\n(! either(var.is_the_answer(), var < 10)); predicate: either(var.is_the_answer(), var < 10)\n(! either(var.is_the_answer(), var < 10)) = false\n  predicate: either(var.is_the_answer(), var < 10) = true\n    left: var.is_the_answer() = true\n      - var: 42\n(! either(var.is_the_answer(), var < 10)) = true\n  predicate: either(var.is_the_answer(), var < 10) = false\n    left: var.is_the_answer() = false\n      - var: 41\n    right: var < 10 = false\n      - var: 41\nanswer; answer: either(var.is_the_answer(), var < 10)\nanswer = true\n  answer: either(var.is_the_answer(), var < 10) = true\n    left: var.is_the_answer() = true\n      - var: 42\nanswer = false\n  answer: either(var.is_the_answer(), var < 10) = false\n    left: var.is_the_answer() = false\n      - var: 41\n    right: var < 10 = false\n      - var: 41\n"
+    );
+    Ok(())
+}
+
+#[test]
+fn a_leaf_made_of_a_test(rt: HostRuntime) -> Result<(), Fail> {
+    let alloc = rt.alloc();
+    let mut out = String::new(alloc);
+    tell_onto(alloc, &mut out, &leaf(FortyTwo))?;
+    tell_onto(
+        alloc,
+        &mut out,
+        &leaf(FortyTwo).or(predicate::gt(41)).name("answer"),
+    )?;
+    assert_eq!(rt;
+        out.as_str(),
+        "var.is_the_answer()\nvar.is_the_answer() = true\n  - var: 42\nvar.is_the_answer() = false\n  - var: 41\nanswer; answer: (var.is_the_answer() || var > 41)\nanswer = true\n  answer: (var.is_the_answer() || var > 41) = true\n    left: var.is_the_answer() = true\n      - var: 42\nanswer = false\n  answer: (var.is_the_answer() || var > 41) = false\n    left: var.is_the_answer() = false\n      - var: 41\n    right: var > 41 = false\n      - var: 41\n"
+    );
+    assert_eq!(rt; leaf(FortyTwo).parameters(alloc)?.len(), 0);
+    Ok(())
+}
+
+// The parts are asked in the other order, and are shown as ever.
+#[test]
+fn a_combinator_that_asks_its_right_part_first(rt: HostRuntime) -> Result<(), Fail> {
+    let alloc = rt.alloc();
+    let mut out = String::new(alloc);
+    tell_onto(
+        alloc,
+        &mut out,
+        &LastFirst::new(IsTheAnswer, predicate::gt(41)),
+    )?;
+    tell_onto(
+        alloc,
+        &mut out,
+        &LastFirst::new(IsTheAnswer, predicate::lt(42)),
+    )?;
+    assert_eq!(rt;
+        out.as_str(),
+        "either(var.is_the_answer(), var > 41); left: var.is_the_answer(); right: var > 41\neither(var.is_the_answer(), var > 41) = true\n  left: var.is_the_answer() = true\n    - var: 42\neither(var.is_the_answer(), var > 41) = false\n  left: var.is_the_answer() = false\n    - var: 41\n  right: var > 41 = false\n    - var: 41\neither(var.is_the_answer(), var < 42); left: var.is_the_answer(); right: var < 42\neither(var.is_the_answer(), var < 42) = true\n  left: var.is_the_answer() = true\n    - var: 42\neither(var.is_the_answer(), var < 42) = true\n  right: var < 42 = true\n    - var: 41\n"
+    );
+    assert!(rt; is_known(alloc, &9)?);
+    Ok(())
+}
+
+#[test]
+fn an_adapter_of_the_callers_own(rt: HostRuntime) -> Result<(), Fail> {
+    let alloc = rt.alloc();
+    let short = OfLength::new(predicate::le(3)).not();
+    assert_eq!(rt;
+        case_of(alloc, &short, true, &text(alloc, "äbc")?)?.as_str(),
+        "(! var <= 3) = true\n  predicate: var <= 3 = false\n    - var: 4\n"
+    );
+    assert_eq!(rt; short.eval(alloc, &text(alloc, "abc")?)?, false);
+    assert_eq!(rt;
+        OfLength::new(predicate::always::<usize>())
+            .parameters(alloc)?
+            .len(),
+        1
+    );
+    assert_eq!(rt;
+        OfLength::new(IsTheAnswer.name("n")).children(alloc)?.len(),
+        1
     );
     Ok(())
 }

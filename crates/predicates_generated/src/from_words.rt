@@ -1,0 +1,124 @@
+//! Predicates that are read from the end of a list of postfix words.
+ghost use Rattle.predicates_generated.specs.Level.{all_parts};
+
+use crate::answers::{Answers, ask};
+use crate::level::Level;
+use crate::printed::print;
+use predicates_core::Predicate;
+use predicates_core::static_text::StaticText;
+use std::alloc::{AllocError, Global};
+
+/// What takes the predicates before it.
+#[derive(Drop)]
+pub enum Combinator {
+    Not,
+    Named(StaticText),
+    And,
+    Or,
+    Xor,
+}
+
+/// A word that may name a combinator.
+pub trait Word: Drop {
+    /// The combinator that the word names, if it names one.
+    fn combinator(&self) -> Option<Combinator>;
+}
+
+/// A predicate that is read from the end of a list of words; none where the words are not one, or
+/// where it is too deep.
+pub trait FromWords<W, Item>: Predicate<Item> + Drop + Sized {
+    fn from_words(alloc: Global, words: &mut Vec<W>) -> Result<Option<Self>, AllocError>;
+
+    ghost always_lawful: { (p : Self) → Self.lawful p };
+}
+
+// Takes the last word if it names a combinator.
+fn pop_combinator<W: Word>(words: &mut Vec<W>) -> Option<Combinator> {
+    let found = words.last()?.combinator()?;
+    words.pop();
+    Some(found)
+}
+
+// Two predicates from the end of a list of words, the left one and the right one.
+fn two_from_words<P: FromWords<W, Item>, W: Word, Item>(
+    alloc: Global,
+    words: &mut Vec<W>,
+) -> Result<Option<(P, P)>, AllocError> {
+    let Some(right) = P::from_words(alloc, words)? else {
+        return Ok(None);
+    };
+    let Some(left) = P::from_words(alloc, words)? else {
+        return Ok(None);
+    };
+    Ok(Some((left, right)))
+}
+
+impl<P: FromWords<W, Item>, W: Word, Item> FromWords<W, Item> for Level<P, Item> {
+    ghost always_lawful = { λ p. all_parts P.always_lawful p.node };
+
+    fn from_words(alloc: Global, words: &mut Vec<W>) -> Result<Option<Level<P, Item>>, AllocError> {
+        Ok(match pop_combinator(words) {
+            Some(Combinator::Not) => match P::from_words(alloc, words)? {
+                Some(part) => Some(Level::not(alloc, part)?),
+                None => None,
+            },
+            Some(Combinator::Named(name)) => match P::from_words(alloc, words)? {
+                Some(part) => Some(Level::named(alloc, part, name)?),
+                None => None,
+            },
+            Some(Combinator::And) => match two_from_words::<P, W, Item>(alloc, words)? {
+                Some((left, right)) => Some(Level::and(alloc, left, right)?),
+                None => None,
+            },
+            Some(Combinator::Or) => match two_from_words::<P, W, Item>(alloc, words)? {
+                Some((left, right)) => Some(Level::or(alloc, left, right)?),
+                None => None,
+            },
+            Some(Combinator::Xor) => match two_from_words::<P, W, Item>(alloc, words)? {
+                Some((left, right)) => Some(Level::xor(alloc, left, right)?),
+                None => None,
+            },
+            None => match P::from_words(alloc, words)? {
+                Some(part) => Some(Level::below(part)),
+                None => None,
+            },
+        })
+    }
+}
+
+// The predicate of the words; none where the words are not one predicate.
+fn whole<P: FromWords<W, Item>, W: Drop, Item>(
+    alloc: Global,
+    mut words: Vec<W>,
+) -> Result<Option<P>, AllocError> {
+    let predicate = P::from_words(alloc, &mut words)?;
+    Ok(if words.is_empty() { predicate } else { None })
+}
+
+/// What the predicate of the words answers; none where the words are not one predicate.
+pub fn answer<P: FromWords<W, Item>, W: Drop, Item>(
+    alloc: Global,
+    words: Vec<W>,
+    item: &Item,
+) -> Result<Option<Answers>, AllocError> {
+    match whole::<P, W, Item>(alloc, words)? {
+        Some(predicate) => Ok(Some(ask(alloc, &predicate, item)?)),
+        None => Ok(None),
+    }
+}
+
+/// Writes what `print` does of the predicate of the words; a line where the words are not one.
+pub fn print_words<P: FromWords<W, Item>, W: Drop, Item>(
+    alloc: Global,
+    out: &mut String,
+    words: Option<Vec<W>>,
+) -> Result<(), AllocError> {
+    let predicate = match words {
+        Some(words) => whole::<P, W, Item>(alloc, words)?,
+        None => None,
+    };
+    match predicate {
+        Some(predicate) => print(alloc, out, predicate),
+        None => Ok(out.push_str("no predicate\n")?),
+    }
+}

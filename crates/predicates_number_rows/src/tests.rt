@@ -1,0 +1,12 @@
+mod and_or;
+mod cases;
+mod counted;
+mod counting_member;
+mod generated;
+mod kept_leaves;
+mod large;
+mod memberships;
+mod nested;
+mod printed;
+mod verdicts;
+mod worked_rows;

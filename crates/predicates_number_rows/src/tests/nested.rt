@@ -1,0 +1,151 @@
+//! Names and functions under further combinators.
+use predicates::boolean::PredicateBooleanExt;
+use predicates::constant::never;
+use predicates::function::function;
+use predicates::name::PredicateNameExt;
+use predicates::ord::{ge, lt};
+use predicates::str::is_empty;
+use predicates_generated::{describe, tell, text};
+use std::test::Fail;
+
+#[test]
+fn two_names_under_combinators(rt: HostRuntime) -> Result<(), Fail> {
+    let alloc = rt.alloc();
+    let mut out = String::new(alloc);
+    let neither = ge(5).name("x").or(lt(3).name("y")).not();
+    tell(alloc, &mut out, &neither, &4)?;
+    tell(alloc, &mut out, &neither, &1)?;
+    describe(alloc, &mut out, &neither)?;
+    assert_eq!(rt;
+        out.as_str(),
+        "\
+(! (x || y)) = true
+  predicate: (x || y) = false
+    left: x = false
+      x: var >= 5 = false
+        - var: 4
+    right: y = false
+      y: var < 3 = false
+        - var: 4
+(! (x || y)) = false
+  predicate: (x || y) = true
+    right: y = true
+      y: var < 3 = true
+        - var: 1
+(! (x || y))
+  predicate: (x || y)
+    left: x
+    right: y
+"
+    );
+    Ok(())
+}
+
+#[test]
+fn three_names_beside_a_function(rt: HostRuntime) -> Result<(), Fail> {
+    let alloc = rt.alloc();
+    let mut out = String::new(alloc);
+    let neither = ge(5).name("x").or(lt(3).name("y")).not();
+    let both = neither
+        .name("z")
+        .and(function(|n: &i64| *n >= 4).fn_name("g"));
+    tell(alloc, &mut out, &both, &4)?;
+    tell(alloc, &mut out, &both, &3)?;
+    tell(alloc, &mut out, &both, &1)?;
+    describe(alloc, &mut out, &both)?;
+    assert_eq!(rt;
+        out.as_str(),
+        "\
+(z && g(var)) = true
+  left: z = true
+    z: (! (x || y)) = true
+      predicate: (x || y) = false
+        left: x = false
+          x: var >= 5 = false
+            - var: 4
+        right: y = false
+          y: var < 3 = false
+            - var: 4
+  right: g(var) = true
+(z && g(var)) = false
+  right: g(var) = false
+(z && g(var)) = false
+  left: z = false
+    z: (! (x || y)) = false
+      predicate: (x || y) = true
+        right: y = true
+          y: var < 3 = true
+            - var: 1
+(z && g(var))
+  left: z
+    z: (! (x || y))
+  right: g(var)
+"
+    );
+    Ok(())
+}
+
+#[test]
+fn three_functions_under_combinators(rt: HostRuntime) -> Result<(), Fail> {
+    let alloc = rt.alloc();
+    let mut out = String::new(alloc);
+    let either = function(|n: &i64| *n >= 5)
+        .fn_name("f")
+        .and(function(|n: &i64| *n <= 10).fn_name("g"))
+        .or(function(|n: &i64| *n == 1).fn_name("h"));
+    tell(alloc, &mut out, &either, &7)?;
+    tell(alloc, &mut out, &either, &1)?;
+    tell(alloc, &mut out, &either, &4)?;
+    tell(alloc, &mut out, &either, &11)?;
+    describe(alloc, &mut out, &either)?;
+    assert_eq!(rt;
+        out.as_str(),
+        "\
+((f(var) && g(var)) || h(var)) = true
+  left: (f(var) && g(var)) = true
+    left: f(var) = true
+    right: g(var) = true
+((f(var) && g(var)) || h(var)) = true
+  right: h(var) = true
+((f(var) && g(var)) || h(var)) = false
+  left: (f(var) && g(var)) = false
+    left: f(var) = false
+  right: h(var) = false
+((f(var) && g(var)) || h(var)) = false
+  left: (f(var) && g(var)) = false
+    right: g(var) = false
+  right: h(var) = false
+((f(var) && g(var)) || h(var))
+  left: (f(var) && g(var))
+    left: f(var)
+    right: g(var)
+  right: h(var)
+"
+    );
+    Ok(())
+}
+
+#[test]
+fn a_name_over_not_and_a_name_of_no_characters(rt: HostRuntime) -> Result<(), Fail> {
+    let alloc = rt.alloc();
+    let mut out = String::new(alloc);
+    let some = is_empty().not().name("non-empty");
+    tell(alloc, &mut out, &some, &text(alloc, "")?)?;
+    describe(alloc, &mut out, &some)?;
+    tell(alloc, &mut out, &never().name(""), &1)?;
+    assert_eq!(rt;
+        out.as_str(),
+        "\
+non-empty = false
+  non-empty: (! var.is_empty()) = false
+    predicate: var.is_empty() = true
+      - var: \n\
+non-empty
+  non-empty: (! var.is_empty())
+    predicate: var.is_empty()
+\u{20}= false
+  : false = false
+"
+    );
+    Ok(())
+}

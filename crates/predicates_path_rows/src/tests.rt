@@ -1,0 +1,6 @@
+mod contents;
+mod flags;
+mod long_contents;
+mod paths;
+mod prelude;
+mod snapshots;

@@ -1,0 +1,174 @@
+//! What takes memory to make a predicate, a case, a view of a text, or a snapshot.
+use super::answer::Answer;
+use super::sweep::Memory::{GoesOn, Taken};
+use super::sweep::{Call, sweep};
+use super::text;
+use predicates::boolean::{NotPredicate, PredicateBooleanExt};
+use predicates::iter::{InPredicate, in_hash, in_iter};
+use predicates::{BoxPredicate, Predicate};
+use predicates_path::Snapshot;
+use predicates_text::{IsEmptyPredicate, is_empty, is_match};
+use std::alloc::{AllocError, Global};
+use std::fs::Files;
+use std::test::Fail;
+
+// More members than are sorted in place.
+const MEMBERS: [i64; 24] = [
+    7, 14, 21, 5, 12, 19, 3, 10, 17, 1, 8, 15, 22, 6, 13, 20, 4, 11, 18, 2, 9, 16, 23, 0,
+];
+
+#[derive(Clone, Copy)]
+struct Listed;
+
+impl Call for Listed {
+    type Operand = ();
+
+    fn operand(&self, _alloc: Global) -> Result<(), AllocError> {
+        Ok(())
+    }
+
+    fn call(&self, alloc: Global, _operand: ()) -> Result<Answer, AllocError> {
+        let list = in_iter(alloc, MEMBERS)?;
+        Ok(Answer::Verdict(list.eval(alloc, &23)?))
+    }
+}
+
+#[derive(Clone, Copy)]
+struct Hashed;
+
+impl Call for Hashed {
+    type Operand = ();
+
+    fn operand(&self, _alloc: Global) -> Result<(), AllocError> {
+        Ok(())
+    }
+
+    fn call(&self, alloc: Global, _operand: ()) -> Result<Answer, AllocError> {
+        let set = in_hash(alloc, MEMBERS)?;
+        Ok(Answer::Verdict(set.eval(alloc, &24)?))
+    }
+}
+
+#[derive(Clone, Copy)]
+struct Sorted;
+
+impl Call for Sorted {
+    type Operand = InPredicate<i64>;
+
+    fn operand(&self, alloc: Global) -> Result<InPredicate<i64>, AllocError> {
+        in_iter(alloc, MEMBERS)
+    }
+
+    fn call(&self, alloc: Global, list: InPredicate<i64>) -> Result<Answer, AllocError> {
+        let sorted = list.sort()?;
+        Ok(Answer::Verdict(sorted.eval(alloc, &23)?))
+    }
+}
+
+#[test]
+fn memberships(rt: HostRuntime) -> Result<(), Fail> {
+    sweep(&rt, "in_iter", &Listed, "true", GoesOn)?;
+    sweep(&rt, "in_hash", &Hashed, "false", GoesOn)?;
+    sweep(&rt, "sort", &Sorted, "true", Taken)
+}
+
+#[derive(Drop)]
+struct Pattern<'a> {
+    pattern: &'a str,
+}
+
+impl Call for Pattern<'_> {
+    type Operand = String;
+
+    fn operand(&self, alloc: Global) -> Result<String, AllocError> {
+        text(alloc, self.pattern)
+    }
+
+    fn call(&self, alloc: Global, pattern: String) -> Result<Answer, AllocError> {
+        match is_match(alloc, pattern) {
+            Ok(found) => Ok(Answer::Pattern(found)),
+            Err(_) => Err(AllocError),
+        }
+    }
+}
+
+#[test]
+fn patterns(rt: HostRuntime) -> Result<(), Fail> {
+    let pattern = Pattern { pattern: "T[a-z]*" };
+    let told = "var.is_match(T[a-z]*) true";
+    sweep(&rt, "is_match", &pattern, told, GoesOn)?;
+    let pattern = Pattern { pattern: "" };
+    sweep(
+        &rt,
+        "is_match of nothing",
+        &pattern,
+        "var.is_match() true",
+        GoesOn,
+    )
+}
+
+#[derive(Drop)]
+struct Boxed<'a> {
+    item: &'a String,
+}
+
+impl Call for Boxed<'_> {
+    type Operand = Box<NotPredicate<IsEmptyPredicate, String>>;
+
+    fn operand(&self, alloc: Global) -> Result<Self::Operand, AllocError> {
+        Ok(Box::new(alloc, is_empty().not())?)
+    }
+
+    fn call(&self, alloc: Global, held: Self::Operand) -> Result<Answer, AllocError> {
+        let boxed = BoxPredicate::new(alloc, held)?;
+        Ok(Answer::Verdict(boxed.eval(alloc, self.item)?))
+    }
+}
+
+#[derive(Drop)]
+struct Taking<'a, R> {
+    rt: &'a R,
+    path: &'a str,
+}
+
+impl<R: Files + AllocGlobal> Call for Taking<'_, R> {
+    type Operand = ();
+
+    fn operand(&self, _alloc: Global) -> Result<(), AllocError> {
+        Ok(())
+    }
+
+    fn call(&self, _alloc: Global, _operand: ()) -> Result<Answer, AllocError> {
+        Ok(Answer::Snapshot(Snapshot::take(self.rt, self.path)?))
+    }
+}
+
+#[test]
+fn boxes_and_snapshots(rt: HostRuntime) -> Result<(), Fail> {
+    let item = text(rt.alloc(), "a")?;
+    sweep(
+        &rt,
+        "BoxPredicate::new",
+        &Boxed { item: &item },
+        "true",
+        Taken,
+    )?;
+    let folder = Taking {
+        rt: &rt,
+        path: "/proc/self",
+    };
+    let told = "/proc/self Ok(Symlink) Ok(Dir) Err(NotRegular)";
+    sweep(&rt, "Snapshot::take of a link", &folder, told, Taken)?;
+    let nothing = Taking {
+        rt: &rt,
+        path: "/proc/no such file",
+    };
+    let told = "/proc/no such file Err(NotFound) Err(NotFound) Err(NotFound)";
+    sweep(&rt, "Snapshot::take of nothing", &nothing, told, Taken)?;
+    let file = Taking {
+        rt: &rt,
+        path: "/proc/sys/kernel/ostype",
+    };
+    let told = "/proc/sys/kernel/ostype Ok(File) Ok(File) Ok(6)";
+    sweep(&rt, "Snapshot::take of a file", &file, told, Taken)
+}

@@ -1,0 +1,116 @@
+//! What reads and asks without memory.
+use super::paths::file;
+use super::sweep::Without;
+use super::text;
+use predicates::boolean::PredicateBooleanExt;
+use predicates::constant::always;
+use predicates::iter::{Steps, in_iter};
+use predicates::ord::{ge, le, lt};
+use predicates_core::reflection::{Case, CaseChild, Child, Parameter, Product};
+use predicates_core::{Predicate, default_find_case};
+use predicates_explain::number;
+use predicates_path::{FileType, PathFault};
+use std::test::Fail;
+
+#[test]
+fn verdicts(rt: HostRuntime) -> Result<(), Fail> {
+    let alloc = rt.alloc();
+    let between = ge(5i64).and(le(10));
+    for (item, verdict) in [(7i64, true), (11, false), (4, false)] {
+        let name = format!(in alloc; "eval of ge(5).and(le(10)) on {item}")?;
+        let begun = Without::begin(alloc, name.as_str());
+        let right = between.eval(alloc, &item) == Ok(verdict);
+        begun.end(&rt, right)?;
+    }
+    let begun = Without::begin(alloc, "default_find_case for the opposite truth");
+    let right = match default_find_case(alloc, &lt(5i64), true, &9) {
+        Ok(None) => true,
+        _ => false,
+    };
+    begun.end(&rt, right)
+}
+
+#[test]
+fn searches(rt: HostRuntime) -> Result<(), Fail> {
+    let alloc = rt.alloc();
+    let begun = Without::begin(alloc, "Steps");
+    let mut steps = Steps::new();
+    let right = steps.count() == 0;
+    begun.end(&rt, right)?;
+    let sorted = in_iter(alloc, [3i64, 1, 5])?.sort()?;
+    let begun = Without::begin(alloc, "search_counted");
+    let found = sorted.search_counted(&3, &mut steps) && !sorted.search_counted(&2, &mut steps);
+    let right = found && steps.count() == 2;
+    begun.end(&rt, right)?;
+    let begun = Without::begin(alloc, "number");
+    let right = number(b"-7") == Some(-7) && number(b"7 ") == None;
+    begun.end(&rt, right)
+}
+
+#[test]
+fn parts_of_reflection(rt: HostRuntime) -> Result<(), Fail> {
+    let alloc = rt.alloc();
+    let value = text(alloc, "7")?;
+    let begun = Without::begin(alloc, "Product and its readers");
+    let product = Product::new("var", value);
+    let right = product.name() == "var" && product.value() == "7";
+    begun.end(&rt, right)?;
+    let value = text(alloc, "2")?;
+    let begun = Without::begin(alloc, "Parameter and its readers");
+    let parameter = Parameter::new("count", value);
+    let right = parameter.name() == "count" && parameter.value() == "2";
+    begun.end(&rt, right)?;
+    let (printed, mut parameters) = (text(alloc, "p")?, Vec::new(alloc));
+    parameters.push(parameter)?;
+    let begun = Without::begin(alloc, "Child and its readers");
+    let child = Child::new("left", printed, parameters, Vec::new(alloc));
+    let counts = child.parameters().len() == 1 && child.children().is_empty();
+    let right = counts && child.name() == "left" && child.text() == "p";
+    begun.end(&rt, right)
+}
+
+#[test]
+fn parts_of_snapshots(rt: HostRuntime) -> Result<(), Fail> {
+    let alloc = rt.alloc();
+    let link = file(alloc, FileType::Symlink, Err(PathFault::NotFound))?;
+    let begun = Without::begin(alloc, "the readers of Snapshot");
+    let kinds = link.plain() == Ok(FileType::Symlink) && link.followed() == Ok(FileType::File);
+    let right = kinds && link.path() == "p" && link.content() == Err(PathFault::NotFound);
+    begun.end(&rt, right)
+}
+
+#[test]
+fn new_cases(rt: HostRuntime) -> Result<(), Fail> {
+    let alloc = rt.alloc();
+    let label = text(alloc, "a")?;
+    let begun = Without::begin(alloc, "Case::new");
+    let case = Case::new(alloc, Some(label), true);
+    let root = case.root();
+    let right = root.predicate() == Some("a") && root.result() && root.products().is_empty();
+    begun.end(&rt, right)
+}
+
+#[test]
+fn views_of_cases(rt: HostRuntime) -> Result<(), Fail> {
+    let alloc = rt.alloc();
+    let nested = always().and(always()).or(always());
+    let found = nested.find_case(alloc, true, &4i64)?;
+    let case = found.ok_or("it holds")?;
+    let begun = Without::begin(alloc, "all views of a case");
+    let root = case.root();
+    let mut right = root.predicate() == Some("((true && true) || true)")
+        && root.result()
+        && root.products().is_empty();
+    let mut names = 0usize;
+    for CaseChild { name, case: both } in root.children() {
+        right = right && name == "left" && both.predicate() == Some("(true && true)");
+        for CaseChild { name, case: leaf } in both.children() {
+            right = right && leaf.predicate() == Some("true") && leaf.result();
+            right = right && leaf.products().is_empty() && leaf.children().count() == 0;
+            names = names.saturating_add(name.len());
+        }
+    }
+    // Once `left` and once `right`.
+    right = right && root.children().count() == 1 && names == 9;
+    begun.end(&rt, right)
+}

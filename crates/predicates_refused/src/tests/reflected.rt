@@ -1,0 +1,171 @@
+//! Cases, descriptions and their lines, and views of texts.
+use super::answer::Answer;
+use super::sweep::Memory::{Never, Taken};
+use super::sweep::{Call, sweep};
+use super::text;
+use predicates::boolean::PredicateBooleanExt;
+use predicates_core::reflection::{Case, Product, describe, render, render_onto};
+use predicates_text::{is_empty, lines_even, trimmed};
+use std::alloc::{AllocError, Global};
+use std::test::Fail;
+
+// A case without children, with a product.
+fn leaf(alloc: Global, label: &str) -> Result<Case, AllocError> {
+    let case = Case::new(alloc, Some(text(alloc, label)?), true);
+    case.add_product(Product::new("var", text(alloc, "7")?))
+}
+
+#[derive(Clone, Copy)]
+struct AddProduct;
+
+impl Call for AddProduct {
+    type Operand = (Case, Product);
+
+    fn operand(&self, alloc: Global) -> Result<(Case, Product), AllocError> {
+        let case = Case::new(alloc, None, false);
+        Ok((case, Product::new("var", text(alloc, "7")?)))
+    }
+
+    fn call(&self, _alloc: Global, operand: (Case, Product)) -> Result<Answer, AllocError> {
+        let (case, product) = operand;
+        Ok(Answer::Case(Some(case.add_product(product)?)))
+    }
+}
+
+// A first child without children of its own, or a second one.
+#[derive(Clone, Copy)]
+struct AddChild {
+    second: bool,
+}
+
+impl Call for AddChild {
+    type Operand = (Case, Case);
+
+    fn operand(&self, alloc: Global) -> Result<(Case, Case), AllocError> {
+        let case = leaf(alloc, "a")?;
+        if self.second {
+            return Ok((
+                case.add_child("left", leaf(alloc, "b")?)?,
+                leaf(alloc, "c")?,
+            ));
+        }
+        Ok((case, leaf(alloc, "c")?))
+    }
+
+    fn call(&self, _alloc: Global, operand: (Case, Case)) -> Result<Answer, AllocError> {
+        let (case, child) = operand;
+        Ok(Answer::Case(Some(case.add_child("right", child)?)))
+    }
+}
+
+#[test]
+fn cases(rt: HostRuntime) -> Result<(), Fail> {
+    let told = "predicate = false\n  - var: 7\n";
+    sweep(&rt, "add_product", &AddProduct, told, Taken)?;
+    let told = "a = true\n  - var: 7\n  right: c = true\n    - var: 7\n";
+    sweep(&rt, "add_child", &AddChild { second: false }, told, Taken)?;
+    let told =
+        "a = true\n  - var: 7\n  left: b = true\n    - var: 7\n  right: c = true\n    - var: 7\n";
+    sweep(
+        &rt,
+        "add_child beside another",
+        &AddChild { second: true },
+        told,
+        Taken,
+    )
+}
+
+// The lines of a case alone, or after what a text holds.
+#[derive(Clone, Copy)]
+struct Rendering {
+    onto: bool,
+}
+
+impl Call for Rendering {
+    type Operand = (String, Case);
+
+    fn operand(&self, alloc: Global) -> Result<(String, Case), AllocError> {
+        let case = leaf(alloc, "a")?.add_child("left", leaf(alloc, "b")?)?;
+        Ok((text(alloc, "")?, case))
+    }
+
+    fn call(&self, alloc: Global, operand: (String, Case)) -> Result<Answer, AllocError> {
+        let (mut lines, case) = operand;
+        if self.onto {
+            render_onto(alloc, &mut lines, &case)?;
+            return Ok(Answer::Text(lines));
+        }
+        Ok(Answer::Text(render(alloc, &case)?))
+    }
+}
+
+#[test]
+fn lines(rt: HostRuntime) -> Result<(), Fail> {
+    let told = "a = true\n  - var: 7\n  left: b = true\n    - var: 7\n";
+    sweep(&rt, "render", &Rendering { onto: false }, told, Taken)?;
+    sweep(&rt, "render_onto", &Rendering { onto: true }, told, Taken)
+}
+
+#[derive(Clone, Copy)]
+struct Describing;
+
+impl Call for Describing {
+    type Operand = ();
+
+    fn operand(&self, _alloc: Global) -> Result<(), AllocError> {
+        Ok(())
+    }
+
+    fn call(&self, alloc: Global, _operand: ()) -> Result<Answer, AllocError> {
+        let described = describe(alloc, "part", &is_empty().not())?;
+        let mut children = Vec::new(alloc);
+        children.push(described)?;
+        Ok(Answer::Children(children))
+    }
+}
+
+#[derive(Drop)]
+struct View<'a> {
+    item: &'a str,
+    trims: bool,
+}
+
+impl Call for View<'_> {
+    type Operand = ();
+
+    fn operand(&self, _alloc: Global) -> Result<(), AllocError> {
+        Ok(())
+    }
+
+    fn call(&self, alloc: Global, _operand: ()) -> Result<Answer, AllocError> {
+        if self.trims {
+            return Ok(Answer::Text(trimmed(alloc, self.item)?));
+        }
+        Ok(Answer::Text(lines_even(alloc, self.item)?))
+    }
+}
+
+#[test]
+fn descriptions(rt: HostRuntime) -> Result<(), Fail> {
+    let told = "part: (! var.is_empty())\n  predicate: var.is_empty()\n";
+    sweep(&rt, "describe", &Describing, told, Taken)
+}
+
+#[test]
+fn views(rt: HostRuntime) -> Result<(), Fail> {
+    let words = View {
+        item: " a b ",
+        trims: true,
+    };
+    sweep(&rt, "trimmed", &words, "a b", Taken)?;
+    let blanks = View {
+        item: "  ",
+        trims: true,
+    };
+    sweep(&rt, "trimmed of blanks", &blanks, "", Never)?;
+    let lines = View {
+        item: "a\r\nb\r",
+        trims: false,
+    };
+    sweep(&rt, "lines_even", &lines, "a\nb\n", Taken)
+}

@@ -1,0 +1,130 @@
+//! Words of a check of texts.
+use super::answer::Answer;
+use super::checks::stacked;
+use super::sweep::Memory::{GoesOn, Never, Taken};
+use super::sweep::{Call, sweep};
+use predicates_explain::{TextCheck, Word, WordFault, apply_word, read_word};
+use std::alloc::{AllocError, Global};
+use std::test::Fail;
+
+#[derive(Drop)]
+struct Reading<'a> {
+    token: &'a str,
+}
+
+impl Call for Reading<'_> {
+    type Operand = ();
+
+    fn operand(&self, _alloc: Global) -> Result<(), AllocError> {
+        Ok(())
+    }
+
+    fn call(&self, alloc: Global, _operand: ()) -> Result<Answer, AllocError> {
+        Ok(Answer::Word(read_word(alloc, self.token)?))
+    }
+}
+
+#[test]
+fn tokens(rt: HostRuntime) -> Result<(), Fail> {
+    for (token, told, memory) in [
+        ("empty", "Some(Empty)", Never),
+        ("eq=a=b", "Some(Equals(\"a=b\"))", Taken),
+        ("starts=a", "Some(Starts(\"a\"))", Taken),
+        ("ends=a", "Some(Ends(\"a\"))", Taken),
+        ("contains=a", "Some(Contains(\"a\"))", Taken),
+        ("match=a", "Some(Matches(\"a\"))", Taken),
+        ("eq=", "Some(Equals(\"\"))", Never),
+        ("trim", "Some(Trim)", Never),
+        ("normalize", "Some(Normalize)", Never),
+        ("not", "Some(Not)", Never),
+        ("and", "Some(And)", Never),
+        ("or", "Some(Or)", Never),
+        ("xor", "Some(Xor)", Never),
+        ("nor", "None", Never),
+    ] {
+        let name = format!(in rt.alloc(); "read_word of {token}")?;
+        sweep(&rt, name.as_str(), &Reading { token }, told, memory)?;
+    }
+    Ok(())
+}
+
+// A word, applied to the checks of other tokens.
+#[derive(Drop)]
+struct Applying<'a> {
+    before: &'a [&'a str],
+    token: &'a str,
+}
+
+impl Call for Applying<'_> {
+    type Operand = (Vec<TextCheck>, Word);
+
+    fn operand(&self, alloc: Global) -> Result<(Vec<TextCheck>, Word), AllocError> {
+        let word = read_word(alloc, self.token)?.ok_or(AllocError)?;
+        Ok((stacked(alloc, self.before)?, word))
+    }
+
+    fn call(&self, alloc: Global, operand: (Vec<TextCheck>, Word)) -> Result<Answer, AllocError> {
+        let (mut stack, word) = operand;
+        match apply_word(alloc, &mut stack, word) {
+            Ok(()) => Ok(Answer::Checks(stack)),
+            Err(WordFault::NoMemory) => Err(AllocError),
+            Err(WordFault::Pattern) if self.token.starts_with("match=") => Err(AllocError),
+            Err(_) => Ok(Answer::OtherFault),
+        }
+    }
+}
+
+#[test]
+fn words_of_no_operands(rt: HostRuntime) -> Result<(), Fail> {
+    for (token, told, memory) in [
+        ("empty", "var.is_empty()\n", Taken),
+        ("eq=a", "var == \"a\"\n", Taken),
+        ("starts=a", "var.starts_with(\"a\")\n", Taken),
+        ("ends=a", "var.ends_with(\"a\")\n", Taken),
+        ("contains=a", "var.contains(a)\n", Taken),
+        ("match=T[a-z]*", "var.is_match(T[a-z]*)\n", GoesOn),
+        ("match=", "var.is_match()\n", GoesOn),
+    ] {
+        let name = format!(in rt.alloc(); "apply_word of {token}")?;
+        sweep(
+            &rt,
+            name.as_str(),
+            &Applying { before: &[], token },
+            told,
+            memory,
+        )?;
+    }
+    Ok(())
+}
+
+#[test]
+fn words_over_checks(rt: HostRuntime) -> Result<(), Fail> {
+    for (token, told) in [
+        ("trim", "var.is_empty()\nvar.contains(a)\n"),
+        ("normalize", "var.is_empty()\nvar.contains(a)\n"),
+        ("not", "var.is_empty()\n(! var.contains(a))\n"),
+        ("and", "(var.is_empty() && var.contains(a))\n"),
+        ("or", "(var.is_empty() || var.contains(a))\n"),
+        ("xor", "(var.is_empty() ^ var.contains(a))\n"),
+    ] {
+        let name = format!(in rt.alloc(); "apply_word of {token}")?;
+        let before = ["empty", "contains=a"];
+        let applying = Applying {
+            before: &before,
+            token,
+        };
+        sweep(&rt, name.as_str(), &applying, told, Taken)?;
+    }
+    Ok(())
+}
+
+// A word that lacks an operand is refused for that alone.
+#[test]
+fn missing_operands(rt: HostRuntime) -> Result<(), Fail> {
+    for token in ["trim", "normalize", "not", "and", "or", "xor"] {
+        let name = format!(in rt.alloc(); "apply_word of {token}, without an operand")?;
+        let applying = Applying { before: &[], token };
+        sweep(&rt, name.as_str(), &applying, "another fault", Never)?;
+    }
+    Ok(())
+}

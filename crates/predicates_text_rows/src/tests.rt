@@ -1,0 +1,9 @@
+mod boxed_flags;
+mod boxes;
+mod decoding;
+mod flags;
+mod patterns;
+mod printed;
+mod texts;
+mod verdicts;
+mod views;

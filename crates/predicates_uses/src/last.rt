@@ -1,0 +1,121 @@
+//! A combinator of the caller's own that asks its right part first.
+ghost use Rattle.std.specs.Prelude.{◌≡◌, [], codes};
+ghost use Rattle.predicates_core.specs.Parts.{two_parts};
+ghost use Rattle.predicates_core.specs.Combined.{IsOr};
+ghost use Rattle.predicates_core.proofs.Combined.{or_text_fits, one_or};
+ghost use Rattle.predicates_uses.specs.Either.{either_text};
+ghost use Rattle.predicates_uses.specs.Last.{left_of, right_of};
+
+use crate::IsTheAnswer;
+use predicates::Predicate;
+use predicates::node::{over_both, over_one};
+use predicates::ord::lt;
+use predicates::own::two_children;
+use predicates::reflection::{Case, Child, Parameter, PredicateReflection};
+use std::alloc::{AllocError, Global};
+use std::fmt;
+
+/// Either part holds. The right one is asked first, and is shown where the left one does not hold.
+// No contract speaks of the order in which parts are asked: an answer is the same in each. What is
+// shown is pinned, and the first reason needs the left part's answer.
+#[derive(Debug, Clone, Copy, PartialEq, Eq, Drop)]
+pub struct LastFirst<P, Q> {
+    left: P,
+    right: Q,
+}
+
+impl<P, Q> LastFirst<P, Q> {
+    /// Either of the two.
+    pub fn new(left: P, right: Q) -> LastFirst<P, Q>
+        ensures left { left_of result ≡ left }
+        ensures right { right_of result ≡ right }
+    {
+        LastFirst { left, right }
+    }
+}
+
+impl<P: fmt::Display, Q: fmt::Display> fmt::Display for LastFirst<P, Q> {
+    ghost output = { λ p. either_text (P.output (left_of p)) (Q.output (right_of p)) };
+
+    fn fmt<W: fmt::Write>(&self, f: &mut fmt::Formatter<W>) -> fmt::Result {
+        let left = &self.left;
+        let right = &self.right;
+        write!(f, "either({left}, {right})")
+    }
+}
+
+impl<P: PredicateReflection, Q: PredicateReflection> PredicateReflection for LastFirst<P, Q> {
+    ghost parameters_of = { λ p. [] };
+
+    ghost children_of = { λ p. two_parts
+        (codes "left") (P.output (left_of p)) (P.parameters_of (left_of p)) (P.children_of (left_of p))
+        (codes "right") (Q.output (right_of p)) (Q.parameters_of (right_of p)) (Q.children_of (right_of p)) };
+
+    fn parameters(&self, alloc: Global) -> Result<Vec<Parameter>, AllocError> {
+        Ok(Vec::new(alloc))
+    }
+
+    fn children(&self, alloc: Global) -> Result<Vec<Child>, AllocError> {
+        two_children(alloc, &self.left, &self.right)
+    }
+}
+
+impl<P: Predicate<Item>, Q: Predicate<Item>, Item> Predicate<Item> for LastFirst<P, Q> {
+    ghost lawful = { λ p. P.lawful (left_of p) × Q.lawful (right_of p) };
+
+    ghost formula = { λ p v. IsOr
+        (either_text (P.output (left_of p)) (Q.output (right_of p)))
+        (P.formula (left_of p) v)
+        (Q.formula (right_of p) v) };
+
+    ghost steady = { λ p v. P.steady (left_of p) v × Q.steady (right_of p) v };
+
+    ghost text_fits = { λ p v f. or_text_fits };
+
+    ghost one_formula = { λ p v f g lawful. one_or
+        (λ x y. P.one_formula (left_of p) v x y lawful.0)
+        (λ x y. Q.one_formula (right_of p) v x y lawful.1) };
+
+    #[tactic(auto, using(crate::proofs::Asked::asked))]
+    fn eval(&self, alloc: Global, item: &Item) -> Result<bool, AllocError> {
+        let right = self.right.eval(alloc, item)?;
+        let left = self.left.eval(alloc, item)?;
+        Ok(left || right)
+    }
+
+    #[tactic(auto, using(predicates_core::proofs::Combined::combined))]
+    fn find_case(
+        &self,
+        alloc: Global,
+        expected: bool,
+        item: &Item,
+    ) -> Result<Option<Case>, AllocError> {
+        let right = self.right.find_case(alloc, expected, item)?;
+        match self.left.find_case(alloc, expected, item)? {
+            None if !expected => Ok(None),
+            None => {
+                let Some(right) = right else {
+                    return Ok(None);
+                };
+                let text = self.to_string(alloc)?;
+                Ok(Some(over_one(alloc, text, expected, "right", right)?))
+            }
+            Some(left) if expected => {
+                let text = self.to_string(alloc)?;
+                Ok(Some(over_one(alloc, text, expected, "left", left)?))
+            }
+            Some(left) => {
+                let Some(right) = right else {
+                    return Ok(None);
+                };
+                let text = self.to_string(alloc)?;
+                Ok(Some(over_both(alloc, text, expected, left, right)?))
+            }
+        }
+    }
+}
+
+/// Whether the number is 42 or below 10.
+pub fn is_known(alloc: Global, number: &u32) -> Result<bool, AllocError> {
+    LastFirst::new(IsTheAnswer, lt(10)).eval(alloc, number)
+}
