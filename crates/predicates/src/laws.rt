@@ -1,4 +1,9 @@
 //! Laws of predicates, as contracts of calls that do nothing and take no memory.
+//!
+//! ```
+//! // From here on a proof knows that the name changes neither the verdict nor the leaves.
+//! laws::named(&check, &item, "policy");
+//! ```
 
 mod rewriting;
 #[cfg(test)]

@@ -1,5 +1,10 @@
 //! What each predicate of this crate means, as contracts of calls that do nothing.
 //!
+//! ```
+//! // From here on a proof knows the formulas of `both` on `item`, and where it takes no memory.
+//! meaning::conjunction(&both, &item);
+//! ```
+//!
 //! A clause speaks of the predicate and the item at hand, whichever they are: of its formulas, of
 //! what it needs to be asked, of where `eval` takes no memory, and of the values and parts that it
 //! tells of.

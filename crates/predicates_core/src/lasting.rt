@@ -1,4 +1,9 @@
 //! What holds a text that is there for good.
+//!
+//! ```
+//! let plain = predicate::eq(5).name("five");
+//! let boxed = predicate::always().name(StaticText::new("any"));
+//! ```
 
 ghost use Rattle.std.specs.Prelude.{◌≡◌, ℕ, List};
 

@@ -1,4 +1,9 @@
 //! What a check of texts means, as contracts of calls that do nothing.
+//!
+//! ```
+//! // From here on a proof knows the formulas of `check` on `text` by those of its parts.
+//! laws::parts_of_checks(&check, &text);
+//! ```
 ghost use Rattle.std.specs.Prelude.{◌≡◌, ◌↔◌};
 ghost use Rattle.predicates_core.specs.Formula.{Formula};
 ghost use Rattle.predicates_explain.specs.Meaning.{MeansByParts};

@@ -1,4 +1,8 @@
 //! How often one text stands in another. The call takes no memory.
+//!
+//! ```
+//! assert_eq!(rt; count("aa", "aaaa"), 2);
+//! ```
 ghost use Rattle.std.specs.Str.{chars};
 ghost use Rattle.std.specs.Prelude.{◌≡◌, ◌≢◌, ◌+◌, [], length, filter, nat_eq, MatchOption};
 ghost use Rattle.predicates_text.specs.Count.{IsCountOf, IsPastFirst, IsNowhere, count_of};

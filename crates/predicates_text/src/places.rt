@@ -1,5 +1,9 @@
 //! Whether one text stands at the front, at the back or anywhere in another. These calls take no
 //! memory.
+//!
+//! ```
+//! assert!(rt; starts_with("Hello", "Hello World"));
+//! ```
 ghost use Rattle.std.specs.Prelude.{◌≡◌, ◌↔◌, [], IsTrue};
 ghost use Rattle.std.specs.Str.{chars};
 ghost use Rattle.predicates_text.specs.Places.{IsFrontOf, IsBackOf, IsPartOf, is_empty, is_front};

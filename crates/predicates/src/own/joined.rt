@@ -1,6 +1,6 @@
 //! The cases of combinators, over parts that are asked here.
 ghost use Rattle.std.specs.Prelude.{IfOk, codes};
-ghost use Rattle.predicates_core.specs.Combined.{IsAnd, IsOr, IsXor, IsNot};
+ghost use Rattle.predicates_core.specs.Combined.{IsAnd, IsXor, IsNot};
 ghost use Rattle.predicates_core.specs.Parts.{FitsParts, two_parts};
 ghost use Rattle.predicates_core.specs.Shows.{IsAnswer};
 ghost use Rattle.predicates_core.specs.Tree.{forest};
@@ -40,39 +40,6 @@ pub fn and_case<W: fmt::Display, P: Predicate<Item>, Q: Predicate<Item>, Item>(
             return Ok(None);
         }
         None
-    };
-    let text = printed(alloc, whole)?;
-    Ok(Some(over_found(alloc, text, expected, left, right)?))
-}
-
-/// The same of one that holds where either part does.
-#[tactic(auto, using(predicates_core::proofs::Combined::combined))]
-pub fn or_case<W: fmt::Display, P: Predicate<Item>, Q: Predicate<Item>, Item>(
-    alloc: Global,
-    whole: &W,
-    left_part: &P,
-    right_part: &Q,
-    expected: bool,
-    item: &Item,
-) -> Result<Option<Case>, AllocError>
-    requires left { P.lawful left_part.now }
-    requires right { Q.lawful right_part.now }
-    ensures { IfOk result (IsAnswer (IsOr (W.output whole.now)
-        (P.formula left_part.now item.now) (Q.formula right_part.now item.now)) expected) }
-{
-    let left = left_part.find_case(alloc, expected, item)?;
-    let right = if left.is_some() == expected {
-        // The left part decides.
-        if left.is_none() {
-            return Ok(None);
-        }
-        None
-    } else {
-        let right = right_part.find_case(alloc, expected, item)?;
-        if right.is_none() {
-            return Ok(None);
-        }
-        right
     };
     let text = printed(alloc, whole)?;
     Ok(Some(over_found(alloc, text, expected, left, right)?))

@@ -184,7 +184,9 @@ impl<'a> CaseView<'a> {
 /// A child of a node: a name, and the case that stands under it.
 #[derive(Drop)]
 pub struct CaseChild<'a> {
+    /// The name that the child stands under, such as `left`.
     pub name: &'static str,
+    /// What stands under it.
     pub case: CaseView<'a>,
 }
 
