@@ -237,7 +237,7 @@ fn texts_of_any_length(rt: HostRuntime) -> Result<(), Fail> {
         assert_eq!(rt; render(alloc, &case)?, lines);
         let mut onto = text_of(alloc, length)?;
         render_onto(alloc, &mut onto, &case)?;
-        assert_eq!(rt; onto.len(), length + lines.len());
+        assert_eq!(rt; onto.len(), length.saturating_add(lines.len()));
         let mut parameters = Vec::new(alloc);
         parameters.push(Parameter::new("value", text_of(alloc, length)?))?;
         let child = Child::new("part", expected, parameters, Vec::new(alloc));
