@@ -2,10 +2,10 @@ use crate::boolean::PredicateBooleanExt;
 use crate::constant::never;
 use crate::function::function;
 use crate::name::PredicateNameExt;
-use crate::ord::lt;
-use predicates_core::Predicate;
+use crate::ord::{eq, lt};
 use predicates_core::reflection::{Case, PredicateReflection, render};
 use predicates_core::static_text::StaticText;
+use predicates_core::{Predicate, default_find_case};
 use std::alloc::{AllocError, Global};
 use std::test::Fail;
 
@@ -133,6 +133,29 @@ fn names_of_no_bytes_and_of_300(rt: HostRuntime) -> Result<(), Fail> {
         let asked = function(|x: &i32| *x < 3).fn_name(name);
         let lines = format!(in alloc; "{name}(var) = false\n")?;
         assert_eq!(rt; written(alloc, &asked, &3)?, lines);
+    }
+    Ok(())
+}
+
+#[test]
+fn parts_of_long_texts(rt: HostRuntime) -> Result<(), Fail> {
+    let alloc = rt.alloc();
+    let named = lt(3).name(LONG);
+    assert_eq!(rt; named.and(named).children(alloc)?[1].text(), LONG);
+    assert_eq!(rt; named.or(named).children(alloc)?[1].text(), LONG);
+    assert_eq!(rt; named.not().children(alloc)?[0].text(), LONG);
+    Ok(())
+}
+
+#[test]
+fn bare_leaf_of_a_long_text(rt: HostRuntime) -> Result<(), Fail> {
+    let alloc = rt.alloc();
+    let long = eq(LONG);
+    for (item, verdict) in [("", false), (LONG, true)] {
+        assert!(rt; default_find_case(alloc, &long, !verdict, &item)?.is_none());
+        let found = default_find_case(alloc, &long, verdict, &item)?;
+        let lines = format!(in alloc; "var == {LONG:?} = {verdict}\n")?;
+        assert_eq!(rt; render(alloc, &found.ok_or("no case")?)?, lines);
     }
     Ok(())
 }

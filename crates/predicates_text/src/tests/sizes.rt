@@ -53,7 +53,7 @@ fn ends_of(rt: &(impl Abort + AllocGlobal), length: usize) -> Result<(), Fail> {
     let lines = format!(in alloc; "var.starts_with(\"{more}\") = false\n  - var: {text}\n")?;
     check(rt, &starts_with(more), &text, false, lines.as_str())?;
     let part = starts_with(text.clone()?).trim().children(alloc)?;
-    assert!(rt; part.len() == 1 && part[0].text().len() == length + 19);
+    assert!(rt; part.len() == 1 && part[0].text().len() == length.saturating_add(19));
     let more = format!(in alloc; "b{text}")?;
     let lines = format!(in alloc; "var.ends_with(\"{text}\") = true\n  - var: {more}\n")?;
     check(rt, &ends_with(text.clone()?), &more, true, lines.as_str())?;
@@ -74,7 +74,7 @@ fn parts_of(rt: &(impl Abort + AllocGlobal), length: usize) -> Result<(), Fail> 
     let lines = format!(in alloc; "var.contains({more}) = true\n  - var: {more}\n")?;
     let lines = format!(in alloc; "{lines}  - actual count: 1\n")?;
     check(rt, &one, &more, true, lines.as_str())?;
-    let each = contains(repeated(alloc, "a", 1)?).count(length + 1);
+    let each = contains(repeated(alloc, "a", 1)?).count(length.saturating_add(1));
     let lines = format!(in alloc; "var.contains(a) = false\n  - var: {text}\n")?;
     let lines = format!(in alloc; "{lines}  - actual count: {length}\n")?;
     check(rt, &each, &text, false, lines.as_str())
@@ -109,7 +109,7 @@ fn views_of(rt: &(impl Abort + AllocGlobal), length: usize) -> Result<(), Fail> 
     let spaces = repeated(alloc, " ", length)?;
     let text = repeated(alloc, "a", length)?;
     let wide = format!(in alloc; "{spaces}a{text}{spaces}")?;
-    assert!(rt; trimmed(alloc, wide.as_str())?.len() == length + 1);
+    assert!(rt; trimmed(alloc, wide.as_str())?.len() == length.saturating_add(1));
     let lines = format!(in alloc; "var.is_empty() = false\n  - var: a{text}\n")?;
     check(rt, &is_empty().trim(), &wide, false, lines.as_str())?;
     let lines = "var.is_empty() = true\n  - var: \n";
