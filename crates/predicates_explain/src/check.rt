@@ -8,8 +8,10 @@ ghost use Rattle.predicates_explain.specs.Checks.{check_text, check_formula, Has
 ghost use Rattle.predicates_explain.specs.CheckLaws.{check_text_fits, one_check, has_check_formula};
 ghost use Rattle.predicates_explain.specs.Weight.{IsAlone};
 
+mod leaf;
 mod turn;
 
+use leaf::find_leaf;
 use predicates::node::{over_found, over_one, printed};
 use predicates::ord::EqPredicate;
 use predicates::reflection::{Case, Child, Parameter, PredicateReflection};
@@ -206,7 +208,8 @@ impl Predicate<String> for TextCheck {
     }
 }
 
-// Each word over checks has a function of its own: at entry a function pays for all its locals.
+// Each word over checks has a function of its own, and so have leaves: a function pays for all its locals at
+// entry, and each level of a deep check takes its frames on the stack.
 impl TextCheck {
     #[cycle(find)]
     #[tactic(auto, using(predicates_core::proofs::Combined::combined))]
@@ -214,12 +217,12 @@ impl TextCheck {
         ensures { IfOk result (IsAnswer (HasFormula self.now (string_bytes item.now)) expected) }
     {
         match self {
-            TextCheck::Empty(leaf) => leaf.find_case(alloc, expected, item),
-            TextCheck::Equals(leaf) => leaf.find_case(alloc, expected, item),
-            TextCheck::Starts(leaf) => leaf.find_case(alloc, expected, item),
-            TextCheck::Ends(leaf) => leaf.find_case(alloc, expected, item),
-            TextCheck::Contains(leaf) => leaf.find_case(alloc, expected, item),
-            TextCheck::Matches(leaf) => leaf.find_case(alloc, expected, item),
+            TextCheck::Empty(leaf) => find_leaf(alloc, leaf, expected, item),
+            TextCheck::Equals(leaf) => find_leaf(alloc, leaf, expected, item),
+            TextCheck::Starts(leaf) => find_leaf(alloc, leaf, expected, item),
+            TextCheck::Ends(leaf) => find_leaf(alloc, leaf, expected, item),
+            TextCheck::Contains(leaf) => find_leaf(alloc, leaf, expected, item),
+            TextCheck::Matches(leaf) => find_leaf(alloc, leaf, expected, item),
             TextCheck::Trim(inner) => inner.find_trimmed(alloc, expected, item),
             TextCheck::Normalize(inner) => inner.find_normalized(alloc, expected, item),
             TextCheck::Not(inner) => self.find_not(alloc, inner, expected, item),
@@ -230,6 +233,7 @@ impl TextCheck {
     }
 
     // The case of the text without the white space at its ends.
+    #[inline(never)]
     #[cycle(find)]
     fn find_trimmed(
         &self,
@@ -245,6 +249,7 @@ impl TextCheck {
     }
 
     // The case of the text with even line endings.
+    #[inline(never)]
     #[cycle(find)]
     fn find_normalized(
         &self,
@@ -259,6 +264,7 @@ impl TextCheck {
         self.find(alloc, expected, &view)
     }
 
+    #[inline(never)]
     #[cycle(find)]
     #[tactic(auto, using(predicates_core::proofs::Combined::combined))]
     fn find_not(
@@ -278,6 +284,7 @@ impl TextCheck {
         Ok(Some(over_one(alloc, text, expected, "predicate", part)?))
     }
 
+    #[inline(never)]
     #[cycle(find)]
     #[tactic(auto, using(predicates_core::proofs::Combined::combined))]
     fn find_and(
@@ -310,6 +317,7 @@ impl TextCheck {
         Ok(Some(over_found(alloc, text, expected, left, right)?))
     }
 
+    #[inline(never)]
     #[cycle(find)]
     #[tactic(auto, using(predicates_core::proofs::Combined::combined))]
     fn find_or(
@@ -342,6 +350,7 @@ impl TextCheck {
         Ok(Some(over_found(alloc, text, expected, left, right)?))
     }
 
+    #[inline(never)]
     #[cycle(find)]
     #[tactic(auto, using(predicates_core::proofs::Combined::combined))]
     fn find_xor(
