@@ -8,8 +8,10 @@ ghost use Rattle.predicates_explain.specs.Checks.{check_text, check_formula, Has
 ghost use Rattle.predicates_explain.specs.CheckLaws.{check_text_fits, one_check, has_check_formula};
 ghost use Rattle.predicates_explain.specs.Weight.{IsAlone};
 
+mod leaf;
 mod turn;
 
+use leaf::find_leaf;
 use predicates::node::{joined, joined_by_left, joined_by_right, negated};
 use predicates::ord::EqPredicate;
 use predicates::reflection::{Case, Child, Parameter, PredicateReflection};
@@ -226,7 +228,8 @@ impl Predicate<String> for TextCheck {
     }
 }
 
-// Each word over checks has a function of its own: at entry a function pays for all its locals.
+// Each word over checks has a function of its own, and so have leaves: a function pays for all its locals at
+// entry, and each level of a deep check takes its frames on the stack.
 impl TextCheck {
     // A single word, or such a word about a view of the text.
     fn is_single(&self) -> bool {
@@ -242,12 +245,12 @@ impl TextCheck {
         ensures { IfOk result (IsAnswer (HasFormula self.now (string_bytes item.now)) expected) }
     {
         match self {
-            TextCheck::Empty(leaf) => leaf.find_case(alloc, expected, item),
-            TextCheck::Equals(leaf) => leaf.find_case(alloc, expected, item),
-            TextCheck::Starts(leaf) => leaf.find_case(alloc, expected, item),
-            TextCheck::Ends(leaf) => leaf.find_case(alloc, expected, item),
-            TextCheck::Contains(leaf) => leaf.find_case(alloc, expected, item),
-            TextCheck::Matches(leaf) => leaf.find_case(alloc, expected, item),
+            TextCheck::Empty(leaf) => find_leaf(alloc, leaf, expected, item),
+            TextCheck::Equals(leaf) => find_leaf(alloc, leaf, expected, item),
+            TextCheck::Starts(leaf) => find_leaf(alloc, leaf, expected, item),
+            TextCheck::Ends(leaf) => find_leaf(alloc, leaf, expected, item),
+            TextCheck::Contains(leaf) => find_leaf(alloc, leaf, expected, item),
+            TextCheck::Matches(leaf) => find_leaf(alloc, leaf, expected, item),
             TextCheck::Trim(inner) => inner.find_trimmed(alloc, expected, item),
             TextCheck::Normalize(inner) => inner.find_normalized(alloc, expected, item),
             TextCheck::Not(inner) => TextCheck::find_not(alloc, inner, expected, item),
@@ -258,6 +261,7 @@ impl TextCheck {
     }
 
     // The case of the text without the white space at its ends.
+    #[inline(never)]
     #[cycle(find)]
     fn find_trimmed(
         &self,
@@ -273,6 +277,7 @@ impl TextCheck {
     }
 
     // The case of the text with even line endings.
+    #[inline(never)]
     #[cycle(find)]
     fn find_normalized(
         &self,
@@ -287,6 +292,7 @@ impl TextCheck {
         self.find(alloc, expected, &view)
     }
 
+    #[inline(never)]
     #[cycle(find)]
     #[tactic(auto, using(predicates_core::proofs::Combined::combined))]
     fn find_not(
@@ -304,6 +310,7 @@ impl TextCheck {
         Ok(Some(negated(alloc, expected, part)?))
     }
 
+    #[inline(never)]
     #[cycle(find)]
     #[tactic(auto, using(predicates_core::proofs::Combined::combined))]
     fn find_and(
@@ -338,6 +345,7 @@ impl TextCheck {
         }
     }
 
+    #[inline(never)]
     #[cycle(find)]
     #[tactic(auto, using(predicates_core::proofs::Combined::combined))]
     fn find_or(
@@ -372,6 +380,7 @@ impl TextCheck {
         }
     }
 
+    #[inline(never)]
     #[cycle(find)]
     #[tactic(auto, using(predicates_core::proofs::Combined::combined))]
     fn find_xor(

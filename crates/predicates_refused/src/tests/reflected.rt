@@ -43,13 +43,15 @@ impl Call for AddChild {
 
     fn operand(&self, alloc: Global) -> Result<(Case, Case), AllocError> {
         let case = leaf(alloc, "a")?;
-        if self.second {
-            return Ok((
-                case.add_child("left", leaf(alloc, "b")?)?,
-                leaf(alloc, "c")?,
-            ));
+        if !self.second {
+            return Ok((case, leaf(alloc, "c")?));
         }
-        Ok((case, leaf(alloc, "c")?))
+        // The list of the first child has no room for the second one and its parts.
+        let mut child = leaf(alloc, "c")?;
+        for _ in 0..4 {
+            child = child.add_child("part", Case::new(alloc, None, true))?;
+        }
+        Ok((case.add_child("left", leaf(alloc, "b")?)?, child))
     }
 
     fn call(&self, _alloc: Global, operand: (Case, Case)) -> Result<Answer, AllocError> {
@@ -65,7 +67,7 @@ fn cases(rt: HostRuntime) -> Result<(), Fail> {
     let told = "a = true\n  - var: 7\n  right: c = true\n    - var: 7\n";
     sweep(&rt, "add_child", &AddChild { second: false }, told, Taken)?;
     let told =
-        "a = true\n  - var: 7\n  left: b = true\n    - var: 7\n  right: c = true\n    - var: 7\n";
+        "a = true\n  - var: 7\n  left: b = true\n    - var: 7\n  right: c = true\n    - var: 7\n    part: predicate = true\n    part: predicate = true\n    part: predicate = true\n    part: predicate = true\n";
     sweep(
         &rt,
         "add_child beside another",
