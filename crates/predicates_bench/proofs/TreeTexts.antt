@@ -29,7 +29,16 @@ has_tree_text (Xor' _ left _ right) n =
     let r = has_tree_text right n in
     record { formula = Xor (plain (infix_text (codes " ^ ") (tree_text left) (tree_text right))) l.formula r.formula; has = has_xor l.has r.has; is = refl }
 
--- what an evaluation that asks for a wanted truth says of the whole
+wanted_true : (b : Bool) → beq b true ≡ b
+wanted_true true = refl
+wanted_true false = refl
+
+wanted_back : (v w : Bool) → v ≡ beq (beq v w) w
+wanted_back true true = refl
+wanted_back true false = refl
+wanted_back false true = refl
+wanted_back false false = refl
+
 wanted_turned : (v w : Bool) → beq v w ≡ not (beq v (not w))
 wanted_turned true true = refl
 wanted_turned true false = refl
@@ -44,7 +53,7 @@ wanted_same : (w : Bool) → true ≡ beq w w
 wanted_same true = refl
 wanted_same false = refl
 
-wanted_differ : (v a w : Bool) → beq v w ≡ differ (beq a true) (beq v (not (beq a w)))
+wanted_differ : (v a w : Bool) → beq v w ≡ differ a (beq v (not (beq a w)))
 wanted_differ true true true = refl
 wanted_differ true true false = refl
 wanted_differ true false true = refl
@@ -54,24 +63,32 @@ wanted_differ false true false = refl
 wanted_differ false false true = refl
 wanted_differ false false false = refl
 
-module _ {text : Entry} {part : Formula → Type 0} (v w : Bool) where
-  pub not_asked : HasTruth part (beq v (not w)) → HasTruth (IsNot text part) (beq v w)
-  not_asked h = HasTruth-not h (wanted_turned v w)
+-- a part stands for the whole: the whole has the truth b where it is b whether the part has the wanted one
+pub record StandsFor (whole part : Formula → Type 0) (wanted : Bool) : Type 0 where
+  pub carries : (b : Bool) → HasTruth part (beq b wanted) → HasTruth whole b
 
-module _ {text : Entry} {left right : Formula → Type 0} (a w : Bool) where
-  pub and_left_to_right : (b : Bool) → HasTruth left (beq a true) → a ≡ true → HasTruth right b → HasTruth (IsAnd text left right) b
-  and_left_to_right b h e k = HasTruth-and_by_right h (ap (λ x. beq x true) e) k
+pub stands_for_itself : (F : Formula → Type 0) → StandsFor F F true
+stands_for_itself F = record { carries = λ b h. subst (HasTruth F) (wanted_true b) h }
 
-  pub and_refused : HasTruth left (beq a true) → a ≡ false → HasTruth (IsAnd text left right) (beq (not w) w)
-  and_refused h e = subst (HasTruth (IsAnd text left right)) (ap (λ x. beq x true) e ∙ wanted_not w) (HasTruth-and_by_left h (ap (λ x. beq x true) e))
+module _ {whole : Formula → Type 0} (w : Bool) where
+  pub part_answers : {part : Formula → Type 0} (v : Bool) → StandsFor whole part w → HasTruth part v → HasTruth whole (beq v w)
+  part_answers {part} v s h = s.carries (beq v w) (subst (HasTruth part) (wanted_back v w) h)
 
-  pub or_left_to_right : (b : Bool) → HasTruth left (beq a true) → a ≡ false → HasTruth right b → HasTruth (IsOr text left right) b
-  or_left_to_right b h e k = HasTruth-or_by_right h (ap (λ x. beq x true) e) k
+  pub not_stands : {text : Entry} {part : Formula → Type 0} → StandsFor whole (IsNot text part) w → StandsFor whole part (not w)
+  not_stands s = record { carries = λ b h. s.carries b (HasTruth-not h (wanted_turned b w)) }
 
-  pub or_decided : HasTruth left (beq a true) → a ≡ true → HasTruth (IsOr text left right) (beq w w)
-  or_decided h e = subst (HasTruth (IsOr text left right)) (ap (λ x. beq x true) e ∙ wanted_same w) (HasTruth-or_by_left h (ap (λ x. beq x true) e))
+  module _ {text : Entry} {left right : Formula → Type 0} {a : Bool} where
+    pub and_stands : StandsFor whole (IsAnd text left right) w → HasTruth left a → a ≡ true → StandsFor whole right w
+    and_stands s h e = record { carries = λ b k. s.carries b (HasTruth-and_by_right h e k) }
 
-  pub xor_asked : (v : Bool) → HasTruth left (beq a true) → HasTruth right (beq v (not (beq a w))) → HasTruth (IsXor text left right) (beq v w)
-  xor_asked v h k = HasTruth-xor h k (wanted_differ v a w)
+    pub and_ends : StandsFor whole (IsAnd text left right) w → HasTruth left a → a ≡ false → HasTruth whole (not w)
+    and_ends s h e = s.carries (not w) (subst (HasTruth (IsAnd text left right)) (e ∙ wanted_not w) (HasTruth-and_by_left h e))
 
-pub ruleset asked = (not_asked, and_left_to_right, and_refused, or_left_to_right, or_decided, xor_asked)
+    pub or_stands : StandsFor whole (IsOr text left right) w → HasTruth left a → a ≡ false → StandsFor whole right w
+    or_stands s h e = record { carries = λ b k. s.carries b (HasTruth-or_by_right h e k) }
+
+    pub or_ends : StandsFor whole (IsOr text left right) w → HasTruth left a → a ≡ true → HasTruth whole w
+    or_ends s h e = s.carries w (subst (HasTruth (IsOr text left right)) (e ∙ wanted_same w) (HasTruth-or_by_left h e))
+
+    pub xor_stands : StandsFor whole (IsXor text left right) w → HasTruth left a → StandsFor whole right (not (beq a w))
+    xor_stands s h = record { carries = λ b k. s.carries b (HasTruth-xor h k (wanted_differ b a w)) }

@@ -1,8 +1,6 @@
 //! A check of numbers whose shape is chosen at run time, as a caller writes one who has no boxes.
 ghost use Rattle.std.specs.Prelude.{[], codes, IfOk};
-ghost use mathlib.Core.Bool.{beq};
 ghost use Rattle.predicates_core.specs.Combined.{infix_text, not_text, IsAnd, IsNot, IsOr, IsXor};
-ghost use Rattle.predicates_core.specs.Formula.{HasTruth};
 ghost use Rattle.predicates_core.specs.Shows.{IsAnswer};
 ghost use Rattle.predicates_core.specs.Tree.{empty};
 ghost use Rattle.predicates_bench.specs.Trees.{tree_text, HasFormula};
@@ -84,8 +82,37 @@ impl Predicate<i64> for Tree {
 
     ghost one_formula = { λ t n f g lawful. one_tree t n f g };
 
+    // The last part is asked in the place of the whole, for the truth that is wanted of it: so a chain is
+    // a loop.
     fn eval(&self, alloc: Global, item: &i64) -> Result<bool, AllocError> {
-        self.holds(alloc, item, true)
+        let mut tree = self;
+        let mut wanted = true;
+        loop {
+            match tree {
+                Tree::Leaf(leaf) => return Ok(leaf.eval(alloc, item)? == wanted),
+                Tree::Not(inner) => {
+                    wanted = !wanted;
+                    tree = inner;
+                }
+                Tree::And(left, right) => {
+                    if left.eval(alloc, item)? {
+                        tree = right;
+                    } else {
+                        return Ok(!wanted);
+                    }
+                }
+                Tree::Or(left, right) => {
+                    if left.eval(alloc, item)? {
+                        return Ok(wanted);
+                    }
+                    tree = right;
+                }
+                Tree::Xor(left, right) => {
+                    wanted = left.eval(alloc, item)? != wanted;
+                    tree = right;
+                }
+            }
+        }
     }
 
     // `eval` first, so that no case is made in vain; below the root no part is asked by it.
@@ -99,38 +126,6 @@ impl Predicate<i64> for Tree {
             return Ok(None);
         }
         self.find(alloc, expected, item)
-    }
-}
-
-impl Tree {
-    // Whether the verdict is the wanted one. The last part is asked in the place of the whole, so that a
-    // chain is a loop.
-    #[tactic(auto, using(crate::proofs::TreeTexts::asked))]
-    fn holds(&self, alloc: Global, item: &i64, wanted: bool) -> Result<bool, AllocError>
-        ensures { IfOk result (λ holds. HasTruth (HasFormula self.now item.now) (beq holds wanted)) }
-    {
-        match self {
-            Tree::Leaf(leaf) => Ok(leaf.eval(alloc, item)? == wanted),
-            Tree::Not(inner) => inner.holds(alloc, item, !wanted),
-            Tree::And(left, right) => {
-                if left.holds(alloc, item, true)? {
-                    right.holds(alloc, item, wanted)
-                } else {
-                    Ok(!wanted)
-                }
-            }
-            Tree::Or(left, right) => {
-                if left.holds(alloc, item, true)? {
-                    Ok(wanted)
-                } else {
-                    right.holds(alloc, item, wanted)
-                }
-            }
-            Tree::Xor(left, right) => {
-                let first = left.holds(alloc, item, true)?;
-                right.holds(alloc, item, first != wanted)
-            }
-        }
     }
 }
 
