@@ -67,8 +67,8 @@ fn counts(rt: HostRuntime) -> Result<(), Fail> {
         ("abc", "ab", 0),
         ("Two", "One Two Three Two One", 2),
     ];
-    for (pattern, text, wanted) in rows {
-        assert_eq!(rt; count::count(text, pattern), wanted, "{pattern} in {text}");
+    for (pattern, text, expected) in rows {
+        assert_eq!(rt; count::count(text, pattern), expected, "{pattern} in {text}");
     }
     Ok(())
 }
