@@ -1,9 +1,9 @@
 use super::{case_of, explain_onto, text};
 use crate::{Either, FortyTwo, IsTheAnswer, LastFirst, OfLength, is_known};
 use predicates::default_find_case;
-use predicates::own::leaf;
+use predicates::own::{and_case, bare_case, leaf, not_case, xor_case};
 use predicates::prelude::*;
-use predicates::reflection::{PredicateReflection, render};
+use predicates::reflection::{Case, PredicateReflection, render};
 use std::alloc::{AllocError, Global};
 use std::test::Fail;
 
@@ -144,6 +144,41 @@ fn an_adapter_of_the_callers_own(rt: HostRuntime) -> Result<(), Fail> {
         OfLength::new(IsTheAnswer.name("n")).children(alloc)?.len(),
         1
     );
+    Ok(())
+}
+
+// The lines of the case.
+fn lines(alloc: Global, found: Option<Case>) -> Result<String, Fail> {
+    let case = found.ok_or("no case")?;
+    Ok(render(alloc, &case)?)
+}
+
+// Each call that makes a case for a predicate of one's own, under the text of the leaf.
+#[test]
+fn own_cases(rt: HostRuntime) -> Result<(), Fail> {
+    let alloc = rt.alloc();
+    let (low, small) = (predicate::lt(3), predicate::lt(5));
+    let found = and_case(alloc, &IsTheAnswer, &low, &small, false, &4)?;
+    assert_eq!(rt;
+        lines(alloc, found)?.as_str(),
+        "var.is_the_answer() = false\n  left: var < 3 = false\n    - var: 4\n"
+    );
+    let found = xor_case(alloc, &IsTheAnswer, &low, &small, true, &4)?;
+    assert_eq!(rt;
+        lines(alloc, found)?.as_str(),
+        "var.is_the_answer() = true\n  left: var < 3 = false\n    - var: 4\n  right: var < 5 = true\n    - var: 4\n"
+    );
+    let found = not_case(alloc, &IsTheAnswer, &low, true, &4)?;
+    assert_eq!(rt;
+        lines(alloc, found)?.as_str(),
+        "var.is_the_answer() = true\n  predicate: var < 3 = false\n    - var: 4\n"
+    );
+    let found = bare_case(alloc, &IsTheAnswer, true, true)?;
+    assert_eq!(rt;
+        lines(alloc, found)?.as_str(),
+        "var.is_the_answer() = true\n"
+    );
+    assert!(rt; bare_case(alloc, &IsTheAnswer, true, false)?.is_none());
     Ok(())
 }
 
