@@ -172,9 +172,9 @@ impl Tree {
     ) -> Result<Option<Case>, AllocError>
         ensures { IfOk result
             (IsAnswer (IsAnd
-                (infix_text (codes " && ") (tree_text left.now) (tree_text right.now))
-                (HasFormula left.now item.now)
-                (HasFormula right.now item.now)) expected) }
+            (infix_text (codes " && ") (tree_text left.now) (tree_text right.now))
+            (HasFormula left.now item.now)
+            (HasFormula right.now item.now)) expected) }
     {
         match (expected, left.find(alloc, expected, item)?) {
             (true, None) => Ok(None),
@@ -207,9 +207,9 @@ impl Tree {
     ) -> Result<Option<Case>, AllocError>
         ensures { IfOk result
             (IsAnswer (IsOr
-                (infix_text (codes " || ") (tree_text left.now) (tree_text right.now))
-                (HasFormula left.now item.now)
-                (HasFormula right.now item.now)) expected) }
+            (infix_text (codes " || ") (tree_text left.now) (tree_text right.now))
+            (HasFormula left.now item.now)
+            (HasFormula right.now item.now)) expected) }
     {
         match (expected, left.find(alloc, expected, item)?) {
             (false, None) => Ok(None),
@@ -242,9 +242,9 @@ impl Tree {
     ) -> Result<Option<Case>, AllocError>
         ensures { IfOk result
             (IsAnswer (IsXor
-                (infix_text (codes " ^ ") (tree_text left.now) (tree_text right.now))
-                (HasFormula left.now item.now)
-                (HasFormula right.now item.now)) expected) }
+            (infix_text (codes " ^ ") (tree_text left.now) (tree_text right.now))
+            (HasFormula left.now item.now)
+            (HasFormula right.now item.now)) expected) }
     {
         let left_holds = left.eval(alloc, item)?;
         let right_holds = right.eval(alloc, item)?;

@@ -117,7 +117,7 @@ pub fn joined(
 ) -> Result<Case, AllocError>
     ensures { IfOk result
         (IsNode (infix_text operator.now left.root.text right.root.text) outcome
-            ((codes "left", left) ∷ (codes "right", right) ∷ [])) }
+        ((codes "left", left) ∷ (codes "right", right) ∷ [])) }
 {
     let first = root_text(&left);
     let second = root_text(&right);
@@ -142,7 +142,7 @@ pub fn joined_by_left<R: fmt::Display>(
 ) -> Result<Case, AllocError>
     ensures { IfOk result
         (IsNode (infix_text operator.now left.root.text (R.output right.now)) outcome
-            ((codes "left", left) ∷ [])) }
+        ((codes "left", left) ∷ [])) }
 {
     let first = root_text(&left);
     let mut text = String::with_capacity(alloc, first.len().saturating_add(ROOM))?;
@@ -165,7 +165,7 @@ pub fn joined_by_right<L: fmt::Display>(
 ) -> Result<Case, AllocError>
     ensures { IfOk result
         (IsNode (infix_text operator.now (L.output left.now) right.root.text) outcome
-            ((codes "right", right) ∷ [])) }
+        ((codes "right", right) ∷ [])) }
 {
     let second = root_text(&right);
     let mut text = String::with_capacity(alloc, second.len().saturating_add(ROOM))?;
