@@ -1,6 +1,6 @@
 -- One step of a search by halving.
-use Rattle.std.proofs.Common.{◌≡◌, ℕ, ◌+◌, ◌<◌, ◌≤◌, ◌/◌, ◌^◌, Bool, true, false, ◌||◌, List, [], ◌∷◌, length, get_or, take, drop, length-take, length-drop, Ordering, sym, refl, ap, ◌∙◌, arith, add-zero}
-use Rattle.std.specs.Ordering.{ordering_index, is_eq, is_lt, eq_by_cmp}
+use Rattle.std.proofs.Common.{◌≡◌, ℕ, ◌+◌, ◌<◌, ◌≤◌, ◌/◌, ◌^◌, Bool, true, false, ◌||◌, List, ◌∷◌, length, get_or, take, drop, length-take, length-drop, Ordering, sym, refl, ap, ◌∙◌, arith, add-zero}
+use Rattle.std.specs.Ordering.{ordering_index, is_eq, eq_by_cmp}
 use Rattle.std.specs.declared.cmp.Ordering.TheVariants.{Less, Equal, Greater}
 use Rattle.std.specs.List.{All}
 use Rattle.std.specs.List.Sorted.{IsNonDecreasingBy, IsSorted}
@@ -21,10 +21,6 @@ digits_more n h = omega (arith, length-digits_of_step 2 n (omega arith) h)
 or_false : (b : Bool) → (b || false) ≡ b
 or_false true = refl
 or_false false = refl
-
-or_true : (b : Bool) → (b || true) ≡ true
-or_true true = refl
-or_true false = refl
 
 not_equal_below : (o : Ordering) → ordering_index o ≤ 0 → is_eq o ≡ false
 not_equal_below Less h = refl
@@ -48,14 +44,6 @@ module _ {T : Type 0} (eq : T → T → Bool) (cmp : T → T → Ordering) (agre
       ap (λ all. has_equal eq all item) (sym (take-append-drop (i + 1) xs))
       ∙ list_any-append (λ x. eq x item) (take (i + 1) xs) (drop (i + 1) xs)
       ∙ ap (λ first. first || has_equal eq (drop (i + 1) xs) item) (list_any_none (λ x. eq x item) (take (i + 1) xs) passed)
-
-  pub has_equal-at_equal : (i : ℕ) (middle : T) (after : List T) → drop i xs ≡ middle ∷ after → cmp middle item ≡ Equal → has_equal eq xs item ≡ true
-  has_equal-at_equal i middle after behind equal =
-      ap (λ all. has_equal eq all item) (sym (take-append-drop i xs))
-      ∙ list_any-append (λ x. eq x item) (take i xs) (drop i xs)
-      ∙ ap (λ last. has_equal eq (take i xs) item || has_equal eq last item) behind
-      ∙ ap (λ at. has_equal eq (take i xs) item || (at || has_equal eq after item)) (agree middle item ∙ ap is_eq equal)
-      ∙ or_true (has_equal eq (take i xs) item)
 
   pub has_equal-before_greater : (i : ℕ) (d : T) → i < length xs → cmp (get_or xs i d) item ≡ Greater → has_equal eq xs item ≡ has_equal eq (take i xs) item
   has_equal-before_greater i d below greater =
@@ -84,24 +72,23 @@ digits-half m n h k = omega (arith, digits_more n h, digits_rise m (n / 2) k)
 pub digits-le : (n : ℕ) → n < 2 ^ 64 → digits n ≤ 64
 digits-le n h = length-digits_of-le 2 64 n (omega arith) h
 
--- What is left to search after some comparisons: the rest rises, all have an equal member where one was found or the rest has one, and the rest has fewer digits by the comparisons that were made.
-pub record IsLeft {T : Type 0} (eq : T → T → Bool) (cmp : T → T → Ordering) (item : T) (all : List T) (taken : ℕ) (found : Bool) (rest : List T) : Type 0 where
+-- What is left to search after some comparisons: the rest rises, has an equal member where all have one, and has fewer digits by the comparisons that were made.
+pub record IsLeft {T : Type 0} (eq : T → T → Bool) (cmp : T → T → Ordering) (item : T) (all : List T) (taken : ℕ) (rest : List T) : Type 0 where
   pub rises : IsNonDecreasingBy (λ x. ordering_index (cmp x item)) rest
-  pub same : has_equal eq all item ≡ (found || has_equal eq rest item)
+  pub same : has_equal eq all item ≡ has_equal eq rest item
   pub few : taken + digits (length rest) ≤ digits (length all)
 
-less_of : (o : Ordering) → is_lt o ≡ true → o ≡ Less
-less_of Less e = refl
-less_of Equal e = absurd (cc)
-less_of Greater e = absurd (cc)
-
-module _ {T : Type 0} {eq : T → T → Bool} {cmp : T → T → Ordering} {item : T} {all : List T} {taken : ℕ} {found : Bool} {rest : List T} where
+module _ {T : Type 0} {eq : T → T → Bool} {cmp : T → T → Ordering} {item : T} {all : List T} {taken : ℕ} {rest : List T} where
   -- a comparison can be counted
-  pub can_count : IsLeft eq cmp item all taken found rest → 0 < length rest → length all < 2 ^ 64 → taken + 1 < 2 ^ 64
+  pub can_count : IsLeft eq cmp item all taken rest → 0 < length rest → length all < 2 ^ 64 → taken + 1 < 2 ^ 64
   can_count left some small = omega (arith, left.few, digits-half 0 (length rest) some (omega arith), digits-le (length all) small)
 
+  -- a comparison with a member is within the digits
+  pub within_digits : IsLeft eq cmp item all taken rest → 0 < length rest → taken + 1 ≤ digits (length all)
+  within_digits left some = omega (arith, left.few, digits-half 0 (length rest) some (omega arith))
+
   -- one comparison with the middle member, which stands between `before` and `after`
-  module _ (agree : (x y : T) → eq x y ≡ eq_by_cmp cmp x y) (left : IsLeft eq cmp item all taken found rest) {half : ℕ} (halves : half ≡ length rest / 2) {before others after : List T} {middle : T} {order : Ordering} (front : before ≡ take half rest) (back : others ≡ drop half rest) (parts : others ≡ middle ∷ after) (compared : order ≡ cmp middle item) where
+  module _ (agree : (x y : T) → eq x y ≡ eq_by_cmp cmp x y) (left : IsLeft eq cmp item all taken rest) {half : ℕ} (halves : half ≡ length rest / 2) {before others after : List T} {middle : T} {order : Ordering} (front : before ≡ take half rest) (back : others ≡ drop half rest) (parts : others ≡ middle ∷ after) (compared : order ≡ cmp middle item) where
     behind : drop half rest ≡ middle ∷ after
     behind = sym back ∙ parts
 
@@ -114,45 +101,26 @@ module _ {T : Type 0} {eq : T → T → Bool} {cmp : T → T → Ordering} {item
     after_is : after ≡ drop (half + 1) rest
     after_is = ap (drop 1) (sym behind) ∙ drop-drop 1 half rest
 
-    same_after : order ≡ Less → has_equal eq all item ≡ (found || has_equal eq after item)
-    same_after less =
+    pub left_after : {now : ℕ} → now ≡ taken + 1 → order ≡ Less → IsLeft eq cmp item all now after
+    left_after counted less =
         let less_there : cmp (get_or rest half middle) item ≡ Less = ap (λ m. cmp m item) middle_is ∙ sym compared ∙ less in
-        left.same ∙ ap (λ b. found || b) (has_equal-after_less eq cmp agree item rest left.rises half middle in_range less_there ∙ ap (λ xs. has_equal eq xs item) (sym after_is))
-
-    -- a smaller member is not equal, and the rest is behind it
-    pub left_after : {now : ℕ} {is : Bool} → now ≡ taken + 1 → is ≡ (found || is_eq order) → is_lt order ≡ true → IsLeft eq cmp item all now is after
-    left_after counted so less =
         record {
           rises = rw after_is (IsNonDecreasingBy-drop (λ x. ordering_index (cmp x item)) (half + 1) rest left.rises);
-          same = same_after (less_of order less) ∙ ap (λ b. b || has_equal eq after item) (sym (so ∙ ap (λ o. found || is_eq o) (less_of order less) ∙ or_false found));
+          same = left.same ∙ has_equal-after_less eq cmp agree item rest left.rises half middle in_range less_there ∙ ap (λ xs. has_equal eq xs item) (sym after_is);
           few = omega (arith, left.few, digits-half (length after) (length rest) (omega (arith, in_range)) (omega (arith, halves, ap length behind, length-drop half rest)));
         }
 
-    same_before : (o : Ordering) → order ≡ o → is_lt o ≡ false → has_equal eq all item ≡ ((found || is_eq o) || has_equal eq before item)
-    same_before Less is e = absurd (cc)
-    same_before Equal is e =
-        left.same ∙ ap (λ b. found || b) (has_equal-at_equal eq cmp agree item rest left.rises half middle after behind (sym compared ∙ is))
-        ∙ or_true found ∙ ap (λ b. b || has_equal eq before item) (sym (or_true found))
-    same_before Greater is e =
-        let greater_there : cmp (get_or rest half middle) item ≡ Greater = ap (λ m. cmp m item) middle_is ∙ sym compared ∙ is in
-        left.same ∙ ap (λ b. found || b) (has_equal-before_greater eq cmp agree item rest left.rises half middle in_range greater_there ∙ ap (λ xs. has_equal eq xs item) (sym front))
-        ∙ ap (λ b. b || has_equal eq before item) (sym (or_false found))
-
-    -- else it may be equal, and the rest is before it
-    pub left_before : {now : ℕ} {is : Bool} → now ≡ taken + 1 → is ≡ (found || is_eq order) → is_lt order ≡ false → IsLeft eq cmp item all now is before
-    left_before counted so less =
+    pub left_before : {now : ℕ} → now ≡ taken + 1 → order ≡ Greater → IsLeft eq cmp item all now before
+    left_before counted greater =
+        let greater_there : cmp (get_or rest half middle) item ≡ Greater = ap (λ m. cmp m item) middle_is ∙ sym compared ∙ greater in
         record {
           rises = rw front (IsNonDecreasingBy-take (λ x. ordering_index (cmp x item)) half rest left.rises);
-          same = same_before order refl less ∙ ap (λ b. b || has_equal eq before item) (sym so);
+          same = left.same ∙ has_equal-before_greater eq cmp agree item rest left.rises half middle in_range greater_there ∙ ap (λ xs. has_equal eq xs item) (sym front);
           few = omega (arith, left.few, digits-half (length before) (length rest) (omega (arith, in_range)) (omega (arith, halves, ap length front, length-take half rest)));
         }
 
--- nothing is left: it was found, or it is not there
-pub none_left : {T : Type 0} {eq : T → T → Bool} {cmp : T → T → Ordering} {item : T} {all rest : List T} {taken : ℕ} {found : Bool} → IsLeft eq cmp item all taken found rest → rest ≡ [] → found ≡ has_equal eq all item
-none_left {eq = eq} {item = item} {found = found} left none = sym (left.same ∙ ap (λ xs. found || has_equal eq xs item) none ∙ or_false found)
-
 -- all members are left at the start
-pub left_at_start : {T : Type 0} {eq : T → T → Bool} {cmp : T → T → Ordering} {all rest : List T} {taken : ℕ} → IsTotalOrder cmp → (item : T) → IsSorted cmp all → rest ≡ all → taken ≡ 0 → IsLeft eq cmp item all taken false rest
+pub left_at_start : {T : Type 0} {eq : T → T → Bool} {cmp : T → T → Ordering} {all rest : List T} {taken : ℕ} → IsTotalOrder cmp → (item : T) → IsSorted cmp all → rest ≡ all → taken ≡ 0 → IsLeft eq cmp item all taken rest
 left_at_start {eq = eq} {all = all} total item sorted is none = record {
   rises = rw is (searchable_from_sorted total (λ x. x) all item sorted);
   same = ap (λ xs. has_equal eq xs item) (sym is);

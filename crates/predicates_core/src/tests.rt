@@ -3,7 +3,8 @@ ghost use Rattle.std.specs.Prelude.{[], Some, string_bytes};
 ghost use Rattle.predicates_core.specs.Tree.{empty};
 
 use crate::node::{
-    alone, over_both, over_found, over_one, printed, showing, showing_item, showing_text,
+    alone, joined, joined_by_left, joined_by_right, negated, over_both, over_found, over_one,
+    printed, showing, showing_item, showing_text,
 };
 use crate::reflection::{
     Case, CaseChild, Child, Parameter, PredicateReflection, Product, describe, render, render_onto,
@@ -63,6 +64,28 @@ fn parts_that_were_found(rt: HostRuntime) -> Result<(), Fail> {
         render(alloc, &both)?.as_str(),
         "-1 = true\n  left: a = false\n    left: 7 = true\n  right: b = true\n    right: none = false\n"
     );
+    Ok(())
+}
+
+#[test]
+fn texts_of_the_parts(rt: HostRuntime) -> Result<(), Fail> {
+    let alloc = rt.alloc();
+    let left = negated(alloc, true, alone(alloc, text(alloc, "a")?, false))?;
+    let both = joined(
+        alloc,
+        " && ",
+        true,
+        left,
+        alone(alloc, text(alloc, "b")?, true),
+    )?;
+    let first = joined_by_left(alloc, " || ", true, both, &"c")?;
+    let case = joined_by_right(alloc, " && ", false, &7, negated(alloc, false, first)?)?;
+    assert_eq!(rt;
+        case.root().predicate(),
+        Some("(7 && (! (((! a) && b) || c)))")
+    );
+    let bare = negated(alloc, true, Case::new(alloc, None, false))?;
+    assert_eq!(rt; bare.root().predicate(), Some("(! )"));
     Ok(())
 }
 

@@ -214,7 +214,8 @@ impl Predicate<String> for TextCheck {
         }
     }
 
-    // A check of several words is evaluated first, so that no case is made in vain.
+    /// A check that joins or turns others is evaluated first, so that no case is made where none is
+    /// asked for. Below its root no part is asked by `eval` again, but those of `xor`, each once.
     fn find_case(
         &self,
         alloc: Global,

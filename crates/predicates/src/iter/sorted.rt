@@ -6,6 +6,7 @@ use predicates_core::node::{alone, printed, showing_item};
 use predicates_core::reflection::{Case, Child, Parameter, PredicateReflection};
 use predicates_core::{Predicate, ReadsContent, Total};
 use std::alloc::{AllocError, Global};
+use std::cmp::Ordering;
 use std::fmt;
 
 /// Holds of an item that equals one of some values, which are kept in ascending order and searched
@@ -30,18 +31,18 @@ impl<T: Ord> OrdInPredicate<T> {
         ensures bound { steps.new ≤ digits (length (members_of self.now)) }
     {
         steps.clear();
-        let mut found = false;
         let mut rest = self.members.as_slice();
-        // An equal member does not end the search, so that no jump depends on a comparison.
         loop {
             let (before, others) = rest.split_at(rest.len() / 2);
             let Some((middle, after)) = others.split_first() else {
-                return found;
+                return false;
             };
             steps.add_one();
-            let order = middle.cmp(item);
-            found = found || order.is_eq();
-            rest = if order.is_lt() { after } else { before };
+            match middle.cmp(item) {
+                Ordering::Less => rest = after,
+                Ordering::Equal => return true,
+                Ordering::Greater => rest = before,
+            }
         }
     }
 }

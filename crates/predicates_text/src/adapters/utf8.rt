@@ -12,7 +12,7 @@ ghost use Rattle.predicates_text.specs.Inner.{utf8_part};
 use predicates_core::node::{alone, printed, showing, showing_text};
 use predicates_core::reflection::{Case, Child, Parameter, PredicateReflection, describe};
 use predicates_core::{Predicate, ReadsContent, Total};
-use simdutf8::compat::from_utf8;
+use simdutf8::basic::from_utf8;
 use std::alloc::{AllocError, Global};
 use std::fmt;
 
