@@ -1,7 +1,7 @@
 pub mod Halving
 pub mod Memberships
 pub mod Calls
-pub mod Given
+pub mod GivenItems
 pub mod Names
-pub mod Opened
+pub mod OpenRoots
 pub mod Opposites

@@ -6,7 +6,7 @@ use Rattle.predicates_core.specs.Tree.{Tree}
 use Rattle.predicates_core.specs.Describe.{CaseNode}
 use Rattle.predicates_core.specs.Shows.{IsNode, IsCaseOf}
 use Rattle.predicates_core.specs.Combined.{IsNamed}
-use Rattle.predicates_core.proofs.Combined.{IsCaseOf-named}
+use Rattle.predicates_core.proofs.CombinedLemmas.{IsCaseOf-named}
 
 -- a node over the part's case, which stands under the name
 pub IsCaseOf-under : {part : Formula → Type 0} {b : Bool} {c t : Tree CaseNode} {name under bytes : List ℕ} → IsNode (Some bytes) b ((under, c) ∷ []) t → under ≡ name → Fits (Some name) bytes → IsCaseOf part b c → IsCaseOf (IsNamed name part) b t

@@ -2,7 +2,7 @@
 use Rattle.std.specs.Prelude.{ℕ, List, string_bytes}
 use Rattle.std.specs.Global.{Global}
 use Rattle.std.specs.declared.dyn_box.DynBox.{DynBox}
-use Rattle.predicates.specs.declared.boxed.holder.BoxPredicate.{BoxPredicate}
+use Rattle.predicates.specs.declared.boxed.box_predicate.BoxPredicate.{BoxPredicate}
 
 module _ {X : Type 0} {Kept : X → Type 0} where
   abbrev pub held_by : BoxPredicate X Kept → DynBox X Global Kept

@@ -5,10 +5,10 @@
 //! let boxed = BoxPredicate::new(alloc, Box::new(alloc, blank)?)?;
 //! ```
 
-mod holder;
-mod seen;
+mod box_predicate;
 #[cfg(test)]
 mod tests;
+mod text_predicate;
 
-pub use holder::BoxPredicate;
-pub use seen::TextPredicate;
+pub use box_predicate::BoxPredicate;
+pub use text_predicate::TextPredicate;

@@ -8,7 +8,7 @@ ghost use Rattle.predicates_core.specs.Label.{plain};
 ghost use Rattle.predicates_core.specs.Formula.{Named};
 ghost use Rattle.predicates_core.specs.Parts.{part};
 ghost use Rattle.predicates_core.specs.Combined.{IsNamed};
-ghost use Rattle.predicates_core.proofs.Combined.{named_text_fits, one_named};
+ghost use Rattle.predicates_core.proofs.CombinedLemmas.{named_text_fits, one_named};
 ghost use Rattle.predicates.specs.Name.{inner_of, name_of};
 
 #[cfg(test)]
@@ -68,12 +68,12 @@ impl<M: Predicate<Item>, Item, N: Lasting> Predicate<Item> for NamePredicate<M, 
 
     ghost one_formula = { λ p v f g lawful. one_named (λ x y. M.one_formula p.inner v x y lawful) };
 
-    #[tactic(auto, using(predicates_core::proofs::Combined::combined))]
+    #[tactic(auto, using(predicates_core::proofs::CombinedLemmas::combined))]
     fn eval(&self, alloc: Global, item: &Item) -> Result<bool, AllocError> {
         self.inner.eval(alloc, item)
     }
 
-    #[tactic(auto, using(predicates_core::proofs::Combined::combined))]
+    #[tactic(auto, using(predicates_core::proofs::CombinedLemmas::combined))]
     fn find_case(
         &self,
         alloc: Global,

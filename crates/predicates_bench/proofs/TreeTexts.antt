@@ -5,7 +5,7 @@ use mathlib.Core.Bool.{beq}
 use Rattle.predicates_core.specs.Label.{Entry, plain}
 use Rattle.predicates_core.specs.Formula.{Formula, And, Or, Xor, Not, HasTruth, differ}
 use Rattle.predicates_core.specs.Combined.{infix_text, not_text, IsAnd, IsOr, IsXor, IsNot}
-use Rattle.predicates_core.proofs.Combined.{has_and, has_or, has_xor, HasTruth-and_by_right, HasTruth-and_by_left, HasTruth-or_by_right, HasTruth-or_by_left, HasTruth-xor, HasTruth-not}
+use Rattle.predicates_core.proofs.CombinedLemmas.{has_and, has_or, has_xor, HasTruth-and_by_right, HasTruth-and_by_left, HasTruth-or_by_right, HasTruth-or_by_left, HasTruth-xor, HasTruth-not}
 use Rattle.predicates_core.proofs.Retold.{HasText}
 use Rattle.predicates_bench.specs.Trees.{tree_text, leaf_formula, HasFormula}
 use Rattle.predicates_bench.specs.declared.tree.Tree.{Tree, Leaf, Not', And', Or', Xor'}

@@ -3,7 +3,7 @@ use Rattle.std.specs.Prelude.{◌≡◌, ℤ}
 use Rattle.predicates_core.specs.Label.{FitsEntry}
 use Rattle.predicates_core.specs.Formula.{Formula, text_of}
 use Rattle.predicates_core.proofs.Leaves.{exactly_text_fits, one_exactly}
-use Rattle.predicates_core.proofs.Combined.{and_text_fits, or_text_fits, xor_text_fits, not_text_fits, one_and, one_or, one_xor, one_not}
+use Rattle.predicates_core.proofs.CombinedLemmas.{and_text_fits, or_text_fits, xor_text_fits, not_text_fits, one_and, one_or, one_xor, one_not}
 use Rattle.predicates_bench.specs.Trees.{tree_text, HasFormula}
 use Rattle.predicates_bench.specs.declared.tree.Tree.{Tree, Leaf, Not', And', Or', Xor'}
 

@@ -145,7 +145,7 @@ impl Tree {
     }
 
     #[cycle(find)]
-    #[tactic(auto, using(predicates_core::proofs::Combined::combined))]
+    #[tactic(auto, using(predicates_core::proofs::CombinedLemmas::combined))]
     fn find_not(
         alloc: Global,
         inner: &Tree,
@@ -162,7 +162,7 @@ impl Tree {
     }
 
     #[cycle(find)]
-    #[tactic(auto, using(predicates_core::proofs::Combined::combined))]
+    #[tactic(auto, using(predicates_core::proofs::CombinedLemmas::combined))]
     fn find_and(
         alloc: Global,
         left: &Tree,
@@ -197,7 +197,7 @@ impl Tree {
     }
 
     #[cycle(find)]
-    #[tactic(auto, using(predicates_core::proofs::Combined::combined))]
+    #[tactic(auto, using(predicates_core::proofs::CombinedLemmas::combined))]
     fn find_or(
         alloc: Global,
         left: &Tree,
@@ -232,7 +232,7 @@ impl Tree {
     }
 
     #[cycle(find)]
-    #[tactic(auto, using(predicates_core::proofs::Combined::combined))]
+    #[tactic(auto, using(predicates_core::proofs::CombinedLemmas::combined))]
     fn find_xor(
         alloc: Global,
         left: &Tree,

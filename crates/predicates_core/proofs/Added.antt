@@ -8,7 +8,7 @@ use Rattle.predicates_core.specs.Describe as describe
 use Rattle.predicates_core.specs.Describe.{CaseNode, NamedBytes}
 use Rattle.predicates_core.specs.Leaves.{IsShowing}
 use Rattle.predicates_core.specs.Added.{IsWithProduct}
-use Rattle.predicates_core.proofs.Combine.{with_product_truth, first-with_product}
+use Rattle.predicates_core.proofs.FirstReasonOf.{with_product_truth, first-with_product}
 
 -- one product more on both sides, where the value fits
 fit_last : (ps : List Product) (ss : List NamedBytes) (p : Product) (bytes : List ℕ) → Fits p.value bytes → FitsProducts ps ss → FitsProducts (ps ++ p ∷ []) (ss ++ (p.name, bytes) ∷ [])

@@ -5,7 +5,7 @@ use Rattle.predicates_core.specs.Label.{Label}
 use Rattle.predicates_core.specs.Formula.{Formula, And, Or, Xor, Not, Named, differ, size, value, actual, truth}
 use Rattle.predicates_core.specs.Alike.{AreAlike, AreSameFunction}
 use Rattle.predicates_core.proofs.Values.{not-not, truth-Not, truth-Named}
-use Rattle.predicates_core.proofs.Combine.{SameReasons, same_symmetric, same_first, same_function_reasons, same_function_truth, not_reasons, named_reasons, first-Not}
+use Rattle.predicates_core.proofs.FirstReasonOf.{SameReasons, same_symmetric, same_first, same_function_reasons, same_function_truth, not_reasons, named_reasons, first-Not}
 
 alike : (f g : Formula) → truth f ≡ truth g → SameReasons f g → AreAlike f g
 alike f g e s = record { truths = e; reasons = λ S. (same_first s S, same_first (same_symmetric s) S) }

@@ -5,7 +5,7 @@ use Rattle.predicates_core.specs.Formula.{Formula, Leaf, And, Or, Xor, Not, Name
 use Rattle.predicates_core.specs.Reason.{IsFirstReason}
 use Rattle.predicates_core.specs.Laws.{FirstReasons}
 use Rattle.predicates_core.proofs.First.{first_unique}
-use Rattle.predicates_core.proofs.Combine.{first-Leaf, first-Not, first-Named, first-And_both, first-And_left, first-And_right, first-Or_both, first-Or_left, first-Or_right, first-Xor}
+use Rattle.predicates_core.proofs.FirstReasonOf.{first-Leaf, first-Not, first-Named, first-And_both, first-And_left, first-And_right, first-Or_both, first-Or_left, first-Or_right, first-Xor}
 
 abbrev SomeFirst : Formula → Type 0
 SomeFirst f = (leaves : List ℕ) × IsFirstReason f leaves

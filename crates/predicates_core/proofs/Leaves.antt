@@ -7,8 +7,8 @@ use Rattle.predicates_core.specs.Describe.{CaseNode}
 use Rattle.predicates_core.specs.Shows.{Shows, Explains, IsCaseOf, IsNode}
 use Rattle.predicates_core.specs.Leaves.{IsExactly, IsShowing}
 use Rattle.predicates_core.proofs.Values.{truth-Leaf}
-use Rattle.predicates_core.proofs.Combine.{first-Leaf}
-use Rattle.predicates_core.proofs.Combined.{fits_itself, node_fits, node_of_text}
+use Rattle.predicates_core.proofs.FirstReasonOf.{first-Leaf}
+use Rattle.predicates_core.proofs.CombinedLemmas.{fits_itself, node_fits, node_of_text}
 use Rattle.predicates_core.proofs.Added.{IsCaseOf-with_product}
 
 pub HasTruth-same : {F : Formula → Type 0} {a b : Bool} → HasTruth F a → a ≡ b → HasTruth F b

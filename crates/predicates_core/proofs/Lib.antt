@@ -2,9 +2,9 @@ pub mod Numbers
 pub mod Values
 pub mod Joins
 pub mod First
-pub mod Combine
+pub mod FirstReasonOf
 pub mod Shown
-pub mod Combined
+pub mod CombinedLemmas
 pub mod Retold
 pub mod Leaves
 pub mod Added
@@ -12,7 +12,7 @@ pub mod Forests
 pub mod Lines
 pub mod Preorder
 pub mod Fields
-pub mod Kept
+pub mod HeldForGood
 pub mod Existence
 pub mod Alike
 pub mod OneCase

@@ -4,7 +4,7 @@ use Rattle.std.proofs.lemmas.List.{replicate-append-replicate}
 use Rattle.predicates_core.specs.Tree.{Forest, Tree, empty, branch, named_trees}
 use Rattle.predicates_core.specs.Describe.{CaseNode, NamedCase}
 use Rattle.predicates_core.specs.Lines.{indented, verdict, product_line, node_lines, forest_lines, lines}
-use Rattle.predicates_core.specs.Written.{deeper, tail_lines, trees_lines, tree_lines, child_lines}
+use Rattle.predicates_core.specs.IndentedLines.{deeper, tail_lines, trees_lines, tree_lines, child_lines}
 
 pub trees_lines-flat_map : (indent : List ℕ) (f : Forest CaseNode) → trees_lines indent f ≡ flat_map (child_lines indent) (named_trees f)
 trees_lines-flat_map indent empty = refl

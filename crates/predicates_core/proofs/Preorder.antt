@@ -3,7 +3,7 @@ use Rattle.std.proofs.Common.{◌≡◌, ◌+◌, ◌-◌, ◌≤◌, ℕ, zero,
 use Rattle.std.proofs.lemmas.List.{take-append-le, drop-append-le, take_all, drop_all}
 use Rattle.predicates_core.specs.Tree.{Forest, Tree, empty, branch, named_trees, add_last}
 use Rattle.predicates_core.specs.Describe.{CaseNode}
-use Rattle.predicates_core.specs.Held.{node_of, trees_of, trees, AreSized, IsPreorder}
+use Rattle.predicates_core.specs.CaseFields.{node_of, trees_of, trees, AreSized, IsPreorder}
 use Rattle.predicates_core.specs.declared.reflection.case.Entry.{Entry}
 
 -- the number of entries that is given does not matter, if there are no more

@@ -7,7 +7,7 @@ use Rattle.predicates_core.specs.Tree.{Tree}
 use Rattle.predicates_core.specs.Describe.{CaseNode, NamedCase}
 use Rattle.predicates_core.specs.Shows.{Shows, IsCaseOf, IsNode}
 use Rattle.predicates_core.specs.Combined.{infix_text, not_text, IsAnd, IsOr, IsXor, IsNot}
-use Rattle.predicates_core.proofs.Combined.{IsCaseOf-and_both, IsCaseOf-and_left, IsCaseOf-and_right, IsCaseOf-or_both, IsCaseOf-or_left, IsCaseOf-or_right, IsCaseOf-xor, IsCaseOf-not, has_no_formula}
+use Rattle.predicates_core.proofs.CombinedLemmas.{IsCaseOf-and_both, IsCaseOf-and_left, IsCaseOf-and_right, IsCaseOf-or_both, IsCaseOf-or_left, IsCaseOf-or_right, IsCaseOf-xor, IsCaseOf-not, has_no_formula}
 
 -- a text in brackets fits what is stated in brackets
 pub not_fits : (entry : Entry) (inner : List ℕ) → Fits entry inner → Fits (not_text entry) (codes "(! " ++ (inner ++ codes ")"))

@@ -11,9 +11,9 @@ pub mod Leaves
 pub mod Added
 pub mod Parts
 pub mod Text
-pub mod Held
-pub mod ChildFalls
+pub mod CaseFields
+pub mod ChildDepth
 pub mod Lines
-pub mod Read
-pub mod Written
+pub mod CaseViews
+pub mod IndentedLines
 pub mod Ownership

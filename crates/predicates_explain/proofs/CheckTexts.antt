@@ -2,7 +2,7 @@
 use Rattle.std.proofs.Common.{◌≡◌, ℕ, List, refl}
 use Rattle.predicates_core.specs.Formula.{text_of}
 use Rattle.predicates_core.proofs.Retold.{HasText}
-use Rattle.predicates_text.specs.Handed.{trimmed_bytes, even_bytes}
+use Rattle.predicates_text.specs.ViewFormulas.{trimmed_bytes, even_bytes}
 use Rattle.predicates_explain.specs.Checks.{check_text, check_formula, HasFormula}
 use Rattle.predicates_explain.specs.CheckLaws.{has_check_formula}
 use Rattle.predicates_explain.specs.declared.check.TextCheck.{TextCheck, Empty, Equals, Starts, Ends, Contains, Matches, Trim', Normalize', Not', And', Or', Xor'}

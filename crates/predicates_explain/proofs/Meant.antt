@@ -2,7 +2,7 @@
 use Rattle.std.proofs.Common.{◌≡◌, ◌↔◌, List, ℕ, string_bytes, sym, subst}
 use Rattle.predicates_core.specs.Formula.{Formula}
 use Rattle.predicates_core.specs.Text.{Text}
-use Rattle.predicates_text.specs.Handed.{trimmed_bytes, even_bytes}
+use Rattle.predicates_text.specs.ViewFormulas.{trimmed_bytes, even_bytes}
 use Rattle.predicates_explain.specs.Checks.{check_text, HasFormula}
 use Rattle.predicates_explain.specs.Meaning.{MeansByParts}
 use Rattle.predicates_explain.specs.declared.check.TextCheck.{TextCheck, Trim', Normalize', Not', And', Or', Xor'}

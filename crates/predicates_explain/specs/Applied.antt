@@ -1,8 +1,8 @@
 -- What a word makes of a stack of checks.
 use Rattle.std.specs.Prelude.{◌≡◌, ℕ, List, [], ◌∷◌, ◌++◌, string_bytes}
 use Rattle.predicates.specs.Makers.{equal_to}
-use Rattle.predicates_text.specs.Held.{starts_pattern, ends_pattern, contains_pattern}
-use Rattle.predicates_text.specs.Pattern.{regex_text, IsReadFromText}
+use Rattle.predicates_text.specs.Patterns.{starts_pattern, ends_pattern, contains_pattern}
+use Rattle.predicates_text.specs.Expressions.{regex_text, IsReadFromText}
 use Rattle.predicates_explain.specs.declared.words.word.Word.{Word}
 use Rattle.predicates_explain.specs.declared.words.word.Word.TheVariants.{Empty, Equals, Starts, Ends, Contains, Matches, Trim, Normalize, Not, And, Or, Xor}
 use Rattle.predicates_explain.specs.declared.check.TextCheck.{TextCheck, Empty as EmptyCheck, Equals as EqualsCheck, Starts as StartsCheck, Ends as EndsCheck, Contains as ContainsCheck, Matches as MatchesCheck, Trim', Normalize', Not', And', Or', Xor'}

@@ -3,10 +3,10 @@ use Rattle.std.specs.Prelude.{◌≡◌, refl, ℕ, List}
 use Rattle.predicates_core.specs.Label.{FitsEntry}
 use Rattle.predicates_core.specs.Formula.{Formula, text_of}
 use Rattle.predicates_core.proofs.Leaves.{exactly_text_fits, one_exactly}
-use Rattle.predicates_core.proofs.Combined.{and_text_fits, or_text_fits, xor_text_fits, not_text_fits, one_and, one_or, one_xor, one_not, has_and, has_or, has_xor}
-use Rattle.predicates_text.specs.Held.{starts_pattern, ends_pattern, contains_pattern}
+use Rattle.predicates_core.proofs.CombinedLemmas.{and_text_fits, or_text_fits, xor_text_fits, not_text_fits, one_and, one_or, one_xor, one_not, has_and, has_or, has_xor}
+use Rattle.predicates_text.specs.Patterns.{starts_pattern, ends_pattern, contains_pattern}
 use Rattle.predicates_text.specs.MeantLaws.{empty_text_fits, starts_text_fits, ends_text_fits, contains_text_fits, one_empty, one_starts, one_ends, one_contains, has_empty, has_starts, has_ends, has_contains}
-use Rattle.predicates_text.specs.Handed.{trimmed_bytes, even_bytes}
+use Rattle.predicates_text.specs.ViewFormulas.{trimmed_bytes, even_bytes}
 use Rattle.predicates_explain.specs.Checks.{check_text, check_formula, HasFormula}
 use Rattle.predicates_explain.specs.declared.check.TextCheck.{TextCheck, Empty, Equals, Starts, Ends, Contains, Matches, Trim', Normalize', Not', And', Or', Xor'}
 

@@ -4,11 +4,11 @@ use Rattle.predicates_core.specs.Label.{Entry, plain}
 use Rattle.predicates_core.specs.Formula.{Formula, And, Or, Xor, Not}
 use Rattle.predicates_core.specs.Leaves.{IsExactly}
 use Rattle.predicates_core.specs.Combined.{infix_text, not_text, IsAnd, IsOr, IsXor, IsNot}
-use Rattle.predicates_text.specs.Held.{starts_pattern, ends_pattern, contains_pattern}
+use Rattle.predicates_text.specs.Patterns.{starts_pattern, ends_pattern, contains_pattern}
 use Rattle.predicates_text.specs.Leaves.{empty_text, empty_formula, starts_text, starts_formula, ends_text, ends_formula, contains_text, contains_formula}
 use Rattle.predicates_text.specs.Meant.{IsEmptyLeaf, IsStartsLeaf, IsEndsLeaf, IsContainsLeaf}
-use Rattle.predicates_text.specs.Pattern.{match_text, match_formula, regex_text, regex_meaning}
-use Rattle.predicates_text.specs.Handed.{trimmed_bytes, even_bytes}
+use Rattle.predicates_text.specs.Expressions.{match_text, match_formula, regex_text, regex_meaning}
+use Rattle.predicates_text.specs.ViewFormulas.{trimmed_bytes, even_bytes}
 use Rattle.predicates.specs.TextEquality.{text_equality_text, text_equality_formula}
 use Rattle.predicates_explain.specs.declared.check.TextCheck.{TextCheck, Empty, Equals, Starts, Ends, Contains, Matches, Trim', Normalize', Not' as NotCheck, And' as AndCheck, Or' as OrCheck, Xor' as XorCheck}
 

@@ -4,7 +4,7 @@ use Rattle.predicates_core.specs.Combined.{infix_text, not_text, IsAnd, IsOr, Is
 use Rattle.predicates_core.specs.Formula.{Formula}
 use Rattle.predicates_core.specs.Label.{Entry}
 use Rattle.predicates_core.specs.Text.{Text}
-use Rattle.predicates_text.specs.Handed.{trimmed_bytes, even_bytes}
+use Rattle.predicates_text.specs.ViewFormulas.{trimmed_bytes, even_bytes}
 use Rattle.predicates_explain.specs.declared.check.TextCheck.{TextCheck, Trim', Normalize', Not', And', Or', Xor'}
 
 -- the formulas of a view's check are those of its part on the view; those of `not`, `and`, `or` and `xor` join those of the parts

@@ -3,7 +3,7 @@ ghost use Rattle.std.specs.Prelude.{◌≡◌, [], IfOk, codes, string_bytes};
 ghost use Rattle.predicates_core.specs.Combined.{infix_text, not_text, IsAnd, IsNot, IsOr, IsXor};
 ghost use Rattle.predicates_core.specs.Shows.{IsAnswer};
 ghost use Rattle.predicates_core.specs.Tree.{empty};
-ghost use Rattle.predicates_text.specs.Handed.{trimmed_bytes, even_bytes};
+ghost use Rattle.predicates_text.specs.ViewFormulas.{trimmed_bytes, even_bytes};
 ghost use Rattle.predicates_explain.specs.Checks.{check_text, check_formula, HasFormula, IsSteadyCheck};
 ghost use Rattle.predicates_explain.specs.CheckLaws.{check_text_fits, one_check, has_check_formula};
 ghost use Rattle.predicates_explain.specs.Weight.{IsAlone};
@@ -160,7 +160,7 @@ impl PredicateReflection for TextCheck {
 }
 
 // The text without the white space at its ends.
-#[tactic(auto, using(predicates_text::specs::Made::bytes_of_chars))]
+#[tactic(auto, using(predicates_text::specs::ViewTexts::bytes_of_chars))]
 fn without_ends(alloc: Global, item: &String) -> Result<String, AllocError>
     ensures { IfOk result (λ view. string_bytes view ≡ trimmed_bytes (string_bytes item.now)) }
 {
@@ -168,7 +168,7 @@ fn without_ends(alloc: Global, item: &String) -> Result<String, AllocError>
 }
 
 // The text with even line endings.
-#[tactic(auto, using(predicates_text::specs::Made::bytes_of_chars))]
+#[tactic(auto, using(predicates_text::specs::ViewTexts::bytes_of_chars))]
 fn with_even_lines(alloc: Global, item: &String) -> Result<String, AllocError>
     ensures { IfOk result (λ view. string_bytes view ≡ even_bytes (string_bytes item.now)) }
 {
@@ -184,7 +184,7 @@ impl Predicate<String> for TextCheck {
 
     ghost one_formula = { λ c v f g lawful. one_check c (string_bytes v) f g };
 
-    #[tactic(auto, using(predicates_core::proofs::Combined::combined))]
+    #[tactic(auto, using(predicates_core::proofs::CombinedLemmas::combined))]
     fn eval(&self, alloc: Global, item: &String) -> Result<bool, AllocError> {
         match self {
             TextCheck::Empty(leaf) => leaf.eval(alloc, item),
@@ -241,7 +241,7 @@ impl TextCheck {
     }
 
     #[cycle(find)]
-    #[tactic(auto, using(predicates_core::proofs::Combined::combined))]
+    #[tactic(auto, using(predicates_core::proofs::CombinedLemmas::combined))]
     fn find(&self, alloc: Global, expected: bool, item: &String) -> Result<Option<Case>, AllocError>
         ensures { IfOk result (IsAnswer (HasFormula self.now (string_bytes item.now)) expected) }
     {
@@ -295,7 +295,7 @@ impl TextCheck {
 
     #[inline(never)]
     #[cycle(find)]
-    #[tactic(auto, using(predicates_core::proofs::Combined::combined))]
+    #[tactic(auto, using(predicates_core::proofs::CombinedLemmas::combined))]
     fn find_not(
         alloc: Global,
         inner: &TextCheck,
@@ -313,7 +313,7 @@ impl TextCheck {
 
     #[inline(never)]
     #[cycle(find)]
-    #[tactic(auto, using(predicates_core::proofs::Combined::combined))]
+    #[tactic(auto, using(predicates_core::proofs::CombinedLemmas::combined))]
     fn find_and(
         alloc: Global,
         left: &TextCheck,
@@ -348,7 +348,7 @@ impl TextCheck {
 
     #[inline(never)]
     #[cycle(find)]
-    #[tactic(auto, using(predicates_core::proofs::Combined::combined))]
+    #[tactic(auto, using(predicates_core::proofs::CombinedLemmas::combined))]
     fn find_or(
         alloc: Global,
         left: &TextCheck,
@@ -383,7 +383,7 @@ impl TextCheck {
 
     #[inline(never)]
     #[cycle(find)]
-    #[tactic(auto, using(predicates_core::proofs::Combined::combined))]
+    #[tactic(auto, using(predicates_core::proofs::CombinedLemmas::combined))]
     fn find_xor(
         alloc: Global,
         left: &TextCheck,

@@ -3,7 +3,7 @@ use Rattle.std.specs.Prelude.{◌≡◌, ℕ, List, Option, Some, codes}
 use Rattle.predicates_core.specs.Label.{FitsEntry}
 use Rattle.predicates_core.specs.Formula.{Formula, text_of}
 use Rattle.predicates_core.specs.Combined.{infix_text, not_text, IsAnd, IsOr, IsXor, IsNot, IsNamed}
-use Rattle.predicates_core.proofs.Combined.{and_text_fits, or_text_fits, xor_text_fits, not_text_fits, named_text_fits, one_and, one_or, one_xor, one_not, one_named}
+use Rattle.predicates_core.proofs.CombinedLemmas.{and_text_fits, or_text_fits, xor_text_fits, not_text_fits, named_text_fits, one_and, one_or, one_xor, one_not, one_named}
 use Rattle.predicates.specs.declared.boolean.and.AndPredicate.{AndPredicate}
 use Rattle.predicates.specs.declared.boolean.or.OrPredicate.{OrPredicate}
 use Rattle.predicates.specs.declared.boolean.xor.XorPredicate.{XorPredicate}

@@ -1,7 +1,7 @@
 //! A predicate of texts of the level below, or a combinator or an adapter of the library over such.
-ghost use Rattle.predicates_text.specs.HandedLaws.{each_text_fits, one_each};
-ghost use Rattle.predicates_text.specs.Inner.{trim_part, normalized_part};
-ghost use Rattle.predicates_text.specs.Made.{has_trimmed, has_even_lines};
+ghost use Rattle.predicates_text.specs.ViewFormulaLaws.{each_text_fits, one_each};
+ghost use Rattle.predicates_text.specs.AdapterParts.{trim_part, normalized_part};
+ghost use Rattle.predicates_text.specs.ViewTexts.{has_trimmed, has_even_lines};
 ghost use Rattle.predicates_generated.specs.Level.{level_text_fits, one_of_level};
 ghost use Rattle.predicates_generated.specs.OneOf.{text_fits_by_type, one_by_type};
 

@@ -1,5 +1,5 @@
 //! What the library's predicates over texts and bytes answer.
-ghost use Rattle.predicates_text.specs.Inner.{trim_part, normalized_part, utf8_part};
+ghost use Rattle.predicates_text.specs.AdapterParts.{trim_part, normalized_part, utf8_part};
 ghost use Rattle.predicates_generated.specs.Level.{all_parts};
 ghost use Rattle.predicates_generated.specs.OneOf.{lawful_by_type};
 

@@ -11,7 +11,7 @@ use Rattle.predicates_core.specs.Shows.{IsNode, IsCaseOf, IsAnswer}
 use Rattle.predicates_core.specs.Leaves.{IsShowing}
 use Rattle.predicates_core.proofs.Leaves.{IsCaseOf-showing, HasTruth-exactly}
 use Rattle.predicates_core.proofs.Added.{HasTruth-with_product, IsCaseOf-with_product}
-use Rattle.predicates_text.specs.Handed.{IsOfEach, IsDecoded}
+use Rattle.predicates_text.specs.ViewFormulas.{IsOfEach, IsDecoded}
 
 module _ {has : Text → Formula → Type 0} {handed : Text → Type 0} where
   pub HasTruth-each : {b : Bool} (t : Text) → handed t → HasTruth (has t) b → HasTruth (IsOfEach has handed) b

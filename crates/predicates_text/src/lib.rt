@@ -13,8 +13,8 @@
 mod adapters;
 mod basics;
 pub mod count;
+mod expressions;
 mod node;
-mod pattern;
 pub mod places;
 #[cfg(test)]
 mod tests;
@@ -25,5 +25,5 @@ pub use basics::{
     ContainsPredicate, EndsWithPredicate, IsEmptyPredicate, MatchesPredicate, StartsWithPredicate,
     contains, ends_with, is_empty, starts_with,
 };
-pub use pattern::{RegexError, RegexMatchesPredicate, RegexPredicate, is_match};
+pub use expressions::{RegexError, RegexMatchesPredicate, RegexPredicate, is_match};
 pub use views::{lines_even, trimmed};

@@ -3,7 +3,7 @@ use Rattle.std.proofs.Common.{◌≡◌, ℕ, Bool, true, false, List, Option, r
 use Rattle.std.specs.Prelude.{◌||◌}
 use Rattle.predicates_core.specs.Formula.{Formula, HasTruth}
 use Rattle.predicates_core.specs.Combined.{IsOr}
-use Rattle.predicates_core.proofs.Combined.{HasTruth-or_by_left, HasTruth-or_by_right}
+use Rattle.predicates_core.proofs.CombinedLemmas.{HasTruth-or_by_left, HasTruth-or_by_right}
 
 module _ {text : Option (List ℕ)} {left right : Formula → Type 0} where
   of_both : (a b : Bool) → HasTruth left a → HasTruth right b → HasTruth (IsOr text left right) (a || b)

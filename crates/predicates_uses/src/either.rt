@@ -4,7 +4,7 @@ ghost use Rattle.predicates_core.specs.Label.{plain};
 ghost use Rattle.predicates_core.specs.Formula.{Formula, Or};
 ghost use Rattle.predicates_core.specs.Parts.{two_parts};
 ghost use Rattle.predicates_core.specs.Combined.{IsOr};
-ghost use Rattle.predicates_core.proofs.Combined.{or_text_fits, one_or, has_or};
+ghost use Rattle.predicates_core.proofs.CombinedLemmas.{or_text_fits, one_or, has_or};
 ghost use Rattle.predicates_uses.specs.Either.{either_text, left_of, right_of};
 
 use predicates::own::{or_case, two_children};
@@ -72,7 +72,7 @@ impl<P: Predicate<Item>, Q: Predicate<Item>, Item> Predicate<Item> for Either<P,
         (λ x y. P.one_formula (left_of p) v x y lawful.0)
         (λ x y. Q.one_formula (right_of p) v x y lawful.1) };
 
-    #[tactic(auto, using(predicates_core::proofs::Combined::combined))]
+    #[tactic(auto, using(predicates_core::proofs::CombinedLemmas::combined))]
     fn eval(&self, alloc: Global, item: &Item) -> Result<bool, AllocError> {
         Ok(self.left.eval(alloc, item)? || self.right.eval(alloc, item)?)
     }

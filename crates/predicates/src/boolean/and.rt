@@ -4,7 +4,7 @@ ghost use Rattle.predicates_core.specs.Label.{plain};
 ghost use Rattle.predicates_core.specs.Formula.{And};
 ghost use Rattle.predicates_core.specs.Parts.{two_parts};
 ghost use Rattle.predicates_core.specs.Combined.{infix_text, IsAnd};
-ghost use Rattle.predicates_core.proofs.Combined.{and_text_fits, one_and, has_and};
+ghost use Rattle.predicates_core.proofs.CombinedLemmas.{and_text_fits, one_and, has_and};
 
 use predicates_core::node::{over_found, printed};
 use predicates_core::reflection::{Case, Child, Parameter, PredicateReflection, describe};
@@ -84,14 +84,14 @@ impl<M1: Predicate<Item>, M2: Predicate<Item>, Item> Predicate<Item>
         (λ x y. M1.one_formula p.a v x y lawful.0)
         (λ x y. M2.one_formula p.b v x y lawful.1) };
 
-    #[tactic(auto, using(predicates_core::proofs::Combined::combined))]
+    #[tactic(auto, using(predicates_core::proofs::CombinedLemmas::combined))]
     fn eval(&self, alloc: Global, item: &Item) -> Result<bool, AllocError> {
         Ok(self.a.eval(alloc, item)? && self.b.eval(alloc, item)?)
     }
 
     /// `eval` is asked first, so that no case of a part is made in vain. So each part is asked at most
     /// twice at this level: once by `eval`, and once for its case.
-    #[tactic(auto, using(predicates_core::proofs::Combined::combined))]
+    #[tactic(auto, using(predicates_core::proofs::CombinedLemmas::combined))]
     fn find_case(
         &self,
         alloc: Global,

@@ -4,7 +4,7 @@ ghost use Rattle.predicates_core.specs.Label.{plain};
 ghost use Rattle.predicates_core.specs.Formula.{Not};
 ghost use Rattle.predicates_core.specs.Parts.{part};
 ghost use Rattle.predicates_core.specs.Combined.{not_text, IsNot};
-ghost use Rattle.predicates_core.proofs.Combined.{not_text_fits, one_not};
+ghost use Rattle.predicates_core.proofs.CombinedLemmas.{not_text_fits, one_not};
 
 use predicates_core::node::{over_one, printed};
 use predicates_core::reflection::{Case, Child, Parameter, PredicateReflection, describe};
@@ -71,12 +71,12 @@ impl<M: Predicate<Item>, Item> Predicate<Item> for NotPredicate<M, Item> {
 
     ghost one_formula = { λ p v f g lawful. one_not (λ x y. M.one_formula p.inner v x y lawful) };
 
-    #[tactic(auto, using(predicates_core::proofs::Combined::combined))]
+    #[tactic(auto, using(predicates_core::proofs::CombinedLemmas::combined))]
     fn eval(&self, alloc: Global, item: &Item) -> Result<bool, AllocError> {
         Ok(!self.inner.eval(alloc, item)?)
     }
 
-    #[tactic(auto, using(predicates_core::proofs::Combined::combined))]
+    #[tactic(auto, using(predicates_core::proofs::CombinedLemmas::combined))]
     fn find_case(
         &self,
         alloc: Global,

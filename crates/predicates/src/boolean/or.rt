@@ -4,7 +4,7 @@ ghost use Rattle.predicates_core.specs.Label.{plain};
 ghost use Rattle.predicates_core.specs.Formula.{Or};
 ghost use Rattle.predicates_core.specs.Parts.{two_parts};
 ghost use Rattle.predicates_core.specs.Combined.{infix_text, IsOr};
-ghost use Rattle.predicates_core.proofs.Combined.{or_text_fits, one_or, has_or};
+ghost use Rattle.predicates_core.proofs.CombinedLemmas.{or_text_fits, one_or, has_or};
 
 use predicates_core::node::{over_found, printed};
 use predicates_core::reflection::{Case, Child, Parameter, PredicateReflection, describe};
@@ -83,14 +83,14 @@ impl<M1: Predicate<Item>, M2: Predicate<Item>, Item> Predicate<Item> for OrPredi
         (λ x y. M1.one_formula p.a v x y lawful.0)
         (λ x y. M2.one_formula p.b v x y lawful.1) };
 
-    #[tactic(auto, using(predicates_core::proofs::Combined::combined))]
+    #[tactic(auto, using(predicates_core::proofs::CombinedLemmas::combined))]
     fn eval(&self, alloc: Global, item: &Item) -> Result<bool, AllocError> {
         Ok(self.a.eval(alloc, item)? || self.b.eval(alloc, item)?)
     }
 
     /// `eval` is asked first, so that no case of a part is made in vain. So each part is asked at most
     /// twice at this level: once by `eval`, and once for its case.
-    #[tactic(auto, using(predicates_core::proofs::Combined::combined))]
+    #[tactic(auto, using(predicates_core::proofs::CombinedLemmas::combined))]
     fn find_case(
         &self,
         alloc: Global,

@@ -4,7 +4,7 @@ ghost use Rattle.predicates_core.specs.Label.{plain};
 ghost use Rattle.predicates_core.specs.Formula.{Xor};
 ghost use Rattle.predicates_core.specs.Parts.{two_parts};
 ghost use Rattle.predicates_core.specs.Combined.{infix_text, IsXor};
-ghost use Rattle.predicates_core.proofs.Combined.{xor_text_fits, one_xor, has_xor};
+ghost use Rattle.predicates_core.proofs.CombinedLemmas.{xor_text_fits, one_xor, has_xor};
 
 #[cfg(test)]
 mod tests;
@@ -87,12 +87,12 @@ impl<M1: Predicate<Item>, M2: Predicate<Item>, Item> Predicate<Item>
         (λ x y. M1.one_formula p.a v x y lawful.0)
         (λ x y. M2.one_formula p.b v x y lawful.1) };
 
-    #[tactic(auto, using(predicates_core::proofs::Combined::combined))]
+    #[tactic(auto, using(predicates_core::proofs::CombinedLemmas::combined))]
     fn eval(&self, alloc: Global, item: &Item) -> Result<bool, AllocError> {
         Ok(self.a.eval(alloc, item)? != self.b.eval(alloc, item)?)
     }
 
-    #[tactic(auto, using(predicates_core::proofs::Combined::combined))]
+    #[tactic(auto, using(predicates_core::proofs::CombinedLemmas::combined))]
     fn find_case(
         &self,
         alloc: Global,

@@ -11,7 +11,7 @@ use std::fmt;
 
 /// What `find_case` of a predicate is to answer that holds where either part does. The left part is
 /// asked first, and the right one only where the left one does not decide.
-#[tactic(auto, using(predicates_core::proofs::Combined::combined))]
+#[tactic(auto, using(predicates_core::proofs::CombinedLemmas::combined))]
 pub fn or_case<W: fmt::Display, P: Predicate<Item>, Q: Predicate<Item>, Item>(
     alloc: Global,
     whole: &W,

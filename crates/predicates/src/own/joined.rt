@@ -13,7 +13,7 @@ use std::fmt;
 
 /// What `find_case` of a predicate is to answer that holds where both parts do. The left part is
 /// asked first, and the right one only where the left one does not decide.
-#[tactic(auto, using(predicates_core::proofs::Combined::combined))]
+#[tactic(auto, using(predicates_core::proofs::CombinedLemmas::combined))]
 pub fn and_case<W: fmt::Display, P: Predicate<Item>, Q: Predicate<Item>, Item>(
     alloc: Global,
     whole: &W,
@@ -47,7 +47,7 @@ pub fn and_case<W: fmt::Display, P: Predicate<Item>, Q: Predicate<Item>, Item>(
 
 /// The same of one that holds where exactly one part does. Each part is asked for its truth, and then
 /// for its case.
-#[tactic(auto, using(predicates_core::proofs::Combined::combined))]
+#[tactic(auto, using(predicates_core::proofs::CombinedLemmas::combined))]
 pub fn xor_case<W: fmt::Display, P: Predicate<Item>, Q: Predicate<Item>, Item>(
     alloc: Global,
     whole: &W,
@@ -73,7 +73,7 @@ pub fn xor_case<W: fmt::Display, P: Predicate<Item>, Q: Predicate<Item>, Item>(
 }
 
 /// The same of one that holds where its part does not.
-#[tactic(auto, using(predicates_core::proofs::Combined::combined))]
+#[tactic(auto, using(predicates_core::proofs::CombinedLemmas::combined))]
 pub fn not_case<W: fmt::Display, P: Predicate<Item>, Item>(
     alloc: Global,
     whole: &W,

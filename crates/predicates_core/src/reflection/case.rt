@@ -52,7 +52,7 @@ impl Model for Case {
 
     ghost coded = { coded_case_tree };
 
-    ghost use Rattle.predicates_core.specs.Held.{node_of, trees, IsPreorder};
+    ghost use Rattle.predicates_core.specs.CaseFields.{node_of, trees, IsPreorder};
 
     ghost view = { λ c. record { root = node_of c.root; children = trees c.below.items } };
 
@@ -140,7 +140,7 @@ impl<'a> Model for CaseView<'a> {
 
     ghost coded = { coded_case_tree };
 
-    ghost use Rattle.predicates_core.specs.Held.{node_of, trees, IsPreorder};
+    ghost use Rattle.predicates_core.specs.CaseFields.{node_of, trees, IsPreorder};
 
     ghost view = { λ v. record { root = node_of v.node.now; children = trees v.below.now } };
 
@@ -205,7 +205,7 @@ impl<'a> Model for CaseChildren<'a> {
 
     ghost coded = { coded_named_cases };
 
-    ghost use Rattle.predicates_core.specs.Held.{trees, IsPreorder};
+    ghost use Rattle.predicates_core.specs.CaseFields.{trees, IsPreorder};
 
     ghost view = { λ c. named_trees (trees c.rest.now) };
 
@@ -216,7 +216,7 @@ impl<'a> Iterator for CaseChildren<'a> {
     type Item = CaseChild<'a>;
 
     ghost use Rattle.std.specs.Iterator.{YieldsFirstBy, item_count};
-    ghost use Rattle.predicates_core.specs.Read.{named_case};
+    ghost use Rattle.predicates_core.specs.CaseViews.{named_case};
 
     ghost next_gives = { YieldsFirstBy named_case (λ s. s) };
 

@@ -36,7 +36,7 @@ impl Model for Child {
 
     ghost size = { λ c. node_count c.1.children };
 
-    ghost use Rattle.predicates_core.specs.ChildFalls.{depth_le-node_count};
+    ghost use Rattle.predicates_core.specs.ChildDepth.{depth_le-node_count};
 
     ghost size_decreases = { λ c h. depth_le-node_count c.children.items };
 }

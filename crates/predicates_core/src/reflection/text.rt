@@ -1,7 +1,7 @@
 //! The text of a case.
 ghost use Rattle.std.specs.Prelude.{◌≡◌, ◌++◌, OnOk, IfOk, string_bytes};
 ghost use Rattle.predicates_core.specs.Lines.{verdict, product_line, lines};
-ghost use Rattle.predicates_core.specs.Written.{deeper, tree_lines};
+ghost use Rattle.predicates_core.specs.IndentedLines.{deeper, tree_lines};
 
 use crate::reflection::{Case, CaseChild, CaseView, Product};
 use std::alloc::{AllocError, Global};

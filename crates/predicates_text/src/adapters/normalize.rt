@@ -1,10 +1,10 @@
 //! Texts with even line endings.
 ghost use Rattle.std.specs.Prelude.{◌≡◌, [], codes, string_bytes};
 ghost use Rattle.predicates_core.specs.Parts.{part};
-ghost use Rattle.predicates_text.specs.Handed.{IsOfEach, HasEvenLinesOf, even_bytes};
-ghost use Rattle.predicates_text.specs.HandedLaws.{each_text_fits, one_each, has_each};
-ghost use Rattle.predicates_text.specs.Made.{has_even_lines, even_lines_are};
-ghost use Rattle.predicates_text.specs.Inner.{normalized_part};
+ghost use Rattle.predicates_text.specs.ViewFormulas.{IsOfEach, HasEvenLinesOf, even_bytes};
+ghost use Rattle.predicates_text.specs.ViewFormulaLaws.{each_text_fits, one_each, has_each};
+ghost use Rattle.predicates_text.specs.ViewTexts.{has_even_lines, even_lines_are};
+ghost use Rattle.predicates_text.specs.AdapterParts.{normalized_part};
 
 use crate::views::lines_even_copy;
 use predicates_core::reflection::{Case, Child, Parameter, PredicateReflection, describe};

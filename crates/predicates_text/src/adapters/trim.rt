@@ -1,10 +1,10 @@
 //! Trimmed texts.
 ghost use Rattle.std.specs.Prelude.{◌≡◌, [], codes, string_bytes};
 ghost use Rattle.predicates_core.specs.Parts.{part};
-ghost use Rattle.predicates_text.specs.Handed.{IsOfEach, IsTrimmedOf, trimmed_bytes};
-ghost use Rattle.predicates_text.specs.HandedLaws.{each_text_fits, one_each, has_each};
-ghost use Rattle.predicates_text.specs.Made.{has_trimmed, trimmed_is};
-ghost use Rattle.predicates_text.specs.Inner.{trim_part};
+ghost use Rattle.predicates_text.specs.ViewFormulas.{IsOfEach, IsTrimmedOf, trimmed_bytes};
+ghost use Rattle.predicates_text.specs.ViewFormulaLaws.{each_text_fits, one_each, has_each};
+ghost use Rattle.predicates_text.specs.ViewTexts.{has_trimmed, trimmed_is};
+ghost use Rattle.predicates_text.specs.AdapterParts.{trim_part};
 
 use crate::views::trimmed_copy;
 use predicates_core::reflection::{Case, Child, Parameter, PredicateReflection, describe};

@@ -3,11 +3,11 @@ ghost use Rattle.std.specs.Prelude.{◌≡◌, [], Some, IfOk, IfSome, IsOk, Mat
 ghost use Rattle.std.specs.Prelude.{string_bytes};
 ghost use Rattle.std.specs.Str.{IsUtf8};
 ghost use Rattle.predicates_core.specs.Parts.{part};
-ghost use Rattle.predicates_text.specs.Handed.{IsDecoded, decoded_formula};
-ghost use Rattle.predicates_text.specs.HandedLaws.{decoded_text_fits, one_decoded};
-ghost use Rattle.predicates_text.specs.HandedLaws.{has_decoded_formula};
-ghost use Rattle.predicates_text.specs.Made.{text_or_other};
-ghost use Rattle.predicates_text.specs.Inner.{utf8_part};
+ghost use Rattle.predicates_text.specs.ViewFormulas.{IsDecoded, decoded_formula};
+ghost use Rattle.predicates_text.specs.ViewFormulaLaws.{decoded_text_fits, one_decoded};
+ghost use Rattle.predicates_text.specs.ViewFormulaLaws.{has_decoded_formula};
+ghost use Rattle.predicates_text.specs.ViewTexts.{text_or_other};
+ghost use Rattle.predicates_text.specs.AdapterParts.{utf8_part};
 
 use predicates_core::node::{alone, printed, showing, showing_text};
 use predicates_core::reflection::{Case, Child, Parameter, PredicateReflection, describe};

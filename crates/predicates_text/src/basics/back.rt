@@ -6,7 +6,7 @@ ghost use Rattle.predicates_core.specs.Tree.{empty};
 ghost use Rattle.predicates_text.specs.Leaves.{ends_text, ends_formula};
 ghost use Rattle.predicates_text.specs.Meant.{IsEndsLeaf};
 ghost use Rattle.predicates_text.specs.MeantLaws.{ends_text_fits, one_ends, has_ends};
-ghost use Rattle.predicates_text.specs.Held.{ends_pattern};
+ghost use Rattle.predicates_text.specs.Patterns.{ends_pattern};
 
 use crate::node::text_node;
 use crate::places;

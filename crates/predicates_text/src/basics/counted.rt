@@ -6,7 +6,7 @@ ghost use Rattle.predicates_core.specs.Label.{value_of};
 ghost use Rattle.predicates_text.specs.Leaves.{contains_text, matches_formula};
 ghost use Rattle.predicates_text.specs.Meant.{IsCountedLeaf};
 ghost use Rattle.predicates_text.specs.MeantLaws.{counted_text_fits, one_counted, has_counted};
-ghost use Rattle.predicates_text.specs.Held.{matches_pattern, matches_count};
+ghost use Rattle.predicates_text.specs.Patterns.{matches_pattern, matches_count};
 
 use crate::count;
 use crate::node::text_node;

@@ -6,7 +6,7 @@ ghost use Rattle.predicates_core.specs.Tree.{empty};
 ghost use Rattle.predicates_text.specs.Leaves.{starts_text, starts_formula};
 ghost use Rattle.predicates_text.specs.Meant.{IsStartsLeaf};
 ghost use Rattle.predicates_text.specs.MeantLaws.{starts_text_fits, one_starts, has_starts};
-ghost use Rattle.predicates_text.specs.Held.{starts_pattern};
+ghost use Rattle.predicates_text.specs.Patterns.{starts_pattern};
 
 use crate::node::text_node;
 use crate::places;

@@ -6,7 +6,7 @@ ghost use Rattle.predicates_core.specs.Tree.{empty};
 ghost use Rattle.predicates_text.specs.Leaves.{contains_text, contains_formula};
 ghost use Rattle.predicates_text.specs.Meant.{IsContainsLeaf, IsCountedLeaf};
 ghost use Rattle.predicates_text.specs.MeantLaws.{contains_text_fits, one_contains, has_contains};
-ghost use Rattle.predicates_text.specs.Held.{contains_pattern, matches_pattern, matches_count};
+ghost use Rattle.predicates_text.specs.Patterns.{contains_pattern, matches_pattern, matches_count};
 
 use crate::basics::MatchesPredicate;
 use crate::node::text_node;

@@ -1,5 +1,5 @@
 use Rattle.std.proofs.Common.{rules}
-use Rattle.predicates_core.proofs.Combined.{node_of_text}
+use Rattle.predicates_core.proofs.CombinedLemmas.{node_of_text}
 use Rattle.predicates_core.proofs.Retold.{infix_left_fits}
 use Rattle.predicates_core.proofs.node.joined_by_left.Goals as goal
 

@@ -1,7 +1,7 @@
 use Rattle.std.proofs.Common.{◌≡◌, ◌<◌, ◌++◌, List, rules, ap, sym, ◌∙◌, map, append-nil}
 use Rattle.std.proofs.lemmas.Result.{IfOk-weaker}
 use Rattle.serde_json.specs.View.{items_of, items_view}
-use Rattle.predicates_core.specs.Read.{named_case}
+use Rattle.predicates_core.specs.CaseViews.{named_case}
 use Rattle.predicates_core.specs.Tree.{node_count, named_trees}
 use Rattle.predicates_core.specs.Describe.{NamedCase}
 use Rattle.predicates_core.proofs.Forests.{node_count-child}

@@ -1,6 +1,6 @@
 use Rattle.std.proofs.Common.{◌≡◌, ◌++◌, map}
 use Rattle.serde_json.specs.View.{view}
-use Rattle.predicates_core.specs.Read.{named_case}
+use Rattle.predicates_core.specs.CaseViews.{named_case}
 use Rattle.predicates_core.specs.Tree.{named_trees, node_count}
 use Rattle.predicates_uses.proofs.Written.{named_data}
 use Rattle.predicates_uses.proofs.json.+case_json.Given as goal

@@ -3,7 +3,7 @@ use Rattle.std.proofs.lemmas.Iterator.Adapters.{YieldsList-from_vec}
 use Rattle.std.proofs.lemmas.Result.{IfOk-weaker}
 use Rattle.predicates.specs.In.{members_of}
 use Rattle.predicates.specs.declared.iter.listed.InPredicate.{InPredicate}
-use Rattle.predicates.proofs.Given.{items_from_gives}
+use Rattle.predicates.proofs.GivenItems.{items_from_gives}
 use Rattle.predicates.proofs.iter.tests.of_vec.Goals as goal
 
 pub returns : goal.returns

@@ -1,5 +1,5 @@
 use Rattle.std.proofs.Common.{rules}
-use Rattle.predicates_core.proofs.Combined.{IsCaseOf-xor_asked}
+use Rattle.predicates_core.proofs.CombinedLemmas.{IsCaseOf-xor_asked}
 use Rattle.predicates.proofs.own.joined.xor_case.Goals as goal
 
 pub returns : goal.returns

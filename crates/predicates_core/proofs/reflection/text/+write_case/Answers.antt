@@ -1,6 +1,6 @@
 use Rattle.std.proofs.Common.{List, ◌≡◌, ◌++◌, ◌<◌, rules, ap, ◌∙◌, map, append-nil, take, arith}
 use Rattle.std.proofs.lemmas.List.{take_all}
-use Rattle.predicates_core.specs.Read.{named_case}
+use Rattle.predicates_core.specs.CaseViews.{named_case}
 use Rattle.predicates_core.specs.Tree.{node_count}
 use Rattle.predicates_core.specs.Describe.{NamedCase}
 use Rattle.predicates_core.proofs.Forests.{node_count-child}

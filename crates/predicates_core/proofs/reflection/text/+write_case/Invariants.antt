@@ -1,8 +1,8 @@
 use Rattle.std.proofs.Common.{◌≡◌, ◌++◌, take, map, flat_map, string_bytes}
-use Rattle.predicates_core.specs.Read.{named_case}
+use Rattle.predicates_core.specs.CaseViews.{named_case}
 use Rattle.predicates_core.specs.Tree.{named_trees, node_count}
 use Rattle.predicates_core.specs.Lines.{product_line}
-use Rattle.predicates_core.specs.Written.{deeper, child_lines}
+use Rattle.predicates_core.specs.IndentedLines.{deeper, child_lines}
 use Rattle.predicates_core.proofs.reflection.text.+write_case.Given as goal
 
 abbrev pub decreases-write_case : goal.decreases-write_case

@@ -1,6 +1,6 @@
 use Rattle.std.proofs.Common.{sym, ◌∙◌, ap, ◌++◌, [], string_bytes}
 use Rattle.predicates_core.proofs.Lines.{lines-tree_lines}
-use Rattle.predicates_core.specs.Written.{tree_lines}
+use Rattle.predicates_core.specs.IndentedLines.{tree_lines}
 use Rattle.predicates_core.proofs.reflection.text.render_onto.Goals as goal
 
 pub returns : goal.returns

@@ -1,7 +1,7 @@
 -- A `&` to a `Seen` holds what the `Seen` owns. Assumes `Logic`.
 use denote.Struct.Lending.{of_Lends}
 use denote.Struct.Owning.{row, lending}
-use Rattle.predicates_core.proofs.Kept.{kept_laws, lends_kept}
+use Rattle.predicates_core.proofs.HeldForGood.{kept_laws, lends_kept}
 use Rattle.predicates_core.specs.Ownership.{seen_owns}
 use Rattle.predicates_core.specs.contracts.static_text.Seen as Seen
 use Rattle.predicates_core.proofs.static_text.Seen.TheLaw.Statement.{statement}

@@ -1,5 +1,5 @@
 use Rattle.std.proofs.Common.{rules}
-use Rattle.predicates_core.proofs.Combined.{IsCaseOf-not}
+use Rattle.predicates_core.proofs.CombinedLemmas.{IsCaseOf-not}
 use Rattle.predicates.proofs.boolean.not.NotPredicatePredicate.find_case.Goals as goal
 
 pub returns : goal.returns

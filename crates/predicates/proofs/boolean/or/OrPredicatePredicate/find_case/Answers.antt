@@ -1,6 +1,6 @@
 use Rattle.std.proofs.Common.{rules, sym, ◌∙◌}
 use Rattle.predicates_core.proofs.Values.{other_truths}
-use Rattle.predicates_core.proofs.Combined.{IsCaseOf-or_asked, IsCaseOf-or_decided}
+use Rattle.predicates_core.proofs.CombinedLemmas.{IsCaseOf-or_asked, IsCaseOf-or_decided}
 use Rattle.predicates.proofs.boolean.or.OrPredicatePredicate.find_case.Goals as goal
 use Rattle.predicates.proofs.boolean.or.OrPredicatePredicate.find_case.Goals.{then-is_some-expected+else-is_none, else-is_some-expected+in_ok-right+else-is_none-2}
 

@@ -1,7 +1,7 @@
 use Rattle.std.proofs.Common.{ap, refl, ◌∙◌, ◌≡◌, List, [], ◌++◌, arith}
 use Rattle.std.proofs.lemmas.Grind.{common_steps}
 use Rattle.std.proofs.lemmas.List.{nil_from_length}
-use Rattle.predicates_core.specs.Held.{node_of}
+use Rattle.predicates_core.specs.CaseFields.{node_of}
 use Rattle.predicates_core.specs.declared.reflection.case.Entry.{Entry}
 use Rattle.predicates_core.proofs.Preorder.{trees-push, preorder-push, preorder-first, trees-first}
 use Rattle.predicates_core.proofs.reflection.case.Case.add_child.Goals as goal

@@ -24,7 +24,7 @@ pub struct BoxPredicate {
 impl BoxPredicate {
     /// The predicate that is in the box. It prints it once and keeps the text, and so takes memory;
     /// where that is refused, the box is dropped.
-    #[tactic(auto, using(crate::proofs::Opened::boxes))]
+    #[tactic(auto, using(crate::proofs::OpenRoots::boxes))]
     pub fn new(alloc: Global, inner: Box<dyn TextPredicate>) -> Result<Self, AllocError>
         ensures holds { IfOk result (λ made. held_by made ≡ inner) }
         ensures text { IfOk result (λ made. Fits (text_output inner) (kept_text made)) }
@@ -104,12 +104,12 @@ impl Predicate<String> for BoxPredicate {
 
     ghost one_formula = { λ p v f g lawful. one_printed };
 
-    #[tactic(auto, using(crate::proofs::Opened::boxes))]
+    #[tactic(auto, using(crate::proofs::OpenRoots::boxes))]
     fn eval(&self, alloc: Global, item: &String) -> Result<bool, AllocError> {
         eval_held(alloc, &self.inner, item)
     }
 
-    #[tactic(auto, using(crate::proofs::Opened::boxes))]
+    #[tactic(auto, using(crate::proofs::OpenRoots::boxes))]
     fn find_case(
         &self,
         alloc: Global,

@@ -6,12 +6,12 @@ ghost use Rattle.predicates_core.specs.Tree.{empty};
 ghost use Rattle.predicates_core.specs.Label.{value_of};
 ghost use Rattle.predicates_core.specs.Leaves.{IsExactly};
 ghost use Rattle.predicates_core.proofs.Leaves.{exactly_text_fits, one_exactly};
-ghost use Rattle.predicates_text.specs.Pattern.{match_text, match_count_formula};
-ghost use Rattle.predicates_text.specs.Pattern.{regex_matches_text, regex_matches_meaning};
-ghost use Rattle.predicates_text.specs.Pattern.{regex_matches_count};
+ghost use Rattle.predicates_text.specs.Expressions.{match_text, match_count_formula};
+ghost use Rattle.predicates_text.specs.Expressions.{regex_matches_text, regex_matches_meaning};
+ghost use Rattle.predicates_text.specs.Expressions.{regex_matches_count};
 
+use crate::expressions::search::match_count;
 use crate::node::text_node;
-use crate::pattern::search::match_count;
 use predicates_core::node::{printed, showing};
 use predicates_core::reflection::{Case, Child, Parameter, PredicateReflection};
 use predicates_core::{Predicate, ReadsContent, Total};

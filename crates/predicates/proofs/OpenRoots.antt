@@ -8,7 +8,7 @@ use Rattle.predicates_core.specs.Shows.{FitsNode, Shows, Explains, IsCaseOf, IsA
 use Rattle.predicates_core.specs.Tree.{Tree}
 use Rattle.predicates_core.specs.Describe.{CaseNode}
 use Rattle.predicates_core.specs.Leaves.{IsExactly}
-use Rattle.predicates_core.proofs.Combine.{same_first, same_function_reasons, same_function_truth}
+use Rattle.predicates_core.proofs.FirstReasonOf.{same_first, same_function_reasons, same_function_truth}
 use Rattle.predicates.specs.Printed.{opened, opened_label, fits, as_printed, IsPrintedAs, FitsRoots, HasFormulas}
 
 -- ---- the printed text

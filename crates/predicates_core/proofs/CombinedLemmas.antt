@@ -11,7 +11,7 @@ use Rattle.predicates_core.specs.Combined.{IsJoin, IsAnd, IsOr, IsXor, IsNot, Is
 use Rattle.predicates_core.proofs.Values.{truth-And, truth-Or, truth-Xor, truth-Not, truth-Named}
 pub use Rattle.predicates_core.proofs.Values.{not-not}
 use Rattle.predicates_core.proofs.Numbers.{shifted}
-use Rattle.predicates_core.proofs.Combine.{first-And_both, first-And_left, first-And_right, first-Or_both, first-Or_left, first-Or_right, first-Xor, first-Not, first-Named}
+use Rattle.predicates_core.proofs.FirstReasonOf.{first-And_both, first-And_left, first-And_right, first-Or_both, first-Or_left, first-Or_right, first-Xor, first-Not, first-Named}
 use Rattle.predicates_core.proofs.Shown.{shows_both, shows_left, shows_right, shows_part, not_empty, numbers_of}
 
 -- an entry fits what is printed just so

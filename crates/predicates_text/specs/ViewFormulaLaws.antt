@@ -9,7 +9,7 @@ use Rattle.predicates_core.specs.Label.{FitsEntry}
 use Rattle.predicates_core.specs.Formula.{Formula, text_of}
 use Rattle.predicates_core.proofs.Leaves.{exactly_text_fits, one_exactly}
 use Rattle.predicates_core.proofs.Added.{with_product_text_fits, one_with_product}
-use Rattle.predicates_text.specs.Handed.{IsOfEach, IsDecoded, decoded_formula}
+use Rattle.predicates_text.specs.ViewFormulas.{IsOfEach, IsDecoded, decoded_formula}
 
 module _ {has : Text → Formula → Type 0} {handed : Text → Type 0} where
   pub each_text_fits : {f : Formula} (printed : Option (List ℕ)) → (t : Text) × handed t
