@@ -8,7 +8,8 @@ use Rattle.std.specs.Ordering.{is_lt, is_le, is_ge, is_gt}
 use Rattle.predicates.specs.declared.ord.equality.EqOps.{EqOps}
 use Rattle.predicates.specs.declared.ord.equality.EqOps.TheVariants.{Equal, NotEqual}
 use Rattle.predicates.specs.declared.ord.order.OrdOps.{OrdOps}
-use Rattle.predicates.specs.declared.ord.order.OrdOps.TheVariants.{LessThan, LessThanOrEqual, GreaterThanOrEqual, GreaterThan}
+use Rattle.predicates.specs.declared.ord.order.OrdOps.TheVariants.{LessThan, LessThanOrEqual}
+use Rattle.predicates.specs.declared.ord.order.OrdOps.TheVariants.{GreaterThanOrEqual, GreaterThan}
 
 abbrev pub eq_symbol : EqOps → List ℕ
 eq_symbol Equal = codes "=="
@@ -34,12 +35,17 @@ ord_truth GreaterThan o = is_gt o
 
 -- `var`, the symbol and the constant
 abbrev pub comparison_text : List ℕ → Option (List ℕ) → Option (List ℕ)
-comparison_text symbol constant = Some (codes "var ") ++? Some symbol ++? Some (codes " ") ++? constant
+comparison_text symbol constant = Some (codes "var ") ++? Some symbol ++? Some (codes " ") ++?
+    constant
 
--- the formula of an equality, from the debug texts of the constant and the item, and whether the item equals the constant
+-- the formula of an equality, from the debug texts of the constant and the item, and whether the
+-- item equals the constant
 abbrev pub eq_leaf : EqOps → Entry → Entry → Bool → Formula
-eq_leaf op constant item equal = Leaf (showing (comparison_text (eq_symbol op) constant) (codes "var") item) (eq_truth op equal)
+eq_leaf op constant item equal = Leaf
+    (showing (comparison_text (eq_symbol op) constant) (codes "var") item) (eq_truth op equal)
 
--- the formula of an order, from these texts and the order of the item, on the left, and the constant
+-- the formula of an order, from these texts and the order of the item, on the left, and the
+-- constant
 abbrev pub ord_leaf : OrdOps → Entry → Entry → Ordering → Formula
-ord_leaf op constant item order = Leaf (showing (comparison_text (ord_symbol op) constant) (codes "var") item) (ord_truth op order)
+ord_leaf op constant item order = Leaf
+    (showing (comparison_text (ord_symbol op) constant) (codes "var") item) (ord_truth op order)

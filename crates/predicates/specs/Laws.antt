@@ -39,4 +39,5 @@ pub record HasAtMostOneCase (f : Formula) : Type 0 where
 
 -- of what is found for the one verdict and for the other, one is a case and the other is none
 pub record HasOneAnswer (F : Formula → Type 0) : Type 0 where
-  pub one : (yes no : Option (Tree CaseNode)) → IsAnswer F true yes → IsAnswer F false no → is_some yes ≡ not (is_some no)
+  pub one : (yes no : Option (Tree CaseNode)) → IsAnswer F true yes → IsAnswer F false no
+      → is_some yes ≡ not (is_some no)

@@ -2,7 +2,8 @@
 use Rattle.predicates.specs.declared.ord.equality.EqPredicate.{EqPredicate}
 use Rattle.predicates.specs.declared.ord.equality.EqOps.TheVariants.{Equal, NotEqual}
 use Rattle.predicates.specs.declared.ord.order.OrdPredicate.{OrdPredicate}
-use Rattle.predicates.specs.declared.ord.order.OrdOps.TheVariants.{LessThan, LessThanOrEqual, GreaterThanOrEqual, GreaterThan}
+use Rattle.predicates.specs.declared.ord.order.OrdOps.TheVariants.{LessThan, LessThanOrEqual}
+use Rattle.predicates.specs.declared.ord.order.OrdOps.TheVariants.{GreaterThanOrEqual, GreaterThan}
 
 module _ {T : Type 0} where
   abbrev pub equal_to : T → EqPredicate T

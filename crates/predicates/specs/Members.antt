@@ -1,5 +1,6 @@
 -- Membership by an equality that is only known to be lawful, and the items that are handed in.
-use Rattle.std.specs.Prelude.{◌≡◌, ℕ, Bool, List, [], ◌∷◌, ◌++◌, Option, Some, if◌then◌else◌, fold, codes, string_bytes}
+use Rattle.std.specs.Prelude.{◌≡◌, ℕ, Bool, List, [], ◌∷◌, ◌++◌, Option, Some, if◌then◌else◌, fold}
+use Rattle.std.specs.Prelude.{codes, string_bytes}
 use Rattle.std.specs.Iterator.{Drains}
 use Rattle.std.specs.List.{list_any}
 use Rattle.std.specs.Str.{bytes_eq}
@@ -24,17 +25,21 @@ abbrev pub first_of_equals : {T : Type 0} → (T → T → Bool) → List T → 
 first_of_equals eq items = fold (keep_first eq) [] items
 
 -- an iterator of the value gives the items in order, and then ends
-pub record GivesItems {U S T : Type 0} (becomes : U → S → Type 0) (steps : S → Option T → S → Type 0) (iterable : U) (items : List T) : Type 0 where
+pub record GivesItems {U S T : Type 0} (becomes : U → S → Type 0)
+    (steps : S → Option T → S → Type 0) (iterable : U) (items : List T) : Type 0 where
   pub from : S
   pub made : becomes iterable from
   pub drained : Drains steps from items
 
--- of the items that an iterator of the value gives, the first of equal ones are kept, in order; they have the members of all of them
-pub record KeepsFirst {U S T : Type 0} (becomes : U → S → Type 0) (steps : S → Option T → S → Type 0) (eq : T → T → Bool) (iterable : U) (kept : List T) : Type 0 where
-  pub items : List T
-  pub given : GivesItems becomes steps iterable items
-  pub is : kept ≡ first_of_equals eq items
-  pub same : HasSameMembers eq kept items
+-- of the items that an iterator of the value gives, the first of equal ones are kept, in order;
+-- they have the members of all of them
+pub record KeepsFirst {U S T : Type 0} (becomes : U → S → Type 0)
+    (steps : S → Option T → S → Type 0) (eq : T → T → Bool) (iterable : U) (kept : List T) : Type 0
+  where
+    pub items : List T
+    pub given : GivesItems becomes steps iterable items
+    pub is : kept ≡ first_of_equals eq items
+    pub same : HasSameMembers eq kept items
 
 -- some text has the bytes
 abbrev pub has_text : List Text → List ℕ → Bool

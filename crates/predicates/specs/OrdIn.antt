@@ -5,6 +5,7 @@ use Rattle.std.specs.declared.cmp.PartialEq as PartialEq
 use Rattle.std.specs.declared.cmp.PartialOrd as PartialOrd
 use Rattle.predicates.specs.declared.iter.sorted.OrdInPredicate.{OrdInPredicate}
 
-module _ {T : Type 0} {order : Ord.Ghosts T} {equality : PartialEq.Ghosts T} {partial : PartialOrd.Ghosts T} where
+module _ {T : Type 0} {order : Ord.Ghosts T} {equality : PartialEq.Ghosts T}
+    {partial : PartialOrd.Ghosts T} where
   abbrev pub members_of : OrdInPredicate T order equality partial → List T
   members_of p = p.members.items

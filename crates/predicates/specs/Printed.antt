@@ -35,5 +35,6 @@ pub record FitsRoots (formula_of : List ℕ → Formula) (printed : List ℕ) : 
   pub each : (v : Text) → Fits (text_of (formula_of (string_bytes v))) printed
 
 -- each text has the formula that its bytes have
-pub record HasFormulas (formula_of : List ℕ → Formula) (has : Text → Formula → Type 0) : Type 0 where
-  pub each : (v : Text) → has v (formula_of (string_bytes v))
+pub record HasFormulas (formula_of : List ℕ → Formula) (has : Text → Formula → Type 0) : Type 0
+  where
+    pub each : (v : Text) → has v (formula_of (string_bytes v))

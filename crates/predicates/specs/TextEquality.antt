@@ -11,4 +11,5 @@ abbrev pub text_equality_text : EqPredicate Text → Entry
 text_equality_text p = comparison_text (eq_symbol p.op) (debug_str (string_bytes p.constant))
 
 abbrev pub text_equality_formula : EqPredicate Text → List ℕ → Formula
-text_equality_formula p bytes = eq_leaf p.op (debug_str (string_bytes p.constant)) (debug_str bytes) (bytes_eq bytes (string_bytes p.constant))
+text_equality_formula p bytes = eq_leaf p.op (debug_str (string_bytes p.constant)) (debug_str bytes)
+    (bytes_eq bytes (string_bytes p.constant))

@@ -5,7 +5,8 @@
 //! ```
 ghost use Rattle.std.specs.Prelude.{◌≡◌, [], codes};
 ghost use Rattle.predicates_core.specs.Tree.{empty};
-ghost use Rattle.predicates.specs.Function.{HasOneAnswer, IsCall, call_text, call_text_fits, one_call, function_of, name_of};
+ghost use Rattle.predicates.specs.Function.{HasOneAnswer, IsCall, call_text, call_text_fits};
+ghost use Rattle.predicates.specs.Function.{one_call, function_of, name_of};
 
 #[cfg(test)]
 mod tests;

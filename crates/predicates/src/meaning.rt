@@ -11,7 +11,8 @@
 ghost use Rattle.std.specs.Prelude.{◌≡◌, ◌↔◌, [], Some, None, not, codes, string_bytes};
 ghost use Rattle.std.specs.Fmt.{debug_list};
 ghost use Rattle.std.specs.Ordering.{is_lt, is_le, is_ge, is_gt};
-ghost use Rattle.predicates_core.specs.Combined.{infix_text, not_text, IsAnd, IsOr, IsXor, IsNot, IsNamed};
+ghost use Rattle.predicates_core.specs.Combined.{infix_text, not_text, IsAnd, IsOr, IsXor, IsNot};
+ghost use Rattle.predicates_core.specs.Combined.{IsNamed};
 ghost use Rattle.predicates_core.specs.Formula.{Formula, Leaf};
 ghost use Rattle.predicates_core.specs.Label.{plain, showing, value_of};
 ghost use Rattle.predicates_core.specs.Leaves.{IsExactly, word};
@@ -109,7 +110,8 @@ pub fn exclusive_disjunction<A: Predicate<Item>, B: Predicate<Item>, Item>(
     ensures formula { (f : Formula)
         → ⟦<XorPredicate<A, B, Item> as Predicate<Item>>⟧.formula either.now item.now f
         ↔ IsXor
-        (infix_text (codes " ^ ") (A.output (Xor.left_of either.now)) (B.output (Xor.right_of either.now)))
+        (infix_text (codes " ^ ") (A.output (Xor.left_of either.now))
+        (B.output (Xor.right_of either.now)))
         (A.formula (Xor.left_of either.now) item.now)
         (B.formula (Xor.right_of either.now) item.now)
         f }
@@ -120,8 +122,10 @@ pub fn exclusive_disjunction<A: Predicate<Item>, B: Predicate<Item>, Item>(
     ensures values { ⟦<XorPredicate<A, B, Item> as PredicateReflection>⟧.parameters_of either.now ≡ [] }
     ensures parts { ⟦<XorPredicate<A, B, Item> as PredicateReflection>⟧.children_of either.now
         ≡ two_parts
-        (codes "left") (A.output (Xor.left_of either.now)) (A.parameters_of (Xor.left_of either.now)) (A.children_of (Xor.left_of either.now))
-        (codes "right") (B.output (Xor.right_of either.now)) (B.parameters_of (Xor.right_of either.now)) (B.children_of (Xor.right_of either.now)) }
+        (codes "left") (A.output (Xor.left_of either.now))
+        (A.parameters_of (Xor.left_of either.now)) (A.children_of (Xor.left_of either.now))
+        (codes "right") (B.output (Xor.right_of either.now))
+        (B.parameters_of (Xor.right_of either.now)) (B.children_of (Xor.right_of either.now)) }
 {}
 
 /// Its formulas are `Not` over a formula of its part.

@@ -3,11 +3,13 @@ use Rattle.std.specs.Prelude.{◌≡◌, ℤ}
 use Rattle.predicates_core.specs.Label.{FitsEntry}
 use Rattle.predicates_core.specs.Formula.{Formula, text_of}
 use Rattle.predicates_core.proofs.Leaves.{exactly_text_fits, one_exactly}
-use Rattle.predicates_core.proofs.CombinedLemmas.{and_text_fits, or_text_fits, xor_text_fits, not_text_fits, one_and, one_or, one_xor, one_not}
+use Rattle.predicates_core.proofs.CombinedLemmas.{and_text_fits, or_text_fits, xor_text_fits}
+use Rattle.predicates_core.proofs.CombinedLemmas.{not_text_fits, one_and, one_or, one_xor, one_not}
 use Rattle.predicates_bench.specs.Trees.{tree_text, HasFormula}
 use Rattle.predicates_bench.specs.declared.tree.Tree.{Tree, Leaf, Not', And', Or', Xor'}
 
-pub tree_text_fits : (t : Tree) (n : ℤ) (f : Formula) → HasFormula t n f → FitsEntry (text_of f) (tree_text t)
+pub tree_text_fits : (t : Tree) (n : ℤ) (f : Formula) → HasFormula t n f
+    → FitsEntry (text_of f) (tree_text t)
 tree_text_fits (Leaf p) n f h = exactly_text_fits h
 tree_text_fits (Not' _ inner) n f h = not_text_fits h
 tree_text_fits (And' _ left _ right) n f h = and_text_fits h

@@ -1,4 +1,5 @@
-//! The library's predicates, asked again and again, so that a program in another language can time them.
+//! The library's predicates, asked again and again, so that a program in another language can time
+//! them.
 #![tactic(auto)]
 
 mod asked;

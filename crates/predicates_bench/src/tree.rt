@@ -82,8 +82,8 @@ impl Predicate<i64> for Tree {
 
     ghost one_formula = { λ t n f g lawful. one_tree t n f g };
 
-    // The last part is asked in the place of the whole, for the truth that is wanted of it: so a chain is
-    // a loop.
+    // The last part is asked in the place of the whole, for the truth that is wanted of it: so a
+    // chain is a loop.
     fn eval(&self, alloc: Global, item: &i64) -> Result<bool, AllocError> {
         let mut tree = self;
         let mut wanted = true;
@@ -153,7 +153,8 @@ impl Tree {
         item: &i64,
     ) -> Result<Option<Case>, AllocError>
         ensures { IfOk result
-            (IsAnswer (IsNot (not_text (tree_text inner.now)) (HasFormula inner.now item.now)) expected) }
+            (IsAnswer (IsNot (not_text (tree_text inner.now)) (HasFormula inner.now item.now))
+            expected) }
     {
         let Some(part) = inner.find(alloc, !expected, item)? else {
             return Ok(None);

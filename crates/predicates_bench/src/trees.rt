@@ -23,7 +23,8 @@ fn row(alloc: Global, ands: u16) -> Result<Tree, AllocError> {
     Ok(tree)
 }
 
-// `ge(0).xor(ge(1))` and so on, with so many `xor`; what was made so far stands on the left, or on the right.
+// `ge(0).xor(ge(1))` and so on, with so many `xor`; what was made so far stands on the left, or on
+// the right.
 fn chain(alloc: Global, xors: u16, on_the_right: bool) -> Result<Tree, AllocError> {
     let mut tree = Tree::Leaf(ge(0));
     for at in 0..xors {
@@ -56,7 +57,8 @@ fn halved(alloc: Global, trees: Vec<Tree>, by_and: bool) -> Result<Vec<Tree>, Al
     Ok(all)
 }
 
-// A full tree of so many levels over `ge(0)`, `ge(1)` and so on, by `and` and `or` in turn, with `and` at the root.
+// A full tree of so many levels over `ge(0)`, `ge(1)` and so on, by `and` and `or` in turn, with
+// `and` at the root.
 fn full(alloc: Global, levels: u8) -> Result<Option<Tree>, AllocError> {
     let mut trees = Vec::new(alloc);
     for at in 0..1i64 << (levels % 16) {
@@ -113,7 +115,8 @@ pub extern "C" fn bench_row(
     ask_tree(alloc, row(alloc, ands), items, question, rounds)
 }
 
-/// Asks a chain of so many `xor` over `ge(0)`, `ge(1)` and so on, to the right where `on_the_right` is not 0.
+/// Asks a chain of so many `xor` over `ge(0)`, `ge(1)` and so on, to the right where `on_the_right`
+/// is not 0.
 #[unsafe(no_mangle)]
 pub extern "C" fn bench_xors(
     alloc: Global,

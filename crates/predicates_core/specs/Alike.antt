@@ -2,7 +2,8 @@
 use Rattle.std.specs.Prelude.{◌≡◌, ◌↔◌, ℕ, Bool, List, IsSome}
 use Rattle.std.specs.List.{AllByRecursion}
 use Rattle.predicates_core.specs.Label.{Label}
-use Rattle.predicates_core.specs.Formula.{Formula, Leaf, And, Or, Xor, Not, Named, IsValuation, value, actual, truth}
+use Rattle.predicates_core.specs.Formula.{Formula, Leaf, And, Or, Xor, Not, Named, IsValuation}
+use Rattle.predicates_core.specs.Formula.{value, actual, truth}
 use Rattle.predicates_core.specs.Reason.{IsFirstReason}
 
 -- the two formulas have the same truth and the same first reason

@@ -8,12 +8,14 @@ use Rattle.predicates_core.specs.Describe.{NamedChild}
 max-le : (b n m : ℕ) → b ≤ m → max (n + 1) b ≤ n + m + 1
 max-le b n m h = omega arith
 
-most_le-node_count : (cs : List NamedChild) → most (λ c. node_count c.1.children + 1) cs ≤ node_count (forest cs)
+most_le-node_count : (cs : List NamedChild)
+    → most (λ c. node_count c.1.children + 1) cs ≤ node_count (forest cs)
 most_le-node_count [] = omega arith
 most_le-node_count (c ∷ cs) = max-le _ (node_count c.1.children) _ (most_le-node_count cs)
 
 max_none-le : (n m : ℕ) → n ≤ m → max n 0 ≤ m
 max_none-le n m h = omega arith
 
-pub depth_le-node_count : (cs : List NamedChild) → max (most (λ c. node_count c.1.children + 1) cs) 0 ≤ node_count (forest cs)
+pub depth_le-node_count : (cs : List NamedChild)
+    → max (most (λ c. node_count c.1.children + 1) cs) 0 ≤ node_count (forest cs)
 depth_le-node_count cs = max_none-le _ _ (most_le-node_count cs)

@@ -13,7 +13,8 @@ abbrev pub not_text : Option (List ℕ) → Option (List ℕ)
 not_text a = Some (codes "(! ") ++? a ++? Some (codes ")")
 
 -- f joins a formula of each part
-pub record IsJoin (join : Formula → Formula → Formula) (left right : Formula → Type 0) (f : Formula) : Type 0 where
+pub record IsJoin (join : Formula → Formula → Formula) (left right : Formula → Type 0)
+    (f : Formula) : Type 0 where
   pub left_formula : Formula
   pub right_formula : Formula
   pub of_left : left left_formula

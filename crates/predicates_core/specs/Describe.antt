@@ -21,16 +21,22 @@ pub record CaseNode : Type 0 where
 
 abbrev pub coded_case_node : Coded CaseNode
 coded_case_node =
-    code_by (Option (List ℕ) × (Bool × List NamedBytes)) (coded× (coded_option coded_bytes) (coded× coded_bool coded_named))
-    (λ n. (n.text, (n.result, n.products))) (λ p. record { text = p.0; result = p.1.0; products = p.1.1 }) (λ _. refl)
+    code_by (Option (List ℕ) × (Bool × List NamedBytes))
+    (coded× (coded_option coded_bytes) (coded× coded_bool coded_named))
+    (λ n. (n.text, (n.result, n.products)))
+    (λ p. record { text = p.0; result = p.1.0; products = p.1.1 }) (λ _. refl)
 
 -- a node alone, without products
 abbrev pub leaf : Option (List ℕ) → Bool → Tree CaseNode
-leaf text result = record { root = record { text = text; result = result; products = [] }; children = empty }
+leaf text result = record
+    { root = record { text = text; result = result; products = [] }; children = empty }
 
 -- the tree with one product more, the last of its root
 abbrev pub with_product : Tree CaseNode → NamedBytes → Tree CaseNode
-with_product t p = record t { root = record { text = t.root.text; result = t.root.result; products = t.root.products ++ p ∷ [] } }
+with_product t p = record t {
+  root = record
+      { text = t.root.text; result = t.root.result; products = t.root.products ++ p ∷ [] };
+}
 
 -- the tree with one child more, the last, under a name
 abbrev pub with_child : Tree CaseNode → List ℕ → Tree CaseNode → Tree CaseNode
@@ -43,7 +49,8 @@ pub record ChildNode : Type 0 where
 
 abbrev pub coded_child_node : Coded ChildNode
 coded_child_node =
-    code_by (List ℕ × List NamedBytes) (coded× coded_bytes coded_named) (λ n. (n.text, n.parameters)) (λ p. record { text = p.0; parameters = p.1 }) (λ _. refl)
+    code_by (List ℕ × List NamedBytes) (coded× coded_bytes coded_named)
+    (λ n. (n.text, n.parameters)) (λ p. record { text = p.0; parameters = p.1 }) (λ _. refl)
 
 abbrev pub coded_case_tree : Coded (Tree CaseNode)
 coded_case_tree = coded_tree coded_case_node
@@ -64,4 +71,9 @@ coded_child = coded× coded_bytes (coded_tree coded_child_node)
 
 -- a description of a part, from its name, its text, its parameters and its own parts
 abbrev pub described : List ℕ → List ℕ → List NamedBytes → List NamedChild → NamedChild
-described name text parameters children = (name, record { root = record { text = text; parameters = parameters }; children = forest children })
+described name text parameters
+    children = (
+      name,
+      record
+          { root = record { text = text; parameters = parameters }; children = forest children },
+    )

@@ -1,5 +1,7 @@
--- The formula of a predicate on an item, its leaves, and its value under every choice of truths for the leaves.
-use Rattle.std.specs.Prelude.{◌≡◌, ℕ, ◌+◌, List, [], ◌∷◌, ◌++◌, length, take, drop, Bool, true, false, not, ◌&&◌, ◌||◌, slice_index_or}
+-- The formula of a predicate on an item, its leaves, and its value under every choice of truths for
+-- the leaves.
+use Rattle.std.specs.Prelude.{◌≡◌, ℕ, ◌+◌, List, [], ◌∷◌, ◌++◌, length, take, drop, Bool, true}
+use Rattle.std.specs.Prelude.{false, not, ◌&&◌, ◌||◌, slice_index_or}
 use Rattle.predicates_core.specs.Label.{Label, Product, Entry, with_last}
 
 pub data Formula : Type 0 where
@@ -28,7 +30,8 @@ size (Named label name f) = size f
 abbrev pub IsValuation : Formula → List Bool → Type 0
 IsValuation f w = length w ≡ size f
 
--- the formula's truth where its leaves have the truths of w: the left part takes the first of them, and the right part the rest
+-- the formula's truth where its leaves have the truths of w: the left part takes the first of them,
+-- and the right part the rest
 unfoldable pub value : Formula → List Bool → Bool
 value (Leaf label truth) w = slice_index_or w 0 false
 value (And label l r) w = value l (take (size l) w) && value r (drop (size l) w)

@@ -15,7 +15,9 @@ tail_lines indent n = verdict n ++ flat_map (product_line indent) n.products
 abbrev pub trees_lines : List ℕ → Forest CaseNode → List ℕ
 trees_lines indent empty = []
 trees_lines indent (branch name node below next) =
-    (indent ++ name ++ codes ": ") ++ (tail_lines (deeper indent) node ++ trees_lines (deeper indent) below) ++ trees_lines indent next
+    (indent ++ name ++ codes ": ") ++
+    (tail_lines (deeper indent) node ++ trees_lines (deeper indent) below) ++ trees_lines indent
+    next
 
 -- what follows the name of a tree that stands below an indent
 abbrev pub tree_lines : List ℕ → Tree CaseNode → List ℕ

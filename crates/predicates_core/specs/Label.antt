@@ -36,7 +36,8 @@ showing text name value = record { text = text; products = value_of name value }
 
 -- a label with two products
 abbrev pub showing_both : Entry → List ℕ → Entry → List ℕ → Entry → Label
-showing_both text first v second w = record { text = text; products = record { name = first; value = v } ∷ value_of second w }
+showing_both text first v second w = record
+    { text = text; products = record { name = first; value = v } ∷ value_of second w }
 
 -- the label with one product more, the last
 abbrev pub with_last : Label → Product → Label

@@ -21,5 +21,7 @@ pub record IsShowing (name : List ℕ) (entry : Entry) (c t : Tree CaseNode) : T
   pub is : t ≡ with_product c (name, bytes)
 
 -- what a leaf without products is to answer
-abbrev pub IsBareAnswer : (Formula → Type 0) → Option (List ℕ) → Bool → Option (Tree CaseNode) → Type 0
-IsBareAnswer F printed expected found = MatchOption found (HasTruth F (not expected)) (λ c. HasTruth F expected × IsNode printed expected [] c)
+abbrev pub IsBareAnswer : (Formula → Type 0) → Option (List ℕ) → Bool → Option (Tree CaseNode)
+    → Type 0
+IsBareAnswer F printed expected found = MatchOption found (HasTruth F (not expected))
+    (λ c. HasTruth F expected × IsNode printed expected [] c)

@@ -15,17 +15,22 @@ FitsParts empty empty = Unit {0}
 FitsParts empty (branch name node below next) = ⊥
 FitsParts (branch name part below next) empty = ⊥
 FitsParts (branch name part below next) (branch found node children rest) =
-    (found ≡ name) × Fits part.text node.text × FitsProducts part.parameters node.parameters × FitsParts below children × FitsParts next rest
+    (found ≡ name) × Fits part.text node.text × FitsProducts part.parameters node.parameters
+    × FitsParts below children × FitsParts next rest
 
 -- one part, under a name
 abbrev pub part : List ℕ → Entry → List Product → Forest Part → Forest Part
-part name text parameters below = branch name (record { text = text; parameters = parameters }) below empty
+part name text parameters below = branch name (record { text = text; parameters = parameters })
+    below empty
 
-abbrev pub two_parts : List ℕ → Entry → List Product → Forest Part → List ℕ → Entry → List Product → Forest Part → Forest Part
-two_parts left a ps below right b qs others = branch left (record { text = a; parameters = ps }) below (part right b qs others)
+abbrev pub two_parts : List ℕ → Entry → List Product → Forest Part → List ℕ → Entry → List Product
+    → Forest Part → Forest Part
+two_parts left a ps below right b qs others = branch left (record { text = a; parameters = ps })
+    below (part right b qs others)
 
 -- a description that has the name, and fits the text, the parameters and the parts below
-pub record IsPart (name : List ℕ) (text : Entry) (parameters : List Product) (below : Forest Part) (c : NamedChild) : Type 0 where
+pub record IsPart (name : List ℕ) (text : Entry) (parameters : List Product) (below : Forest Part)
+    (c : NamedChild) : Type 0 where
   pub named : c.0 ≡ name
   pub printed : Fits text c.1.root.text
   pub given : FitsProducts parameters c.1.root.parameters

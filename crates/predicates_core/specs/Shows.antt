@@ -1,7 +1,9 @@
 -- When a case shows a formula, cut down to some of its leaves.
-use Rattle.std.specs.Prelude.{◌≡◌, ℕ, ◌-◌, Bool, not, List, [], ◌∷◌, map, filter, Option, Some, None, MatchOption, codes, nat_lt, nat_le}
+use Rattle.std.specs.Prelude.{◌≡◌, ℕ, ◌-◌, Bool, not, List, [], ◌∷◌, map, filter, Option, Some}
+use Rattle.std.specs.Prelude.{None, MatchOption, codes, nat_lt, nat_le}
 use Rattle.predicates_core.specs.Label.{Label, Entry, FitsText, FitsProducts}
-use Rattle.predicates_core.specs.Formula.{Formula, Leaf, And, Or, Xor, Not, Named, size, truth, HasTruth}
+use Rattle.predicates_core.specs.Formula.{Formula, Leaf, And, Or, Xor, Not, Named, size, truth}
+use Rattle.predicates_core.specs.Formula.{HasTruth}
 use Rattle.predicates_core.specs.Reason.{IsFirstReason}
 use Rattle.predicates_core.specs.Tree.{Tree, Forest, empty, branch, forest}
 use Rattle.predicates_core.specs.Describe.{CaseNode, NamedCase}
@@ -21,21 +23,31 @@ unfoldable pub right_share : ℕ → List ℕ → List ℕ
 right_share n leaves = map (λ k. k - n) (filter (λ k. nat_le n k) leaves)
 
 -- a part with a share stands first among the children, and one without is left out
-abbrev pub ShowsPart : (Tree CaseNode → List ℕ → Type 0) → List ℕ → List ℕ → Forest CaseNode → Forest CaseNode → Type 0
+abbrev pub ShowsPart : (Tree CaseNode → List ℕ → Type 0) → List ℕ → List ℕ → Forest CaseNode
+    → Forest CaseNode → Type 0
 ShowsPart showing name [] children rest = children ≡ rest
-ShowsPart showing name (k ∷ ks) children rest = (c : Tree CaseNode) × (children ≡ branch name c.root c.children rest) × showing c (k ∷ ks)
+ShowsPart showing name (k ∷ ks) children rest = (c : Tree CaseNode)
+    × (children ≡ branch name c.root c.children rest) × showing c (k ∷ ks)
 
-abbrev pub ShowsBoth : (Tree CaseNode → List ℕ → Type 0) → (Tree CaseNode → List ℕ → Type 0) → ℕ → Forest CaseNode → List ℕ → Type 0
-ShowsBoth left right n children s = (rest : Forest CaseNode) × ShowsPart left (codes "left") (left_share n s) children rest × ShowsPart right (codes "right") (right_share n s) rest empty
+abbrev pub ShowsBoth : (Tree CaseNode → List ℕ → Type 0) → (Tree CaseNode → List ℕ → Type 0) → ℕ
+    → Forest CaseNode → List ℕ → Type 0
+ShowsBoth left right n children s = (rest : Forest CaseNode)
+    × ShowsPart left (codes "left") (left_share n s) children rest
+    × ShowsPart right (codes "right") (right_share n s) rest empty
 
 -- the tree is the formula cut down to the leaves
 unfoldable pub Shows : Formula → Tree CaseNode → List ℕ → Type 0
 Shows (Leaf label own) t s = FitsNode label own t.root × (t.children ≡ empty) × (s ≡ 0 ∷ [])
-Shows (And label l r) t s = FitsNode label (truth (And label l r)) t.root × ShowsBoth (Shows l) (Shows r) (size l) t.children s
-Shows (Or label l r) t s = FitsNode label (truth (Or label l r)) t.root × ShowsBoth (Shows l) (Shows r) (size l) t.children s
-Shows (Xor label l r) t s = FitsNode label (truth (Xor label l r)) t.root × ShowsBoth (Shows l) (Shows r) (size l) t.children s
-Shows (Not label f) t s = FitsNode label (truth (Not label f)) t.root × ShowsPart (Shows f) (codes "predicate") s t.children empty
-Shows (Named label name f) t s = FitsNode label (truth (Named label name f)) t.root × ShowsPart (Shows f) name s t.children empty
+Shows (And label l r) t s = FitsNode label (truth (And label l r)) t.root
+    × ShowsBoth (Shows l) (Shows r) (size l) t.children s
+Shows (Or label l r) t s = FitsNode label (truth (Or label l r)) t.root
+    × ShowsBoth (Shows l) (Shows r) (size l) t.children s
+Shows (Xor label l r) t s = FitsNode label (truth (Xor label l r)) t.root
+    × ShowsBoth (Shows l) (Shows r) (size l) t.children s
+Shows (Not label f) t s = FitsNode label (truth (Not label f)) t.root
+    × ShowsPart (Shows f) (codes "predicate") s t.children empty
+Shows (Named label name f) t s = FitsNode label (truth (Named label name f)) t.root
+    × ShowsPart (Shows f) name s t.children empty
 
 -- the case shows the formula cut down to its first reason
 pub record Explains (f : Formula) (t : Tree CaseNode) : Type 0 where
@@ -53,11 +65,12 @@ abbrev pub IsAnswer : (Formula → Type 0) → Bool → Option (Tree CaseNode) �
 IsAnswer F expected found = MatchOption found (HasTruth F (not expected)) (IsCaseOf F expected)
 
 -- a tree with a text that fits the entry, the result, no products, and the parts
-pub record IsNode (entry : Entry) (b : Bool) (parts : List NamedCase) (t : Tree CaseNode) : Type 0 where
-  pub text : FitsText entry t.root.text
-  pub result : t.root.result ≡ b
-  pub products : t.root.products ≡ []
-  pub children : t.children ≡ forest parts
+pub record IsNode (entry : Entry) (b : Bool) (parts : List NamedCase) (t : Tree CaseNode) : Type 0
+  where
+    pub text : FitsText entry t.root.text
+    pub result : t.root.result ≡ b
+    pub products : t.root.products ≡ []
+    pub children : t.children ≡ forest parts
 
 -- the parts whose cases were found, under their names
 abbrev pub found_parts : Option (Tree CaseNode) → Option (Tree CaseNode) → List NamedCase

@@ -59,7 +59,8 @@ pub fn over_both(
     right: Case,
 ) -> Result<Case, AllocError>
     ensures { IfOk result
-        (IsNode (Some (string_bytes text)) outcome ((codes "left", left) ∷ (codes "right", right) ∷ [])) }
+        (IsNode (Some (string_bytes text)) outcome
+        ((codes "left", left) ∷ (codes "right", right) ∷ [])) }
 {
     alone(alloc, text, outcome)
         .add_child("left", left)?
@@ -98,8 +99,8 @@ fn root_text(case: &Case) -> &str
     }
 }
 
-/// A node over a part that is turned round. Its text is made of the part's, which is not printed anew:
-/// so a chain of such nodes takes one copy of a text a node.
+/// A node over a part that is turned round. Its text is made of the part's, which is not printed
+/// anew: so a chain of such nodes takes one copy of a text a node.
 #[inline(never)]
 pub fn negated(alloc: Global, outcome: bool, part: Case) -> Result<Case, AllocError>
     ensures { IfOk result
@@ -113,8 +114,8 @@ pub fn negated(alloc: Global, outcome: bool, part: Case) -> Result<Case, AllocEr
     over_one(alloc, text, outcome, "predicate", part)
 }
 
-/// A node over a left and a right part with the operator between them. Its text is made of the parts'
-/// texts, which are not printed anew.
+/// A node over a left and a right part with the operator between them. Its text is made of the
+/// parts' texts, which are not printed anew.
 #[inline(never)]
 pub fn joined(
     alloc: Global,

@@ -50,10 +50,12 @@ pub trait Predicate<Item>: PredicateReflection {
         ensures { IfOk result (IsAnswer (formula self.now item.now) expected) };
 
     // To be proved: what it prints is the text of the root of each of its formulas.
-    ghost text_fits: { (p : Self) (v : Item) (f : Formula) → formula p v f → FitsEntry (text_of f) (Self.output p) };
+    ghost text_fits: { (p : Self) (v : Item) (f : Formula) → formula p v f
+        → FitsEntry (text_of f) (Self.output p) };
 
     // To be proved: a lawful predicate has at most one formula on an item.
-    ghost one_formula: { (p : Self) (v : Item) (f g : Formula) → lawful p → formula p v f → formula p v g → f ≡ g };
+    ghost one_formula: { (p : Self) (v : Item) (f g : Formula) → lawful p → formula p v f
+        → formula p v g → f ≡ g };
 }
 
 /// A predicate that may be asked about every item, whatever it holds, and has a formula on each.
@@ -92,7 +94,8 @@ pub trait ReadsContent<Item: Content>: Predicate<Item> {
     ghost always_lawful: { (p : Self) → Self.lawful p };
 
     // To be proved: that formula is one of those that it states.
-    ghost has_formula: { (p : Self) (v : Item) → Self.formula p v (content_formula p (Item.content v)) };
+    ghost has_formula: { (p : Self) (v : Item)
+        → Self.formula p v (content_formula p (Item.content v)) };
 }
 
 /// The case of a predicate whose formula on the item is a single leaf: a node with the printed

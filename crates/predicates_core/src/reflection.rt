@@ -59,7 +59,8 @@ pub fn describe<P: PredicateReflection, N: Lasting + Copy>(
     part: &P,
 ) -> Result<Child, AllocError>
     ensures { IfOk result
-        (IsPart (N.bytes name) (P.output part.now) (P.parameters_of part.now) (P.children_of part.now)) }
+        (IsPart (N.bytes name) (P.output part.now) (P.parameters_of part.now)
+        (P.children_of part.now)) }
 {
     Ok(Child::new(
         name.text(),

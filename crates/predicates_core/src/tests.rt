@@ -32,7 +32,15 @@ fn a_case_of_three_nodes(rt: HostRuntime) -> Result<(), Fail> {
     let case = over_one(alloc, text(alloc, "(! both)")?, false, "predicate", both)?;
     assert_eq!(rt;
         render(alloc, &case)?.as_str(),
-        "(! both) = false\n  predicate: both = true\n    left: var >= 5 = true\n      - var: 7\n    right: named = true\n      - name: a\nb\n"
+        "\
+(! both) = false
+  predicate: both = true
+    left: var >= 5 = true
+      - var: 7
+    right: named = true
+      - name: a
+b
+"
     );
     let root = case.root();
     assert_eq!(rt; root.predicate(), Some("(! both)"));
@@ -62,7 +70,13 @@ fn parts_that_were_found(rt: HostRuntime) -> Result<(), Fail> {
     let both = over_found(alloc, printed(alloc, &-1)?, true, Some(left), Some(right))?;
     assert_eq!(rt;
         render(alloc, &both)?.as_str(),
-        "-1 = true\n  left: a = false\n    left: 7 = true\n  right: b = true\n    right: none = false\n"
+        "\
+-1 = true
+  left: a = false
+    left: 7 = true
+  right: b = true
+    right: none = false
+"
     );
     Ok(())
 }

@@ -20,10 +20,14 @@ IsNumber line = (n : ℤ) × Reads (without_return line) n
 abbrev pub no_number : ℕ → List ℕ
 no_number number = codes "line " ++ (decimal number ++ codes ": not a number\n")
 
--- what is written for the line of this number: the block of the number on it, under that number as the label, or that it is none
-pub data IsNumberAnswer (formula_of : ℤ → Formula) (number : ℕ) (line written : List ℕ) : Type 0 where
-  item : (n : ℤ) → Reads (without_return line) n → IsBlock (signed_decimal n) (formula_of n) written → IsNumberAnswer formula_of number line written
-  no_item : ((n : ℤ) → ¬ (Reads (without_return line) n)) → written ≡ no_number number → IsNumberAnswer formula_of number line written
+-- what is written for the line of this number: the block of the number on it, under that number as
+-- the label, or that it is none
+pub data IsNumberAnswer (formula_of : ℤ → Formula) (number : ℕ) (line written : List ℕ) : Type 0
+  where
+    item : (n : ℤ) → Reads (without_return line) n → IsBlock (signed_decimal n) (formula_of n) written
+        → IsNumberAnswer formula_of number line written
+    no_item : ((n : ℤ) → ¬ (Reads (without_return line) n)) → written ≡ no_number number
+        → IsNumberAnswer formula_of number line written
 
 -- what a comparison with a number prints
 abbrev pub number_text : List ℕ → ℤ → Option (List ℕ)
@@ -36,7 +40,8 @@ comparison symbol constant n holds =
 
 -- what `ge(lo).and(le(hi))` prints
 abbrev pub between_text : ℤ → ℤ → Option (List ℕ)
-between_text lo hi = infix_text (codes " && ") (number_text (codes ">=") lo) (number_text (codes "<=") hi)
+between_text lo hi = infix_text (codes " && ") (number_text (codes ">=") lo)
+    (number_text (codes "<=") hi)
 
 -- the formula of `ge(lo).and(le(hi))` on n: n is lo, hi or between
 abbrev pub between_formula : ℤ → ℤ → ℤ → Formula

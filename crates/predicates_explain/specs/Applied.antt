@@ -4,8 +4,17 @@ use Rattle.predicates.specs.Makers.{equal_to}
 use Rattle.predicates_text.specs.Patterns.{starts_pattern, ends_pattern, contains_pattern}
 use Rattle.predicates_text.specs.Expressions.{regex_text, IsReadFromText}
 use Rattle.predicates_explain.specs.declared.words.word.Word.{Word}
-use Rattle.predicates_explain.specs.declared.words.word.Word.TheVariants.{Empty, Equals, Starts, Ends, Contains, Matches, Trim, Normalize, Not, And, Or, Xor}
-use Rattle.predicates_explain.specs.declared.check.TextCheck.{TextCheck, Empty as EmptyCheck, Equals as EqualsCheck, Starts as StartsCheck, Ends as EndsCheck, Contains as ContainsCheck, Matches as MatchesCheck, Trim', Normalize', Not', And', Or', Xor'}
+use Rattle.predicates_explain.specs.declared.words.word.Word.TheVariants.{Empty, Equals, Starts}
+use Rattle.predicates_explain.specs.declared.words.word.Word.TheVariants.{Ends, Contains, Matches}
+use Rattle.predicates_explain.specs.declared.words.word.Word.TheVariants.{Trim, Normalize, Not, And}
+use Rattle.predicates_explain.specs.declared.words.word.Word.TheVariants.{Or, Xor}
+use Rattle.predicates_explain.specs.declared.check.TextCheck.{TextCheck, Empty as EmptyCheck}
+use Rattle.predicates_explain.specs.declared.check.TextCheck.{Equals as EqualsCheck}
+use Rattle.predicates_explain.specs.declared.check.TextCheck.{Starts as StartsCheck}
+use Rattle.predicates_explain.specs.declared.check.TextCheck.{Ends as EndsCheck}
+use Rattle.predicates_explain.specs.declared.check.TextCheck.{Contains as ContainsCheck}
+use Rattle.predicates_explain.specs.declared.check.TextCheck.{Matches as MatchesCheck, Trim'}
+use Rattle.predicates_explain.specs.declared.check.TextCheck.{Normalize', Not', And', Or', Xor'}
 
 -- how many checks a word takes
 abbrev pub operand_count : Word → ℕ

@@ -11,7 +11,8 @@ use Rattle.predicates_core.specs.Shows.{Explains}
 abbrev pub heading : List ℕ → Bool → List ℕ
 heading label verdict = label ++ (codes ": " ++ (word verdict ++ codes "\n"))
 
--- the heading with the formula's truth, and the lines of a case that shows the formula cut down to its first reason
+-- the heading with the formula's truth, and the lines of a case that shows the formula cut down to
+-- its first reason
 pub record IsBlock (label : List ℕ) (f : Formula) (bytes : List ℕ) : Type 0 where
   pub case : Tree CaseNode
   pub explains : Explains f case

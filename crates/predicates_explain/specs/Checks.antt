@@ -5,12 +5,17 @@ use Rattle.predicates_core.specs.Formula.{Formula, And, Or, Xor, Not}
 use Rattle.predicates_core.specs.Leaves.{IsExactly}
 use Rattle.predicates_core.specs.Combined.{infix_text, not_text, IsAnd, IsOr, IsXor, IsNot}
 use Rattle.predicates_text.specs.Patterns.{starts_pattern, ends_pattern, contains_pattern}
-use Rattle.predicates_text.specs.Leaves.{empty_text, empty_formula, starts_text, starts_formula, ends_text, ends_formula, contains_text, contains_formula}
+use Rattle.predicates_text.specs.Leaves.{empty_text, empty_formula, starts_text, starts_formula}
+use Rattle.predicates_text.specs.Leaves.{ends_text, ends_formula, contains_text, contains_formula}
 use Rattle.predicates_text.specs.Meant.{IsEmptyLeaf, IsStartsLeaf, IsEndsLeaf, IsContainsLeaf}
 use Rattle.predicates_text.specs.Expressions.{match_text, match_formula, regex_text, regex_meaning}
 use Rattle.predicates_text.specs.ViewFormulas.{trimmed_bytes, even_bytes}
 use Rattle.predicates.specs.TextEquality.{text_equality_text, text_equality_formula}
-use Rattle.predicates_explain.specs.declared.check.TextCheck.{TextCheck, Empty, Equals, Starts, Ends, Contains, Matches, Trim', Normalize', Not' as NotCheck, And' as AndCheck, Or' as OrCheck, Xor' as XorCheck}
+use Rattle.predicates_explain.specs.declared.check.TextCheck.{TextCheck, Empty, Equals, Starts}
+use Rattle.predicates_explain.specs.declared.check.TextCheck.{Ends, Contains, Matches, Trim'}
+use Rattle.predicates_explain.specs.declared.check.TextCheck.{Normalize', Not' as NotCheck}
+use Rattle.predicates_explain.specs.declared.check.TextCheck.{And' as AndCheck, Or' as OrCheck}
+use Rattle.predicates_explain.specs.declared.check.TextCheck.{Xor' as XorCheck}
 
 -- the printed text
 abbrev pub check_text : TextCheck → Entry
@@ -23,7 +28,8 @@ check_text (Matches p) = match_text (regex_text p)
 check_text (Trim' _ inner) = check_text inner
 check_text (Normalize' _ inner) = check_text inner
 check_text (NotCheck _ inner) = not_text (check_text inner)
-check_text (AndCheck _ left _ right) = infix_text (codes " && ") (check_text left) (check_text right)
+check_text (AndCheck _ left _ right) = infix_text (codes " && ") (check_text left)
+    (check_text right)
 check_text (OrCheck _ left _ right) = infix_text (codes " || ") (check_text left) (check_text right)
 check_text (XorCheck _ left _ right) = infix_text (codes " ^ ") (check_text left) (check_text right)
 
@@ -39,11 +45,14 @@ HasFormula (Trim' _ inner) bytes = HasFormula inner (trimmed_bytes bytes)
 HasFormula (Normalize' _ inner) bytes = HasFormula inner (even_bytes bytes)
 HasFormula (NotCheck _ inner) bytes = IsNot (not_text (check_text inner)) (HasFormula inner bytes)
 HasFormula (AndCheck _ left _ right) bytes =
-    IsAnd (infix_text (codes " && ") (check_text left) (check_text right)) (HasFormula left bytes) (HasFormula right bytes)
+    IsAnd (infix_text (codes " && ") (check_text left) (check_text right)) (HasFormula left bytes)
+    (HasFormula right bytes)
 HasFormula (OrCheck _ left _ right) bytes =
-    IsOr (infix_text (codes " || ") (check_text left) (check_text right)) (HasFormula left bytes) (HasFormula right bytes)
+    IsOr (infix_text (codes " || ") (check_text left) (check_text right)) (HasFormula left bytes)
+    (HasFormula right bytes)
 HasFormula (XorCheck _ left _ right) bytes =
-    IsXor (infix_text (codes " ^ ") (check_text left) (check_text right)) (HasFormula left bytes) (HasFormula right bytes)
+    IsXor (infix_text (codes " ^ ") (check_text left) (check_text right)) (HasFormula left bytes)
+    (HasFormula right bytes)
 
 -- the one such formula
 abbrev pub check_formula : TextCheck → List ℕ → Formula
@@ -55,13 +64,17 @@ check_formula (Contains p) bytes = contains_formula (contains_pattern p) bytes
 check_formula (Matches p) bytes = match_formula (regex_text p) (regex_meaning p) bytes
 check_formula (Trim' _ inner) bytes = check_formula inner (trimmed_bytes bytes)
 check_formula (Normalize' _ inner) bytes = check_formula inner (even_bytes bytes)
-check_formula (NotCheck _ inner) bytes = Not (plain (not_text (check_text inner))) (check_formula inner bytes)
+check_formula (NotCheck _ inner) bytes = Not (plain (not_text (check_text inner)))
+    (check_formula inner bytes)
 check_formula (AndCheck _ left _ right) bytes =
-    And (plain (infix_text (codes " && ") (check_text left) (check_text right))) (check_formula left bytes) (check_formula right bytes)
+    And (plain (infix_text (codes " && ") (check_text left) (check_text right)))
+    (check_formula left bytes) (check_formula right bytes)
 check_formula (OrCheck _ left _ right) bytes =
-    Or (plain (infix_text (codes " || ") (check_text left) (check_text right))) (check_formula left bytes) (check_formula right bytes)
+    Or (plain (infix_text (codes " || ") (check_text left) (check_text right)))
+    (check_formula left bytes) (check_formula right bytes)
 check_formula (XorCheck _ left _ right) bytes =
-    Xor (plain (infix_text (codes " ^ ") (check_text left) (check_text right))) (check_formula left bytes) (check_formula right bytes)
+    Xor (plain (infix_text (codes " ^ ") (check_text left) (check_text right)))
+    (check_formula left bytes) (check_formula right bytes)
 
 -- `eval` takes no memory
 abbrev pub IsSteadyCheck : TextCheck → Type 0

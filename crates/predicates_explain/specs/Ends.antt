@@ -1,12 +1,18 @@
 -- How a call of the program ends: its status, and what it says of it.
-use Rattle.std.specs.Prelude.{◌≡◌, ℕ, Bool, true, false, List, [], Option, Result, Ok, Err, IsTrue, codes}
+use Rattle.std.specs.Prelude.{◌≡◌, ℕ, Bool, true, false, List, [], Option, Result, Ok, Err, IsTrue}
+use Rattle.std.specs.Prelude.{codes}
 use Rattle.std.specs.Io.KnownBytes.{Appends}
-use Rattle.predicates_explain.specs.Typed.{FailsFirst, IsWrongToken, IsPatternToken, AreWrongTokens, AreWrongWords, AreRightWords, HasRefusedPattern, HasRunOf}
+use Rattle.predicates_explain.specs.Typed.{FailsFirst, IsWrongToken, IsPatternToken, AreWrongTokens}
+use Rattle.predicates_explain.specs.Typed.{AreWrongWords, AreRightWords, HasRefusedPattern}
+use Rattle.predicates_explain.specs.Typed.{HasRunOf}
 use Rattle.predicates_explain.specs.declared.check.TextCheck.{TextCheck}
 use Rattle.predicates_explain.specs.declared.fault.RunFault.{RunFault}
-use Rattle.predicates_explain.specs.declared.fault.RunFault.TheVariants.{NoMemory as RunNoMemory, Input, Output}
+use Rattle.predicates_explain.specs.declared.fault.RunFault.TheVariants.{NoMemory as RunNoMemory}
+use Rattle.predicates_explain.specs.declared.fault.RunFault.TheVariants.{Input, Output}
 use Rattle.predicates_explain.specs.declared.program.end.End.{End}
-use Rattle.predicates_explain.specs.declared.program.end.End.TheVariants.{AllItems, NotAllItems, Usage, PatternRefused, NoMemory, InputOrOutput}
+use Rattle.predicates_explain.specs.declared.program.end.End.TheVariants.{AllItems, NotAllItems}
+use Rattle.predicates_explain.specs.declared.program.end.End.TheVariants.{Usage, PatternRefused}
+use Rattle.predicates_explain.specs.declared.program.end.End.TheVariants.{NoMemory, InputOrOutput}
 use Rattle.predicates_explain.specs.declared.program.end.Ended.{Ended}
 
 abbrev pub status_of : End → ℕ
@@ -51,7 +57,8 @@ HasTokensFault tokens NoMemory = Unit {0}
 HasTokensFault tokens _ = ⊥
 
 -- when the program ends so, for these words; `untouched` says that nothing was read or written
-abbrev pub EndsBy : List (List ℕ) → Type 0 → Option (List ℕ) → Option (List ℕ) → Option (List ℕ) → Option (List ℕ) → End → Type 0
+abbrev pub EndsBy : List (List ℕ) → Type 0 → Option (List ℕ) → Option (List ℕ) → Option (List ℕ)
+    → Option (List ℕ) → End → Type 0
 EndsBy words untouched r0 r1 w0 w1 AllItems = HasRunOf words r0 r1 w0 w1 true
 EndsBy words untouched r0 r1 w0 w1 NotAllItems = HasRunOf words r0 r1 w0 w1 false
 EndsBy words untouched r0 r1 w0 w1 Usage = AreWrongWords words × untouched
@@ -65,7 +72,8 @@ pub record HasTold (end : End) (before after : Option (List ℕ)) (ended : Ended
   pub message : IsTrue ended.told → Appends before after (message_of end)
 
 -- the program ended as the words ask for
-pub record HasEnded (words : List (List ℕ)) (untouched : Type 0) (r0 r1 w0 w1 m0 m1 : Option (List ℕ)) (ended : Ended) : Type 0 where
+pub record HasEnded (words : List (List ℕ)) (untouched : Type 0)
+    (r0 r1 w0 w1 m0 m1 : Option (List ℕ)) (ended : Ended) : Type 0 where
   pub end : End
   pub by : EndsBy words untouched r0 r1 w0 w1 end
   pub told : HasTold end m0 m1 ended

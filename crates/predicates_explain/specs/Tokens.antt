@@ -1,7 +1,10 @@
 -- The words of a check, as they are written on a command line.
 use Rattle.std.specs.Prelude.{ℕ, List, ◌++◌, codes, string_bytes}
 use Rattle.predicates_explain.specs.declared.words.word.Word.{Word}
-use Rattle.predicates_explain.specs.declared.words.word.Word.TheVariants.{Empty, Equals, Starts, Ends, Contains, Matches, Trim, Normalize, Not, And, Or, Xor}
+use Rattle.predicates_explain.specs.declared.words.word.Word.TheVariants.{Empty, Equals, Starts}
+use Rattle.predicates_explain.specs.declared.words.word.Word.TheVariants.{Ends, Contains, Matches}
+use Rattle.predicates_explain.specs.declared.words.word.Word.TheVariants.{Trim, Normalize, Not, And}
+use Rattle.predicates_explain.specs.declared.words.word.Word.TheVariants.{Or, Xor}
 
 -- the token of a word: a name alone, or a name, `=` and a text
 abbrev pub token_of : Word → List ℕ

@@ -1,6 +1,9 @@
--- How much a check weighs while it is taken apart: left parts twice, so that each turn to the right makes it less.
+-- How much a check weighs while it is taken apart: left parts twice, so that each turn to the right
+-- makes it less.
 use Rattle.std.specs.Prelude.{ℕ, ◌+◌, ◌*◌}
-use Rattle.predicates_explain.specs.declared.check.TextCheck.{TextCheck, Empty, Equals, Starts, Ends, Contains, Matches, Trim', Normalize', Not', And', Or', Xor'}
+use Rattle.predicates_explain.specs.declared.check.TextCheck.{TextCheck, Empty, Equals, Starts}
+use Rattle.predicates_explain.specs.declared.check.TextCheck.{Ends, Contains, Matches, Trim'}
+use Rattle.predicates_explain.specs.declared.check.TextCheck.{Normalize', Not', And', Or', Xor'}
 
 abbrev pub weight : TextCheck → ℕ
 weight (Empty p) = 1

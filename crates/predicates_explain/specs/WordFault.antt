@@ -1,7 +1,8 @@
 -- What a fault of a word prints.
 use Rattle.std.specs.Prelude.{ℕ, List, codes}
 use Rattle.predicates_explain.specs.declared.words.fault.WordFault.{WordFault}
-use Rattle.predicates_explain.specs.declared.words.fault.WordFault.TheVariants.{Operand, Pattern, NoMemory}
+use Rattle.predicates_explain.specs.declared.words.fault.WordFault.TheVariants.{Operand, Pattern}
+use Rattle.predicates_explain.specs.declared.words.fault.WordFault.TheVariants.{NoMemory}
 
 abbrev pub fault_text : WordFault → List ℕ
 fault_text Operand = codes "missing operand"

@@ -2,7 +2,8 @@
 ghost use Rattle.std.specs.Prelude.{◌≡◌, IfOk, OnOk, string_bytes};
 ghost use Rattle.std.specs.Fmt.{signed_decimal};
 ghost use Rattle.std.specs.Io.BufRead.{strip_last};
-ghost use Rattle.predicates_explain.specs.Answers.{between_formula, no_number, IsNumber, IsNumberAnswer};
+ghost use Rattle.predicates_explain.specs.Answers.{between_formula, no_number, IsNumber};
+ghost use Rattle.predicates_explain.specs.Answers.{IsNumberAnswer};
 ghost use Rattle.predicates_explain.specs.Runs.{HasRun};
 
 use crate::block::complete_block;
@@ -49,7 +50,8 @@ fn write_no_number(text: &mut String, number: u64) -> Result<(), AllocError>
 }
 
 impl<P: Total<i64>> AnswerLine for Numbers<P> {
-    ghost is_answer = { λ s number line written. IsNumberAnswer (P.formula_of s.check) number line written };
+    ghost is_answer = { λ s number line written. IsNumberAnswer (P.formula_of s.check) number line
+        written };
 
     ghost is_item = { λ _ line. IsNumber line };
 

@@ -17,7 +17,8 @@ pub(crate) fn complete_block<P: Predicate<Item>, Item>(
 ) -> Result<(), AllocError>
     requires { P.lawful predicate.now }
     ensures { OnOk result
-        (HasBlocks (P.formula predicate.now item.now) (string_bytes text.old) (string_bytes text.new)) }
+        (HasBlocks (P.formula predicate.now item.now) (string_bytes text.old)
+        (string_bytes text.new)) }
 {
     let verdict = predicate.eval(alloc, item)?;
     writeln!(text, ": {verdict}")?;

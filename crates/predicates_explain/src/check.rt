@@ -4,7 +4,8 @@ ghost use Rattle.predicates_core.specs.Combined.{infix_text, not_text, IsAnd, Is
 ghost use Rattle.predicates_core.specs.Shows.{IsAnswer};
 ghost use Rattle.predicates_core.specs.Tree.{empty};
 ghost use Rattle.predicates_text.specs.ViewFormulas.{trimmed_bytes, even_bytes};
-ghost use Rattle.predicates_explain.specs.Checks.{check_text, check_formula, HasFormula, IsSteadyCheck};
+ghost use Rattle.predicates_explain.specs.Checks.{check_text, check_formula, HasFormula};
+ghost use Rattle.predicates_explain.specs.Checks.{IsSteadyCheck};
 ghost use Rattle.predicates_explain.specs.CheckLaws.{check_text_fits, one_check, has_check_formula};
 ghost use Rattle.predicates_explain.specs.Weight.{IsAlone};
 
@@ -73,8 +74,8 @@ impl TextCheck {
     }
 }
 
-// A loop, so that a deep check does not run out of stack: left parts are turned to the right until there
-// are none. It takes no memory.
+// A loop, so that a deep check does not run out of stack: left parts are turned to the right until
+// there are none. It takes no memory.
 impl Drop for TextCheck {
     fn drop(mut self) {
         loop {
@@ -229,8 +230,8 @@ impl Predicate<String> for TextCheck {
     }
 }
 
-// Each word over checks has a function of its own, and so have leaves: a function pays for all its locals at
-// entry, and each level of a deep check takes its frames on the stack.
+// Each word over checks has a function of its own, and so have leaves: a function pays for all its
+// locals at entry, and each level of a deep check takes its frames on the stack.
 impl TextCheck {
     // A single word, or such a word about a view of the text.
     fn is_single(&self) -> bool {

@@ -26,17 +26,23 @@ pub fn leaves_of_words(
     matches: &RegexPredicate,
     text: &String,
 )
-    ensures empty { (f : Formula) → ⟦<TextCheck as Predicate<String>>⟧.formula (TextCheck.Empty empty.now) text.now f
+    ensures empty { (f : Formula)
+        → ⟦<TextCheck as Predicate<String>>⟧.formula (TextCheck.Empty empty.now) text.now f
         ↔ ⟦<IsEmptyPredicate as Predicate<String>>⟧.formula empty.now text.now f }
-    ensures equals { (f : Formula) → ⟦<TextCheck as Predicate<String>>⟧.formula (TextCheck.Equals equals.now) text.now f
+    ensures equals { (f : Formula)
+        → ⟦<TextCheck as Predicate<String>>⟧.formula (TextCheck.Equals equals.now) text.now f
         ↔ ⟦<EqPredicate<String> as Predicate<String>>⟧.formula equals.now text.now f }
-    ensures starts { (f : Formula) → ⟦<TextCheck as Predicate<String>>⟧.formula (TextCheck.Starts starts.now) text.now f
+    ensures starts { (f : Formula)
+        → ⟦<TextCheck as Predicate<String>>⟧.formula (TextCheck.Starts starts.now) text.now f
         ↔ ⟦<StartsWithPredicate as Predicate<String>>⟧.formula starts.now text.now f }
-    ensures ends { (f : Formula) → ⟦<TextCheck as Predicate<String>>⟧.formula (TextCheck.Ends ends.now) text.now f
+    ensures ends { (f : Formula)
+        → ⟦<TextCheck as Predicate<String>>⟧.formula (TextCheck.Ends ends.now) text.now f
         ↔ ⟦<EndsWithPredicate as Predicate<String>>⟧.formula ends.now text.now f }
-    ensures contains { (f : Formula) → ⟦<TextCheck as Predicate<String>>⟧.formula (TextCheck.Contains contains.now) text.now f
+    ensures contains { (f : Formula)
+        → ⟦<TextCheck as Predicate<String>>⟧.formula (TextCheck.Contains contains.now) text.now f
         ↔ ⟦<ContainsPredicate as Predicate<String>>⟧.formula contains.now text.now f }
-    ensures matches { (f : Formula) → ⟦<TextCheck as Predicate<String>>⟧.formula (TextCheck.Matches matches.now) text.now f
+    ensures matches { (f : Formula)
+        → ⟦<TextCheck as Predicate<String>>⟧.formula (TextCheck.Matches matches.now) text.now f
         ↔ ⟦<RegexPredicate as Predicate<String>>⟧.formula matches.now text.now f }
 {}
 

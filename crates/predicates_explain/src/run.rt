@@ -1,5 +1,6 @@
 //! A run over the lines of an input, which writes an answer to each.
-ghost use Rattle.std.specs.Prelude.{◌≡◌, ◌≢◌, ◌↔◌, ℕ, List, [], ◌∷◌, IsTrue, IfOk, OnOk, Some, Ok, true, false, string_bytes};
+ghost use Rattle.std.specs.Prelude.{◌≡◌, ◌≢◌, ◌↔◌, ℕ, List, [], ◌∷◌, IsTrue, IfOk, OnOk, Some, Ok};
+ghost use Rattle.std.specs.Prelude.{true, false, string_bytes};
 ghost use Rattle.std.specs.Option.{ForSome};
 ghost use Rattle.std.specs.IoError.{error_kind};
 ghost use Rattle.std.specs.Io.BufRead.{strip_last};
@@ -22,7 +23,8 @@ pub(crate) trait AnswerLine {
 
     ghost is_item: { Self → List ℕ → Type 0 };
 
-    // Writes the answer to the line in place of what the text held, and says whether the line is an item.
+    // Writes the answer to the line in place of what the text held, and says whether the line is an
+    // item.
     fn answer(
         &self,
         alloc: Global,
@@ -60,7 +62,8 @@ fn pop_if_last(line: &mut Vec<u8>, byte: u8)
 // The answer is `false` at the end of the input.
 fn next_line<R: BufRead>(input: &mut R, line: &mut Vec<u8>) -> Result<bool, RunFault>
     ensures more { result ≡ Ok true → ForSome (R.remaining input.old) (λ bytes. (left : List ℕ)
-        × (R.remaining input.new ≡ Some left) × (input_lines bytes ≡ line.new.items ∷ input_lines left)) }
+        × (R.remaining input.new ≡ Some left)
+        × (input_lines bytes ≡ line.new.items ∷ input_lines left)) }
     ensures end { result ≡ Ok false → ForSome (R.remaining input.old) (λ bytes.
         (R.remaining input.new ≡ Some []) × (input_lines bytes ≡ [])) }
 {

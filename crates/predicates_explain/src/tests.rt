@@ -147,7 +147,13 @@ fn blocks(rt: HostRuntime) -> Result<(), Fail> {
     let outside = lt(5).or(le(10).not());
     assert_eq!(rt;
         explain_total(alloc, &outside, "line 3", &11)?.as_str(),
-        "line 3: true\n(var < 5 || (! var <= 10)) = true\n  right: (! var <= 10) = true\n    predicate: var <= 10 = false\n      - var: 11\n"
+        "\
+line 3: true
+(var < 5 || (! var <= 10)) = true
+  right: (! var <= 10) = true
+    predicate: var <= 10 = false
+      - var: 11
+"
     );
     Ok(())
 }

@@ -41,7 +41,8 @@ fn write_no_text(text: &mut String, number: u64) -> Result<(), AllocError>
 impl<P: Predicate<String>> AnswerLine for Texts<'_, P> {
     ghost lawful = { λ s. P.lawful s.predicate.now };
 
-    ghost is_answer = { λ s number line written. IsTextAnswer (P.formula s.predicate.now) number line written };
+    ghost is_answer = { λ s number line written. IsTextAnswer (P.formula s.predicate.now) number
+        line written };
 
     ghost is_item = { λ _ line. IsUtf8 line };
 

@@ -17,20 +17,26 @@ module _ {A B : Type 0} where
   fact_by_type a b (First p) = a p
   fact_by_type a b (Second p) = b p.value
 
-  pub text_fits_by_type : (a : A → Formula → Type 0) (b : B → Formula → Type 0) (s : A → Option (List ℕ)) (t : B → Option (List ℕ))
+  pub text_fits_by_type : (a : A → Formula → Type 0) (b : B → Formula → Type 0)
+      (s : A → Option (List ℕ)) (t : B → Option (List ℕ))
       → ((p : A) (f : Formula) → a p f → FitsEntry (text_of f) (s p))
       → ((p : B) (f : Formula) → b p f → FitsEntry (text_of f) (t p))
-      → (p : OneOf A B) (f : Formula) → fact_by_type (λ q. a q f) (λ q. b q f) p → FitsEntry (text_of f) (by_type s t p)
+      → (p : OneOf A B) (f : Formula) → fact_by_type (λ q. a q f) (λ q. b q f) p
+      → FitsEntry (text_of f) (by_type s t p)
   text_fits_by_type a b s t first second (First p) f h = first p f h
   text_fits_by_type a b s t first second (Second p) f h = second p.value f h
 
-  pub lawful_by_type : {a : A → Type 0} {b : B → Type 0} → ((p : A) → a p) → ((p : B) → b p) → (p : OneOf A B) → fact_by_type a b p
+  pub lawful_by_type : {a : A → Type 0} {b : B → Type 0} → ((p : A) → a p) → ((p : B) → b p)
+      → (p : OneOf A B) → fact_by_type a b p
   lawful_by_type first second (First p) = first p
   lawful_by_type first second (Second p) = second p.value
 
-  pub one_by_type : {k : A → Type 0} {l : B → Type 0} {a : A → Formula → Type 0} {b : B → Formula → Type 0}
+  pub one_by_type : {k : A → Type 0} {l : B → Type 0} {a : A → Formula → Type 0}
+      {b : B → Formula → Type 0}
       → ((p : A) (f g : Formula) → k p → a p f → a p g → f ≡ g)
       → ((p : B) (f g : Formula) → l p → b p f → b p g → f ≡ g)
-      → (p : OneOf A B) (f g : Formula) → fact_by_type k l p → fact_by_type (λ q. a q f) (λ q. b q f) p → fact_by_type (λ q. a q g) (λ q. b q g) p → f ≡ g
+      → (p : OneOf A B) (f g : Formula) → fact_by_type k l p
+      → fact_by_type (λ q. a q f) (λ q. b q f) p → fact_by_type (λ q. a q g) (λ q. b q g) p
+      → f ≡ g
   one_by_type first second (First p) f g = first p f g
   one_by_type first second (Second p) f g = second p.value f g

@@ -95,7 +95,8 @@ impl<P: fmt::Display, Item> fmt::Display for Level<P, Item> {
 impl<P: PredicateReflection, Item> PredicateReflection for Level<P, Item> {
     ghost parameters_of = { λ p. ⟦<OneOf<P, Combined<P, Item>> as PredicateReflection>⟧.parameters_of p.node };
 
-    ghost children_of = { λ p. ⟦<OneOf<P, Combined<P, Item>> as PredicateReflection>⟧.children_of p.node };
+    ghost children_of = { λ p. ⟦<OneOf<P, Combined<P, Item>> as PredicateReflection>⟧.children_of
+        p.node };
 
     fn parameters(&self, alloc: Global) -> Result<Vec<Parameter>, AllocError> {
         self.node.parameters(alloc)
@@ -113,9 +114,11 @@ impl<P: Predicate<Item>, Item> Predicate<Item> for Level<P, Item> {
 
     ghost steady = { λ p. ⟦<OneOf<P, Combined<P, Item>> as Predicate<Item>>⟧.steady p.node };
 
-    ghost text_fits = { λ p v f. level_text_fits P.output (λ q. P.formula q v) (λ q. P.text_fits q v) p.node f };
+    ghost text_fits = { λ p v f. level_text_fits P.output (λ q. P.formula q v)
+        (λ q. P.text_fits q v) p.node f };
 
-    ghost one_formula = { λ p v f g. one_of_level P.output (λ q. P.formula q v) (λ q. P.one_formula q v) p.node f g };
+    ghost one_formula = { λ p v f g. one_of_level P.output (λ q. P.formula q v)
+        (λ q. P.one_formula q v) p.node f g };
 
     fn eval(&self, alloc: Global, item: &Item) -> Result<bool, AllocError> {
         self.node.eval(alloc, item)

@@ -127,22 +127,29 @@ impl Predicate<i64> for NumberLeaf {
     ghost steady = { λ p. ⟦<Leaf as Predicate<i64>>⟧.steady p.leaf };
 
     ghost text_fits = { λ p v f. text_fits_by_type
-        (λ q. ⟦<Plain as Predicate<i64>>⟧.formula q v) (λ q. ⟦<Asked as Predicate<i64>>⟧.formula q v) ⟦<Plain as fmt::Display>⟧.output ⟦<Asked as fmt::Display>⟧.output
+        (λ q. ⟦<Plain as Predicate<i64>>⟧.formula q v)
+        (λ q. ⟦<Asked as Predicate<i64>>⟧.formula q v) ⟦<Plain as fmt::Display>⟧.output ⟦<Asked as fmt::Display>⟧.output
         (text_fits_by_type
-        (λ q. ⟦<BooleanPredicate<i64> as Predicate<i64>>⟧.formula q v) (λ q. ⟦<Comparison as Predicate<i64>>⟧.formula q v) ⟦<BooleanPredicate<i64> as fmt::Display>⟧.output ⟦<Comparison as fmt::Display>⟧.output
+        (λ q. ⟦<BooleanPredicate<i64> as Predicate<i64>>⟧.formula q v)
+        (λ q. ⟦<Comparison as Predicate<i64>>⟧.formula q v) ⟦<BooleanPredicate<i64> as fmt::Display>⟧.output ⟦<Comparison as fmt::Display>⟧.output
         (λ q g h. exactly_text_fits h)
         (text_fits_by_type
-        (λ q. ⟦<EqPredicate<i64> as Predicate<i64>>⟧.formula q v) (λ q. ⟦<OrdPredicate<i64> as Predicate<i64>>⟧.formula q v) ⟦<EqPredicate<i64> as fmt::Display>⟧.output ⟦<OrdPredicate<i64> as fmt::Display>⟧.output
+        (λ q. ⟦<EqPredicate<i64> as Predicate<i64>>⟧.formula q v)
+        (λ q. ⟦<OrdPredicate<i64> as Predicate<i64>>⟧.formula q v) ⟦<EqPredicate<i64> as fmt::Display>⟧.output ⟦<OrdPredicate<i64> as fmt::Display>⟧.output
         (λ q g h. exactly_text_fits h)
         (λ q g h. exactly_text_fits h)))
         (text_fits_by_type
-        (λ q. ⟦<Ordered as Predicate<i64>>⟧.formula q v) (λ q. ⟦<Other as Predicate<i64>>⟧.formula q v) ⟦<Ordered as fmt::Display>⟧.output ⟦<Other as fmt::Display>⟧.output
+        (λ q. ⟦<Ordered as Predicate<i64>>⟧.formula q v)
+        (λ q. ⟦<Other as Predicate<i64>>⟧.formula q v) ⟦<Ordered as fmt::Display>⟧.output
+        ⟦<Other as fmt::Display>⟧.output
         (text_fits_by_type
-        (λ q. ⟦<InPredicate<i64> as Predicate<i64>>⟧.formula q v) (λ q. ⟦<OrdInPredicate<i64> as Predicate<i64>>⟧.formula q v) ⟦<InPredicate<i64> as fmt::Display>⟧.output ⟦<OrdInPredicate<i64> as fmt::Display>⟧.output
+        (λ q. ⟦<InPredicate<i64> as Predicate<i64>>⟧.formula q v)
+        (λ q. ⟦<OrdInPredicate<i64> as Predicate<i64>>⟧.formula q v) ⟦<InPredicate<i64> as fmt::Display>⟧.output ⟦<OrdInPredicate<i64> as fmt::Display>⟧.output
         (λ q g h. exactly_text_fits h)
         (λ q g h. exactly_text_fits h))
         (text_fits_by_type
-        (λ q. ⟦<HashableInPredicate<i64> as Predicate<i64>>⟧.formula q v) (λ q. ⟦<AtLeast as Predicate<i64>>⟧.formula q v) ⟦<HashableInPredicate<i64> as fmt::Display>⟧.output ⟦<AtLeast as fmt::Display>⟧.output
+        (λ q. ⟦<HashableInPredicate<i64> as Predicate<i64>>⟧.formula q v)
+        (λ q. ⟦<AtLeast as Predicate<i64>>⟧.formula q v) ⟦<HashableInPredicate<i64> as fmt::Display>⟧.output ⟦<AtLeast as fmt::Display>⟧.output
         (λ q g h. exactly_text_fits h)
         (λ q g h. exactly_text_fits h)))
         p.leaf f };

@@ -1,5 +1,6 @@
 //! A predicate whose type is chosen at run time, from two.
-ghost use Rattle.predicates_generated.specs.OneOf.{by_type, fact_by_type, text_fits_by_type, one_by_type};
+ghost use Rattle.predicates_generated.specs.OneOf.{by_type, fact_by_type, text_fits_by_type};
+ghost use Rattle.predicates_generated.specs.OneOf.{one_by_type};
 
 use predicates_core::Predicate;
 use predicates_core::reflection::{Case, Child, Parameter, PredicateReflection};
@@ -51,9 +52,11 @@ impl<A: Predicate<Item>, B: Predicate<Item>, Item> Predicate<Item> for OneOf<A, 
 
     ghost steady = { λ p v. fact_by_type (λ q. A.steady q v) (λ q. B.steady q v) p };
 
-    ghost text_fits = { λ p v f. text_fits_by_type (λ q. A.formula q v) (λ q. B.formula q v) A.output B.output (λ q. A.text_fits q v) (λ q. B.text_fits q v) p f };
+    ghost text_fits = { λ p v f. text_fits_by_type (λ q. A.formula q v) (λ q. B.formula q v)
+        A.output B.output (λ q. A.text_fits q v) (λ q. B.text_fits q v) p f };
 
-    ghost one_formula = { λ p v f g. one_by_type (λ q. A.one_formula q v) (λ q. B.one_formula q v) p f g };
+    ghost one_formula = { λ p v f g. one_by_type (λ q. A.one_formula q v) (λ q. B.one_formula q v) p
+        f g };
 
     fn eval(&self, alloc: Global, item: &Item) -> Result<bool, AllocError> {
         match self {

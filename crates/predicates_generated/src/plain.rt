@@ -81,7 +81,8 @@ impl PlainFormula {
 // The leaf k stands at the bit k.
 const LEAVES: [u32; 8] = [1, 2, 4, 8, 16, 32, 64, 128];
 
-// Whether the truth is the same under all choices of truths that leave the set's leaves as they are.
+// Whether the truth is the same under all choices of truths that leave the set's leaves as they
+// are.
 fn is_reason(formula: &PlainFormula, choices: u32, set: u32) -> bool {
     let own = formula.own_truths(0);
     let (truth, _) = formula.value(own);

@@ -1,6 +1,9 @@
 //! A leaf of the library over texts.
 ghost use Rattle.predicates_core.proofs.Leaves.{exactly_text_fits, one_exactly};
-ghost use Rattle.predicates_text.specs.MeantLaws.{empty_text_fits, starts_text_fits, ends_text_fits, contains_text_fits, counted_text_fits, one_empty, one_starts, one_ends, one_contains, one_counted};
+ghost use Rattle.predicates_text.specs.MeantLaws.{empty_text_fits, starts_text_fits};
+ghost use Rattle.predicates_text.specs.MeantLaws.{ends_text_fits, contains_text_fits};
+ghost use Rattle.predicates_text.specs.MeantLaws.{counted_text_fits, one_empty, one_starts};
+ghost use Rattle.predicates_text.specs.MeantLaws.{one_ends, one_contains, one_counted};
 ghost use Rattle.predicates_generated.specs.OneOf.{text_fits_by_type, one_by_type};
 
 use crate::one_of::OneOf;
@@ -128,25 +131,34 @@ impl Predicate<String> for TextLeaf {
     ghost steady = { λ p. ⟦<Leaf as Predicate<String>>⟧.steady p.leaf };
 
     ghost text_fits = { λ p v f. text_fits_by_type
-        (λ q. ⟦<Plain as Predicate<String>>⟧.formula q v) (λ q. ⟦<Asked as Predicate<String>>⟧.formula q v) ⟦<Plain as fmt::Display>⟧.output ⟦<Asked as fmt::Display>⟧.output
+        (λ q. ⟦<Plain as Predicate<String>>⟧.formula q v)
+        (λ q. ⟦<Asked as Predicate<String>>⟧.formula q v) ⟦<Plain as fmt::Display>⟧.output
+        ⟦<Asked as fmt::Display>⟧.output
         (text_fits_by_type
-        (λ q. ⟦<BooleanPredicate<String> as Predicate<String>>⟧.formula q v) (λ q. ⟦<Comparison as Predicate<String>>⟧.formula q v) ⟦<BooleanPredicate<String> as fmt::Display>⟧.output ⟦<Comparison as fmt::Display>⟧.output
+        (λ q. ⟦<BooleanPredicate<String> as Predicate<String>>⟧.formula q v)
+        (λ q. ⟦<Comparison as Predicate<String>>⟧.formula q v) ⟦<BooleanPredicate<String> as fmt::Display>⟧.output ⟦<Comparison as fmt::Display>⟧.output
         (λ q g h. exactly_text_fits h)
         (text_fits_by_type
-        (λ q. ⟦<EqPredicate<String> as Predicate<String>>⟧.formula q v) (λ q. ⟦<OrdPredicate<String> as Predicate<String>>⟧.formula q v) ⟦<EqPredicate<String> as fmt::Display>⟧.output ⟦<OrdPredicate<String> as fmt::Display>⟧.output
+        (λ q. ⟦<EqPredicate<String> as Predicate<String>>⟧.formula q v)
+        (λ q. ⟦<OrdPredicate<String> as Predicate<String>>⟧.formula q v) ⟦<EqPredicate<String> as fmt::Display>⟧.output ⟦<OrdPredicate<String> as fmt::Display>⟧.output
         (λ q g h. exactly_text_fits h)
         (λ q g h. exactly_text_fits h)))
         (text_fits_by_type
-        (λ q. ⟦<IsEmptyPredicate as Predicate<String>>⟧.formula q v) (λ q. ⟦<Found as Predicate<String>>⟧.formula q v) ⟦<IsEmptyPredicate as fmt::Display>⟧.output ⟦<Found as fmt::Display>⟧.output
+        (λ q. ⟦<IsEmptyPredicate as Predicate<String>>⟧.formula q v)
+        (λ q. ⟦<Found as Predicate<String>>⟧.formula q v) ⟦<IsEmptyPredicate as fmt::Display>⟧.output ⟦<Found as fmt::Display>⟧.output
         (λ q g h. empty_text_fits h)
         (text_fits_by_type
-        (λ q. ⟦<Ending as Predicate<String>>⟧.formula q v) (λ q. ⟦<Part as Predicate<String>>⟧.formula q v) ⟦<Ending as fmt::Display>⟧.output ⟦<Part as fmt::Display>⟧.output
+        (λ q. ⟦<Ending as Predicate<String>>⟧.formula q v)
+        (λ q. ⟦<Part as Predicate<String>>⟧.formula q v) ⟦<Ending as fmt::Display>⟧.output
+        ⟦<Part as fmt::Display>⟧.output
         (text_fits_by_type
-        (λ q. ⟦<StartsWithPredicate as Predicate<String>>⟧.formula q v) (λ q. ⟦<EndsWithPredicate as Predicate<String>>⟧.formula q v) ⟦<StartsWithPredicate as fmt::Display>⟧.output ⟦<EndsWithPredicate as fmt::Display>⟧.output
+        (λ q. ⟦<StartsWithPredicate as Predicate<String>>⟧.formula q v)
+        (λ q. ⟦<EndsWithPredicate as Predicate<String>>⟧.formula q v) ⟦<StartsWithPredicate as fmt::Display>⟧.output ⟦<EndsWithPredicate as fmt::Display>⟧.output
         (λ q g h. starts_text_fits h)
         (λ q g h. ends_text_fits h))
         (text_fits_by_type
-        (λ q. ⟦<ContainsPredicate as Predicate<String>>⟧.formula q v) (λ q. ⟦<MatchesPredicate as Predicate<String>>⟧.formula q v) ⟦<ContainsPredicate as fmt::Display>⟧.output ⟦<MatchesPredicate as fmt::Display>⟧.output
+        (λ q. ⟦<ContainsPredicate as Predicate<String>>⟧.formula q v)
+        (λ q. ⟦<MatchesPredicate as Predicate<String>>⟧.formula q v) ⟦<ContainsPredicate as fmt::Display>⟧.output ⟦<MatchesPredicate as fmt::Display>⟧.output
         (λ q g h. contains_text_fits h)
         (λ q g h. counted_text_fits h))))
         p.leaf f };

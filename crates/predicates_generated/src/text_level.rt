@@ -74,7 +74,8 @@ impl<P: PredicateReflection> PredicateReflection for TextLevel<P> {
 impl<P: Predicate<String>> Predicate<String> for TextLevel<P> {
     ghost lawful = { λ p. ⟦<OneOf<Level<P, String>, Handed<P>> as Predicate<String>>⟧.lawful p.node };
 
-    ghost formula = { λ p. ⟦<OneOf<Level<P, String>, Handed<P>> as Predicate<String>>⟧.formula p.node };
+    ghost formula = { λ p. ⟦<OneOf<Level<P, String>, Handed<P>> as Predicate<String>>⟧.formula
+        p.node };
 
     ghost steady = { λ p. ⟦<OneOf<Level<P, String>, Handed<P>> as Predicate<String>>⟧.steady p.node };
 
@@ -89,15 +90,19 @@ impl<P: Predicate<String>> Predicate<String> for TextLevel<P> {
         (λ q. ⟦<NormalizedPredicate<P> as Predicate<String>>⟧.formula q v)
         ⟦<TrimPredicate<P> as fmt::Display>⟧.output
         ⟦<NormalizedPredicate<P> as fmt::Display>⟧.output
-        (λ q g h. each_text_fits (P.output (trim_part q)) (has_trimmed v) (λ t. P.text_fits (trim_part q) t g) h)
-        (λ q g h. each_text_fits (P.output (normalized_part q)) (has_even_lines v) (λ t. P.text_fits (normalized_part q) t g) h))
+        (λ q g h. each_text_fits (P.output (trim_part q)) (has_trimmed v)
+        (λ t. P.text_fits (trim_part q) t g) h)
+        (λ q g h. each_text_fits (P.output (normalized_part q)) (has_even_lines v)
+        (λ t. P.text_fits (normalized_part q) t g) h))
         p.node f };
 
     ghost one_formula = { λ p v f g. one_by_type
         (λ l. one_of_level P.output (λ q. P.formula q v) (λ q. P.one_formula q v) l.node)
         (one_by_type
-        (λ q h k lawful x y. one_each (has_trimmed v) (λ t. P.one_formula (trim_part q) t h k lawful) x y)
-        (λ q h k lawful x y. one_each (has_even_lines v) (λ t. P.one_formula (normalized_part q) t h k lawful) x y))
+        (λ q h k lawful x y. one_each (has_trimmed v)
+        (λ t. P.one_formula (trim_part q) t h k lawful) x y)
+        (λ q h k lawful x y. one_each (has_even_lines v)
+        (λ t. P.one_formula (normalized_part q) t h k lawful) x y))
         p.node f g };
 
     fn eval(&self, alloc: Global, item: &String) -> Result<bool, AllocError> {

@@ -9,7 +9,8 @@ pub fn text(alloc: Global, text: &str) -> Result<String, AllocError> {
     String::from_str(alloc, text)
 }
 
-/// Writes the lines of the verdict's case; another line where there is none, or one for the opposite.
+/// Writes the lines of the verdict's case; another line where there is none, or one for the
+/// opposite.
 pub fn tell<P: Predicate<Item>, Item>(
     alloc: Global,
     out: &mut String,

@@ -1,5 +1,6 @@
 -- What the equalities with a file print and test.
-use Rattle.std.specs.Prelude.{ℕ, Bool, false, List, ◌++◌, Result, Ok, Err, Some, codes, string_bytes, bytes_eq}
+use Rattle.std.specs.Prelude.{ℕ, Bool, false, List, ◌++◌, Result, Ok, Err, Some, codes}
+use Rattle.std.specs.Prelude.{string_bytes, bytes_eq}
 use Rattle.std.specs.Fmt.{decimal, debug_list}
 use Rattle.predicates_core.specs.Label.{Entry, plain}
 use Rattle.predicates_core.specs.Formula.{Formula, Leaf}
@@ -36,4 +37,5 @@ abbrev pub equals_bytes : List ℕ → List ℕ → List ℕ → Formula
 equals_bytes path bytes found = Leaf (plain (Some (equality_text path))) (has_bytes bytes found)
 
 abbrev pub equals_content : List ℕ → List ℕ → Snapshot → Formula
-equals_content path bytes s = Leaf (plain (Some (equality_text path))) (has_content bytes (content_of s))
+equals_content path bytes s = Leaf (plain (Some (equality_text path)))
+    (has_content bytes (content_of s))

@@ -24,4 +24,5 @@ existence_truth false there = not there
 -- a leaf that shows the path
 abbrev pub existence_formula : ExistencePredicate → Snapshot → Formula
 existence_formula p s =
-    Leaf (showing (Some (existence_text p)) (codes "var") (Some (path_of s))) (existence_truth (asks_presence p) (is_ok (followed_of s)))
+    Leaf (showing (Some (existence_text p)) (codes "var") (Some (path_of s)))
+    (existence_truth (asks_presence p) (is_ok (followed_of s)))

@@ -1,12 +1,16 @@
 -- The texts of faults, and what an answer of the system comes to.
-use Rattle.std.specs.Prelude.{◌≡◌, ℕ, List, Option, None, Some, Result, Ok, Err, IsOkAnd, MatchResult, codes}
+use Rattle.std.specs.Prelude.{◌≡◌, ℕ, List, Option, None, Some, Result, Ok, Err, IsOkAnd}
+use Rattle.std.specs.Prelude.{MatchResult, codes}
 use Rattle.std.specs.declared.alloc.AllocError.{AllocError}
 use Rattle.std.specs.declared.io.Error.{Error}
 use Rattle.std.specs.declared.io.ErrorKind.{ErrorKind}
-use Rattle.std.specs.declared.io.ErrorKind.TheVariants.{NotFound as SystemNotFound, PermissionDenied as SystemPermissionDenied, OutOfMemory}
+use Rattle.std.specs.declared.io.ErrorKind.TheVariants.{NotFound as SystemNotFound}
+use Rattle.std.specs.declared.io.ErrorKind.TheVariants.{PermissionDenied as SystemPermissionDenied}
+use Rattle.std.specs.declared.io.ErrorKind.TheVariants.{OutOfMemory}
 use Rattle.std.specs.IoError.{error_kind}
 use Rattle.predicates_path.specs.declared.fault.PathFault.{PathFault}
-use Rattle.predicates_path.specs.declared.fault.PathFault.TheVariants.{NotFound, PermissionDenied, NotRegular, Other}
+use Rattle.predicates_path.specs.declared.fault.PathFault.TheVariants.{NotFound, PermissionDenied}
+use Rattle.predicates_path.specs.declared.fault.PathFault.TheVariants.{NotRegular, Other}
 
 -- how a fault is printed
 abbrev pub fault_text : PathFault → List ℕ
@@ -24,10 +28,14 @@ fault_of _ = Some Other
 
 -- the fault that an error of the system is, or want of memory
 abbrev pub ComesTo : Error → Result PathFault AllocError → Type 0
-ComesTo error result = MatchResult result (λ fault. fault_of (error_kind error) ≡ Some fault) (λ _. fault_of (error_kind error) ≡ None)
+ComesTo error result = MatchResult result (λ fault. fault_of (error_kind error) ≡ Some fault)
+    (λ _. fault_of (error_kind error) ≡ None)
 
 -- what the system told is found as the relation says, and its error is a fault, or want of memory
-abbrev pub TellsAs : {T F : Type 0} → (T → F → Type 0) → Result T Error → Result (Result F PathFault) AllocError → Type 0
+abbrev pub TellsAs : {T F : Type 0} → (T → F → Type 0) → Result T Error
+    → Result (Result F PathFault) AllocError → Type 0
 TellsAs IsFound (Ok told) result = IsOkAnd result (λ found. IsOkAnd found (IsFound told))
 TellsAs IsFound (Err error) result =
-    MatchResult result (λ found. MatchResult found (λ _. ⊥) (λ fault. fault_of (error_kind error) ≡ Some fault)) (λ _. fault_of (error_kind error) ≡ None)
+    MatchResult result
+    (λ found. MatchResult found (λ _. ⊥) (λ fault. fault_of (error_kind error) ≡ Some fault))
+    (λ _. fault_of (error_kind error) ≡ None)

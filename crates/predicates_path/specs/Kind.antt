@@ -43,4 +43,5 @@ kind_predicate_text p = codes "var is " ++ kind_text (tested_kind p)
 abbrev pub kind_formula : FileTypePredicate → Snapshot → Formula
 kind_formula p s =
     let found : Result FileType PathFault = found_kind p s in
-    Leaf (showing (Some (kind_predicate_text p)) (shown_name found) (Some (shown_value found))) (has_kind (tested_kind p) found)
+    Leaf (showing (Some (kind_predicate_text p)) (shown_name found) (Some (shown_value found)))
+    (has_kind (tested_kind p) found)

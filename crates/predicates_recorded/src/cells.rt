@@ -17,7 +17,8 @@ pub fn text(alloc: Global, cell: &str) -> anyhow::Result<String> {
     unescaped(alloc, cell)?.context("an escape that is unknown or has no end")
 }
 
-/// The bytes that a cell of hexadecimal digits is written for, which is a point where there are none.
+/// The bytes that a cell of hexadecimal digits is written for, which is a point where there are
+/// none.
 pub fn bytes(alloc: Global, cell: &str) -> anyhow::Result<Vec<u8>> {
     let digits = if cell == "." { "" } else { cell };
     hex::decode(alloc, digits).context("no hexadecimal digits")

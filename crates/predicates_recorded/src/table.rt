@@ -10,8 +10,8 @@ pub trait Table {
     fn replay(&self, alloc: Global, row: &str, wrong: &mut Vec<Difference>) -> Result<()>;
 }
 
-/// Whether a table has rows and each of them is right. It prints how many there are and how many are
-/// wrong; before that, for each cell that is wrong, its line, what was wanted and what came.
+/// Whether a table has rows and each of them is right. It prints how many there are and how many
+/// are wrong; before that, for each cell that is wrong, its line, what was wanted and what came.
 pub fn replay<T: Table>(rt: &HostRuntime, name: &str, table: &T) -> Result<bool> {
     let alloc = rt.alloc();
     let path = format!(in alloc; "{name}.tsv")?;

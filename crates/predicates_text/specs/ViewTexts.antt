@@ -15,7 +15,8 @@ use Rattle.std.proofs.lemmas.Str.{chars-encodes, encodes-chars, scalars-chars, e
 use Rattle.std.proofs.lemmas.Str.{IsUtf8-string_bytes}
 use Rattle.predicates_text.specs.Views.{lines_even}
 use Rattle.predicates_text.specs.EvenLines.{IsNoLonger, lines_even_fits}
-use Rattle.predicates_text.specs.ViewFormulas.{IsTrimmedOf, HasEvenLinesOf, trimmed_bytes, even_bytes}
+use Rattle.predicates_text.specs.ViewFormulas.{IsTrimmedOf, HasEvenLinesOf, trimmed_bytes}
+use Rattle.predicates_text.specs.ViewFormulas.{even_bytes}
 use Rattle.predicates_text.specs.ViewFormulaLaws.{TextOrNot}
 
 -- a text of given bytes, where another has room for it

@@ -8,7 +8,8 @@ ghost use Rattle.std.specs.Prelude.{◌≡◌, ◌↔◌, ℕ, Vec};
 ghost use Rattle.std.specs.declared.alloc.Global.{Global};
 ghost use Rattle.predicates_core.specs.Text.{Text};
 ghost use Rattle.predicates_core.specs.Formula.{Formula};
-ghost use Rattle.predicates_text.specs.ViewFormulas.{IsOfEach, IsDecoded, IsTrimmedOf, HasEvenLinesOf};
+ghost use Rattle.predicates_text.specs.ViewFormulas.{IsOfEach, IsDecoded, IsTrimmedOf};
+ghost use Rattle.predicates_text.specs.ViewFormulas.{HasEvenLinesOf};
 ghost use Rattle.predicates_text.specs.AdapterParts.{trim_part, normalized_part, utf8_part};
 
 mod normalize;

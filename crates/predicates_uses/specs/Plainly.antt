@@ -16,8 +16,9 @@ written (Name name) printed f = under_name name.now f
 written TwoNegations printed f = twice_opposite printed f
 
 -- each formula of the check has this truth as it was written
-pub record HasTruthAs (F : Formula → Type 0) (as_written : Formula → Formula) (b : Bool) : Type 0 where
-  pub at : (f : Formula) → F f → truth (as_written f) ≡ b
+pub record HasTruthAs (F : Formula → Type 0) (as_written : Formula → Formula) (b : Bool) : Type 0
+  where
+    pub at : (f : Formula) → F f → truth (as_written f) ≡ b
 
 -- the case shows the plain formula cut down to the leaves that explain the written one
 pub record ShowsReasonOf (as_written plain : Formula) (c : Tree CaseNode) : Type 0 where
@@ -25,10 +26,14 @@ pub record ShowsReasonOf (as_written plain : Formula) (c : Tree CaseNode) : Type
   pub first : IsFirstReason as_written leaves
   pub shown : Shows plain c leaves
 
-pub record IsPlainCaseOf (F : Formula → Type 0) (as_written : Formula → Formula) (b : Bool) (c : Tree CaseNode) : Type 0 where
+pub record IsPlainCaseOf (F : Formula → Type 0) (as_written : Formula → Formula) (b : Bool)
+    (c : Tree CaseNode) : Type 0 where
   pub truth : HasTruthAs F as_written b
   pub explains : (f : Formula) → F f → ShowsReasonOf (as_written f) f c
 
--- a case where the check has the expected truth as it was written, and none where it has the opposite
-abbrev pub IsPlainAnswer : (Formula → Type 0) → (Formula → Formula) → Bool → Option (Tree CaseNode) → Type 0
-IsPlainAnswer F as_written expected found = MatchOption found (HasTruthAs F as_written (not expected)) (IsPlainCaseOf F as_written expected)
+-- a case where the check has the expected truth as it was written, and none where it has the
+-- opposite
+abbrev pub IsPlainAnswer : (Formula → Type 0) → (Formula → Formula) → Bool → Option (Tree CaseNode)
+    → Type 0
+IsPlainAnswer F as_written expected found = MatchOption found
+    (HasTruthAs F as_written (not expected)) (IsPlainCaseOf F as_written expected)

@@ -1,5 +1,6 @@
 -- Which failures a tree of files has.
-use Rattle.std.specs.Prelude.{◌≡◌, true, false, not, Option, MatchOption, filter, List, [], ◌∷◌, string_bytes}
+use Rattle.std.specs.Prelude.{◌≡◌, true, false, not, Option, MatchOption, filter, List, [], ◌∷◌}
+use Rattle.std.specs.Prelude.{string_bytes}
 use Rattle.predicates_core.specs.Formula.{Formula, truth}
 use Rattle.predicates_core.specs.Tree as Trees
 use Rattle.predicates_core.specs.Describe.{CaseNode}
@@ -30,8 +31,11 @@ abbrev pub IsFoundAt : Formula → Snapshot → Option Failure → Type 0
 IsFoundAt f found told = MatchOption told (truth f ≡ true) (IsFailureAt f found)
 
 abbrev pub IsFailureOf : {P : Type 0} → (P → Snapshot → Formula) → Expectation P → Failure → Type 0
-IsFailureOf formula_of expected failure = IsFailureAt (formula_of expected.check expected.found) expected.found failure
+IsFailureOf formula_of expected failure = IsFailureAt (formula_of expected.check expected.found)
+    expected.found failure
 
 -- for each expectation whose formula is false one failure, in their order
-pub record AreFailures {P : Type 0} (formula_of : P → Snapshot → Formula) (expected : List (Expectation P)) (failures : List Failure) : Type 0 where
-  pub each : AreEach (IsFailureOf formula_of) (filter (λ e. not (truth (formula_of e.check e.found))) expected) failures
+pub record AreFailures {P : Type 0} (formula_of : P → Snapshot → Formula)
+    (expected : List (Expectation P)) (failures : List Failure) : Type 0 where
+  pub each : AreEach (IsFailureOf formula_of)
+      (filter (λ e. not (truth (formula_of e.check e.found))) expected) failures

@@ -44,8 +44,10 @@ impl<P: PredicateReflection, Q: PredicateReflection> PredicateReflection for Eit
     ghost parameters_of = { λ p. [] };
 
     ghost children_of = { λ p. two_parts
-        (codes "left") (P.output (left_of p)) (P.parameters_of (left_of p)) (P.children_of (left_of p))
-        (codes "right") (Q.output (right_of p)) (Q.parameters_of (right_of p)) (Q.children_of (right_of p)) };
+        (codes "left") (P.output (left_of p)) (P.parameters_of (left_of p))
+        (P.children_of (left_of p))
+        (codes "right") (Q.output (right_of p)) (Q.parameters_of (right_of p))
+        (Q.children_of (right_of p)) };
 
     fn parameters(&self, alloc: Global) -> Result<Vec<Parameter>, AllocError> {
         Ok(Vec::new(alloc))
@@ -100,8 +102,8 @@ impl<P: Total<Item>, Q: Total<Item>, Item> Total<Item> for Either<P, Q> {
         (Q.has_formula (right_of p) v) };
 }
 
-/// What `Either` means: its formulas are `Or` over a formula of each part. It may be asked where its
-/// parts may, and takes no memory where they take none.
+/// What `Either` means: its formulas are `Or` over a formula of each part. It may be asked where
+/// its parts may, and takes no memory where they take none.
 pub fn alternatives<P: Predicate<Item>, Q: Predicate<Item>, Item>(
     either: &Either<P, Q>,
     item: &Item,

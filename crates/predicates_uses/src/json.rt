@@ -1,7 +1,8 @@
 //! Cases as JSON.
 ghost use Rattle.std.specs.Prelude.{◌≡◌, IfOk};
 ghost use Rattle.serde_json.specs.View.{view, items_view};
-ghost use Rattle.predicates_uses.specs.Json.{product_data, products_data, child_data, node_data, case_data};
+ghost use Rattle.predicates_uses.specs.Json.{product_data, products_data, child_data, node_data};
+ghost use Rattle.predicates_uses.specs.Json.{case_data};
 
 use predicates::reflection::{CaseChild, CaseView, Product};
 use serde_json::{Map, Value, json, put};
@@ -59,8 +60,8 @@ fn node_json(alloc: Global, case: &CaseView<'_>, children: Vec<Value>) -> Result
     Ok(Value::Object(members))
 }
 
-/// The case as an object with its `text`, its `result`, its `products`, each a `name` and a `value`, and
-/// its `children`, each a `name` and a `case`.
+/// The case as an object with its `text`, its `result`, its `products`, each a `name` and a
+/// `value`, and its `children`, each a `name` and a `case`.
 pub fn case_json(alloc: Global, case: &CaseView<'_>) -> Result<Value, AllocError>
     ensures { IfOk result (λ value. view value ≡ case_data case.now) }
 {

@@ -48,8 +48,10 @@ impl<P: PredicateReflection, Q: PredicateReflection> PredicateReflection for Las
     ghost parameters_of = { λ p. [] };
 
     ghost children_of = { λ p. two_parts
-        (codes "left") (P.output (left_of p)) (P.parameters_of (left_of p)) (P.children_of (left_of p))
-        (codes "right") (Q.output (right_of p)) (Q.parameters_of (right_of p)) (Q.children_of (right_of p)) };
+        (codes "left") (P.output (left_of p)) (P.parameters_of (left_of p))
+        (P.children_of (left_of p))
+        (codes "right") (Q.output (right_of p)) (Q.parameters_of (right_of p))
+        (Q.children_of (right_of p)) };
 
     fn parameters(&self, alloc: Global) -> Result<Vec<Parameter>, AllocError> {
         Ok(Vec::new(alloc))

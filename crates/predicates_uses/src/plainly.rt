@@ -15,8 +15,9 @@ pub enum Around {
     TwoNegations,
 }
 
-/// The case of a check without what is written around it. It shows the leaves that explain the check as
-/// it was written, and is there where that has the expected verdict. It takes memory for the case alone.
+/// The case of a check without what is written around it. It shows the leaves that explain the
+/// check as it was written, and is there where that has the expected verdict. It takes memory for
+/// the case alone.
 pub fn find_plain_case<P: Predicate<Item>, Item>(
     alloc: Global,
     check: &P,

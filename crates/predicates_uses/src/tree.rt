@@ -54,8 +54,8 @@ fn failure_at<P: Total<Snapshot>>(
     Ok(Some(Failure { path, lines }))
 }
 
-/// One failure for each expectation that does not hold, in their order. It asks no file system: what
-/// stood at the paths was taken before.
+/// One failure for each expectation that does not hold, in their order. It asks no file system:
+/// what stood at the paths was taken before.
 #[tactic(auto, using(crate::proofs::Trees::trees))]
 pub fn check_tree<P: Total<Snapshot>>(
     alloc: Global,

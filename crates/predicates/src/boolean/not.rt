@@ -100,7 +100,8 @@ impl<M: Total<Item>, Item> Total<Item> for NotPredicate<M, Item> {
 }
 
 impl<M: ReadsContent<Item>, Item: Content> ReadsContent<Item> for NotPredicate<M, Item> {
-    ghost content_formula = { λ p bytes. Not (plain (not_text (M.output p.inner))) (M.content_formula p.inner bytes) };
+    ghost content_formula = { λ p bytes. Not (plain (not_text (M.output p.inner)))
+        (M.content_formula p.inner bytes) };
 
     ghost always_lawful = { λ p. M.always_lawful p.inner };
 

@@ -54,7 +54,8 @@ impl fmt::Display for BoxPredicate {
 }
 
 impl PredicateReflection for BoxPredicate {
-    ghost parameters_of = { λ p. (TextPredicate-box (held_by p)).text_parameters_of (held_by p).value };
+    ghost parameters_of = { λ p. (TextPredicate-box (held_by p)).text_parameters_of
+        (held_by p).value };
 
     ghost children_of = { λ p. (TextPredicate-box (held_by p)).text_children_of (held_by p).value };
 

@@ -51,7 +51,14 @@ fn boxes_in_a_loop(rt: HostRuntime) -> Result<(), Fail> {
     }
     assert_eq!(rt;
         lines.as_str(),
-        "var.is_empty() = false\n  - var: b\nvar.contains(a) = false\n  - var: b\nany = true\n  any: true = true\n"
+        "\
+var.is_empty() = false
+  - var: b
+var.contains(a) = false
+  - var: b
+any = true
+  any: true = true
+"
     );
     for (check, (verdict, text, case)) in checks.iter().zip(wanted) {
         assert_eq!(rt; check.eval(alloc, &item)?, verdict);
@@ -89,7 +96,11 @@ fn a_box_under_others(rt: HostRuntime) -> Result<(), Fail> {
     let either = empty.trim().name("blank").or(has_part);
     assert_eq!(rt;
         case_of(alloc, &either, true, "  ")?.as_str(),
-        "(blank || var.contains(a)) = true\n  left: blank = true\n    blank: var.is_empty() = true\n      - var: \n"
+        "\
+(blank || var.contains(a)) = true
+  left: blank = true
+    blank: var.is_empty() = true
+      - var: \n"
     );
     let children = either.children(alloc)?;
     assert_eq!(rt; children.len(), 2);

@@ -114,7 +114,8 @@ impl ReadsContent<String> for HashableInPredicate<String> {
     ghost use Rattle.predicates.specs.Members.{has_text};
     ghost use Rattle.std.specs.Fmt.{debug_str};
 
-    ghost content_formula = { λ p bytes. member_leaf (debug_str bytes) (has_text p.members.keys bytes) };
+    ghost content_formula = { λ p bytes. member_leaf (debug_str bytes)
+        (has_text p.members.keys bytes) };
 
     ghost always_lawful = { λ p. tt };
 

@@ -6,7 +6,8 @@ ghost use Rattle.predicates_core.specs.Label.{value_of};
 ghost use Rattle.predicates_core.specs.Tree.{empty};
 ghost use Rattle.predicates_core.specs.Leaves.{IsExactly};
 ghost use Rattle.predicates_core.proofs.Leaves.{exactly_text_fits, one_exactly};
-ghost use Rattle.predicates.specs.Members.{GivesItems, HasSameMembers, has_equal, member_text, member_leaf};
+ghost use Rattle.predicates.specs.Members.{GivesItems, HasSameMembers, has_equal, member_text};
+ghost use Rattle.predicates.specs.Members.{member_leaf};
 ghost use Rattle.predicates.specs.In.{members_of};
 ghost use Rattle.predicates.specs.OrdIn as OrdIn;
 
@@ -77,7 +78,8 @@ impl<T> fmt::Display for InPredicate<T> {
 impl<T: fmt::Debug> PredicateReflection for InPredicate<T> {
     ghost use Rattle.std.specs.Fmt.{debug_list};
 
-    ghost parameters_of = { λ p. value_of (codes "values") (debug_list T.debug_output p.members.items) };
+    ghost parameters_of = { λ p. value_of (codes "values")
+        (debug_list T.debug_output p.members.items) };
 
     ghost children_of = { λ p. empty };
 
@@ -135,7 +137,8 @@ impl ReadsContent<String> for InPredicate<String> {
     ghost use Rattle.predicates.specs.Members.{has_text};
     ghost use Rattle.std.specs.Fmt.{debug_str};
 
-    ghost content_formula = { λ p bytes. member_leaf (debug_str bytes) (has_text p.members.items bytes) };
+    ghost content_formula = { λ p bytes. member_leaf (debug_str bytes)
+        (has_text p.members.items bytes) };
 
     ghost always_lawful = { λ p. tt };
 

@@ -63,7 +63,8 @@ impl<T: fmt::Debug + Ord> PredicateReflection for OrdInPredicate<T> {
     ghost use Rattle.predicates_core.specs.Label.{value_of};
     ghost use Rattle.predicates_core.specs.Tree.{empty};
 
-    ghost parameters_of = { λ p. value_of (codes "values") (debug_list T.debug_output p.members.items) };
+    ghost parameters_of = { λ p. value_of (codes "values")
+        (debug_list T.debug_output p.members.items) };
 
     ghost children_of = { λ p. empty };
 
@@ -129,7 +130,8 @@ impl ReadsContent<String> for OrdInPredicate<String> {
     ghost use Rattle.std.specs.Fmt.{debug_str};
     ghost use Rattle.predicates.specs.Members.{has_text, member_leaf};
 
-    ghost content_formula = { λ p bytes. member_leaf (debug_str bytes) (has_text p.members.items bytes) };
+    ghost content_formula = { λ p bytes. member_leaf (debug_str bytes)
+        (has_text p.members.items bytes) };
 
     ghost always_lawful = { λ p. tt };
 

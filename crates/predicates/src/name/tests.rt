@@ -55,7 +55,13 @@ fn names_under_combinators(rt: HostRuntime) -> Result<(), Fail> {
     assert!(rt; !explained(alloc, &neither, &1)?.root().result());
     assert_eq!(rt;
         written(alloc, &neither, &1)?.as_str(),
-        "(! (x || y)) = false\n  predicate: (x || y) = true\n    right: y = true\n      y: var < 3 = true\n        - var: 1\n"
+        "\
+(! (x || y)) = false
+  predicate: (x || y) = true
+    right: y = true
+      y: var < 3 = true
+        - var: 1
+"
     );
     Ok(())
 }
@@ -78,7 +84,15 @@ fn names_beside_a_function(rt: HostRuntime) -> Result<(), Fail> {
     assert!(rt; explained(alloc, &both, &9)?.root().result());
     assert_eq!(rt;
         written(alloc, &both, &1)?.as_str(),
-        "(z && g(var)) = false\n  left: z = false\n    z: (! (x || y)) = false\n      predicate: (x || y) = true\n        right: y = true\n          y: var < 3 = true\n            - var: 1\n"
+        "\
+(z && g(var)) = false
+  left: z = false
+    z: (! (x || y)) = false
+      predicate: (x || y) = true
+        right: y = true
+          y: var < 3 = true
+            - var: 1
+"
     );
     Ok(())
 }
@@ -101,7 +115,12 @@ fn functions_under_combinators(rt: HostRuntime) -> Result<(), Fail> {
     assert!(rt; explained(alloc, &either, &7)?.root().result());
     assert_eq!(rt;
         written(alloc, &either, &7)?.as_str(),
-        "((fn(var) && fn(var)) || fn(var)) = true\n  left: (fn(var) && fn(var)) = true\n    left: fn(var) = true\n    right: fn(var) = true\n"
+        "\
+((fn(var) && fn(var)) || fn(var)) = true
+  left: (fn(var) && fn(var)) = true
+    left: fn(var) = true
+    right: fn(var) = true
+"
     );
     Ok(())
 }

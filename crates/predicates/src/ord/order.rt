@@ -72,7 +72,8 @@ impl<T: fmt::Debug> PredicateReflection for OrdPredicate<T> {
 impl<T: fmt::Debug + Ord> Predicate<T> for OrdPredicate<T> {
     ghost use Rattle.predicates.specs.Comparison.{ord_leaf};
 
-    ghost formula = { λ p v. IsExactly (ord_leaf p.op (T.debug_output p.constant) (T.debug_output v) (T.cmp v p.constant)) };
+    ghost formula = { λ p v. IsExactly
+        (ord_leaf p.op (T.debug_output p.constant) (T.debug_output v) (T.cmp v p.constant)) };
 
     ghost steady = { λ p v. Unit {0} };
 
@@ -109,7 +110,8 @@ impl<T: fmt::Debug + Ord> Predicate<T> for OrdPredicate<T> {
 impl<T: fmt::Debug + Ord> Total<T> for OrdPredicate<T> {
     ghost use Rattle.predicates.specs.Comparison.{ord_leaf};
 
-    ghost formula_of = { λ p v. ord_leaf p.op (T.debug_output p.constant) (T.debug_output v) (T.cmp v p.constant) };
+    ghost formula_of = { λ p v. ord_leaf p.op (T.debug_output p.constant) (T.debug_output v)
+        (T.cmp v p.constant) };
 
     ghost always_lawful = { λ p. tt };
 
@@ -123,7 +125,8 @@ impl ReadsContent<String> for OrdPredicate<String> {
     ghost use Rattle.std.specs.Fmt.{debug_str};
     ghost use Rattle.predicates.specs.Comparison.{ord_leaf};
 
-    ghost content_formula = { λ p bytes. ord_leaf p.op (debug_str (string_bytes p.constant)) (debug_str bytes) (slice_cmp nat_cmp bytes (string_bytes p.constant)) };
+    ghost content_formula = { λ p bytes. ord_leaf p.op (debug_str (string_bytes p.constant))
+        (debug_str bytes) (slice_cmp nat_cmp bytes (string_bytes p.constant)) };
 
     ghost always_lawful = { λ p. tt };
 

@@ -38,7 +38,8 @@ pub fn showing_case<P: fmt::Display, Item: fmt::Debug>(
     item: &Item,
 ) -> Result<Option<Case>, AllocError>
     ensures { IfOk result (IsAnswer (IsExactly
-        (Leaf (showing (P.output leaf.now) (codes "var") (Item.debug_output item.now)) holds)) expected) }
+        (Leaf (showing (P.output leaf.now) (codes "var") (Item.debug_output item.now)) holds))
+        expected) }
 {
     if holds != expected {
         return Ok(None);

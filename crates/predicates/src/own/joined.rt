@@ -45,8 +45,8 @@ pub fn and_case<W: fmt::Display, P: Predicate<Item>, Q: Predicate<Item>, Item>(
     Ok(Some(over_found(alloc, text, expected, left, right)?))
 }
 
-/// The same of one that holds where exactly one part does. Each part is asked for its truth, and then
-/// for its case.
+/// The same of one that holds where exactly one part does. Each part is asked for its truth, and
+/// then for its case.
 #[tactic(auto, using(predicates_core::proofs::CombinedLemmas::combined))]
 pub fn xor_case<W: fmt::Display, P: Predicate<Item>, Q: Predicate<Item>, Item>(
     alloc: Global,

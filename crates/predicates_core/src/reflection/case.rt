@@ -5,7 +5,8 @@
 //!     println!(rt; "{name}: {}", case.result())?;
 //! }
 //! ```
-ghost use Rattle.std.specs.Prelude.{◌≡◌, ◌<◌, ◌^◌, length, IfOk, option_copied, string_bytes, option_map};
+ghost use Rattle.std.specs.Prelude.{◌≡◌, ◌<◌, ◌^◌, length, IfOk, option_copied, string_bytes};
+ghost use Rattle.std.specs.Prelude.{option_map};
 ghost use Rattle.predicates_core.specs.Tree.{named_trees};
 ghost use Rattle.predicates_core.specs.Describe.{leaf, with_product, with_child};
 

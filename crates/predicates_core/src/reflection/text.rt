@@ -22,7 +22,8 @@ fn write_verdict(out: &mut String, case: &CaseView<'_>) -> Result<(), AllocError
 // Writes the line of a product, which stands two spaces deeper than its node.
 fn write_product(out: &mut String, indent: &str, product: &Product) -> Result<(), AllocError>
     ensures { OnOk result
-        (string_bytes out.new ≡ string_bytes out.old ++ product_line (deeper indent.now) product.now) }
+        (string_bytes out.new ≡ string_bytes out.old ++ product_line (deeper indent.now)
+        product.now) }
 {
     out.push_str(indent)?;
     out.push_str("  - ")?;
@@ -35,7 +36,8 @@ fn write_product(out: &mut String, indent: &str, product: &Product) -> Result<()
 // Writes a case whose line stands at the indent, from its text on. The indent comes back as it was.
 fn write_case(out: &mut String, indent: &mut String, case: &CaseView<'_>) -> Result<(), AllocError>
     ensures lines { OnOk result
-        (string_bytes out.new ≡ string_bytes out.old ++ tree_lines (string_bytes indent.old) case.now) }
+        (string_bytes out.new ≡ string_bytes out.old ++ tree_lines (string_bytes indent.old)
+        case.now) }
     ensures indent { OnOk result (string_bytes indent.new ≡ string_bytes indent.old) }
 {
     write_verdict(out, case)?;

@@ -15,11 +15,12 @@ fn rotate(first: &mut Box<TextCheck>, second: &mut Box<TextCheck>, third: &mut B
     mem::swap(first, third);
 }
 
-// Where the left part has parts, takes the first of them for the right part, and hangs the right part
-// into its place. Says whether it had.
+// Where the left part has parts, takes the first of them for the right part, and hangs the right
+// part into its place. Says whether it had.
 pub(crate) fn turn(left: &mut TextCheck, right: &mut Box<TextCheck>) -> bool
     ensures turned { result ≡ true
-        → 2 * weight right.new.value + weight left.new < 2 * weight left.old + weight right.old.value }
+        → 2 * weight right.new.value + weight left.new < 2 * weight left.old + weight
+        right.old.value }
     ensures alone { result ≡ false → IsAlone left.new }
     ensures right { result ≡ false → right.new.value ≡ right.old.value }
 {

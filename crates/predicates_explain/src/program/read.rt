@@ -1,5 +1,6 @@
 //! What the words of a command line ask for.
-ghost use Rattle.std.specs.Prelude.{◌≡◌, ◌≢◌, ◌↔◌, ℤ, [], ◌∷◌, IfOk, IfErr, IsTrue, OnOk, MatchOption};
+ghost use Rattle.std.specs.Prelude.{◌≡◌, ◌≢◌, ◌↔◌, ℤ, [], ◌∷◌, IfOk, IfErr, IsTrue, OnOk};
+ghost use Rattle.std.specs.Prelude.{MatchOption};
 ghost use Rattle.predicates_explain.specs.declared.words.word.Word.{Word};
 ghost use Rattle.predicates_explain.specs.Tokens.{token_of};
 ghost use Rattle.predicates_explain.specs.Number.{Reads};

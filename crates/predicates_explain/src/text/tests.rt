@@ -8,19 +8,35 @@ const ROWS: [(&[&str], &[u8], &str, bool); 6] = [
     (
         &["empty", "trim", "contains=a", "or"],
         b"  \n",
-        "line 1: true\n(var.is_empty() || var.contains(a)) = true\n  left: var.is_empty() = true\n    - var: \n",
+        "\
+line 1: true
+(var.is_empty() || var.contains(a)) = true
+  left: var.is_empty() = true
+    - var: \n",
         true,
     ),
     (
         &["contains=a", "normalize", "match=T[a-z]*", "or"],
         b"Two",
-        "line 1: true\n(var.contains(a) || var.is_match(T[a-z]*)) = true\n  right: var.is_match(T[a-z]*) = true\n    - var: Two\n",
+        "\
+line 1: true
+(var.contains(a) || var.is_match(T[a-z]*)) = true
+  right: var.is_match(T[a-z]*) = true
+    - var: Two
+",
         true,
     ),
     (
         &["empty", "contains=a", "xor"],
         b"b",
-        "line 1: false\n(var.is_empty() ^ var.contains(a)) = false\n  left: var.is_empty() = false\n    - var: b\n  right: var.contains(a) = false\n    - var: b\n",
+        "\
+line 1: false
+(var.is_empty() ^ var.contains(a)) = false
+  left: var.is_empty() = false
+    - var: b
+  right: var.contains(a) = false
+    - var: b
+",
         true,
     ),
     (&["empty"], b"\xff\n", "line 1: not UTF-8\n", false),
@@ -33,7 +49,17 @@ const ROWS: [(&[&str], &[u8], &str, bool); 6] = [
     (
         &["eq=a", "not"],
         b"a\n\xc3\n\n",
-        "line 1: false\n(! var == \"a\") = false\n  predicate: var == \"a\" = true\n    - var: \"a\"\nline 2: not UTF-8\nline 3: true\n(! var == \"a\") = true\n  predicate: var == \"a\" = false\n    - var: \"\"\n",
+        "\
+line 1: false
+(! var == \"a\") = false
+  predicate: var == \"a\" = true
+    - var: \"a\"
+line 2: not UTF-8
+line 3: true
+(! var == \"a\") = true
+  predicate: var == \"a\" = false
+    - var: \"\"
+",
         false,
     ),
 ];

@@ -1,5 +1,6 @@
 //! What a word makes of the checks before it.
-ghost use Rattle.std.specs.Prelude.{◌≡◌, ◌≢◌, ◌↔◌, ◌<◌, [], ◌∷◌, ◌++◌, IfOk, IfErr, OnOk, Err, length};
+ghost use Rattle.std.specs.Prelude.{◌≡◌, ◌≢◌, ◌↔◌, ◌<◌, [], ◌∷◌, ◌++◌, IfOk, IfErr, OnOk, Err};
+ghost use Rattle.std.specs.Prelude.{length};
 ghost use Rattle.predicates_explain.specs.Applied.{operand_count, IsMade, IsApplied, IsPattern};
 
 use crate::check::TextCheck;

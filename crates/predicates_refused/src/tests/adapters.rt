@@ -51,7 +51,12 @@ fn texts_of_bytes(rt: HostRuntime) -> Result<(), Fail> {
         ..over(
             "from_utf8",
             true,
-            "(! var.is_empty()) = true\n  - var as str: a\n  predicate: var.is_empty() = false\n    - var: a\n",
+            "\
+(! var.is_empty()) = true
+  - var as str: a
+  predicate: var.is_empty() = false
+    - var: a
+",
             children,
         )
     };
@@ -69,7 +74,10 @@ fn texts_of_bytes(rt: HostRuntime) -> Result<(), Fail> {
     let of_nothing = over(
         "from_utf8 of no bytes",
         false,
-        "(! var.is_empty()) = false\n  - var as str: \n  predicate: var.is_empty() = true\n    - var: \n",
+        "\
+(! var.is_empty()) = false
+  - var as str: \n  predicate: var.is_empty() = true
+    - var: \n",
         children,
     );
     ask(

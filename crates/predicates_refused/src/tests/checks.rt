@@ -28,14 +28,26 @@ fn exclusive(rt: HostRuntime) -> Result<(), Fail> {
     let holds = over(
         "xor",
         true,
-        "(var < 3 ^ var < 5) = true\n  left: var < 3 = false\n    - var: 4\n  right: var < 5 = true\n    - var: 4\n",
+        "\
+(var < 3 ^ var < 5) = true
+  left: var < 3 = false
+    - var: 4
+  right: var < 5 = true
+    - var: 4
+",
         children,
     );
     ask(&rt, &lt(3i64).xor(lt(5)), &4, holds)?;
     let fails = over(
         "a false xor",
         false,
-        "(var < 3 ^ var < 5) = false\n  left: var < 3 = false\n    - var: 9\n  right: var < 5 = false\n    - var: 9\n",
+        "\
+(var < 3 ^ var < 5) = false
+  left: var < 3 = false
+    - var: 9
+  right: var < 5 = false
+    - var: 9
+",
         children,
     );
     ask(&rt, &lt(3i64).xor(lt(5)), &9, fails)
@@ -51,7 +63,17 @@ fn steady_checks(rt: HostRuntime) -> Result<(), Fail> {
         ..leaf(
             "a check of xor, not and and",
             true,
-            "((var.is_empty() ^ var.contains(a)) && (! var == \"b\")) = true\n  left: (var.is_empty() ^ var.contains(a)) = true\n    left: var.is_empty() = false\n      - var: a\n    right: var.contains(a) = true\n      - var: a\n  right: (! var == \"b\") = true\n    predicate: var == \"b\" = false\n      - var: \"a\"\n",
+            "\
+((var.is_empty() ^ var.contains(a)) && (! var == \"b\")) = true
+  left: (var.is_empty() ^ var.contains(a)) = true
+    left: var.is_empty() = false
+      - var: a
+    right: var.contains(a) = true
+      - var: a
+  right: (! var == \"b\") = true
+    predicate: var == \"b\" = false
+      - var: \"a\"
+",
         )
     };
     ask(&rt, check, &text(alloc, "a")?, joined)
@@ -68,7 +90,12 @@ fn checks_of_views(rt: HostRuntime) -> Result<(), Fail> {
         ..leaf(
             "a check of trim, normalize and or",
             true,
-            "(var.starts_with(\"a\") || var.ends_with(\"a\\n\")) = true\n  right: var.ends_with(\"a\\n\") = true\n    - var:  ba\n\n",
+            "\
+(var.starts_with(\"a\") || var.ends_with(\"a\\n\")) = true
+  right: var.ends_with(\"a\\n\") = true
+    - var:  ba
+
+",
         )
     };
     ask(&rt, check, &text(alloc, " ba\r\n")?, joined)
@@ -92,7 +119,8 @@ fn checks_of_patterns(rt: HostRuntime) -> Result<(), Fail> {
     ask(&rt, check, &text(alloc, "Two")?, found)
 }
 
-// The empty pattern is at the front, at the back and within each text; equal it is to the empty one alone.
+// The empty pattern is at the front, at the back and within each text; equal it is to the empty one
+// alone.
 #[test]
 fn empty_patterns(rt: HostRuntime) -> Result<(), Fail> {
     let alloc = rt.alloc();
@@ -104,7 +132,19 @@ fn empty_patterns(rt: HostRuntime) -> Result<(), Fail> {
     let part = "(var.ends_with(\"\") ^ var.contains())";
     let printed = format!(in alloc; "(var == \"\" ^ (var.starts_with(\"\") ^ {part}))")?;
     let lines = format!(in alloc;
-        "{printed} = true\n  left: var == \"\" = false\n    - var: \"a\"\n  right: (var.starts_with(\"\") ^ {part}) = true\n    left: var.starts_with(\"\") = true\n      - var: a\n    right: {part} = false\n      left: var.ends_with(\"\") = true\n        - var: a\n      right: var.contains() = true\n        - var: a\n"
+        "\
+{printed} = true
+  left: var == \"\" = false
+    - var: \"a\"
+  right: (var.starts_with(\"\") ^ {part}) = true
+    left: var.starts_with(\"\") = true
+      - var: a
+    right: {part} = false
+      left: var.ends_with(\"\") = true
+        - var: a
+      right: var.contains() = true
+        - var: a
+"
     )?;
     let row = Row {
         opposite: Perhaps,

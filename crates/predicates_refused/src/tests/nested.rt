@@ -15,7 +15,13 @@ fn both(rt: HostRuntime) -> Result<(), Fail> {
     let holds = over(
         "and",
         true,
-        "(var >= 5 && var <= 10) = true\n  left: var >= 5 = true\n    - var: 7\n  right: var <= 10 = true\n    - var: 7\n",
+        "\
+(var >= 5 && var <= 10) = true
+  left: var >= 5 = true
+    - var: 7
+  right: var <= 10 = true
+    - var: 7
+",
         children,
     );
     ask(&rt, &between, &7, holds)?;
@@ -35,7 +41,13 @@ fn either(rt: HostRuntime) -> Result<(), Fail> {
     let fails = over(
         "or",
         false,
-        "(var < 3 || var > 5) = false\n  left: var < 3 = false\n    - var: 4\n  right: var > 5 = false\n    - var: 4\n",
+        "\
+(var < 3 || var > 5) = false
+  left: var < 3 = false
+    - var: 4
+  right: var > 5 = false
+    - var: 4
+",
         children,
     );
     ask(&rt, &outside, &4, fails)?;
@@ -56,7 +68,11 @@ fn negated_and_named(rt: HostRuntime) -> Result<(), Fail> {
     let of_name = over(
         "not under a name",
         false,
-        "non-empty = false\n  non-empty: (! var.is_empty()) = false\n    predicate: var.is_empty() = true\n      - var: \n",
+        "\
+non-empty = false
+  non-empty: (! var.is_empty()) = false
+    predicate: var.is_empty() = true
+      - var: \n",
         "non-empty: (! var.is_empty())\n  predicate: var.is_empty()\n",
     );
     ask(&rt, &named, &none, of_name)?;

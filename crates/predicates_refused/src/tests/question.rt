@@ -44,7 +44,8 @@ impl<P: Predicate<Item>, Item> Call for Question<'_, P, Item> {
     }
 }
 
-/// What a predicate answers on an item: the lines of its case, of its parameters and of its children.
+/// What a predicate answers on an item: the lines of its case, of its parameters and of its
+/// children.
 #[derive(Clone, Copy)]
 pub struct Row<'a> {
     pub name: &'a str,

@@ -16,7 +16,8 @@ pub const NUMBERS: &str =
 const SEVEN: &str =
     "7: true\n(var >= 5 && var <= 10) = true\n  left: var >= 5 = true\n    - var: 7\n  right: var <= 10 = true\n    - var: 7\n";
 
-// The block of 7 between 5 and 10; over predicates of any kind, or such as have a formula on each item.
+// The block of 7 between 5 and 10; over predicates of any kind, or such as have a formula on each
+// item.
 #[derive(Drop)]
 struct Explaining {
     total: bool,

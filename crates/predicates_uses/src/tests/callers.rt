@@ -90,7 +90,14 @@ fn checks_scripts(rt: HostRuntime) -> Result<(), Fail> {
     let case = no_script(alloc, &file(alloc, "a", b" #!")?)?.ok_or("a script")?;
     assert_eq!(rt;
         render(alloc, &case)?.as_str(),
-        "script = false\n  script: (var is file && var.starts_with(\"#!\")) = false\n    right: var.starts_with(\"#!\") = false\n      - var:  #!\n      - var as str:  #!\n      - var: a\n"
+        "\
+script = false
+  script: (var is file && var.starts_with(\"#!\")) = false
+    right: var.starts_with(\"#!\") = false
+      - var:  #!
+      - var as str:  #!
+      - var: a
+"
     );
     let nothing = Err(PathFault::NotFound);
     let lost = Snapshot::from_parts(
@@ -102,7 +109,12 @@ fn checks_scripts(rt: HostRuntime) -> Result<(), Fail> {
     let case = no_script(alloc, &lost)?.ok_or("a script")?;
     assert_eq!(rt;
         render(alloc, &case)?.as_str(),
-        "script = false\n  script: (var is file && var.starts_with(\"#!\")) = false\n    left: var is file = false\n      - error: not found\n"
+        "\
+script = false
+  script: (var is file && var.starts_with(\"#!\")) = false
+    left: var is file = false
+      - error: not found
+"
     );
     Ok(())
 }
@@ -124,7 +136,14 @@ fn checks_files(rt: HostRuntime) -> Result<(), Fail> {
     let case = no_script(alloc, &file(alloc, "run.sh", b"echo")?)?.ok_or("a script")?;
     assert_eq!(rt;
         render(alloc, &case)?.as_str(),
-        "script = false\n  script: (var is file && var.starts_with(\"#!\")) = false\n    right: var.starts_with(\"#!\") = false\n      - var: echo\n      - var as str: echo\n      - var: run.sh\n"
+        "\
+script = false
+  script: (var is file && var.starts_with(\"#!\")) = false
+    right: var.starts_with(\"#!\") = false
+      - var: echo
+      - var as str: echo
+      - var: run.sh
+"
     );
     Ok(())
 }
@@ -143,7 +162,12 @@ fn reads_policies(rt: HostRuntime) -> Result<(), Fail> {
     match require(alloc, &policy, &text(alloc, "a # b")?) {
         Err(Unmet::Fails(lines)) => assert_eq!(rt;
             lines.as_str(),
-            "((! var.is_empty()) && (! var.contains(#))) = false\n  right: (! var.contains(#)) = false\n    predicate: var.contains(#) = true\n      - var: a # b\n"
+            "\
+((! var.is_empty()) && (! var.contains(#))) = false
+  right: (! var.contains(#)) = false
+    predicate: var.contains(#) = true
+      - var: a # b
+"
         ),
         _ => return Err("another answer".into()),
     }

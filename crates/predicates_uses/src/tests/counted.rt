@@ -86,7 +86,8 @@ fn parts_are_asked_where_they_decide(rt: HostRuntime) -> Result<(), Fail> {
     Ok(())
 }
 
-// `xor` asks each part for its truth before it asks for a case, so a part below two of them is asked
+// `xor` asks each part for its truth before it asks for a case, so a part below two of them is
+// asked
 // three times.
 #[test]
 fn nested_parts_are_asked(rt: HostRuntime) -> Result<(), Fail> {

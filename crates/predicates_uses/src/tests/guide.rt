@@ -42,7 +42,16 @@ fn reading(rt: HostRuntime) -> Result<(), Fail> {
     explain_onto(alloc, &mut out, &all, &4)?;
     assert_eq!(rt;
         out.as_str(),
-        "(! (var < 3 && var < 5)) = true\n  predicate: (var < 3 && var < 5) = false\n    left: var < 3 = false\n      - var: 9\n((true && true) || true) = true\n  left: (true && true) = true\n    left: true = true\n    right: true = true\n"
+        "\
+(! (var < 3 && var < 5)) = true
+  predicate: (var < 3 && var < 5) = false
+    left: var < 3 = false
+      - var: 9
+((true && true) || true) = true
+  left: (true && true) = true
+    left: true = true
+    right: true = true
+"
     );
     Ok(())
 }
@@ -63,7 +72,24 @@ fn constants_and_comparisons(rt: HostRuntime) -> Result<(), Fail> {
     explain_onto(alloc, &mut out, &above, &text(alloc, "4")?)?;
     assert_eq!(rt;
         out.as_str(),
-        "true = true\nfalse = false\nvar == 5 = false\n  - var: 10\nvar != 5 = true\n  - var: 10\nvar < 10 = false\n  - var: 11\nvar <= 5 = false\n  - var: 6\nvar >= 5 = false\n  - var: 4\nvar > 5 = true\n  - var: 6\nvar > \"5\" = false\n  - var: \"4\"\n"
+        "\
+true = true
+false = false
+var == 5 = false
+  - var: 10
+var != 5 = true
+  - var: 10
+var < 10 = false
+  - var: 11
+var <= 5 = false
+  - var: 6
+var >= 5 = false
+  - var: 4
+var > 5 = true
+  - var: 6
+var > \"5\" = false
+  - var: \"4\"
+"
     );
     Ok(())
 }
@@ -83,7 +109,14 @@ fn memberships(rt: HostRuntime) -> Result<(), Fail> {
     has_parameter(&rt, alloc, &hashed, "values", "{3, 1}")?;
     assert_eq!(rt;
         out.as_str(),
-        "var in values = false\n  - var: 2\nvar in values = true\n  - var: 3\nvar in values = true\n  - var: 1\n"
+        "\
+var in values = false
+  - var: 2
+var in values = true
+  - var: 3
+var in values = true
+  - var: 1
+"
     );
     Ok(())
 }
@@ -106,7 +139,31 @@ fn combinators(rt: HostRuntime) -> Result<(), Fail> {
     explain_onto(alloc, &mut out, &named, &text(alloc, "")?)?;
     assert_eq!(rt;
         out.as_str(),
-        "(var < 3 && var < 5) = false\n  left: var < 3 = false\n    - var: 9\n(true && var < 3) = false\n  right: var < 3 = false\n    - var: 4\n(var < 3 || var > 5) = false\n  left: var < 3 = false\n    - var: 4\n  right: var > 5 = false\n    - var: 4\n(var < 3 ^ var < 5) = true\n  left: var < 3 = false\n    - var: 4\n  right: var < 5 = true\n    - var: 4\n(! (var >= 5 && var <= 10)) = true\n  predicate: (var >= 5 && var <= 10) = false\n    left: var >= 5 = false\n      - var: 4\nnon-empty = false\n  non-empty: (! var.is_empty()) = false\n    predicate: var.is_empty() = true\n      - var: \n"
+        "\
+(var < 3 && var < 5) = false
+  left: var < 3 = false
+    - var: 9
+(true && var < 3) = false
+  right: var < 3 = false
+    - var: 4
+(var < 3 || var > 5) = false
+  left: var < 3 = false
+    - var: 4
+  right: var > 5 = false
+    - var: 4
+(var < 3 ^ var < 5) = true
+  left: var < 3 = false
+    - var: 4
+  right: var < 5 = true
+    - var: 4
+(! (var >= 5 && var <= 10)) = true
+  predicate: (var >= 5 && var <= 10) = false
+    left: var >= 5 = false
+      - var: 4
+non-empty = false
+  non-empty: (! var.is_empty()) = false
+    predicate: var.is_empty() = true
+      - var: \n"
     );
     Ok(())
 }
@@ -147,7 +204,25 @@ fn texts(rt: HostRuntime) -> Result<(), Fail> {
     explain_onto(alloc, &mut out, &places, &text(alloc, "äb")?)?;
     assert_eq!(rt;
         out.as_str(),
-        "var.is_empty() = false\n  - var: b\nvar.starts_with(\"Hello\") = false\n  - var: Goodbye\nvar.ends_with(\"World\") = true\n  - var: Hello World\nvar.contains(Two) = false\n  - var: One\nvar.contains(Two) = false\n  - var: One Two Three\n  - actual count: 1\nvar.contains(aa) = true\n  - var: aaaa\n  - actual count: 2\nvar.contains() = true\n  - var: äb\n  - actual count: 3\n"
+        "\
+var.is_empty() = false
+  - var: b
+var.starts_with(\"Hello\") = false
+  - var: Goodbye
+var.ends_with(\"World\") = true
+  - var: Hello World
+var.contains(Two) = false
+  - var: One
+var.contains(Two) = false
+  - var: One Two Three
+  - actual count: 1
+var.contains(aa) = true
+  - var: aaaa
+  - actual count: 2
+var.contains() = true
+  - var: äb
+  - actual count: 3
+"
     );
     Ok(())
 }
@@ -163,7 +238,13 @@ fn patterns(rt: HostRuntime) -> Result<(), Fail> {
     assert!(rt; predicate::str::is_match(alloc, text(alloc, "(")?).is_err());
     assert_eq!(rt;
         out.as_str(),
-        "var.is_match(^Hello.*$) = false\n  - var: Food\nvar.is_match(T[a-z]*) = true\n  - var: one\n  - actual count: 0\n"
+        "\
+var.is_match(^Hello.*$) = false
+  - var: Food
+var.is_match(T[a-z]*) = true
+  - var: one
+  - actual count: 0
+"
     );
     Ok(())
 }
@@ -182,7 +263,17 @@ fn views(rt: HostRuntime) -> Result<(), Fail> {
     explain_onto(alloc, &mut out, &decoded, &other)?;
     assert_eq!(rt;
         out.as_str(),
-        "var == \"a\" = true\n  - var: \"a\"\nvar == \"a\\n\\n\" = true\n  - var: \"a\\n\\n\"\n(! var.is_empty()) = false\n  - var as str: \n  predicate: var.is_empty() = true\n    - var: \n(! var.is_empty()) = false\n  - error: Invalid UTF-8 string\n"
+        "\
+var == \"a\" = true
+  - var: \"a\"
+var == \"a\\n\\n\" = true
+  - var: \"a\\n\\n\"
+(! var.is_empty()) = false
+  - var as str: \n  predicate: var.is_empty() = true
+    - var: \n\
+(! var.is_empty()) = false
+  - error: Invalid UTF-8 string
+"
     );
     Ok(())
 }
@@ -217,7 +308,22 @@ fn kinds(rt: HostRuntime) -> Result<(), Fail> {
     }
     assert_eq!(rt;
         out.as_str(),
-        "exists(var) = false\n  - var: l\nmissing(var) = true\n  - var: l\nvar is symlink = true\n  - actual filetype: symlink\nvar is symlink = false\n  - error: not found\nvar is file = true\n  - actual filetype: file\nvar is dir = false\n  - actual filetype: file\nvar is symlink = false\n  - actual filetype: other\n"
+        "\
+exists(var) = false
+  - var: l
+missing(var) = true
+  - var: l
+var is symlink = true
+  - actual filetype: symlink
+var is symlink = false
+  - error: not found
+var is file = true
+  - actual filetype: file
+var is dir = false
+  - actual filetype: file
+var is symlink = false
+  - actual filetype: other
+"
     );
     Ok(())
 }
@@ -244,7 +350,17 @@ fn contents(rt: HostRuntime) -> Result<(), Fail> {
     explain_onto(alloc, &mut out, &is_a, &kept)?;
     assert_eq!(rt;
         out.as_str(),
-        "var is p = true\nvar is p = false\nvar == \"a\" = true\n  - var: \"a\"\n  - var as str: a\n  - var: p\nvar == \"a\" = false\n  - var: p\n  - error: permission denied\n"
+        "\
+var is p = true
+var is p = false
+var == \"a\" = true
+  - var: \"a\"
+  - var as str: a
+  - var: p
+var == \"a\" = false
+  - var: p
+  - error: permission denied
+"
     );
     Ok(())
 }

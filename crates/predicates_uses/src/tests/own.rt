@@ -34,7 +34,11 @@ fn a_leaf_of_the_callers_own(rt: HostRuntime) -> Result<(), Fail> {
     assert_eq!(rt; either.eval(alloc, &41)?, true);
     assert_eq!(rt;
         case_of(alloc, &either, true, &41)?.as_str(),
-        "(var.is_the_answer() || var in values) = true\n  right: var in values = true\n    - var: 41\n"
+        "\
+(var.is_the_answer() || var in values) = true
+  right: var in values = true
+    - var: 41
+"
     );
     assert_eq!(rt;
         case_of(alloc, &IsTheAnswer, false, &41)?.as_str(),
@@ -53,17 +57,33 @@ fn a_combinator_of_the_callers_own(rt: HostRuntime) -> Result<(), Fail> {
     assert_eq!(rt; either.eval(alloc, &41)?, true);
     assert_eq!(rt;
         case_of(alloc, &either, true, &41)?.as_str(),
-        "either(var.is_the_answer(), var in values) = true\n  right: var in values = true\n    - var: 41\n"
+        "\
+either(var.is_the_answer(), var in values) = true
+  right: var in values = true
+    - var: 41
+"
     );
     assert_eq!(rt;
         case_of(alloc, &either, false, &40)?.as_str(),
-        "either(var.is_the_answer(), var in values) = false\n  left: var.is_the_answer() = false\n    - var: 40\n  right: var in values = false\n    - var: 40\n"
+        "\
+either(var.is_the_answer(), var in values) = false
+  left: var.is_the_answer() = false
+    - var: 40
+  right: var in values = false
+    - var: 40
+"
     );
     assert_eq!(rt; either.parameters(alloc)?.len(), 0);
     let under = either.not().name("answer");
     assert_eq!(rt;
         case_of(alloc, &under, false, &42)?.as_str(),
-        "answer = false\n  answer: (! either(var.is_the_answer(), var in values)) = false\n    predicate: either(var.is_the_answer(), var in values) = true\n      left: var.is_the_answer() = true\n        - var: 42\n"
+        "\
+answer = false
+  answer: (! either(var.is_the_answer(), var in values)) = false
+    predicate: either(var.is_the_answer(), var in values) = true
+      left: var.is_the_answer() = true
+        - var: 42
+"
     );
     Ok(())
 }
@@ -79,7 +99,44 @@ fn under_not_and_under_a_name(rt: HostRuntime) -> Result<(), Fail> {
     tell_onto(alloc, &mut out, &either.name("answer"))?;
     assert_eq!(rt;
         out.as_str(),
-        "(! var.is_the_answer()); predicate: var.is_the_answer()\n(! var.is_the_answer()) = false\n  predicate: var.is_the_answer() = true\n    - var: 42\n(! var.is_the_answer()) = true\n  predicate: var.is_the_answer() = false\n    - var: 41\nanswer; answer: var.is_the_answer()\nanswer = true\n  answer: var.is_the_answer() = true\n    - var: 42\nanswer = false\n  answer: var.is_the_answer() = false\n    - var: 41\n(! either(var.is_the_answer(), var < 10)); predicate: either(var.is_the_answer(), var < 10)\n(! either(var.is_the_answer(), var < 10)) = false\n  predicate: either(var.is_the_answer(), var < 10) = true\n    left: var.is_the_answer() = true\n      - var: 42\n(! either(var.is_the_answer(), var < 10)) = true\n  predicate: either(var.is_the_answer(), var < 10) = false\n    left: var.is_the_answer() = false\n      - var: 41\n    right: var < 10 = false\n      - var: 41\nanswer; answer: either(var.is_the_answer(), var < 10)\nanswer = true\n  answer: either(var.is_the_answer(), var < 10) = true\n    left: var.is_the_answer() = true\n      - var: 42\nanswer = false\n  answer: either(var.is_the_answer(), var < 10) = false\n    left: var.is_the_answer() = false\n      - var: 41\n    right: var < 10 = false\n      - var: 41\n"
+        "\
+(! var.is_the_answer()); predicate: var.is_the_answer()
+(! var.is_the_answer()) = false
+  predicate: var.is_the_answer() = true
+    - var: 42
+(! var.is_the_answer()) = true
+  predicate: var.is_the_answer() = false
+    - var: 41
+answer; answer: var.is_the_answer()
+answer = true
+  answer: var.is_the_answer() = true
+    - var: 42
+answer = false
+  answer: var.is_the_answer() = false
+    - var: 41
+(! either(var.is_the_answer(), var < 10)); predicate: either(var.is_the_answer(), var < 10)
+(! either(var.is_the_answer(), var < 10)) = false
+  predicate: either(var.is_the_answer(), var < 10) = true
+    left: var.is_the_answer() = true
+      - var: 42
+(! either(var.is_the_answer(), var < 10)) = true
+  predicate: either(var.is_the_answer(), var < 10) = false
+    left: var.is_the_answer() = false
+      - var: 41
+    right: var < 10 = false
+      - var: 41
+answer; answer: either(var.is_the_answer(), var < 10)
+answer = true
+  answer: either(var.is_the_answer(), var < 10) = true
+    left: var.is_the_answer() = true
+      - var: 42
+answer = false
+  answer: either(var.is_the_answer(), var < 10) = false
+    left: var.is_the_answer() = false
+      - var: 41
+    right: var < 10 = false
+      - var: 41
+"
     );
     Ok(())
 }
@@ -96,7 +153,24 @@ fn a_leaf_made_of_a_test(rt: HostRuntime) -> Result<(), Fail> {
     )?;
     assert_eq!(rt;
         out.as_str(),
-        "var.is_the_answer()\nvar.is_the_answer() = true\n  - var: 42\nvar.is_the_answer() = false\n  - var: 41\nanswer; answer: (var.is_the_answer() || var > 41)\nanswer = true\n  answer: (var.is_the_answer() || var > 41) = true\n    left: var.is_the_answer() = true\n      - var: 42\nanswer = false\n  answer: (var.is_the_answer() || var > 41) = false\n    left: var.is_the_answer() = false\n      - var: 41\n    right: var > 41 = false\n      - var: 41\n"
+        "\
+var.is_the_answer()
+var.is_the_answer() = true
+  - var: 42
+var.is_the_answer() = false
+  - var: 41
+answer; answer: (var.is_the_answer() || var > 41)
+answer = true
+  answer: (var.is_the_answer() || var > 41) = true
+    left: var.is_the_answer() = true
+      - var: 42
+answer = false
+  answer: (var.is_the_answer() || var > 41) = false
+    left: var.is_the_answer() = false
+      - var: 41
+    right: var > 41 = false
+      - var: 41
+"
     );
     assert_eq!(rt; leaf(FortyTwo).parameters(alloc)?.len(), 0);
     Ok(())
@@ -119,7 +193,24 @@ fn a_combinator_that_asks_its_right_part_first(rt: HostRuntime) -> Result<(), Fa
     )?;
     assert_eq!(rt;
         out.as_str(),
-        "either(var.is_the_answer(), var > 41); left: var.is_the_answer(); right: var > 41\neither(var.is_the_answer(), var > 41) = true\n  left: var.is_the_answer() = true\n    - var: 42\neither(var.is_the_answer(), var > 41) = false\n  left: var.is_the_answer() = false\n    - var: 41\n  right: var > 41 = false\n    - var: 41\neither(var.is_the_answer(), var < 42); left: var.is_the_answer(); right: var < 42\neither(var.is_the_answer(), var < 42) = true\n  left: var.is_the_answer() = true\n    - var: 42\neither(var.is_the_answer(), var < 42) = true\n  right: var < 42 = true\n    - var: 41\n"
+        "\
+either(var.is_the_answer(), var > 41); left: var.is_the_answer(); right: var > 41
+either(var.is_the_answer(), var > 41) = true
+  left: var.is_the_answer() = true
+    - var: 42
+either(var.is_the_answer(), var > 41) = false
+  left: var.is_the_answer() = false
+    - var: 41
+  right: var > 41 = false
+    - var: 41
+either(var.is_the_answer(), var < 42); left: var.is_the_answer(); right: var < 42
+either(var.is_the_answer(), var < 42) = true
+  left: var.is_the_answer() = true
+    - var: 42
+either(var.is_the_answer(), var < 42) = true
+  right: var < 42 = true
+    - var: 41
+"
     );
     assert!(rt; is_known(alloc, &9)?);
     Ok(())
@@ -166,7 +257,13 @@ fn own_cases(rt: HostRuntime) -> Result<(), Fail> {
     let found = xor_case(alloc, &IsTheAnswer, &low, &small, true, &4)?;
     assert_eq!(rt;
         lines(alloc, found)?.as_str(),
-        "var.is_the_answer() = true\n  left: var < 3 = false\n    - var: 4\n  right: var < 5 = true\n    - var: 4\n"
+        "\
+var.is_the_answer() = true
+  left: var < 3 = false
+    - var: 4
+  right: var < 5 = true
+    - var: 4
+"
     );
     let found = not_case(alloc, &IsTheAnswer, &low, true, &4)?;
     assert_eq!(rt;

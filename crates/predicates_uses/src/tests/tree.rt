@@ -97,10 +97,34 @@ fn checks_a_tree(rt: HostRuntime) -> Result<(), Fail> {
     fs::remove_dir_all(&rt, folder.as_str())?;
     assert_eq!(rt;
         kinds?.as_str(),
-        "/folder: var is file = false\n  - actual filetype: dir\n/lost: var is file = false\n  - error: not found\n/gone: var is file = false\n  - error: not found\n"
+        "\
+/folder: var is file = false
+  - actual filetype: dir
+/lost: var is file = false
+  - error: not found
+/gone: var is file = false
+  - error: not found
+"
     );
     let expected = format!(in rt.alloc();
-        "/notes: var.starts_with(\"#!\") = false\n  - var: echo\n  - var as str: echo\n  - var: {folder}/notes\n/folder: var.starts_with(\"#!\") = false\n  - var: {folder}/folder\n  - error: not a regular file\n/lost: var.starts_with(\"#!\") = false\n  - var: {folder}/lost\n  - error: not found\n/gone: var.starts_with(\"#!\") = false\n  - var: {folder}/gone\n  - error: not found\n/kept: var.starts_with(\"#!\") = false\n  - var: {folder}/kept\n  - error: permission denied\n"
+        "\
+/notes: var.starts_with(\"#!\") = false
+  - var: echo
+  - var as str: echo
+  - var: {folder}/notes
+/folder: var.starts_with(\"#!\") = false
+  - var: {folder}/folder
+  - error: not a regular file
+/lost: var.starts_with(\"#!\") = false
+  - var: {folder}/lost
+  - error: not found
+/gone: var.starts_with(\"#!\") = false
+  - var: {folder}/gone
+  - error: not found
+/kept: var.starts_with(\"#!\") = false
+  - var: {folder}/kept
+  - error: permission denied
+"
     )?;
     assert_eq!(rt; contents?.as_str(), expected.as_str());
     Ok(())

@@ -30,17 +30,35 @@ const ROWS: [(i32, bool, &str); 3] = [
     (
         4,
         true,
-        "(var < 3 ^ var < 5) = true\n  left: var < 3 = false\n    - var: 4\n  right: var < 5 = true\n    - var: 4\n",
+        "\
+(var < 3 ^ var < 5) = true
+  left: var < 3 = false
+    - var: 4
+  right: var < 5 = true
+    - var: 4
+",
     ),
     (
         9,
         false,
-        "(var < 3 ^ var < 5) = false\n  left: var < 3 = false\n    - var: 9\n  right: var < 5 = false\n    - var: 9\n",
+        "\
+(var < 3 ^ var < 5) = false
+  left: var < 3 = false
+    - var: 9
+  right: var < 5 = false
+    - var: 9
+",
     ),
     (
         2,
         false,
-        "(var < 3 ^ var < 5) = false\n  left: var < 3 = true\n    - var: 2\n  right: var < 5 = true\n    - var: 2\n",
+        "\
+(var < 3 ^ var < 5) = false
+  left: var < 3 = true
+    - var: 2
+  right: var < 5 = true
+    - var: 2
+",
     ),
 ];
 
@@ -77,7 +95,14 @@ fn below_other_combinators(rt: HostRuntime) -> Result<(), Fail> {
         &predicate::never().or(either),
         &4,
         true,
-        "(false || (var < 3 ^ var < 5)) = true\n  right: (var < 3 ^ var < 5) = true\n    left: var < 3 = false\n      - var: 4\n    right: var < 5 = true\n      - var: 4\n",
+        "\
+(false || (var < 3 ^ var < 5)) = true
+  right: (var < 3 ^ var < 5) = true
+    left: var < 3 = false
+      - var: 4
+    right: var < 5 = true
+      - var: 4
+",
     )
 }
 
@@ -97,6 +122,13 @@ fn trimmed_named_and_boxed(rt: HostRuntime) -> Result<(), Fail> {
         &boxed,
         &item,
         true,
-        "either = true\n  either: (var.is_empty() ^ var.contains(a)) = true\n    left: var.is_empty() = false\n      - var: a\n    right: var.contains(a) = true\n      - var: a\n",
+        "\
+either = true
+  either: (var.is_empty() ^ var.contains(a)) = true
+    left: var.is_empty() = false
+      - var: a
+    right: var.contains(a) = true
+      - var: a
+",
     )
 }
