@@ -89,9 +89,8 @@ impl<M1: Predicate<Item>, M2: Predicate<Item>, Item> Predicate<Item>
         Ok(self.a.eval(alloc, item)? && self.b.eval(alloc, item)?)
     }
 
-    /// `eval` is asked first, so that no case of a part is made in vain. So each part is asked at
-    /// most
-    /// twice at this level: once by `eval`, and once for its case.
+    /// `eval` is asked first, so that no case of a part is made in vain. So this asks each part at
+    /// most twice: once by `eval`, and once for its case.
     #[tactic(auto, using(predicates_core::proofs::CombinedLemmas::combined))]
     fn find_case(
         &self,

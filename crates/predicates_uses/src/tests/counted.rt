@@ -64,7 +64,7 @@ fn parts_are_asked_where_they_decide(rt: HostRuntime) -> Result<(), Fail> {
     let found = counts(alloc, &cell, &predicate::always().or(true_leaf(&cell)))?;
     assert_eq!(rt; found, (0, 0, 0));
     let found = counts(alloc, &cell, &predicate::always().and(true_leaf(&cell)))?;
-    assert_eq!(rt; found, (1, 1, 1));
+    assert_eq!(rt; found, (1, 2, 1));
     let found = counts(
         alloc,
         &cell,
@@ -86,9 +86,8 @@ fn parts_are_asked_where_they_decide(rt: HostRuntime) -> Result<(), Fail> {
     Ok(())
 }
 
-// `xor` asks each part for its truth before it asks for a case, so a part below two of them is
-// asked
-// three times.
+// `and`, `or` and `xor` are evaluated before a part is asked for its case, so below n of them a part
+// is asked up to n + 1 times; `not` and names ask once.
 #[test]
 fn nested_parts_are_asked(rt: HostRuntime) -> Result<(), Fail> {
     let alloc = rt.alloc();
@@ -99,12 +98,12 @@ fn nested_parts_are_asked(rt: HostRuntime) -> Result<(), Fail> {
         .and(true_leaf(&cell))
         .and(true_leaf(&cell))
         .and(true_leaf(&cell));
-    assert_eq!(rt; counts(alloc, &cell, &all)?, (4, 4, 4));
+    assert_eq!(rt; counts(alloc, &cell, &all)?, (4, 13, 4));
     let first = true_leaf(&cell)
         .or(true_leaf(&cell))
         .or(true_leaf(&cell))
         .or(true_leaf(&cell));
-    assert_eq!(rt; counts(alloc, &cell, &first)?, (1, 1, 1));
+    assert_eq!(rt; counts(alloc, &cell, &first)?, (1, 4, 1));
     let one = true_leaf(&cell).xor(true_leaf(&cell)).xor(true_leaf(&cell));
     assert_eq!(rt; counts(alloc, &cell, &one)?, (3, 8, 3));
     Ok(())
