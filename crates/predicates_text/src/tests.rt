@@ -65,7 +65,11 @@ fn counts(rt: HostRuntime) -> Result<(), Fail> {
         ("Two", "One Two Three Two One", 2),
     ];
     for (pattern, text, expected) in rows {
-        assert_eq!(rt; count::count(text, pattern), expected, "{pattern} in {text}");
+        assert_eq!(rt;
+            count::count(text, pattern),
+            expected,
+            "{pattern} in {text}"
+        );
     }
     Ok(())
 }
