@@ -1,21 +1,11 @@
 //! What `and` and `or` of the constants answer.
 use predicates::boolean::PredicateBooleanExt;
 use predicates::constant::{BooleanPredicate, always, never};
-use predicates_core::Predicate;
-use std::alloc::{AllocError, Global};
+use predicates_generated::ask;
 use std::test::Fail;
 
 fn constant(answer: bool) -> BooleanPredicate<i64> {
     if answer { always() } else { never() }
-}
-
-// Whether there is a case for true, and whether there is one for false.
-fn has_cases<P: Predicate<i64>>(alloc: Global, predicate: &P) -> Result<(bool, bool), AllocError>
-    requires { P.lawful predicate.now }
-{
-    let case_true = predicate.find_case(alloc, true, &5)?;
-    let case_false = predicate.find_case(alloc, false, &5)?;
-    Ok((case_true.is_some(), case_false.is_some()))
 }
 
 #[test]
@@ -28,10 +18,10 @@ fn and_and_or_of_constants(rt: HostRuntime) -> Result<(), Fail> {
         ((false, false), (false, true), (false, true)),
     ];
     for ((left, right), of_and, of_or) in rows {
-        let and = constant(left).and(constant(right));
-        let or = constant(left).or(constant(right));
-        assert_eq!(rt; has_cases(rt.alloc(), &and)?, of_and);
-        assert_eq!(rt; has_cases(rt.alloc(), &or)?, of_or);
+        let and = ask(rt.alloc(), &constant(left).and(constant(right)), &5)?;
+        let or = ask(rt.alloc(), &constant(left).or(constant(right)), &5)?;
+        assert_eq!(rt; (and.case_true.is_some(), and.case_false.is_some()), of_and);
+        assert_eq!(rt; (or.case_true.is_some(), or.case_false.is_some()), of_or);
     }
     Ok(())
 }

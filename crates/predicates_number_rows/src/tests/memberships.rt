@@ -5,39 +5,33 @@ use predicates::function::function;
 use predicates::iter::{Steps, in_hash, in_iter};
 use predicates::name::PredicateNameExt;
 use predicates::ord::le;
-use predicates_generated::{describe, tell};
+use predicates_core::reflection::{Parameter, PredicateReflection, render};
+use predicates_generated::{ask, describe, tell};
 use std::test::Fail;
 
 #[test]
 fn kept_members(rt: HostRuntime) -> Result<(), Fail> {
     let alloc = rt.alloc();
-    let mut found = String::new(alloc);
-    let sorted = in_iter(alloc, [3, 1, 3])?.sort()?;
-    let hashed = in_hash(alloc, [3, 1, 3])?;
-    for item in [3, 2] {
-        tell(alloc, &mut found, &sorted, &item)?;
-        tell(alloc, &mut found, &hashed, &item)?;
-    }
-    describe(alloc, &mut found, &sorted)?;
-    describe(alloc, &mut found, &hashed)?;
+    let sorted = ask(alloc, &in_iter(alloc, [3, 1, 3])?.sort()?, &3)?;
+    assert_eq!(rt; shown(&sorted.parameters), Some(("values", "[1, 3, 3]")));
+    assert_eq!(rt; sorted.verdict, true);
+    let hashed = ask(alloc, &in_hash(alloc, [3, 1, 3])?, &3)?;
+    assert_eq!(rt; shown(&hashed.parameters), Some(("values", "{3, 1}")));
+    assert_eq!(rt; hashed.verdict, true);
     assert_eq!(rt;
-        found.as_str(),
-        "\
-var in values = true
-  - var: 3
-var in values = true
-  - var: 3
-var in values = false
-  - var: 2
-var in values = false
-  - var: 2
-var in values
-  - values: [1, 3, 3]
-var in values
-  - values: {3, 1}
-"
+        ask(alloc, &in_iter(alloc, [3, 1, 3])?.sort()?, &2)?.verdict,
+        false
     );
+    assert_eq!(rt; ask(alloc, &in_hash(alloc, [3, 1, 3])?, &2)?.verdict, false);
     Ok(())
+}
+
+// The only parameter.
+fn shown(parameters: &Vec<Parameter>) -> Option<(&'static str, &str)> {
+    match parameters.as_slice() {
+        [only] => Some((only.name(), only.value())),
+        _ => None,
+    }
 }
 
 #[test]
@@ -96,14 +90,10 @@ fn functions(rt: HostRuntime) -> Result<(), Fail> {
     let at_least = function(|n: &i64| *n >= 5);
     assert_eq!(rt; at_least.to_string(alloc)?.as_str(), "fn(var)");
     let between = at_least.fn_name("big").and(le(10));
-    let mut found = String::new(alloc);
-    tell(alloc, &mut found, &between, &3)?;
+    let case = ask(alloc, &between, &3)?.case_false.ok_or("no case")?;
     assert_eq!(rt;
-        found.as_str(),
-        "\
-(big(var) && var <= 10) = false
-  left: big(var) = false
-"
+        render(alloc, &case)?.as_str(),
+        "(big(var) && var <= 10) = false\n  left: big(var) = false\n"
     );
     Ok(())
 }
@@ -111,18 +101,15 @@ fn functions(rt: HostRuntime) -> Result<(), Fail> {
 #[test]
 fn names(rt: HostRuntime) -> Result<(), Fail> {
     let alloc = rt.alloc();
-    let mut found = String::new(alloc);
-    let named = never().name("n");
-    tell(alloc, &mut found, &named, &1)?;
-    describe(alloc, &mut found, &named)?;
+    let case = ask(alloc, &never().name("n"), &1)?
+        .case_false
+        .ok_or("no case")?;
     assert_eq!(rt;
-        found.as_str(),
-        "\
-n = false
-  n: false = false
-n
-  n: false
-"
+        render(alloc, &case)?.as_str(),
+        "n = false\n  n: false = false\n"
     );
+    let children = never::<i64>().name("n").children(alloc)?;
+    assert_eq!(rt; children.len(), 1);
+    assert_eq!(rt; (children[0].name(), children[0].text()), ("n", "false"));
     Ok(())
 }

@@ -3,8 +3,24 @@ use predicates::boolean::PredicateBooleanExt;
 use predicates::constant::{always, never};
 use predicates::ord::{eq, ge, gt, le, lt};
 use predicates_core::Predicate;
-use predicates_generated::{describe, tell, text};
+use predicates_core::reflection::{PredicateReflection, render};
+use predicates_generated::{describe, tell};
 use std::test::Fail;
+
+// The lines of the case for the expected verdict; none where there is no case.
+fn rendered<P: Predicate<i64> + Drop>(
+    rt: &HostRuntime,
+    predicate: P,
+    expected: bool,
+    item: i64,
+) -> Result<Option<String>, Fail>
+    requires { P.lawful predicate }
+{
+    match predicate.find_case(rt.alloc(), expected, &item)? {
+        Some(case) => Ok(Some(render(rt.alloc(), &case)?)),
+        None => Ok(None),
+    }
+}
 
 #[test]
 fn between(rt: HostRuntime) -> Result<(), Fail> {
@@ -17,30 +33,32 @@ fn between(rt: HostRuntime) -> Result<(), Fail> {
 
 #[test]
 fn one_false_child_is_kept(rt: HostRuntime) -> Result<(), Fail> {
-    let alloc = rt.alloc();
-    let mut found = String::new(alloc);
-    tell(alloc, &mut found, &lt(3).and(lt(5)), &9)?;
-    tell(alloc, &mut found, &never().and(always()), &5)?;
+    let case = rendered(&rt, lt(3).and(lt(5)), false, 9)?.ok_or("no case")?;
     assert_eq!(rt;
-        found.as_str(),
+        case.as_str(),
         "\
 (var < 3 && var < 5) = false
   left: var < 3 = false
     - var: 9
+"
+    );
+    let case = rendered(&rt, never().and(always()), false, 5)?.ok_or("no case")?;
+    assert_eq!(rt;
+        case.as_str(),
+        "\
 (false && true) = false
   left: false = false
 "
     );
+    assert!(rt; rendered(&rt, never().and(always()), true, 5)?.is_none());
     Ok(())
 }
 
 #[test]
 fn both_false_children_are_kept(rt: HostRuntime) -> Result<(), Fail> {
-    let alloc = rt.alloc();
-    let mut found = String::new(alloc);
-    tell(alloc, &mut found, &lt(3).or(gt(5)), &4)?;
+    let case = rendered(&rt, lt(3).or(gt(5)), false, 4)?.ok_or("no case")?;
     assert_eq!(rt;
-        found.as_str(),
+        case.as_str(),
         "\
 (var < 3 || var > 5) = false
   left: var < 3 = false
@@ -54,11 +72,9 @@ fn both_false_children_are_kept(rt: HostRuntime) -> Result<(), Fail> {
 
 #[test]
 fn the_first_true_child_is_kept(rt: HostRuntime) -> Result<(), Fail> {
-    let alloc = rt.alloc();
-    let mut found = String::new(alloc);
-    tell(alloc, &mut found, &always().and(always()).or(always()), &4)?;
+    let case = rendered(&rt, always().and(always()).or(always()), true, 4)?.ok_or("no case")?;
     assert_eq!(rt;
-        found.as_str(),
+        case.as_str(),
         "\
 ((true && true) || true) = true
   left: (true && true) = true
@@ -71,17 +87,20 @@ fn the_first_true_child_is_kept(rt: HostRuntime) -> Result<(), Fail> {
 
 #[test]
 fn one_function_written_twice(rt: HostRuntime) -> Result<(), Fail> {
-    let alloc = rt.alloc();
-    let mut found = String::new(alloc);
-    tell(alloc, &mut found, &lt(3).and(lt(5)).not(), &9)?;
-    tell(alloc, &mut found, &lt(3).not().or(lt(5).not()), &9)?;
+    let case = rendered(&rt, lt(3).and(lt(5)).not(), true, 9)?.ok_or("no case")?;
     assert_eq!(rt;
-        found.as_str(),
+        case.as_str(),
         "\
 (! (var < 3 && var < 5)) = true
   predicate: (var < 3 && var < 5) = false
     left: var < 3 = false
       - var: 9
+"
+    );
+    let case = rendered(&rt, lt(3).not().or(lt(5).not()), true, 9)?.ok_or("no case")?;
+    assert_eq!(rt;
+        case.as_str(),
+        "\
 ((! var < 3) || (! var < 5)) = true
   left: (! var < 3) = true
     predicate: var < 3 = false
@@ -94,19 +113,24 @@ fn one_function_written_twice(rt: HostRuntime) -> Result<(), Fail> {
 #[test]
 fn descriptions(rt: HostRuntime) -> Result<(), Fail> {
     let alloc = rt.alloc();
-    let mut found = String::new(alloc);
-    describe(alloc, &mut found, &ge(5).and(le(10)).not())?;
-    describe(alloc, &mut found, &eq(text(alloc, "a\n\"")?))?;
+    let outside = ge(5).and(le(10)).not();
     assert_eq!(rt;
-        found.as_str(),
-        "\
-(! (var >= 5 && var <= 10))
-  predicate: (var >= 5 && var <= 10)
-    left: var >= 5
-    right: var <= 10
-var == \"a\\n\\\"\"
-"
+        outside.to_string(alloc)?.as_str(),
+        "(! (var >= 5 && var <= 10))"
     );
+    let children = outside.children(alloc)?;
+    assert_eq!(rt; children.len(), 1);
+    let between = &children[0];
+    assert_eq!(rt;
+        (between.name(), between.text()),
+        ("predicate", "(var >= 5 && var <= 10)")
+    );
+    let parts = between.children();
+    assert_eq!(rt; parts.len(), 2);
+    assert_eq!(rt; (parts[0].name(), parts[0].text()), ("left", "var >= 5"));
+    assert_eq!(rt; (parts[1].name(), parts[1].text()), ("right", "var <= 10"));
+    let text = eq(String::from_str(alloc, "a\n\"")?);
+    assert_eq!(rt; text.to_string(alloc)?.as_str(), "var == \"a\\n\\\"\"");
     Ok(())
 }
 

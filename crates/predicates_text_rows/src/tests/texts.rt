@@ -1,6 +1,6 @@
 //! What the tests of texts answer, and the count beside every choice of places.
-use predicates::str::contains;
-use predicates_generated::{describe, greatest_choice, tell, tell_text, text};
+use predicates::str::{contains, ends_with, is_empty, is_match, starts_with};
+use predicates_generated::{ask, describe, greatest_choice, tell, text};
 use std::alloc::{AllocError, Global};
 use std::test::Fail;
 
@@ -114,56 +114,25 @@ fn counts_beside_every_choice(rt: HostRuntime) -> Result<(), Fail> {
 #[test]
 fn tests_of_texts(rt: HostRuntime) -> Result<(), Fail> {
     let alloc = rt.alloc();
-    let mut found = String::new(alloc);
-    let rows = [
-        ("starts=Hello", "Hello World"),
-        ("starts=Hello", "Food World"),
-        ("ends=World", "Hello World"),
-        ("ends=Moon", "Hello World"),
-        ("empty", ""),
-        ("empty", "Food World"),
-    ];
-    for (words, item) in rows {
-        tell_text(alloc, &mut found, words, item)?;
+    let hello = text(alloc, "Hello World")?;
+    let food = text(alloc, "Food World")?;
+    let none = text(alloc, "")?;
+    assert!(rt; ask(alloc, &starts_with(text(alloc, "Hello")?), &hello)?.verdict);
+    assert!(rt; !ask(alloc, &starts_with(text(alloc, "Hello")?), &food)?.verdict);
+    assert!(rt; ask(alloc, &ends_with(text(alloc, "World")?), &hello)?.verdict);
+    assert!(rt; !ask(alloc, &ends_with(text(alloc, "Moon")?), &hello)?.verdict);
+    assert!(rt; ask(alloc, &is_empty(), &none)?.verdict);
+    assert!(rt; !ask(alloc, &is_empty(), &food)?.verdict);
+    for item in [&hello, &food, &none] {
+        assert!(rt; ask(alloc, &starts_with(text(alloc, "")?), item)?.verdict);
+        assert!(rt; ask(alloc, &ends_with(text(alloc, "")?), item)?.verdict);
+        assert!(rt; ask(alloc, &contains(text(alloc, "")?), item)?.verdict);
     }
-    for item in ["Hello World", "Food World", ""] {
-        for words in ["starts=", "ends=", "contains="] {
-            tell_text(alloc, &mut found, words, item)?;
-        }
-    }
-    assert_eq!(rt;
-        found.as_str(),
-        "\
-var.starts_with(\"Hello\") = true
-  - var: Hello World
-var.starts_with(\"Hello\") = false
-  - var: Food World
-var.ends_with(\"World\") = true
-  - var: Hello World
-var.ends_with(\"Moon\") = false
-  - var: Hello World
-var.is_empty() = true
-  - var: \n\
-var.is_empty() = false
-  - var: Food World
-var.starts_with(\"\") = true
-  - var: Hello World
-var.ends_with(\"\") = true
-  - var: Hello World
-var.contains() = true
-  - var: Hello World
-var.starts_with(\"\") = true
-  - var: Food World
-var.ends_with(\"\") = true
-  - var: Food World
-var.contains() = true
-  - var: Food World
-var.starts_with(\"\") = true
-  - var: \n\
-var.ends_with(\"\") = true
-  - var: \n\
-var.contains() = true
-  - var: \n"
-    );
+    let greeting = is_match(alloc, text(alloc, "^Hello.*$")?)
+        .ok()
+        .ok_or("refused")?;
+    assert!(rt; ask(alloc, &greeting, &hello)?.verdict);
+    assert!(rt; !ask(alloc, &greeting, &food)?.verdict);
+    assert!(rt; is_match(alloc, text(alloc, "(")?).is_err());
     Ok(())
 }

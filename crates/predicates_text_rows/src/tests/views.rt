@@ -1,8 +1,9 @@
 //! What the adapters of texts and bytes hand on.
+use predicates::boolean::PredicateBooleanExt;
 use predicates::ord::eq;
-use predicates::str::{PredicateStrExt, is_empty, lines_even, trimmed};
+use predicates::str::{PredicateStrExt, is_empty, lines_even, starts_with, trimmed};
 use predicates_core::Predicate;
-use predicates_generated::{describe, describe_text, tell, tell_text, text};
+use predicates_generated::{describe, tell, text};
 use std::test::Fail;
 
 // The first and the last of each row of characters that are white space.
@@ -84,61 +85,43 @@ var == \"a\"
     Ok(())
 }
 
-// Refuses an item that is handed on otherwise; the constant is written in words, and is shown.
-fn is_handed_on(
-    rt: &HostRuntime,
-    item: &str,
-    handed_on: &str,
-    written: &str,
-    shown: &str,
-) -> Result<(), Fail> {
-    let alloc = rt.alloc();
-    let words = format!(in alloc; "eq={written} normalize")?;
-    let mut found = String::new(alloc);
-    tell_text(alloc, &mut found, words.as_str(), item)?;
-    describe_text(alloc, &mut found, words.as_str())?;
-    let expected = format!(in alloc;
-        "\
-var == \"{shown}\" = true
-  - var: \"{shown}\"
-var == \"{shown}\"
-  predicate: var == \"{shown}\"
-"
-    )?;
-    let even = lines_even(alloc, item)?;
-    if even.as_str() == handed_on && found.as_str() == expected.as_str() {
-        Ok(())
-    } else {
-        Err(Fail::new(found))
-    }
-}
-
 #[test]
 fn even_line_ends(rt: HostRuntime) -> Result<(), Fail> {
     let alloc = rt.alloc();
-    // An item, what is handed on, and that as it is written and shown.
+    // An item, what is handed on, and its debug form.
     let rows = [
-        ("", "", ""),
-        ("\r", "\n", "\\n"),
-        ("\n", "\n", "\\n"),
-        ("\r\n", "\n", "\\n"),
-        ("\n\r", "\n\n", "\\n\\n"),
-        ("\r\r\n\n", "\n\n\n", "\\n\\n\\n"),
-        ("a\rb\r\n", "a\nb\n", "a\\nb\\n"),
-        ("a\n\r", "a\n\n", "a\\n\\n"),
+        ("", "", "\"\""),
+        ("\r", "\n", "\"\\n\""),
+        ("\n", "\n", "\"\\n\""),
+        ("\r\n", "\n", "\"\\n\""),
+        ("\n\r", "\n\n", "\"\\n\\n\""),
+        ("\r\r\n\n", "\n\n\n", "\"\\n\\n\\n\""),
+        ("a\rb\r\n", "a\nb\n", "\"a\\nb\\n\""),
+        ("a\n\r", "a\n\n", "\"a\\n\\n\""),
+        ("Hello World!\n", "Hello World!\n", "\"Hello World!\\n\""),
+        ("Hello World!\r", "Hello World!\n", "\"Hello World!\\n\""),
+        ("Hello World!\r\n", "Hello World!\n", "\"Hello World!\\n\""),
     ];
-    for (item, handed_on, written) in rows {
-        is_handed_on(&rt, item, handed_on, written, written)?;
-    }
-    let shown = "Hello World!\\n";
-    let written = "Hello\\sWorld!\\n";
-    for item in ["Hello World!\n", "Hello World!\r", "Hello World!\r\n"] {
-        is_handed_on(&rt, item, "Hello World!\n", written, shown)?;
+    for (item, handed_on, shown) in rows {
+        assert_eq!(rt; lines_even(alloc, item)?.as_str(), handed_on, "{item:?}");
+        let same = eq(text(alloc, handed_on)?).normalize();
+        let mut found = String::new(alloc);
+        tell(alloc, &mut found, &same, &text(alloc, item)?)?;
+        describe(alloc, &mut found, &same)?;
+        let expected = format!(in alloc;
+            "\
+var == {shown} = true
+  - var: {shown}
+var == {shown}
+  predicate: var == {shown}
+"
+        )?;
+        assert_eq!(rt; found.as_str(), expected.as_str());
     }
     let mut out = String::new(alloc);
-    let words = "eq=Hello\\sWorld!\\n normalize";
-    tell_text(alloc, &mut out, words, "Goodbye")?;
-    describe_text(alloc, &mut out, words)?;
+    let hello = eq(text(alloc, "Hello World!\n")?).normalize();
+    tell(alloc, &mut out, &hello, &text(alloc, "Goodbye")?)?;
+    describe(alloc, &mut out, &hello)?;
     assert_eq!(rt;
         out.as_str(),
         "\
@@ -155,12 +138,16 @@ var == \"Hello World!\\n\"
 fn adapters_over_combinators(rt: HostRuntime) -> Result<(), Fail> {
     let alloc = rt.alloc();
     let mut out = String::new(alloc);
-    tell_text(alloc, &mut out, "eq=a not trim", " a ")?;
-    describe_text(alloc, &mut out, "eq=a not trim")?;
-    let both = "starts=a eq=a\\n and normalize";
-    tell_text(alloc, &mut out, both, "a\r\n")?;
-    describe_text(alloc, &mut out, both)?;
-    tell_text(alloc, &mut out, "empty eq=a or trim", "\ta\t")?;
+    let other = eq(text(alloc, "a")?).not().trim();
+    tell(alloc, &mut out, &other, &text(alloc, " a ")?)?;
+    describe(alloc, &mut out, &other)?;
+    let both = starts_with(text(alloc, "a")?)
+        .and(eq(text(alloc, "a\n")?))
+        .normalize();
+    tell(alloc, &mut out, &both, &text(alloc, "a\r\n")?)?;
+    describe(alloc, &mut out, &both)?;
+    let either = is_empty().or(eq(text(alloc, "a")?)).trim();
+    tell(alloc, &mut out, &either, &text(alloc, "\ta\t")?)?;
     assert_eq!(rt;
         out.as_str(),
         "\
