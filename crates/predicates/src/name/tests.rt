@@ -157,16 +157,6 @@ fn names_of_no_bytes_and_of_300(rt: HostRuntime) -> Result<(), Fail> {
 }
 
 #[test]
-fn parts_of_long_texts(rt: HostRuntime) -> Result<(), Fail> {
-    let alloc = rt.alloc();
-    let named = lt(3).name(LONG);
-    assert_eq!(rt; named.and(named).children(alloc)?[1].text(), LONG);
-    assert_eq!(rt; named.or(named).children(alloc)?[1].text(), LONG);
-    assert_eq!(rt; named.not().children(alloc)?[0].text(), LONG);
-    Ok(())
-}
-
-#[test]
 fn bare_leaf_of_a_long_text(rt: HostRuntime) -> Result<(), Fail> {
     let alloc = rt.alloc();
     let long = eq(LONG);

@@ -114,8 +114,6 @@ fn sized(rt: &(impl Abort + AllocGlobal), length: usize) -> Result<(), Fail> {
     check(rt, &exists(), &gone, false, lines.as_str())?;
     let same = eq_file(there)?;
     let bytes = Vec::from_slice(alloc, text.as_bytes())?;
-    let shown = format!(in alloc; "{bytes:?}")?;
-    has_parameter(rt, &same, "content", shown.as_str())?;
     let lines = format!(in alloc; "var is {text} = true\n")?;
     check(rt, &same, &bytes, true, lines.as_str())?;
     let lines = format!(in alloc; "var is {text} = false\n")?;
@@ -205,9 +203,6 @@ fn kinds(rt: HostRuntime) -> Result<(), Fail> {
     check(&rt, &is_symlink(), &broken, true, lines)?;
     let lines = "var is symlink = false\n  - error: not found\n";
     check(&rt, &is_symlink().follow_links(true), &broken, false, lines)?;
-    let lost = snapshot(rt.alloc(), Err(PathFault::Other), Ok(File), Ok(b""))?;
-    let lines = "var is file = false\n  - error: other fault\n";
-    check(&rt, &is_file(), &lost, false, lines)?;
     has_parameter(&rt, &is_file(), "follow", "false")
 }
 
