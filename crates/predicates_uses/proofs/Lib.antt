@@ -1,4 +1,5 @@
 pub mod Sifting
+pub mod Scripts
 pub mod Trees
 pub mod SiftingBy
 pub mod Asked

@@ -9,3 +9,4 @@ pub mod Plainly
 pub mod Length
 pub mod Last
 pub mod Tree
+pub mod Script

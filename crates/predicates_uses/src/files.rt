@@ -1,7 +1,8 @@
 //! Checks of files, over snapshots.
-ghost use Rattle.std.specs.Prelude.{◌≡◌, Ok, Err, MatchResult};
+ghost use Rattle.std.specs.Prelude.{◌≡◌, Ok, Err, IfOk, MatchResult};
 ghost use Rattle.predicates_path.specs.Snapshot.{content_of};
 ghost use Rattle.predicates_path.specs.Equality.{has_content};
+ghost use Rattle.predicates_uses.specs.Script.{IsNoScript};
 
 use predicates::path::{PathFault, Snapshot};
 use predicates::prelude::*;
@@ -22,7 +23,9 @@ pub fn is_copy(alloc: Global, original: Snapshot, copy: &Snapshot) -> Result<boo
 }
 
 /// Why the file is no script: it is one where it is a regular file whose text begins with `#!`.
-pub fn no_script(alloc: Global, file: &Snapshot) -> Result<Option<Case>, AllocError> {
+pub fn no_script(alloc: Global, file: &Snapshot) -> Result<Option<Case>, AllocError>
+    ensures { IfOk result (IsNoScript file.now) }
+{
     let mark = predicate::str::starts_with(String::from_str(alloc, "#!")?);
     let script = predicate::path::is_file()
         .follow_links(true)
