@@ -9,10 +9,10 @@ use Rattle.predicates_core.specs.Tree.{Tree}
 use Rattle.predicates_core.specs.Describe.{CaseNode}
 use Rattle.predicates_core.specs.Shows.{IsAnswer}
 use Rattle.predicates_core.proofs.Values.{truth-Leaf, truth-And, truth-Named}
-use Rattle.predicates_core.proofs.Combine.{with_product_truth}
-use Rattle.predicates_core.proofs.Combined.{has_and}
+use Rattle.predicates_core.proofs.FirstReasonOf.{with_product_truth}
+use Rattle.predicates_core.proofs.CombinedLemmas.{has_and}
 use Rattle.predicates_text.specs.Places.{is_front}
-use Rattle.predicates_text.specs.Handed.{decoded, undecoded, decoded_formula}
+use Rattle.predicates_text.specs.ViewFormulas.{decoded, undecoded, decoded_formula}
 use Rattle.predicates_text.specs.Leaves.{starts_formula}
 use Rattle.predicates_path.specs.declared.fault.PathFault.{PathFault}
 use Rattle.predicates_path.specs.Content.{content_formula}
@@ -20,8 +20,8 @@ use Rattle.predicates_path.specs.Snapshot.{Bytes}
 use Rattle.predicates_uses.specs.Script.{is_marked, is_script, IsNoScript}
 use Rattle.std.specs.Prelude.{cond, string_bytes}
 use Rattle.predicates_core.specs.Leaves.{IsExactly}
-use Rattle.predicates_text.specs.Handed.{IsDecoded}
-use Rattle.predicates_text.specs.HandedLaws.{has_decoded_formula}
+use Rattle.predicates_text.specs.ViewFormulas.{IsDecoded}
+use Rattle.predicates_text.specs.ViewFormulaLaws.{has_decoded_formula}
 use Rattle.predicates_text.specs.Leaves.{starts_text}
 use Rattle.predicates_text.specs.Meant.{IsStartsLeaf}
 use Rattle.predicates_text.specs.MeantLaws.{has_starts}

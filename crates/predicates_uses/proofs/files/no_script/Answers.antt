@@ -5,8 +5,8 @@ use Rattle.predicates.specs.Name as Name
 use Rattle.predicates_path.specs.Content.{part_of}
 use Rattle.predicates_path.specs.Kind.{tested_kind, follows, kind_predicate_text}
 use Rattle.predicates_path.specs.declared.file_type.FileType.TheVariants.{File}
-use Rattle.predicates_text.specs.Inner.{utf8_part}
-use Rattle.predicates_text.specs.Held.{starts_pattern}
+use Rattle.predicates_text.specs.AdapterParts.{utf8_part}
+use Rattle.predicates_text.specs.Patterns.{starts_pattern}
 use Rattle.predicates_text.specs.Leaves.{starts_text}
 use Rattle.predicates_core.specs.Combined.{infix_text}
 use Rattle.predicates_uses.proofs.Scripts.{script_told}
