@@ -1,6 +1,7 @@
 pub mod BlockLemmas
 pub mod CheckTexts
 pub mod Ending
+pub mod Finding
 pub mod Meant
 pub mod Numerals
 pub mod Progress

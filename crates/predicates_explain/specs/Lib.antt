@@ -5,6 +5,7 @@ pub mod CheckLaws
 pub mod Checks
 pub mod Ends
 pub mod Fault
+pub mod Found
 pub mod Meaning
 pub mod Number
 pub mod Runs

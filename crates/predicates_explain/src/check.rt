@@ -9,11 +9,11 @@ ghost use Rattle.predicates_explain.specs.Checks.{IsSteadyCheck};
 ghost use Rattle.predicates_explain.specs.CheckLaws.{check_text_fits, one_check, has_check_formula};
 ghost use Rattle.predicates_explain.specs.Weight.{IsAlone};
 
+mod find;
 mod leaf;
+mod nodes;
 mod turn;
 
-use leaf::find_leaf;
-use predicates::node::{joined, joined_by_left, joined_by_right, negated};
 use predicates::ord::EqPredicate;
 use predicates::reflection::{Case, Child, Parameter, PredicateReflection};
 use predicates::str::{
@@ -226,12 +226,12 @@ impl Predicate<String> for TextCheck {
         if !self.is_single() && self.eval(alloc, item)? != expected {
             return Ok(None);
         }
-        self.find(alloc, expected, item)
+        let mut found = None;
+        self.find(alloc, expected, item, &mut found)?;
+        Ok(found)
     }
 }
 
-// Each word over checks has a function of its own, and so have leaves: a function pays for all its
-// locals at entry, and each level of a deep check takes its frames on the stack.
 impl TextCheck {
     // A single word, or such a word about a view of the text.
     fn is_single(&self) -> bool {
@@ -239,176 +239,6 @@ impl TextCheck {
             self,
             TextCheck::Not(_) | TextCheck::And(_, _) | TextCheck::Or(_, _) | TextCheck::Xor(_, _)
         )
-    }
-
-    #[cycle(find)]
-    #[tactic(auto, using(predicates_core::proofs::CombinedLemmas::combined))]
-    fn find(&self, alloc: Global, expected: bool, item: &String) -> Result<Option<Case>, AllocError>
-        ensures { IfOk result (IsAnswer (HasFormula self.now (string_bytes item.now)) expected) }
-    {
-        match self {
-            TextCheck::Empty(leaf) => find_leaf(alloc, leaf, expected, item),
-            TextCheck::Equals(leaf) => find_leaf(alloc, leaf, expected, item),
-            TextCheck::Starts(leaf) => find_leaf(alloc, leaf, expected, item),
-            TextCheck::Ends(leaf) => find_leaf(alloc, leaf, expected, item),
-            TextCheck::Contains(leaf) => find_leaf(alloc, leaf, expected, item),
-            TextCheck::Matches(leaf) => find_leaf(alloc, leaf, expected, item),
-            TextCheck::Trim(inner) => inner.find_trimmed(alloc, expected, item),
-            TextCheck::Normalize(inner) => inner.find_normalized(alloc, expected, item),
-            TextCheck::Not(inner) => TextCheck::find_not(alloc, inner, expected, item),
-            TextCheck::And(left, right) => TextCheck::find_and(alloc, left, right, expected, item),
-            TextCheck::Or(left, right) => TextCheck::find_or(alloc, left, right, expected, item),
-            TextCheck::Xor(left, right) => TextCheck::find_xor(alloc, left, right, expected, item),
-        }
-    }
-
-    // The case of the text without the white space at its ends.
-    #[inline(never)]
-    #[cycle(find)]
-    fn find_trimmed(
-        &self,
-        alloc: Global,
-        expected: bool,
-        item: &String,
-    ) -> Result<Option<Case>, AllocError>
-        ensures { IfOk result
-            (IsAnswer (HasFormula self.now (trimmed_bytes (string_bytes item.now))) expected) }
-    {
-        let view = without_ends(alloc, item)?;
-        self.find(alloc, expected, &view)
-    }
-
-    // The case of the text with even line endings.
-    #[inline(never)]
-    #[cycle(find)]
-    fn find_normalized(
-        &self,
-        alloc: Global,
-        expected: bool,
-        item: &String,
-    ) -> Result<Option<Case>, AllocError>
-        ensures { IfOk result
-            (IsAnswer (HasFormula self.now (even_bytes (string_bytes item.now))) expected) }
-    {
-        let view = with_even_lines(alloc, item)?;
-        self.find(alloc, expected, &view)
-    }
-
-    #[inline(never)]
-    #[cycle(find)]
-    #[tactic(auto, using(predicates_core::proofs::CombinedLemmas::combined))]
-    fn find_not(
-        alloc: Global,
-        inner: &TextCheck,
-        expected: bool,
-        item: &String,
-    ) -> Result<Option<Case>, AllocError>
-        ensures { IfOk result (IsAnswer (IsNot (not_text (check_text inner.now))
-            (HasFormula inner.now (string_bytes item.now))) expected) }
-    {
-        let Some(part) = inner.find(alloc, !expected, item)? else {
-            return Ok(None);
-        };
-        Ok(Some(negated(alloc, expected, part)?))
-    }
-
-    #[inline(never)]
-    #[cycle(find)]
-    #[tactic(auto, using(predicates_core::proofs::CombinedLemmas::combined))]
-    fn find_and(
-        alloc: Global,
-        left: &TextCheck,
-        right: &TextCheck,
-        expected: bool,
-        item: &String,
-    ) -> Result<Option<Case>, AllocError>
-        ensures { IfOk result (IsAnswer (IsAnd
-            (infix_text (codes " && ") (check_text left.now) (check_text right.now))
-            (HasFormula left.now (string_bytes item.now))
-            (HasFormula right.now (string_bytes item.now))) expected) }
-    {
-        match (expected, left.find(alloc, expected, item)?) {
-            (true, None) => Ok(None),
-            (true, Some(first)) => {
-                let Some(second) = right.find(alloc, expected, item)? else {
-                    return Ok(None);
-                };
-                Ok(Some(joined(alloc, " && ", expected, first, second)?))
-            }
-            (false, Some(decides)) => {
-                Ok(Some(joined_by_left(alloc, " && ", expected, decides, right)?))
-            }
-            (false, None) => {
-                let Some(decides) = right.find(alloc, expected, item)? else {
-                    return Ok(None);
-                };
-                Ok(Some(joined_by_right(alloc, " && ", expected, left, decides)?))
-            }
-        }
-    }
-
-    #[inline(never)]
-    #[cycle(find)]
-    #[tactic(auto, using(predicates_core::proofs::CombinedLemmas::combined))]
-    fn find_or(
-        alloc: Global,
-        left: &TextCheck,
-        right: &TextCheck,
-        expected: bool,
-        item: &String,
-    ) -> Result<Option<Case>, AllocError>
-        ensures { IfOk result (IsAnswer (IsOr
-            (infix_text (codes " || ") (check_text left.now) (check_text right.now))
-            (HasFormula left.now (string_bytes item.now))
-            (HasFormula right.now (string_bytes item.now))) expected) }
-    {
-        match (expected, left.find(alloc, expected, item)?) {
-            (false, None) => Ok(None),
-            (false, Some(first)) => {
-                let Some(second) = right.find(alloc, expected, item)? else {
-                    return Ok(None);
-                };
-                Ok(Some(joined(alloc, " || ", expected, first, second)?))
-            }
-            (true, Some(decides)) => {
-                Ok(Some(joined_by_left(alloc, " || ", expected, decides, right)?))
-            }
-            (true, None) => {
-                let Some(decides) = right.find(alloc, expected, item)? else {
-                    return Ok(None);
-                };
-                Ok(Some(joined_by_right(alloc, " || ", expected, left, decides)?))
-            }
-        }
-    }
-
-    #[inline(never)]
-    #[cycle(find)]
-    #[tactic(auto, using(predicates_core::proofs::CombinedLemmas::combined))]
-    fn find_xor(
-        alloc: Global,
-        left: &TextCheck,
-        right: &TextCheck,
-        expected: bool,
-        item: &String,
-    ) -> Result<Option<Case>, AllocError>
-        ensures { IfOk result (IsAnswer (IsXor
-            (infix_text (codes " ^ ") (check_text left.now) (check_text right.now))
-            (HasFormula left.now (string_bytes item.now))
-            (HasFormula right.now (string_bytes item.now))) expected) }
-    {
-        let left_holds = left.eval(alloc, item)?;
-        let right_holds = right.eval(alloc, item)?;
-        if (left_holds != right_holds) != expected {
-            return Ok(None);
-        }
-        let Some(first) = left.find(alloc, left_holds, item)? else {
-            return Ok(None);
-        };
-        let Some(second) = right.find(alloc, right_holds, item)? else {
-            return Ok(None);
-        };
-        Ok(Some(joined(alloc, " ^ ", expected, first, second)?))
     }
 }
 

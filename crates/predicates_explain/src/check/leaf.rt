@@ -6,16 +6,18 @@ use predicates::Predicate;
 use predicates::reflection::Case;
 use std::alloc::{AllocError, Global};
 
-// What the leaf's `find_case` answers, in a frame that no part of a check stands on.
+// Puts what the leaf's `find_case` answers, in a frame that no part of a check stands on.
 #[inline(never)]
 pub(crate) fn find_leaf<P: Predicate<String>>(
     alloc: Global,
     leaf: &P,
     expected: bool,
     item: &String,
-) -> Result<Option<Case>, AllocError>
+    found: &mut Option<Case>,
+) -> Result<(), AllocError>
     requires { P.lawful leaf.now }
-    ensures { IfOk result (IsAnswer (P.formula leaf.now item.now) expected) }
+    ensures { IfOk result (λ _. IsAnswer (P.formula leaf.now item.now) expected found.new) }
 {
-    leaf.find_case(alloc, expected, item)
+    *found = leaf.find_case(alloc, expected, item)?;
+    Ok(())
 }

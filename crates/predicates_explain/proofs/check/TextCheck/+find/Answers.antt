@@ -1,36 +1,28 @@
-use Rattle.std.proofs.Common.{rules, codes, string_bytes}
-use Rattle.predicates_core.proofs.Retold.{IsCaseOf-negated, IsCaseOf-and_joined, IsCaseOf-or_joined, IsCaseOf-xor_joined, IsCaseOf-and_joined_left, IsCaseOf-and_joined_right, IsCaseOf-or_joined_left, IsCaseOf-or_joined_right}
-use Rattle.predicates_explain.specs.Checks.{check_text}
+use Rattle.std.proofs.Common.{rules, codes, string_bytes, sym, ◌∙◌, refl}
+use Rattle.std.proofs.lemmas.Result.{IfOk-weaker}
+use Rattle.predicates_core.proofs.CombinedLemmas.{HasTruth-xor}
+use Rattle.predicates_explain.specs.Checks.{check_text, HasFormula}
 use Rattle.predicates_explain.proofs.CheckTexts.{has_check_text}
+use Rattle.predicates_explain.proofs.Finding.{answer_negated, answer_and_decided, answer_and_joined, answer_or_decided, answer_or_joined, answer_xor_joined}
 use Rattle.predicates_explain.proofs.check.TextCheck.+find.Goals as goal
 
 pub find_not-returns : goal.find_not-returns
-find_not-returns t c = IsCaseOf-negated (has_check_text c.args.inner.now (string_bytes c.args.item.now)) c.in_ok-negated.ensures (search rules)
+find_not-returns t c = IfOk-weaker c.put_negated.result _ _ (λ _ made. answer_negated c.args.expected _ _ (has_check_text c.args.self.now (string_bytes c.args.item.now)) c.in_ok-find.ensures made) c.put_negated.ensures
 
-pub find_and-returns-in_ok-joined-in-true-Some : goal.find_and-returns-in_ok-joined-in-true-Some
-find_and-returns-in_ok-joined-in-true-Some t c =
-    IsCaseOf-and_joined (codes " && ") (has_check_text c.args.left.now (string_bytes c.args.item.now)) (has_check_text c.args.right.now (string_bytes c.args.item.now)) c.in_ok-joined-in-true-Some.ensures (search rules) (search rules) (search rules)
+pub find_and-returns-then-is_some-expected : goal.find_and-returns-then-is_some-expected
+find_and-returns-then-is_some-expected t c = IfOk-weaker c.put_decided.result _ _ (λ _ made. answer_and_decided (codes " && ") (check_text c.args.right.now) (HasFormula c.args.right.now (string_bytes c.args.item.now)) c.args.expected _ _ (has_check_text c.args.self.now (string_bytes c.args.item.now)) (search rules) c.in_ok-find.ensures made) c.put_decided.ensures
 
-pub find_and-returns-in_ok-joined_by_left-in-false-Some : goal.find_and-returns-in_ok-joined_by_left-in-false-Some
-find_and-returns-in_ok-joined_by_left-in-false-Some t c =
-    IsCaseOf-and_joined_left (codes " && ") (check_text c.args.left.now) (check_text c.args.right.now) (has_check_text c.args.left.now (string_bytes c.args.item.now)) c.in_ok-joined_by_left-in-false-Some.ensures (search rules) (search rules)
+pub find_and-returns : goal.find_and-returns
+find_and-returns t c = IfOk-weaker c.put_joined.result _ _ (λ _ made. answer_and_joined (codes " && ") c.args.expected _ _ _ (has_check_text c.args.self.now (string_bytes c.args.item.now)) (has_check_text c.args.right.now (string_bytes c.args.item.now)) (search rules) c.in_ok-find.ensures c.in_ok-find-2.ensures made) c.put_joined.ensures
 
-pub find_and-returns-in_ok-joined_by_right-in-false-None : goal.find_and-returns-in_ok-joined_by_right-in-false-None
-find_and-returns-in_ok-joined_by_right-in-false-None t c =
-    IsCaseOf-and_joined_right (codes " && ") (check_text c.args.left.now) (check_text c.args.right.now) (has_check_text c.args.right.now (string_bytes c.args.item.now)) c.in_ok-joined_by_right-in-false-None.ensures (search rules) (search rules) (search rules)
+pub find_or-returns-then-is_some-expected : goal.find_or-returns-then-is_some-expected
+find_or-returns-then-is_some-expected t c = IfOk-weaker c.put_decided.result _ _ (λ _ made. answer_or_decided (codes " || ") (check_text c.args.right.now) (HasFormula c.args.right.now (string_bytes c.args.item.now)) c.args.expected _ _ (has_check_text c.args.self.now (string_bytes c.args.item.now)) (search rules) c.in_ok-find.ensures made) c.put_decided.ensures
 
-pub find_or-returns-in_ok-joined_by_left-in-true-Some : goal.find_or-returns-in_ok-joined_by_left-in-true-Some
-find_or-returns-in_ok-joined_by_left-in-true-Some t c =
-    IsCaseOf-or_joined_left (codes " || ") (check_text c.args.left.now) (check_text c.args.right.now) (has_check_text c.args.left.now (string_bytes c.args.item.now)) c.in_ok-joined_by_left-in-true-Some.ensures (search rules) (search rules)
+pub find_or-returns : goal.find_or-returns
+find_or-returns t c = IfOk-weaker c.put_joined.result _ _ (λ _ made. answer_or_joined (codes " || ") c.args.expected _ _ _ (has_check_text c.args.self.now (string_bytes c.args.item.now)) (has_check_text c.args.right.now (string_bytes c.args.item.now)) (search rules) c.in_ok-find.ensures c.in_ok-find-2.ensures made) c.put_joined.ensures
 
-pub find_or-returns-in_ok-joined_by_right-in-true-None : goal.find_or-returns-in_ok-joined_by_right-in-true-None
-find_or-returns-in_ok-joined_by_right-in-true-None t c =
-    IsCaseOf-or_joined_right (codes " || ") (check_text c.args.left.now) (check_text c.args.right.now) (has_check_text c.args.right.now (string_bytes c.args.item.now)) c.in_ok-joined_by_right-in-true-None.ensures (search rules) (search rules) (search rules)
-
-pub find_or-returns-in_ok-joined-in-false-Some : goal.find_or-returns-in_ok-joined-in-false-Some
-find_or-returns-in_ok-joined-in-false-Some t c =
-    IsCaseOf-or_joined (codes " || ") (has_check_text c.args.left.now (string_bytes c.args.item.now)) (has_check_text c.args.right.now (string_bytes c.args.item.now)) c.in_ok-joined-in-false-Some.ensures (search rules) (search rules) (search rules)
+pub find_xor-returns-then-left_holds-right_holds : goal.find_xor-returns-then-left_holds-right_holds
+find_xor-returns-then-left_holds-right_holds t c = HasTruth-xor c.in_ok-left_holds.ensures.truth c.in_ok-right_holds.ensures.truth (search rules)
 
 pub find_xor-returns : goal.find_xor-returns
-find_xor-returns t c =
-    IsCaseOf-xor_joined (codes " ^ ") c.in_ok-left_holds.left_holds c.in_ok-right_holds.right_holds (has_check_text c.args.left.now (string_bytes c.args.item.now)) (has_check_text c.args.right.now (string_bytes c.args.item.now)) c.in_ok-joined.ensures (search rules) (search rules) (search rules)
+find_xor-returns t c = IfOk-weaker c.put_joined.result _ _ (λ _ made. answer_xor_joined (codes " ^ ") c.args.expected c.in_ok-left_holds.left_holds c.in_ok-right_holds.right_holds _ _ _ (has_check_text c.args.self.now (string_bytes c.args.item.now)) (has_check_text c.args.right.now (string_bytes c.args.item.now)) c.in_ok-left_holds.ensures.truth c.in_ok-right_holds.ensures.truth (search rules) c.in_ok-find.ensures c.in_ok-find-2.ensures made) c.put_joined.ensures
