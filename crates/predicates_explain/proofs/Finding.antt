@@ -1,5 +1,5 @@
 -- What is found for a check over others, from what was found for its parts.
-use Rattle.std.proofs.Common.{◌≡◌, ℕ, Bool, true, false, List, [], ◌∷◌, Option, Some, None, codes, refl, sym, ap, ◌∙◌, subst}
+use Rattle.std.proofs.Common.{◌≡◌, ℕ, Bool, true, false, List, Some, None, refl, sym, ap}
 use Rattle.std.specs.Prelude.{not, is_some}
 use Rattle.predicates_core.specs.Label.{Entry}
 use Rattle.predicates_core.specs.Formula.{Formula, HasTruth, differ}
@@ -7,7 +7,7 @@ use Rattle.predicates_core.specs.Tree.{Tree}
 use Rattle.predicates_core.specs.Describe.{CaseNode}
 use Rattle.predicates_core.specs.Shows.{IsAnswer, IsCaseOf}
 use Rattle.predicates_core.specs.Combined.{infix_text, not_text, IsAnd, IsOr, IsXor, IsNot}
-use Rattle.predicates_core.proofs.Retold.{HasText, IsCaseOf-negated, IsCaseOf-and_joined, IsCaseOf-or_joined, IsCaseOf-xor_joined, IsCaseOf-and_joined_left, IsCaseOf-and_joined_right, IsCaseOf-or_joined_left, IsCaseOf-or_joined_right, HasTruth-xor_no_left, HasTruth-xor_no_right}
+use Rattle.predicates_core.proofs.Retold.{HasText, IsCaseOf-negated, IsCaseOf-and_joined, IsCaseOf-or_joined, IsCaseOf-xor_joined, IsCaseOf-and_joined_left, IsCaseOf-and_joined_right, IsCaseOf-or_joined_left, IsCaseOf-or_joined_right, HasTruth-xor_no_right}
 use Rattle.predicates_core.proofs.CombinedLemmas.{not-not, HasTruth-not, HasTruth-and_by_left, HasTruth-and_by_right, HasTruth-or_by_left, HasTruth-or_by_right, has_no_formula}
 use Rattle.predicates_explain.specs.Found.{Found, IsNegated, IsDecided, IsJoined}
 

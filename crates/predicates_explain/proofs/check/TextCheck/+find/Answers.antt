@@ -1,4 +1,4 @@
-use Rattle.std.proofs.Common.{rules, codes, string_bytes, sym, ◌∙◌, refl}
+use Rattle.std.proofs.Common.{rules, codes, string_bytes}
 use Rattle.std.proofs.lemmas.Result.{IfOk-weaker}
 use Rattle.predicates_core.proofs.CombinedLemmas.{HasTruth-xor}
 use Rattle.predicates_explain.specs.Checks.{check_text, HasFormula}
