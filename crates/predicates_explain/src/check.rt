@@ -28,8 +28,8 @@ use turn::turn;
 /// A check of texts, with a variant for each word of `Word`. It tells of no parameters and no
 /// parts.
 ///
-/// Its `eval` takes no memory but under `Matches`, `Trim` and `Normalize`. A check nested some
-/// thousands of words deep needs as much stack.
+/// Its `eval` takes no memory but under `Matches`, `Trim` and `Normalize`. Evaluating a check takes
+/// some 200 bytes of stack for each word that it is nested deep, and explaining it some 300.
 pub enum TextCheck {
     /// The text has no characters.
     Empty(IsEmptyPredicate),

@@ -17,6 +17,7 @@ use predicates::reflection::Case;
 use std::alloc::{AllocError, Global};
 
 impl TextCheck {
+    // Puts the answer into the place, whatever stood there.
     #[cycle(find)]
     #[tactic(auto, using(predicates_core::proofs::CombinedLemmas::combined))]
     pub(crate) fn find(

@@ -1,6 +1,6 @@
 //! Nodes over the parts of a check, in the place of what was found for a part.
 //!
-//! None of these calls goes over a check, so a deep check takes none of their frames more than once.
+//! No part of a check is asked from here, so a deep check takes each of these frames once.
 ghost use Rattle.std.specs.Prelude.{IfOk};
 ghost use Rattle.predicates_explain.specs.Checks.{check_text};
 ghost use Rattle.predicates_explain.specs.Found.{IsNegated, IsDecided, IsJoined};
