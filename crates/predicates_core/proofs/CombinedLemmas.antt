@@ -72,6 +72,13 @@ module _ {text : Option (List ℕ)} {left right : Formula → Type 0} {f g : For
   pub has_xor : left f → right g → IsXor text left right (Xor (plain text) f g)
   has_xor = has_join f g
 
+module _ {part : Formula → Type 0} {f : Formula} where
+  pub has_not : {text : Option (List ℕ)} → part f → IsNot text part (Not (plain text) f)
+  has_not of_part = record { inner = f; of_part = of_part; is = refl }
+
+  pub has_named : {name : List ℕ} → part f → IsNamed name part (Named (plain (Some name)) name f)
+  has_named of_part = record { inner = f; of_part = of_part; is = refl }
+
 -- ---- truth
 
 module _ {text : Option (List ℕ)} {left right : Formula → Type 0} {a b : Bool} where

@@ -4,7 +4,7 @@ use Rattle.std.proofs.lemmas.Bool.{cases_Bool}
 use Rattle.predicates_core.specs.Formula.{Formula, Leaf, And, Or, Xor, Not, Named, truth}
 use Rattle.predicates_core.specs.Reason.{IsFirstReason}
 use Rattle.predicates_core.specs.Laws.{FirstReasons}
-use Rattle.predicates_core.proofs.First.{first_unique}
+use Rattle.predicates_core.proofs.FirstReason.{first_unique}
 use Rattle.predicates_core.proofs.FirstReasonOf.{first-Leaf, first-Not, first-Named, first-And_both, first-And_left, first-And_right, first-Or_both, first-Or_left, first-Or_right, first-Xor}
 
 abbrev SomeFirst : Formula → Type 0

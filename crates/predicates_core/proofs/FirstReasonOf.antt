@@ -5,8 +5,8 @@ use Rattle.predicates_core.specs.Label.{Label, Product}
 use Rattle.predicates_core.specs.Formula.{Formula, Leaf, And, Or, Xor, Not, Named, differ, size, IsValuation, value, actual, truth, with_product}
 use Rattle.predicates_core.specs.Reason.{AreIncreasing, AreEqualAt, IsReason, IsMinimalReason, IsFirstReason}
 use Rattle.predicates_core.proofs.Numbers.{shifted}
-use Rattle.predicates_core.proofs.Values.{and_joins, or_joins, xor_joins, length-actual}
-use Rattle.predicates_core.proofs.First.{BothCount, LeftDecides, RightDecides, both_first, left_first, right_first}
+use Rattle.predicates_core.proofs.Joins.{and_joins, or_joins, xor_joins, length-actual}
+use Rattle.predicates_core.proofs.FirstOfJoins.{BothCount, LeftDecides, RightDecides, both_first, left_first, right_first}
 
 -- two formulas with the same reasons have the same first reason
 pub record SameReasons (f g : Formula) : Type 0 where

@@ -1,10 +1,46 @@
--- Reasons of a formula that joins two parts: each is one of lists of the left part's leaves and of the right part's.
-use Rattle.std.proofs.Common.{◌≡◌, ℕ, ◌+◌, List, [], ◌∷◌, ◌++◌, Bool, length, take, drop, refl, sym, subst, ◌∙◌, arith, length-append, length-drop}
-use Rattle.std.proofs.lemmas.List.{take-append-drop, length-take-le}
-use Rattle.predicates_core.specs.Formula.{Formula, size, IsValuation, value, actual, truth}
+-- Formulas that join two parts: their leaves, their values and their reasons are made of the parts'.
+use Rattle.std.proofs.Common.{◌≡◌, ℕ, ◌+◌, List, [], ◌∷◌, ◌++◌, Bool, length, take, drop, refl, ap, sym, subst, ◌∙◌, arith, length-append, length-drop}
+use Rattle.std.specs.Prelude.{◌&&◌, ◌||◌}
+use Rattle.std.proofs.lemmas.List.{take-append-drop, length-take-le, take_at, drop_at}
+use Rattle.predicates_core.specs.Label.{Label}
+use Rattle.predicates_core.specs.Formula.{Formula, Leaf, And, Or, Xor, Not, Named, differ, size, IsValuation, value, actual, truth}
 use Rattle.predicates_core.specs.Reason.{AreIncreasing, AreEqualAt, IsReason, IsMinimalReason}
 use Rattle.predicates_core.proofs.Numbers.{shifted, increasing_joined, increasing_without, split, equal_at_both, equal_at_first, equal_at_second, equal_at_left, left_equal_at, equal_at_right, right_equal_at}
-use Rattle.predicates_core.proofs.Values.{Joins, joined_value, joined_truth, length-actual}
+
+-- each leaf has a truth
+pub length-actual : (f : Formula) → length (actual f) ≡ size f
+unfolding actual size
+length-actual (Leaf label t) = refl
+length-actual (And label l r) = omega (arith, length-append (actual l) (actual r), length-actual l, length-actual r)
+length-actual (Or label l r) = omega (arith, length-append (actual l) (actual r), length-actual l, length-actual r)
+length-actual (Xor label l r) = omega (arith, length-append (actual l) (actual r), length-actual l, length-actual r)
+length-actual (Not label f) = length-actual f
+length-actual (Named label name f) = length-actual f
+
+-- the formula joins two parts: its leaves are theirs, and its value is made of their values
+pub record Joins (op : Bool → Bool → Bool) (f l r : Formula) : Type 0 where
+  pub sizes : size f ≡ size l + size r
+  pub actuals : actual f ≡ actual l ++ actual r
+  pub values : (w : List Bool) → value f w ≡ op (value l (take (size l) w)) (value r (drop (size l) w))
+
+pub and_joins : (label : Label) (l r : Formula) → Joins ◌&&◌ (And label l r) l r
+unfolding size actual value
+and_joins label l r = record { sizes = refl; actuals = refl; values = λ w. refl }
+
+pub or_joins : (label : Label) (l r : Formula) → Joins ◌||◌ (Or label l r) l r
+unfolding size actual value
+or_joins label l r = record { sizes = refl; actuals = refl; values = λ w. refl }
+
+pub xor_joins : (label : Label) (l r : Formula) → Joins differ (Xor label l r) l r
+unfolding size actual value
+xor_joins label l r = record { sizes = refl; actuals = refl; values = λ w. refl }
+
+pub joined_value : {op : Bool → Bool → Bool} {f l r : Formula} → Joins op f l r → (v w : List Bool) → IsValuation l v → value f (v ++ w) ≡ op (value l v) (value r w)
+joined_value {op} {f} {l} {r} j v w e = j.values (v ++ w) ∙ cc (take_at v w (size l) e, drop_at v w (size l) e)
+
+pub joined_truth : {op : Bool → Bool → Bool} {f l r : Formula} → Joins op f l r → truth f ≡ op (truth l) (truth r)
+unfolding truth
+joined_truth {op} {f} {l} {r} j = ap (value f) j.actuals ∙ joined_value j (actual l) (actual r) (length-actual l)
 
 -- the leaves of the two parts decide the whole, stated for the valuations of the parts
 pub record Decide (op : Bool → Bool → Bool) (l r : Formula) (L R : List ℕ) : Type 0 where

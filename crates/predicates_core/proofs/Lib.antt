@@ -1,7 +1,8 @@
 pub mod Numbers
-pub mod Values
 pub mod Joins
-pub mod First
+pub mod Values
+pub mod FirstReason
+pub mod FirstOfJoins
 pub mod FirstReasonOf
 pub mod Shown
 pub mod CombinedLemmas
@@ -11,7 +12,7 @@ pub mod Added
 pub mod Forests
 pub mod Lines
 pub mod Preorder
-pub mod Fields
+pub mod OwnedFields
 pub mod HeldForGood
 pub mod Existence
 pub mod Alike

@@ -1,14 +1,14 @@
 -- A formula that leaves no entry open has one case alone.
-use Rattle.std.proofs.Common.{◌≡◌, ℕ, List, [], ◌∷◌, Bool, Option, Some, None, refl, sym, ap, subst, ◌∙◌}
+use Rattle.std.proofs.Common.{◌≡◌, ℕ, List, [], ◌∷◌, Bool, Some, None, refl, sym, ap, subst, ◌∙◌}
 use Rattle.std.specs.Prelude.{IsSome, codes}
 use Rattle.std.specs.List.{AllByRecursion}
 use Rattle.predicates_core.specs.Tree.{Tree, Forest, branch, empty}
 use Rattle.predicates_core.specs.Describe.{CaseNode, NamedBytes}
-use Rattle.predicates_core.specs.Label.{Label, Product, Entry, Fits, FitsText, FitsProducts}
+use Rattle.predicates_core.specs.Label.{Label, Product, Entry, Fits, FitsProducts}
 use Rattle.predicates_core.specs.Formula.{Formula, Leaf, And, Or, Xor, Not, Named, size}
 use Rattle.predicates_core.specs.Shows.{FitsNode, ShowsPart, ShowsBoth, Shows, Explains, left_share, right_share}
 use Rattle.predicates_core.specs.Alike.{IsStated, HasStatedLabels}
-use Rattle.predicates_core.proofs.First.{first_unique}
+use Rattle.predicates_core.proofs.FirstReason.{first_unique}
 
 one_value : (entry : Entry) (x y : List ℕ) → IsSome entry → Fits entry x → Fits entry y → x ≡ y
 one_value None x y given fx fy = absurd (cc)

@@ -1,5 +1,5 @@
 -- The text of a node that is made of the texts of its parts' cases.
-use Rattle.std.proofs.Common.{◌≡◌, ℕ, Bool, true, false, List, [], ◌∷◌, ◌++◌, Option, Some, None, codes, refl, sym, ap, ◌∙◌, subst, append_assoc}
+use Rattle.std.proofs.Common.{◌≡◌, ℕ, Bool, true, false, List, [], ◌∷◌, ◌++◌, Option, Some, None, codes, refl, ap, ◌∙◌, subst, append_assoc}
 use Rattle.std.specs.Prelude.{not, IfSome}
 use Rattle.predicates_core.specs.Label.{Entry, Fits, FitsText}
 use Rattle.predicates_core.specs.Formula.{Formula, Leaf, And, Or, Xor, Not, Named, HasTruth, differ, text_of}

@@ -8,7 +8,7 @@ use Rattle.predicates_core.specs.Tree.{Tree, Forest, empty, branch}
 use Rattle.predicates_core.specs.Describe.{CaseNode}
 use Rattle.predicates_core.specs.Shows.{left_share, right_share, ShowsPart, ShowsBoth}
 use Rattle.predicates_core.proofs.Numbers.{shifted}
-use Rattle.predicates_core.proofs.First.{first_not_empty}
+use Rattle.predicates_core.proofs.FirstReason.{first_not_empty}
 
 below_is_left : (n k : ℕ) → k < n → nat_lt k n ≡ true
 below_is_left n k h = grind (arith, nat_tests)

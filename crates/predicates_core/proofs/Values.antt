@@ -1,19 +1,10 @@
--- Values of formulas: what a formula is made of, and that it takes both values.
-use Rattle.std.proofs.Common.{◌≡◌, ℕ, ◌+◌, List, [], ◌∷◌, ◌++◌, Bool, true, false, length, take, drop, refl, ap, ◌∙◌, arith, length-append}
+-- Values of formulas: the truth of each kind, and that a formula takes both values.
+use Rattle.std.proofs.Common.{◌≡◌, ℕ, List, [], ◌∷◌, ◌++◌, Bool, true, false, refl, ap, ◌∙◌, arith, length-append}
 use Rattle.std.specs.Prelude.{not, ◌&&◌, ◌||◌}
-use Rattle.std.proofs.lemmas.List.{take_at, drop_at}
 use mathlib.Core.Bool.{beq}
 use Rattle.predicates_core.specs.Label.{Label}
 use Rattle.predicates_core.specs.Formula.{Formula, Leaf, And, Or, Xor, Not, Named, differ, size, IsValuation, value, actual, truth}
-
-pub length-actual : (f : Formula) → length (actual f) ≡ size f
-unfolding actual size
-length-actual (Leaf label t) = refl
-length-actual (And label l r) = omega (arith, length-append (actual l) (actual r), length-actual l, length-actual r)
-length-actual (Or label l r) = omega (arith, length-append (actual l) (actual r), length-actual l, length-actual r)
-length-actual (Xor label l r) = omega (arith, length-append (actual l) (actual r), length-actual l, length-actual r)
-length-actual (Not label f) = length-actual f
-length-actual (Named label name f) = length-actual f
+use Rattle.predicates_core.proofs.Joins.{and_joins, or_joins, xor_joins, joined_value, joined_truth}
 
 -- a valuation under which the formula has the value
 pub reaching : Formula → Bool → List Bool
@@ -32,31 +23,6 @@ length-reaching (Or label l r) b = omega (arith, length-append (reaching l b) (r
 length-reaching (Xor label l r) b = omega (arith, length-append (reaching l b) (reaching r false), length-reaching l b, length-reaching r false)
 length-reaching (Not label f) b = length-reaching f (not b)
 length-reaching (Named label name f) b = length-reaching f b
-
--- the formula joins two parts: its leaves are theirs, and its value is made of their values
-pub record Joins (op : Bool → Bool → Bool) (f l r : Formula) : Type 0 where
-  pub sizes : size f ≡ size l + size r
-  pub actuals : actual f ≡ actual l ++ actual r
-  pub values : (w : List Bool) → value f w ≡ op (value l (take (size l) w)) (value r (drop (size l) w))
-
-pub and_joins : (label : Label) (l r : Formula) → Joins ◌&&◌ (And label l r) l r
-unfolding size actual value
-and_joins label l r = record { sizes = refl; actuals = refl; values = λ w. refl }
-
-pub or_joins : (label : Label) (l r : Formula) → Joins ◌||◌ (Or label l r) l r
-unfolding size actual value
-or_joins label l r = record { sizes = refl; actuals = refl; values = λ w. refl }
-
-pub xor_joins : (label : Label) (l r : Formula) → Joins differ (Xor label l r) l r
-unfolding size actual value
-xor_joins label l r = record { sizes = refl; actuals = refl; values = λ w. refl }
-
-pub joined_value : {op : Bool → Bool → Bool} {f l r : Formula} → Joins op f l r → (v w : List Bool) → IsValuation l v → value f (v ++ w) ≡ op (value l v) (value r w)
-joined_value {op} {f} {l} {r} j v w e = j.values (v ++ w) ∙ cc (take_at v w (size l) e, drop_at v w (size l) e)
-
-pub joined_truth : {op : Bool → Bool → Bool} {f l r : Formula} → Joins op f l r → truth f ≡ op (truth l) (truth r)
-unfolding truth
-joined_truth {op} {f} {l} {r} j = ap (value f) j.actuals ∙ joined_value j (actual l) (actual r) (length-actual l)
 
 pub truth-Leaf : (label : Label) (t : Bool) → truth (Leaf label t) ≡ t
 unfolding truth value actual

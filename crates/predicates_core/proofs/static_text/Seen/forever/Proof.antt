@@ -16,7 +16,7 @@ use denote.Signature.{plain}
 use denote.Slice.{ShrSlice, shr_slice_vals, shr_slice_Tells}
 use denote.Steps.{nothing}
 use denote.Triple.Walked.{says, Stays, stay_dropped, walk_of, ends_at, Goes-dropped}
-use Rattle.predicates_core.proofs.Fields.{made}
+use Rattle.predicates_core.proofs.OwnedFields.{by_fields}
 use Rattle.predicates_core.specs.Ownership.{seen_owns}
 use Rattle.predicates_core.specs.contracts.static_text.Seen.{the_row as Seen}
 use Rattle.predicates_core.specs.contracts.static_text.Seen.forever as f
@@ -41,9 +41,9 @@ forever_spec 𝓤 𝓛 𝓜 𝓡 wired =
     -- the `Seen` has the bytes, and the pair has both; nothing is left of the slice
     let ends : Sq 𝓛 (‵ (seen_owns (block_ptr b o) xs) ∷ []) (prop (W.post y both)) =
     suffices ! _ (ends_at 𝓛 f.ended stayed c y both (block_ptr b o, seen) (tt, tt) (tt, tt)) $ says ! (refl, refl) $
-    nothing ! $ made ! [] tt tt $ fjoin ! $
+    nothing ! $ by_fields ! [] tt tt $ fjoin ! $
     nothing ! $ move ! (1 ∷ 0 ∷ []) $ fjoin ! $ feq_i ! (List Val) (at ∷ []) (at ∷ []) refl $ fjoin ! $
-    made ! (RawPtr ∷ Seen ∷ []) (block_ptr b o, (seen, tt)) (at ∷ [], (none ∷ [], tt)) $
+    by_fields ! (RawPtr ∷ Seen ∷ []) (block_ptr b o, (seen, tt)) (at ∷ [], (none ∷ [], tt)) $
     nothing ! $ nothing ! $ join ! $ nothing ! $ done ! in
     qed 𝓛 ((‵ ftrue ⊛ ‵ ((ShrSlice static [] u8).own_val a.0 (shr_slice_vals a.0)) ⊛ ‵ ftrue) ∷ ‵ ftrue ∷ []) ∵
     split ! $ move ! (1 ∷ []) $ split ! $ fsplit ! $ keep ! (1 ∷ []) $ unhide ! $

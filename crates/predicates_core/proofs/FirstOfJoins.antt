@@ -1,17 +1,13 @@
--- The first reason of a formula, from those of its parts.
+-- The first reason of a formula that joins two parts, from those of the parts.
 use Rattle.std.proofs.Common.{◌≡◌, ◌≢◌, ◌⊎◌, ℕ, ◌+◌, List, [], ◌∷◌, ◌++◌, Bool, true, false, refl, sym, ap, subst, ◌∙◌, arith, inl, inr, ⊎_elim, append_assoc}
 use Rattle.std.specs.Prelude.{not}
 use Rattle.std.proofs.lemmas.List.{append-nil}
 use Rattle.predicates_core.specs.Formula.{Formula, size, IsValuation, value, actual, truth}
 use Rattle.predicates_core.specs.Reason.{AreIncreasing, AreEqualAt, IsReason, IsMinimalReason, ComesBefore, IsFirstReason}
-use Rattle.predicates_core.proofs.Numbers.{shifted, shifted_append, increasing_without, equal_at_itself, one_of_two, one_of_shifted, before_joined, before_behind, before_shifted, never_both_before}
-use Rattle.predicates_core.proofs.Values.{Joins, length-actual, reaching, length-reaching, value-reaching}
-use Rattle.predicates_core.proofs.Joins.{Decide, join_reason, split_reason, parts, no_front, no_back}
-use mathlib.Core.List.{List-discrete}
-use native.Mathlib.Decide.{ℕ_discrete}
-
-same_list : (S T : List ℕ) → Dec (S ≡ T)
-same_list = List-discrete ℕ_discrete
+use Rattle.predicates_core.proofs.Numbers.{shifted, shifted_append, increasing_without, equal_at_itself, one_of_two, one_of_shifted, before_joined, before_behind, before_shifted}
+use Rattle.predicates_core.proofs.Joins.{Joins, length-actual, Decide, join_reason, split_reason, parts, no_front, no_back}
+use Rattle.predicates_core.proofs.Values.{reaching, length-reaching, value-reaching}
+use Rattle.predicates_core.proofs.FirstReason.{same_list, first_not_empty}
 
 no_numbers : (n : ℕ) → AreIncreasing 0 n []
 unfolding AreIncreasing
@@ -20,22 +16,6 @@ no_numbers n = tt
 no_places : (v w : List Bool) → AreEqualAt [] v w
 unfolding AreEqualAt
 no_places v w = tt
-
--- the first reason is not empty
-pub first_not_empty : (f : Formula) (S : List ℕ) → IsFirstReason f S → S ≢ []
-unfolding AreEqualAt
-first_not_empty f S h e =
-    let always = λ (b : Bool). h.minimal.reason.decides (reaching f b) (length-reaching f b) (rw e tt) in
-    let yes' : true ≡ truth f = sym (value-reaching f true) ∙ always true in
-    let no' : false ≡ truth f = sym (value-reaching f false) ∙ always false in
-    cc
-
--- there is at most one
-pub first_unique : (f : Formula) (S T : List ℕ) → IsFirstReason f S → IsFirstReason f T → S ≡ T
-first_unique f S T hs ht = elim (same_list S T) [
-  | yes e ↦ e
-  | no d ↦ absurd (never_both_before S T (hs.before_others T ht.minimal (λ e. d (sym e))) (ht.before_others S hs.minimal d))
-]
 
 -- where the truth of each part alone decides the truth of the whole, the other part being as it is
 pub record BothCount (op : Bool → Bool → Bool) (a b : Bool) : Type 0 where
