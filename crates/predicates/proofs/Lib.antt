@@ -5,3 +5,4 @@ pub mod GivenItems
 pub mod Names
 pub mod OpenRoots
 pub mod Opposites
+pub mod InTurn

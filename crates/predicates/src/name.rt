@@ -3,12 +3,12 @@
 //! ```
 //! let blank = predicate::str::is_empty().trim().name("blank");
 //! ```
-ghost use Rattle.std.specs.Prelude.{◌≡◌, refl, [], Some};
+ghost use Rattle.std.specs.Prelude.{◌≡◌, [], Some};
 ghost use Rattle.predicates_core.specs.Label.{plain};
 ghost use Rattle.predicates_core.specs.Formula.{Named};
 ghost use Rattle.predicates_core.specs.Parts.{part};
 ghost use Rattle.predicates_core.specs.Combined.{IsNamed};
-ghost use Rattle.predicates_core.proofs.CombinedLemmas.{named_text_fits, one_named};
+ghost use Rattle.predicates_core.proofs.CombinedLemmas.{named_text_fits, one_named, has_named};
 ghost use Rattle.predicates.specs.Name.{inner_of, name_of};
 
 #[cfg(test)]
@@ -96,7 +96,7 @@ impl<M: Total<Item>, Item, N: Lasting> Total<Item> for NamePredicate<M, Item, N>
 
     ghost always_lawful = { λ p. M.always_lawful p.inner };
 
-    ghost has_formula = { λ p v. record { inner = _; of_part = M.has_formula p.inner v; is = refl } };
+    ghost has_formula = { λ p v. has_named (M.has_formula p.inner v) };
 }
 
 impl<M: ReadsContent<Item>, Item: Content, N: Lasting> ReadsContent<Item>
@@ -108,7 +108,7 @@ impl<M: ReadsContent<Item>, Item: Content, N: Lasting> ReadsContent<Item>
 
     ghost always_lawful = { λ p. M.always_lawful p.inner };
 
-    ghost has_formula = { λ p v. record { inner = _; of_part = M.has_formula p.inner v; is = refl } };
+    ghost has_formula = { λ p v. has_named (M.has_formula p.inner v) };
 }
 
 /// Names any predicate.

@@ -5,7 +5,7 @@ use mathlib.Core.Bool.{beq}
 use Rattle.predicates_core.specs.Label.{Entry, plain}
 use Rattle.predicates_core.specs.Formula.{Formula, And, Or, Xor, Not, HasTruth, differ}
 use Rattle.predicates_core.specs.Combined.{infix_text, not_text, IsAnd, IsOr, IsXor, IsNot}
-use Rattle.predicates_core.proofs.CombinedLemmas.{has_and, has_or, has_xor, HasTruth-and_by_right, HasTruth-and_by_left, HasTruth-or_by_right, HasTruth-or_by_left, HasTruth-xor, HasTruth-not}
+use Rattle.predicates_core.proofs.CombinedLemmas.{has_and, has_or, has_xor, has_not, HasTruth-and_by_right, HasTruth-and_by_left, HasTruth-or_by_right, HasTruth-or_by_left, HasTruth-xor, HasTruth-not}
 use Rattle.predicates_core.proofs.Retold.{HasText}
 use Rattle.predicates_bench.specs.Trees.{tree_text, leaf_formula, HasFormula}
 use Rattle.predicates_bench.specs.declared.tree.Tree.{Tree, Leaf, Not', And', Or', Xor'}
@@ -15,7 +15,7 @@ pub has_tree_text : (t : Tree) (n : ℤ) → HasText (HasFormula t n) (tree_text
 has_tree_text (Leaf p) n = record { formula = leaf_formula p n; has = record { is = refl }; is = refl }
 has_tree_text (Not' _ inner) n =
     let h = has_tree_text inner n in
-    record { formula = Not (plain (not_text (tree_text inner))) h.formula; has = record { inner = h.formula; of_part = h.has; is = refl }; is = refl }
+    record { formula = Not (plain (not_text (tree_text inner))) h.formula; has = has_not h.has; is = refl }
 has_tree_text (And' _ left _ right) n =
     let l = has_tree_text left n in
     let r = has_tree_text right n in

@@ -1,6 +1,6 @@
 -- The truth of a combined formula, and the cases that explain it, from those of its parts.
 use Rattle.std.proofs.Common.{◌≡◌, ℕ, Bool, true, false, List, [], ◌∷◌, ◌++◌, Option, Some, None, codes, refl, sym, ap, ◌∙◌, subst}
-use Rattle.std.specs.Prelude.{not, ◌&&◌, ◌||◌, is_some}
+use Rattle.std.specs.Prelude.{not, ◌&&◌, ◌||◌}
 use Rattle.predicates_core.specs.Label.{Entry, plain, Fits, FitsEntry, FitsProducts}
 use Rattle.predicates_core.specs.Formula.{Formula, And, Or, Xor, Not, Named, differ, truth, size, text_of, HasTruth}
 use Rattle.predicates_core.specs.Reason.{IsFirstReason}
@@ -228,28 +228,6 @@ module _ {text : Option (List ℕ)} {left right : Formula → Type 0} {b : Bool}
   pub IsCaseOf-or_right : {bytes : List ℕ} → IsNode (Some bytes) b ((codes "right", c) ∷ []) t → Fits text bytes → HasTruth left (not b) → IsCaseOf right b c → b ≡ true → IsCaseOf (IsOr text left right) b t
   IsCaseOf-or_right written fits x y e = joined_case joined_by_or (HasTruth-or_by_right x (ap not e) y.truth) written fits (λ l r of_l of_r.
       let right_shown = y.explains r of_r in right_below l r right_shown (first-Or_right (plain text) l r right_shown.leaves (x.at l of_l ∙ ap not e) (y.truth.at r of_r ∙ e) right_shown.first))
-
--- from what was found for the parts, as options; the right part was asked where the left one left the verdict to it
-module _ {text : Option (List ℕ)} {left right : Formula → Type 0} {bytes : List ℕ} {b : Bool} {t : Tree CaseNode} where
-  pub IsCaseOf-and_asked : (c d : Option (Tree CaseNode)) → IsNode (Some bytes) b (found_parts c d) t → Fits text bytes → IsAnswer left b c → is_some c ≡ b → IsAnswer right b d → is_some d ≡ true → IsCaseOf (IsAnd text left right) b t
-  IsCaseOf-and_asked c None written fits x e y e' = absurd (cc)
-  IsCaseOf-and_asked None (Some d) written fits x e y e' = IsCaseOf-and_right written fits x y (sym e)
-  IsCaseOf-and_asked (Some c) (Some d) written fits x e y e' = IsCaseOf-and_both written fits x y (sym e)
-
-  pub IsCaseOf-and_decided : (c d : Option (Tree CaseNode)) → IsNode (Some bytes) b (found_parts c d) t → Fits text bytes → IsAnswer left b c → is_some c ≡ true → b ≡ false → d ≡ None → IsCaseOf (IsAnd text left right) b t
-  IsCaseOf-and_decided None d written fits x e e' n = absurd (cc)
-  IsCaseOf-and_decided (Some c) None written fits x e e' n = IsCaseOf-and_left written fits x e'
-  IsCaseOf-and_decided (Some c) (Some d) written fits x e e' n = absurd (cc)
-
-  pub IsCaseOf-or_asked : (c d : Option (Tree CaseNode)) → IsNode (Some bytes) b (found_parts c d) t → Fits text bytes → IsAnswer left b c → is_some c ≡ not b → IsAnswer right b d → is_some d ≡ true → IsCaseOf (IsOr text left right) b t
-  IsCaseOf-or_asked c None written fits x e y e' = absurd (cc)
-  IsCaseOf-or_asked None (Some d) written fits x e y e' = IsCaseOf-or_right written fits x y (sym (not-not b) ∙ ap not (sym e))
-  IsCaseOf-or_asked (Some c) (Some d) written fits x e y e' = IsCaseOf-or_both written fits x y (sym (not-not b) ∙ ap not (sym e))
-
-  pub IsCaseOf-or_decided : (c d : Option (Tree CaseNode)) → IsNode (Some bytes) b (found_parts c d) t → Fits text bytes → IsAnswer left b c → is_some c ≡ true → b ≡ true → d ≡ None → IsCaseOf (IsOr text left right) b t
-  IsCaseOf-or_decided None d written fits x e e' n = absurd (cc)
-  IsCaseOf-or_decided (Some c) None written fits x e e' n = IsCaseOf-or_left written fits x e'
-  IsCaseOf-or_decided (Some c) (Some d) written fits x e e' n = absurd (cc)
 
 -- each part was asked for its own truth, so none is found only where it has no formula
 pub has_no_formula : {F : Formula → Type 0} {a : Bool} → HasTruth F a → HasTruth F (not a) → (f : Formula) → F f → ⊥

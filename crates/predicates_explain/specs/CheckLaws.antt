@@ -5,7 +5,7 @@ use Rattle.predicates_core.specs.Formula.{Formula, text_of}
 use Rattle.predicates_core.proofs.Leaves.{exactly_text_fits, one_exactly}
 use Rattle.predicates_core.proofs.CombinedLemmas.{and_text_fits, or_text_fits, xor_text_fits}
 use Rattle.predicates_core.proofs.CombinedLemmas.{not_text_fits, one_and, one_or, one_xor, one_not}
-use Rattle.predicates_core.proofs.CombinedLemmas.{has_and, has_or, has_xor}
+use Rattle.predicates_core.proofs.CombinedLemmas.{has_and, has_or, has_xor, has_not}
 use Rattle.predicates_text.specs.Patterns.{starts_pattern, ends_pattern, contains_pattern}
 use Rattle.predicates_text.specs.MeantLaws.{empty_text_fits, starts_text_fits, ends_text_fits}
 use Rattle.predicates_text.specs.MeantLaws.{contains_text_fits, one_empty, one_starts, one_ends}
@@ -60,8 +60,7 @@ has_check_formula (Contains p) bytes = has_contains (contains_pattern p) bytes
 has_check_formula (Matches p) bytes = record { is = refl }
 has_check_formula (Trim' _ inner) bytes = has_check_formula inner (trimmed_bytes bytes)
 has_check_formula (Normalize' _ inner) bytes = has_check_formula inner (even_bytes bytes)
-has_check_formula (Not' _ inner) bytes = record
-    { inner = _; of_part = has_check_formula inner bytes; is = refl }
+has_check_formula (Not' _ inner) bytes = has_not (has_check_formula inner bytes)
 has_check_formula (And' _ left _ right) bytes = has_and (has_check_formula left bytes)
     (has_check_formula right bytes)
 has_check_formula (Or' _ left _ right) bytes = has_or (has_check_formula left bytes)

@@ -10,7 +10,7 @@ use Rattle.predicates_core.specs.Describe.{CaseNode}
 use Rattle.predicates_core.specs.Shows.{IsAnswer}
 use Rattle.predicates_core.proofs.Values.{truth-Leaf, truth-And, truth-Named}
 use Rattle.predicates_core.proofs.FirstReasonOf.{with_product_truth}
-use Rattle.predicates_core.proofs.CombinedLemmas.{has_and}
+use Rattle.predicates_core.proofs.CombinedLemmas.{has_and, has_named}
 use Rattle.predicates_text.specs.Places.{is_front}
 use Rattle.predicates_text.specs.ViewFormulas.{decoded, undecoded, decoded_formula}
 use Rattle.predicates_text.specs.Leaves.{starts_formula}
@@ -49,7 +49,7 @@ module _ (name : List ℕ) (text : Entry) (K C : Formula → Type 0) where
   pub named_truth : (k r : Formula) (a b c : Bool) → K k → C r → truth k ≡ a → truth r ≡ b → HasTruth (IsNamed name (IsAnd text K C)) c → (a && b) ≡ c
   named_truth k r a b c of_k of_r is_a is_b h =
       sym (λ i. is_a i && is_b i) ∙ sym (truth-And (plain text) k r) ∙ sym (truth-Named (plain (Some name)) name (And (plain text) k r))
-      ∙ h.at (Named (plain (Some name)) name (And (plain text) k r)) (record { inner = And (plain text) k r; of_part = has_and of_k of_r; is = refl })
+      ∙ h.at (Named (plain (Some name)) name (And (plain text) k r)) (has_named (has_and of_k of_r))
 
   pub answered : (k r : Formula) (a b : Bool) (found : Option (Tree CaseNode)) → K k → C r → truth k ≡ a → truth r ≡ b → IsAnswer (IsNamed name (IsAnd text K C)) false found
       → MatchOption found ((a && b) ≡ true) (λ case. (a && b) ≡ false)

@@ -6,7 +6,7 @@ ghost use Rattle.predicates_core.specs.Parts.{two_parts};
 ghost use Rattle.predicates_core.specs.Combined.{infix_text, IsAnd};
 ghost use Rattle.predicates_core.proofs.CombinedLemmas.{and_text_fits, one_and, has_and};
 
-use predicates_core::node::{over_found, printed};
+use crate::own::and_case;
 use predicates_core::reflection::{Case, Child, Parameter, PredicateReflection, describe};
 use predicates_core::{Content, Predicate, ReadsContent, Total};
 use std::alloc::{AllocError, Global};
@@ -91,7 +91,6 @@ impl<M1: Predicate<Item>, M2: Predicate<Item>, Item> Predicate<Item>
 
     /// `eval` is asked first, so that no case of a part is made in vain. So this asks each part at
     /// most twice: once by `eval`, and once for its case.
-    #[tactic(auto, using(predicates_core::proofs::CombinedLemmas::combined))]
     fn find_case(
         &self,
         alloc: Global,
@@ -101,22 +100,7 @@ impl<M1: Predicate<Item>, M2: Predicate<Item>, Item> Predicate<Item>
         if self.eval(alloc, item)? != expected {
             return Ok(None);
         }
-        let left = self.a.find_case(alloc, expected, item)?;
-        let right = if left.is_some() == expected {
-            let right = self.b.find_case(alloc, expected, item)?;
-            if right.is_none() {
-                return Ok(None);
-            }
-            right
-        } else {
-            // The left part decides.
-            if left.is_none() {
-                return Ok(None);
-            }
-            None
-        };
-        let text = printed(alloc, self)?;
-        Ok(Some(over_found(alloc, text, expected, left, right)?))
+        and_case(alloc, self, &self.a, &self.b, expected, item)
     }
 }
 

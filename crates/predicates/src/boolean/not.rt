@@ -1,12 +1,12 @@
 //! The part does not hold.
-ghost use Rattle.std.specs.Prelude.{◌≡◌, refl, [], codes};
+ghost use Rattle.std.specs.Prelude.{◌≡◌, [], codes};
 ghost use Rattle.predicates_core.specs.Label.{plain};
 ghost use Rattle.predicates_core.specs.Formula.{Not};
 ghost use Rattle.predicates_core.specs.Parts.{part};
 ghost use Rattle.predicates_core.specs.Combined.{not_text, IsNot};
-ghost use Rattle.predicates_core.proofs.CombinedLemmas.{not_text_fits, one_not};
+ghost use Rattle.predicates_core.proofs.CombinedLemmas.{not_text_fits, one_not, has_not};
 
-use predicates_core::node::{over_one, printed};
+use crate::own::not_case;
 use predicates_core::reflection::{Case, Child, Parameter, PredicateReflection, describe};
 use predicates_core::{Content, Predicate, ReadsContent, Total};
 use std::alloc::{AllocError, Global};
@@ -76,18 +76,13 @@ impl<M: Predicate<Item>, Item> Predicate<Item> for NotPredicate<M, Item> {
         Ok(!self.inner.eval(alloc, item)?)
     }
 
-    #[tactic(auto, using(predicates_core::proofs::CombinedLemmas::combined))]
     fn find_case(
         &self,
         alloc: Global,
         expected: bool,
         item: &Item,
     ) -> Result<Option<Case>, AllocError> {
-        let Some(part) = self.inner.find_case(alloc, !expected, item)? else {
-            return Ok(None);
-        };
-        let text = printed(alloc, self)?;
-        Ok(Some(over_one(alloc, text, expected, "predicate", part)?))
+        not_case(alloc, self, &self.inner, expected, item)
     }
 }
 
@@ -96,7 +91,7 @@ impl<M: Total<Item>, Item> Total<Item> for NotPredicate<M, Item> {
 
     ghost always_lawful = { λ p. M.always_lawful p.inner };
 
-    ghost has_formula = { λ p v. record { inner = _; of_part = M.has_formula p.inner v; is = refl } };
+    ghost has_formula = { λ p v. has_not (M.has_formula p.inner v) };
 }
 
 impl<M: ReadsContent<Item>, Item: Content> ReadsContent<Item> for NotPredicate<M, Item> {
@@ -105,5 +100,5 @@ impl<M: ReadsContent<Item>, Item: Content> ReadsContent<Item> for NotPredicate<M
 
     ghost always_lawful = { λ p. M.always_lawful p.inner };
 
-    ghost has_formula = { λ p v. record { inner = _; of_part = M.has_formula p.inner v; is = refl } };
+    ghost has_formula = { λ p v. has_not (M.has_formula p.inner v) };
 }

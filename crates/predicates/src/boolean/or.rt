@@ -6,7 +6,7 @@ ghost use Rattle.predicates_core.specs.Parts.{two_parts};
 ghost use Rattle.predicates_core.specs.Combined.{infix_text, IsOr};
 ghost use Rattle.predicates_core.proofs.CombinedLemmas.{or_text_fits, one_or, has_or};
 
-use predicates_core::node::{over_found, printed};
+use crate::own::or_case;
 use predicates_core::reflection::{Case, Child, Parameter, PredicateReflection, describe};
 use predicates_core::{Content, Predicate, ReadsContent, Total};
 use std::alloc::{AllocError, Global};
@@ -90,7 +90,6 @@ impl<M1: Predicate<Item>, M2: Predicate<Item>, Item> Predicate<Item> for OrPredi
 
     /// `eval` is asked first, so that no case of a part is made in vain. So this asks each part at
     /// most twice: once by `eval`, and once for its case.
-    #[tactic(auto, using(predicates_core::proofs::CombinedLemmas::combined))]
     fn find_case(
         &self,
         alloc: Global,
@@ -100,22 +99,7 @@ impl<M1: Predicate<Item>, M2: Predicate<Item>, Item> Predicate<Item> for OrPredi
         if self.eval(alloc, item)? != expected {
             return Ok(None);
         }
-        let left = self.a.find_case(alloc, expected, item)?;
-        let right = if left.is_some() == expected {
-            // The left part decides.
-            if left.is_none() {
-                return Ok(None);
-            }
-            None
-        } else {
-            let right = self.b.find_case(alloc, expected, item)?;
-            if right.is_none() {
-                return Ok(None);
-            }
-            right
-        };
-        let text = printed(alloc, self)?;
-        Ok(Some(over_found(alloc, text, expected, left, right)?))
+        or_case(alloc, self, &self.a, &self.b, expected, item)
     }
 }
 

@@ -9,7 +9,7 @@ ghost use Rattle.predicates_core.proofs.CombinedLemmas.{xor_text_fits, one_xor, 
 #[cfg(test)]
 mod tests;
 
-use predicates_core::node::{over_found, printed};
+use crate::own::xor_case;
 use predicates_core::reflection::{Case, Child, Parameter, PredicateReflection, describe};
 use predicates_core::{Content, Predicate, ReadsContent, Total};
 use std::alloc::{AllocError, Global};
@@ -92,23 +92,13 @@ impl<M1: Predicate<Item>, M2: Predicate<Item>, Item> Predicate<Item>
         Ok(self.a.eval(alloc, item)? != self.b.eval(alloc, item)?)
     }
 
-    #[tactic(auto, using(predicates_core::proofs::CombinedLemmas::combined))]
     fn find_case(
         &self,
         alloc: Global,
         expected: bool,
         item: &Item,
     ) -> Result<Option<Case>, AllocError> {
-        // Asked for `true` and then for `false`, a part would double the work at each level.
-        let left_holds = self.a.eval(alloc, item)?;
-        let right_holds = self.b.eval(alloc, item)?;
-        if (left_holds != right_holds) != expected {
-            return Ok(None);
-        }
-        let left = self.a.find_case(alloc, left_holds, item)?;
-        let right = self.b.find_case(alloc, right_holds, item)?;
-        let text = printed(alloc, self)?;
-        Ok(Some(over_found(alloc, text, expected, left, right)?))
+        xor_case(alloc, self, &self.a, &self.b, expected, item)
     }
 }
 

@@ -26,19 +26,16 @@ pub fn or_case<W: fmt::Display, P: Predicate<Item>, Q: Predicate<Item>, Item>(
         (P.formula left_part.now item.now) (Q.formula right_part.now item.now)) expected) }
 {
     let left = left_part.find_case(alloc, expected, item)?;
-    let right = if left.is_some() == expected {
-        // The left part decides.
-        if left.is_none() {
-            return Ok(None);
-        }
+    let left_holds = left.is_some() == expected;
+    let right = if left_holds {
         None
     } else {
-        let right = right_part.find_case(alloc, expected, item)?;
-        if right.is_none() {
-            return Ok(None);
-        }
-        right
+        right_part.find_case(alloc, expected, item)?
     };
+    let holds = left_holds || right.is_some() == expected;
+    if holds != expected {
+        return Ok(None);
+    }
     let text = printed(alloc, whole)?;
     Ok(Some(over_found(alloc, text, expected, left, right)?))
 }

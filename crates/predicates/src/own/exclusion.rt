@@ -1,0 +1,37 @@
+//! The case of an exclusive disjunction, over parts that are asked here.
+ghost use Rattle.std.specs.Prelude.{IfOk};
+ghost use Rattle.predicates_core.specs.Combined.{IsXor};
+ghost use Rattle.predicates_core.specs.Shows.{IsAnswer};
+
+use predicates_core::Predicate;
+use predicates_core::node::{over_found, printed};
+use predicates_core::reflection::Case;
+use std::alloc::{AllocError, Global};
+use std::fmt;
+
+/// What `find_case` of a predicate is to answer that holds where exactly one part does. Each part is
+/// asked for its truth, and then for its case.
+#[tactic(auto, using(predicates_core::proofs::CombinedLemmas::combined))]
+pub fn xor_case<W: fmt::Display, P: Predicate<Item>, Q: Predicate<Item>, Item>(
+    alloc: Global,
+    whole: &W,
+    left_part: &P,
+    right_part: &Q,
+    expected: bool,
+    item: &Item,
+) -> Result<Option<Case>, AllocError>
+    requires left { P.lawful left_part.now }
+    requires right { Q.lawful right_part.now }
+    ensures { IfOk result (IsAnswer (IsXor (W.output whole.now)
+        (P.formula left_part.now item.now) (Q.formula right_part.now item.now)) expected) }
+{
+    let left_holds = left_part.eval(alloc, item)?;
+    let right_holds = right_part.eval(alloc, item)?;
+    if (left_holds != right_holds) != expected {
+        return Ok(None);
+    }
+    let left = left_part.find_case(alloc, left_holds, item)?;
+    let right = right_part.find_case(alloc, right_holds, item)?;
+    let text = printed(alloc, whole)?;
+    Ok(Some(over_found(alloc, text, expected, left, right)?))
+}
