@@ -30,12 +30,16 @@ not_both : (a w : Bool) → a ≡ w → a ≡ not w → ⊥
 not_both a true e n = absurd (cc)
 not_both a false e n = absurd (cc)
 
-module _ {leaves a b : Bool} {F : Formula → Type 0} {found : Found} where
-  pub where_asked : a ≡ leaves → IsAnswer F b found → IsAsked leaves a F b found
-  where_asked e h = record { answer = λ _. h; nothing = λ n. absurd (not_both a leaves e n) }
+module _ {leaves b x : Bool} {F : Formula → Type 0} {found : Found} (other : Found) where
+  pub where_asked : x ≡ is_some other → beq x b ≡ leaves → IsAnswer F b found → IsAsked leaves (beq (is_some other) b) F b found
+  where_asked s e h =
+      let is : beq (is_some other) b ≡ leaves = subst (λ z. beq z b ≡ leaves) s e in
+      record { answer = λ _. h; nothing = λ n. absurd (not_both (beq (is_some other) b) leaves is n) }
 
-  pub where_decided : a ≡ not leaves → found ≡ None → IsAsked leaves a F b found
-  where_decided n h = record { answer = λ e. absurd (not_both a leaves e n); nothing = λ _. h }
+  pub where_decided : x ≡ is_some other → beq x b ≡ not leaves → found ≡ None → IsAsked leaves (beq (is_some other) b) F b found
+  where_decided s n h =
+      let is : beq (is_some other) b ≡ not leaves = subst (λ z. beq z b ≡ not leaves) s n in
+      record { answer = λ e. absurd (not_both (beq (is_some other) b) leaves e is); nothing = λ _. h }
 
 -- the truth h is made of a and x
 pub record IsMadeOf (op : Bool → Bool → Bool) (h a x : Bool) : Type 0 where

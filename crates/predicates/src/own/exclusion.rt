@@ -9,8 +9,8 @@ use predicates_core::reflection::Case;
 use std::alloc::{AllocError, Global};
 use std::fmt;
 
-/// What `find_case` of a predicate is to answer that holds where exactly one part does. Each part is
-/// asked for its truth, and then for its case.
+/// What `find_case` of a predicate is to answer that holds where exactly one part does. Each part
+/// is asked for its truth, and then for its case.
 #[tactic(auto, using(predicates_core::proofs::CombinedLemmas::combined))]
 pub fn xor_case<W: fmt::Display, P: Predicate<Item>, Q: Predicate<Item>, Item>(
     alloc: Global,
@@ -25,6 +25,7 @@ pub fn xor_case<W: fmt::Display, P: Predicate<Item>, Q: Predicate<Item>, Item>(
     ensures { IfOk result (IsAnswer (IsXor (W.output whole.now)
         (P.formula left_part.now item.now) (Q.formula right_part.now item.now)) expected) }
 {
+    // Asked for a case of `true` and then of `false`, a part would double the work at each level.
     let left_holds = left_part.eval(alloc, item)?;
     let right_holds = right_part.eval(alloc, item)?;
     if (left_holds != right_holds) != expected {

@@ -6,8 +6,8 @@ use Rattle.predicates.proofs.own.conjunction.and_case.Goals.{then-left_holds+in_
 pub returns-then-holds-expected : goal.returns-then-holds-expected
 returns-then-holds-expected g c = HasTruth-and_in_turn c.args.expected c.in_ok-left.left c.if-left_holds.right (search rules)
     (elim c.if-left_holds.branch [
-      | then-left_holds+in_ok-right w ↦ where_asked (cc (c.is_some.ensures, w.if-left_holds.true)) (search rules)
-      | else-left_holds w ↦ where_decided (cc (c.is_some.ensures, w.if-left_holds.false)) (search rules)
+      | then-left_holds+in_ok-right w ↦ where_asked c.in_ok-left.left c.is_some.ensures (search rules) (search rules)
+      | else-left_holds w ↦ where_decided c.in_ok-left.left c.is_some.ensures (search rules) (search rules)
     ])
     (elim c.if-left_holds-2.branch [
       | then-left_holds-2 w ↦ and_asks (cc (c.is_some.ensures, w.if-left_holds-2.true)) (cc (w.holds-is, w.is_some-then-left_holds-2.ensures))
@@ -18,8 +18,8 @@ returns-then-holds-expected g c = HasTruth-and_in_turn c.args.expected c.in_ok-l
 pub returns : goal.returns
 returns g c = IsCaseOf-and_in_turn c.args.expected c.in_ok-left.left c.if-left_holds.right c.in_ok-over_found.ensures (search rules) (search rules)
     (elim c.if-left_holds.branch [
-      | then-left_holds+in_ok-right v ↦ where_asked (cc (c.is_some.ensures, v.if-left_holds.true)) (search rules)
-      | else-left_holds v ↦ where_decided (cc (c.is_some.ensures, v.if-left_holds.false)) (search rules)
+      | then-left_holds+in_ok-right v ↦ where_asked c.in_ok-left.left c.is_some.ensures (search rules) (search rules)
+      | else-left_holds v ↦ where_decided c.in_ok-left.left c.is_some.ensures (search rules) (search rules)
     ])
     (elim c.if-left_holds-2.branch [
       | then-left_holds-2 v ↦ and_asks (cc (c.is_some.ensures, v.if-left_holds-2.true)) (cc (v.holds-is, v.is_some-then-left_holds-2.ensures))

@@ -6,8 +6,8 @@ use Rattle.predicates.proofs.own.disjunction.or_case.Goals.{then-left_holds, els
 pub returns-then-holds-expected : goal.returns-then-holds-expected
 returns-then-holds-expected g c = HasTruth-or_in_turn c.args.expected c.in_ok-left.left c.if-left_holds.right (search rules)
     (elim c.if-left_holds.branch [
-      | then-left_holds w ↦ where_decided (cc (c.is_some.ensures, w.if-left_holds.true)) (search rules)
-      | else-left_holds+in_ok-right w ↦ where_asked (cc (c.is_some.ensures, w.if-left_holds.false)) (search rules)
+      | then-left_holds w ↦ where_decided c.in_ok-left.left c.is_some.ensures (search rules) (search rules)
+      | else-left_holds+in_ok-right w ↦ where_asked c.in_ok-left.left c.is_some.ensures (search rules) (search rules)
     ])
     (elim c.if-left_holds-2.branch [
       | then-left_holds-2 w ↦ or_ends (cc (c.is_some.ensures, w.if-left_holds-2.true)) (w.holds-is ∙ w.if-left_holds-2.true)
@@ -18,8 +18,8 @@ returns-then-holds-expected g c = HasTruth-or_in_turn c.args.expected c.in_ok-le
 pub returns : goal.returns
 returns g c = IsCaseOf-or_in_turn c.args.expected c.in_ok-left.left c.if-left_holds.right c.in_ok-over_found.ensures (search rules) (search rules)
     (elim c.if-left_holds.branch [
-      | then-left_holds v ↦ where_decided (cc (c.is_some.ensures, v.if-left_holds.true)) (search rules)
-      | else-left_holds+in_ok-right v ↦ where_asked (cc (c.is_some.ensures, v.if-left_holds.false)) (search rules)
+      | then-left_holds v ↦ where_decided c.in_ok-left.left c.is_some.ensures (search rules) (search rules)
+      | else-left_holds+in_ok-right v ↦ where_asked c.in_ok-left.left c.is_some.ensures (search rules) (search rules)
     ])
     (elim c.if-left_holds-2.branch [
       | then-left_holds-2 v ↦ or_ends (cc (c.is_some.ensures, v.if-left_holds-2.true)) (v.holds-is ∙ v.if-left_holds-2.true)
