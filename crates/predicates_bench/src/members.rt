@@ -4,15 +4,15 @@ use predicates::iter::{HashableInPredicate, InPredicate, OrdInPredicate, in_hash
 use predicates_core::Total;
 use std::alloc::{AllocError, Global};
 
-fn listed(alloc: Global, members: &[i64]) -> Result<InPredicate<i64>, AllocError> {
+fn list_of(alloc: Global, members: &[i64]) -> Result<InPredicate<i64>, AllocError> {
     in_iter(alloc, Vec::from_slice(alloc, members)?)
 }
 
-fn sorted(alloc: Global, members: &[i64]) -> Result<OrdInPredicate<i64>, AllocError> {
-    listed(alloc, members)?.sort()
+fn sorted_list_of(alloc: Global, members: &[i64]) -> Result<OrdInPredicate<i64>, AllocError> {
+    list_of(alloc, members)?.sort()
 }
 
-fn hashed(alloc: Global, members: &[i64]) -> Result<HashableInPredicate<i64>, AllocError> {
+fn set_of(alloc: Global, members: &[i64]) -> Result<HashableInPredicate<i64>, AllocError> {
     in_hash(alloc, Vec::from_slice(alloc, members)?)
 }
 
@@ -25,7 +25,7 @@ pub extern "C" fn bench_listed(
     question: u8,
     rounds: usize,
 ) -> usize {
-    match listed(alloc, members) {
+    match list_of(alloc, members) {
         Ok(predicate) => ask(alloc, &predicate, items, question, rounds),
         Err(_) => 0,
     }
@@ -40,7 +40,7 @@ pub extern "C" fn bench_sorted(
     question: u8,
     rounds: usize,
 ) -> usize {
-    match sorted(alloc, members) {
+    match sorted_list_of(alloc, members) {
         Ok(predicate) => ask(alloc, &predicate, items, question, rounds),
         Err(_) => 0,
     }
@@ -55,14 +55,14 @@ pub extern "C" fn bench_hashed(
     question: u8,
     rounds: usize,
 ) -> usize {
-    match hashed(alloc, members) {
+    match set_of(alloc, members) {
         Ok(predicate) => ask(alloc, &predicate, items, question, rounds),
         Err(_) => 0,
     }
 }
 
 // How often a predicate that is made anew in each round holds of the item.
-fn made<P: Total<i64> + Drop, F: Fn() -> Result<P, AllocError>>(
+fn ask_anew<P: Total<i64> + Drop, F: Fn() -> Result<P, AllocError>>(
     alloc: Global,
     make: F,
     item: i64,
@@ -88,7 +88,7 @@ pub extern "C" fn bench_make_listed(
     item: i64,
     rounds: usize,
 ) -> usize {
-    made(alloc, || listed(alloc, members), item, rounds).unwrap_or(0)
+    ask_anew(alloc, || list_of(alloc, members), item, rounds).unwrap_or(0)
 }
 
 /// Makes a sorted list of the members, and asks whether the item is in it.
@@ -99,7 +99,7 @@ pub extern "C" fn bench_make_sorted(
     item: i64,
     rounds: usize,
 ) -> usize {
-    made(alloc, || sorted(alloc, members), item, rounds).unwrap_or(0)
+    ask_anew(alloc, || sorted_list_of(alloc, members), item, rounds).unwrap_or(0)
 }
 
 /// Makes a hashed set of the members, and asks whether the item is in it.
@@ -110,5 +110,5 @@ pub extern "C" fn bench_make_hashed(
     item: i64,
     rounds: usize,
 ) -> usize {
-    made(alloc, || hashed(alloc, members), item, rounds).unwrap_or(0)
+    ask_anew(alloc, || set_of(alloc, members), item, rounds).unwrap_or(0)
 }

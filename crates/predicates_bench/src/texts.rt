@@ -14,7 +14,7 @@ fn text(alloc: Global, bytes: &[u8]) -> Result<String, AllocError> {
 }
 
 // So many texts that the bytes are. The compiler sees neither the texts nor how many there are.
-fn copied(alloc: Global, bytes: &[u8], copies: usize) -> Result<Vec<String>, AllocError> {
+fn copies_of(alloc: Global, bytes: &[u8], copies: usize) -> Result<Vec<String>, AllocError> {
     let mut all = Vec::new(alloc);
     for _ in 0..copies {
         all.push(text(alloc, bytes)?)?;
@@ -33,7 +33,7 @@ fn ask_of_text<P: Predicate<String>>(
 ) -> usize
     requires { P.lawful predicate.now }
 {
-    match copied(alloc, bytes, copies) {
+    match copies_of(alloc, bytes, copies) {
         Ok(items) => ask(alloc, predicate, &items, question, rounds),
         Err(_) => 0,
     }

@@ -40,7 +40,7 @@ fn chain(alloc: Global, xors: u16, on_the_right: bool) -> Result<Tree, AllocErro
 }
 
 // Each two neighbours as one, by `and` or by `or`.
-fn halved(alloc: Global, trees: Vec<Tree>, by_and: bool) -> Result<Vec<Tree>, AllocError> {
+fn pair_up(alloc: Global, trees: Vec<Tree>, by_and: bool) -> Result<Vec<Tree>, AllocError> {
     let mut all = Vec::new(alloc);
     let mut trees = trees.into_iter();
     for _ in 0..trees.len() {
@@ -66,7 +66,7 @@ fn full(alloc: Global, levels: u8) -> Result<Option<Tree>, AllocError> {
     }
     let mut by_and = levels % 2 == 1;
     for _ in 0..levels {
-        trees = halved(alloc, trees, by_and)?;
+        trees = pair_up(alloc, trees, by_and)?;
         by_and = !by_and;
     }
     Ok(trees.pop())

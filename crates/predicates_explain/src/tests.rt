@@ -53,19 +53,19 @@ const ROWS: [(&str, &str, bool); 14] = [
 
 #[test]
 fn rows(rt: HostRuntime) -> Result<(), Fail> {
-    for (input, want, all) in ROWS {
+    for (input, expected, all) in ROWS {
         let mut output = Vec::new(rt.alloc());
         let mut reader = input.as_bytes();
         let answer = run_between(rt.alloc(), 5, 10, &mut reader, &mut output);
         assert_eq!(rt; answer, Ok(all), "at {input:?}");
-        assert_eq!(rt; output.as_slice(), want.as_bytes(), "at {input:?}");
+        assert_eq!(rt; output.as_slice(), expected.as_bytes(), "at {input:?}");
     }
     Ok(())
 }
 
 #[test]
 fn one_byte_at_a_time(rt: HostRuntime) -> Result<(), Fail> {
-    for (input, want, all) in ROWS {
+    for (input, expected, all) in ROWS {
         let mut output = Narrow {
             got: Vec::new(rt.alloc()),
         };
@@ -74,7 +74,7 @@ fn one_byte_at_a_time(rt: HostRuntime) -> Result<(), Fail> {
         };
         let answer = run_between(rt.alloc(), 5, 10, &mut reader, &mut output);
         assert_eq!(rt; answer, Ok(all), "at {input:?}");
-        assert_eq!(rt; output.got.as_slice(), want.as_bytes(), "at {input:?}");
+        assert_eq!(rt; output.got.as_slice(), expected.as_bytes(), "at {input:?}");
     }
     Ok(())
 }
@@ -86,9 +86,9 @@ fn no_text(rt: HostRuntime) -> Result<(), Fail> {
     let mut reader = b"7\n\xff7\n1".as_slice();
     let answer = run_between(rt.alloc(), 1, 1, &mut reader, &mut output);
     assert_eq!(rt; answer, Ok(false));
-    let want =
+    let expected =
         "7: false\n(var >= 1 && var <= 1) = false\n  right: var <= 1 = false\n    - var: 7\nline 2: not a number\n1: true\n(var >= 1 && var <= 1) = true\n  left: var >= 1 = true\n    - var: 1\n  right: var <= 1 = true\n    - var: 1\n";
-    assert_eq!(rt; output.as_slice(), want.as_bytes());
+    assert_eq!(rt; output.as_slice(), expected.as_bytes());
     Ok(())
 }
 
@@ -160,7 +160,7 @@ line 3: true
 
 #[test]
 fn numbers(rt: HostRuntime) {
-    for (line, want) in [
+    for (line, expected) in [
         ("+7", Some(7)),
         ("-9223372036854775808", Some(i64::MIN)),
         ("9223372036854775807", Some(i64::MAX)),
@@ -171,6 +171,6 @@ fn numbers(rt: HostRuntime) {
         (" 1", None),
         ("1_0", None),
     ] {
-        assert_eq!(rt; number(line.as_bytes()), want, "at {line:?}");
+        assert_eq!(rt; number(line.as_bytes()), expected, "at {line:?}");
     }
 }

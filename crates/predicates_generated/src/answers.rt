@@ -62,7 +62,7 @@ impl Answers {
 
     /// The leaves that the case for the verdict keeps of the formula; none where there is no such
     /// case, where there is one for the opposite, or where it is not cut from the formula.
-    pub fn kept(
+    pub fn kept_leaves(
         &self,
         alloc: Global,
         formula: &PlainFormula,
@@ -77,7 +77,7 @@ impl Answers {
     /// Whether the verdict is the formula's truth, with one case alone, which keeps just the leaves
     /// that the plain slow program finds.
     pub fn explain(&self, alloc: Global, formula: &PlainFormula) -> Result<bool, AllocError> {
-        let kept = self.kept(alloc, formula)?;
+        let kept = self.kept_leaves(alloc, formula)?;
         let first = first_reason(alloc, formula)?;
         Ok(match (kept, first) {
             (Some(kept), Some(first)) => {

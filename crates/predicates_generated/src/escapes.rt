@@ -46,7 +46,7 @@ fn step(place: Place, c: char) -> Option<(Place, Option<char>)> {
 }
 
 /// The text that is meant; none where an escape is unknown or has no end.
-pub fn unescaped(alloc: Global, written: &str) -> Result<Option<String>, AllocError> {
+pub fn unescape(alloc: Global, written: &str) -> Result<Option<String>, AllocError> {
     let mut text = String::new(alloc);
     let mut place = Place::Plain;
     for c in written.chars() {

@@ -64,7 +64,7 @@ impl<P: FromWords<W, Item>, W: Word, Item> FromWords<W, Item> for Level<P, Item>
                 None => None,
             },
             Some(Combinator::Named(name)) => match P::from_words(alloc, words)? {
-                Some(part) => Some(Level::named(alloc, part, name)?),
+                Some(part) => Some(Level::name(alloc, part, name)?),
                 None => None,
             },
             Some(Combinator::And) => match two_from_words::<P, W, Item>(alloc, words)? {

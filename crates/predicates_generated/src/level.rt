@@ -44,7 +44,7 @@ impl<P: Predicate<Item> + Drop, Item> Level<P, Item> {
     }
 
     /// The part under a name; takes memory for the node.
-    pub fn named(alloc: Global, part: P, name: StaticText) -> Result<Level<P, Item>, AllocError> {
+    pub fn name(alloc: Global, part: P, name: StaticText) -> Result<Level<P, Item>, AllocError> {
         let named = Box::new(alloc, part.name(name))?;
         Level::of_one(alloc, OneOf::Second(named))
     }
@@ -66,7 +66,7 @@ impl<P: Predicate<Item> + Drop, Item> Level<P, Item> {
     }
 
     fn of_one(alloc: Global, one: One<P, Item>) -> Result<Level<P, Item>, AllocError> {
-        Level::combined(alloc, OneOf::First(one))
+        Level::over(alloc, OneOf::First(one))
     }
 
     fn of_choice(alloc: Global, choice: Choice<P, Item>) -> Result<Level<P, Item>, AllocError> {
@@ -74,10 +74,10 @@ impl<P: Predicate<Item> + Drop, Item> Level<P, Item> {
     }
 
     fn of_both(alloc: Global, both: Both<P, Item>) -> Result<Level<P, Item>, AllocError> {
-        Level::combined(alloc, OneOf::Second(Box::new(alloc, both)?))
+        Level::over(alloc, OneOf::Second(Box::new(alloc, both)?))
     }
 
-    fn combined(alloc: Global, node: Combined<P, Item>) -> Result<Level<P, Item>, AllocError> {
+    fn over(alloc: Global, node: Combined<P, Item>) -> Result<Level<P, Item>, AllocError> {
         Ok(Level {
             node: OneOf::Second(Box::new(alloc, node)?),
         })

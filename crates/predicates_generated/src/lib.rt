@@ -27,7 +27,7 @@ pub use answers::{Answers, ask, verdict};
 pub use at_least::AtLeast;
 pub use choices::greatest_choice;
 pub use counting::Counting;
-pub use escapes::unescaped;
+pub use escapes::unescape;
 pub use from_words::{
     Combinator, FromWords, Word, answer, describe_words, print_words, tell_words,
 };

@@ -38,26 +38,26 @@ impl NumberLeaf {
         }
     }
 
-    fn compared(alloc: Global, leaf: Comparison) -> Result<NumberLeaf, AllocError> {
+    fn comparison(alloc: Global, leaf: Comparison) -> Result<NumberLeaf, AllocError> {
         Ok(NumberLeaf::plain(OneOf::Second(Box::new(alloc, leaf)?)))
     }
 
     fn equality(alloc: Global, leaf: EqPredicate<i64>) -> Result<NumberLeaf, AllocError> {
-        NumberLeaf::compared(alloc, OneOf::First(leaf))
+        NumberLeaf::comparison(alloc, OneOf::First(leaf))
     }
 
     fn order(alloc: Global, leaf: OrdPredicate<i64>) -> Result<NumberLeaf, AllocError> {
-        NumberLeaf::compared(alloc, OneOf::Second(Box::new(alloc, leaf)?))
+        NumberLeaf::comparison(alloc, OneOf::Second(Box::new(alloc, leaf)?))
     }
 
-    fn asked(alloc: Global, leaf: Asked) -> Result<NumberLeaf, AllocError> {
+    fn other_than_plain(alloc: Global, leaf: Asked) -> Result<NumberLeaf, AllocError> {
         Ok(NumberLeaf {
             leaf: OneOf::Second(Box::new(alloc, leaf)?),
         })
     }
 
     fn other(alloc: Global, leaf: Other) -> Result<NumberLeaf, AllocError> {
-        NumberLeaf::asked(alloc, OneOf::Second(Box::new(alloc, leaf)?))
+        NumberLeaf::other_than_plain(alloc, OneOf::Second(Box::new(alloc, leaf)?))
     }
 
     /// The leaf that a word names; none where it names a combinator.
@@ -77,11 +77,11 @@ impl NumberLeaf {
             }
             NumberWord::Listed(list) => {
                 let members = OneOf::First(in_iter(alloc, list)?);
-                NumberLeaf::asked(alloc, OneOf::First(members))?
+                NumberLeaf::other_than_plain(alloc, OneOf::First(members))?
             }
             NumberWord::Sorted(list) => {
                 let members = Box::new(alloc, in_iter(alloc, list)?.sort()?)?;
-                NumberLeaf::asked(alloc, OneOf::First(OneOf::Second(members)))?
+                NumberLeaf::other_than_plain(alloc, OneOf::First(OneOf::Second(members)))?
             }
             NumberWord::Hashed(list) => {
                 NumberLeaf::other(alloc, OneOf::First(in_hash(alloc, list)?))?

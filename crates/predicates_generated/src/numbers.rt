@@ -90,7 +90,7 @@ fn leaf_truth(word: &NumberWord, item: i64) -> Option<bool> {
 
 // The formula of a combinator over the last ones of the stack; none where there are too few, or
 // where the word names no combinator.
-fn combined(
+fn combine(
     alloc: Global,
     word: &NumberWord,
     stack: &mut Vec<PlainFormula>,
@@ -127,7 +127,7 @@ pub fn plain_number(
     for word in words {
         let made = match leaf_truth(word, item) {
             Some(truth) => PlainFormula::Leaf(truth),
-            None => match combined(alloc, word, &mut stack)? {
+            None => match combine(alloc, word, &mut stack)? {
                 Some(made) => made,
                 None => return Ok(None),
             },

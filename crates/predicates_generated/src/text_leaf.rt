@@ -46,19 +46,19 @@ impl TextLeaf {
         }
     }
 
-    fn compared(alloc: Global, leaf: Comparison) -> Result<TextLeaf, AllocError> {
+    fn comparison(alloc: Global, leaf: Comparison) -> Result<TextLeaf, AllocError> {
         Ok(TextLeaf::plain(OneOf::Second(Box::new(alloc, leaf)?)))
     }
 
     fn equality(alloc: Global, leaf: EqPredicate<String>) -> Result<TextLeaf, AllocError> {
-        TextLeaf::compared(alloc, OneOf::First(leaf))
+        TextLeaf::comparison(alloc, OneOf::First(leaf))
     }
 
     fn order(alloc: Global, leaf: OrdPredicate<String>) -> Result<TextLeaf, AllocError> {
-        TextLeaf::compared(alloc, OneOf::Second(Box::new(alloc, leaf)?))
+        TextLeaf::comparison(alloc, OneOf::Second(Box::new(alloc, leaf)?))
     }
 
-    fn asked(alloc: Global, leaf: Asked) -> Result<TextLeaf, AllocError> {
+    fn other_than_plain(alloc: Global, leaf: Asked) -> Result<TextLeaf, AllocError> {
         Ok(TextLeaf {
             leaf: OneOf::Second(Box::new(alloc, leaf)?),
         })
@@ -66,12 +66,12 @@ impl TextLeaf {
 
     fn ending(alloc: Global, leaf: Ending) -> Result<TextLeaf, AllocError> {
         let found = Box::new(alloc, OneOf::First(leaf))?;
-        TextLeaf::asked(alloc, OneOf::Second(found))
+        TextLeaf::other_than_plain(alloc, OneOf::Second(found))
     }
 
     fn part(alloc: Global, leaf: Part) -> Result<TextLeaf, AllocError> {
         let found = Box::new(alloc, OneOf::Second(Box::new(alloc, leaf)?))?;
-        TextLeaf::asked(alloc, OneOf::Second(found))
+        TextLeaf::other_than_plain(alloc, OneOf::Second(found))
     }
 
     /// The leaf that a word names; none where it names an adapter or a combinator.
@@ -79,7 +79,7 @@ impl TextLeaf {
         Ok(Some(match word {
             TextWord::Always => TextLeaf::plain(OneOf::First(always())),
             TextWord::Never => TextLeaf::plain(OneOf::First(never())),
-            TextWord::Empty => TextLeaf::asked(alloc, OneOf::First(is_empty()))?,
+            TextWord::Empty => TextLeaf::other_than_plain(alloc, OneOf::First(is_empty()))?,
             TextWord::Equal(c) => TextLeaf::equality(alloc, eq(c))?,
             TextWord::Unequal(c) => TextLeaf::equality(alloc, ne(c))?,
             TextWord::Less(c) => TextLeaf::order(alloc, lt(c))?,

@@ -23,7 +23,7 @@ pub struct TextLevel<P> {
 
 impl<P> TextLevel<P> {
     /// A predicate of the level below, or a combinator over such.
-    pub fn combined(level: Level<P, String>) -> TextLevel<P> {
+    pub fn of_level(level: Level<P, String>) -> TextLevel<P> {
         TextLevel {
             node: OneOf::First(level),
         }
@@ -33,16 +33,16 @@ impl<P> TextLevel<P> {
 impl<P: Predicate<String> + Drop> TextLevel<P> {
     /// The part of the text without white space at its ends; takes memory for the node.
     pub fn trim(alloc: Global, part: P) -> Result<TextLevel<P>, AllocError> {
-        TextLevel::handed(alloc, OneOf::First(part.trim()))
+        TextLevel::over(alloc, OneOf::First(part.trim()))
     }
 
     /// The part of the text with even line ends; takes memory for the node.
     pub fn normalize(alloc: Global, part: P) -> Result<TextLevel<P>, AllocError> {
         let normalized = Box::new(alloc, part.normalize())?;
-        TextLevel::handed(alloc, OneOf::Second(normalized))
+        TextLevel::over(alloc, OneOf::Second(normalized))
     }
 
-    fn handed(alloc: Global, node: Handed<P>) -> Result<TextLevel<P>, AllocError> {
+    fn over(alloc: Global, node: Handed<P>) -> Result<TextLevel<P>, AllocError> {
         Ok(TextLevel {
             node: OneOf::Second(Box::new(alloc, node)?),
         })

@@ -113,7 +113,7 @@ fn seen_by_parts(
 }
 
 // The formula of the word over those of its parts; none where they are not as many.
-fn combined(
+fn combine(
     alloc: Global,
     word: &TextWord,
     item: &PlainItem,
@@ -176,7 +176,7 @@ fn plain_from_words(
     }
     // The right one of two parts is read before the left one.
     let first = parts.pop();
-    combined(alloc, &word, item, first, parts.pop())
+    combine(alloc, &word, item, first, parts.pop())
 }
 
 fn plain_item(

@@ -1,5 +1,5 @@
 //! Predicates over texts and bytes as postfix words: operands first, the left one of two first.
-use crate::escapes::unescaped;
+use crate::escapes::unescape;
 use crate::from_words::{Combinator, Word};
 use crate::words::read_name;
 use predicates_core::static_text::StaticText;
@@ -91,7 +91,7 @@ fn read_text_word(alloc: Global, word: &str) -> Result<Option<TextWord>, AllocEr
     if name == "name" {
         return Ok(read_name(alloc, value)?.map(TextWord::Named));
     }
-    Ok(match unescaped(alloc, value)? {
+    Ok(match unescape(alloc, value)? {
         Some(text) => word_with_text(name, text),
         None => None,
     })

@@ -73,7 +73,7 @@ impl<P: FromWords<TextWord, String>> FromWords<TextWord, String> for TextLevel<P
                 None => None,
             },
             None => match Level::<P, String>::from_words(alloc, words)? {
-                Some(level) => Some(TextLevel::combined(level)),
+                Some(level) => Some(TextLevel::of_level(level)),
                 None => None,
             },
         })

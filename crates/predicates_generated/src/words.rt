@@ -1,5 +1,5 @@
 //! Predicates over numbers as postfix words: operands first, the left one of two first.
-use crate::escapes::unescaped;
+use crate::escapes::unescape;
 use predicates_core::static_text::StaticText;
 use std::alloc::{AllocError, Global};
 
@@ -83,7 +83,7 @@ const NAMES: [&str; 12] = [
 
 /// The name that is written; none where it is not given.
 pub fn read_name(alloc: Global, written: &str) -> Result<Option<StaticText>, AllocError> {
-    let Some(read) = unescaped(alloc, written)? else {
+    let Some(read) = unescape(alloc, written)? else {
         return Ok(None);
     };
     for name in NAMES {

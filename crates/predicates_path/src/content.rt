@@ -86,7 +86,7 @@ impl<P: Predicate<Vec<u8>>> Predicate<Snapshot> for FileContentPredicate<P> {
 
     #[tactic(auto, using(crate::proofs::ContentCases::content_cases))]
     fn eval(&self, alloc: Global, item: &Snapshot) -> Result<bool, AllocError> {
-        match item.held() {
+        match item.content_or_fault() {
             Ok(bytes) => self.inner.eval(alloc, bytes),
             Err(_) => Ok(false),
         }
@@ -99,7 +99,7 @@ impl<P: Predicate<Vec<u8>>> Predicate<Snapshot> for FileContentPredicate<P> {
         expected: bool,
         item: &Snapshot,
     ) -> Result<Option<Case>, AllocError> {
-        match item.held() {
+        match item.content_or_fault() {
             Ok(bytes) => {
                 let Some(case) = self.inner.find_case(alloc, expected, bytes)? else {
                     return Ok(None);

@@ -125,7 +125,7 @@ impl FileTypePredicate {
     }
 
     // The kind that the test looks at.
-    fn found(&self, item: &Snapshot) -> Result<FileType, PathFault>
+    fn kind_at(&self, item: &Snapshot) -> Result<FileType, PathFault>
         ensures { result ≡ found_kind self.now item.now }
     {
         if self.follow {
@@ -172,7 +172,7 @@ impl Predicate<Snapshot> for FileTypePredicate {
 
     #[tactic(auto, using(predicates_core::proofs::Leaves::leaves))]
     fn eval(&self, _alloc: Global, item: &Snapshot) -> Result<bool, AllocError> {
-        match self.found(item) {
+        match self.kind_at(item) {
             Ok(found) => Ok(is_same(found, self.kind)),
             Err(_) => Ok(false),
         }
@@ -188,7 +188,7 @@ impl Predicate<Snapshot> for FileTypePredicate {
             return Ok(None);
         }
         let case = alone(alloc, printed(alloc, self)?, expected);
-        Ok(Some(show_found(alloc, case, self.found(item))?))
+        Ok(Some(show_found(alloc, case, self.kind_at(item))?))
     }
 }
 

@@ -136,7 +136,7 @@ impl Snapshot {
     }
 
     // The content as it is held.
-    pub(crate) fn held(&self) -> &Result<Vec<u8>, PathFault>
+    pub(crate) fn content_or_fault(&self) -> &Result<Vec<u8>, PathFault>
         ensures { result.now ≡ held_of self.now }
     {
         &self.content

@@ -12,25 +12,31 @@ pub fn compare_answers(
     wrong: &mut Vec<Difference>,
     answers: &Answers,
     formula: &PlainFormula,
-    wanted: [&str; 4],
+    expected: [&str; 4],
 ) -> Result<()> {
-    let [verdict, kept, case_true, case_false] = wanted;
-    let came = answers.verdict.to_string(alloc)?;
-    compare(alloc, wrong, "verdict", verdict, came.as_str())?;
-    let came = formula.truth().to_string(alloc)?;
-    compare(alloc, wrong, "truth of the formula", verdict, came.as_str())?;
-    let came = match answers.kept(alloc, formula)? {
+    let [verdict, kept, case_true, case_false] = expected;
+    let found = answers.verdict.to_string(alloc)?;
+    compare(alloc, wrong, "verdict", verdict, found.as_str())?;
+    let found = formula.truth().to_string(alloc)?;
+    compare(
+        alloc,
+        wrong,
+        "truth of the formula",
+        verdict,
+        found.as_str(),
+    )?;
+    let found = match answers.kept_leaves(alloc, formula)? {
         Some(leaves) => shown_numbers(alloc, leaves.as_slice())?,
         None => String::from_str(alloc, "no case that is cut from the formula")?,
     };
-    compare(alloc, wrong, "kept", kept, came.as_str())?;
-    let came = shown_case(alloc, &answers.case_true)?;
-    compare(alloc, wrong, "case_true", case_true, came.as_str())?;
-    let came = shown_case(alloc, &answers.case_false)?;
-    compare(alloc, wrong, "case_false", case_false, came.as_str())?;
+    compare(alloc, wrong, "kept", kept, found.as_str())?;
+    let found = shown_case(alloc, &answers.case_true)?;
+    compare(alloc, wrong, "case_true", case_true, found.as_str())?;
+    let found = shown_case(alloc, &answers.case_false)?;
+    compare(alloc, wrong, "case_false", case_false, found.as_str())?;
     if let Some(first) = first_reason(alloc, formula)? {
-        let came = shown_numbers(alloc, first.as_slice())?;
-        compare(alloc, wrong, "first reason", kept, came.as_str())?;
+        let found = shown_numbers(alloc, first.as_slice())?;
+        compare(alloc, wrong, "first reason", kept, found.as_str())?;
     }
     Ok(())
 }

@@ -1,6 +1,6 @@
 //! The cells of a table's row, and what is written in them.
 use anyhow::Context;
-use predicates_generated::unescaped;
+use predicates_generated::unescape;
 use std::alloc::{AllocError, Global};
 
 /// The cells of a row.
@@ -14,7 +14,7 @@ pub fn cells(alloc: Global, row: &str) -> Result<Vec<&str>, AllocError> {
 
 /// The text that a cell is written for.
 pub fn text(alloc: Global, cell: &str) -> anyhow::Result<String> {
-    unescaped(alloc, cell)?.context("an escape that is unknown or has no end")
+    unescape(alloc, cell)?.context("an escape that is unknown or has no end")
 }
 
 /// The bytes that a cell of hexadecimal digits is written for, which is a point where there are

@@ -14,15 +14,15 @@ pub struct NumberLines;
 impl Table for NumberLines {
     fn replay(&self, alloc: Global, row: &str, wrong: &mut Vec<Difference>) -> Result<()> {
         let cells = cells(alloc, row)?;
-        let [line, wanted] = cells.as_slice() else {
+        let [line, expected] = cells.as_slice() else {
             bail!("not two cells");
         };
         let line = text(alloc, line)?;
-        let came = match number(line.as_bytes()) {
+        let found = match number(line.as_bytes()) {
             Some(n) => n.to_string(alloc)?,
             None => String::from_str(alloc, "none")?,
         };
-        compare(alloc, wrong, "number", wanted, came.as_str())
+        compare(alloc, wrong, "number", expected, found.as_str())
     }
 }
 
@@ -53,11 +53,11 @@ impl Table for BetweenRuns {
 fn compare_run(
     alloc: Global,
     wrong: &mut Vec<Difference>,
-    wanted: [&str; 2],
+    expected: [&str; 2],
     all: bool,
     written: Vec<u8>,
 ) -> Result<()> {
-    let [status, output] = wanted;
+    let [status, output] = expected;
     compare(alloc, wrong, "status", status, if all { "0" } else { "1" })?;
     let written = String::from_utf8(written)
         .ok()

@@ -40,7 +40,7 @@ fn read_members(alloc: Global, cell: &str) -> Result<Vec<i64>> {
 const LONGEST: u32 = 10_000;
 
 // The debug form of a list whose members stand in order, each once.
-fn written(alloc: Global, members: &[i64], brackets: [char; 2]) -> Result<String> {
+fn text_of_members(alloc: Global, members: &[i64], brackets: [char; 2]) -> Result<String> {
     let mut text = String::new(alloc);
     text.push(brackets[0])?;
     for (place, member) in members.iter().enumerate() {
@@ -58,21 +58,21 @@ const OF_SET: [char; 2] = ['{', '}'];
 
 // What a row tells of one of the three memberships.
 #[derive(Clone, Copy)]
-struct Wanted<'a> {
+struct Expected<'a> {
     column: &'static str,
     verdict: &'a str,
     values: &'a str,
     brackets: [char; 2],
 }
 
-impl<'a> Wanted<'a> {
+impl<'a> Expected<'a> {
     fn new(
         column: &'static str,
         verdict: &'a str,
         values: &'a str,
         brackets: [char; 2],
-    ) -> Wanted<'a> {
-        Wanted {
+    ) -> Expected<'a> {
+        Expected {
             column,
             verdict,
             values,
@@ -88,20 +88,20 @@ fn compare_membership(
     wrong: &mut Vec<Difference>,
     answers: &Answers,
     members: &[i64],
-    wanted: Wanted<'_>,
+    expected: Expected<'_>,
 ) -> Result<()> {
-    let column = wanted.column;
-    let came = answers.verdict.to_string(alloc)?;
-    compare(alloc, wrong, column, wanted.verdict, came.as_str())?;
+    let column = expected.column;
+    let found = answers.verdict.to_string(alloc)?;
+    compare(alloc, wrong, column, expected.verdict, found.as_str())?;
     let [parameter] = answers.parameters.as_slice() else {
         bail!("not one parameter");
     };
     compare(alloc, wrong, column, "values", parameter.name())?;
-    if wanted.values == "long" {
-        let written = written(alloc, members, wanted.brackets)?;
+    if expected.values == "long" {
+        let written = text_of_members(alloc, members, expected.brackets)?;
         return compare(alloc, wrong, column, written.as_str(), parameter.value());
     }
-    compare(alloc, wrong, column, wanted.values, parameter.value())
+    compare(alloc, wrong, column, expected.values, parameter.value())
 }
 
 // Compares the case for the verdict, and that there is none for its opposite.
@@ -112,10 +112,10 @@ fn compare_case(
     case: &str,
 ) -> Result<()> {
     let (of_verdict, opposite) = answers.cases();
-    let came = shown_case(alloc, of_verdict)?;
-    compare(alloc, wrong, "case_in_iter", case, came.as_str())?;
-    let came = shown_case(alloc, opposite)?;
-    compare(alloc, wrong, "the other case", "none", came.as_str())
+    let found = shown_case(alloc, of_verdict)?;
+    compare(alloc, wrong, "case_in_iter", case, found.as_str())?;
+    let found = shown_case(alloc, opposite)?;
+    compare(alloc, wrong, "the other case", "none", found.as_str())
 }
 
 // Compares what the search answers, and that it makes no more comparisons than the row allows.
@@ -129,12 +129,12 @@ fn compare_search(
 ) -> Result<()> {
     let most_count = most.parse::<usize>().context("no number")?;
     let mut steps = Steps::new();
-    let came = sorted.search_counted(&item, &mut steps).to_string(alloc)?;
-    compare(alloc, wrong, "searched", verdict, came.as_str())?;
+    let found = sorted.search_counted(&item, &mut steps).to_string(alloc)?;
+    compare(alloc, wrong, "searched", verdict, found.as_str())?;
     let count = steps.count();
     if count > most_count {
-        let came = count.to_string(alloc)?;
-        compare(alloc, wrong, "most_comparisons", most, came.as_str())?;
+        let found = count.to_string(alloc)?;
+        compare(alloc, wrong, "most_comparisons", most, found.as_str())?;
     }
     Ok(())
 }
@@ -161,16 +161,16 @@ impl Table for MembershipTable {
         let members = read_members(alloc, members)?;
         let all = in_iter(alloc, members.clone()?)?;
         let answers = ask(alloc, &all, &item)?;
-        let wanted = Wanted::new("in_iter", listed, listed_values, OF_LIST);
-        compare_membership(alloc, wrong, &answers, members.as_slice(), wanted)?;
+        let expected = Expected::new("in_iter", listed, listed_values, OF_LIST);
+        compare_membership(alloc, wrong, &answers, members.as_slice(), expected)?;
         compare_case(alloc, wrong, &answers, case)?;
         let all = all.sort()?;
         let answers = ask(alloc, &all, &item)?;
-        let wanted = Wanted::new("sorted", sorted, sorted_values, OF_LIST);
-        compare_membership(alloc, wrong, &answers, members.as_slice(), wanted)?;
+        let expected = Expected::new("sorted", sorted, sorted_values, OF_LIST);
+        compare_membership(alloc, wrong, &answers, members.as_slice(), expected)?;
         compare_search(alloc, wrong, &all, item, sorted, most)?;
         let answers = ask(alloc, &in_hash(alloc, members.clone()?)?, &item)?;
-        let wanted = Wanted::new("in_hash", hashed, hashed_values, OF_SET);
-        compare_membership(alloc, wrong, &answers, members.as_slice(), wanted)
+        let expected = Expected::new("in_hash", hashed, hashed_values, OF_SET);
+        compare_membership(alloc, wrong, &answers, members.as_slice(), expected)
     }
 }

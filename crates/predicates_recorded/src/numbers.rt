@@ -20,7 +20,7 @@ impl Table for NumberTable {
         let item = item.parse::<i64>().context("no number")?;
         let formula = plain_number(alloc, words.as_slice(), item)?.context("no formula")?;
         let answers = answer_number(alloc, words, item)?.context("no predicate, or too deep")?;
-        let wanted = [*verdict, *kept, *case_true, *case_false];
-        compare_answers(alloc, wrong, &answers, &formula, wanted)
+        let expected = [*verdict, *kept, *case_true, *case_false];
+        compare_answers(alloc, wrong, &answers, &formula, expected)
     }
 }

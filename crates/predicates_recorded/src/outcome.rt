@@ -3,40 +3,40 @@ use crate::cells::text;
 use anyhow::Result;
 use std::alloc::Global;
 
-/// A cell of a row that differs from what came.
+/// A cell of a row that differs from what was found.
 #[derive(Drop)]
 pub struct Difference {
     pub column: &'static str,
-    pub wanted: String,
-    pub came: String,
+    pub expected: String,
+    pub found: String,
 }
 
-/// Adds a difference where the text that is wanted is not the one that came.
+/// Adds a difference where the text that is expected is not the one that was found.
 pub fn compare_text(
     alloc: Global,
     wrong: &mut Vec<Difference>,
     column: &'static str,
-    wanted: &str,
-    came: &str,
+    expected: &str,
+    found: &str,
 ) -> Result<()> {
-    if wanted != came {
+    if expected != found {
         wrong.push(Difference {
             column,
-            wanted: String::from_str(alloc, wanted)?,
-            came: String::from_str(alloc, came)?,
+            expected: String::from_str(alloc, expected)?,
+            found: String::from_str(alloc, found)?,
         })?;
     }
     Ok(())
 }
 
-/// Adds a difference where the text that the cell is written for is not the one that came.
+/// Adds a difference where the text that the cell is written for is not the one that was found.
 pub fn compare(
     alloc: Global,
     wrong: &mut Vec<Difference>,
     column: &'static str,
     cell: &str,
-    came: &str,
+    found: &str,
 ) -> Result<()> {
-    let wanted = text(alloc, cell)?;
-    compare_text(alloc, wrong, column, wanted.as_str(), came)
+    let expected = text(alloc, cell)?;
+    compare_text(alloc, wrong, column, expected.as_str(), found)
 }

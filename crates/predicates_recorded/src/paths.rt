@@ -135,8 +135,8 @@ fn stated_error(given: &str) -> Option<&'static str> {
     })
 }
 
-// The lines of the products that are wanted where the original gave these: each error has the text
-// that is stated for it, and a device's kind is told as it is.
+// The lines of the products that are expected where the original gave these: each error has the
+// text that is stated for it, and a device's kind is told as it is.
 fn stated_products(alloc: Global, given: &str, is_kind_of_device: bool) -> Result<String> {
     if is_kind_of_device {
         return Ok(String::from_str(alloc, "actual filetype: other\n")?);
@@ -170,16 +170,16 @@ impl Table for PathTable {
         };
         let item = snapshot(alloc, what)?.context("an unknown thing at the path")?;
         let answers = answer(alloc, predicate, &item)?.context("an unknown predicate")?;
-        let came = answers.verdict.to_string(alloc)?;
-        compare_text(alloc, wrong, "verdict", verdict, came.as_str())?;
+        let found = answers.verdict.to_string(alloc)?;
+        compare_text(alloc, wrong, "verdict", verdict, found.as_str())?;
         compare_text(alloc, wrong, "text", printed, answers.text.as_str())?;
         let (of_verdict, opposite) = answers.cases();
         let is_kind_of_device = *what == DEVICE && predicate.starts_with("is_");
         let given = text(alloc, products)?;
-        let wanted = stated_products(alloc, given.as_str(), is_kind_of_device)?;
-        let came = root_products(alloc, of_verdict)?;
-        compare_text(alloc, wrong, "products", wanted.as_str(), came.as_str())?;
-        let came = if opposite.is_some() { "some" } else { "none" };
-        compare_text(alloc, wrong, "case for the opposite", "none", came)
+        let expected = stated_products(alloc, given.as_str(), is_kind_of_device)?;
+        let found = root_products(alloc, of_verdict)?;
+        compare_text(alloc, wrong, "products", expected.as_str(), found.as_str())?;
+        let found = if opposite.is_some() { "some" } else { "none" };
+        compare_text(alloc, wrong, "case for the opposite", "none", found)
     }
 }

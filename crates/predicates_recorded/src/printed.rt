@@ -37,7 +37,7 @@ impl Table for PrintedTable {
         let answers = answer(alloc, predicate)?.context("no predicate, or too deep")?;
         compare(alloc, wrong, "text", printed, answers.text.as_str())?;
         let parameters = answers.parameters.as_slice();
-        let came = shown_description(alloc, parameters, answers.children.as_slice())?;
-        compare(alloc, wrong, "description", description, came.as_str())
+        let found = shown_description(alloc, parameters, answers.children.as_slice())?;
+        compare(alloc, wrong, "description", description, found.as_str())
     }
 }

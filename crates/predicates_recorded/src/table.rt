@@ -11,7 +11,8 @@ pub trait Table {
 }
 
 /// Whether a table has rows and each of them is right. It prints how many there are and how many
-/// are wrong; before that, for each cell that is wrong, its line, what was wanted and what came.
+/// are wrong; before that, for each cell that is wrong, its line, what was expected and what was
+/// found.
 pub fn replay<T: Table>(rt: &HostRuntime, name: &str, table: &T) -> Result<bool> {
     let alloc = rt.alloc();
     let path = format!(in alloc; "{name}.tsv")?;
@@ -31,9 +32,9 @@ pub fn replay<T: Table>(rt: &HostRuntime, name: &str, table: &T) -> Result<bool>
         }
         for difference in &wrong {
             let column = difference.column;
-            let wanted = difference.wanted.as_str();
-            let came = difference.came.as_str();
-            println!(rt; "{path}, line {line}, {column}: wanted {wanted:?}, came {came:?}")?;
+            let expected = difference.expected.as_str();
+            let found = difference.found.as_str();
+            println!(rt; "{path}, line {line}, {column}: expected {expected:?}, found {found:?}")?;
         }
     }
     println!(rt; "{name}: {rows} rows, {wrong_rows} wrong")?;

@@ -21,8 +21,8 @@ impl Table for TextTable {
         let answers = answer_text(alloc, words, &item)?.context("no predicate, or too deep")?;
         let words = read_text_words(alloc, predicate)?.context("an unknown word")?;
         let formula = plain_text(alloc, words, item.as_str())?.context("no formula")?;
-        let wanted = [*verdict, *kept, *case_true, *case_false];
-        compare_answers(alloc, wrong, &answers, &formula, wanted)
+        let expected = [*verdict, *kept, *case_true, *case_false];
+        compare_answers(alloc, wrong, &answers, &formula, expected)
     }
 }
 
@@ -40,7 +40,7 @@ impl Table for BytesTable {
         let answers = answer_bytes(alloc, words, &item)?.context("no predicate, or too deep")?;
         let words = read_text_words(alloc, predicate)?.context("an unknown word")?;
         let formula = plain_bytes(alloc, words, item.as_slice())?.context("no formula")?;
-        let wanted = [*verdict, *kept, *case_true, *case_false];
-        compare_answers(alloc, wrong, &answers, &formula, wanted)
+        let expected = [*verdict, *kept, *case_true, *case_false];
+        compare_answers(alloc, wrong, &answers, &formula, expected)
     }
 }

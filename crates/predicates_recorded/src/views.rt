@@ -19,7 +19,7 @@ fn text_of_digits(alloc: Global, cell: &str) -> Result<String> {
 }
 
 // Whether the predicate holds of the text, as it is written.
-fn answered<P: Predicate<String> + Drop>(
+fn answer<P: Predicate<String> + Drop>(
     alloc: Global,
     predicate: P,
     item: &String,
@@ -47,35 +47,35 @@ const SHORT: usize = 7;
 impl Table for TextPairs {
     fn replay(&self, alloc: Global, row: &str, wrong: &mut Vec<Difference>) -> Result<()> {
         let cells = cells(alloc, row)?;
-        let [pattern, item, starts, ends, contained, wanted_count] = cells.as_slice() else {
+        let [pattern, item, starts, ends, contained, expected_count] = cells.as_slice() else {
             bail!("not six cells");
         };
         let pattern = text(alloc, pattern)?;
         let item = text(alloc, item)?;
-        let came = answered(alloc, starts_with(pattern.clone()?), &item)?;
-        compare(alloc, wrong, "starts", starts, came.as_str())?;
-        let came = answered(alloc, ends_with(pattern.clone()?), &item)?;
-        compare(alloc, wrong, "ends", ends, came.as_str())?;
-        let came = answered(alloc, contains(pattern.clone()?), &item)?;
-        compare(alloc, wrong, "contains", contained, came.as_str())?;
-        let came = count(item.as_str(), pattern.as_str()).to_string(alloc)?;
-        compare(alloc, wrong, "count", wanted_count, came.as_str())?;
-        let number = wanted_count.parse::<usize>().context("no number")?;
-        let came = answered(alloc, contains(pattern.clone()?).count(number), &item)?;
-        compare(alloc, wrong, "counted", "true", came.as_str())?;
+        let found = answer(alloc, starts_with(pattern.clone()?), &item)?;
+        compare(alloc, wrong, "starts", starts, found.as_str())?;
+        let found = answer(alloc, ends_with(pattern.clone()?), &item)?;
+        compare(alloc, wrong, "ends", ends, found.as_str())?;
+        let found = answer(alloc, contains(pattern.clone()?), &item)?;
+        compare(alloc, wrong, "contains", contained, found.as_str())?;
+        let found = count(item.as_str(), pattern.as_str()).to_string(alloc)?;
+        compare(alloc, wrong, "count", expected_count, found.as_str())?;
+        let number = expected_count.parse::<usize>().context("no number")?;
+        let found = answer(alloc, contains(pattern.clone()?).count(number), &item)?;
+        compare(alloc, wrong, "counted", "true", found.as_str())?;
         let other = number.saturating_add(1);
-        let came = answered(alloc, contains(pattern.clone()?).count(other), &item)?;
-        compare(alloc, wrong, "counted as one more", "false", came.as_str())?;
+        let found = answer(alloc, contains(pattern.clone()?).count(other), &item)?;
+        compare(alloc, wrong, "counted as one more", "false", found.as_str())?;
         let item = characters(alloc, item.as_str())?;
         if item.len() <= SHORT {
             let pattern = characters(alloc, pattern.as_str())?;
-            let came = greatest_choice(pattern.as_slice(), item.as_slice()).to_string(alloc)?;
+            let found = greatest_choice(pattern.as_slice(), item.as_slice()).to_string(alloc)?;
             compare(
                 alloc,
                 wrong,
                 "greatest choice of places",
-                wanted_count,
-                came.as_str(),
+                expected_count,
+                found.as_str(),
             )?;
         }
         Ok(())
@@ -88,21 +88,21 @@ pub struct TrimmedTexts;
 impl Table for TrimmedTexts {
     fn replay(&self, alloc: Global, row: &str, wrong: &mut Vec<Difference>) -> Result<()> {
         let cells = cells(alloc, row)?;
-        let [item, wanted] = cells.as_slice() else {
+        let [item, expected] = cells.as_slice() else {
             bail!("not two cells");
         };
         let item = text_of_digits(alloc, item)?;
-        let came = trimmed(alloc, item.as_str())?;
+        let found = trimmed(alloc, item.as_str())?;
         compare(
             alloc,
             wrong,
             "trimmed_hex",
-            wanted,
-            digits(alloc, came.as_str())?.as_str(),
+            expected,
+            digits(alloc, found.as_str())?.as_str(),
         )?;
-        let predicate = eq(text_of_digits(alloc, wanted)?).trim();
-        let came = answered(alloc, predicate, &item)?;
-        compare(alloc, wrong, "equal behind trim", "true", came.as_str())
+        let predicate = eq(text_of_digits(alloc, expected)?).trim();
+        let found = answer(alloc, predicate, &item)?;
+        compare(alloc, wrong, "equal behind trim", "true", found.as_str())
     }
 }
 
@@ -112,26 +112,26 @@ pub struct EvenTexts;
 impl Table for EvenTexts {
     fn replay(&self, alloc: Global, row: &str, wrong: &mut Vec<Difference>) -> Result<()> {
         let cells = cells(alloc, row)?;
-        let [item, wanted] = cells.as_slice() else {
+        let [item, expected] = cells.as_slice() else {
             bail!("not two cells");
         };
         let item = text_of_digits(alloc, item)?;
-        let came = lines_even(alloc, item.as_str())?;
+        let found = lines_even(alloc, item.as_str())?;
         compare(
             alloc,
             wrong,
             "even_hex",
-            wanted,
-            digits(alloc, came.as_str())?.as_str(),
+            expected,
+            digits(alloc, found.as_str())?.as_str(),
         )?;
-        let predicate = eq(text_of_digits(alloc, wanted)?).normalize();
-        let came = answered(alloc, predicate, &item)?;
+        let predicate = eq(text_of_digits(alloc, expected)?).normalize();
+        let found = answer(alloc, predicate, &item)?;
         compare(
             alloc,
             wrong,
             "equal behind normalize",
             "true",
-            came.as_str(),
+            found.as_str(),
         )
     }
 }
@@ -142,17 +142,17 @@ pub struct ValidBytes;
 impl Table for ValidBytes {
     fn replay(&self, alloc: Global, row: &str, wrong: &mut Vec<Difference>) -> Result<()> {
         let cells = cells(alloc, row)?;
-        let [item, wanted] = cells.as_slice() else {
+        let [item, expected] = cells.as_slice() else {
             bail!("not two cells");
         };
         let item = bytes(alloc, item)?;
-        let came = always::<String>().from_utf8().eval(alloc, &item)?;
+        let found = always::<String>().from_utf8().eval(alloc, &item)?;
         compare(
             alloc,
             wrong,
             "valid",
-            wanted,
-            came.to_string(alloc)?.as_str(),
+            expected,
+            found.to_string(alloc)?.as_str(),
         )
     }
 }
@@ -163,15 +163,15 @@ pub struct DebugForms;
 impl Table for DebugForms {
     fn replay(&self, alloc: Global, row: &str, wrong: &mut Vec<Difference>) -> Result<()> {
         let cells = cells(alloc, row)?;
-        let [item, wanted] = cells.as_slice() else {
+        let [item, expected] = cells.as_slice() else {
             bail!("not two cells");
         };
         let printed = eq(text_of_digits(alloc, item)?).to_string(alloc)?;
-        let came = printed
+        let found = printed
             .as_str()
             .strip_prefix("var == ")
             .context("another comparison")?;
-        compare(alloc, wrong, "debug", wanted, came)
+        compare(alloc, wrong, "debug", expected, found)
     }
 }
 

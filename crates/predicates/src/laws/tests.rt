@@ -10,7 +10,7 @@ use std::process::Abort;
 use std::test::Fail;
 
 // The lines of the verdict's case.
-fn explained<P: Predicate<i64>>(
+fn explain<P: Predicate<i64>>(
     alloc: Global,
     predicate: &P,
     item: &i64,
@@ -29,7 +29,7 @@ fn negations_and_names(rt: HostRuntime) -> Result<(), Fail> {
     let alloc = rt.alloc();
     laws::double_negation(&lt(3), &9);
     assert_eq!(rt;
-        explained(alloc, &lt(3).not().not(), &9)?.as_str(),
+        explain(alloc, &lt(3).not().not(), &9)?.as_str(),
         "(! (! var < 3)) = false\n  \
            predicate: (! var < 3) = true\n    \
              predicate: var < 3 = false\n      \
@@ -37,7 +37,7 @@ fn negations_and_names(rt: HostRuntime) -> Result<(), Fail> {
     );
     laws::named(&lt(3), &9, "small");
     assert_eq!(rt;
-        explained(alloc, &lt(3).name("small"), &9)?.as_str(),
+        explain(alloc, &lt(3).name("small"), &9)?.as_str(),
         "small = false\n  small: var < 3 = false\n    - var: 9\n"
     );
     Ok(())
@@ -48,14 +48,14 @@ fn negations_of_both(rt: HostRuntime) -> Result<(), Fail> {
     let alloc = rt.alloc();
     laws::de_morgan(&lt(3), &lt(5), &9);
     assert_eq!(rt;
-        explained(alloc, &lt(3).and(lt(5)).not(), &9)?.as_str(),
+        explain(alloc, &lt(3).and(lt(5)).not(), &9)?.as_str(),
         "(! (var < 3 && var < 5)) = true\n  \
            predicate: (var < 3 && var < 5) = false\n    \
              left: var < 3 = false\n      \
                - var: 9\n"
     );
     assert_eq!(rt;
-        explained(alloc, &lt(3).not().or(lt(5).not()), &9)?.as_str(),
+        explain(alloc, &lt(3).not().or(lt(5).not()), &9)?.as_str(),
         "((! var < 3) || (! var < 5)) = true\n  \
            left: (! var < 3) = true\n    \
              predicate: var < 3 = false\n      \
@@ -69,7 +69,7 @@ fn negations_of_just_one(rt: HostRuntime) -> Result<(), Fail> {
     let alloc = rt.alloc();
     laws::exclusive_or(&lt(3), &lt(5), &4);
     assert_eq!(rt;
-        explained(alloc, &lt(3).xor(lt(5)).not(), &4)?.as_str(),
+        explain(alloc, &lt(3).xor(lt(5)).not(), &4)?.as_str(),
         "(! (var < 3 ^ var < 5)) = false\n  \
            predicate: (var < 3 ^ var < 5) = true\n    \
              left: var < 3 = false\n      \
@@ -78,7 +78,7 @@ fn negations_of_just_one(rt: HostRuntime) -> Result<(), Fail> {
                - var: 4\n"
     );
     assert_eq!(rt;
-        explained(alloc, &lt(3).not().xor(lt(5)), &4)?.as_str(),
+        explain(alloc, &lt(3).not().xor(lt(5)), &4)?.as_str(),
         "((! var < 3) ^ var < 5) = false\n  \
            left: (! var < 3) = true\n    \
              predicate: var < 3 = false\n      \

@@ -17,7 +17,7 @@ const LONG: &str = "\
 0123456789 0123456789 0123456789 0123456789 0123456789 0123456789 012345678";
 
 // The case of the verdict, as any user of any predicate asks for it.
-fn explained<P: Predicate<Item>, Item>(
+fn explain<P: Predicate<Item>, Item>(
     alloc: Global,
     predicate: &P,
     item: &Item,
@@ -32,14 +32,14 @@ fn explained<P: Predicate<Item>, Item>(
 }
 
 // The lines of the case of the verdict.
-fn written<P: Predicate<Item>, Item>(
+fn case_text<P: Predicate<Item>, Item>(
     alloc: Global,
     predicate: &P,
     item: &Item,
 ) -> Result<String, AllocError>
     requires { P.lawful predicate.now }
 {
-    render(alloc, &explained(alloc, predicate, item)?)
+    render(alloc, &explain(alloc, predicate, item)?)
 }
 
 #[test]
@@ -52,9 +52,9 @@ fn names_under_combinators(rt: HostRuntime) -> Result<(), Fail> {
     assert_eq!(rt; neither.children(alloc)?.len(), 1);
     assert_eq!(rt; neither.parameters(alloc)?.len(), 0);
     assert_eq!(rt; neither.to_string(alloc)?.as_str(), "(! (x || y))");
-    assert!(rt; !explained(alloc, &neither, &1)?.root().result());
+    assert!(rt; !explain(alloc, &neither, &1)?.root().result());
     assert_eq!(rt;
-        written(alloc, &neither, &1)?.as_str(),
+        case_text(alloc, &neither, &1)?.as_str(),
         "\
 (! (x || y)) = false
   predicate: (x || y) = true
@@ -81,9 +81,9 @@ fn names_beside_a_function(rt: HostRuntime) -> Result<(), Fail> {
     assert_eq!(rt; both.children(alloc)?.len(), 2);
     assert_eq!(rt; both.parameters(alloc)?.len(), 0);
     assert_eq!(rt; both.to_string(alloc)?.as_str(), "(z && g(var))");
-    assert!(rt; explained(alloc, &both, &9)?.root().result());
+    assert!(rt; explain(alloc, &both, &9)?.root().result());
     assert_eq!(rt;
-        written(alloc, &both, &1)?.as_str(),
+        case_text(alloc, &both, &1)?.as_str(),
         "\
 (z && g(var)) = false
   left: z = false
@@ -112,9 +112,9 @@ fn functions_under_combinators(rt: HostRuntime) -> Result<(), Fail> {
         either.to_string(alloc)?.as_str(),
         "((fn(var) && fn(var)) || fn(var))"
     );
-    assert!(rt; explained(alloc, &either, &7)?.root().result());
+    assert!(rt; explain(alloc, &either, &7)?.root().result());
     assert_eq!(rt;
-        written(alloc, &either, &7)?.as_str(),
+        case_text(alloc, &either, &7)?.as_str(),
         "\
 ((fn(var) && fn(var)) || fn(var)) = true
   left: (fn(var) && fn(var)) = true
@@ -146,12 +146,12 @@ fn names_of_no_bytes_and_of_300(rt: HostRuntime) -> Result<(), Fail> {
             let lines = format!(in alloc;
                 "{name} = {verdict}\n  {name}: var < 3 = {verdict}\n    - var: {item}\n"
             )?;
-            assert_eq!(rt; written(alloc, &named, &item)?, lines);
+            assert_eq!(rt; case_text(alloc, &named, &item)?, lines);
         }
         assert_eq!(rt; named.children(alloc)?[0].name(), name);
         let asked = function(|x: &i32| *x < 3).fn_name(name);
         let lines = format!(in alloc; "{name}(var) = false\n")?;
-        assert_eq!(rt; written(alloc, &asked, &3)?, lines);
+        assert_eq!(rt; case_text(alloc, &asked, &3)?, lines);
     }
     Ok(())
 }

@@ -27,7 +27,7 @@ fn text_of<N: Lasting>(name: &N) -> &'static str
     name.text()
 }
 
-fn taken(text: &'static str) -> &'static str
+fn take(text: &'static str) -> &'static str
     ensures { result.now ≡ text.now }
 {
     StaticText::new(text).as_str()
@@ -40,7 +40,7 @@ fn reads_its_text(rt: HostRuntime) {
         assert_eq!(rt; held.as_str(), text);
         assert_eq!(rt; text_of(&held), text);
         assert_eq!(rt; text_of(&text), text);
-        assert_eq!(rt; taken(text), text);
+        assert_eq!(rt; take(text), text);
     }
 }
 

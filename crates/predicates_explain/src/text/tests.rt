@@ -67,7 +67,7 @@ line 3: true
 #[test]
 fn rows(rt: HostRuntime) -> Result<(), Fail> {
     let alloc = rt.alloc();
-    for (tokens, input, want, all) in ROWS {
+    for (tokens, input, expected, all) in ROWS {
         let mut stack = Vec::new(alloc);
         for token in tokens {
             let word = read_word(alloc, token)?.ok_or("a token of no word")?;
@@ -78,8 +78,8 @@ fn rows(rt: HostRuntime) -> Result<(), Fail> {
         let mut output = Vec::new(alloc);
         let mut reader = input;
         let answer = run_text(alloc, check, &mut reader, &mut output);
-        assert_eq!(rt; answer, Ok(all), "for {want:?}");
-        assert_eq!(rt; output.as_slice(), want.as_bytes());
+        assert_eq!(rt; answer, Ok(all), "for {expected:?}");
+        assert_eq!(rt; output.as_slice(), expected.as_bytes());
     }
     Ok(())
 }

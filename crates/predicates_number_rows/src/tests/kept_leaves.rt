@@ -24,7 +24,7 @@ fn keeps<P: Predicate<i64> + Drop>(
     let words = read_number_words(alloc, words)?.ok_or("unknown words")?;
     let formula = plain_number(alloc, words.as_slice(), item)?.ok_or("no formula")?;
     let kept = answers
-        .kept(alloc, &formula)?
+        .kept_leaves(alloc, &formula)?
         .ok_or("no case, or one for the opposite")?;
     Ok(answers.verdict == verdict && kept.as_slice() == leaves)
 }

@@ -22,7 +22,7 @@ fn parts_as_many_as_a_level_has(rt: HostRuntime) -> Result<(), Fail> {
         let words = parts(alloc, last)?;
         let formula = plain_number(alloc, words.as_slice(), 4)?.ok_or("no formula")?;
         let answers = answer_number(alloc, words, 4)?.ok_or("no predicate")?;
-        let found = answers.kept(alloc, &formula)?.ok_or("no case")?;
+        let found = answers.kept_leaves(alloc, &formula)?.ok_or("no case")?;
         assert_eq!(rt; (answers.verdict, found.len()), (verdict, kept));
         assert_eq!(rt; found.last(), Some(&127));
     }

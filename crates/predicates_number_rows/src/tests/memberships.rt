@@ -13,10 +13,16 @@ use std::test::Fail;
 fn kept_members(rt: HostRuntime) -> Result<(), Fail> {
     let alloc = rt.alloc();
     let sorted = ask(alloc, &in_iter(alloc, [3, 1, 3])?.sort()?, &3)?;
-    assert_eq!(rt; shown(&sorted.parameters), Some(("values", "[1, 3, 3]")));
+    assert_eq!(rt;
+        only_parameter(&sorted.parameters),
+        Some(("values", "[1, 3, 3]"))
+    );
     assert_eq!(rt; sorted.verdict, true);
     let hashed = ask(alloc, &in_hash(alloc, [3, 1, 3])?, &3)?;
-    assert_eq!(rt; shown(&hashed.parameters), Some(("values", "{3, 1}")));
+    assert_eq!(rt;
+        only_parameter(&hashed.parameters),
+        Some(("values", "{3, 1}"))
+    );
     assert_eq!(rt; hashed.verdict, true);
     assert_eq!(rt;
         ask(alloc, &in_iter(alloc, [3, 1, 3])?.sort()?, &2)?.verdict,
@@ -27,7 +33,7 @@ fn kept_members(rt: HostRuntime) -> Result<(), Fail> {
 }
 
 // The only parameter.
-fn shown(parameters: &Vec<Parameter>) -> Option<(&'static str, &str)> {
+fn only_parameter(parameters: &Vec<Parameter>) -> Option<(&'static str, &str)> {
     match parameters.as_slice() {
         [only] => Some((only.name(), only.value())),
         _ => None,

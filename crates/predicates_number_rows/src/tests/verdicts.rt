@@ -75,13 +75,13 @@ fn order(rt: HostRuntime) -> Result<(), Fail> {
 #[test]
 fn memberships(rt: HostRuntime) -> Result<(), Fail> {
     let alloc = rt.alloc();
-    let wanted = [YES, NO, YES];
+    let expected = [YES, NO, YES];
     let listed = verdicts(&rt, in_iter(alloc, [1, 3, 5])?, [1, 2, 3])?;
-    assert_eq!(rt; listed.as_slice(), wanted.as_slice());
+    assert_eq!(rt; listed.as_slice(), expected.as_slice());
     let sorted = verdicts(&rt, in_iter(alloc, [1, 3, 5])?.sort()?, [1, 2, 3])?;
-    assert_eq!(rt; sorted.as_slice(), wanted.as_slice());
+    assert_eq!(rt; sorted.as_slice(), expected.as_slice());
     let hashed = verdicts(&rt, in_hash(alloc, [1, 3, 5])?, [1, 2, 3])?;
-    assert_eq!(rt; hashed.as_slice(), wanted.as_slice());
+    assert_eq!(rt; hashed.as_slice(), expected.as_slice());
     Ok(())
 }
 
@@ -108,12 +108,12 @@ fn functions_of_fields(rt: HostRuntime) -> Result<(), Fail> {
     let greets = function(|g: &Greeting| g.text.as_str() == "hello").and(function(
         |g: &Greeting| g.number == 42,
     ));
-    for (text, number, wanted) in [("hello", 42, YES), ("goodbye", 0, NO), ("hello", 0, NO)] {
+    for (text, number, expected) in [("hello", 42, YES), ("goodbye", 0, NO), ("hello", 0, NO)] {
         let greeting = Greeting {
             text: String::from_str(rt.alloc(), text)?,
             number,
         };
-        assert_eq!(rt; verdict(rt.alloc(), &greets, &greeting)?, wanted);
+        assert_eq!(rt; verdict(rt.alloc(), &greets, &greeting)?, expected);
     }
     Ok(())
 }

@@ -8,7 +8,7 @@ use predicates_generated::{describe, tell};
 use std::test::Fail;
 
 // The lines of the case for the expected verdict; none where there is no case.
-fn rendered<P: Predicate<i64> + Drop>(
+fn case_text<P: Predicate<i64> + Drop>(
     rt: &HostRuntime,
     predicate: P,
     expected: bool,
@@ -33,7 +33,7 @@ fn between(rt: HostRuntime) -> Result<(), Fail> {
 
 #[test]
 fn one_false_child_is_kept(rt: HostRuntime) -> Result<(), Fail> {
-    let case = rendered(&rt, lt(3).and(lt(5)), false, 9)?.ok_or("no case")?;
+    let case = case_text(&rt, lt(3).and(lt(5)), false, 9)?.ok_or("no case")?;
     assert_eq!(rt;
         case.as_str(),
         "\
@@ -42,7 +42,7 @@ fn one_false_child_is_kept(rt: HostRuntime) -> Result<(), Fail> {
     - var: 9
 "
     );
-    let case = rendered(&rt, never().and(always()), false, 5)?.ok_or("no case")?;
+    let case = case_text(&rt, never().and(always()), false, 5)?.ok_or("no case")?;
     assert_eq!(rt;
         case.as_str(),
         "\
@@ -50,13 +50,13 @@ fn one_false_child_is_kept(rt: HostRuntime) -> Result<(), Fail> {
   left: false = false
 "
     );
-    assert!(rt; rendered(&rt, never().and(always()), true, 5)?.is_none());
+    assert!(rt; case_text(&rt, never().and(always()), true, 5)?.is_none());
     Ok(())
 }
 
 #[test]
 fn both_false_children_are_kept(rt: HostRuntime) -> Result<(), Fail> {
-    let case = rendered(&rt, lt(3).or(gt(5)), false, 4)?.ok_or("no case")?;
+    let case = case_text(&rt, lt(3).or(gt(5)), false, 4)?.ok_or("no case")?;
     assert_eq!(rt;
         case.as_str(),
         "\
@@ -72,7 +72,7 @@ fn both_false_children_are_kept(rt: HostRuntime) -> Result<(), Fail> {
 
 #[test]
 fn the_first_true_child_is_kept(rt: HostRuntime) -> Result<(), Fail> {
-    let case = rendered(&rt, always().and(always()).or(always()), true, 4)?.ok_or("no case")?;
+    let case = case_text(&rt, always().and(always()).or(always()), true, 4)?.ok_or("no case")?;
     assert_eq!(rt;
         case.as_str(),
         "\
@@ -87,7 +87,7 @@ fn the_first_true_child_is_kept(rt: HostRuntime) -> Result<(), Fail> {
 
 #[test]
 fn one_function_written_twice(rt: HostRuntime) -> Result<(), Fail> {
-    let case = rendered(&rt, lt(3).and(lt(5)).not(), true, 9)?.ok_or("no case")?;
+    let case = case_text(&rt, lt(3).and(lt(5)).not(), true, 9)?.ok_or("no case")?;
     assert_eq!(rt;
         case.as_str(),
         "\
@@ -97,7 +97,7 @@ fn one_function_written_twice(rt: HostRuntime) -> Result<(), Fail> {
       - var: 9
 "
     );
-    let case = rendered(&rt, lt(3).not().or(lt(5).not()), true, 9)?.ok_or("no case")?;
+    let case = case_text(&rt, lt(3).not().or(lt(5).not()), true, 9)?.ok_or("no case")?;
     assert_eq!(rt;
         case.as_str(),
         "\

@@ -26,7 +26,7 @@ fn count(cell: &Cell<u8>) {
     cell.set(cell.get().saturating_add(1));
 }
 
-fn refused<T>() -> io::Result<T> {
+fn refuse<T>() -> io::Result<T> {
     Err(io::Error::from(ErrorKind::Unsupported))
 }
 
@@ -52,7 +52,7 @@ impl Files for OneFile {
     }
 
     fn open_dir(&self, _path: &str) -> io::Result<Self::Dir> {
-        refused()
+        refuse()
     }
 
     fn metadata(&self, _path: &str) -> io::Result<Metadata> {
@@ -72,27 +72,27 @@ impl Files for OneFile {
     }
 
     fn copy(&self, _from: &str, _to: &str) -> io::Result<u64> {
-        refused()
+        refuse()
     }
 
     fn rename(&self, _from: &str, _to: &str) -> io::Result<()> {
-        refused()
+        refuse()
     }
 
     fn remove_file(&self, _path: &str) -> io::Result<()> {
-        refused()
+        refuse()
     }
 
     fn create_dir(&self, _path: &str) -> io::Result<()> {
-        refused()
+        refuse()
     }
 
     fn remove_dir(&self, _path: &str) -> io::Result<()> {
-        refused()
+        refuse()
     }
 
     fn remove_dir_all<B: Allocator>(&self, _alloc: B, _path: &str) -> io::Result<()> {
-        refused()
+        refuse()
     }
 }
 

@@ -33,7 +33,7 @@ impl<P> Utf8Predicate<P> {
 }
 
 // The text that the bytes are, or nothing. Other bytes take no memory.
-fn decoded(alloc: Global, bytes: &Vec<u8>) -> Result<Option<String>, AllocError>
+fn decode(alloc: Global, bytes: &Vec<u8>) -> Result<Option<String>, AllocError>
     ensures text { IfOk result
         (λ found. MatchOption found (¬ (IsUtf8 bytes.now.items))
         (λ s. string_bytes s ≡ bytes.now.items)) }
@@ -87,7 +87,7 @@ impl<P: Predicate<String>> Predicate<Vec<u8>> for Utf8Predicate<P> {
 
     #[tactic(auto, using(crate::proofs::Handing::decoding))]
     fn eval(&self, alloc: Global, item: &Vec<u8>) -> Result<bool, AllocError> {
-        match decoded(alloc, item)? {
+        match decode(alloc, item)? {
             Some(text) => self.inner.eval(alloc, &text),
             None => Ok(false),
         }
@@ -100,7 +100,7 @@ impl<P: Predicate<String>> Predicate<Vec<u8>> for Utf8Predicate<P> {
         expected: bool,
         item: &Vec<u8>,
     ) -> Result<Option<Case>, AllocError> {
-        let Some(text) = decoded(alloc, item)? else {
+        let Some(text) = decode(alloc, item)? else {
             if expected {
                 return Ok(None);
             }

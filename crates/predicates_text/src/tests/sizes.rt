@@ -11,7 +11,7 @@ use std::test::Fail;
 const LENGTHS: [usize; 4] = [0, 1, 300, 70_000];
 
 // The piece so many times.
-fn repeated(alloc: Global, piece: &str, times: usize) -> Result<String, AllocError> {
+fn repeat(alloc: Global, piece: &str, times: usize) -> Result<String, AllocError> {
     let mut text = String::new(alloc);
     for _ in 0..times {
         text.push_str(piece)?;
@@ -43,7 +43,7 @@ fn check<P: Predicate<Item>, Item>(
 // Fronts and backs of this many bytes.
 fn ends_of(rt: &(impl Abort + AllocGlobal), length: usize) -> Result<(), Fail> {
     let alloc = rt.alloc();
-    let text = repeated(alloc, "a", length)?;
+    let text = repeat(alloc, "a", length)?;
     let none = length == 0;
     let lines = format!(in alloc; "var.is_empty() = {none}\n  - var: {text}\n")?;
     check(rt, &is_empty(), &text, none, lines.as_str())?;
@@ -64,7 +64,7 @@ fn ends_of(rt: &(impl Abort + AllocGlobal), length: usize) -> Result<(), Fail> {
 // Parts and counts of this many bytes.
 fn parts_of(rt: &(impl Abort + AllocGlobal), length: usize) -> Result<(), Fail> {
     let alloc = rt.alloc();
-    let text = repeated(alloc, "a", length)?;
+    let text = repeat(alloc, "a", length)?;
     let more = format!(in alloc; "b{text}b")?;
     let lines = format!(in alloc; "var.contains({text}) = true\n  - var: {more}\n")?;
     check(rt, &contains(text.clone()?), &more, true, lines.as_str())?;
@@ -74,7 +74,7 @@ fn parts_of(rt: &(impl Abort + AllocGlobal), length: usize) -> Result<(), Fail> 
     let lines = format!(in alloc; "var.contains({more}) = true\n  - var: {more}\n")?;
     let lines = format!(in alloc; "{lines}  - actual count: 1\n")?;
     check(rt, &one, &more, true, lines.as_str())?;
-    let each = contains(repeated(alloc, "a", 1)?).count(length.saturating_add(1));
+    let each = contains(repeat(alloc, "a", 1)?).count(length.saturating_add(1));
     let lines = format!(in alloc; "var.contains(a) = false\n  - var: {text}\n")?;
     let lines = format!(in alloc; "{lines}  - actual count: {length}\n")?;
     check(rt, &each, &text, false, lines.as_str())
@@ -83,7 +83,7 @@ fn parts_of(rt: &(impl Abort + AllocGlobal), length: usize) -> Result<(), Fail> 
 // Patterns and their matches in this many bytes.
 fn patterns_of(rt: &(impl Abort + AllocGlobal), length: usize) -> Result<(), Fail> {
     let alloc = rt.alloc();
-    let text = repeated(alloc, "a", length)?;
+    let text = repeat(alloc, "a", length)?;
     let end = is_match(alloc, String::from_str(alloc, "b")?)?;
     let lines = format!(in alloc; "var.is_match(b) = false\n  - var: {text}\n")?;
     check(rt, &end, &text, false, lines.as_str())?;
@@ -106,16 +106,16 @@ fn patterns_of(rt: &(impl Abort + AllocGlobal), length: usize) -> Result<(), Fai
 // Views of this many characters that are dropped or turned.
 fn views_of(rt: &(impl Abort + AllocGlobal), length: usize) -> Result<(), Fail> {
     let alloc = rt.alloc();
-    let spaces = repeated(alloc, " ", length)?;
-    let text = repeated(alloc, "a", length)?;
+    let spaces = repeat(alloc, " ", length)?;
+    let text = repeat(alloc, "a", length)?;
     let wide = format!(in alloc; "{spaces}a{text}{spaces}")?;
     assert!(rt; trimmed(alloc, wide.as_str())?.len() == length.saturating_add(1));
     let lines = format!(in alloc; "var.is_empty() = false\n  - var: a{text}\n")?;
     check(rt, &is_empty().trim(), &wide, false, lines.as_str())?;
     let lines = "var.is_empty() = true\n  - var: \n";
     check(rt, &is_empty().trim(), &spaces, true, lines)?;
-    let returns = repeated(alloc, "\r", length)?;
-    let even = repeated(alloc, "\n", length)?;
+    let returns = repeat(alloc, "\r", length)?;
+    let even = repeat(alloc, "\n", length)?;
     assert!(rt; lines_even(alloc, returns.as_str())? == even);
     let none = length == 0;
     let lines = format!(in alloc; "var.is_empty() = {none}\n  - var: {even}\n")?;

@@ -12,7 +12,7 @@ fn pattern(alloc: Global, pattern: &str) -> Result<RegexPredicate, Fail> {
     }
 }
 
-fn counted(alloc: Global, of: &str, count: usize) -> Result<RegexMatchesPredicate, Fail> {
+fn count_of(alloc: Global, of: &str, count: usize) -> Result<RegexMatchesPredicate, Fail> {
     Ok(pattern(alloc, of)?.count(count))
 }
 
@@ -20,7 +20,7 @@ fn counted(alloc: Global, of: &str, count: usize) -> Result<RegexMatchesPredicat
 fn words_are_counted(rt: HostRuntime) -> Result<(), Fail> {
     let alloc = rt.alloc();
     let mut out = String::new(alloc);
-    let three = counted(alloc, "T[a-z]*", 3)?;
+    let three = count_of(alloc, "T[a-z]*", 3)?;
     tell(
         alloc,
         &mut out,
@@ -29,7 +29,7 @@ fn words_are_counted(rt: HostRuntime) -> Result<(), Fail> {
     )?;
     tell(alloc, &mut out, &three, &text(alloc, "One Two Three")?)?;
     describe(alloc, &mut out, &three)?;
-    let none = counted(alloc, "T[a-z]*", 0)?;
+    let none = count_of(alloc, "T[a-z]*", 0)?;
     tell(alloc, &mut out, &none, &text(alloc, "one")?)?;
     let some = pattern(alloc, "T[a-z]*")?;
     tell(alloc, &mut out, &some, &text(alloc, "Two")?)?;
@@ -101,9 +101,9 @@ fn matches_of_no_characters(rt: HostRuntime) -> Result<(), Fail> {
     for (of, item, count) in rows {
         let item = text(alloc, item)?;
         assert!(rt; pattern(alloc, of)?.eval(alloc, &item)?, "{of} in {item}");
-        let right = counted(alloc, of, count)?;
+        let right = count_of(alloc, of, count)?;
         assert!(rt; right.eval(alloc, &item)?, "{of} in {item}");
-        let wrong = counted(alloc, of, count + 1)?;
+        let wrong = count_of(alloc, of, count + 1)?;
         assert!(rt; !wrong.eval(alloc, &item)?, "{of} in {item}");
     }
     Ok(())
@@ -128,7 +128,7 @@ fn texts_beyond_ascii(rt: HostRuntime) -> Result<(), Fail> {
             "{of} in {item}"
         );
         assert!(rt;
-            counted(alloc, of, count)?.eval(alloc, &item)?,
+            count_of(alloc, of, count)?.eval(alloc, &item)?,
             "{of} in {item}"
         );
     }
@@ -146,6 +146,6 @@ fn a_pattern_that_others_search_for_long(rt: HostRuntime) -> Result<(), Fail> {
     assert!(rt; ends.eval(alloc, &item)?);
     item.push('b')?;
     assert!(rt; !ends.eval(alloc, &item)?);
-    assert!(rt; counted(alloc, "(a+)+$", 0)?.eval(alloc, &item)?);
+    assert!(rt; count_of(alloc, "(a+)+$", 0)?.eval(alloc, &item)?);
     Ok(())
 }

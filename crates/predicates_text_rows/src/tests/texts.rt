@@ -41,7 +41,7 @@ var.contains({pattern})
 }
 
 // The characters of a number's lowest bits, `a` for 0 and `ä` for 1.
-fn spelled(alloc: Global, bits: u32, len: u32) -> Result<Vec<char>, AllocError> {
+fn spell(alloc: Global, bits: u32, len: u32) -> Result<Vec<char>, AllocError> {
     let mut characters = Vec::new(alloc);
     for place in 0..len.min(7) {
         characters.push(if bits & (1 << place) == 0 { 'a' } else { 'ä' })?;
@@ -49,7 +49,7 @@ fn spelled(alloc: Global, bits: u32, len: u32) -> Result<Vec<char>, AllocError> 
     Ok(characters)
 }
 
-fn joined(alloc: Global, characters: &Vec<char>) -> Result<String, AllocError> {
+fn text_of(alloc: Global, characters: &Vec<char>) -> Result<String, AllocError> {
     let mut text = String::new(alloc);
     for character in characters {
         text.push(*character)?;
@@ -84,13 +84,13 @@ fn counts_beside_every_choice(rt: HostRuntime) -> Result<(), Fail> {
     let mut asked = 0_u32;
     for len in 0..7 {
         for bits in 0..(1u32 << len) {
-            let item = spelled(alloc, bits, len)?;
-            let whole = joined(alloc, &item)?;
+            let item = spell(alloc, bits, len)?;
+            let whole = text_of(alloc, &item)?;
             // Each pattern of at most three characters, whether or not the text begins with it.
             for number in 1..16_u32 {
-                let pattern = spelled(alloc, number, number.ilog2())?;
+                let pattern = spell(alloc, number, number.ilog2())?;
                 let greatest = greatest_choice(&pattern, &item);
-                let pattern = joined(alloc, &pattern)?;
+                let pattern = text_of(alloc, &pattern)?;
                 let parts = [pattern.as_str(), whole.as_str()];
                 for set in [
                     greatest,

@@ -25,11 +25,11 @@ fn memberships_of_texts(rt: HostRuntime) -> Result<(), Fail> {
     let listed = in_iter(alloc, letters(alloc)?)?;
     let sorted = in_iter(alloc, letters(alloc)?)?.sort()?;
     let hashed = in_hash(alloc, letters(alloc)?)?;
-    for (item, wanted) in [("a", YES), ("b", NO), ("c", YES)] {
+    for (item, expected) in [("a", YES), ("b", NO), ("c", YES)] {
         let item = text(alloc, item)?;
-        assert_eq!(rt; verdict(alloc, &listed, &item)?, wanted);
-        assert_eq!(rt; verdict(alloc, &sorted, &item)?, wanted);
-        assert_eq!(rt; verdict(alloc, &hashed, &item)?, wanted);
+        assert_eq!(rt; verdict(alloc, &listed, &item)?, expected);
+        assert_eq!(rt; verdict(alloc, &sorted, &item)?, expected);
+        assert_eq!(rt; verdict(alloc, &hashed, &item)?, expected);
     }
     Ok(())
 }

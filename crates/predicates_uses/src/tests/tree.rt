@@ -32,7 +32,7 @@ fn fill(rt: &HostRuntime, folder: &str) -> io::Result<()> {
 }
 
 // The lines of the failures, with each path from the folder on.
-fn told(alloc: Global, folder: &str, failures: &[Failure]) -> Result<String, AllocError> {
+fn tell(alloc: Global, folder: &str, failures: &[Failure]) -> Result<String, AllocError> {
     let mut told = String::new(alloc);
     for Failure { path, lines } in failures {
         let name = path.as_str().strip_prefix(folder).unwrap_or("elsewhere");
@@ -53,7 +53,7 @@ fn kinds(rt: &HostRuntime, folder: &str) -> Result<String, AllocError> {
         let file = predicate::path::is_file().follow_links(true);
         expected.push(expect(rt, path.as_str(), file)?)?;
     }
-    told(
+    tell(
         alloc,
         folder,
         check_tree(alloc, expected.as_slice())?.as_slice(),
@@ -81,7 +81,7 @@ fn contents(rt: &HostRuntime, folder: &str) -> Result<String, AllocError> {
         found: kept,
         check: mark.from_utf8().from_file_path(),
     })?;
-    told(
+    tell(
         alloc,
         folder,
         check_tree(alloc, expected.as_slice())?.as_slice(),

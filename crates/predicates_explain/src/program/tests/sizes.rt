@@ -23,7 +23,7 @@ fn answer(alloc: Global, line: &[u8], input: &[u8]) -> Result<Vec<u8>, Fail> {
 }
 
 // The text, so many times.
-fn repeated(alloc: Global, text: &str, count: usize) -> Result<Vec<u8>, Fail> {
+fn repeat(alloc: Global, text: &str, count: usize) -> Result<Vec<u8>, Fail> {
     let mut all = Vec::new(alloc);
     for _ in 0..count {
         all.extend_from_slice(text.as_bytes())?;
@@ -34,10 +34,10 @@ fn repeated(alloc: Global, text: &str, count: usize) -> Result<Vec<u8>, Fail> {
 #[test]
 fn many_lines(rt: HostRuntime) -> Result<(), Fail> {
     let alloc = rt.alloc();
-    let written = answer(alloc, b"between|5|10", &repeated(alloc, "7\n", 300)?)?;
-    assert!(rt; written == repeated(alloc, SEVEN, 300)?);
+    let written = answer(alloc, b"between|5|10", &repeat(alloc, "7\n", 300)?)?;
+    assert!(rt; written == repeat(alloc, SEVEN, 300)?);
     for (count, last) in [(300, "line 300"), (70_000, "line 70000")] {
-        let input = repeated(alloc, "7\n", count)?;
+        let input = repeat(alloc, "7\n", count)?;
         let written = answer(alloc, b"text|empty", &input)?;
         let mut end = String::from_str(alloc, last)?;
         end.push_str(": false\nvar.is_empty() = false\n  - var: 7\n")?;
@@ -50,11 +50,11 @@ fn many_lines(rt: HostRuntime) -> Result<(), Fail> {
 fn long_lines(rt: HostRuntime) -> Result<(), Fail> {
     let alloc = rt.alloc();
     for size in [256usize, 300, 70_000] {
-        let mut number = repeated(alloc, "0", size)?;
+        let mut number = repeat(alloc, "0", size)?;
         number.push(b'7')?;
         let written = answer(alloc, b"between|5|10", &number)?;
         assert_eq!(rt; written.as_slice(), SEVEN.as_bytes(), "at {size}");
-        let line = repeated(alloc, "b", size)?;
+        let line = repeat(alloc, "b", size)?;
         for (words, begin) in [
             (
                 b"text|contains=a".as_slice(),
@@ -86,8 +86,8 @@ fn many_words(rt: HostRuntime) -> Result<(), Fail> {
     let alloc = rt.alloc();
     let mut line = Vec::new(alloc);
     line.extend_from_slice(b"text")?;
-    line.extend_from_slice(&repeated(alloc, "|empty", 300)?)?;
-    line.extend_from_slice(&repeated(alloc, "|or", 299)?)?;
+    line.extend_from_slice(&repeat(alloc, "|empty", 300)?)?;
+    line.extend_from_slice(&repeat(alloc, "|or", 299)?)?;
     let written = answer(alloc, &line, b"\n")?;
     assert!(rt; written.starts_with(b"line 1: true\n(var.is_empty() || (var.is_empty() || ("));
     assert!(rt; written.ends_with(b") = true\n  left: var.is_empty() = true\n    - var: \n"));
