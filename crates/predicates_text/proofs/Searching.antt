@@ -59,12 +59,18 @@ stands p t k up ut here at =
       after = IsCharBoundary-from_rest t k (length p) (omega (arith, at.fits)) end;
     }
 
-bytes_tell : (p t : List ℕ) (r : Option ℕ) → IsUtf8 p → IsUtf8 t → FindsNeedle t p 0 r → MatchBool (is_some r) (HasMatch (FindsText p) t) (FindsText p t None)
-bytes_tell p t None up ut nowhere = λ i le. missing p t i le (nowhere i (omega arith) (omega (arith, le)))
-bytes_tell p t (Some k) up ut h =
+-- where a search for the bytes of a text finds them, a search for the text does
+pub found_text : (p t : List ℕ) (k : ℕ) → IsUtf8 p → IsUtf8 t → FindsNeedle t p 0 (Some k) → FindsText p t (Some (k, k + length p))
+found_text p t k up ut h =
     let before : (i : ℕ) → i < k → ¬ (OccursAt t p i) = λ i lt. h.0.before i (omega arith) lt in
-    let here = begun p t k up ut before h.1 in
-    (k, k + length p, ((λ i lt. missing p t i (omega (arith, lt, h.1.fits)) (before i lt)), stands p t k up ut here h.1), omega arith, h.1.fits)
+    ((λ i lt. missing p t i (omega (arith, lt, h.1.fits)) (before i lt)), stands p t k up ut (begun p t k up ut before h.1) h.1)
+
+pub lacks_text : (p t : List ℕ) → FindsNeedle t p 0 None → FindsText p t None
+lacks_text p t nowhere = λ i le. missing p t i le (nowhere i (omega arith) (omega (arith, le)))
+
+bytes_tell : (p t : List ℕ) (r : Option ℕ) → IsUtf8 p → IsUtf8 t → FindsNeedle t p 0 r → MatchBool (is_some r) (HasMatch (FindsText p) t) (FindsText p t None)
+bytes_tell p t None up ut nowhere = lacks_text p t nowhere
+bytes_tell p t (Some k) up ut h = (k, k + length p, found_text p t k up ut h, omega arith, h.1.fits)
 
 -- the answer of a search, in characters and in bytes
 pub record TellsPart (p t : List ℕ) (r : Bool) : Type 0 where
@@ -77,7 +83,11 @@ search_tells p t r up ut found =
     let is = contains_chars p t r up ut found in
     record { part = is; bytes = contains_bytes p t r up ut found; value = same_test _ _ is (part_tells _ _) }
 
+-- the bytes of a text and of a pattern, by their other names
+pub of_texts : (p t bytes hay : List ℕ) (r : Option ℕ) → bytes ≡ p → hay ≡ t → FindsNeedle hay bytes 0 r → FindsNeedle t p 0 r
+of_texts p t bytes hay r is_p is_t found = subst (λ n. FindsNeedle t n 0 r) is_p (subst (λ l. FindsNeedle l bytes 0 r) is_t found)
+
 -- the same of a search for bytes
 pub byte_search_tells : (p t bytes hay : List ℕ) (r : Option ℕ) (b : Bool) → bytes ≡ p → hay ≡ t → b ≡ is_some r → IsUtf8 p → IsUtf8 t → FindsNeedle hay bytes 0 r → TellsPart p t b
 byte_search_tells p t bytes hay r b is_p is_t is_b up ut found =
-    subst (TellsPart p t) (sym is_b) (search_tells p t (is_some r) up ut (bytes_tell p t r up ut (subst (λ n. FindsNeedle t n 0 r) is_p (subst (λ l. FindsNeedle l bytes 0 r) is_t found))))
+    subst (TellsPart p t) (sym is_b) (search_tells p t (is_some r) up ut (bytes_tell p t r up ut (of_texts p t bytes hay r is_p is_t found)))

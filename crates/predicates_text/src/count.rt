@@ -4,8 +4,11 @@
 //! assert_eq!(rt; count("aa", "aaaa"), 2);
 //! ```
 ghost use Rattle.std.specs.Str.{chars};
-ghost use Rattle.std.specs.Prelude.{◌≡◌, ◌≢◌, ◌+◌, [], length, filter, nat_eq, MatchOption};
+ghost use Rattle.std.specs.Prelude.{◌≡◌, ◌≢◌, ◌+◌, [], length, filter, nat_eq, IfSome, MatchOption};
 ghost use Rattle.predicates_text.specs.Count.{IsCountOf, IsPastFirst, IsNowhere, count_of};
+
+use crate::places::LONG;
+use memchr::memmem::Finder;
 
 /// The greatest number of places of the pattern in the text of which no two overlap.
 ///
@@ -25,9 +28,15 @@ pub fn count(text: &str, pattern: &str) -> usize
             return count_byte(*byte, text);
         }
     }
+    // In a long text the search is prepared once, for all places.
+    let finder = if text.len() < LONG {
+        None
+    } else {
+        Some(Finder::new(pattern.as_bytes()))
+    };
     let mut count = 0;
     let mut rest = text;
-    while let Some(after) = past_first(rest, pattern) {
+    while let Some(after) = past_first(rest, pattern, &finder) {
         count += 1;
         rest = after;
     }
@@ -47,9 +56,14 @@ fn count_byte(byte: u8, text: &str) -> usize
     count
 }
 
-// What follows the first place of the pattern, if it has one.
-fn past_first<'a>(text: &'a str, pattern: &str) -> Option<&'a str>
-    requires { pattern.now ≢ [] }
+// What follows the first place of the pattern, if it has one. The finder is the pattern's.
+fn past_first<'a>(
+    text: &'a str,
+    pattern: &str,
+    finder: &Option<Finder<'_>>,
+) -> Option<&'a str>
+    requires some { pattern.now ≢ [] }
+    requires prepared { IfSome finder.now (λ f. f ≡ pattern.now) }
     ensures { MatchOption result (IsNowhere pattern.now text.now)
         (λ rest. IsPastFirst pattern.now text.now rest.now) }
 {
@@ -57,6 +71,10 @@ fn past_first<'a>(text: &'a str, pattern: &str) -> Option<&'a str>
     if let Some(rest) = text.strip_prefix(pattern) {
         return Some(rest);
     }
-    let (_, rest) = text.split_once(pattern)?;
-    Some(rest)
+    let Some(finder) = finder else {
+        let (_, rest) = text.split_once(pattern)?;
+        return Some(rest);
+    };
+    let place = finder.find(text.as_bytes())?;
+    Some(&text[place + pattern.len()..])
 }
