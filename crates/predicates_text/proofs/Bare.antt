@@ -1,5 +1,5 @@
 -- A text with no white space at its ends has none to leave out. Bytes of ASCII that are seen tell it.
-use Rattle.std.proofs.Common.{◌≡◌, List, [], ◌∷◌, ◌++◌, ℕ, suc, ◌+◌, ◌-◌, ◌<◌, ◌≤◌, Bool, true, false, cond, ◌&&◌, eqb, length, drop, get_or}
+use Rattle.std.proofs.Common.{◌≡◌, List, [], ◌∷◌, ◌++◌, ℕ, ◌+◌, ◌-◌, ◌<◌, ◌≤◌, Bool, true, false, cond, ◌&&◌, eqb, length, get_or}
 use Rattle.std.proofs.Common.{sym, ◌∙◌, ap, refl, arith, length-append, append-nil}
 use Rattle.std.specs.Int.{IsInRange}
 use Rattle.std.specs.Char.{is_whitespace, encode_utf8}

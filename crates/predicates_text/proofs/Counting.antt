@@ -1,11 +1,10 @@
 -- The count of a text's characters and of its bytes, by its first place and what follows that.
-use Rattle.std.proofs.Common.{◌≡◌, ◌≢◌, List, [], ◌∷◌, ◌++◌, ℕ, suc, ◌+◌, ◌-◌, ◌<◌, ◌≤◌, length, take, drop, sym, ◌∙◌, ap, refl, subst, ⊎_elim, arith, length-append, length-drop}
+use Rattle.std.proofs.Common.{◌≡◌, ◌≢◌, List, [], ◌∷◌, ◌++◌, ℕ, suc, ◌+◌, ◌<◌, ◌≤◌, length, take, drop, sym, ◌∙◌, ap, refl, subst, ⊎_elim, arith, length-append, length-drop}
 use Rattle.std.proofs.lemmas.List.{take-append-le, take-append-drop, length-take, take_at, nil_from_length}
 use Rattle.std.proofs.lemmas.Bool.{cases_lt}
 use Rattle.std.specs.Str.{chars, IsUtf8, IsCharBoundary, encode_utf8_all}
 use Rattle.std.specs.Str.Pattern.{FindsText, LacksTextAt, FindsTextPrefix, SplitsAroundMatch, StripsPrefix}
-use Rattle.std.proofs.Common.{Option, None, Some, length-take}
-use Rattle.std.specs.Option.{IfSome}
+use Rattle.std.proofs.Common.{None, Some, length-take}
 use Rattle.memchr.specs.Find.{FindsNeedle}
 use Rattle.std.proofs.lemmas.Str.{encodes-chars, encodes-append, length-le-encodes}
 use Rattle.predicates_text.proofs.Cuts.{chars_cut, cut_around, lacks_around, lacks_bytes, bytes_around, IsCutAround}
@@ -99,10 +98,6 @@ nowhere p t up ut lacks = record {
   among_characters = count_missing p t up ut lacks;
   among_bytes = count_missing_bytes p t lacks;
 }
-
--- the pattern that a search was prepared for, if one was
-pub prepared_for : (o : Option (List ℕ)) (bytes p : List ℕ) → o ≡ Some bytes → IfSome o (λ f. f ≡ p) → bytes ≡ p
-prepared_for o bytes p is prepared = subst (λ r. IfSome r (λ f. f ≡ p)) is prepared
 
 -- the same by a search for the bytes
 pub cut_found : (p t : List ℕ) (k : ℕ) → IsUtf8 p → IsUtf8 t → FindsNeedle t p 0 (Some k) → IsCharBoundary t (k + length p)
