@@ -1,13 +1,15 @@
 -- The count of a text's characters and of its bytes, by its first place and what follows that.
-use Rattle.std.proofs.Common.{◌≡◌, ◌≢◌, List, [], ◌∷◌, ◌++◌, ℕ, suc, ◌+◌, ◌-◌, ◌<◌, ◌≤◌, length, take, drop, sym, ◌∙◌, ap, refl, subst, ⊎_elim, arith, length-append, length-drop}
+use Rattle.std.proofs.Common.{◌≡◌, ◌≢◌, List, [], ◌∷◌, ◌++◌, ℕ, suc, ◌+◌, ◌<◌, ◌≤◌, length, take, drop, sym, ◌∙◌, ap, refl, subst, ⊎_elim, arith, length-append, length-drop}
 use Rattle.std.proofs.lemmas.List.{take-append-le, take-append-drop, length-take, take_at, nil_from_length}
 use Rattle.std.proofs.lemmas.Bool.{cases_lt}
-use Rattle.std.specs.Str.{chars, IsUtf8, encode_utf8_all}
+use Rattle.std.specs.Str.{chars, IsUtf8, IsCharBoundary, encode_utf8_all}
 use Rattle.std.specs.Str.Pattern.{FindsText, LacksTextAt, FindsTextPrefix, SplitsAroundMatch, StripsPrefix}
-use Rattle.std.proofs.Common.{None}
+use Rattle.std.proofs.Common.{None, Some, length-take}
+use Rattle.memchr.specs.Find.{FindsNeedle}
 use Rattle.std.proofs.lemmas.Str.{encodes-chars, encodes-append, length-le-encodes}
 use Rattle.predicates_text.proofs.Cuts.{chars_cut, cut_around, lacks_around, lacks_bytes, bytes_around, IsCutAround}
 use Rattle.predicates_text.proofs.Found.{empty_chars}
+use Rattle.predicates_text.proofs.Searching.{found_text, lacks_text}
 use Rattle.predicates_text.specs.Places.{StandsAt}
 use Rattle.predicates_text.specs.Count.{IsCountOf, IsPastFirst, IsNowhere}
 use Rattle.predicates_text.specs.Counting.{count_none, count_more, count_empty}
@@ -96,6 +98,25 @@ nowhere p t up ut lacks = record {
   among_characters = count_missing p t up ut lacks;
   among_bytes = count_missing_bytes p t lacks;
 }
+
+-- the same by a search for the bytes
+pub cut_found : (p t : List ℕ) (k : ℕ) → IsUtf8 p → IsUtf8 t → FindsNeedle t p 0 (Some k) → IsCharBoundary t (k + length p)
+cut_found p t k up ut found = (found_text p t k up ut found).1.after
+
+pub past_found : (p t back : List ℕ) (k : ℕ) → IsUtf8 p → IsUtf8 t → 1 ≤ length p → FindsNeedle t p 0 (Some k) → back ≡ drop (k + length p) t → IsPastFirst p t back
+past_found p t back k up ut some found is = past_place p t (take k t) back up ut some (
+  k,
+  k + length p,
+  found_text p t k up ut found,
+  refl,
+  is,
+  omega arith,
+  omega (arith, length-take k t, found.1.fits),
+  omega (arith, ap length is, length-drop (k + length p) t, found.1.fits),
+)
+
+pub nowhere_found : (p t : List ℕ) → IsUtf8 p → IsUtf8 t → FindsNeedle t p 0 None → IsNowhere p t
+nowhere_found p t up ut found = nowhere p t up ut (lacks_text p t found)
 
 -- the empty text
 pub count_empty_text : (p t : List ℕ) (n : ℕ) → IsUtf8 p → length p ≡ 0 → n ≡ length (chars t) → IsCountOf (chars p) (chars t) (n + 1)

@@ -1,4 +1,5 @@
 mod Cuts
+mod Bare
 mod Found
 mod Counting
 mod Showing

@@ -113,7 +113,7 @@ suffix_after head tail =
     (eqb_tells (suffix_len is_whitespace tail) (length tail))
 
 -- the two walks of std leave the part between the longest ends
-trimmed_is : (cs : List ℕ) → drop_trailing_whitespace (skip_leading_whitespace cs) ≡ trimmed cs
+pub trimmed_is : (cs : List ℕ) → drop_trailing_whitespace (skip_leading_whitespace cs) ≡ trimmed cs
 trimmed_is cs =
     let n : ℕ = prefix_len is_whitespace cs in
     let head : length (take n cs) ≡ n = length-prefix_len is_whitespace cs in

@@ -12,7 +12,7 @@ ghost use Rattle.predicates_text.specs.Places.{is_back, is_part};
 use memchr::memmem;
 
 // From so many bytes on, a search that is prepared first takes less time than one that is not.
-const LONG: usize = 512;
+pub(crate) const LONG: usize = 512;
 
 /// Whether the text has no characters.
 pub fn is_empty(text: &str) -> bool

@@ -26,6 +26,11 @@ pub(crate) fn trimmed_copy(alloc: Global, text: &str) -> Result<Option<String>, 
         (chars text.now ≡ trimmed (chars text.now))
         (λ s. chars (string_bytes s) ≡ trimmed (chars text.now))) }
 {
+    if let [first, .., last] = text.as_bytes() {
+        if first.is_ascii_graphic() && last.is_ascii_graphic() {
+            return Ok(None);
+        }
+    }
     let rest = text.trim();
     if rest.len() == text.len() {
         return Ok(None);
