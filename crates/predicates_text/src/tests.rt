@@ -118,6 +118,7 @@ fn cases(rt: HostRuntime) -> Result<(), Fail> {
 fn views(rt: HostRuntime) -> Result<(), Fail> {
     let alloc = rt.alloc();
     let ends = [
+        ("", ""),
         ("\u{a0}a\t", "a"),
         ("\u{3000}\u{85}", ""),
         ("\u{200b}", "\u{200b}"),

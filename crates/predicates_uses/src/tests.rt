@@ -5,6 +5,7 @@ mod guide;
 mod own;
 mod plainly;
 mod reason;
+mod sizes;
 mod tree;
 
 use predicates::prelude::*;

@@ -97,33 +97,39 @@ fn derives(rt: HostRuntime) -> Result<(), Fail> {
     Ok(())
 }
 
-// A path and a content of this many bytes: each type holds of it or does not, and says why.
-fn sized(rt: &(impl Abort + AllocGlobal), length: usize) -> Result<(), Fail> {
-    let alloc = rt.alloc();
+// So many bytes `a`.
+fn repeated(alloc: Global, length: usize) -> Result<String, AllocError> {
     let mut text = String::new(alloc);
     for _ in 0..length {
         text.push('a')?;
     }
-    let kept = Vec::from_slice(alloc, text.as_bytes())?;
-    let there = Snapshot::from_parts(text.clone()?, Ok(File), Ok(File), Ok(kept));
+    Ok(text)
+}
+
+// A path and a content that are this text.
+fn file_of(alloc: Global, text: &str) -> Result<Snapshot, AllocError> {
+    let content = Vec::from_slice(alloc, text.as_bytes())?;
+    let path = String::from_str(alloc, text)?;
+    Ok(Snapshot::from_parts(path, Ok(File), Ok(File), Ok(content)))
+}
+
+// A path that is this text, where nothing stands.
+fn nothing_at(alloc: Global, text: &str) -> Result<Snapshot, AllocError> {
+    let path = String::from_str(alloc, text)?;
     let gone = Err(NotFound);
-    let gone = Snapshot::from_parts(text.clone()?, Err(NotFound), Err(NotFound), gone);
+    Ok(Snapshot::from_parts(path, Err(NotFound), Err(NotFound), gone))
+}
+
+// A path and a content of this many bytes: they are there or not, and are handed on.
+fn sized(rt: &(impl Abort + AllocGlobal), length: usize) -> Result<(), Fail> {
+    let alloc = rt.alloc();
+    let text = repeated(alloc, length)?;
+    let there = file_of(alloc, text.as_str())?;
+    let gone = nothing_at(alloc, text.as_str())?;
     let lines = format!(in alloc; "exists(var) = true\n  - var: {text}\n")?;
     check(rt, &exists(), &there, true, lines.as_str())?;
     let lines = format!(in alloc; "exists(var) = false\n  - var: {text}\n")?;
     check(rt, &exists(), &gone, false, lines.as_str())?;
-    let same = eq_file(there)?;
-    let bytes = Vec::from_slice(alloc, text.as_bytes())?;
-    let lines = format!(in alloc; "var is {text} = true\n")?;
-    check(rt, &same, &bytes, true, lines.as_str())?;
-    let lines = format!(in alloc; "var is {text} = false\n")?;
-    check(rt, &same, &gone, false, lines.as_str())?;
-    let same = same.utf8().ok_or("no text")?;
-    check(rt, &same, &gone, false, lines.as_str())?;
-    has_parameter(rt, &same, "content", text.as_str())?;
-    let longer = format!(in alloc; "{text}a")?;
-    check(rt, &same, &longer, false, lines.as_str())?;
-    let there = Snapshot::from_parts(text.clone()?, Ok(File), Ok(File), Ok(bytes));
     let none = eq_file(file(alloc, b"")?)?.from_file_path();
     let verdict = length == 0;
     let lines = format!(in alloc; "var is p = {verdict}\n  - var: {text}\n")?;
@@ -132,10 +138,46 @@ fn sized(rt: &(impl Abort + AllocGlobal), length: usize) -> Result<(), Fail> {
     check(rt, &none, &gone, false, lines.as_str())
 }
 
+// The debug form of so many bytes `a`.
+fn listed(alloc: Global, length: usize) -> Result<String, AllocError> {
+    let mut text = String::from_str(alloc, "[")?;
+    for place in 0..length {
+        text.push_str(if place == 0 { "97" } else { ", 97" })?;
+    }
+    text.push(']')?;
+    Ok(text)
+}
+
+// A file of this many bytes, beside bytes, a text and files.
+fn sized_equality(rt: &(impl Abort + AllocGlobal), length: usize) -> Result<(), Fail> {
+    let alloc = rt.alloc();
+    let text = repeated(alloc, length)?;
+    let there = file_of(alloc, text.as_str())?;
+    let gone = nothing_at(alloc, text.as_str())?;
+    let same = eq_file(file_of(alloc, text.as_str())?)?;
+    let holds = format!(in alloc; "var is {text} = true\n")?;
+    let fails = format!(in alloc; "var is {text} = false\n")?;
+    let mut bytes = Vec::from_slice(alloc, text.as_bytes())?;
+    check(rt, &same, &bytes, true, holds.as_str())?;
+    bytes.push(0)?;
+    check(rt, &same, &bytes, false, fails.as_str())?;
+    check(rt, &same, &there, true, holds.as_str())?;
+    check(rt, &same, &gone, false, fails.as_str())?;
+    has_parameter(rt, &same, "content", listed(alloc, length)?.as_str())?;
+    let same = same.utf8().ok_or("no text")?;
+    check(rt, &same, &text, true, holds.as_str())?;
+    let longer = format!(in alloc; "{text}a")?;
+    check(rt, &same, &longer, false, fails.as_str())?;
+    check(rt, &same, &there, true, holds.as_str())?;
+    check(rt, &same, &gone, false, fails.as_str())?;
+    has_parameter(rt, &same, "content", text.as_str())
+}
+
 #[test]
 fn operands_of_any_size(rt: HostRuntime) -> Result<(), Fail> {
     for length in [0, 1, 300, 70_000] {
         sized(&rt, length)?;
+        sized_equality(&rt, length)?;
     }
     Ok(())
 }
@@ -259,14 +301,21 @@ fn text_equality(rt: HostRuntime) -> Result<(), Fail> {
 #[test]
 fn content(rt: HostRuntime) -> Result<(), Fail> {
     let alloc = rt.alloc();
-    let refused = snapshot(alloc, Ok(File), Ok(File), Err(PermissionDenied))?;
     let same = eq_file(file(alloc, b"a")?)?.from_file_path();
     let lines = "var is p = true\n  - var: p\n";
     check(&rt, &same, &file(alloc, b"a")?, true, lines)?;
     let lines = "var is p = false\n  - var: p\n";
     check(&rt, &same, &file(alloc, b"b")?, false, lines)?;
-    let lines = "var is p = false\n  - var: p\n  - error: permission denied\n";
-    check(&rt, &same, &refused, false, lines)?;
+    for (fault, told) in [
+        (NotFound, "not found"),
+        (PermissionDenied, "permission denied"),
+        (NotRegular, "not a regular file"),
+        (PathFault::Other, "other fault"),
+    ] {
+        let refused = snapshot(alloc, Ok(File), Ok(File), Err(fault))?;
+        let lines = format!(in alloc; "var is p = false\n  - var: p\n  - error: {told}\n")?;
+        check(&rt, &same, &refused, false, lines.as_str())?;
+    }
     assert_eq!(rt; same.parameters(alloc)?.len(), 0);
     let children = same.children(alloc)?;
     assert_eq!(rt; children.len(), 1);

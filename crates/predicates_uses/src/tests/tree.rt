@@ -129,3 +129,17 @@ fn checks_a_tree(rt: HostRuntime) -> Result<(), Fail> {
     assert_eq!(rt; contents?.as_str(), expected.as_str());
     Ok(())
 }
+
+#[test]
+fn expects_at_no_path(rt: HostRuntime) -> Result<(), Fail> {
+    let nothing = expect(&rt, "", predicate::path::missing())?;
+    assert_eq!(rt; nothing.found.path(), "");
+    assert_eq!(rt; check_tree(rt.alloc(), &[nothing])?.len(), 0);
+    let failures = check_tree(rt.alloc(), &[expect(&rt, "", predicate::path::exists())?])?;
+    assert_eq!(rt; failures.len(), 1);
+    assert_eq!(rt;
+        failures[0].lines.as_str(),
+        "exists(var) = false\n  - var: \n"
+    );
+    Ok(())
+}
