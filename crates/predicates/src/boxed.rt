@@ -6,8 +6,6 @@
 //! ```
 
 mod box_predicate;
-#[cfg(test)]
-mod tests;
 mod text_predicate;
 
 pub use box_predicate::BoxPredicate;

@@ -11,8 +11,6 @@ mod hashed;
 mod listed;
 mod sorted;
 mod steps;
-#[cfg(test)]
-mod tests;
 
 pub use hashed::{HashableInPredicate, in_hash};
 pub use listed::{InPredicate, in_iter};

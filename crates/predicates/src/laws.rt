@@ -6,8 +6,6 @@
 //! ```
 
 mod rewriting;
-#[cfg(test)]
-mod tests;
 
 pub use predicates_core::laws::first_reasons;
 pub use rewriting::{

@@ -49,8 +49,6 @@ pub mod name;
 pub mod ord;
 pub mod own;
 pub mod prelude;
-#[cfg(test)]
-mod tests;
 
 pub use boxed::{BoxPredicate, TextPredicate};
 pub use predicates_core::{

@@ -8,8 +8,6 @@
 //! let lines = render(alloc, &case)?;
 //! ```
 
-#[cfg(test)]
-mod tests;
 
 pub use crate::boolean::PredicateBooleanExt;
 pub use crate::name::PredicateNameExt;

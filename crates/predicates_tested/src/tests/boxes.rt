@@ -1,7 +1,7 @@
-use crate::prelude::*;
-use crate::reflection::{PredicateReflection, render};
-use crate::static_text::StaticText;
-use crate::{BoxPredicate, TextPredicate};
+use predicates::prelude::*;
+use predicates::reflection::{PredicateReflection, render};
+use predicates::static_text::StaticText;
+use predicates::{BoxPredicate, TextPredicate};
 use std::alloc::{AllocError, Global};
 use std::test::Fail;
 

@@ -1,8 +1,8 @@
 ghost use Rattle.std.specs.Prelude.{◌≡◌, ◌≤◌, ◌&&◌, nat_le};
 
-use crate::boolean::PredicateBooleanExt;
-use crate::function::function;
-use crate::ord::le;
+use predicates::boolean::PredicateBooleanExt;
+use predicates::function::function;
+use predicates::ord::le;
 use predicates_core::Predicate;
 use predicates_core::reflection::render;
 use predicates_core::static_text::StaticText;

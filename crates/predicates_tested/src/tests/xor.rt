@@ -1,8 +1,8 @@
-use crate::BoxPredicate;
-use crate::boolean::XorPredicate;
-use crate::prelude::*;
-use crate::reflection::{PredicateReflection, render};
-use crate::static_text::StaticText;
+use predicates::BoxPredicate;
+use predicates::boolean::XorPredicate;
+use predicates::prelude::*;
+use predicates::reflection::{PredicateReflection, render};
+use predicates::static_text::StaticText;
 use std::alloc::Global;
 use std::process::Abort;
 use std::test::Fail;

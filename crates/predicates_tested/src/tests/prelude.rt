@@ -1,6 +1,6 @@
-use crate::path::{FileType, PathFault, Snapshot};
-use crate::prelude::*;
-use crate::reflection::PredicateReflection;
+use predicates::path::{FileType, PathFault, Snapshot};
+use predicates::prelude::*;
+use predicates::reflection::PredicateReflection;
 use std::alloc::{AllocError, Global};
 use std::test::Fail;
 

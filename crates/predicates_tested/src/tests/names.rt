@@ -1,8 +1,8 @@
-use crate::boolean::PredicateBooleanExt;
-use crate::constant::never;
-use crate::function::function;
-use crate::name::PredicateNameExt;
-use crate::ord::{eq, lt};
+use predicates::boolean::PredicateBooleanExt;
+use predicates::constant::never;
+use predicates::function::function;
+use predicates::name::PredicateNameExt;
+use predicates::ord::{eq, lt};
 use predicates_core::reflection::{Case, PredicateReflection, render};
 use predicates_core::static_text::StaticText;
 use predicates_core::{Predicate, default_find_case};

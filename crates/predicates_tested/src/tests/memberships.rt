@@ -4,7 +4,7 @@ ghost use Rattle.predicates.specs.In.{members_of};
 ghost use Rattle.predicates.specs.HashableIn as HashableIn;
 ghost use Rattle.predicates.specs.Members.{first_of_equals};
 
-use crate::iter::{HashableInPredicate, InPredicate, Steps, in_hash, in_iter};
+use predicates::iter::{HashableInPredicate, InPredicate, Steps, in_hash, in_iter};
 use predicates_core::Predicate;
 use predicates_core::reflection::{PredicateReflection, render};
 use std::alloc::{AllocError, Global};

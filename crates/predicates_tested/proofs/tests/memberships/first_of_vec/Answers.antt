@@ -6,7 +6,7 @@ use Rattle.predicates.specs.HashableIn.{members_of}
 use Rattle.predicates.specs.Members.{first_of_equals}
 use Rattle.predicates.specs.declared.iter.hashed.HashableInPredicate.{HashableInPredicate}
 use Rattle.predicates.proofs.GivenItems.{kept_from_gives}
-use Rattle.predicates.proofs.iter.tests.first_of_vec.Goals as goal
+use Rattle.predicates_tested.proofs.tests.memberships.first_of_vec.Goals as goal
 
 pub returns : goal.returns
 returns c =

@@ -1,8 +1,8 @@
-use crate::boolean::PredicateBooleanExt;
-use crate::iter::{in_hash, in_iter};
-use crate::laws;
-use crate::name::PredicateNameExt;
-use crate::ord::{eq, ge, gt, le, lt, ne};
+use predicates::boolean::PredicateBooleanExt;
+use predicates::iter::{in_hash, in_iter};
+use predicates::laws;
+use predicates::name::PredicateNameExt;
+use predicates::ord::{eq, ge, gt, le, lt, ne};
 use predicates_core::Predicate;
 use predicates_core::reflection::render;
 use std::alloc::{AllocError, Global};
