@@ -3,13 +3,13 @@ use Rattle.std.proofs.Common.{◌≡◌, ◌≢◌, List, [], ◌∷◌, ◌++�
 use Rattle.std.proofs.lemmas.List.{take-append-le, take-append-drop, length-take, take_at, nil_from_length}
 use Rattle.std.proofs.lemmas.Bool.{cases_lt}
 use Rattle.std.specs.Str.{chars, IsUtf8, IsCharBoundary, encode_utf8_all}
-use Rattle.std.specs.Str.Pattern.{FindsText, LacksTextAt, FindsTextPrefix, SplitsAroundMatch, StripsPrefix}
+use Rattle.std.specs.Str.Pattern.{FindsText, LacksTextAt, SplitsAroundMatch}
 use Rattle.std.proofs.Common.{None, Some, length-take}
-use Rattle.memchr.specs.Find.{FindsNeedle}
+use Rattle.memchr.specs.Find.{OccursAt, FindsNeedle}
 use Rattle.std.proofs.lemmas.Str.{encodes-chars, encodes-append, length-le-encodes}
-use Rattle.predicates_text.proofs.Cuts.{chars_cut, cut_around, lacks_around, lacks_bytes, bytes_around, IsCutAround}
+use Rattle.predicates_text.proofs.Cuts.{cut_around, lacks_around, lacks_bytes, bytes_around, IsCutAround}
 use Rattle.predicates_text.proofs.Found.{empty_chars}
-use Rattle.predicates_text.proofs.Searching.{found_text, lacks_text}
+use Rattle.predicates_text.proofs.Searching.{found_text, lacks_text, of_texts}
 use Rattle.predicates_text.specs.Places.{StandsAt}
 use Rattle.predicates_text.specs.Count.{IsCountOf, IsPastFirst, IsNowhere}
 use Rattle.predicates_text.specs.Counting.{count_none, count_more, count_empty}
@@ -64,17 +64,6 @@ chars_some p u l = ⊎_elim
     (λ some. some)
     (cases_lt (length (chars p)) 1)
 
--- past a place at the front
-pub past_front : (p t rest : List ℕ) → IsUtf8 p → 1 ≤ length p → StripsPrefix (FindsTextPrefix p) t rest → IsPastFirst p t rest
-past_front p t rest up some h =
-    let whole : t ≡ p ++ rest = h.1.1 ∙ ap (λ l. p ++ l) (sym h.2) in
-    record {
-      shorter = omega (arith, ap length whole, length-append p rest, some);
-      among_characters = λ n counted.
-          count_more (chars p) (chars t) [] (chars rest) n (chars_some p up some) (chars_cut t p rest up whole) (λ k at. omega arith) counted;
-      among_bytes = λ n counted. count_more p t [] rest n some whole (λ k at. omega arith) counted;
-    }
-
 -- past the first place, wherever it is
 pub past_place : (p t front back : List ℕ) → IsUtf8 p → IsUtf8 t → 1 ≤ length p → SplitsAroundMatch (FindsText p) t front back → IsPastFirst p t back
 past_place p t front back up ut some h =
@@ -114,6 +103,18 @@ past_found p t back k up ut some found is = past_place p t (take k t) back up ut
   omega (arith, length-take k t, found.1.fits),
   omega (arith, ap length is, length-drop (k + length p) t, found.1.fits),
 )
+
+-- a place at the front
+pub found_at_front : (p t bytes hay : List ℕ) → bytes ≡ p → hay ≡ t → OccursAt hay bytes 0 → FindsNeedle t p 0 (Some 0)
+found_at_front p t bytes hay is_p is_t at = of_texts p t bytes hay (Some 0) is_p is_t
+    (record { low = omega arith; high = omega arith; before = λ i low lt. absurd (omega (arith, lt)) }, at)
+
+pub cut_front : (p t : List ℕ) → IsUtf8 p → IsUtf8 t → FindsNeedle t p 0 (Some 0) → IsCharBoundary t (length p)
+cut_front p t up ut found = let same : 0 + length p ≡ length p = omega arith in subst (IsCharBoundary t) same (cut_found p t 0 up ut found)
+
+pub past_front : (p t back : List ℕ) → IsUtf8 p → IsUtf8 t → 1 ≤ length p → FindsNeedle t p 0 (Some 0) → back ≡ drop (length p) t → IsPastFirst p t back
+past_front p t back up ut some found is =
+    let same : length p ≡ 0 + length p = omega arith in past_found p t back 0 up ut some found (is ∙ ap (λ n. drop n t) same)
 
 pub nowhere_found : (p t : List ℕ) → IsUtf8 p → IsUtf8 t → FindsNeedle t p 0 None → IsNowhere p t
 nowhere_found p t up ut found = nowhere p t up ut (lacks_text p t found)

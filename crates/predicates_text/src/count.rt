@@ -67,15 +67,16 @@ fn past_first<'a>(text: &'a str, pattern: &str, search: &Option<Prepared<'_>>) -
     ensures { MatchOption result (IsNowhere pattern.now text.now)
         (λ rest. IsPastFirst pattern.now text.now rest.now) }
 {
+    let (bytes, wanted) = (text.as_bytes(), pattern.as_bytes());
     // A place at the front is seen without a search.
-    if let Some(rest) = text.strip_prefix(pattern) {
-        return Some(rest);
+    if is_prefix(bytes, wanted) {
+        return Some(&text[pattern.len()..]);
     }
     let Some(search) = search else {
         let (_, rest) = text.split_once(pattern)?;
         return Some(rest);
     };
-    let place = search.first_place(text.as_bytes(), pattern.as_bytes())?;
+    let place = search.first_place(bytes, wanted)?;
     Some(&text[place + pattern.len()..])
 }
 
@@ -100,9 +101,7 @@ impl<'p> Prepared<'p> {
         }
     }
 
-    // The first place of the pattern. Mostly it is where that byte is first seen. It is no part of
-    // the loop of those who call it, which so stays short where each place follows on the last.
-    #[inline(never)]
+    // The first place of the pattern. Mostly it is where that byte is first seen.
     fn first_place(&self, text: &[u8], pattern: &[u8]) -> Option<usize>
         requires { self.now.finder ≡ pattern.now }
         ensures { FindsNeedle text.now pattern.now 0 result }
