@@ -115,6 +115,69 @@ fn faults(rt: HostRuntime) -> Result<(), Fail> {
     Ok(())
 }
 
+// The writer passes on what it keeps back, also where a line was bad or none was read.
+#[test]
+fn flushed_at_each_end(rt: HostRuntime) -> Result<(), Fail> {
+    for input in ["", "x\n", "7\n"] {
+        let mut reader = input.as_bytes();
+        let answer = run_between(rt.alloc(), 5, 10, &mut reader, &mut Unflushed);
+        assert_eq!(rt; answer, Err(RunFault::Output), "at {input:?}");
+    }
+    Ok(())
+}
+
+#[test]
+fn flags_change_no_fault(rt: HostRuntime) -> Result<(), Fail> {
+    for fault in [RunFault::NoMemory, RunFault::Input, RunFault::Output] {
+        let plain = format!(in rt.alloc(); "{fault} {fault} {fault}")?;
+        let flagged = format!(in rt.alloc(); "{fault:#} {fault:40} {fault:.3}")?;
+        assert_eq!(rt; flagged, plain);
+    }
+    Ok(())
+}
+
+const LEAST_OF_ALL: &str =
+    "-9223372036854775808: true\n(var >= -9223372036854775808 && var <= 9223372036854775807) = true\n  left: var >= -9223372036854775808 = true\n    - var: -9223372036854775808\n  right: var <= 9223372036854775807 = true\n    - var: -9223372036854775808\n";
+
+const GREATEST_OF_ALL: &str =
+    "9223372036854775807: true\n(var >= -9223372036854775808 && var <= 9223372036854775807) = true\n  left: var >= -9223372036854775808 = true\n    - var: 9223372036854775807\n  right: var <= 9223372036854775807 = true\n    - var: 9223372036854775807\n";
+
+// Bounds, inputs, and what is written for them: no number lies between, one, and all.
+const BOUNDS: [(i64, i64, &str, &str); 5] = [
+    (
+        10,
+        5,
+        "7",
+        "7: false\n(var >= 10 && var <= 5) = false\n  left: var >= 10 = false\n    - var: 7\n",
+    ),
+    (
+        10,
+        5,
+        "10",
+        "10: false\n(var >= 10 && var <= 5) = false\n  right: var <= 5 = false\n    - var: 10\n",
+    ),
+    (
+        7,
+        7,
+        "7",
+        "7: true\n(var >= 7 && var <= 7) = true\n  left: var >= 7 = true\n    - var: 7\n  right: var <= 7 = true\n    - var: 7\n",
+    ),
+    (i64::MIN, i64::MAX, "-9223372036854775808", LEAST_OF_ALL),
+    (i64::MIN, i64::MAX, "9223372036854775807", GREATEST_OF_ALL),
+];
+
+#[test]
+fn bounds(rt: HostRuntime) -> Result<(), Fail> {
+    for (lo, hi, input, want) in BOUNDS {
+        let mut output = Vec::new(rt.alloc());
+        let mut reader = input.as_bytes();
+        let answer = run_between(rt.alloc(), lo, hi, &mut reader, &mut output);
+        assert_eq!(rt; answer, Ok(true), "at {input:?}");
+        assert_eq!(rt; output.as_slice(), want.as_bytes(), "at {input:?}");
+    }
+    Ok(())
+}
+
 // Writes the blocks of two lines, and says whether memory was refused.
 fn is_refused(alloc: Global) -> Result<bool, Fail> {
     let Ok(mut output) = Vec::with_capacity(alloc, 256) else {

@@ -1,5 +1,5 @@
 //! Lines of texts, from readers and to writers that behave as a rare one may, and a deep check.
-use super::streams::{Broken, ByteByByte, Closed, Narrow};
+use super::streams::{Broken, ByteByByte, Closed, Narrow, Unflushed};
 use crate::{RunFault, TextCheck, Word, apply_word, read_word, run_text};
 use std::alloc::Global;
 use std::test::Fail;
@@ -48,6 +48,21 @@ fn faults(rt: HostRuntime) -> Result<(), Fail> {
     let mut reader = b"  \n".as_slice();
     let answer = run_text(alloc, check, &mut reader, &mut Closed);
     assert_eq!(rt; answer, Err(RunFault::Output));
+    Ok(())
+}
+
+// The writer passes on what it keeps back, also where a line was bad or none was read.
+#[test]
+fn flushed_at_each_end(rt: HostRuntime) -> Result<(), Fail> {
+    let alloc = rt.alloc();
+    let mut stack = Vec::new(alloc);
+    read_check(alloc, &mut stack, &["empty"])?;
+    let check = stack.first().ok_or("no check")?;
+    for input in [b"".as_slice(), b"\xff\n", b"7\n"] {
+        let mut reader = input;
+        let answer = run_text(alloc, check, &mut reader, &mut Unflushed);
+        assert_eq!(rt; answer, Err(RunFault::Output), "at {input:?}");
+    }
     Ok(())
 }
 

@@ -125,5 +125,10 @@ fn two_hundred_times_not(rt: HostRuntime) -> Result<(), Fail> {
 fn faults(rt: HostRuntime) -> Result<(), Fail> {
     let text = WordFault::Operand.to_string(rt.alloc())?;
     assert_eq!(rt; text.as_str(), "missing operand");
+    for fault in [WordFault::Operand, WordFault::Pattern, WordFault::NoMemory] {
+        let plain = format!(in rt.alloc(); "{fault} {fault} {fault}")?;
+        let flagged = format!(in rt.alloc(); "{fault:#} {fault:40} {fault:.3}")?;
+        assert_eq!(rt; flagged, plain);
+    }
     Ok(())
 }

@@ -1,7 +1,7 @@
 //! Large and empty operands.
 use super::split_words;
-use crate::explain_one;
 use crate::program::explain_words;
+use crate::{explain_one, explain_total};
 use predicates::ord::ge;
 use std::alloc::Global;
 use std::test::Fail;
@@ -76,6 +76,107 @@ fn long_lines(rt: HostRuntime) -> Result<(), Fail> {
             expected.push(b'\n')?;
             assert!(rt; written == expected, "at {size}, {words:?}");
         }
+    }
+    Ok(())
+}
+
+// Lines of 0 to 300 bytes, so that what is written for them has each length as well.
+#[test]
+fn lines_of_each_length(rt: HostRuntime) -> Result<(), Fail> {
+    let alloc = rt.alloc();
+    for size in 0..301usize {
+        let mut input = repeated(alloc, "b", size)?;
+        input.push(b'\n')?;
+        let written = answer(alloc, b"text|contains=a", &input)?;
+        let mut expected = Vec::new(alloc);
+        expected.extend_from_slice(b"line 1: false\nvar.contains(a) = false\n  - var: ")?;
+        expected.extend_from_slice(&input)?;
+        assert!(rt; written == expected, "at {size}");
+        let mut number = repeated(alloc, "0", size)?;
+        number.extend_from_slice(b"7\r\n")?;
+        let written = answer(alloc, b"between|5|10", &number)?;
+        assert_eq!(rt; written.as_slice(), SEVEN.as_bytes(), "at {size}");
+    }
+    Ok(())
+}
+
+// Lines that are no items.
+#[test]
+fn long_bad_lines(rt: HostRuntime) -> Result<(), Fail> {
+    let alloc = rt.alloc();
+    for size in [1usize, 255, 256, 300, 70_000] {
+        let mut input = Vec::new(alloc);
+        input.resize(size, 0xff)?;
+        for (line, expected) in [
+            (b"text|empty".as_slice(), "line 1: not UTF-8\n"),
+            (b"between|5|10", "line 1: not a number\n"),
+        ] {
+            let words = split_words(alloc, line)?;
+            let mut reader = input.as_slice();
+            let mut written = Vec::new(alloc);
+            let mut told = Vec::new(alloc);
+            let ended = explain_words(alloc, &words, &mut reader, &mut written, &mut told);
+            assert_eq!(rt; ended.status, 1, "at {size}, {line:?}");
+            assert_eq!(rt;
+                written.as_slice(),
+                expected.as_bytes(),
+                "at {size}, {line:?}"
+            );
+        }
+    }
+    Ok(())
+}
+
+// Each word that takes a text, with texts of any length, and both verdicts.
+#[test]
+fn operands_of_any_length(rt: HostRuntime) -> Result<(), Fail> {
+    let alloc = rt.alloc();
+    for (name, most) in [
+        (b"text|eq=".as_slice(), 70_000usize),
+        (b"text|starts=", 70_000),
+        (b"text|ends=", 70_000),
+        (b"text|contains=", 70_000),
+        (b"text|match=", 300),
+    ] {
+        for size in [1usize, 255, 256, 300, 70_000] {
+            if size > most {
+                continue;
+            }
+            let mut operand = repeated(alloc, "b", size)?;
+            let mut line = Vec::new(alloc);
+            line.extend_from_slice(name)?;
+            line.extend_from_slice(&operand)?;
+            let written = answer(alloc, &line, &operand)?;
+            assert!(rt;
+                written.starts_with(b"line 1: true\nvar"),
+                "at {size}, {name:?}"
+            );
+            operand.pop();
+            operand.push(b'\n')?;
+            let written = answer(alloc, &line, &operand)?;
+            assert!(rt;
+                written.starts_with(b"line 1: false\nvar"),
+                "at {size}, {name:?}"
+            );
+        }
+    }
+    Ok(())
+}
+
+// Labels of any length, also of none.
+#[test]
+fn labels(rt: HostRuntime) -> Result<(), Fail> {
+    let alloc = rt.alloc();
+    for size in [0usize, 1, 255, 256, 300, 70_000] {
+        let mut label = String::new(alloc);
+        for _ in 0..size {
+            label.push_str("b")?;
+        }
+        let one = explain_one(alloc, &ge(5), label.as_str(), &7)?;
+        let total = explain_total(alloc, &ge(5), label.as_str(), &7)?;
+        label.push_str(": true\nvar >= 5 = true\n  - var: 7\n")?;
+        assert!(rt; one == label, "at {size}");
+        assert!(rt; total == label, "at {size}");
     }
     Ok(())
 }
