@@ -31,7 +31,7 @@ fn boxes_in_a_loop(rt: HostRuntime) -> Result<(), Fail> {
     let any = BoxPredicate::new(alloc, Box::new(alloc, any)?)?;
     let checks = vec![in alloc; empty, has_part, any]?;
     let item = String::from_str(alloc, "b")?;
-    let wanted = [
+    let expected = [
         (
             false,
             "var.is_empty()",
@@ -60,7 +60,7 @@ any = true
   any: true = true
 "
     );
-    for (check, (verdict, text, case)) in checks.iter().zip(wanted) {
+    for (check, (verdict, text, case)) in checks.iter().zip(expected) {
         assert_eq!(rt; check.eval(alloc, &item)?, verdict);
         assert_eq!(rt; check.to_string(alloc)?.as_str(), text);
         assert_eq!(rt; case_of(alloc, check, verdict, "b")?.as_str(), case);
