@@ -1,3 +1,4 @@
+pub mod BetweenBlocks
 pub mod BlockLemmas
 pub mod CheckTexts
 pub mod Ending
@@ -5,7 +6,6 @@ pub mod Finding
 pub mod Meant
 pub mod Numerals
 pub mod Progress
-pub mod Same
 pub mod Splitting
 pub mod Typing
 mod WordCount

@@ -1,5 +1,6 @@
 pub mod Answers
 pub mod Applied
+pub mod BetweenTexts
 pub mod Blocks
 pub mod CheckLaws
 pub mod Checks

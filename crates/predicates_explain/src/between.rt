@@ -1,26 +1,104 @@
 //! A run over numbers.
-ghost use Rattle.std.specs.Prelude.{◌≡◌, IfOk, OnOk, string_bytes};
+ghost use Rattle.std.specs.Prelude.{◌≡◌, ◌++◌, codes, IfOk, OnOk, string_bytes};
 ghost use Rattle.std.specs.Fmt.{signed_decimal};
 ghost use Rattle.std.specs.Io.BufRead.{strip_last};
 ghost use Rattle.predicates_explain.specs.Answers.{between_formula, no_number, IsNumber};
 ghost use Rattle.predicates_explain.specs.Answers.{IsNumberAnswer};
+ghost use Rattle.predicates_explain.specs.BetweenTexts.{bound_text, AreTexts, IsBetween};
+ghost use Rattle.predicates_explain.specs.Blocks.{IsBlock};
 ghost use Rattle.predicates_explain.specs.Runs.{HasRun};
 
-use crate::block::complete_block;
 use crate::fault::RunFault;
 use crate::numeral;
 use crate::run::{AnswerLine, run_lines};
-use predicates::boolean::PredicateBooleanExt;
+use itoa::Buffer;
+use predicates::node::printed;
 use predicates::ord::{ge, le};
-use predicates_core::Total;
 use std::alloc::{AllocError, Global};
 use std::fmt::Write as _;
 use std::io::{BufRead, Write};
 
-// Answers lines of numbers by a check.
+// The check `ge(lo).and(le(hi))`, with what its blocks write around the number. A number is below
+// the bounds, above them or inside, and nothing else of its block depends on it: so the blocks are
+// printed once, and a line makes no case.
 #[derive(Drop)]
-pub(crate) struct Numbers<P> {
-    check: P,
+pub(crate) struct Between {
+    lo: i64,
+    hi: i64,
+    below: String,
+    above: String,
+    inside: String,
+    // Between the two numbers of a block inside the bounds.
+    second: String,
+}
+
+// Writes a number, what stands between, and the number once more, which ends its line.
+fn write_shown(text: &mut String, digits: &str, between: &str) -> Result<(), AllocError>
+    ensures { OnOk result (string_bytes text.new ≡
+        string_bytes text.old ++ digits.now ++ between.now ++ digits.now ++ codes "\n") }
+{
+    text.push_str(digits)?;
+    text.push_str(between)?;
+    text.push_str(digits)?;
+    text.push_str("\n")
+}
+
+impl Between {
+    // The check of the bounds that print so.
+    fn from_texts(
+        alloc: Global,
+        lo: i64,
+        hi: i64,
+        lower: &str,
+        upper: &str,
+    ) -> Result<Between, AllocError>
+        ensures bounds { IfOk result (λ b. (b.lo ≡ lo) × (b.hi ≡ hi)) }
+        ensures texts { IfOk result (AreTexts lower.now upper.now) }
+    {
+        let both = format!(in alloc; "({lower} && {upper})")?;
+        Ok(Between {
+            lo,
+            hi,
+            below: format!(in alloc;
+                ": false\n{both} = false\n  left: {lower} = false\n    - var: "
+            )?,
+            above: format!(in alloc;
+                ": false\n{both} = false\n  right: {upper} = false\n    - var: "
+            )?,
+            inside: format!(in alloc;
+                ": true\n{both} = true\n  left: {lower} = true\n    - var: "
+            )?,
+            second: format!(in alloc; "\n  right: {upper} = true\n    - var: ")?,
+        })
+    }
+
+    fn new(alloc: Global, lo: i64, hi: i64) -> Result<Between, AllocError>
+        ensures { IfOk result (IsBetween lo hi) }
+    {
+        let lower = printed(alloc, &ge(lo))?;
+        let upper = printed(alloc, &le(hi))?;
+        Between::from_texts(alloc, lo, hi, &lower, &upper)
+    }
+
+    // Writes the block of the number, in place of what the text held.
+    fn write_block(&self, text: &mut String, n: i64) -> Result<(), AllocError>
+        requires { IsBetween self.now.lo self.now.hi self.now }
+        ensures { OnOk result (IsBlock (signed_decimal n)
+            (between_formula self.now.lo self.now.hi n) (string_bytes text.new)) }
+    {
+        let mut buffer = Buffer::new();
+        let digits = buffer.format(n);
+        text.clear();
+        if n < self.lo {
+            return write_shown(text, digits, &self.below);
+        }
+        if n > self.hi {
+            return write_shown(text, digits, &self.above);
+        }
+        text.push_str(digits)?;
+        text.push_str(&self.inside)?;
+        write_shown(text, digits, &self.second)
+    }
 }
 
 // The bytes without one at the end, if it is this one.
@@ -33,14 +111,6 @@ fn drop_last(line: &[u8], byte: u8) -> &[u8]
     }
 }
 
-// Writes the label of a number, in place of what the text held.
-fn write_label(text: &mut String, n: i64) -> Result<(), AllocError>
-    ensures { OnOk result (string_bytes text.new ≡ signed_decimal n) }
-{
-    text.clear();
-    write!(text, "{n}")
-}
-
 // Writes that the line is no number, in place of what the text held.
 fn write_no_number(text: &mut String, number: u64) -> Result<(), AllocError>
     ensures { OnOk result (string_bytes text.new ≡ no_number number) }
@@ -49,23 +119,24 @@ fn write_no_number(text: &mut String, number: u64) -> Result<(), AllocError>
     writeln!(text, "line {number}: not a number")
 }
 
-impl<P: Total<i64>> AnswerLine for Numbers<P> {
-    ghost is_answer = { λ s number line written. IsNumberAnswer (P.formula_of s.check) number line
-        written };
+impl AnswerLine for Between {
+    ghost lawful = { λ s. IsBetween s.lo s.hi s };
+
+    ghost is_answer = { λ s number line written. IsNumberAnswer (between_formula s.lo s.hi) number
+        line written };
 
     ghost is_item = { λ _ line. IsNumber line };
 
     fn answer(
         &self,
-        alloc: Global,
+        _alloc: Global,
         number: u64,
         line: &[u8],
         text: &mut String,
     ) -> Result<bool, AllocError> {
         match numeral::number(drop_last(line, b'\r')) {
             Some(n) => {
-                write_label(text, n)?;
-                complete_block(alloc, text, &self.check, &n)?;
+                self.write_block(text, n)?;
                 Ok(true)
             }
             None => {
@@ -93,8 +164,6 @@ pub fn run_between<R: BufRead, W: Write>(
         (R.remaining input.old) (R.remaining input.new)
         (W.contents output.old) (W.contents output.new)) }
 {
-    let numbers = Numbers {
-        check: ge(lo).and(le(hi)),
-    };
-    run_lines(alloc, &numbers, input, output)
+    let between = Between::new(alloc, lo, hi)?;
+    run_lines(alloc, &between, input, output)
 }

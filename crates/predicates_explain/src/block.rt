@@ -5,7 +5,6 @@ ghost use Rattle.predicates_explain.specs.Blocks.{HasBlocks, IsBlock};
 use predicates_core::reflection::render_onto;
 use predicates_core::{Predicate, Total};
 use std::alloc::{AllocError, Global};
-use std::fmt::Write;
 
 // Makes the label that the text holds into its block.
 #[tactic(auto, using(crate::proofs::BlockLemmas::blocks))]
@@ -20,10 +19,14 @@ pub(crate) fn complete_block<P: Predicate<Item>, Item>(
         (HasBlocks (P.formula predicate.now item.now) (string_bytes text.old)
         (string_bytes text.new)) }
 {
-    let verdict = predicate.eval(alloc, item)?;
-    writeln!(text, ": {verdict}")?;
+    // A check that joins others is evaluated by `find_case`, so a case for `true` is asked first.
+    if let Some(case) = predicate.find_case(alloc, true, item)? {
+        text.push_str(": true\n")?;
+        return render_onto(alloc, text, &case);
+    }
+    text.push_str(": false\n")?;
     // There is a case, unless the predicate has no formula on the item.
-    if let Some(case) = predicate.find_case(alloc, verdict, item)? {
+    if let Some(case) = predicate.find_case(alloc, false, item)? {
         render_onto(alloc, text, &case)?;
     }
     Ok(())

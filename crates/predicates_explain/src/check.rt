@@ -160,12 +160,23 @@ impl PredicateReflection for TextCheck {
     }
 }
 
-// The text without the white space at its ends.
+// The text without the white space at its ends: the text itself where it has none there, and else a
+// copy in the place.
 #[tactic(auto, using(predicates_text::specs::ViewTexts::bytes_of_chars))]
-fn without_ends(alloc: Global, item: &String) -> Result<String, AllocError>
-    ensures { IfOk result (λ view. string_bytes view ≡ trimmed_bytes (string_bytes item.now)) }
+fn without_ends<'a>(
+    alloc: Global,
+    item: &'a String,
+    copy: &'a mut String,
+) -> Result<&'a String, AllocError>
+    ensures { IfOk result
+        (λ view. string_bytes view.now ≡ trimmed_bytes (string_bytes item.now)) }
 {
-    trimmed(alloc, item)
+    let text = item.as_str();
+    if text.trim().len() == text.len() {
+        return Ok(item);
+    }
+    *copy = trimmed(alloc, item)?;
+    Ok(copy)
 }
 
 // The text with even line endings.
@@ -195,8 +206,8 @@ impl Predicate<String> for TextCheck {
             TextCheck::Contains(leaf) => leaf.eval(alloc, item),
             TextCheck::Matches(leaf) => leaf.eval(alloc, item),
             TextCheck::Trim(inner) => {
-                let view = without_ends(alloc, item)?;
-                inner.eval(alloc, &view)
+                let mut copy = String::new(alloc);
+                inner.eval(alloc, without_ends(alloc, item, &mut copy)?)
             }
             TextCheck::Normalize(inner) => {
                 let view = with_even_lines(alloc, item)?;

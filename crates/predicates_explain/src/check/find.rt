@@ -59,8 +59,13 @@ impl TextCheck {
         ensures { IfOk result (λ _. IsAnswer
             (HasFormula self.now (trimmed_bytes (string_bytes item.now))) expected found.new) }
     {
-        let view = without_ends(alloc, item)?;
-        self.find(alloc, expected, &view, found)
+        let mut copy = String::new(alloc);
+        self.find(
+            alloc,
+            expected,
+            without_ends(alloc, item, &mut copy)?,
+            found,
+        )
     }
 
     // The case of the text with even line endings.
