@@ -8,7 +8,6 @@ ghost use Rattle.predicates_core.specs.Tree.{empty};
 ghost use Rattle.predicates.specs.Function.{HasOneAnswer, IsCall, call_text, call_text_fits};
 ghost use Rattle.predicates.specs.Function.{one_call, function_of, name_of};
 
-
 use predicates_core::Predicate;
 use predicates_core::lasting::Lasting;
 use predicates_core::node::{alone, printed};

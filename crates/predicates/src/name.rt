@@ -11,7 +11,6 @@ ghost use Rattle.predicates_core.specs.Combined.{IsNamed};
 ghost use Rattle.predicates_core.proofs.CombinedLemmas.{named_text_fits, one_named, has_named};
 ghost use Rattle.predicates.specs.Name.{inner_of, name_of};
 
-
 use predicates_core::lasting::Lasting;
 use predicates_core::node::{over_one, printed};
 use predicates_core::reflection::{Case, Child, Parameter, PredicateReflection, describe};

@@ -8,7 +8,6 @@
 //! let lines = render(alloc, &case)?;
 //! ```
 
-
 pub use crate::boolean::PredicateBooleanExt;
 pub use crate::name::PredicateNameExt;
 pub use crate::{BoxPredicate, Predicate, laws};

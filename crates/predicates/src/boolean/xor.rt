@@ -6,7 +6,6 @@ ghost use Rattle.predicates_core.specs.Parts.{two_parts};
 ghost use Rattle.predicates_core.specs.Combined.{infix_text, IsXor};
 ghost use Rattle.predicates_core.proofs.CombinedLemmas.{xor_text_fits, one_xor, has_xor};
 
-
 use crate::own::xor_case;
 use predicates_core::reflection::{Case, Child, Parameter, PredicateReflection, describe};
 use predicates_core::{Content, Predicate, ReadsContent, Total};
