@@ -85,14 +85,14 @@ fn long_lines(rt: HostRuntime) -> Result<(), Fail> {
 fn lines_of_each_length(rt: HostRuntime) -> Result<(), Fail> {
     let alloc = rt.alloc();
     for size in 0..301usize {
-        let mut input = repeated(alloc, "b", size)?;
+        let mut input = repeat(alloc, "b", size)?;
         input.push(b'\n')?;
         let written = answer(alloc, b"text|contains=a", &input)?;
         let mut expected = Vec::new(alloc);
         expected.extend_from_slice(b"line 1: false\nvar.contains(a) = false\n  - var: ")?;
         expected.extend_from_slice(&input)?;
         assert!(rt; written == expected, "at {size}");
-        let mut number = repeated(alloc, "0", size)?;
+        let mut number = repeat(alloc, "0", size)?;
         number.extend_from_slice(b"7\r\n")?;
         let written = answer(alloc, b"between|5|10", &number)?;
         assert_eq!(rt; written.as_slice(), SEVEN.as_bytes(), "at {size}");
@@ -142,7 +142,7 @@ fn operands_of_any_length(rt: HostRuntime) -> Result<(), Fail> {
             if size > most {
                 continue;
             }
-            let mut operand = repeated(alloc, "b", size)?;
+            let mut operand = repeat(alloc, "b", size)?;
             let mut line = Vec::new(alloc);
             line.extend_from_slice(name)?;
             line.extend_from_slice(&operand)?;
