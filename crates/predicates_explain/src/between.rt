@@ -151,8 +151,9 @@ impl AnswerLine for Between {
 /// `lo` to `hi`, both included, and says whether every line was a number.
 ///
 /// Lines end by a line feed, and one carriage return before it is dropped. A line that is no number
-/// is told as `line K: not a number`, with K from 1. It takes memory for one line and one block at
-/// a time. After a fault nothing is said of how much was written.
+/// is told as `line K: not a number`, with K from 1. It takes memory for its texts before it reads,
+/// and then for one line and one block at a time. After a fault nothing is said of how much was
+/// written.
 pub fn run_between<R: BufRead, W: Write>(
     alloc: Global,
     lo: i64,

@@ -149,11 +149,11 @@ fn runs_over_texts(rt: HostRuntime) -> Result<(), Fail> {
     sweep(&rt, "run_text of a pattern", &lines, told, GoesOn)
 }
 
-// Nothing is read and nothing is written, so nothing is kept.
+// Nothing is read and nothing is written. A run over numbers prints its blocks before it reads.
 #[test]
 fn runs_over_nothing(rt: HostRuntime) -> Result<(), Fail> {
     let nothing = Between { input: b"" };
-    sweep(&rt, "run_between over nothing", &nothing, "true\n", Never)?;
+    sweep(&rt, "run_between over nothing", &nothing, "true\n", Taken)?;
     let stack = stacked(rt.alloc(), &["empty"])?;
     let check = stack.first().ok_or("no check")?;
     let nothing = Texts { check, input: b"" };
