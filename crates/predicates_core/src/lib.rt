@@ -18,7 +18,5 @@ pub mod node;
 mod predicate;
 pub mod reflection;
 pub mod static_text;
-#[cfg(test)]
-mod tests;
 
 pub use predicate::{Content, Predicate, ReadsContent, Total, default_find_case};

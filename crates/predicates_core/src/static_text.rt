@@ -8,9 +8,6 @@ ghost use Rattle.std.specs.Prelude.{◌≡◌, ℕ, List, length, ◌^◌, ◌<�
 ghost use denote.RawPtr.{Ptr};
 ghost use Rattle.predicates_core.specs.Ownership.{IsPlaced, seen_owns};
 
-#[cfg(test)]
-mod tests;
-
 use std::marker::Model;
 use std::{slice, str};
 

@@ -36,6 +36,3 @@ pub use numeral::number;
 pub use program::{Ended, explain_words, run_program};
 pub use text::run_text;
 pub use words::{Word, WordFault, apply_word, read_word};
-
-#[cfg(test)]
-mod tests;

@@ -4,8 +4,6 @@ mod answer;
 mod end;
 mod read;
 mod runtime;
-#[cfg(test)]
-mod tests;
 
 pub use answer::explain_words;
 pub use end::Ended;

@@ -4,9 +4,6 @@ ghost use Rattle.std.specs.Str.{IsUtf8};
 ghost use Rattle.predicates_explain.specs.TextAnswers.{line_label, no_text, IsTextAnswer};
 ghost use Rattle.predicates_explain.specs.Runs.{HasRun};
 
-#[cfg(test)]
-mod tests;
-
 use crate::block::complete_block;
 use crate::fault::RunFault;
 use crate::run::{AnswerLine, run_lines};

@@ -10,8 +10,6 @@
 
 mod apply;
 mod fault;
-#[cfg(test)]
-mod tests;
 mod word;
 
 pub use apply::apply_word;

@@ -28,6 +28,3 @@ pub use file_type::FileType;
 pub use kind::{FileTypePredicate, is_dir, is_file, is_symlink};
 pub use snapshot::Snapshot;
 pub use text_equality::StrFilePredicate;
-
-#[cfg(test)]
-mod tests;

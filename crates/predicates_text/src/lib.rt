@@ -16,8 +16,6 @@ pub mod count;
 mod expressions;
 mod node;
 pub mod places;
-#[cfg(test)]
-mod tests;
 mod views;
 
 pub use adapters::{NormalizedPredicate, PredicateStrExt, TrimPredicate, Utf8Predicate};

@@ -13,8 +13,6 @@ mod requirement;
 mod sifted;
 mod sifted_by;
 mod tested;
-#[cfg(test)]
-mod tests;
 mod tree;
 
 pub use answer::IsTheAnswer;

@@ -1,0 +1,236 @@
+//! What no contract says: that calls succeed, and where faults come from.
+use super::streams::{Broken, ByteByByte, Closed, Narrow, Unflushed};
+use predicates::boolean::PredicateBooleanExt;
+use predicates::ord::{ge, le, lt};
+use predicates_explain::{RunFault, explain_one, explain_total, number, run_between};
+use std::alloc::Global;
+use std::test::Fail;
+
+const SEVEN: &str =
+    "7: true\n(var >= 5 && var <= 10) = true\n  left: var >= 5 = true\n    - var: 7\n  right: var <= 10 = true\n    - var: 7\n";
+
+const ELEVEN: &str =
+    "11: false\n(var >= 5 && var <= 10) = false\n  right: var <= 10 = false\n    - var: 11\n";
+
+const ZERO: &str =
+    "0: false\n(var >= 5 && var <= 10) = false\n  left: var >= 5 = false\n    - var: 0\n";
+
+// Two lines, the second of them cut short.
+const CUT: &str =
+    "7: true\n(var >= 5 && var <= 10) = true\n  left: var >= 5 = true\n    - var: 7\n  right: var <= 10 = true\n    - var: 7\n1: false\n(var >= 5 && var <= 10) = false\n  left: var >= 5 = false\n    - var: 1\n";
+
+const LEAST: &str =
+    "-9223372036854775808: false\n(var >= 5 && var <= 10) = false\n  left: var >= 5 = false\n    - var: -9223372036854775808\n";
+
+// Inputs, what is written for them between 5 and 10, and whether every line is an item.
+const ROWS: [(&str, &str, bool); 14] = [
+    ("", "", true),
+    ("+7", SEVEN, true),
+    ("7", SEVEN, true),
+    ("7\r\n", SEVEN, true),
+    ("7\n1", CUT, true),
+    ("00011\n", ELEVEN, true),
+    ("-0", ZERO, true),
+    ("-9223372036854775808", LEAST, true),
+    (
+        "x\n9223372036854775808\n",
+        "line 1: not a number\nline 2: not a number\n",
+        false,
+    ),
+    ("7\r\r\n", "line 1: not a number\n", false),
+    ("\n", "line 1: not a number\n", false),
+    ("-9223372036854775809", "line 1: not a number\n", false),
+    (
+        "\n\n",
+        "line 1: not a number\nline 2: not a number\n",
+        false,
+    ),
+    ("٣", "line 1: not a number\n", false),
+];
+
+#[test]
+fn rows(rt: HostRuntime) -> Result<(), Fail> {
+    for (input, expected, all) in ROWS {
+        let mut output = Vec::new(rt.alloc());
+        let mut reader = input.as_bytes();
+        let answer = run_between(rt.alloc(), 5, 10, &mut reader, &mut output);
+        assert_eq!(rt; answer, Ok(all), "at {input:?}");
+        assert_eq!(rt; output.as_slice(), expected.as_bytes(), "at {input:?}");
+    }
+    Ok(())
+}
+
+#[test]
+fn one_byte_at_a_time(rt: HostRuntime) -> Result<(), Fail> {
+    for (input, expected, all) in ROWS {
+        let mut output = Narrow {
+            got: Vec::new(rt.alloc()),
+        };
+        let mut reader = ByteByByte {
+            bytes: input.as_bytes(),
+        };
+        let answer = run_between(rt.alloc(), 5, 10, &mut reader, &mut output);
+        assert_eq!(rt; answer, Ok(all), "at {input:?}");
+        assert_eq!(rt; output.got.as_slice(), expected.as_bytes(), "at {input:?}");
+    }
+    Ok(())
+}
+
+// A line of bytes that are no text, between two numbers, the second of them cut short.
+#[test]
+fn no_text(rt: HostRuntime) -> Result<(), Fail> {
+    let mut output = Vec::new(rt.alloc());
+    let mut reader = b"7\n\xff7\n1".as_slice();
+    let answer = run_between(rt.alloc(), 1, 1, &mut reader, &mut output);
+    assert_eq!(rt; answer, Ok(false));
+    let expected =
+        "7: false\n(var >= 1 && var <= 1) = false\n  right: var <= 1 = false\n    - var: 7\nline 2: not a number\n1: true\n(var >= 1 && var <= 1) = true\n  left: var >= 1 = true\n    - var: 1\n  right: var <= 1 = true\n    - var: 1\n";
+    assert_eq!(rt; output.as_slice(), expected.as_bytes());
+    Ok(())
+}
+
+#[test]
+fn faults(rt: HostRuntime) -> Result<(), Fail> {
+    let mut output = Vec::new(rt.alloc());
+    let mut reader = Broken {
+        bytes: "7\n1".as_bytes(),
+    };
+    let answer = run_between(rt.alloc(), 5, 10, &mut reader, &mut output);
+    assert_eq!(rt; answer, Err(RunFault::Input));
+    // What was read whole is answered, once.
+    assert_eq!(rt; output.as_slice(), SEVEN.as_bytes());
+    let mut reader = "7\n".as_bytes();
+    let answer = run_between(rt.alloc(), 5, 10, &mut reader, &mut Closed);
+    assert_eq!(rt; answer, Err(RunFault::Output));
+    let mut reader = "7\n".as_bytes();
+    let answer = run_between(rt.alloc(), 5, 10, &mut reader, &mut Unflushed);
+    assert_eq!(rt; answer, Err(RunFault::Output));
+    assert_eq!(rt;
+        RunFault::Output.to_string(rt.alloc())?.as_str(),
+        "output fault"
+    );
+    Ok(())
+}
+
+// The writer passes on what it keeps back, also where a line was bad or none was read.
+#[test]
+fn flushed_at_each_end(rt: HostRuntime) -> Result<(), Fail> {
+    for input in ["", "x\n", "7\n"] {
+        let mut reader = input.as_bytes();
+        let answer = run_between(rt.alloc(), 5, 10, &mut reader, &mut Unflushed);
+        assert_eq!(rt; answer, Err(RunFault::Output), "at {input:?}");
+    }
+    Ok(())
+}
+
+#[test]
+fn flags_change_no_fault(rt: HostRuntime) -> Result<(), Fail> {
+    for fault in [RunFault::NoMemory, RunFault::Input, RunFault::Output] {
+        let plain = format!(in rt.alloc(); "{fault} {fault} {fault}")?;
+        let flagged = format!(in rt.alloc(); "{fault:#} {fault:40} {fault:.3}")?;
+        assert_eq!(rt; flagged, plain);
+    }
+    Ok(())
+}
+
+const LEAST_OF_ALL: &str =
+    "-9223372036854775808: true\n(var >= -9223372036854775808 && var <= 9223372036854775807) = true\n  left: var >= -9223372036854775808 = true\n    - var: -9223372036854775808\n  right: var <= 9223372036854775807 = true\n    - var: -9223372036854775808\n";
+
+const GREATEST_OF_ALL: &str =
+    "9223372036854775807: true\n(var >= -9223372036854775808 && var <= 9223372036854775807) = true\n  left: var >= -9223372036854775808 = true\n    - var: 9223372036854775807\n  right: var <= 9223372036854775807 = true\n    - var: 9223372036854775807\n";
+
+// Bounds, inputs, and what is written for them: no number lies between, one, and all.
+const BOUNDS: [(i64, i64, &str, &str); 5] = [
+    (
+        10,
+        5,
+        "7",
+        "7: false\n(var >= 10 && var <= 5) = false\n  left: var >= 10 = false\n    - var: 7\n",
+    ),
+    (
+        10,
+        5,
+        "10",
+        "10: false\n(var >= 10 && var <= 5) = false\n  right: var <= 5 = false\n    - var: 10\n",
+    ),
+    (
+        7,
+        7,
+        "7",
+        "7: true\n(var >= 7 && var <= 7) = true\n  left: var >= 7 = true\n    - var: 7\n  right: var <= 7 = true\n    - var: 7\n",
+    ),
+    (i64::MIN, i64::MAX, "-9223372036854775808", LEAST_OF_ALL),
+    (i64::MIN, i64::MAX, "9223372036854775807", GREATEST_OF_ALL),
+];
+
+#[test]
+fn bounds(rt: HostRuntime) -> Result<(), Fail> {
+    for (lo, hi, input, want) in BOUNDS {
+        let mut output = Vec::new(rt.alloc());
+        let mut reader = input.as_bytes();
+        let answer = run_between(rt.alloc(), lo, hi, &mut reader, &mut output);
+        assert_eq!(rt; answer, Ok(true), "at {input:?}");
+        assert_eq!(rt; output.as_slice(), want.as_bytes(), "at {input:?}");
+    }
+    Ok(())
+}
+
+// Writes the blocks of two lines, and says whether memory was refused.
+fn is_refused(alloc: Global) -> Result<bool, Fail> {
+    let Ok(mut output) = Vec::with_capacity(alloc, 256) else {
+        return Ok(true);
+    };
+    let mut reader = "7\n11\n".as_bytes();
+    match run_between(alloc, 5, 10, &mut reader, &mut output) {
+        Err(RunFault::NoMemory) => Ok(true),
+        Ok(true) if output.starts_with(SEVEN.as_bytes()) && output.ends_with(ELEVEN.as_bytes()) => {
+            Ok(false)
+        }
+        _ => Err("another answer".into()),
+    }
+}
+
+// Whichever request for memory is refused, the answer is that, or right, and so is the next one.
+#[test]
+fn refused_memory(rt: HostRuntime) -> Result<(), Fail> {
+    if is_refused(rt.alloc())? {
+        assert!(rt; !is_refused(rt.alloc())?);
+    }
+    Ok(())
+}
+
+#[test]
+fn blocks(rt: HostRuntime) -> Result<(), Fail> {
+    let alloc = rt.alloc();
+    let between = ge(5).and(le(10));
+    assert_eq!(rt; explain_one(alloc, &between, "7", &7)?.as_str(), SEVEN);
+    let outside = lt(5).or(le(10).not());
+    assert_eq!(rt;
+        explain_total(alloc, &outside, "line 3", &11)?.as_str(),
+        "\
+line 3: true
+(var < 5 || (! var <= 10)) = true
+  right: (! var <= 10) = true
+    predicate: var <= 10 = false
+      - var: 11
+"
+    );
+    Ok(())
+}
+
+#[test]
+fn numbers(rt: HostRuntime) {
+    for (line, expected) in [
+        ("+7", Some(7)),
+        ("-9223372036854775808", Some(i64::MIN)),
+        ("9223372036854775807", Some(i64::MAX)),
+        ("9223372036854775808", None),
+        ("", None),
+        ("+", None),
+        ("+-1", None),
+        (" 1", None),
+        ("1_0", None),
+    ] {
+        assert_eq!(rt; number(line.as_bytes()), expected, "at {line:?}");
+    }
+}

@@ -1,0 +1,73 @@
+use super::split_words;
+use crate::tests::streams::{Closed, FailingReader, FailingWriter};
+use predicates_explain::explain_words;
+use std::io::ErrorKind;
+use std::test::Fail;
+
+const NO_MEMORY: &str = "explain: no memory\n";
+
+const FAULT: &str = "explain: input or output fault\n";
+
+const KINDS: [(ErrorKind, &str); 3] = [
+    (ErrorKind::OutOfMemory, NO_MEMORY),
+    (ErrorKind::BrokenPipe, FAULT),
+    (ErrorKind::InvalidData, FAULT),
+];
+
+// Each read in turn wants memory, or fails.
+#[test]
+fn failing_reads(rt: HostRuntime) -> Result<(), Fail> {
+    let alloc = rt.alloc();
+    for line in [b"text|empty".as_slice(), b"between|5|10".as_slice()] {
+        let words = split_words(alloc, line)?;
+        for (kind, message) in KINDS {
+            for calls in 0..4usize {
+                let mut reader = FailingReader {
+                    bytes: b"1\n2",
+                    calls,
+                    kind,
+                };
+                let mut written = Vec::new(alloc);
+                let mut told = Vec::new(alloc);
+                let ended = explain_words(alloc, &words, &mut reader, &mut written, &mut told);
+                assert_eq!(rt; ended.status, 3, "at {line:?}, {calls}");
+                assert_eq!(rt; told.as_slice(), message.as_bytes(), "at {line:?}, {calls}");
+            }
+        }
+    }
+    Ok(())
+}
+
+// Each write and the flush in turn want memory, or fail.
+#[test]
+fn failing_writes(rt: HostRuntime) -> Result<(), Fail> {
+    let alloc = rt.alloc();
+    for line in [b"text|empty".as_slice(), b"between|5|10".as_slice()] {
+        let words = split_words(alloc, line)?;
+        for (kind, message) in KINDS {
+            for calls in 0..3usize {
+                let mut reader = b"1\n2".as_slice();
+                let mut writer = FailingWriter { calls, kind };
+                let mut told = Vec::new(alloc);
+                let ended = explain_words(alloc, &words, &mut reader, &mut writer, &mut told);
+                assert_eq!(rt; ended.status, 3, "at {line:?}, {calls}");
+                assert_eq!(rt; told.as_slice(), message.as_bytes(), "at {line:?}, {calls}");
+            }
+        }
+    }
+    Ok(())
+}
+
+// A message that can't be written leaves the status as it is.
+#[test]
+fn no_place_for_messages(rt: HostRuntime) -> Result<(), Fail> {
+    let alloc = rt.alloc();
+    let words = split_words(alloc, b"text|and")?;
+    let mut reader = b"1".as_slice();
+    let mut written = Vec::new(alloc);
+    let ended = explain_words(alloc, &words, &mut reader, &mut written, &mut Closed);
+    assert_eq!(rt; ended.status, 2);
+    assert!(rt; !ended.told);
+    assert_eq!(rt; written.len(), 0);
+    Ok(())
+}

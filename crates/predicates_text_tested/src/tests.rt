@@ -1,0 +1,3 @@
+mod derives;
+mod sizes;
+mod texts;
