@@ -1,2 +1,3 @@
 mod cases;
+mod list;
 mod static_text;

@@ -10,9 +10,6 @@ ghost use Rattle.std.specs.Prelude.{option_map};
 ghost use Rattle.predicates_core.specs.Tree.{named_trees};
 ghost use Rattle.predicates_core.specs.Describe.{leaf, with_product, with_child};
 
-#[cfg(test)]
-mod tests;
-
 use crate::reflection::Product;
 use crate::static_text::StaticText;
 use std::alloc::{AllocError, Global};
