@@ -1,5 +1,5 @@
 //! A combinator of the caller's own that asks its right part first.
-ghost use Rattle.std.specs.Prelude.{◌≡◌, [], codes};
+ghost use Rattle.std.specs.Prelude.{◌≡◌, ◌==◌, ◌||◌, [], Ok, codes, nat_lt};
 ghost use Rattle.predicates_core.specs.Parts.{two_parts};
 ghost use Rattle.predicates_core.specs.Combined.{IsOr};
 ghost use Rattle.predicates_core.proofs.CombinedLemmas.{or_text_fits, one_or};
@@ -117,7 +117,9 @@ impl<P: Predicate<Item>, Q: Predicate<Item>, Item> Predicate<Item> for LastFirst
     }
 }
 
-/// Whether the number is 42 or below 10.
-pub fn is_known(alloc: Global, number: &u32) -> Result<bool, AllocError> {
+/// Whether the number is 42 or below 10. It takes no memory.
+pub fn is_known(alloc: Global, number: &u32) -> Result<bool, AllocError>
+    ensures { result ≡ Ok (number.now == 42 || nat_lt number.now 10) }
+{
     LastFirst::new(IsTheAnswer, lt(10)).eval(alloc, number)
 }
