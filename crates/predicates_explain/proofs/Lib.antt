@@ -9,3 +9,4 @@ pub mod Progress
 pub mod Splitting
 pub mod Typing
 mod WordCount
+pub mod WrittenLines

@@ -15,3 +15,4 @@ pub mod Tokens
 pub mod Typed
 pub mod Weight
 pub mod WordFault
+pub mod WrittenLines

@@ -10,7 +10,7 @@ ghost use Rattle.predicates_explain.specs.Runs.{HasRun};
 
 use crate::fault::RunFault;
 use crate::numeral;
-use crate::run::{AnswerLine, run_lines};
+use crate::run::{AnswerLine, Spare, run_lines};
 use itoa::Buffer;
 use predicates::node::printed;
 use predicates::ord::{ge, le};
@@ -133,6 +133,7 @@ impl AnswerLine for Between {
         number: u64,
         line: &[u8],
         text: &mut String,
+        _spare: &mut Spare,
     ) -> Result<bool, AllocError> {
         match numeral::number(drop_last(line, b'\r')) {
             Some(n) => {

@@ -9,11 +9,16 @@ ghost use Rattle.predicates_explain.specs.Checks.{IsSteadyCheck};
 ghost use Rattle.predicates_explain.specs.CheckLaws.{check_text_fits, one_check, has_check_formula};
 ghost use Rattle.predicates_explain.specs.Weight.{IsAlone};
 
+pub(crate) mod draft;
 mod find;
 mod leaf;
+mod lines;
 mod nodes;
+mod shallow;
 mod turn;
+mod write;
 
+use leaf::eval_leaf;
 use predicates::ord::EqPredicate;
 use predicates::reflection::{Case, Child, Parameter, PredicateReflection};
 use predicates::str::{
@@ -162,6 +167,7 @@ impl PredicateReflection for TextCheck {
 
 // The text without the white space at its ends: the text itself where it has none there, and else a
 // copy in the place.
+#[inline(never)]
 #[tactic(auto, using(predicates_text::specs::ViewTexts::bytes_of_chars))]
 fn without_ends<'a>(
     alloc: Global,
@@ -180,6 +186,7 @@ fn without_ends<'a>(
 }
 
 // The text with even line endings.
+#[inline(never)]
 #[tactic(auto, using(predicates_text::specs::ViewTexts::bytes_of_chars))]
 fn with_even_lines(alloc: Global, item: &String) -> Result<String, AllocError>
     ensures { IfOk result (λ view. string_bytes view ≡ even_bytes (string_bytes item.now)) }
@@ -199,12 +206,12 @@ impl Predicate<String> for TextCheck {
     #[tactic(auto, using(predicates_core::proofs::CombinedLemmas::combined))]
     fn eval(&self, alloc: Global, item: &String) -> Result<bool, AllocError> {
         match self {
-            TextCheck::Empty(leaf) => leaf.eval(alloc, item),
-            TextCheck::Equals(leaf) => leaf.eval(alloc, item),
-            TextCheck::Starts(leaf) => leaf.eval(alloc, item),
-            TextCheck::Ends(leaf) => leaf.eval(alloc, item),
-            TextCheck::Contains(leaf) => leaf.eval(alloc, item),
-            TextCheck::Matches(leaf) => leaf.eval(alloc, item),
+            TextCheck::Empty(leaf) => eval_leaf(alloc, leaf, item),
+            TextCheck::Equals(leaf) => eval_leaf(alloc, leaf, item),
+            TextCheck::Starts(leaf) => eval_leaf(alloc, leaf, item),
+            TextCheck::Ends(leaf) => eval_leaf(alloc, leaf, item),
+            TextCheck::Contains(leaf) => eval_leaf(alloc, leaf, item),
+            TextCheck::Matches(leaf) => eval_leaf(alloc, leaf, item),
             TextCheck::Trim(inner) => {
                 let mut copy = String::new(alloc);
                 inner.eval(alloc, without_ends(alloc, item, &mut copy)?)

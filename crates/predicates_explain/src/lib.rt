@@ -34,5 +34,5 @@ pub use check::TextCheck;
 pub use fault::RunFault;
 pub use numeral::number;
 pub use program::{Ended, explain_words, run_program};
-pub use text::run_text;
+pub use text::{run_check, run_text};
 pub use words::{Word, WordFault, apply_word, read_word};

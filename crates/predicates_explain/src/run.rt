@@ -8,10 +8,19 @@ ghost use Rattle.std.specs.Io.KnownBytes.{Appends, Keeps};
 ghost use Rattle.predicates_explain.specs.Runs.{input_lines, HasRun};
 ghost use Rattle.predicates_explain.specs.declared.fault.RunFault.TheVariants.{NoMemory};
 
+use crate::check::draft::Draft;
 use crate::fault::RunFault;
 use std::alloc::{AllocError, Global};
 use std::io;
 use std::io::{BufRead, ErrorKind, Write};
+
+// Texts that an answer may use, and that take memory once for many lines.
+#[derive(Drop)]
+pub(crate) struct Spare {
+    // The line as a text.
+    pub(crate) item: String,
+    pub(crate) draft: Draft,
+}
 
 // Answers lines one by one.
 pub(crate) trait AnswerLine {
@@ -31,6 +40,7 @@ pub(crate) trait AnswerLine {
         number: u64,
         line: &[u8],
         text: &mut String,
+        spare: &mut Spare,
     ) -> Result<bool, AllocError>
         requires { lawful self.now }
         ensures text { OnOk result (is_answer self.now number line.now (string_bytes text.new)) }
@@ -109,13 +119,17 @@ pub(crate) fn run_lines<C: AnswerLine, R: BufRead, W: Write>(
 {
     let mut line = Vec::new(alloc);
     let mut text = String::new(alloc);
+    let mut spare = Spare {
+        item: String::new(alloc),
+        draft: Draft::new(alloc),
+    };
     let mut all = true;
     for taken in 0..u64::MAX {
         if !next_line(input, &mut line)? {
             flush(output)?;
             return Ok(all);
         }
-        let is_item = check.answer(alloc, taken + 1, &line, &mut text)?;
+        let is_item = check.answer(alloc, taken + 1, &line, &mut text, &mut spare)?;
         write_text(output, text.as_str())?;
         all &= is_item;
     }

@@ -4,9 +4,12 @@ ghost use Rattle.std.specs.Str.{IsUtf8};
 ghost use Rattle.predicates_explain.specs.TextAnswers.{line_label, no_text, IsTextAnswer};
 ghost use Rattle.predicates_explain.specs.Runs.{HasRun};
 
+mod checked;
+
 use crate::block::complete_block;
 use crate::fault::RunFault;
-use crate::run::{AnswerLine, run_lines};
+use crate::run::{AnswerLine, Spare, run_lines};
+pub use checked::run_check;
 use predicates_core::Predicate;
 use std::alloc::{AllocError, Global};
 use std::fmt::Write as _;
@@ -49,6 +52,7 @@ impl<P: Predicate<String>> AnswerLine for Texts<'_, P> {
         number: u64,
         line: &[u8],
         text: &mut String,
+        _spare: &mut Spare,
     ) -> Result<bool, AllocError> {
         match str::from_utf8(line) {
             Ok(decoded) => {

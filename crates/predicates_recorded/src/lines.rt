@@ -4,7 +4,7 @@ use crate::outcome::{Difference, compare, compare_text};
 use crate::table::Table;
 use anyhow::{Context, Result, anyhow, bail};
 use predicates_explain::{
-    TextCheck, WordFault, apply_word, number, read_word, run_between, run_text,
+    TextCheck, WordFault, apply_word, number, read_word, run_between, run_check, run_text,
 };
 use std::alloc::Global;
 
@@ -106,11 +106,17 @@ impl Table for TextRuns {
         let check = read_check(alloc, words)?;
         compare_flags(alloc, wrong, &check)?;
         let input = bytes(alloc, input)?;
-        let mut written = Vec::new(alloc);
-        let mut input = input.as_slice();
-        let all = run_text(alloc, &check, &mut input, &mut written).map_err(|fault| anyhow!(
-            "{fault}"
-        ))?;
-        compare_run(alloc, wrong, [status, output], all, written)
+        for makes_cases in [false, true] {
+            let mut written = Vec::new(alloc);
+            let mut input = input.as_slice();
+            let ended = if makes_cases {
+                run_text(alloc, &check, &mut input, &mut written)
+            } else {
+                run_check(alloc, &check, &mut input, &mut written)
+            };
+            let all = ended.map_err(|fault| anyhow!("{fault}"))?;
+            compare_run(alloc, wrong, [status, output], all, written)?;
+        }
+        Ok(())
     }
 }

@@ -1,10 +1,25 @@
-//! The case of a leaf of a check.
-ghost use Rattle.std.specs.Prelude.{IfOk};
+//! The verdict of a leaf of a check, and its case.
+ghost use Rattle.std.specs.Prelude.{IfOk, IsOk};
+ghost use Rattle.predicates_core.specs.Formula.{HasTruth};
 ghost use Rattle.predicates_core.specs.Shows.{IsAnswer};
 
 use predicates::Predicate;
 use predicates::reflection::Case;
 use std::alloc::{AllocError, Global};
+
+// What the leaf's `eval` answers, in a frame that no part of a check stands on.
+#[inline(never)]
+pub(crate) fn eval_leaf<P: Predicate<String>>(
+    alloc: Global,
+    leaf: &P,
+    item: &String,
+) -> Result<bool, AllocError>
+    requires { P.lawful leaf.now }
+    ensures truth { IfOk result (HasTruth (P.formula leaf.now item.now)) }
+    ensures steady { P.steady leaf.now item.now → IsOk result }
+{
+    leaf.eval(alloc, item)
+}
 
 // Puts what the leaf's `find_case` answers, in a frame that no part of a check stands on.
 #[inline(never)]

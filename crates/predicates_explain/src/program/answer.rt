@@ -7,7 +7,7 @@ use super::end::{End, Ended, end_of};
 use super::read::{read_bounds, read_check};
 use crate::between::run_between;
 use crate::fault::RunFault;
-use crate::text::run_text;
+use crate::text::run_check;
 use std::alloc::Global;
 use std::io::{BufRead, Write};
 
@@ -45,7 +45,7 @@ fn run_words<R: BufRead, W: Write>(
             None => End::Usage,
         },
         [name, tokens @ ..] if is_name(name, "text") => match read_check(alloc, tokens) {
-            Ok(check) => end_of_run(run_text(alloc, &check, input, output)),
+            Ok(check) => end_of_run(run_check(alloc, &check, input, output)),
             Err(end) => end,
         },
         _ => End::Usage,

@@ -1,6 +1,8 @@
 use predicates::BoxPredicate;
 use predicates::prelude::*;
-use predicates_explain::{apply_word, read_word, run_text};
+use predicates_explain::{RunFault, TextCheck, apply_word, read_word, run_check, run_text};
+use std::alloc::Global;
+use std::process::Abort;
 use std::test::Fail;
 
 // Tokens, an input, what is written for it, and whether every line is a text.
@@ -64,22 +66,71 @@ line 3: true
     ),
 ];
 
+// Puts the check that the token names on the stack.
+fn apply<R: Abort + AllocGlobal>(
+    rt: &R,
+    stack: &mut Vec<TextCheck>,
+    token: &str,
+) -> Result<(), Fail> {
+    let word = read_word(rt.alloc(), token)?.ok_or("a token of no word")?;
+    assert_eq!(rt; apply_word(rt.alloc(), stack, word), Ok(()));
+    Ok(())
+}
+
+// Whether every line was a text, and what was written: by cases, or as the program does.
+fn run(
+    alloc: Global,
+    check: &TextCheck,
+    mut input: &[u8],
+    makes_cases: bool,
+) -> Result<(bool, Vec<u8>), RunFault> {
+    let mut output = Vec::new(alloc);
+    let all = if makes_cases {
+        run_text(alloc, check, &mut input, &mut output)?
+    } else {
+        run_check(alloc, check, &mut input, &mut output)?
+    };
+    Ok((all, output))
+}
+
 #[test]
 fn rows(rt: HostRuntime) -> Result<(), Fail> {
     let alloc = rt.alloc();
     for (tokens, input, expected, all) in ROWS {
         let mut stack = Vec::new(alloc);
         for token in tokens {
-            let word = read_word(alloc, token)?.ok_or("a token of no word")?;
-            assert_eq!(rt; apply_word(alloc, &mut stack, word), Ok(()));
+            apply(&rt, &mut stack, token)?;
         }
         assert_eq!(rt; stack.len(), 1);
         let check = stack.first().ok_or("no check")?;
-        let mut output = Vec::new(alloc);
-        let mut reader = input;
-        let answer = run_text(alloc, check, &mut reader, &mut output);
-        assert_eq!(rt; answer, Ok(all), "for {expected:?}");
-        assert_eq!(rt; output.as_slice(), expected.as_bytes());
+        for makes_cases in [false, true] {
+            let (answer, output) = run(alloc, check, input, makes_cases)?;
+            assert_eq!(rt; answer, all, "for {expected:?}");
+            assert_eq!(rt; output.as_slice(), expected.as_bytes());
+        }
+    }
+    Ok(())
+}
+
+// The checks joined by each word, to the left, to more and fewer than are written without a case.
+#[test]
+fn checks_of_any_depth(rt: HostRuntime) -> Result<(), Fail> {
+    let alloc = rt.alloc();
+    let input = b"a\nb\n ab\n\nc".as_slice();
+    for token in ["and", "or", "xor", "not", "trim", "normalize"] {
+        let mut stack = Vec::new(alloc);
+        apply(&rt, &mut stack, "contains=a")?;
+        for words in 0..6 {
+            let check = stack.first().ok_or("no check")?;
+            let (all, cases) = run(alloc, check, input, true)?;
+            let (answer, output) = run(alloc, check, input, false)?;
+            assert_eq!(rt; answer, all);
+            assert_eq!(rt; output.as_slice(), cases.as_slice(), "{words} {token}");
+            if matches!(token, "and" | "or" | "xor") {
+                apply(&rt, &mut stack, "contains=b")?;
+            }
+            apply(&rt, &mut stack, token)?;
+        }
     }
     Ok(())
 }

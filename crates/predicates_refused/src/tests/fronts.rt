@@ -2,7 +2,7 @@
 use super::checks::stacked;
 use predicates::boolean::PredicateBooleanExt;
 use predicates::ord::{ge, le};
-use predicates_explain::{TextCheck, explain_one, number, run_between, run_text};
+use predicates_explain::{TextCheck, explain_one, number, run_between, run_check, run_text};
 use std::alloc::{AllocError, Global};
 use std::str;
 use std::test::Fail;
@@ -122,6 +122,11 @@ fn texts(rt: HostRuntime) -> Result<(), Fail> {
         let mut reader = &input[..read];
         let mut written = Vec::new(alloc);
         let ended = run_text(alloc, check, &mut reader, &mut written);
+        assert_eq!(rt; ended, Ok(all), "at {read}");
+        assert_eq!(rt; written.as_slice(), expected.as_bytes(), "at {read}");
+        let mut reader = &input[..read];
+        let mut written = Vec::new(alloc);
+        let ended = run_check(alloc, check, &mut reader, &mut written);
         assert_eq!(rt; ended, Ok(all), "at {read}");
         assert_eq!(rt; written.as_slice(), expected.as_bytes(), "at {read}");
     }

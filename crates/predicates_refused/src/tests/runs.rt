@@ -5,7 +5,9 @@ use super::sweep::Memory::{GoesOn, Never, Taken};
 use super::sweep::{Call, sweep};
 use predicates::boolean::PredicateBooleanExt;
 use predicates::ord::{ge, le};
-use predicates_explain::{RunFault, TextCheck, explain_one, explain_total, run_between, run_text};
+use predicates_explain::{
+    RunFault, TextCheck, explain_one, explain_total, run_between, run_check, run_text,
+};
 use std::alloc::{AllocError, Global};
 use std::test::Fail;
 
@@ -92,6 +94,7 @@ impl Call for Between<'_> {
 struct Texts<'a> {
     check: &'a TextCheck,
     input: &'a [u8],
+    makes_cases: bool,
 }
 
 impl Call for Texts<'_> {
@@ -104,7 +107,11 @@ impl Call for Texts<'_> {
     fn call(&self, alloc: Global, _operand: ()) -> Result<Answer, AllocError> {
         let mut reader = self.input;
         let mut written = Vec::new(alloc);
-        let ended = run_text(alloc, self.check, &mut reader, &mut written);
+        let ended = if self.makes_cases {
+            run_text(alloc, self.check, &mut reader, &mut written)
+        } else {
+            run_check(alloc, self.check, &mut reader, &mut written)
+        };
         answer_of(ended, written)
     }
 }
@@ -121,32 +128,57 @@ fn runs_over_numbers(rt: HostRuntime) -> Result<(), Fail> {
     sweep(&rt, "run_between over no number", &other, told, Taken)
 }
 
+// The calls that run over texts, and whether each makes cases.
+const RUNS: [(&str, bool); 2] = [("run_text", true), ("run_check", false)];
+
 #[test]
 fn runs_over_texts(rt: HostRuntime) -> Result<(), Fail> {
     let alloc = rt.alloc();
     let stack = stacked(alloc, &["empty", "trim", "contains=a", "or"])?;
     let check = stack.first().ok_or("no check")?;
-    let blank = Texts {
-        check,
-        input: b"  \n",
-    };
     let told =
         "true\nline 1: true\n(var.is_empty() || var.contains(a)) = true\n  left: var.is_empty() = true\n    - var: \n";
-    sweep(&rt, "run_text", &blank, told, Taken)?;
-    let other = Texts {
-        check,
-        input: b"\xff",
-    };
-    let told = "false\nline 1: not UTF-8\n";
-    sweep(&rt, "run_text over no text", &other, told, Taken)?;
-    let stack = stacked(alloc, &["match=T[a-z]*"])?;
+    for (name, makes_cases) in RUNS {
+        let blank = Texts {
+            check,
+            input: b"  \n",
+            makes_cases,
+        };
+        sweep(&rt, name, &blank, told, Taken)?;
+    }
+    Ok(())
+}
+
+#[test]
+fn runs_over_no_text(rt: HostRuntime) -> Result<(), Fail> {
+    let stack = stacked(rt.alloc(), &["empty"])?;
     let check = stack.first().ok_or("no check")?;
-    let lines = Texts {
-        check,
-        input: b"Two",
-    };
-    let told = "true\nline 1: true\nvar.is_match(T[a-z]*) = true\n  - var: Two\n";
-    sweep(&rt, "run_text of a pattern", &lines, told, GoesOn)
+    for (name, makes_cases) in RUNS {
+        let other = Texts {
+            check,
+            input: b"\xff",
+            makes_cases,
+        };
+        let told = "false\nline 1: not UTF-8\n";
+        sweep(&rt, name, &other, told, Taken)?;
+    }
+    Ok(())
+}
+
+#[test]
+fn runs_of_a_pattern(rt: HostRuntime) -> Result<(), Fail> {
+    let stack = stacked(rt.alloc(), &["match=T[a-z]*"])?;
+    let check = stack.first().ok_or("no check")?;
+    for (name, makes_cases) in RUNS {
+        let lines = Texts {
+            check,
+            input: b"Two",
+            makes_cases,
+        };
+        let told = "true\nline 1: true\nvar.is_match(T[a-z]*) = true\n  - var: Two\n";
+        sweep(&rt, name, &lines, told, GoesOn)?;
+    }
+    Ok(())
 }
 
 // Nothing is read and nothing is written. A run over numbers prints its blocks before it reads.
@@ -156,6 +188,13 @@ fn runs_over_nothing(rt: HostRuntime) -> Result<(), Fail> {
     sweep(&rt, "run_between over nothing", &nothing, "true\n", Taken)?;
     let stack = stacked(rt.alloc(), &["empty"])?;
     let check = stack.first().ok_or("no check")?;
-    let nothing = Texts { check, input: b"" };
-    sweep(&rt, "run_text over nothing", &nothing, "true\n", Never)
+    for (name, makes_cases) in RUNS {
+        let nothing = Texts {
+            check,
+            input: b"",
+            makes_cases,
+        };
+        sweep(&rt, name, &nothing, "true\n", Never)?;
+    }
+    Ok(())
 }
