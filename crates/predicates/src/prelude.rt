@@ -8,9 +8,10 @@
 //! let lines = render(alloc, &case)?;
 //! ```
 
-pub use crate::boolean::PredicateBooleanExt;
-pub use crate::name::PredicateNameExt;
-pub use crate::{BoxPredicate, Predicate, laws};
+pub use crate::{BoxPredicate, laws};
+pub use predicates_boolean::boolean::PredicateBooleanExt;
+pub use predicates_boolean::name::PredicateNameExt;
+pub use predicates_core::Predicate;
 pub use predicates_core::reflection::render;
 pub use predicates_core::static_text::StaticText;
 pub use predicates_path::{PredicateFileContentExt, Snapshot};
@@ -18,10 +19,10 @@ pub use predicates_text::PredicateStrExt;
 
 /// The functions that make predicates.
 pub mod predicate {
-    pub use crate::constant::{always, never};
-    pub use crate::function::function;
-    pub use crate::iter::{in_hash, in_iter};
-    pub use crate::ord::{eq, ge, gt, le, lt, ne};
+    pub use predicates_item::constant::{always, never};
+    pub use predicates_item::function::function;
+    pub use predicates_item::iter::{in_hash, in_iter};
+    pub use predicates_item::ord::{eq, ge, gt, le, lt, ne};
 
     /// Predicates of texts.
     pub mod str {

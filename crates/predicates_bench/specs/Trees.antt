@@ -6,8 +6,8 @@ use Rattle.predicates_core.specs.Label.{Entry, showing}
 use Rattle.predicates_core.specs.Formula.{Formula, Leaf}
 use Rattle.predicates_core.specs.Leaves.{IsExactly}
 use Rattle.predicates_core.specs.Combined.{infix_text, not_text, IsAnd, IsOr, IsXor, IsNot}
-use Rattle.predicates.specs.Comparison.{ord_symbol, ord_truth, comparison_text}
-use Rattle.predicates.specs.declared.ord.order.OrdPredicate.{OrdPredicate}
+use Rattle.predicates_item.specs.Comparison.{ord_symbol, ord_truth, comparison_text}
+use Rattle.predicates_item.specs.declared.ord.order.OrdPredicate.{OrdPredicate}
 use Rattle.predicates_bench.specs.declared.tree.Tree.{Tree, Leaf as LeafTree, Not' as NotTree}
 use Rattle.predicates_bench.specs.declared.tree.Tree.{And' as AndTree, Or' as OrTree}
 use Rattle.predicates_bench.specs.declared.tree.Tree.{Xor' as XorTree}

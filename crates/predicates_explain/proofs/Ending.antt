@@ -1,5 +1,5 @@
 -- How the program ends, by what its run answered.
-use Rattle.std.proofs.Common.{◌≡◌, ℕ, ◌≤◌, ◌<◌, ◌-◌, ℤ, Bool, true, false, List, [], ◌∷◌, get_or, take, drop, length, Option, Result, Ok, Err, IfOk, codes, string_bytes, refl, sym, ap, ◌∙◌, arith}
+use Rattle.std.proofs.Common.{◌≡◌, ℕ, ◌≤◌, ◌-◌, ℤ, Bool, true, false, List, [], ◌∷◌, get_or, take, drop, length, Option, Result, Ok, Err, IfOk, codes, string_bytes, sym, ap, ◌∙◌, arith}
 use Rattle.std.specs.Global.{Global}
 use Rattle.std.specs.Prelude.{Vec}
 use Rattle.std.specs.Str.{IsUtf8}

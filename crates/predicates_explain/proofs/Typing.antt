@@ -1,5 +1,5 @@
 -- Tokens one after another.
-use Rattle.std.proofs.Common.{◌≡◌, ◌≢◌, ◌↔◌, ℕ, ◌+◌, ◌<◌, ℤ, Bool, true, false, ◌&&◌, List, [], ◌∷◌, ◌++◌, take, drop, get_or, length, map, Option, Some, None, MatchOption, arith, codes, string_bytes, refl, sym, ap, ◌∙◌, subst}
+use Rattle.std.proofs.Common.{◌≡◌, ◌≢◌, ◌↔◌, ℕ, ◌+◌, ◌<◌, ℤ, Bool, true, false, ◌&&◌, List, [], ◌∷◌, ◌++◌, take, drop, get_or, length, Option, Some, None, MatchOption, arith, codes, string_bytes, refl, sym, ap, ◌∙◌, subst}
 use Rattle.std.specs.Global.{Global}
 use Rattle.std.specs.Prelude.{Vec}
 use Rattle.std.specs.Str.{IsUtf8, IsAscii}
@@ -9,14 +9,14 @@ use Rattle.std.proofs.lemmas.List.{take_more, drop_more, map-append, take-append
 use Rattle.std.proofs.lemmas.Str.{IsUtf8-append, IsUtf8-from_ascii, IsUtf8-string_bytes}
 use Rattle.std.proofs.lemmas.Str.Ascii.{IsAscii-nil, IsAscii-cons}
 use Rattle.predicates_core.specs.Text.{Text}
-use Rattle.predicates_explain.specs.Applied.{IsApplied, IsPattern}
+use Rattle.predicates_explain.specs.Applied.{IsPattern}
 use Rattle.predicates_explain.specs.Ends.{IsTokenFault, HasTokensFault}
 use Rattle.predicates_explain.specs.Number.{Reads}
 use Rattle.predicates_explain.specs.Tokens.{token_of}
-use Rattle.predicates_explain.specs.Typed.{typed, AreNumbers, Makes, FailsFirst, IsPatternToken, AreWrongTokens, token as wrong_token}
+use Rattle.predicates_explain.specs.Typed.{typed, AreNumbers, Makes, IsPatternToken, token as wrong_token}
 use Rattle.predicates_explain.specs.declared.check.TextCheck.{TextCheck}
 use Rattle.predicates_explain.specs.declared.program.end.End.{End}
-use Rattle.predicates_explain.specs.declared.program.end.End.TheVariants.{AllItems, NotAllItems, Usage, PatternRefused, NoMemory, InputOrOutput}
+use Rattle.predicates_explain.specs.declared.program.end.End.TheVariants.{Usage, PatternRefused, NoMemory}
 use Rattle.predicates_explain.specs.declared.words.word.Word.{Word}
 use Rattle.predicates_explain.specs.declared.words.word.Word.TheVariants.{Equals, Starts, Ends, Contains, Matches}
 

@@ -5,7 +5,7 @@ use Rattle.std.specs.Io.BufRead.{strip_last}
 use Rattle.predicates_core.specs.Label.{plain, showing}
 use Rattle.predicates_core.specs.Formula.{Formula, Leaf, And}
 use Rattle.predicates_core.specs.Combined.{infix_text}
-use Rattle.predicates.specs.Comparison.{comparison_text}
+use Rattle.predicates_item.specs.Comparison.{comparison_text}
 use Rattle.predicates_explain.specs.Blocks.{IsBlock}
 use Rattle.predicates_explain.specs.Number.{Reads}
 

@@ -1,6 +1,6 @@
 -- What a word makes of a stack of checks.
 use Rattle.std.specs.Prelude.{◌≡◌, ℕ, List, [], ◌∷◌, ◌++◌, string_bytes}
-use Rattle.predicates.specs.Makers.{equal_to}
+use Rattle.predicates_item.specs.Makers.{equal_to}
 use Rattle.predicates_text.specs.Patterns.{starts_pattern, ends_pattern, contains_pattern}
 use Rattle.predicates_text.specs.Expressions.{regex_text, IsReadFromText}
 use Rattle.predicates_explain.specs.declared.words.word.Word.{Word}

@@ -10,7 +10,7 @@ use Rattle.predicates_text.specs.Leaves.{ends_text, ends_formula, contains_text,
 use Rattle.predicates_text.specs.Meant.{IsEmptyLeaf, IsStartsLeaf, IsEndsLeaf, IsContainsLeaf}
 use Rattle.predicates_text.specs.Expressions.{match_text, match_formula, regex_text, regex_meaning}
 use Rattle.predicates_text.specs.ViewFormulas.{trimmed_bytes, even_bytes}
-use Rattle.predicates.specs.TextEquality.{text_equality_text, text_equality_formula}
+use Rattle.predicates_item.specs.TextEquality.{text_equality_text, text_equality_formula}
 use Rattle.predicates_explain.specs.declared.check.TextCheck.{TextCheck, Empty, Equals, Starts}
 use Rattle.predicates_explain.specs.declared.check.TextCheck.{Ends, Contains, Matches, Trim'}
 use Rattle.predicates_explain.specs.declared.check.TextCheck.{Normalize', Not' as NotCheck}

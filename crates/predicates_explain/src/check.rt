@@ -19,13 +19,13 @@ mod turn;
 mod write;
 
 use leaf::eval_leaf;
-use predicates::ord::EqPredicate;
-use predicates::reflection::{Case, Child, Parameter, PredicateReflection};
-use predicates::str::{
+use predicates_core::reflection::{Case, Child, Parameter, PredicateReflection};
+use predicates_core::{Predicate, ReadsContent, Total};
+use predicates_item::ord::EqPredicate;
+use predicates_text::{
     ContainsPredicate, EndsWithPredicate, IsEmptyPredicate, RegexPredicate, StartsWithPredicate,
     lines_even, trimmed,
 };
-use predicates::{Predicate, ReadsContent, Total};
 use std::alloc::{AllocError, Global};
 use std::fmt;
 use turn::turn;

@@ -9,9 +9,9 @@ ghost use Rattle.predicates_core.specs.Formula.{Formula};
 ghost use Rattle.predicates_explain.specs.Meaning.{MeansByParts};
 
 use crate::check::TextCheck;
-use predicates::Predicate;
-use predicates::ord::EqPredicate;
-use predicates::str::{
+use predicates_core::Predicate;
+use predicates_item::ord::EqPredicate;
+use predicates_text::{
     ContainsPredicate, EndsWithPredicate, IsEmptyPredicate, RegexPredicate, StartsWithPredicate,
 };
 use std::fmt::Display;

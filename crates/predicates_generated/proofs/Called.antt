@@ -8,7 +8,7 @@ use Rattle.predicates_core.specs.Leaves.{IsExactly}
 use Rattle.predicates_core.specs.Describe.{CaseNode}
 use Rattle.predicates_core.specs.Tree.{Tree}
 use Rattle.predicates_core.specs.Shows.{IsAnswer}
-use Rattle.predicates.specs.Function.{IsCall, call_text}
+use Rattle.predicates_item.specs.Function.{IsCall, call_text}
 
 pub has-call : {F T : Type 0} {calls : Shared F (Bor T × Unit {0}) Bool} {function closure : F} {name given : List ℕ} {item : T} {own : Bool} {g : Formula}
     → function ≡ closure → name ≡ given → FnReturnsAt calls closure item own

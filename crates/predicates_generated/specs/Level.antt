@@ -6,16 +6,16 @@ use Rattle.predicates_core.specs.Combined.{infix_text, not_text, IsAnd, IsOr, Is
 use Rattle.predicates_core.proofs.CombinedLemmas.{and_text_fits, or_text_fits, xor_text_fits}
 use Rattle.predicates_core.proofs.CombinedLemmas.{not_text_fits, named_text_fits, one_and, one_or}
 use Rattle.predicates_core.proofs.CombinedLemmas.{one_xor, one_not, one_named}
-use Rattle.predicates.specs.declared.boolean.and.AndPredicate.{AndPredicate}
-use Rattle.predicates.specs.declared.boolean.or.OrPredicate.{OrPredicate}
-use Rattle.predicates.specs.declared.boolean.xor.XorPredicate.{XorPredicate}
-use Rattle.predicates.specs.declared.boolean.not.NotPredicate.{NotPredicate}
-use Rattle.predicates.specs.declared.name.NamePredicate.{NamePredicate}
-use Rattle.predicates.specs.And as And
-use Rattle.predicates.specs.Or as Or
-use Rattle.predicates.specs.Xor as Xor
-use Rattle.predicates.specs.Not as Not
-use Rattle.predicates.specs.Name as Name
+use Rattle.predicates_boolean.specs.declared.boolean.and.AndPredicate.{AndPredicate}
+use Rattle.predicates_boolean.specs.declared.boolean.or.OrPredicate.{OrPredicate}
+use Rattle.predicates_boolean.specs.declared.boolean.xor.XorPredicate.{XorPredicate}
+use Rattle.predicates_boolean.specs.declared.boolean.not.NotPredicate.{NotPredicate}
+use Rattle.predicates_boolean.specs.declared.name.NamePredicate.{NamePredicate}
+use Rattle.predicates_boolean.specs.And as And
+use Rattle.predicates_boolean.specs.Or as Or
+use Rattle.predicates_boolean.specs.Xor as Xor
+use Rattle.predicates_boolean.specs.Not as Not
+use Rattle.predicates_boolean.specs.Name as Name
 use Rattle.predicates_generated.specs.declared.one_of.OneOf.{OneOf}
 use Rattle.predicates_generated.specs.OneOf.{by_type, fact_by_type, text_fits_by_type}
 use Rattle.predicates_generated.specs.OneOf.{lawful_by_type, one_by_type}

@@ -10,14 +10,14 @@ ghost use Rattle.std.specs.List.Sorted.{IsPermutation};
 ghost use Rattle.predicates_core.specs.Formula.{Formula};
 ghost use Rattle.predicates_core.specs.Combined.{infix_text, not_text};
 ghost use Rattle.predicates_core.specs.Alike.{AreAlike, AreSameFunction, HasStatedLabels};
-ghost use Rattle.predicates.specs.Makers.{equal_to, unequal_to, less_than, at_most, at_least};
-ghost use Rattle.predicates.specs.Makers.{greater_than};
-ghost use Rattle.predicates.specs.Members.{has_equal, first_of_equals};
+ghost use Rattle.predicates_item.specs.Makers.{equal_to, unequal_to, less_than, at_most, at_least};
+ghost use Rattle.predicates_item.specs.Makers.{greater_than};
+ghost use Rattle.predicates_item.specs.Members.{has_equal, first_of_equals};
 ghost use Rattle.predicates.specs.Laws.{opposite, twice_opposite, under_name, both_of, one_of};
 ghost use Rattle.predicates.specs.Laws.{just_one_of, AreOpposite, HasAtMostOneCase, HasOneAnswer};
 
-use crate::ord::{EqPredicate, OrdPredicate};
 use predicates_core::Predicate;
+use predicates_item::ord::{EqPredicate, OrdPredicate};
 use std::fmt;
 use std::hash::Hash;
 

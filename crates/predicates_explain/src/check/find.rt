@@ -12,8 +12,8 @@ ghost use Rattle.predicates_explain.specs.Checks.{check_text, HasFormula};
 use crate::check::leaf::find_leaf;
 use crate::check::nodes::{put_decided, put_joined, put_negated};
 use crate::check::{TextCheck, with_even_lines, without_ends};
-use predicates::Predicate;
-use predicates::reflection::Case;
+use predicates_core::Predicate;
+use predicates_core::reflection::Case;
 use std::alloc::{AllocError, Global};
 
 impl TextCheck {

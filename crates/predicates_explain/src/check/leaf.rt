@@ -3,8 +3,8 @@ ghost use Rattle.std.specs.Prelude.{IfOk, IsOk};
 ghost use Rattle.predicates_core.specs.Formula.{HasTruth};
 ghost use Rattle.predicates_core.specs.Shows.{IsAnswer};
 
-use predicates::Predicate;
-use predicates::reflection::Case;
+use predicates_core::Predicate;
+use predicates_core::reflection::Case;
 use std::alloc::{AllocError, Global};
 
 // What the leaf's `eval` answers, in a frame that no part of a check stands on.

@@ -8,11 +8,11 @@ ghost use Rattle.predicates_core.specs.Combined.{infix_text, not_text};
 ghost use Rattle.predicates_core.specs.IndentedLines.{deeper};
 ghost use Rattle.predicates_explain.specs.Checks.{check_text};
 ghost use Rattle.predicates_explain.specs.WrittenLines.{verdict_line, IsLineWritten, IsLeafWritten};
-ghost use Rattle.predicates.specs.TextEquality.{text_equality_text};
+ghost use Rattle.predicates_item.specs.TextEquality.{text_equality_text};
 
 use crate::check::TextCheck;
 use crate::check::draft::Draft;
-use predicates::ord::EqPredicate;
+use predicates_item::ord::EqPredicate;
 use std::alloc::{AllocError, Global};
 use std::fmt;
 use std::fmt::Write as _;

@@ -6,8 +6,8 @@ ghost use Rattle.predicates_explain.specs.Checks.{check_text};
 ghost use Rattle.predicates_explain.specs.Found.{IsNegated, IsDecided, IsJoined};
 
 use crate::check::TextCheck;
-use predicates::node::{joined, joined_by_left, joined_by_right, negated};
-use predicates::reflection::Case;
+use predicates_core::node::{joined, joined_by_left, joined_by_right, negated};
+use predicates_core::reflection::Case;
 use std::alloc::{AllocError, Global};
 
 // Puts a node that is turned round over the part's case, where there is one.

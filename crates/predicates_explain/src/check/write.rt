@@ -13,7 +13,7 @@ ghost use Rattle.predicates_explain.specs.WrittenLines.{IsWritten, IsPartWritten
 use crate::check::draft::Draft;
 use crate::check::lines::{open_part, write_equals, write_joined, write_leaf, write_negated};
 use crate::check::{TextCheck, with_even_lines, without_ends};
-use predicates::Predicate;
+use predicates_core::Predicate;
 use std::alloc::{AllocError, Global};
 
 impl TextCheck {

@@ -1,8 +1,8 @@
 ghost use Rattle.std.specs.Prelude.{◌≡◌, IfOk};
 ghost use Rattle.std.specs.Ordering.{int_eq};
-ghost use Rattle.predicates.specs.In.{members_of};
-ghost use Rattle.predicates.specs.HashableIn as HashableIn;
-ghost use Rattle.predicates.specs.Members.{first_of_equals};
+ghost use Rattle.predicates_item.specs.In.{members_of};
+ghost use Rattle.predicates_item.specs.HashableIn as HashableIn;
+ghost use Rattle.predicates_item.specs.Members.{first_of_equals};
 
 use predicates::iter::{HashableInPredicate, InPredicate, Steps, in_hash, in_iter};
 use predicates_core::Predicate;

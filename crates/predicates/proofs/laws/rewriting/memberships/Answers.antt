@@ -1,4 +1,4 @@
-use Rattle.predicates.proofs.Memberships.{has_equal-first_of_equals, same_rearranged}
+use Rattle.predicates_item.proofs.Memberships.{has_equal-first_of_equals, same_rearranged}
 use Rattle.predicates.proofs.laws.rewriting.memberships.Goals as goal
 
 pub returns-clause-rearranged : goal.returns-clause-rearranged

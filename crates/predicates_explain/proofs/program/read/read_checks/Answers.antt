@@ -1,6 +1,5 @@
-use Rattle.std.proofs.Common.{rules, arith, ◌+◌, [], ◌∷◌, sym, subst, drop, take}
-use Rattle.predicates_explain.specs.Ends.{HasTokensFault}
-use Rattle.predicates_explain.specs.Typed.{typed, Makes}
+use Rattle.std.proofs.Common.{rules, arith, ◌+◌, drop, take}
+use Rattle.predicates_explain.specs.Typed.{typed}
 use Rattle.predicates_explain.proofs.Typing.{Makes-more, first_fault, typed-more, typed-around}
 use Rattle.predicates_explain.proofs.program.read.read_checks.Goals as goal
 

@@ -2,10 +2,10 @@ use Rattle.std.proofs.Common.{◌≡◌, ℤ, rules}
 use Rattle.std.specs.Ordering.{int_eq}
 use Rattle.std.proofs.lemmas.Iterator.Adapters.{YieldsList-from_vec}
 use Rattle.std.proofs.lemmas.Result.{IfOk-weaker}
-use Rattle.predicates.specs.HashableIn.{members_of}
-use Rattle.predicates.specs.Members.{first_of_equals}
-use Rattle.predicates.specs.declared.iter.hashed.HashableInPredicate.{HashableInPredicate}
-use Rattle.predicates.proofs.GivenItems.{kept_from_gives}
+use Rattle.predicates_item.specs.HashableIn.{members_of}
+use Rattle.predicates_item.specs.Members.{first_of_equals}
+use Rattle.predicates_item.specs.declared.iter.hashed.HashableInPredicate.{HashableInPredicate}
+use Rattle.predicates_item.proofs.GivenItems.{kept_from_gives}
 use Rattle.predicates_tested.proofs.tests.memberships.first_of_vec.Goals as goal
 
 pub returns : goal.returns

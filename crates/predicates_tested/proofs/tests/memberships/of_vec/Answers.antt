@@ -1,9 +1,9 @@
 use Rattle.std.proofs.Common.{◌≡◌, ℤ, rules}
 use Rattle.std.proofs.lemmas.Iterator.Adapters.{YieldsList-from_vec}
 use Rattle.std.proofs.lemmas.Result.{IfOk-weaker}
-use Rattle.predicates.specs.In.{members_of}
-use Rattle.predicates.specs.declared.iter.listed.InPredicate.{InPredicate}
-use Rattle.predicates.proofs.GivenItems.{items_from_gives}
+use Rattle.predicates_item.specs.In.{members_of}
+use Rattle.predicates_item.specs.declared.iter.listed.InPredicate.{InPredicate}
+use Rattle.predicates_item.proofs.GivenItems.{items_from_gives}
 use Rattle.predicates_tested.proofs.tests.memberships.of_vec.Goals as goal
 
 pub returns : goal.returns

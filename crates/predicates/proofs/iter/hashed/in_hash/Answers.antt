@@ -1,6 +1,0 @@
-use Rattle.std.proofs.Common.{rules}
-use Rattle.predicates.proofs.Memberships.{keeps_first}
-use Rattle.predicates.proofs.iter.hashed.in_hash.Goals as goal
-
-pub returns : goal.returns
-returns g c = keeps_first g.met.T.Eq.laws (search rules)

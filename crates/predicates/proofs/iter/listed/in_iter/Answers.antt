@@ -1,7 +1,0 @@
-use Rattle.predicates.proofs.GivenItems.{gives_collected}
-use Rattle.predicates.proofs.iter.listed.in_iter.Goals as goal
-
-pub returns : goal.returns
-returns g c =
-    let ran = c.in_ok-members.ensures.ran in
-    gives_collected ran.0 ran.1 ran.2 ran.3 tt ran.4.0

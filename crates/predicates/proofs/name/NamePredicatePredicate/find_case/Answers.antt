@@ -1,6 +1,0 @@
-use Rattle.std.proofs.Common.{rules}
-use Rattle.predicates.proofs.Names.{IsCaseOf-under}
-use Rattle.predicates.proofs.name.NamePredicatePredicate.find_case.Goals as goal
-
-pub returns : goal.returns
-returns g c = IsCaseOf-under c.in_ok-over_one.ensures (search rules) (search rules) (search rules)

@@ -1,0 +1,6 @@
+pub mod And
+pub mod Or
+pub mod Xor
+pub mod Not
+pub mod Name
+pub mod Own

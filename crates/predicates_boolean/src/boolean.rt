@@ -1,0 +1,72 @@
+//! Combinators of predicates over one item type.
+//!
+//! ```
+//! let between = predicate::ge(5).and(predicate::le(10));
+//! let outside = predicate::ge(5).and(predicate::le(10)).not();
+//! ```
+//!
+//! Making one takes no memory. `eval` takes none where those of the parts take none.
+ghost use Rattle.std.specs.Prelude.{◌≡◌};
+ghost use Rattle.predicates_boolean.specs.And as And;
+ghost use Rattle.predicates_boolean.specs.Or as Or;
+ghost use Rattle.predicates_boolean.specs.Xor as Xor;
+ghost use Rattle.predicates_boolean.specs.Not.{inner_of};
+
+mod and;
+mod not;
+mod or;
+mod xor;
+
+pub use and::AndPredicate;
+pub use not::NotPredicate;
+pub use or::OrPredicate;
+use predicates_core::Predicate;
+pub use xor::XorPredicate;
+
+/// Combines any predicates over one item type.
+pub trait PredicateBooleanExt<Item>: Predicate<Item> {
+    /// Both `self` and `other` hold; `other` is asked only where `self` holds.
+    fn and<B: Predicate<Item>>(self, other: B) -> AndPredicate<Self, B, Item>
+    where
+        Self: Sized,
+        ensures left { And.left_of result ≡ self }
+        ensures right { And.right_of result ≡ other };
+
+    /// `self` or `other` holds; `other` is asked only where `self` does not hold.
+    fn or<B: Predicate<Item>>(self, other: B) -> OrPredicate<Self, B, Item>
+    where
+        Self: Sized,
+        ensures left { Or.left_of result ≡ self }
+        ensures right { Or.right_of result ≡ other };
+
+    /// Exactly one of `self` and `other` holds; both are asked.
+    fn xor<B: Predicate<Item>>(self, other: B) -> XorPredicate<Self, B, Item>
+    where
+        Self: Sized,
+        ensures left { Xor.left_of result ≡ self }
+        ensures right { Xor.right_of result ≡ other };
+
+    /// `self` does not hold.
+    fn not(self) -> NotPredicate<Self, Item>
+    where
+        Self: Sized,
+        ensures { inner_of result ≡ self };
+}
+
+impl<P: Predicate<Item>, Item> PredicateBooleanExt<Item> for P {
+    fn and<B: Predicate<Item>>(self, other: B) -> AndPredicate<Self, B, Item> {
+        AndPredicate::new(self, other)
+    }
+
+    fn or<B: Predicate<Item>>(self, other: B) -> OrPredicate<Self, B, Item> {
+        OrPredicate::new(self, other)
+    }
+
+    fn xor<B: Predicate<Item>>(self, other: B) -> XorPredicate<Self, B, Item> {
+        XorPredicate::new(self, other)
+    }
+
+    fn not(self) -> NotPredicate<Self, Item> {
+        NotPredicate::new(self)
+    }
+}

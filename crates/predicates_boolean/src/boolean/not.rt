@@ -1,0 +1,104 @@
+//! The part does not hold.
+ghost use Rattle.std.specs.Prelude.{◌≡◌, [], codes};
+ghost use Rattle.predicates_core.specs.Label.{plain};
+ghost use Rattle.predicates_core.specs.Formula.{Not};
+ghost use Rattle.predicates_core.specs.Parts.{part};
+ghost use Rattle.predicates_core.specs.Combined.{not_text, IsNot};
+ghost use Rattle.predicates_core.proofs.CombinedLemmas.{not_text_fits, one_not, has_not};
+
+use crate::own::not_case;
+use predicates_core::reflection::{Case, Child, Parameter, PredicateReflection, describe};
+use predicates_core::{Content, Predicate, ReadsContent, Total};
+use std::alloc::{AllocError, Global};
+use std::fmt;
+use std::marker::PhantomData;
+
+/// The part does not hold. Made by `PredicateBooleanExt::not`.
+#[derive(Debug, Clone, Copy, PartialEq, Eq, Drop)]
+pub struct NotPredicate<M, Item> {
+    inner: M,
+    item: PhantomData<Item>,
+}
+
+impl<M, Item> NotPredicate<M, Item> {
+    ghost use Rattle.predicates_boolean.specs.Not.{inner_of};
+
+    /// The opposite of the part.
+    pub fn new(inner: M) -> NotPredicate<M, Item>
+        ensures { inner_of result ≡ inner }
+    {
+        NotPredicate {
+            inner,
+            item: PhantomData,
+        }
+    }
+}
+
+impl<M: fmt::Display, Item> fmt::Display for NotPredicate<M, Item> {
+    ghost output = { λ p. not_text (M.output p.inner) };
+
+    fn fmt<W: fmt::Write>(&self, f: &mut fmt::Formatter<W>) -> fmt::Result {
+        let inner = &self.inner;
+        write!(f, "(! {inner})")
+    }
+}
+
+impl<M: PredicateReflection, Item> PredicateReflection for NotPredicate<M, Item> {
+    ghost parameters_of = { λ p. [] };
+
+    ghost children_of = { λ p. part
+        (codes "predicate") (M.output p.inner) (M.parameters_of p.inner) (M.children_of p.inner) };
+
+    fn parameters(&self, alloc: Global) -> Result<Vec<Parameter>, AllocError> {
+        Ok(Vec::new(alloc))
+    }
+
+    fn children(&self, alloc: Global) -> Result<Vec<Child>, AllocError> {
+        let mut children = Vec::new(alloc);
+        children.push(describe(alloc, "predicate", &self.inner)?)?;
+        Ok(children)
+    }
+}
+
+impl<M: Predicate<Item>, Item> Predicate<Item> for NotPredicate<M, Item> {
+    ghost lawful = { λ p. M.lawful p.inner };
+
+    ghost formula = { λ p v. IsNot (not_text (M.output p.inner)) (M.formula p.inner v) };
+
+    ghost steady = { λ p v. M.steady p.inner v };
+
+    ghost text_fits = { λ p v f. not_text_fits };
+
+    ghost one_formula = { λ p v f g lawful. one_not (λ x y. M.one_formula p.inner v x y lawful) };
+
+    #[tactic(auto, using(predicates_core::proofs::CombinedLemmas::combined))]
+    fn eval(&self, alloc: Global, item: &Item) -> Result<bool, AllocError> {
+        Ok(!self.inner.eval(alloc, item)?)
+    }
+
+    fn find_case(
+        &self,
+        alloc: Global,
+        expected: bool,
+        item: &Item,
+    ) -> Result<Option<Case>, AllocError> {
+        not_case(alloc, self, &self.inner, expected, item)
+    }
+}
+
+impl<M: Total<Item>, Item> Total<Item> for NotPredicate<M, Item> {
+    ghost formula_of = { λ p v. Not (plain (not_text (M.output p.inner))) (M.formula_of p.inner v) };
+
+    ghost always_lawful = { λ p. M.always_lawful p.inner };
+
+    ghost has_formula = { λ p v. has_not (M.has_formula p.inner v) };
+}
+
+impl<M: ReadsContent<Item>, Item: Content> ReadsContent<Item> for NotPredicate<M, Item> {
+    ghost content_formula = { λ p bytes. Not (plain (not_text (M.output p.inner)))
+        (M.content_formula p.inner bytes) };
+
+    ghost always_lawful = { λ p. M.always_lawful p.inner };
+
+    ghost has_formula = { λ p v. has_not (M.has_formula p.inner v) };
+}

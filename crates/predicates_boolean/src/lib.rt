@@ -1,0 +1,16 @@
+//! Predicates over other predicates: and, or, xor, not and names; and what predicates of a
+//! caller's own are made of.
+//!
+//! ```
+//! let outside = predicate::ge(5).and(predicate::le(10)).not().name("outside");
+//! assert!(rt; outside.eval(alloc, &11)?);
+//! ```
+//!
+//! The parts of a predicate have one item type. Making one takes no memory, and `eval` takes none
+//! where those of the parts take none.
+#![tactic(auto)]
+
+pub mod boolean;
+pub mod meaning;
+pub mod name;
+pub mod own;

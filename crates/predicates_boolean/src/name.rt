@@ -1,0 +1,130 @@
+//! Predicates under a name.
+//!
+//! ```
+//! let blank = predicate::str::is_empty().trim().name("blank");
+//! ```
+ghost use Rattle.std.specs.Prelude.{◌≡◌, [], Some};
+ghost use Rattle.predicates_core.specs.Label.{plain};
+ghost use Rattle.predicates_core.specs.Formula.{Named};
+ghost use Rattle.predicates_core.specs.Parts.{part};
+ghost use Rattle.predicates_core.specs.Combined.{IsNamed};
+ghost use Rattle.predicates_core.proofs.CombinedLemmas.{named_text_fits, one_named, has_named};
+ghost use Rattle.predicates_boolean.specs.Name.{inner_of, name_of};
+
+use predicates_core::lasting::Lasting;
+use predicates_core::node::{over_one, printed};
+use predicates_core::reflection::{Case, Child, Parameter, PredicateReflection, describe};
+use predicates_core::{Content, Predicate, ReadsContent, Total};
+use std::alloc::{AllocError, Global};
+use std::fmt;
+use std::marker::PhantomData;
+
+/// Holds where its part does, and prints a name in place of its part's text. Made by
+/// `PredicateNameExt::name`.
+#[derive(Debug, Clone, Copy, PartialEq, Eq, Drop)]
+pub struct NamePredicate<M, Item, N = &'static str> {
+    inner: M,
+    item: PhantomData<Item>,
+    name: N,
+}
+
+impl<M: fmt::Display, Item, N: Lasting> fmt::Display for NamePredicate<M, Item, N> {
+    ghost output = { λ p. Some (N.bytes p.name) };
+
+    fn fmt<W: fmt::Write>(&self, f: &mut fmt::Formatter<W>) -> fmt::Result {
+        let name = self.name.text();
+        write!(f, "{name}")
+    }
+}
+
+impl<M: PredicateReflection, Item, N: Lasting> PredicateReflection for NamePredicate<M, Item, N> {
+    ghost parameters_of = { λ p. [] };
+
+    ghost children_of = { λ p. part
+        (N.bytes p.name) (M.output p.inner) (M.parameters_of p.inner) (M.children_of p.inner) };
+
+    fn parameters(&self, alloc: Global) -> Result<Vec<Parameter>, AllocError> {
+        Ok(Vec::new(alloc))
+    }
+
+    fn children(&self, alloc: Global) -> Result<Vec<Child>, AllocError> {
+        let mut children = Vec::new(alloc);
+        children.push(describe(alloc, self.name.text(), &self.inner)?)?;
+        Ok(children)
+    }
+}
+
+impl<M: Predicate<Item>, Item, N: Lasting> Predicate<Item> for NamePredicate<M, Item, N> {
+    ghost lawful = { λ p. M.lawful p.inner };
+
+    ghost formula = { λ p v. IsNamed (N.bytes p.name) (M.formula p.inner v) };
+
+    ghost steady = { λ p v. M.steady p.inner v };
+
+    ghost text_fits = { λ p v f. named_text_fits };
+
+    ghost one_formula = { λ p v f g lawful. one_named (λ x y. M.one_formula p.inner v x y lawful) };
+
+    #[tactic(auto, using(predicates_core::proofs::CombinedLemmas::combined))]
+    fn eval(&self, alloc: Global, item: &Item) -> Result<bool, AllocError> {
+        self.inner.eval(alloc, item)
+    }
+
+    #[tactic(auto, using(predicates_core::proofs::CombinedLemmas::combined))]
+    fn find_case(
+        &self,
+        alloc: Global,
+        expected: bool,
+        item: &Item,
+    ) -> Result<Option<Case>, AllocError> {
+        let Some(part) = self.inner.find_case(alloc, expected, item)? else {
+            return Ok(None);
+        };
+        let text = printed(alloc, self)?;
+        Ok(Some(over_one(alloc, text, expected, self.name.text(), part)?))
+    }
+}
+
+impl<M: Total<Item>, Item, N: Lasting> Total<Item> for NamePredicate<M, Item, N> {
+    ghost formula_of = { λ p v. Named
+        (plain (Some (N.bytes p.name)))
+        (N.bytes p.name)
+        (M.formula_of p.inner v) };
+
+    ghost always_lawful = { λ p. M.always_lawful p.inner };
+
+    ghost has_formula = { λ p v. has_named (M.has_formula p.inner v) };
+}
+
+impl<M: ReadsContent<Item>, Item: Content, N: Lasting> ReadsContent<Item>
+    for NamePredicate<M, Item, N> {
+    ghost content_formula = { λ p bytes. Named
+        (plain (Some (N.bytes p.name)))
+        (N.bytes p.name)
+        (M.content_formula p.inner bytes) };
+
+    ghost always_lawful = { λ p. M.always_lawful p.inner };
+
+    ghost has_formula = { λ p v. has_named (M.has_formula p.inner v) };
+}
+
+/// Names any predicate.
+pub trait PredicateNameExt<Item>: Predicate<Item> {
+    /// The same predicate under a name, which is a `&'static str` or, where no lifetime may stand
+    /// in the type, as in a box, a `StaticText`. It takes no memory.
+    fn name<N: Lasting>(self, name: N) -> NamePredicate<Self, Item, N>
+    where
+        Self: Sized,
+        ensures inner { inner_of result ≡ self }
+        ensures name { name_of result ≡ name };
+}
+
+impl<P: Predicate<Item>, Item> PredicateNameExt<Item> for P {
+    fn name<N: Lasting>(self, name: N) -> NamePredicate<Self, Item, N> {
+        NamePredicate {
+            inner: self,
+            item: PhantomData,
+            name,
+        }
+    }
+}

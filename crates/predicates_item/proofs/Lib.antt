@@ -1,0 +1,4 @@
+pub mod Halving
+pub mod Memberships
+pub mod Calls
+pub mod GivenItems

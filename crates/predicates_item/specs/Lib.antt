@@ -1,0 +1,10 @@
+pub mod Constant
+pub mod Comparison
+pub mod Makers
+pub mod Members
+pub mod Digits
+pub mod In
+pub mod OrdIn
+pub mod HashableIn
+pub mod Function
+pub mod TextEquality

@@ -1,0 +1,116 @@
+//! Predicates that answer the same on every item.
+//!
+//! ```
+//! let open = predicate::always().or(predicate::eq(5));
+//! ```
+ghost use Rattle.std.specs.Prelude.{◌≡◌, refl, true, false, codes, Some};
+ghost use Rattle.predicates_core.specs.Label.{plain, value_of};
+ghost use Rattle.predicates_core.specs.Formula.{Leaf};
+ghost use Rattle.predicates_core.specs.Tree.{empty};
+ghost use Rattle.predicates_core.specs.Leaves.{IsExactly, word};
+ghost use Rattle.predicates_item.specs.Constant.{answer_of};
+ghost use Rattle.predicates_core.proofs.Leaves.{exactly_text_fits, one_exactly};
+
+use predicates_core::node::{alone, printed};
+use predicates_core::reflection::{Case, Child, Parameter, PredicateReflection};
+use predicates_core::{Content, Predicate, ReadsContent, Total};
+use std::alloc::{AllocError, Global};
+use std::fmt;
+use std::marker::PhantomData;
+
+/// Always true, or always false. Made by `always` and `never`.
+#[derive(Drop)]
+#[derive_where(Debug, Clone, Copy, PartialEq, Eq)]
+pub struct BooleanPredicate<Item> {
+    retval: bool,
+    item: PhantomData<Item>,
+}
+
+/// The predicate that holds of every item. It takes no memory, and neither does its `eval`.
+pub fn always<Item>() -> BooleanPredicate<Item>
+    ensures { answer_of result ≡ true }
+{
+    BooleanPredicate {
+        retval: true,
+        item: PhantomData,
+    }
+}
+
+/// The predicate that holds of no item. It takes no memory, and neither does its `eval`.
+pub fn never<Item>() -> BooleanPredicate<Item>
+    ensures { answer_of result ≡ false }
+{
+    BooleanPredicate {
+        retval: false,
+        item: PhantomData,
+    }
+}
+
+impl<Item> fmt::Display for BooleanPredicate<Item> {
+    ghost output = { λ p. Some (word p.retval) };
+
+    fn fmt<W: fmt::Write>(&self, f: &mut fmt::Formatter<W>) -> fmt::Result {
+        let retval = self.retval;
+        write!(f, "{retval}")
+    }
+}
+
+impl<Item> PredicateReflection for BooleanPredicate<Item> {
+    ghost parameters_of = { λ p. value_of (codes "value") (Some (word p.retval)) };
+
+    ghost children_of = { λ p. empty };
+
+    fn parameters(&self, alloc: Global) -> Result<Vec<Parameter>, AllocError> {
+        let mut parameters = Vec::new(alloc);
+        parameters.push(Parameter::new("value", self.retval.to_string(alloc)?))?;
+        Ok(parameters)
+    }
+
+    fn children(&self, alloc: Global) -> Result<Vec<Child>, AllocError> {
+        Ok(Vec::new(alloc))
+    }
+}
+
+impl<Item> Predicate<Item> for BooleanPredicate<Item> {
+    ghost formula = { λ p v. IsExactly (Leaf (plain (Some (word p.retval))) p.retval) };
+
+    ghost steady = { λ p v. Unit {0} };
+
+    ghost text_fits = { λ p v f. exactly_text_fits };
+
+    ghost one_formula = { λ p v f g lawful. one_exactly };
+
+    #[tactic(auto, using(predicates_core::proofs::Leaves::leaves))]
+    fn eval(&self, _alloc: Global, _item: &Item) -> Result<bool, AllocError> {
+        Ok(self.retval)
+    }
+
+    #[tactic(auto, using(predicates_core::proofs::Leaves::leaves))]
+    fn find_case(
+        &self,
+        alloc: Global,
+        expected: bool,
+        _item: &Item,
+    ) -> Result<Option<Case>, AllocError> {
+        if self.retval != expected {
+            return Ok(None);
+        }
+        Ok(Some(alone(alloc, printed(alloc, self)?, expected)))
+    }
+}
+
+impl<Item> Total<Item> for BooleanPredicate<Item> {
+    ghost formula_of = { λ p v. Leaf (plain (Some (word p.retval))) p.retval };
+
+    ghost always_lawful = { λ p. tt };
+
+    ghost has_formula = { λ p v. record { is = refl } };
+}
+
+impl<Item: Content> ReadsContent<Item> for BooleanPredicate<Item> {
+    ghost content_formula = { λ p bytes. Leaf (plain (Some (word p.retval))) p.retval };
+
+    ghost always_lawful = { λ p. tt };
+
+    ghost has_formula = { λ p v. record { is = refl } };
+}

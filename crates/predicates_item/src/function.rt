@@ -1,0 +1,113 @@
+//! Functions of the caller's own as predicates.
+//!
+//! ```
+//! let big = predicate::function(|x: &i32| *x >= 5).fn_name("big");
+//! ```
+ghost use Rattle.std.specs.Prelude.{◌≡◌, [], codes};
+ghost use Rattle.predicates_core.specs.Tree.{empty};
+ghost use Rattle.predicates_item.specs.Function.{HasOneAnswer, IsCall, call_text, call_text_fits};
+ghost use Rattle.predicates_item.specs.Function.{one_call, function_of, name_of};
+
+use predicates_core::Predicate;
+use predicates_core::lasting::Lasting;
+use predicates_core::node::{alone, printed};
+use predicates_core::reflection::{Case, Child, Parameter, PredicateReflection};
+use predicates_core::static_text::StaticText;
+use std::alloc::{AllocError, Global};
+use std::fmt;
+use std::marker::PhantomData;
+
+/// Holds of an item where a function answers true on it. Made by `function`.
+#[derive(Drop)]
+pub struct FnPredicate<F, T> {
+    function: F,
+    name: StaticText,
+    item: PhantomData<T>,
+}
+
+/// The predicate that asks the function, under the name `fn`.
+///
+/// The function may be called on every item (`callable`) and has one answer for each
+/// (`one_answer`). It takes no memory, and neither does its `eval`. The function is kept.
+pub fn function<F: Fn(&T) -> bool, T>(function: F) -> FnPredicate<F, T>
+    requires callable { F.IsAlwaysCallable function }
+    requires one_answer { HasOneAnswer F.Fn function }
+    ensures function { function_of result ≡ function }
+    ensures name { name_of result ≡ codes "fn" }
+{
+    FnPredicate {
+        function,
+        name: StaticText::new("fn"),
+        item: PhantomData,
+    }
+}
+
+impl<F, T> FnPredicate<F, T> {
+    /// The same predicate under another name; the old one is dropped. It takes no memory.
+    pub fn fn_name<N: Lasting + Drop>(self, name: N) -> FnPredicate<F, T>
+        ensures function { function_of result ≡ function_of self }
+        ensures name { name_of result ≡ N.bytes name }
+    {
+        let FnPredicate {
+            function,
+            name: _,
+            item,
+        } = self;
+        FnPredicate {
+            function,
+            name: StaticText::new(name.text()),
+            item,
+        }
+    }
+}
+
+impl<F, T> fmt::Display for FnPredicate<F, T> {
+    ghost output = { λ p. call_text p.name };
+
+    fn fmt<W: fmt::Write>(&self, f: &mut fmt::Formatter<W>) -> fmt::Result {
+        let name = self.name.as_str();
+        write!(f, "{name}(var)")
+    }
+}
+
+impl<F, T> PredicateReflection for FnPredicate<F, T> {
+    ghost parameters_of = { λ p. [] };
+
+    ghost children_of = { λ p. empty };
+
+    fn parameters(&self, alloc: Global) -> Result<Vec<Parameter>, AllocError> {
+        Ok(Vec::new(alloc))
+    }
+
+    fn children(&self, alloc: Global) -> Result<Vec<Child>, AllocError> {
+        Ok(Vec::new(alloc))
+    }
+}
+
+impl<F: Fn(&T) -> bool, T> Predicate<T> for FnPredicate<F, T> {
+    ghost lawful = { λ p. F.IsAlwaysCallable p.function × HasOneAnswer F.Fn p.function };
+
+    ghost formula = { λ p v. IsCall F.Fn p.function (call_text p.name) v };
+
+    ghost steady = { λ p v. Unit {0} };
+
+    ghost text_fits = { λ p v f. call_text_fits };
+
+    ghost one_formula = { λ p v f g lawful. one_call lawful.1 };
+
+    fn eval(&self, _alloc: Global, item: &T) -> Result<bool, AllocError> {
+        Ok((self.function)(item))
+    }
+
+    fn find_case(
+        &self,
+        alloc: Global,
+        expected: bool,
+        item: &T,
+    ) -> Result<Option<Case>, AllocError> {
+        if self.eval(alloc, item)? != expected {
+            return Ok(None);
+        }
+        Ok(Some(alone(alloc, printed(alloc, self)?, expected)))
+    }
+}

@@ -1,0 +1,16 @@
+//! Predicates of items of any type: constants, comparisons, memberships and functions.
+//!
+//! ```
+//! let small = predicate::lt(10);
+//! assert!(rt; small.eval(alloc, &7)?);
+//! ```
+//!
+//! Making one takes no memory, but for a membership, which keeps its members in a list. `eval`
+//! takes none, and never refuses.
+#![tactic(auto)]
+
+pub mod constant;
+pub mod function;
+pub mod iter;
+pub mod meaning;
+pub mod ord;
