@@ -9,16 +9,16 @@ use Rattle.std.proofs.lemmas.List.{take_more, drop_more, map-append, take-append
 use Rattle.std.proofs.lemmas.Str.{IsUtf8-append, IsUtf8-from_ascii, IsUtf8-string_bytes}
 use Rattle.std.proofs.lemmas.Str.Ascii.{IsAscii-nil, IsAscii-cons}
 use Rattle.predicates_core.specs.Text.{Text}
-use Rattle.predicates_explain.specs.Applied.{IsPattern}
+use Rattle.predicates_words.specs.Applied.{IsPattern}
 use Rattle.predicates_explain.specs.Ends.{IsTokenFault, HasTokensFault}
 use Rattle.predicates_explain.specs.Number.{Reads}
-use Rattle.predicates_explain.specs.Tokens.{token_of}
+use Rattle.predicates_words.specs.Tokens.{token_of}
 use Rattle.predicates_explain.specs.Typed.{typed, AreNumbers, Makes, IsPatternToken, token as wrong_token}
-use Rattle.predicates_explain.specs.declared.check.TextCheck.{TextCheck}
+use Rattle.predicates_words.specs.declared.check.TextCheck.{TextCheck}
 use Rattle.predicates_explain.specs.declared.program.end.End.{End}
 use Rattle.predicates_explain.specs.declared.program.end.End.TheVariants.{Usage, PatternRefused, NoMemory}
-use Rattle.predicates_explain.specs.declared.words.word.Word.{Word}
-use Rattle.predicates_explain.specs.declared.words.word.Word.TheVariants.{Equals, Starts, Ends, Contains, Matches}
+use Rattle.predicates_words.specs.declared.word.Word.{Word}
+use Rattle.predicates_words.specs.declared.word.Word.TheVariants.{Equals, Starts, Ends, Contains, Matches}
 
 -- each byte is below 128
 abbrev low : List ℕ → Bool

@@ -5,7 +5,7 @@ use Rattle.std.specs.Io.KnownBytes.{Appends}
 use Rattle.predicates_explain.specs.Typed.{FailsFirst, IsWrongToken, IsPatternToken, AreWrongTokens}
 use Rattle.predicates_explain.specs.Typed.{AreWrongWords, AreRightWords, HasRefusedPattern}
 use Rattle.predicates_explain.specs.Typed.{HasRunOf}
-use Rattle.predicates_explain.specs.declared.check.TextCheck.{TextCheck}
+use Rattle.predicates_words.specs.declared.check.TextCheck.{TextCheck}
 use Rattle.predicates_explain.specs.declared.fault.RunFault.{RunFault}
 use Rattle.predicates_explain.specs.declared.fault.RunFault.TheVariants.{NoMemory as RunNoMemory}
 use Rattle.predicates_explain.specs.declared.fault.RunFault.TheVariants.{Input, Output}

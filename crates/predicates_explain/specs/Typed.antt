@@ -6,14 +6,14 @@ use Rattle.std.specs.declared.alloc.Global.{Global}
 use Rattle.std.specs.declared.vec.Vec.{Vec}
 use Rattle.predicates_core.specs.Text.{Text}
 use Rattle.predicates_explain.specs.Answers.{between_formula, IsNumber, IsNumberAnswer}
-use Rattle.predicates_explain.specs.Applied.{operand_count, IsApplied}
-use Rattle.predicates_explain.specs.Checks.{HasFormula}
+use Rattle.predicates_words.specs.Applied.{operand_count, IsApplied}
+use Rattle.predicates_words.specs.Checks.{HasFormula}
 use Rattle.predicates_explain.specs.Number.{Reads}
 use Rattle.predicates_explain.specs.Runs.{HasRun}
 use Rattle.predicates_explain.specs.TextAnswers.{IsTextAnswer}
-use Rattle.predicates_explain.specs.Tokens.{token_of}
-use Rattle.predicates_explain.specs.declared.check.TextCheck.{TextCheck}
-use Rattle.predicates_explain.specs.declared.words.word.Word.{Word}
+use Rattle.predicates_words.specs.Tokens.{token_of}
+use Rattle.predicates_words.specs.declared.check.TextCheck.{TextCheck}
+use Rattle.predicates_words.specs.declared.word.Word.{Word}
 
 -- the bytes of each word
 abbrev pub typed : List (Vec ℕ Global) → List (List ℕ)

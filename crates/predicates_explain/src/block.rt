@@ -1,12 +1,11 @@
 //! The block of text that explains a verdict.
 ghost use Rattle.std.specs.Prelude.{◌≡◌, IfOk, OnOk, string_bytes};
 ghost use Rattle.predicates_explain.specs.Blocks.{heading, HasBlocks, IsBlock};
-ghost use Rattle.predicates_explain.specs.Checks.{HasFormula};
+ghost use Rattle.predicates_words.specs.Checks.{HasFormula};
 
-use crate::check::TextCheck;
-use crate::check::draft::Draft;
 use predicates_core::reflection::render_onto;
 use predicates_core::{Predicate, Total};
+use predicates_words::{Draft, TextCheck};
 use std::alloc::{AllocError, Global};
 
 // Makes the label that the text holds into its block.
@@ -57,8 +56,7 @@ pub(crate) fn complete_check(
 {
     let verdict = check.eval(alloc, item)?;
     write_verdict(text, verdict)?;
-    draft.indent.clear();
-    check.write(alloc, verdict, item, draft, text)
+    check.write_lines(alloc, verdict, item, draft, text)
 }
 
 /// The label with the verdict, and the lines of a case that explains it: `11: false`, and the case

@@ -19,20 +19,16 @@
 
 mod between;
 mod block;
-mod check;
 mod fault;
-pub mod laws;
 mod numeral;
 mod program;
 mod run;
 mod text;
-mod words;
 
 pub use between::run_between;
 pub use block::{explain_one, explain_total};
-pub use check::TextCheck;
 pub use fault::RunFault;
 pub use numeral::number;
+pub use predicates_words::{TextCheck, Word, WordFault, apply_word, laws, read_word};
 pub use program::{Ended, explain_words, run_program};
 pub use text::{run_check, run_text};
-pub use words::{Word, WordFault, apply_word, read_word};

@@ -8,8 +8,8 @@ ghost use Rattle.std.specs.Io.KnownBytes.{Appends, Keeps};
 ghost use Rattle.predicates_explain.specs.Runs.{input_lines, HasRun};
 ghost use Rattle.predicates_explain.specs.declared.fault.RunFault.TheVariants.{NoMemory};
 
-use crate::check::draft::Draft;
 use crate::fault::RunFault;
+use predicates_words::Draft;
 use std::alloc::{AllocError, Global};
 use std::io;
 use std::io::{BufRead, ErrorKind, Write};

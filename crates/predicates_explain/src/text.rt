@@ -5,6 +5,7 @@ ghost use Rattle.predicates_explain.specs.TextAnswers.{line_label, no_text, IsTe
 ghost use Rattle.predicates_explain.specs.Runs.{HasRun};
 
 mod checked;
+mod shallow;
 
 use crate::block::complete_block;
 use crate::fault::RunFault;

@@ -2,16 +2,16 @@
 ghost use Rattle.std.specs.Prelude.{◌≡◌, IfOk, OnOk, string_bytes};
 ghost use Rattle.std.specs.Str.{IsUtf8};
 ghost use Rattle.predicates_explain.specs.Blocks.{HasBlocks};
-ghost use Rattle.predicates_explain.specs.Checks.{HasFormula};
+ghost use Rattle.predicates_words.specs.Checks.{HasFormula};
 ghost use Rattle.predicates_explain.specs.TextAnswers.{IsTextAnswer};
 ghost use Rattle.predicates_explain.specs.Runs.{HasRun};
 
 use crate::block::{complete_block, complete_check};
-use crate::check::TextCheck;
-use crate::check::draft::Draft;
 use crate::fault::RunFault;
 use crate::run::{AnswerLine, Spare, run_lines};
+use crate::text::shallow::is_shallow;
 use crate::text::{write_label, write_no_text};
+use predicates_words::{Draft, TextCheck};
 use std::alloc::{AllocError, Global};
 use std::io::{BufRead, Write};
 use std::str;
@@ -101,7 +101,7 @@ pub fn run_check<R: BufRead, W: Write>(
 {
     let checked = Checked {
         check,
-        is_shallow: check.is_shallow(),
+        is_shallow: is_shallow(check),
     };
     run_lines(alloc, &checked, input, output)
 }
