@@ -3,7 +3,9 @@ use super::answer::Answer;
 use super::checks::stacked;
 use super::sweep::Memory::{GoesOn, Never, Taken};
 use super::sweep::{Call, sweep};
-use predicates_explain::{TextCheck, Word, WordFault, apply_word, read_word};
+use super::text;
+use predicates_core::Predicate;
+use predicates_words::{Draft, TextCheck, Word, WordFault, apply_word, read_word};
 use std::alloc::{AllocError, Global};
 use std::test::Fail;
 
@@ -127,4 +129,46 @@ fn missing_operands(rt: HostRuntime) -> Result<(), Fail> {
         sweep(&rt, name.as_str(), &applying, "another fault", Never)?;
     }
     Ok(())
+}
+
+// The lines of a check, of the verdict that it has.
+#[derive(Drop)]
+struct Writing;
+
+impl Call for Writing {
+    type Operand = (Vec<TextCheck>, String);
+
+    fn operand(&self, alloc: Global) -> Result<(Vec<TextCheck>, String), AllocError> {
+        let stack = stacked(alloc, &["empty", "trim", "not", "eq=b", "xor"])?;
+        Ok((stack, text(alloc, "  b")?))
+    }
+
+    fn call(&self, alloc: Global, operand: (Vec<TextCheck>, String)) -> Result<Answer, AllocError> {
+        let (stack, item) = operand;
+        let Some(check) = stack.first() else {
+            return Ok(Answer::OtherFault);
+        };
+        let verdict = check.eval(alloc, &item)?;
+        let mut out = String::new(alloc);
+        check.write_lines(alloc, verdict, &item, &mut Draft::new(alloc), &mut out)?;
+        Ok(Answer::Text(out))
+    }
+}
+
+#[test]
+fn written_lines(rt: HostRuntime) -> Result<(), Fail> {
+    sweep(
+        &rt,
+        "write_lines",
+        &Writing,
+        "\
+((! var.is_empty()) ^ var == \"b\") = true
+  left: (! var.is_empty()) = true
+    predicate: var.is_empty() = false
+      - var: b
+  right: var == \"b\" = false
+    - var: \"  b\"
+",
+        Taken,
+    )
 }
