@@ -48,45 +48,46 @@ const ROWS: [(&str, &str, bool); 14] = [
     ("٣", "line 1: not a number\n", false),
 ];
 
-#[test]
-fn rows(rt: HostRuntime) -> Result<(), Fail> {
-    for (input, expected, all) in ROWS {
-        let mut output = Vec::new(rt.alloc());
-        let mut reader = input.as_bytes();
-        let answer = run_between(rt.alloc(), 5, 10, &mut reader, &mut output);
-        assert_eq!(rt; answer, Ok(all), "at {input:?}");
-        assert_eq!(rt; output.as_slice(), expected.as_bytes(), "at {input:?}");
-    }
-    Ok(())
+// Whether every line of the input is an item, and this is written for it.
+fn answers(alloc: Global, (lo, hi): (i64, i64), input: &[u8], all: bool, expected: &str) -> bool {
+    let mut output = Vec::new(alloc);
+    let mut reader = input;
+    let answer = run_between(alloc, lo, hi, &mut reader, &mut output);
+    answer == Ok(all) && output.as_slice() == expected.as_bytes()
 }
 
 #[test]
-fn one_byte_at_a_time(rt: HostRuntime) -> Result<(), Fail> {
+fn rows(rt: HostRuntime) {
     for (input, expected, all) in ROWS {
-        let mut output = Narrow {
-            got: Vec::new(rt.alloc()),
-        };
-        let mut reader = ByteByByte {
-            bytes: input.as_bytes(),
-        };
-        let answer = run_between(rt.alloc(), 5, 10, &mut reader, &mut output);
-        assert_eq!(rt; answer, Ok(all), "at {input:?}");
-        assert_eq!(rt; output.got.as_slice(), expected.as_bytes(), "at {input:?}");
+        let holds = answers(rt.alloc(), (5, 10), input.as_bytes(), all, expected);
+        assert!(rt; holds, "at {input:?}");
     }
-    Ok(())
+}
+
+// The same, of a reader and a writer of one byte at a time.
+fn answers_by_bytes(alloc: Global, input: &[u8], all: bool, expected: &str) -> bool {
+    let mut output = Narrow {
+        got: Vec::new(alloc),
+    };
+    let mut reader = ByteByByte { bytes: input };
+    let answer = run_between(alloc, 5, 10, &mut reader, &mut output);
+    answer == Ok(all) && output.got.as_slice() == expected.as_bytes()
+}
+
+#[test]
+fn one_byte_at_a_time(rt: HostRuntime) {
+    for (input, expected, all) in ROWS {
+        let holds = answers_by_bytes(rt.alloc(), input.as_bytes(), all, expected);
+        assert!(rt; holds, "at {input:?}");
+    }
 }
 
 // A line of bytes that are no text, between two numbers, the second of them cut short.
 #[test]
-fn no_text(rt: HostRuntime) -> Result<(), Fail> {
-    let mut output = Vec::new(rt.alloc());
-    let mut reader = b"7\n\xff7\n1".as_slice();
-    let answer = run_between(rt.alloc(), 1, 1, &mut reader, &mut output);
-    assert_eq!(rt; answer, Ok(false));
+fn no_text(rt: HostRuntime) {
     let expected =
         "7: false\n(var >= 1 && var <= 1) = false\n  right: var <= 1 = false\n    - var: 7\nline 2: not a number\n1: true\n(var >= 1 && var <= 1) = true\n  left: var >= 1 = true\n    - var: 1\n  right: var <= 1 = true\n    - var: 1\n";
-    assert_eq!(rt; output.as_slice(), expected.as_bytes());
-    Ok(())
+    assert!(rt; answers(rt.alloc(), (1, 1), b"7\n\xff7\n1", false, expected));
 }
 
 #[test]
@@ -164,15 +165,11 @@ const BOUNDS: [(i64, i64, &str, &str); 5] = [
 ];
 
 #[test]
-fn bounds(rt: HostRuntime) -> Result<(), Fail> {
+fn bounds(rt: HostRuntime) {
     for (lo, hi, input, want) in BOUNDS {
-        let mut output = Vec::new(rt.alloc());
-        let mut reader = input.as_bytes();
-        let answer = run_between(rt.alloc(), lo, hi, &mut reader, &mut output);
-        assert_eq!(rt; answer, Ok(true), "at {input:?}");
-        assert_eq!(rt; output.as_slice(), want.as_bytes(), "at {input:?}");
+        let holds = answers(rt.alloc(), (lo, hi), input.as_bytes(), true, want);
+        assert!(rt; holds, "at {input:?}");
     }
-    Ok(())
 }
 
 // Writes the blocks of two lines, and says whether memory was refused.
@@ -218,19 +215,21 @@ line 3: true
     Ok(())
 }
 
+const NUMBERS: [(&str, Option<i64>); 9] = [
+    ("+7", Some(7)),
+    ("-9223372036854775808", Some(i64::MIN)),
+    ("9223372036854775807", Some(i64::MAX)),
+    ("9223372036854775808", None),
+    ("", None),
+    ("+", None),
+    ("+-1", None),
+    (" 1", None),
+    ("1_0", None),
+];
+
 #[test]
 fn numbers(rt: HostRuntime) {
-    for (line, expected) in [
-        ("+7", Some(7)),
-        ("-9223372036854775808", Some(i64::MIN)),
-        ("9223372036854775807", Some(i64::MAX)),
-        ("9223372036854775808", None),
-        ("", None),
-        ("+", None),
-        ("+-1", None),
-        (" 1", None),
-        ("1_0", None),
-    ] {
+    for (line, expected) in NUMBERS {
         assert_eq!(rt; number(line.as_bytes()), expected, "at {line:?}");
     }
 }

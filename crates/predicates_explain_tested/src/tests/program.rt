@@ -71,22 +71,36 @@ const ROWS: [(&[u8], &[u8], u8, &str, &str); 30] = [
     (b"text|empty|empty|match=(", b"7", 2, "", REFUSED),
 ];
 
+// Whether the words end so on the input, and the message could be written.
+fn ends(
+    alloc: Global,
+    line: &[u8],
+    input: &[u8],
+    status: u8,
+    output: &str,
+    message: &str,
+) -> Result<bool, AllocError> {
+    let words = split_words(alloc, line)?;
+    let mut reader = input;
+    let mut written = Vec::new(alloc);
+    let mut told = Vec::new(alloc);
+    let ended = explain_words(alloc, &words, &mut reader, &mut written, &mut told);
+    // Wrong words are told before any input is read.
+    let left = if status < 2 { b"".as_slice() } else { input };
+    Ok(
+        ended.status == status
+            && ended.told
+            && written.as_slice() == output.as_bytes()
+            && told.as_slice() == message.as_bytes()
+            && reader == left,
+    )
+}
+
 #[test]
 fn rows(rt: HostRuntime) -> Result<(), Fail> {
-    let alloc = rt.alloc();
     for (line, input, status, output, message) in ROWS {
-        let words = split_words(alloc, line)?;
-        let mut reader = input;
-        let mut written = Vec::new(alloc);
-        let mut told = Vec::new(alloc);
-        let ended = explain_words(alloc, &words, &mut reader, &mut written, &mut told);
-        assert_eq!(rt; ended.status, status, "at {line:?}");
-        assert!(rt; ended.told, "at {line:?}");
-        assert_eq!(rt; written.as_slice(), output.as_bytes(), "at {line:?}");
-        assert_eq!(rt; told.as_slice(), message.as_bytes(), "at {line:?}");
-        // Wrong words are told before any input is read.
-        let left = if status < 2 { b"".as_slice() } else { input };
-        assert_eq!(rt; reader, left, "at {line:?}");
+        let holds = ends(rt.alloc(), line, input, status, output, message)?;
+        assert!(rt; holds, "at {line:?}");
     }
     Ok(())
 }

@@ -2,7 +2,6 @@ use predicates::BoxPredicate;
 use predicates::prelude::*;
 use predicates_explain::{RunFault, TextCheck, apply_word, read_word, run_check, run_text};
 use std::alloc::Global;
-use std::process::Abort;
 use std::test::Fail;
 
 // Tokens, an input, what is written for it, and whether every line is a text.
@@ -67,14 +66,24 @@ line 3: true
 ];
 
 // Puts the check that the token names on the stack.
-fn apply<R: Abort + AllocGlobal>(
-    rt: &R,
-    stack: &mut Vec<TextCheck>,
-    token: &str,
-) -> Result<(), Fail> {
-    let word = read_word(rt.alloc(), token)?.ok_or("a token of no word")?;
-    assert_eq!(rt; apply_word(rt.alloc(), stack, word), Ok(()));
+fn apply(alloc: Global, stack: &mut Vec<TextCheck>, token: &str) -> Result<(), Fail> {
+    let word = read_word(alloc, token)?.ok_or("a token of no word")?;
+    if apply_word(alloc, stack, word).is_err() {
+        return Err("a word that was refused".into());
+    }
     Ok(())
+}
+
+// The check of the tokens, alone on its stack.
+fn apply_all(alloc: Global, tokens: &[&str]) -> Result<Vec<TextCheck>, Fail> {
+    let mut stack = Vec::new(alloc);
+    for token in tokens {
+        apply(alloc, &mut stack, token)?;
+    }
+    if stack.len() != 1 {
+        return Err("not one check".into());
+    }
+    Ok(stack)
 }
 
 // Whether every line was a text, and what was written: by cases, or as the program does.
@@ -93,23 +102,40 @@ fn run(
     Ok((all, output))
 }
 
-#[test]
-fn rows(rt: HostRuntime) -> Result<(), Fail> {
-    let alloc = rt.alloc();
-    for (tokens, input, expected, all) in ROWS {
-        let mut stack = Vec::new(alloc);
-        for token in tokens {
-            apply(&rt, &mut stack, token)?;
-        }
-        assert_eq!(rt; stack.len(), 1);
-        let check = stack.first().ok_or("no check")?;
-        for makes_cases in [false, true] {
-            let (answer, output) = run(alloc, check, input, makes_cases)?;
-            assert_eq!(rt; answer, all, "for {expected:?}");
-            assert_eq!(rt; output.as_slice(), expected.as_bytes());
+// Whether the check of the tokens answers so, in both ways.
+fn answers(
+    alloc: Global,
+    tokens: &[&str],
+    input: &[u8],
+    expected: &str,
+    all: bool,
+) -> Result<bool, Fail> {
+    let stack = apply_all(alloc, tokens)?;
+    let check = stack.first().ok_or("no check")?;
+    for makes_cases in [false, true] {
+        let (answer, output) = run(alloc, check, input, makes_cases)?;
+        if answer != all || output.as_slice() != expected.as_bytes() {
+            return Ok(false);
         }
     }
+    Ok(true)
+}
+
+#[test]
+fn rows(rt: HostRuntime) -> Result<(), Fail> {
+    for (tokens, input, expected, all) in ROWS {
+        let holds = answers(rt.alloc(), tokens, input, expected, all)?;
+        assert!(rt; holds, "for {expected:?}");
+    }
     Ok(())
+}
+
+// Whether the last check answers the same in both ways.
+fn answers_alike(alloc: Global, stack: &[TextCheck], input: &[u8]) -> Result<bool, Fail> {
+    let check = stack.first().ok_or("no check")?;
+    let (all, cases) = run(alloc, check, input, true)?;
+    let (answer, output) = run(alloc, check, input, false)?;
+    Ok(answer == all && output.as_slice() == cases.as_slice())
 }
 
 // The checks joined by each word, to the left, to more and fewer than are written without a case.
@@ -119,35 +145,41 @@ fn checks_of_any_depth(rt: HostRuntime) -> Result<(), Fail> {
     let input = b"a\nb\n ab\n\nc".as_slice();
     for token in ["and", "or", "xor", "not", "trim", "normalize"] {
         let mut stack = Vec::new(alloc);
-        apply(&rt, &mut stack, "contains=a")?;
+        apply(alloc, &mut stack, "contains=a")?;
         for words in 0..6 {
-            let check = stack.first().ok_or("no check")?;
-            let (all, cases) = run(alloc, check, input, true)?;
-            let (answer, output) = run(alloc, check, input, false)?;
-            assert_eq!(rt; answer, all);
-            assert_eq!(rt; output.as_slice(), cases.as_slice(), "{words} {token}");
+            let holds = answers_alike(alloc, &stack, input)?;
+            assert!(rt; holds, "{words} {token}");
             if matches!(token, "and" | "or" | "xor") {
-                apply(&rt, &mut stack, "contains=b")?;
+                apply(alloc, &mut stack, "contains=b")?;
             }
-            apply(&rt, &mut stack, token)?;
+            apply(alloc, &mut stack, token)?;
         }
     }
     Ok(())
 }
 
+// Whether a predicate in a box answers true of `b`, and what is written goes to the output.
+fn is_true_in_a_box(alloc: Global, output: &mut Vec<u8>) -> Result<bool, Fail> {
+    let boxed = BoxPredicate::new(alloc, Box::new(alloc, predicate::str::is_empty())?)?;
+    let mut reader = b"b".as_slice();
+    let answer = run_text(alloc, &boxed.not(), &mut reader, output);
+    Ok(answer == Ok(true))
+}
+
+// The same of one with a stored function.
+fn is_true_of_a_function(alloc: Global, output: &mut Vec<u8>) -> bool {
+    let short = predicate::function(|text: &String| text.len() < 2).fn_name("short");
+    let mut reader = b"b".as_slice();
+    let answer = run_text(alloc, &short, &mut reader, output);
+    answer == Ok(true)
+}
+
 // Any predicate of texts will do: one in a box, and one with a stored function.
 #[test]
 fn other_predicates(rt: HostRuntime) -> Result<(), Fail> {
-    let alloc = rt.alloc();
-    let boxed = BoxPredicate::new(alloc, Box::new(alloc, predicate::str::is_empty())?)?;
-    let mut output = Vec::new(alloc);
-    let mut reader = b"b".as_slice();
-    let answer = run_text(alloc, &boxed.not(), &mut reader, &mut output);
-    assert_eq!(rt; answer, Ok(true));
-    let short = predicate::function(|text: &String| text.len() < 2).fn_name("short");
-    let mut reader = b"b".as_slice();
-    let answer = run_text(alloc, &short, &mut reader, &mut output);
-    assert_eq!(rt; answer, Ok(true));
+    let mut output = Vec::new(rt.alloc());
+    assert!(rt; is_true_in_a_box(rt.alloc(), &mut output)?);
+    assert!(rt; is_true_of_a_function(rt.alloc(), &mut output));
     assert_eq!(rt;
         output.as_slice(),
         b"line 1: true\n(! var.is_empty()) = true\n  predicate: var.is_empty() = false\n    - var: b\nline 1: true\nshort(var) = true\n".as_slice()

@@ -2,6 +2,7 @@
 use super::streams::{Broken, ByteByByte, Closed, Narrow, Unflushed};
 use predicates_explain::{RunFault, TextCheck, Word, apply_word, read_word, run_text};
 use std::alloc::Global;
+use std::io::{BufRead, Write};
 use std::test::Fail;
 
 const BLANK: &str =
@@ -18,17 +19,28 @@ fn read_check(alloc: Global, stack: &mut Vec<TextCheck>, tokens: &[&str]) -> Res
     Ok(())
 }
 
+// What the check of these tokens answers.
+fn run<R: BufRead, W: Write>(
+    alloc: Global,
+    tokens: &[&str],
+    reader: &mut R,
+    output: &mut W,
+) -> Result<Result<bool, RunFault>, Fail> {
+    let mut stack = Vec::new(alloc);
+    read_check(alloc, &mut stack, tokens)?;
+    let check = stack.first().ok_or("no check")?;
+    Ok(run_text(alloc, check, reader, output))
+}
+
+const TOKENS: [&str; 4] = ["empty", "trim", "contains=a", "or"];
+
 #[test]
 fn one_byte_at_a_time(rt: HostRuntime) -> Result<(), Fail> {
-    let alloc = rt.alloc();
-    let mut stack = Vec::new(alloc);
-    read_check(alloc, &mut stack, &["empty", "trim", "contains=a", "or"])?;
-    let check = stack.first().ok_or("no check")?;
     let mut output = Narrow {
-        got: Vec::new(alloc),
+        got: Vec::new(rt.alloc()),
     };
     let mut reader = ByteByByte { bytes: b"  \n" };
-    let answer = run_text(alloc, check, &mut reader, &mut output);
+    let answer = run(rt.alloc(), &TOKENS, &mut reader, &mut output)?;
     assert_eq!(rt; answer, Ok(true));
     assert_eq!(rt; output.got.as_slice(), BLANK.as_bytes());
     Ok(())
@@ -36,17 +48,13 @@ fn one_byte_at_a_time(rt: HostRuntime) -> Result<(), Fail> {
 
 #[test]
 fn faults(rt: HostRuntime) -> Result<(), Fail> {
-    let alloc = rt.alloc();
-    let mut stack = Vec::new(alloc);
-    read_check(alloc, &mut stack, &["empty", "trim", "contains=a", "or"])?;
-    let check = stack.first().ok_or("no check")?;
-    let mut output = Vec::new(alloc);
+    let mut output = Vec::new(rt.alloc());
     let mut reader = Broken { bytes: b"  \nb" };
-    let answer = run_text(alloc, check, &mut reader, &mut output);
+    let answer = run(rt.alloc(), &TOKENS, &mut reader, &mut output)?;
     assert_eq!(rt; answer, Err(RunFault::Input));
     assert_eq!(rt; output.as_slice(), BLANK.as_bytes());
     let mut reader = b"  \n".as_slice();
-    let answer = run_text(alloc, check, &mut reader, &mut Closed);
+    let answer = run(rt.alloc(), &TOKENS, &mut reader, &mut Closed)?;
     assert_eq!(rt; answer, Err(RunFault::Output));
     Ok(())
 }
@@ -54,43 +62,50 @@ fn faults(rt: HostRuntime) -> Result<(), Fail> {
 // The writer passes on what it keeps back, also where a line was bad or none was read.
 #[test]
 fn flushed_at_each_end(rt: HostRuntime) -> Result<(), Fail> {
-    let alloc = rt.alloc();
-    let mut stack = Vec::new(alloc);
-    read_check(alloc, &mut stack, &["empty"])?;
-    let check = stack.first().ok_or("no check")?;
     for input in [b"".as_slice(), b"\xff\n", b"7\n"] {
         let mut reader = input;
-        let answer = run_text(alloc, check, &mut reader, &mut Unflushed);
+        let answer = run(rt.alloc(), &["empty"], &mut reader, &mut Unflushed)?;
         assert_eq!(rt; answer, Err(RunFault::Output), "at {input:?}");
     }
     Ok(())
 }
 
-#[test]
-fn two_hundred_times_not(rt: HostRuntime) -> Result<(), Fail> {
-    let alloc = rt.alloc();
+// What `empty`, 200 times turned round, writes of an empty line, where it answers true.
+fn write_turned(alloc: Global) -> Result<Vec<u8>, Fail> {
     let mut stack = Vec::new(alloc);
     read_check(alloc, &mut stack, &["empty"])?;
     for _ in 0..200 {
-        assert_eq!(rt; apply_word(alloc, &mut stack, Word::Not), Ok(()));
+        if apply_word(alloc, &mut stack, Word::Not).is_err() {
+            return Err("a word that was refused".into());
+        }
     }
     let check = stack.first().ok_or("no check")?;
     let mut output = Vec::new(alloc);
     let mut reader = b"\n".as_slice();
-    let answer = run_text(alloc, check, &mut reader, &mut output);
-    assert_eq!(rt; answer, Ok(true));
+    if run_text(alloc, check, &mut reader, &mut output) != Ok(true) {
+        return Err("another answer".into());
+    }
+    Ok(output)
+}
+
+// The line, 200 levels deep.
+fn push_deep(text: &mut String, line: &str) -> Result<(), Fail> {
+    for _ in 0..200 {
+        text.push_str("  ")?;
+    }
+    text.push_str(line)?;
+    Ok(())
+}
+
+#[test]
+fn two_hundred_times_not(rt: HostRuntime) -> Result<(), Fail> {
+    let output = write_turned(rt.alloc())?;
     // The label, 201 nodes, and the product of the last, which stands 200 levels deep.
     let lines = output.iter().filter(|byte| **byte == b'\n').count();
     assert_eq!(rt; lines, 203);
-    let mut end = String::from_str(alloc, "\n")?;
-    for _ in 0..200 {
-        end.push_str("  ")?;
-    }
-    end.push_str("predicate: var.is_empty() = true\n")?;
-    for _ in 0..200 {
-        end.push_str("  ")?;
-    }
-    end.push_str("  - var: \n")?;
+    let mut end = String::from_str(rt.alloc(), "\n")?;
+    push_deep(&mut end, "predicate: var.is_empty() = true\n")?;
+    push_deep(&mut end, "  - var: \n")?;
     assert!(rt; output.starts_with(b"line 1: true\n(! (! "));
     assert!(rt; output.ends_with(end.as_bytes()));
     Ok(())

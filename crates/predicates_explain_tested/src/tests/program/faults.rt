@@ -1,6 +1,7 @@
 use super::split_words;
 use crate::tests::streams::{Closed, FailingReader, FailingWriter};
 use predicates_explain::explain_words;
+use std::alloc::{AllocError, Global};
 use std::io::ErrorKind;
 use std::test::Fail;
 
@@ -14,44 +15,66 @@ const KINDS: [(ErrorKind, &str); 3] = [
     (ErrorKind::InvalidData, FAULT),
 ];
 
+const LINES: [&[u8]; 2] = [b"text|empty", b"between|5|10"];
+
+// The status and the message, where a read after so many calls fails.
+fn read(
+    alloc: Global,
+    line: &[u8],
+    calls: usize,
+    kind: ErrorKind,
+) -> Result<(u8, Vec<u8>), AllocError> {
+    let words = split_words(alloc, line)?;
+    let mut reader = FailingReader {
+        bytes: b"1\n2",
+        calls,
+        kind,
+    };
+    let mut written = Vec::new(alloc);
+    let mut told = Vec::new(alloc);
+    let ended = explain_words(alloc, &words, &mut reader, &mut written, &mut told);
+    Ok((ended.status, told))
+}
+
 // Each read in turn wants memory, or fails.
 #[test]
 fn failing_reads(rt: HostRuntime) -> Result<(), Fail> {
-    let alloc = rt.alloc();
-    for line in [b"text|empty".as_slice(), b"between|5|10".as_slice()] {
-        let words = split_words(alloc, line)?;
+    for line in LINES {
         for (kind, message) in KINDS {
             for calls in 0..4usize {
-                let mut reader = FailingReader {
-                    bytes: b"1\n2",
-                    calls,
-                    kind,
-                };
-                let mut written = Vec::new(alloc);
-                let mut told = Vec::new(alloc);
-                let ended = explain_words(alloc, &words, &mut reader, &mut written, &mut told);
-                assert_eq!(rt; ended.status, 3, "at {line:?}, {calls}");
-                assert_eq!(rt; told.as_slice(), message.as_bytes(), "at {line:?}, {calls}");
+                let (status, told) = read(rt.alloc(), line, calls, kind)?;
+                let holds = status == 3 && told.as_slice() == message.as_bytes();
+                assert!(rt; holds, "at {line:?}, {message}, {calls}");
             }
         }
     }
     Ok(())
 }
 
+// The status and the message, where a write after so many calls fails.
+fn write(
+    alloc: Global,
+    line: &[u8],
+    calls: usize,
+    kind: ErrorKind,
+) -> Result<(u8, Vec<u8>), AllocError> {
+    let words = split_words(alloc, line)?;
+    let mut reader = b"1\n2".as_slice();
+    let mut writer = FailingWriter { calls, kind };
+    let mut told = Vec::new(alloc);
+    let ended = explain_words(alloc, &words, &mut reader, &mut writer, &mut told);
+    Ok((ended.status, told))
+}
+
 // Each write and the flush in turn want memory, or fail.
 #[test]
 fn failing_writes(rt: HostRuntime) -> Result<(), Fail> {
-    let alloc = rt.alloc();
-    for line in [b"text|empty".as_slice(), b"between|5|10".as_slice()] {
-        let words = split_words(alloc, line)?;
+    for line in LINES {
         for (kind, message) in KINDS {
             for calls in 0..3usize {
-                let mut reader = b"1\n2".as_slice();
-                let mut writer = FailingWriter { calls, kind };
-                let mut told = Vec::new(alloc);
-                let ended = explain_words(alloc, &words, &mut reader, &mut writer, &mut told);
-                assert_eq!(rt; ended.status, 3, "at {line:?}, {calls}");
-                assert_eq!(rt; told.as_slice(), message.as_bytes(), "at {line:?}, {calls}");
+                let (status, told) = write(rt.alloc(), line, calls, kind)?;
+                let holds = status == 3 && told.as_slice() == message.as_bytes();
+                assert!(rt; holds, "at {line:?}, {message}, {calls}");
             }
         }
     }

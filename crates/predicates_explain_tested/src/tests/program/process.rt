@@ -171,51 +171,61 @@ const ROWS: [(&[&[u8]], u8, &str, &str); 12] = [
     (&[], 2, "", USAGE),
 ];
 
+// Whether the words end so, on a line of spaces.
+fn ends(alloc: Global, words: &[&[u8]], status: u8, output: &str, message: &str) -> bool {
+    let (found, written, told) = run(alloc, words, b"  \n");
+    found == status
+        && written.as_slice() == output.as_bytes()
+        && told.as_slice() == message.as_bytes()
+}
+
 #[test]
 fn rows(rt: HostRuntime) -> Result<(), Fail> {
     for (words, status, output, message) in ROWS {
-        let ran = run(rt.alloc(), words, b"  \n");
-        assert_eq!(rt; ran.0, status, "at {words:?}");
-        assert_eq!(rt; ran.1.as_slice(), output.as_bytes(), "at {words:?}");
-        assert_eq!(rt; ran.2.as_slice(), message.as_bytes(), "at {words:?}");
+        let holds = ends(rt.alloc(), words, status, output, message);
+        assert!(rt; holds, "at {words:?}");
     }
     Ok(())
+}
+
+// Whether the item holds the word, and, where it is not empty, the item less one letter does not.
+fn is_read_whole(alloc: Global, word: &[u8], item: &[u8]) -> bool {
+    let words = [b"explain".as_slice(), b"text", word];
+    let (status, written, told) = run(alloc, &words, item);
+    if status != 0 || !written.starts_with(b"line 1: true\nvar.contains(a") || !told.is_empty() {
+        return false;
+    }
+    let shorter = &item[..item.len().saturating_sub(1)];
+    let (_, written, _) = run(alloc, &words, shorter);
+    written.starts_with(b"line 1: false\n") || item.len() == 1
 }
 
 // A word is read whole, however long it is.
 #[test]
 fn long_words(rt: HostRuntime) -> Result<(), Fail> {
-    let alloc = rt.alloc();
     for size in [1usize, 246, 247, 248, 300, 70_000] {
-        let mut item = Vec::new(alloc);
+        let mut item = Vec::new(rt.alloc());
         item.resize(size, b'a')?;
-        let mut word = Vec::new(alloc);
+        let mut word = Vec::new(rt.alloc());
         word.extend_from_slice(b"contains=")?;
         word.extend_from_slice(&item)?;
-        let words = [b"explain".as_slice(), b"text", &word];
-        let ran = run(alloc, &words, &item);
-        assert_eq!(rt; ran.0, 0, "at {size}");
-        assert!(rt;
-            ran.1.starts_with(b"line 1: true\nvar.contains(a"),
-            "at {size}"
-        );
-        assert_eq!(rt; ran.2.len(), 0, "at {size}");
-        item.pop();
-        let ran = run(alloc, &words, &item);
-        assert!(rt;
-            ran.1.starts_with(b"line 1: false\n") || size == 1,
-            "at {size}"
-        );
+        assert!(rt; is_read_whole(rt.alloc(), &word, &item), "at {size}");
     }
     Ok(())
+}
+
+// The status of the words, the number of lines, and whether the first one says true.
+fn count_lines(alloc: Global, words: &[&[u8]]) -> (u8, usize, bool) {
+    let (status, written, _) = run(alloc, words, b"\n");
+    let lines = written.iter().filter(|byte| **byte == b'\n').count();
+    (status, lines, written.starts_with(b"line 1: true\n"))
 }
 
 // Every word is read, however many there are.
 #[test]
 fn many_words(rt: HostRuntime) -> Result<(), Fail> {
-    let alloc = rt.alloc();
     for count in [1usize, 8, 9, 150] {
-        let mut words = Vec::new(alloc);
+        let mut words = Vec::new(rt.alloc());
         words.push(b"explain".as_slice())?;
         words.push(b"text")?;
         for _ in 0..count {
@@ -224,15 +234,12 @@ fn many_words(rt: HostRuntime) -> Result<(), Fail> {
         for _ in 1..count {
             words.push(b"or")?;
         }
-        let ran = run(alloc, &words, b"\n");
-        assert_eq!(rt; ran.0, 0, "at {count}");
-        assert!(rt; ran.1.starts_with(b"line 1: true\n"), "at {count}");
-        let lines = ran.1.iter().filter(|byte| **byte == b'\n').count();
+        let found = count_lines(rt.alloc(), &words);
         // The label, the nodes that decide, and the product of the last.
-        assert_eq!(rt; lines, if count == 1 { 3 } else { 4 }, "at {count}");
+        let lines = if count == 1 { 3 } else { 4 };
+        assert_eq!(rt; found, (0, lines, true), "at {count}");
         words.push(b"and")?;
-        let ran = run(alloc, &words, b"\n");
-        assert_eq!(rt; ran.0, 2, "at {count}");
+        assert_eq!(rt; count_lines(rt.alloc(), &words).0, 2, "at {count}");
     }
     Ok(())
 }
@@ -242,15 +249,11 @@ fn many_words(rt: HostRuntime) -> Result<(), Fail> {
 fn closed_outputs(rt: HostRuntime) -> Result<(), Fail> {
     let alloc = rt.alloc();
     let words = [b"explain".as_slice(), b"between", b"5", b"10"];
-    let ran = run_closed(alloc, &words, b"7\n", Closed::Output);
-    assert_eq!(rt; ran.0, 3);
-    assert_eq!(rt;
-        ran.2.as_slice(),
-        b"explain: input or output fault\n".as_slice()
-    );
-    let ran = run_closed(alloc, &words[..2], b"7\n", Closed::Error);
-    assert_eq!(rt; ran.0, 2);
-    assert_eq!(rt; ran.1.len(), 0);
-    assert_eq!(rt; ran.2.len(), 0);
+    let (status, _, told) = run_closed(alloc, &words, b"7\n", Closed::Output);
+    let holds = status == 3 && told.as_slice() == b"explain: input or output fault\n".as_slice();
+    assert!(rt; holds, "of standard output");
+    let (status, written, told) = run_closed(alloc, &words[..2], b"7\n", Closed::Error);
+    let holds = status == 2 && written.is_empty() && told.is_empty();
+    assert!(rt; holds, "of standard error");
     Ok(())
 }
