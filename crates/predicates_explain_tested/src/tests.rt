@@ -3,4 +3,3 @@ mod program;
 mod streams;
 mod text_rows;
 mod texts;
-mod words;

@@ -1,25 +1,27 @@
 use predicates_core::Predicate;
 use predicates_core::reflection::PredicateReflection;
 use predicates_words::{TextCheck, Word, WordFault, apply_word, read_word};
-use std::alloc::Global;
+use std::alloc::{AllocError, Global};
 use std::test::Fail;
+
+// Whether the token is this word.
+fn reads(alloc: Global, token: &str, word: Option<Word>) -> Result<bool, AllocError> {
+    Ok(read_word(alloc, token)? == word)
+}
 
 #[test]
 fn tokens(rt: HostRuntime) -> Result<(), Fail> {
     let alloc = rt.alloc();
-    let text = String::from_str(alloc, "a=b")?;
-    assert_eq!(rt; read_word(alloc, "eq=a=b")?, Some(Word::Equals(text)));
-    let none = String::new(alloc);
-    assert_eq!(rt; read_word(alloc, "eq=")?, Some(Word::Equals(none)));
-    let pattern = String::from_str(alloc, "T[a-z]*")?;
-    assert_eq!(rt;
-        read_word(alloc, "match=T[a-z]*")?,
-        Some(Word::Matches(pattern))
-    );
-    assert_eq!(rt; read_word(alloc, "normalize")?, Some(Word::Normalize));
-    assert_eq!(rt; read_word(alloc, "xor")?, Some(Word::Xor));
+    let equals = Word::Equals(String::from_str(alloc, "a=b")?);
+    assert!(rt; reads(alloc, "eq=a=b", Some(equals))?);
+    let equals = Word::Equals(String::new(alloc));
+    assert!(rt; reads(alloc, "eq=", Some(equals))?);
+    let matches = Word::Matches(String::from_str(alloc, "T[a-z]*")?);
+    assert!(rt; reads(alloc, "match=T[a-z]*", Some(matches))?);
+    assert!(rt; reads(alloc, "normalize", Some(Word::Normalize))?);
+    assert!(rt; reads(alloc, "xor", Some(Word::Xor))?);
     for token in ["eq", "empty=", "xors", "", "=", "Empty", "starts", "or "] {
-        assert_eq!(rt; read_word(alloc, token)?, None, "at {token:?}");
+        assert!(rt; reads(alloc, token, None)?, "at {token:?}");
     }
     Ok(())
 }
@@ -38,69 +40,82 @@ fn apply_tokens(
     Ok(())
 }
 
+// Tokens in order, what they answer on the stack of those before, and how many checks are left.
+const STEPS: [(&[&str], Result<(), WordFault>, usize); 10] = [
+    (&["and"], Err(WordFault::Operand), 0),
+    (&["or"], Err(WordFault::Operand), 0),
+    (&["xor"], Err(WordFault::Operand), 0),
+    (&["not"], Err(WordFault::Operand), 0),
+    (&["trim"], Err(WordFault::Operand), 0),
+    (&["normalize"], Err(WordFault::Operand), 0),
+    (&["empty"], Ok(()), 1),
+    (&["or"], Err(WordFault::Operand), 1),
+    (&["match=("], Err(WordFault::Pattern), 1),
+    (&["contains=a", "and"], Ok(()), 1),
+];
+
+// The text of the first check, and how many parameters and children it has.
+fn describe(alloc: Global, stack: &[TextCheck]) -> Result<(String, usize, usize), Fail> {
+    let check = stack.first().ok_or("no check")?;
+    let parameters = check.parameters(alloc)?.len();
+    let children = check.children(alloc)?.len();
+    Ok((check.to_string(alloc)?, parameters, children))
+}
+
 #[test]
 fn operands(rt: HostRuntime) -> Result<(), Fail> {
     let alloc = rt.alloc();
     let mut stack = Vec::new(alloc);
-    for token in ["and", "or", "xor", "not", "trim", "normalize"] {
-        let answer = apply_tokens(alloc, &mut stack, &[token]);
-        assert_eq!(rt; answer, Err(WordFault::Operand), "at {token}");
+    for (tokens, expected, left) in STEPS {
+        let answer = apply_tokens(alloc, &mut stack, tokens);
+        let holds = answer == expected && stack.len() == left;
+        assert!(rt; holds, "at {tokens:?}");
     }
-    assert_eq!(rt; apply_tokens(alloc, &mut stack, &["empty"]), Ok(()));
-    assert_eq!(rt;
-        apply_tokens(alloc, &mut stack, &["or"]),
-        Err(WordFault::Operand)
-    );
-    assert_eq!(rt;
-        apply_tokens(alloc, &mut stack, &["match=("]),
-        Err(WordFault::Pattern)
-    );
-    assert_eq!(rt; stack.len(), 1);
-    assert_eq!(rt;
-        apply_tokens(alloc, &mut stack, &["contains=a", "and"]),
-        Ok(())
-    );
-    assert_eq!(rt; stack.len(), 1);
-    let check = stack.first().ok_or("no check")?;
-    assert_eq!(rt;
-        check.to_string(alloc)?.as_str(),
-        "(var.is_empty() && var.contains(a))"
-    );
-    assert_eq!(rt; check.parameters(alloc)?.len(), 0);
-    assert_eq!(rt; check.children(alloc)?.len(), 0);
+    let (text, parameters, children) = describe(alloc, &stack)?;
+    assert_eq!(rt; text.as_str(), "(var.is_empty() && var.contains(a))");
+    assert_eq!(rt; (parameters, children), (0, 0));
     Ok(())
+}
+
+const EACH: [&str; 12] = [
+    "eq=Hello",
+    "starts=He",
+    "ends=lo",
+    "contains=ll",
+    "match=^H",
+    "normalize",
+    "and",
+    "and",
+    "trim",
+    "not",
+    "or",
+    "or",
+];
+
+// Whether the first check has this verdict on the text, and a case of it alone.
+fn is_found(alloc: Global, stack: &[TextCheck], text: &str, verdict: bool) -> Result<bool, Fail> {
+    let check = stack.first().ok_or("no check")?;
+    let item = String::from_str(alloc, text)?;
+    Ok(
+        check.eval(alloc, &item)? == verdict
+            && check.find_case(alloc, verdict, &item)?.is_some()
+            && check.find_case(alloc, !verdict, &item)?.is_none(),
+    )
 }
 
 #[test]
 fn each_word(rt: HostRuntime) -> Result<(), Fail> {
     let alloc = rt.alloc();
     let mut stack = Vec::new(alloc);
-    let tokens = [
-        "eq=Hello",
-        "starts=He",
-        "ends=lo",
-        "contains=ll",
-        "match=^H",
-        "normalize",
-        "and",
-        "and",
-        "trim",
-        "not",
-        "or",
-        "or",
-    ];
-    assert_eq!(rt; apply_tokens(alloc, &mut stack, &tokens), Ok(()));
-    assert_eq!(rt; stack.len(), 1);
-    let check = stack.first().ok_or("no check")?;
+    let answer = apply_tokens(alloc, &mut stack, &EACH);
+    assert!(rt; answer == Ok(()) && stack.len() == 1);
+    let (text, _, _) = describe(alloc, &stack)?;
     assert_eq!(rt;
-        check.to_string(alloc)?.as_str(),
+        text.as_str(),
         "(var == \"Hello\" || (var.starts_with(\"He\") || (! (var.ends_with(\"lo\") && (var.contains(ll) && var.is_match(^H))))))"
     );
     for (item, verdict) in [("Hello", true), (" Hello", false), ("lo", true)] {
-        let item = String::from_str(alloc, item)?;
-        assert_eq!(rt; check.eval(alloc, &item)?, verdict, "at {item}");
-        assert!(rt; check.find_case(alloc, verdict, &item)?.is_some());
-        assert!(rt; check.find_case(alloc, !verdict, &item)?.is_none());
+        assert!(rt; is_found(alloc, &stack, item, verdict)?, "at {item}");
     }
     Ok(())
 }
@@ -113,11 +128,9 @@ fn two_hundred_times_not(rt: HostRuntime) -> Result<(), Fail> {
     for _ in 0..200 {
         assert_eq!(rt; apply_tokens(alloc, &mut stack, &["not"]), Ok(()));
     }
-    let check = stack.first().ok_or("no check")?;
-    let item = String::new(alloc);
-    assert_eq!(rt; check.eval(alloc, &item)?, true);
-    assert!(rt; check.find_case(alloc, true, &item)?.is_some());
-    assert_eq!(rt; check.to_string(alloc)?.len(), 14 + 200 * 4);
+    assert!(rt; is_found(alloc, &stack, "", true)?);
+    let (text, _, _) = describe(alloc, &stack)?;
+    assert_eq!(rt; text.len(), 14 + 200 * 4);
     Ok(())
 }
 
