@@ -6,6 +6,7 @@ use predicates::ord::le;
 use predicates_core::Predicate;
 use predicates_core::reflection::render;
 use predicates_core::static_text::StaticText;
+use std::alloc::{AllocError, Global};
 use std::test::Fail;
 
 // A text with a number.
@@ -21,6 +22,20 @@ fn is_digit(byte: &u8) -> bool
     b'0' <= *byte && *byte <= b'9'
 }
 
+// The lines of the case of false, or `none`.
+fn refusal<P: Predicate<Item>, Item>(
+    alloc: Global,
+    predicate: &P,
+    item: &Item,
+) -> Result<String, AllocError>
+    requires { P.lawful predicate.now }
+{
+    match predicate.find_case(alloc, false, item)? {
+        Some(case) => render(alloc, &case),
+        None => String::from_str(alloc, "none"),
+    }
+}
+
 #[test]
 fn asks_a_closure(rt: HostRuntime) -> Result<(), Fail> {
     let alloc = rt.alloc();
@@ -31,13 +46,14 @@ fn asks_a_closure(rt: HostRuntime) -> Result<(), Fail> {
     assert_eq!(rt; big.to_string(alloc)?.as_str(), "big(var)");
     let middle = big.and(le(10));
     assert_eq!(rt; middle.eval(alloc, &7)?, true);
-    let case = middle.find_case(alloc, false, &3)?.ok_or("no case")?;
     assert_eq!(rt;
-        render(alloc, &case)?.as_str(),
+        refusal(alloc, &middle, &3)?.as_str(),
         "(big(var) && var <= 10) = false\n  left: big(var) = false\n"
     );
     Ok(())
 }
+
+const GREETINGS: [(&str, i32, bool); 2] = [("hello", 42, true), ("goodbye", 0, false)];
 
 #[test]
 fn asks_for_fields(rt: HostRuntime) -> Result<(), Fail> {
@@ -45,12 +61,9 @@ fn asks_for_fields(rt: HostRuntime) -> Result<(), Fail> {
     let greets = function(|g: &Greeting| g.text.as_str() == "hello").and(function(
         |g: &Greeting| g.number == 42,
     ).fn_name("is the answer"));
-    for (text, number, verdict) in [("hello", 42, true), ("goodbye", 0, false)] {
-        let greeting = Greeting {
-            text: String::from_str(alloc, text)?,
-            number,
-        };
-        assert_eq!(rt; greets.eval(alloc, &greeting)?, verdict);
+    for (text, number, verdict) in GREETINGS {
+        let text = String::from_str(alloc, text)?;
+        assert_eq!(rt; greets.eval(alloc, &Greeting { text, number })?, verdict);
     }
     Ok(())
 }
@@ -64,13 +77,24 @@ fn asks_a_named_function(rt: HostRuntime) -> Result<(), Fail> {
     Ok(())
 }
 
+// The verdict, and whether there is a case of false.
+fn is_refused<P: Predicate<Item>, Item>(
+    alloc: Global,
+    predicate: &P,
+    item: &Item,
+) -> Result<(bool, bool), AllocError>
+    requires { P.lawful predicate.now }
+{
+    let found = predicate.find_case(alloc, false, item)?;
+    Ok((predicate.eval(alloc, item)?, found.is_some()))
+}
+
 #[test]
 fn captures_references(rt: HostRuntime) -> Result<(), Fail> {
     let (low, high) = (3, 9);
     let outside = function(|x: &i32| *x >= low && *x <= high)
         .fn_name("inside")
         .not();
-    assert_eq!(rt; outside.eval(rt.alloc(), &7)?, false);
-    assert!(rt; outside.find_case(rt.alloc(), false, &7)?.is_some());
+    assert_eq!(rt; is_refused(rt.alloc(), &outside, &7)?, (false, true));
     Ok(())
 }

@@ -6,7 +6,6 @@ use predicates::ord::{eq, ge, gt, le, lt, ne};
 use predicates_core::Predicate;
 use predicates_core::reflection::render;
 use std::alloc::{AllocError, Global};
-use std::process::Abort;
 use std::test::Fail;
 
 // The lines of the verdict's case.
@@ -89,71 +88,95 @@ fn negations_of_just_one(rt: HostRuntime) -> Result<(), Fail> {
     Ok(())
 }
 
-fn have_verdict<P: Predicate<i64>>(
-    rt: &impl Abort,
-    alloc: Global,
-    predicate: &P,
-    item: &i64,
-    expected: bool,
-) -> Result<(), Fail>
-    requires { P.lawful predicate.now }
-{
-    assert_eq!(rt; predicate.eval(alloc, item)?, expected, "{item}");
-    Ok(())
+// What `lt` and its negation, `ge`, `gt`, `le`, `eq` and `ne` answer beside 5.
+fn beside_five(alloc: Global, item: &i64) -> Result<[bool; 7], AllocError> {
+    laws::complements(&5, item);
+    Ok([
+        lt(5).eval(alloc, item)?,
+        lt(5).not().eval(alloc, item)?,
+        ge(5).eval(alloc, item)?,
+        gt(5).eval(alloc, item)?,
+        le(5).eval(alloc, item)?,
+        eq(5).eval(alloc, item)?,
+        ne(5).eval(alloc, item)?,
+    ])
 }
+
+// Items, and whether they are less than 5 or equal to it.
+const BESIDE: [(i64, bool, bool); 3] = [(4, true, false), (5, false, true), (6, false, false)];
 
 #[test]
 fn opposite_comparisons(rt: HostRuntime) -> Result<(), Fail> {
-    let alloc = rt.alloc();
-    for (item, less, equal) in [(4i64, true, false), (5, false, true), (6, false, false)] {
-        laws::complements(&5, &item);
-        have_verdict(&rt, alloc, &lt(5), &item, less)?;
-        have_verdict(&rt, alloc, &lt(5).not(), &item, !less)?;
-        have_verdict(&rt, alloc, &ge(5), &item, !less)?;
-        have_verdict(&rt, alloc, &gt(5), &item, !(less || equal))?;
-        have_verdict(&rt, alloc, &le(5), &item, less || equal)?;
-        have_verdict(&rt, alloc, &eq(5), &item, equal)?;
-        have_verdict(&rt, alloc, &ne(5), &item, !equal)?;
+    for (item, less, equal) in BESIDE {
+        assert_eq!(rt;
+            beside_five(rt.alloc(), &item)?,
+            [
+                less,
+                !less,
+                !less,
+                !(less || equal),
+                less || equal,
+                equal,
+                !equal
+            ],
+            "{item}"
+        );
     }
     Ok(())
 }
 
+// Whether the list, the sorted list and the set of the members hold of the item.
+fn among(alloc: Global, members: [i64; 5], item: &i64) -> Result<[bool; 3], AllocError> {
+    laws::memberships(&members, item);
+    Ok([
+        in_iter(alloc, members)?.eval(alloc, item)?,
+        in_iter(alloc, members)?.sort()?.eval(alloc, item)?,
+        in_hash(alloc, members)?.eval(alloc, item)?,
+    ])
+}
+
+// Items, and whether they are members.
+const AMONG: [(i64, bool); 7] = [
+    (0, false),
+    (1, true),
+    (2, false),
+    (3, true),
+    (4, false),
+    (5, true),
+    (6, false),
+];
+
 #[test]
 fn one_list_three_times(rt: HostRuntime) -> Result<(), Fail> {
-    let alloc = rt.alloc();
-    let members = [5i64, 1, 5, 3, 1];
-    for (item, expected) in [
-        (0i64, false),
-        (1, true),
-        (2, false),
-        (3, true),
-        (4, false),
-        (5, true),
-        (6, false),
-    ] {
-        laws::memberships(&members, &item);
-        have_verdict(&rt, alloc, &in_iter(alloc, members)?, &item, expected)?;
-        have_verdict(
-            &rt,
-            alloc,
-            &in_iter(alloc, members)?.sort()?,
-            &item,
-            expected,
-        )?;
-        have_verdict(&rt, alloc, &in_hash(alloc, members)?, &item, expected)?;
+    for (item, expected) in AMONG {
+        assert_eq!(rt;
+            among(rt.alloc(), [5i64, 1, 5, 3, 1], &item)?,
+            [expected, expected, expected],
+            "{item}"
+        );
     }
     Ok(())
+}
+
+// Whether there is a case of true, and one of false.
+fn cases<P: Predicate<i64>>(
+    alloc: Global,
+    predicate: &P,
+    item: &i64,
+) -> Result<(bool, bool), AllocError>
+    requires { P.lawful predicate.now }
+{
+    let found = predicate.find_case(alloc, true, item)?.is_some();
+    Ok((found, predicate.find_case(alloc, false, item)?.is_some()))
 }
 
 #[test]
 fn the_other_laws(rt: HostRuntime) -> Result<(), Fail> {
-    let alloc = rt.alloc();
     let both = lt(3).and(lt(5));
     laws::first_reasons();
     laws::one_case(&both, &4);
     laws::exactly_one(&both, &4);
     laws::same_function(&both.not(), &lt(3).not().or(lt(5).not()), &4);
-    assert_eq!(rt; both.find_case(alloc, true, &4)?.is_some(), false);
-    assert_eq!(rt; both.find_case(alloc, false, &4)?.is_some(), true);
+    assert_eq!(rt; cases(rt.alloc(), &both, &4)?, (false, true));
     Ok(())
 }

@@ -8,7 +8,6 @@ use predicates::iter::{HashableInPredicate, InPredicate, Steps, in_hash, in_iter
 use predicates_core::Predicate;
 use predicates_core::reflection::{PredicateReflection, render};
 use std::alloc::{AllocError, Global};
-use std::process::Abort;
 use std::test::Fail;
 
 // What a caller learns of the members that it hands in.
@@ -26,59 +25,76 @@ fn first_of_vec(alloc: Global, members: Vec<i64>) -> Result<HashableInPredicate<
     in_hash(alloc, members)
 }
 
-fn shown_values<P: PredicateReflection>(
-    rt: &impl Abort,
+// Whether the only parameter is of the values, and there are no children.
+fn shows<P: PredicateReflection>(
     alloc: Global,
     predicate: &P,
     values: &str,
-) -> Result<(), Fail> {
-    let parameters = predicate.parameters(alloc)?;
-    assert_eq!(rt; parameters.len(), 1);
-    assert_eq!(rt; parameters[0].name(), "values");
-    assert_eq!(rt; parameters[0].value(), values);
-    assert_eq!(rt; predicate.children(alloc)?.len(), 0);
-    Ok(())
+) -> Result<bool, AllocError> {
+    let is_shown = match predicate.parameters(alloc)?.as_slice() {
+        [only] => only.name() == "values" && only.value() == values,
+        _ => false,
+    };
+    Ok(is_shown && predicate.children(alloc)?.len() == 0)
+}
+
+fn shows_listed(alloc: Global) -> Result<bool, AllocError> {
+    let listed = of_vec(alloc, vec![in alloc; 3i64, 1, 3]?)?;
+    Ok(shows(alloc, &listed, "[3, 1, 3]")? && shows(alloc, &listed.sort()?, "[1, 3, 3]")?)
 }
 
 #[test]
 fn shows_its_members(rt: HostRuntime) -> Result<(), Fail> {
-    let listed = of_vec(rt.alloc(), vec![in rt.alloc(); 3i64, 1, 3]?)?;
-    shown_values(&rt, rt.alloc(), &listed, "[3, 1, 3]")?;
-    shown_values(&rt, rt.alloc(), &listed.sort()?, "[1, 3, 3]")?;
-    let hashed = first_of_vec(rt.alloc(), vec![in rt.alloc(); 3i64, 1, 3]?)?;
-    shown_values(&rt, rt.alloc(), &hashed, "{3, 1}")?;
-    assert_eq!(rt; hashed.to_string(rt.alloc())?.as_str(), "var in values");
+    let alloc = rt.alloc();
+    assert!(rt; shows_listed(alloc)?);
+    let hashed = first_of_vec(alloc, vec![in alloc; 3i64, 1, 3]?)?;
+    assert!(rt; shows(alloc, &hashed, "{3, 1}")?);
+    assert_eq!(rt; hashed.to_string(alloc)?.as_str(), "var in values");
     Ok(())
+}
+
+// Whether the list, the sorted list and the set hold of the item.
+fn verdicts(alloc: Global, item: i64) -> Result<[bool; 3], AllocError> {
+    Ok([
+        in_iter(alloc, [1i64, 3, 5])?.eval(alloc, &item)?,
+        in_iter(alloc, [5i64, 1, 3])?.sort()?.eval(alloc, &item)?,
+        in_hash(alloc, [1i64, 3, 5])?.eval(alloc, &item)?,
+    ])
 }
 
 #[test]
 fn holds_of_members(rt: HostRuntime) -> Result<(), Fail> {
-    let alloc = rt.alloc();
-    let listed = in_iter(alloc, [1i64, 3, 5])?;
-    let sorted = in_iter(alloc, [5i64, 1, 3])?.sort()?;
-    let hashed = in_hash(alloc, [1i64, 3, 5])?;
     for (item, verdict) in [(1i64, true), (2, false), (3, true)] {
-        assert_eq!(rt; listed.eval(alloc, &item)?, verdict, "at {item}");
-        assert_eq!(rt; sorted.eval(alloc, &item)?, verdict, "at {item}");
-        assert_eq!(rt; hashed.eval(alloc, &item)?, verdict, "at {item}");
+        assert_eq!(rt;
+            verdicts(rt.alloc(), item)?,
+            [verdict, verdict, verdict],
+            "at {item}"
+        );
     }
     Ok(())
+}
+
+// The lines of the case of an empty set, or `none`.
+fn case_of_none(alloc: Global, expected: bool) -> Result<String, AllocError> {
+    let none: HashableInPredicate<i64> = in_hash(alloc, [])?;
+    match none.find_case(alloc, expected, &1)? {
+        Some(case) => render(alloc, &case),
+        None => String::from_str(alloc, "none"),
+    }
 }
 
 #[test]
 fn explains_no_members(rt: HostRuntime) -> Result<(), Fail> {
     let alloc = rt.alloc();
-    let none: HashableInPredicate<i64> = in_hash(alloc, [])?;
-    assert!(rt; none.find_case(alloc, true, &1)?.is_none());
-    let case = none.find_case(alloc, false, &1)?.ok_or("no case")?;
+    assert_eq!(rt; case_of_none(alloc, true)?.as_str(), "none");
     assert_eq!(rt;
-        render(alloc, &case)?.as_str(),
+        case_of_none(alloc, false)?.as_str(),
         "var in values = false\n  - var: 1\n"
     );
     let none: InPredicate<i64> = in_iter(alloc, [])?;
     let mut steps = Steps::new();
-    assert!(rt; !none.sort()?.search_counted(&1, &mut steps));
-    assert_eq!(rt; steps.count(), 0);
+    let found = none.sort()?.search_counted(&1, &mut steps);
+    assert_eq!(rt; (found, steps.count()), (false, 0));
     Ok(())
 }
 
@@ -122,27 +138,39 @@ fn holds_numbers<P: Predicate<i64>>(
     )
 }
 
+// Whether the list, the set and the sorted list of the numbers below the second end do so.
+fn holds_below(alloc: Global, ends: (i64, i64), bytes: usize) -> Result<[bool; 3], AllocError> {
+    let listed = in_iter(alloc, 0..ends.1)?;
+    let is_held = holds_numbers(alloc, &listed, ends, bytes)?;
+    let hashed = in_hash(alloc, 0..ends.1)?;
+    Ok([
+        is_held,
+        holds_numbers(alloc, &hashed, ends, bytes)?,
+        holds_numbers(alloc, &listed.sort()?, ends, bytes)?,
+    ])
+}
+
+// The ends, and the bytes: a number has as many as digits, and a comma and a space stand between
+// two.
+const ENDS: [(i64, i64, usize); 4] = [
+    (-1, 0, 2),
+    (0, 1, 3),
+    (299, 300, 10 + 2 * 90 + 3 * 200 + 2 * 299 + 2),
+    (
+        69_999,
+        70_000,
+        10 + 2 * 90 + 3 * 900 + 4 * 9_000 + 5 * 60_000 + 2 * 69_999 + 2,
+    ),
+];
+
 #[test]
 fn holds_many_members(rt: HostRuntime) -> Result<(), Fail> {
-    let alloc = rt.alloc();
-    // A number has as many bytes as digits, and a comma and a space stand between two.
-    for (last, next, bytes) in [
-        (-1, 0i64, 2usize),
-        (0, 1, 3),
-        (299, 300, 10 + 2 * 90 + 3 * 200 + 2 * 299 + 2),
-        (
-            69_999,
-            70_000,
-            10 + 2 * 90 + 3 * 900 + 4 * 9_000 + 5 * 60_000 + 2 * 69_999 + 2,
-        ),
-    ] {
-        let ends = (last, next);
-        let listed = in_iter(alloc, 0..next)?;
-        assert!(rt; holds_numbers(alloc, &listed, ends, bytes)?, "below {next}");
-        let hashed = in_hash(alloc, 0..next)?;
-        assert!(rt; holds_numbers(alloc, &hashed, ends, bytes)?, "below {next}");
-        let sorted = listed.sort()?;
-        assert!(rt; holds_numbers(alloc, &sorted, ends, bytes)?, "below {next}");
+    for (last, next, bytes) in ENDS {
+        assert_eq!(rt;
+            holds_below(rt.alloc(), (last, next), bytes)?,
+            [true, true, true],
+            "below {next}"
+        );
     }
     Ok(())
 }
@@ -153,21 +181,27 @@ fn counts_comparisons(rt: HostRuntime) -> Result<(), Fail> {
     let mut steps = Steps::new();
     for item in 0i64..9 {
         let found = sorted.search_counted(&item, &mut steps);
-        assert_eq!(rt; found, 1 <= item && item <= 7, "at {item}");
-        assert!(rt; 1 <= steps.count() && steps.count() <= 3, "at {item}");
+        assert!(rt;
+            found == (1 <= item && item <= 7) && 1 <= steps.count() && steps.count() <= 3,
+            "at {item}"
+        );
     }
     Ok(())
+}
+
+fn three_texts(alloc: Global) -> Result<Vec<String>, AllocError> {
+    let mut texts = Vec::new(alloc);
+    for text in ["e", "a", "c"] {
+        texts.push(String::from_str(alloc, text)?)?;
+    }
+    Ok(texts)
 }
 
 #[test]
 fn holds_texts(rt: HostRuntime) -> Result<(), Fail> {
     let alloc = rt.alloc();
-    let mut texts = Vec::new(alloc);
-    for text in ["e", "a", "c"] {
-        texts.push(String::from_str(alloc, text)?)?;
-    }
-    let sorted = in_iter(alloc, texts)?.sort()?;
-    shown_values(&rt, rt.alloc(), &sorted, "[\"a\", \"c\", \"e\"]")?;
+    let sorted = in_iter(alloc, three_texts(alloc)?)?.sort()?;
+    assert!(rt; shows(alloc, &sorted, "[\"a\", \"c\", \"e\"]")?);
     assert!(rt; sorted.eval(alloc, &String::from_str(alloc, "c")?)?);
     assert!(rt; !sorted.eval(alloc, &String::from_str(alloc, "b")?)?);
     Ok(())

@@ -31,78 +31,122 @@ fn texts(rt: HostRuntime) -> Result<(), Fail> {
     Ok(())
 }
 
+// Adds what the predicate prints, after a comma where it is not the first.
+fn print<P: PredicateReflection>(
+    alloc: Global,
+    out: &mut String,
+    predicate: &P,
+) -> Result<(), AllocError> {
+    if !out.is_empty() {
+        out.push_str(", ")?;
+    }
+    out.push_str(predicate.to_string(alloc)?.as_str())
+}
+
+fn printed_of_numbers(alloc: Global) -> Result<String, AllocError> {
+    let mut out = String::new(alloc);
+    print(alloc, &mut out, &predicate::always::<i64>())?;
+    print(alloc, &mut out, &predicate::never::<i64>())?;
+    print(alloc, &mut out, &predicate::function(|n: &i64| *n < 3))?;
+    print(alloc, &mut out, &predicate::eq(3))?;
+    print(alloc, &mut out, &predicate::ne(3))?;
+    print(alloc, &mut out, &predicate::lt(3))?;
+    print(alloc, &mut out, &predicate::le(3))?;
+    print(alloc, &mut out, &predicate::ge(3))?;
+    print(alloc, &mut out, &predicate::gt(3))?;
+    Ok(out)
+}
+
+fn printed_of_texts(alloc: Global) -> Result<String, AllocError> {
+    let letter = || String::from_str(alloc, "a");
+    let mut out = String::new(alloc);
+    print(alloc, &mut out, &predicate::str::is_empty())?;
+    print(alloc, &mut out, &predicate::str::starts_with(letter()?))?;
+    print(alloc, &mut out, &predicate::str::ends_with(letter()?))?;
+    print(alloc, &mut out, &predicate::str::contains(letter()?))?;
+    Ok(out)
+}
+
+fn printed_of_paths(alloc: Global) -> Result<String, AllocError> {
+    let mut out = String::new(alloc);
+    print(alloc, &mut out, &predicate::path::exists())?;
+    print(alloc, &mut out, &predicate::path::missing())?;
+    print(alloc, &mut out, &predicate::path::is_file())?;
+    print(alloc, &mut out, &predicate::path::is_dir())?;
+    print(alloc, &mut out, &predicate::path::is_symlink())?;
+    Ok(out)
+}
+
+// The value of the first parameter.
+fn first_value<P: PredicateReflection>(alloc: Global, predicate: &P) -> Result<String, AllocError> {
+    match predicate.parameters(alloc)?.first() {
+        Some(parameter) => String::from_str(alloc, parameter.value()),
+        None => String::from_str(alloc, "none"),
+    }
+}
+
 #[test]
 fn each_name_prints_its_own_text(rt: HostRuntime) -> Result<(), Fail> {
     let alloc = rt.alloc();
-    let (always, never) = (predicate::always::<i64>(), predicate::never::<i64>());
-    let called = predicate::function(|n: &i64| *n < 3);
-    let (eq, ne) = (predicate::eq(3), predicate::ne(3));
-    let (lt, le) = (predicate::lt(3), predicate::le(3));
-    let (ge, gt) = (predicate::ge(3), predicate::gt(3));
-    let found = format!(in alloc;
-        "{always}, {never}, {called}, {eq}, {ne}, {lt}, {le}, {ge}, {gt}"
-    )?;
     assert_eq!(rt;
-        found.as_str(),
+        printed_of_numbers(alloc)?.as_str(),
         "true, false, fn(var), var == 3, var != 3, var < 3, var <= 3, var >= 3, var > 3"
     );
-    let empty = predicate::str::is_empty();
-    let starts = predicate::str::starts_with(String::from_str(alloc, "a")?);
-    let ends = predicate::str::ends_with(String::from_str(alloc, "a")?);
-    let contains = predicate::str::contains(String::from_str(alloc, "a")?);
-    let found = format!(in alloc; "{empty}, {starts}, {ends}, {contains}")?;
     assert_eq!(rt;
-        found.as_str(),
+        printed_of_texts(alloc)?.as_str(),
         "var.is_empty(), var.starts_with(\"a\"), var.ends_with(\"a\"), var.contains(a)"
     );
-    let (exists, missing) = (predicate::path::exists(), predicate::path::missing());
-    let file = predicate::path::is_file();
-    let (dir, symlink) = (predicate::path::is_dir(), predicate::path::is_symlink());
-    let found = format!(in alloc; "{exists}, {missing}, {file}, {dir}, {symlink}")?;
     assert_eq!(rt;
-        found.as_str(),
+        printed_of_paths(alloc)?.as_str(),
         "exists(var), missing(var), var is file, var is dir, var is symlink"
     );
-    let listed = predicate::in_iter(alloc, [3i64, 3])?.parameters(alloc)?;
-    assert_eq!(rt; listed[0].value(), "[3, 3]");
-    let hashed = predicate::in_hash(alloc, [3i64, 3])?.parameters(alloc)?;
-    assert_eq!(rt; hashed[0].value(), "{3}");
+    let listed = first_value(alloc, &predicate::in_iter(alloc, [3i64, 3])?)?;
+    assert_eq!(rt; listed.as_str(), "[3, 3]");
+    let hashed = first_value(alloc, &predicate::in_hash(alloc, [3i64, 3])?)?;
+    assert_eq!(rt; hashed.as_str(), "{3}");
     Ok(())
+}
+
+// Whether digits that are a one hold of the text; none where the pattern is refused.
+fn is_one(alloc: Global, text: &str) -> Result<Option<bool>, AllocError> {
+    let digits = predicate::str::is_match(alloc, String::from_str(alloc, "^[0-9]+$")?);
+    let Ok(digits) = digits else {
+        return Ok(None);
+    };
+    let is_one = predicate::eq(String::from_str(alloc, "1")?).or(predicate::never());
+    let item = String::from_str(alloc, text)?;
+    Ok(Some(digits.and(is_one).eval(alloc, &item)?))
+}
+
+fn is_small(alloc: Global, item: i64) -> Result<bool, AllocError> {
+    let small = predicate::in_iter(alloc, [1i64, 2, 3])?
+        .and(predicate::in_hash(alloc, [1i64, 2])?)
+        .and(predicate::ne(3).and(predicate::ge(1)).and(predicate::le(2)))
+        .and(predicate::gt(0).and(predicate::function(|n: &i64| *n < 3)));
+    small.eval(alloc, &item)
 }
 
 #[test]
 fn each_name(rt: HostRuntime) -> Result<(), Fail> {
     let alloc = rt.alloc();
-    let digits = predicate::str::is_match(alloc, String::from_str(alloc, "^[0-9]+$")?);
-    let Ok(digits) = digits else {
-        return Err("the pattern is refused".into());
-    };
-    let is_one = predicate::eq(String::from_str(alloc, "1")?).or(predicate::never());
-    assert_eq!(rt;
-        digits
-            .and(is_one)
-            .eval(alloc, &String::from_str(alloc, "1")?)?,
-        true
-    );
-    let small = predicate::in_iter(alloc, [1i64, 2, 3])?
-        .and(predicate::in_hash(alloc, [1i64, 2])?)
-        .and(predicate::ne(3).and(predicate::ge(1)).and(predicate::le(2)))
-        .and(predicate::gt(0).and(predicate::function(|n: &i64| *n < 3)));
-    assert_eq!(rt; small.eval(alloc, &2)?, true);
-    assert_eq!(rt; small.eval(alloc, &3)?, false);
+    assert_eq!(rt; is_one(alloc, "1")?, Some(true));
+    assert_eq!(rt; is_small(alloc, 2)?, true);
+    assert_eq!(rt; is_small(alloc, 3)?, false);
     Ok(())
 }
 
-#[test]
-fn paths(rt: HostRuntime) -> Result<(), Fail> {
-    let alloc = rt.alloc();
-    let content = vec![in alloc; b'a']?;
-    let file = Snapshot::from_parts(
+// A file `p` whose content is `a`.
+fn a_file(alloc: Global) -> Result<Snapshot, AllocError> {
+    Ok(Snapshot::from_parts(
         String::from_str(alloc, "p")?,
         Ok(FileType::File),
         Ok(FileType::File),
-        Ok(content),
-    );
+        Ok(vec![in alloc; b'a']?),
+    ))
+}
+
+// Whether there is a file, and nothing else.
+fn is_there(alloc: Global, file: &Snapshot) -> Result<bool, AllocError> {
     let there = predicate::path::exists()
         .and(predicate::path::missing().not())
         .and(predicate::path::is_file())
@@ -111,11 +155,23 @@ fn paths(rt: HostRuntime) -> Result<(), Fail> {
                 .or(predicate::path::is_symlink())
                 .not(),
         );
-    assert_eq!(rt; there.eval(alloc, &file)?, true);
+    there.eval(alloc, file)
+}
+
+// Whether the file's content is `a`.
+fn holds_a(alloc: Global, file: &Snapshot) -> Result<bool, AllocError> {
     let is_a = predicate::eq(String::from_str(alloc, "a")?)
         .from_utf8()
         .from_file_path();
-    assert_eq!(rt; is_a.eval(alloc, &file)?, true);
+    is_a.eval(alloc, file)
+}
+
+#[test]
+fn paths(rt: HostRuntime) -> Result<(), Fail> {
+    let alloc = rt.alloc();
+    let file = a_file(alloc)?;
+    assert_eq!(rt; is_there(alloc, &file)?, true);
+    assert_eq!(rt; holds_a(alloc, &file)?, true);
     let refused = Snapshot::from_parts(
         String::from_str(alloc, "p")?,
         Ok(FileType::Dir),

@@ -3,26 +3,28 @@ use predicates::boolean::XorPredicate;
 use predicates::prelude::*;
 use predicates::reflection::{PredicateReflection, render};
 use predicates::static_text::StaticText;
-use std::alloc::Global;
-use std::process::Abort;
+use std::alloc::{AllocError, Global};
 use std::test::Fail;
 
-// The verdict, the lines of its case, and that there is none for the opposite.
-fn explains<P: Predicate<Item>, Item>(
-    rt: &impl Abort,
+// The lines of the case of the verdict, with none for the opposite; or what is wrong.
+fn explained<P: Predicate<Item>, Item>(
     alloc: Global,
     predicate: &P,
     item: &Item,
     verdict: bool,
-    lines: &str,
-) -> Result<(), Fail>
+) -> Result<String, AllocError>
     requires { P.lawful predicate.now }
 {
-    assert_eq!(rt; predicate.eval(alloc, item)?, verdict);
-    assert!(rt; predicate.find_case(alloc, !verdict, item)?.is_none());
-    let case = predicate.find_case(alloc, verdict, item)?.ok_or("no case")?;
-    assert_eq!(rt; render(alloc, &case)?.as_str(), lines);
-    Ok(())
+    if predicate.eval(alloc, item)? != verdict {
+        return String::from_str(alloc, "the other verdict");
+    }
+    if predicate.find_case(alloc, !verdict, item)?.is_some() {
+        return String::from_str(alloc, "a case of the other verdict");
+    }
+    match predicate.find_case(alloc, verdict, item)? {
+        Some(case) => render(alloc, &case),
+        None => String::from_str(alloc, "no case"),
+    }
 }
 
 // Items and verdicts of `var < 3 ^ var < 5`, with the lines of their cases.
@@ -62,18 +64,32 @@ const ROWS: [(i32, bool, &str); 3] = [
     ),
 ];
 
+// Whether there are no parameters, and two children, which have the names and the texts that are
+// given.
+fn has_parts<P: PredicateReflection>(
+    alloc: Global,
+    predicate: &P,
+    first: (&str, &str),
+    second: (&str, &str),
+) -> Result<bool, AllocError> {
+    match predicate.children(alloc)?.as_slice() {
+        [left, right] => Ok(
+            (left.name(), left.text()) == first
+                && (right.name(), right.text()) == second
+                && predicate.parameters(alloc)?.len() == 0,
+        ),
+        _ => Ok(false),
+    }
+}
+
 #[test]
 fn each_part_with_its_own_truth(rt: HostRuntime) -> Result<(), Fail> {
     let alloc = rt.alloc();
     let either: XorPredicate<_, _, i32> = predicate::lt(3).xor(predicate::lt(5));
     for (item, verdict, lines) in ROWS {
-        explains(&rt, alloc, &either, &item, verdict, lines)?;
+        assert_eq!(rt; explained(alloc, &either, &item, verdict)?.as_str(), lines);
     }
-    assert_eq!(rt; either.parameters(alloc)?.len(), 0);
-    let parts = either.children(alloc)?;
-    assert_eq!(rt; parts.len(), 2);
-    assert_eq!(rt; (parts[0].name(), parts[0].text()), ("left", "var < 3"));
-    assert_eq!(rt; (parts[1].name(), parts[1].text()), ("right", "var < 5"));
+    assert!(rt; has_parts(alloc, &either, ("left", "var < 3"), ("right", "var < 5"))?);
     Ok(())
 }
 
@@ -81,20 +97,12 @@ fn each_part_with_its_own_truth(rt: HostRuntime) -> Result<(), Fail> {
 fn below_other_combinators(rt: HostRuntime) -> Result<(), Fail> {
     let alloc = rt.alloc();
     let either = predicate::lt(3).xor(predicate::lt(5));
-    explains(
-        &rt,
-        alloc,
-        &either.and(predicate::never()),
-        &4,
-        false,
-        "((var < 3 ^ var < 5) && false) = false\n  right: false = false\n",
-    )?;
-    explains(
-        &rt,
-        alloc,
-        &predicate::never().or(either),
-        &4,
-        true,
+    assert_eq!(rt;
+        explained(alloc, &either.and(predicate::never()), &4, false)?.as_str(),
+        "((var < 3 ^ var < 5) && false) = false\n  right: false = false\n"
+    );
+    assert_eq!(rt;
+        explained(alloc, &predicate::never().or(either), &4, true)?.as_str(),
         "\
 (false || (var < 3 ^ var < 5)) = true
   right: (var < 3 ^ var < 5) = true
@@ -102,8 +110,9 @@ fn below_other_combinators(rt: HostRuntime) -> Result<(), Fail> {
       - var: 4
     right: var < 5 = true
       - var: 4
-",
-    )
+"
+    );
+    Ok(())
 }
 
 #[test]
@@ -116,12 +125,8 @@ fn trimmed_named_and_boxed(rt: HostRuntime) -> Result<(), Fail> {
         .name(StaticText::new("either"));
     let boxed = BoxPredicate::new(alloc, Box::new(alloc, either)?)?;
     let item = String::from_str(alloc, " a ")?;
-    explains(
-        &rt,
-        alloc,
-        &boxed,
-        &item,
-        true,
+    assert_eq!(rt;
+        explained(alloc, &boxed, &item, true)?.as_str(),
         "\
 either = true
   either: (var.is_empty() ^ var.contains(a)) = true
@@ -129,6 +134,7 @@ either = true
       - var: a
     right: var.contains(a) = true
       - var: a
-",
-    )
+"
+    );
+    Ok(())
 }
