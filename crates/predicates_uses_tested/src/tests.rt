@@ -61,8 +61,9 @@ fn has_parameter<P: PredicateReflection>(
     value: &str,
 ) -> Result<(), Fail> {
     let parameters = predicate.parameters(alloc)?;
-    assert_eq!(rt; parameters.len(), 1, "{name}");
-    assert_eq!(rt; parameters[0].name(), name);
-    assert_eq!(rt; parameters[0].value(), value);
+    let holds = parameters.len() == 1
+        && parameters[0].name() == name
+        && parameters[0].value() == value;
+    assert!(rt; holds, "{name}: {value}");
     Ok(())
 }

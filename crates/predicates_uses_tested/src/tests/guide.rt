@@ -1,30 +1,22 @@
 // The cases that the guide shows.
-use super::{explain_onto, has_parameter, text};
-use predicates::path::{FileType, FileTypePredicate, PathFault, Snapshot};
+mod paths;
+
+use super::{case_of, explain_onto, has_parameter, text};
 use predicates::prelude::*;
-use predicates::reflection::render;
 use predicates::static_text::StaticText;
 use predicates::{BoxPredicate, TextPredicate};
 use std::alloc::{AllocError, Global};
+use std::process::Abort;
 use std::test::Fail;
-
-// A regular file with this path and content.
-fn file(alloc: Global, path: &str, content: &[u8]) -> Result<Snapshot, AllocError> {
-    let content = Vec::from_slice(alloc, content)?;
-    let kind = Ok(FileType::File);
-    Ok(Snapshot::from_parts(text(alloc, path)?, kind, kind, Ok(content)))
-}
 
 #[test]
 fn first_example(rt: HostRuntime) -> Result<(), Fail> {
     let alloc = rt.alloc();
     let between = predicate::ge(5).and(predicate::le(10));
     assert!(rt; between.eval(alloc, &7)?);
-    assert!(rt; between.find_case(alloc, false, &7)?.is_none());
-    let case = between.find_case(alloc, false, &11)?.ok_or("it holds")?;
-    let lines = render(alloc, &case)?;
+    assert_eq!(rt; case_of(alloc, &between, false, &7)?.as_str(), "none");
     assert_eq!(rt;
-        lines.as_str(),
+        case_of(alloc, &between, false, &11)?.as_str(),
         "(var >= 5 && var <= 10) = false\n  right: var <= 10 = false\n    - var: 11\n"
     );
     Ok(())
@@ -56,18 +48,26 @@ fn reading(rt: HostRuntime) -> Result<(), Fail> {
     Ok(())
 }
 
+fn constants_onto(alloc: Global, out: &mut String) -> Result<(), AllocError> {
+    explain_onto(alloc, out, &predicate::always(), &5)?;
+    explain_onto(alloc, out, &predicate::never(), &5)?;
+    explain_onto(alloc, out, &predicate::eq(5), &10)?;
+    explain_onto(alloc, out, &predicate::ne(5), &10)
+}
+
+fn orders_onto(alloc: Global, out: &mut String) -> Result<(), AllocError> {
+    explain_onto(alloc, out, &predicate::lt(10), &11)?;
+    explain_onto(alloc, out, &predicate::le(5), &6)?;
+    explain_onto(alloc, out, &predicate::ge(5), &4)?;
+    explain_onto(alloc, out, &predicate::gt(5), &6)
+}
+
 #[test]
 fn constants_and_comparisons(rt: HostRuntime) -> Result<(), Fail> {
     let alloc = rt.alloc();
     let mut out = String::new(alloc);
-    explain_onto(alloc, &mut out, &predicate::always(), &5)?;
-    explain_onto(alloc, &mut out, &predicate::never(), &5)?;
-    explain_onto(alloc, &mut out, &predicate::eq(5), &10)?;
-    explain_onto(alloc, &mut out, &predicate::ne(5), &10)?;
-    explain_onto(alloc, &mut out, &predicate::lt(10), &11)?;
-    explain_onto(alloc, &mut out, &predicate::le(5), &6)?;
-    explain_onto(alloc, &mut out, &predicate::ge(5), &4)?;
-    explain_onto(alloc, &mut out, &predicate::gt(5), &6)?;
+    constants_onto(alloc, &mut out)?;
+    orders_onto(alloc, &mut out)?;
     let above = predicate::gt(text(alloc, "5")?);
     explain_onto(alloc, &mut out, &above, &text(alloc, "4")?)?;
     assert_eq!(rt;
@@ -94,16 +94,20 @@ var > \"5\" = false
     Ok(())
 }
 
+fn lists_onto(rt: &impl Abort, alloc: Global, out: &mut String) -> Result<(), Fail> {
+    let listed = predicate::in_iter(alloc, [3i64, 1, 3])?;
+    explain_onto(alloc, out, &listed, &2)?;
+    has_parameter(rt, alloc, &listed, "values", "[3, 1, 3]")?;
+    let sorted = listed.sort()?;
+    explain_onto(alloc, out, &sorted, &3)?;
+    has_parameter(rt, alloc, &sorted, "values", "[1, 3, 3]")
+}
+
 #[test]
 fn memberships(rt: HostRuntime) -> Result<(), Fail> {
     let alloc = rt.alloc();
     let mut out = String::new(alloc);
-    let listed = predicate::in_iter(alloc, [3i64, 1, 3])?;
-    explain_onto(alloc, &mut out, &listed, &2)?;
-    has_parameter(&rt, alloc, &listed, "values", "[3, 1, 3]")?;
-    let sorted = listed.sort()?;
-    explain_onto(alloc, &mut out, &sorted, &3)?;
-    has_parameter(&rt, alloc, &sorted, "values", "[1, 3, 3]")?;
+    lists_onto(&rt, alloc, &mut out)?;
     let hashed = predicate::in_hash(alloc, [3i64, 1, 3])?;
     explain_onto(alloc, &mut out, &hashed, &1)?;
     has_parameter(&rt, alloc, &hashed, "values", "{3, 1}")?;
@@ -121,18 +125,22 @@ var in values = true
     Ok(())
 }
 
+fn pairs_onto(alloc: Global, out: &mut String) -> Result<(), AllocError> {
+    let both = predicate::lt(3).and(predicate::lt(5));
+    explain_onto(alloc, out, &both, &9)?;
+    let both = predicate::always().and(predicate::lt(3));
+    explain_onto(alloc, out, &both, &4)?;
+    let either = predicate::lt(3).or(predicate::gt(5));
+    explain_onto(alloc, out, &either, &4)?;
+    let just_one = predicate::lt(3).xor(predicate::lt(5));
+    explain_onto(alloc, out, &just_one, &4)
+}
+
 #[test]
 fn combinators(rt: HostRuntime) -> Result<(), Fail> {
     let alloc = rt.alloc();
     let mut out = String::new(alloc);
-    let both = predicate::lt(3).and(predicate::lt(5));
-    explain_onto(alloc, &mut out, &both, &9)?;
-    let both = predicate::always().and(predicate::lt(3));
-    explain_onto(alloc, &mut out, &both, &4)?;
-    let either = predicate::lt(3).or(predicate::gt(5));
-    explain_onto(alloc, &mut out, &either, &4)?;
-    let just_one = predicate::lt(3).xor(predicate::lt(5));
-    explain_onto(alloc, &mut out, &just_one, &4)?;
+    pairs_onto(alloc, &mut out)?;
     let outside = predicate::ge(5).and(predicate::le(10)).not();
     explain_onto(alloc, &mut out, &outside, &4)?;
     let named = predicate::str::is_empty().not().name("non-empty");
@@ -183,21 +191,29 @@ fn functions(rt: HostRuntime) -> Result<(), Fail> {
     Ok(())
 }
 
+fn ends_onto(alloc: Global, out: &mut String) -> Result<(), AllocError> {
+    let empty = predicate::str::is_empty();
+    explain_onto(alloc, out, &empty, &text(alloc, "b")?)?;
+    let starts = predicate::str::starts_with(text(alloc, "Hello")?);
+    explain_onto(alloc, out, &starts, &text(alloc, "Goodbye")?)?;
+    let ends = predicate::str::ends_with(text(alloc, "World")?);
+    explain_onto(alloc, out, &ends, &text(alloc, "Hello World")?)
+}
+
+fn counts_onto(rt: &impl Abort, alloc: Global, out: &mut String) -> Result<(), Fail> {
+    let two = predicate::str::contains(text(alloc, "Two")?);
+    explain_onto(alloc, out, &two, &text(alloc, "One")?)?;
+    let twice = two.count(2);
+    explain_onto(alloc, out, &twice, &text(alloc, "One Two Three")?)?;
+    has_parameter(rt, alloc, &twice, "count", "2")
+}
+
 #[test]
 fn texts(rt: HostRuntime) -> Result<(), Fail> {
     let alloc = rt.alloc();
     let mut out = String::new(alloc);
-    let empty = predicate::str::is_empty();
-    explain_onto(alloc, &mut out, &empty, &text(alloc, "b")?)?;
-    let starts = predicate::str::starts_with(text(alloc, "Hello")?);
-    explain_onto(alloc, &mut out, &starts, &text(alloc, "Goodbye")?)?;
-    let ends = predicate::str::ends_with(text(alloc, "World")?);
-    explain_onto(alloc, &mut out, &ends, &text(alloc, "Hello World")?)?;
-    let two = predicate::str::contains(text(alloc, "Two")?);
-    explain_onto(alloc, &mut out, &two, &text(alloc, "One")?)?;
-    let twice = two.count(2);
-    explain_onto(alloc, &mut out, &twice, &text(alloc, "One Two Three")?)?;
-    has_parameter(&rt, alloc, &twice, "count", "2")?;
+    ends_onto(alloc, &mut out)?;
+    counts_onto(&rt, alloc, &mut out)?;
     let pairs = predicate::str::contains(text(alloc, "aa")?).count(2);
     explain_onto(alloc, &mut out, &pairs, &text(alloc, "aaaa")?)?;
     let places = predicate::str::contains(text(alloc, "")?).count(3);
@@ -249,14 +265,18 @@ var.is_match(T[a-z]*) = true
     Ok(())
 }
 
+fn views_onto(alloc: Global, out: &mut String) -> Result<(), AllocError> {
+    let trimmed = predicate::eq(text(alloc, "a")?).trim();
+    explain_onto(alloc, out, &trimmed, &text(alloc, "\u{a0}a\t")?)?;
+    let even = predicate::eq(text(alloc, "a\n\n")?).normalize();
+    explain_onto(alloc, out, &even, &text(alloc, "a\n\r")?)
+}
+
 #[test]
 fn views(rt: HostRuntime) -> Result<(), Fail> {
     let alloc = rt.alloc();
     let mut out = String::new(alloc);
-    let trimmed = predicate::eq(text(alloc, "a")?).trim();
-    explain_onto(alloc, &mut out, &trimmed, &text(alloc, "\u{a0}a\t")?)?;
-    let even = predicate::eq(text(alloc, "a\n\n")?).normalize();
-    explain_onto(alloc, &mut out, &even, &text(alloc, "a\n\r")?)?;
+    views_onto(alloc, &mut out)?;
     let decoded = predicate::str::is_empty().not().from_utf8();
     explain_onto(alloc, &mut out, &decoded, &Vec::new(alloc))?;
     let other = Vec::from_slice(alloc, b"\xff")?;
@@ -278,103 +298,26 @@ var == \"a\\n\\n\" = true
     Ok(())
 }
 
-#[test]
-fn kinds(rt: HostRuntime) -> Result<(), Fail> {
-    let alloc = rt.alloc();
-    let mut out = String::new(alloc);
-    let link = Snapshot::from_parts(
-        String::from_str(alloc, "l")?,
-        Ok(FileType::Symlink),
-        Err(PathFault::NotFound),
-        Err(PathFault::NotFound),
-    );
-    explain_onto(alloc, &mut out, &predicate::path::exists(), &link)?;
-    explain_onto(alloc, &mut out, &predicate::path::missing(), &link)?;
-    let is_link = predicate::path::is_symlink();
-    explain_onto(alloc, &mut out, &is_link, &link)?;
-    has_parameter(&rt, alloc, &is_link, "follow", "false")?;
-    let followed = is_link.follow_links(true);
-    explain_onto(alloc, &mut out, &followed, &link)?;
-    has_parameter(&rt, alloc, &followed, "follow", "true")?;
-    let script = file(alloc, "p", b"a")?;
-    explain_onto(alloc, &mut out, &predicate::path::is_file(), &script)?;
-    explain_onto(alloc, &mut out, &predicate::path::is_dir(), &script)?;
-    let kind = Ok(FileType::Other);
-    let device = Snapshot::from_parts(text(alloc, "d")?, kind, kind, Err(PathFault::NotRegular));
-    explain_onto(alloc, &mut out, &is_link, &device)?;
-    match FileTypePredicate::from_path(&device) {
-        Ok(same) => assert_eq!(rt; same.to_string(alloc)?.as_str(), "var is other"),
-        Err(_) => return Err("refused".into()),
-    }
-    assert_eq!(rt;
-        out.as_str(),
-        "\
-exists(var) = false
-  - var: l
-missing(var) = true
-  - var: l
-var is symlink = true
-  - actual filetype: symlink
-var is symlink = false
-  - error: not found
-var is file = true
-  - actual filetype: file
-var is dir = false
-  - actual filetype: file
-var is symlink = false
-  - actual filetype: other
-"
-    );
-    Ok(())
-}
-
-#[test]
-fn contents(rt: HostRuntime) -> Result<(), Fail> {
-    let alloc = rt.alloc();
-    let mut out = String::new(alloc);
-    let Ok(same) = predicate::path::eq_file(file(alloc, "p", b"a")?) else {
-        return Err("refused".into());
-    };
-    explain_onto(alloc, &mut out, &same, &file(alloc, "q", b"a")?)?;
-    has_parameter(&rt, alloc, &same, "content", "[97]")?;
-    let same = same.utf8().ok_or("no text")?;
-    explain_onto(alloc, &mut out, &same, &text(alloc, "b")?)?;
-    has_parameter(&rt, alloc, &same, "content", "a")?;
-    let is_a = predicate::eq(text(alloc, "a")?)
-        .from_utf8()
-        .from_file_path();
-    explain_onto(alloc, &mut out, &is_a, &file(alloc, "p", b"a")?)?;
-    let kind = Ok(FileType::File);
-    let kept = Err(PathFault::PermissionDenied);
-    let kept = Snapshot::from_parts(text(alloc, "p")?, kind, kind, kept);
-    explain_onto(alloc, &mut out, &is_a, &kept)?;
-    assert_eq!(rt;
-        out.as_str(),
-        "\
-var is p = true
-var is p = false
-var == \"a\" = true
-  - var: \"a\"
-  - var as str: a
-  - var: p
-var == \"a\" = false
-  - var: p
-  - error: permission denied
-"
-    );
-    Ok(())
+fn boxed_onto(
+    alloc: Global,
+    out: &mut String,
+    held: Box<dyn TextPredicate>,
+) -> Result<(), AllocError> {
+    let boxed = BoxPredicate::new(alloc, held)?;
+    explain_onto(alloc, out, &boxed, &text(alloc, "b")?)
 }
 
 #[test]
 fn boxes(rt: HostRuntime) -> Result<(), Fail> {
     let alloc = rt.alloc();
     let mut out = String::new(alloc);
-    let held: Box<dyn TextPredicate> = Box::new(alloc, predicate::str::is_empty())?;
-    let boxed = BoxPredicate::new(alloc, held)?;
-    explain_onto(alloc, &mut out, &boxed, &text(alloc, "b")?)?;
+    boxed_onto(
+        alloc,
+        &mut out,
+        Box::new(alloc, predicate::str::is_empty())?,
+    )?;
     let any = predicate::always().name(StaticText::new("any"));
-    let boxed = BoxPredicate::new(alloc, Box::new(alloc, any)?)?;
-    explain_onto(alloc, &mut out, &boxed, &text(alloc, "b")?)?;
+    boxed_onto(alloc, &mut out, Box::new(alloc, any)?)?;
     assert_eq!(rt;
         out.as_str(),
         "var.is_empty() = false\n  - var: b\nany = true\n  any: true = true\n"

@@ -27,13 +27,36 @@ fn tell_onto<P: Predicate<u32>>(
     explain_onto(alloc, out, predicate, &41)
 }
 
+// The lines of the case for the verdict where `eval` gives it, or `another`.
+fn case_if<P: Predicate<u32>>(
+    alloc: Global,
+    predicate: &P,
+    verdict: bool,
+    item: &u32,
+) -> Result<String, AllocError>
+    requires { P.lawful predicate.now }
+{
+    if predicate.eval(alloc, item)? != verdict {
+        return text(alloc, "another");
+    }
+    case_of(alloc, predicate, verdict, item)
+}
+
+// How many parameters and children there are.
+fn sizes_of<P: PredicateReflection>(
+    alloc: Global,
+    predicate: &P,
+) -> Result<(usize, usize), AllocError> {
+    let parameters = predicate.parameters(alloc)?.len();
+    Ok((parameters, predicate.children(alloc)?.len()))
+}
+
 #[test]
 fn a_leaf_of_the_callers_own(rt: HostRuntime) -> Result<(), Fail> {
     let alloc = rt.alloc();
     let either = IsTheAnswer.or(predicate::in_iter(alloc, [41u32, 43])?);
-    assert_eq!(rt; either.eval(alloc, &41)?, true);
     assert_eq!(rt;
-        case_of(alloc, &either, true, &41)?.as_str(),
+        case_if(alloc, &either, true, &41)?.as_str(),
         "\
 (var.is_the_answer() || var in values) = true
   right: var in values = true
@@ -45,8 +68,7 @@ fn a_leaf_of_the_callers_own(rt: HostRuntime) -> Result<(), Fail> {
         "var.is_the_answer() = false\n  - var: 41\n"
     );
     assert_eq!(rt; case_of(alloc, &IsTheAnswer, true, &41)?.as_str(), "none");
-    assert_eq!(rt; IsTheAnswer.parameters(alloc)?.len(), 0);
-    assert_eq!(rt; IsTheAnswer.children(alloc)?.len(), 0);
+    assert_eq!(rt; sizes_of(alloc, &IsTheAnswer)?, (0, 0));
     Ok(())
 }
 
@@ -54,9 +76,8 @@ fn a_leaf_of_the_callers_own(rt: HostRuntime) -> Result<(), Fail> {
 fn a_combinator_of_the_callers_own(rt: HostRuntime) -> Result<(), Fail> {
     let alloc = rt.alloc();
     let either = Either::new(IsTheAnswer, predicate::in_iter(alloc, [41u32, 43])?);
-    assert_eq!(rt; either.eval(alloc, &41)?, true);
     assert_eq!(rt;
-        case_of(alloc, &either, true, &41)?.as_str(),
+        case_if(alloc, &either, true, &41)?.as_str(),
         "\
 either(var.is_the_answer(), var in values) = true
   right: var in values = true
@@ -73,7 +94,7 @@ either(var.is_the_answer(), var in values) = false
     - var: 40
 "
     );
-    assert_eq!(rt; either.parameters(alloc)?.len(), 0);
+    assert_eq!(rt; sizes_of(alloc, &either)?.0, 0);
     let under = either.not().name("answer");
     assert_eq!(rt;
         case_of(alloc, &under, false, &42)?.as_str(),
@@ -88,15 +109,23 @@ answer = false
     Ok(())
 }
 
+fn leaves_onto(alloc: Global, out: &mut String) -> Result<(), AllocError> {
+    tell_onto(alloc, out, &IsTheAnswer.not())?;
+    tell_onto(alloc, out, &IsTheAnswer.name("answer"))
+}
+
+fn eithers_onto(alloc: Global, out: &mut String) -> Result<(), AllocError> {
+    let either = Either::new(IsTheAnswer, predicate::lt(10));
+    tell_onto(alloc, out, &either.not())?;
+    tell_onto(alloc, out, &either.name("answer"))
+}
+
 #[test]
 fn under_not_and_under_a_name(rt: HostRuntime) -> Result<(), Fail> {
     let alloc = rt.alloc();
     let mut out = String::new(alloc);
-    tell_onto(alloc, &mut out, &IsTheAnswer.not())?;
-    tell_onto(alloc, &mut out, &IsTheAnswer.name("answer"))?;
-    let either = Either::new(IsTheAnswer, predicate::lt(10));
-    tell_onto(alloc, &mut out, &either.not())?;
-    tell_onto(alloc, &mut out, &either.name("answer"))?;
+    leaves_onto(alloc, &mut out)?;
+    eithers_onto(alloc, &mut out)?;
     assert_eq!(rt;
         out.as_str(),
         "\
@@ -172,7 +201,7 @@ answer = false
       - var: 41
 "
     );
-    assert_eq!(rt; leaf(FortyTwo).parameters(alloc)?.len(), 0);
+    assert_eq!(rt; sizes_of(alloc, &leaf(FortyTwo))?.0, 0);
     Ok(())
 }
 
@@ -225,38 +254,52 @@ fn an_adapter_of_the_callers_own(rt: HostRuntime) -> Result<(), Fail> {
         "(! var <= 3) = true\n  predicate: var <= 3 = false\n    - var: 4\n"
     );
     assert_eq!(rt; short.eval(alloc, &text(alloc, "abc")?)?, false);
+    let of_any = OfLength::new(predicate::always::<usize>());
+    assert_eq!(rt; sizes_of(alloc, &of_any)?.0, 1);
     assert_eq!(rt;
-        OfLength::new(predicate::always::<usize>())
-            .parameters(alloc)?
-            .len(),
-        1
-    );
-    assert_eq!(rt;
-        OfLength::new(IsTheAnswer.name("n")).children(alloc)?.len(),
+        sizes_of(alloc, &OfLength::new(IsTheAnswer.name("n")))?.1,
         1
     );
     Ok(())
 }
 
-// The lines of the case.
-fn lines(alloc: Global, found: Option<Case>) -> Result<String, Fail> {
-    let case = found.ok_or("no case")?;
-    Ok(render(alloc, &case)?)
+// The lines of the case, or `none`.
+fn lines(alloc: Global, found: Option<Case>) -> Result<String, AllocError> {
+    match found {
+        Some(case) => render(alloc, &case),
+        None => text(alloc, "none"),
+    }
+}
+
+// By `and` and by `xor`.
+fn cases_of_two(alloc: Global) -> Result<(String, String), AllocError> {
+    let (low, small) = (predicate::lt(3), predicate::lt(5));
+    let found = and_case(alloc, &IsTheAnswer, &low, &small, false, &4)?;
+    let both = lines(alloc, found)?;
+    let found = xor_case(alloc, &IsTheAnswer, &low, &small, true, &4)?;
+    Ok((both, lines(alloc, found)?))
+}
+
+// By `not`, and bare, of the verdict and of the opposite.
+fn cases_of_one(alloc: Global) -> Result<(String, String, String), AllocError> {
+    let found = not_case(alloc, &IsTheAnswer, &predicate::lt(3), true, &4)?;
+    let turned = lines(alloc, found)?;
+    let found = bare_case(alloc, &IsTheAnswer, true, true)?;
+    let bare = lines(alloc, found)?;
+    let found = bare_case(alloc, &IsTheAnswer, true, false)?;
+    Ok((turned, bare, lines(alloc, found)?))
 }
 
 // Each call that makes a case for a predicate of one's own, under the text of the leaf.
 #[test]
 fn own_cases(rt: HostRuntime) -> Result<(), Fail> {
-    let alloc = rt.alloc();
-    let (low, small) = (predicate::lt(3), predicate::lt(5));
-    let found = and_case(alloc, &IsTheAnswer, &low, &small, false, &4)?;
+    let (both, one) = cases_of_two(rt.alloc())?;
     assert_eq!(rt;
-        lines(alloc, found)?.as_str(),
+        both.as_str(),
         "var.is_the_answer() = false\n  left: var < 3 = false\n    - var: 4\n"
     );
-    let found = xor_case(alloc, &IsTheAnswer, &low, &small, true, &4)?;
     assert_eq!(rt;
-        lines(alloc, found)?.as_str(),
+        one.as_str(),
         "\
 var.is_the_answer() = true
   left: var < 3 = false
@@ -265,28 +308,25 @@ var.is_the_answer() = true
     - var: 4
 "
     );
-    let found = not_case(alloc, &IsTheAnswer, &low, true, &4)?;
+    let (turned, bare, none) = cases_of_one(rt.alloc())?;
     assert_eq!(rt;
-        lines(alloc, found)?.as_str(),
+        turned.as_str(),
         "var.is_the_answer() = true\n  predicate: var < 3 = false\n    - var: 4\n"
     );
-    let found = bare_case(alloc, &IsTheAnswer, true, true)?;
-    assert_eq!(rt;
-        lines(alloc, found)?.as_str(),
-        "var.is_the_answer() = true\n"
-    );
-    assert!(rt; bare_case(alloc, &IsTheAnswer, true, false)?.is_none());
+    assert_eq!(rt; bare.as_str(), "var.is_the_answer() = true\n");
+    assert_eq!(rt; none.as_str(), "none");
     Ok(())
 }
 
 #[test]
 fn a_bare_leaf(rt: HostRuntime) -> Result<(), Fail> {
     let alloc = rt.alloc();
-    let case = default_find_case(alloc, &IsTheAnswer, true, &42)?.ok_or("no case")?;
+    let found = default_find_case(alloc, &IsTheAnswer, true, &42)?;
     assert_eq!(rt;
-        render(alloc, &case)?.as_str(),
+        lines(alloc, found)?.as_str(),
         "var.is_the_answer() = true\n"
     );
-    assert!(rt; default_find_case(alloc, &IsTheAnswer, true, &41)?.is_none());
+    let found = default_find_case(alloc, &IsTheAnswer, true, &41)?;
+    assert_eq!(rt; lines(alloc, found)?.as_str(), "none");
     Ok(())
 }

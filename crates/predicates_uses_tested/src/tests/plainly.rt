@@ -2,20 +2,24 @@
 use predicates::prelude::*;
 use predicates::reflection::render;
 use predicates_uses::{Around, find_plain_case};
+use std::alloc::{AllocError, Global};
 use std::test::Fail;
+
+// The lines of the case where 9 is not small, or is.
+fn lines(alloc: Global, around: Around, verdict: bool) -> Result<String, AllocError> {
+    match find_plain_case(alloc, &predicate::lt(3), around, verdict, &9)? {
+        Some(case) => render(alloc, &case),
+        None => String::from_str(alloc, "none"),
+    }
+}
 
 #[test]
 fn explains_a_check_plainly(rt: HostRuntime) -> Result<(), Fail> {
-    let alloc = rt.alloc();
-    let small = predicate::lt(3);
-    let named = Around::Name("small");
-    let case = find_plain_case(alloc, &small, named, false, &9)?.ok_or("it holds")?;
-    let found = render(alloc, &case)?;
+    let found = lines(rt.alloc(), Around::Name("small"), false)?;
     assert_eq!(rt; found.as_str(), "var < 3 = false\n  - var: 9\n");
-    let turned = Around::TwoNegations;
-    let case = find_plain_case(alloc, &small, turned, false, &9)?.ok_or("it holds")?;
-    let found = render(alloc, &case)?;
+    let found = lines(rt.alloc(), Around::TwoNegations, false)?;
     assert_eq!(rt; found.as_str(), "var < 3 = false\n  - var: 9\n");
-    assert!(rt; find_plain_case(alloc, &small, Around::TwoNegations, true, &9)?.is_none());
+    let found = lines(rt.alloc(), Around::TwoNegations, true)?;
+    assert_eq!(rt; found.as_str(), "none");
     Ok(())
 }

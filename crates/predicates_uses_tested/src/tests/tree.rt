@@ -88,15 +88,21 @@ fn contents(rt: &HostRuntime, folder: &str) -> Result<String, AllocError> {
     )
 }
 
+// The folder, which is no more, and what its kinds and its contents told.
+fn check_folder(rt: &HostRuntime) -> Result<[String; 3], Fail> {
+    let folder = new_folder(rt)?;
+    fill(rt, folder.as_str())?;
+    let kinds = kinds(rt, folder.as_str());
+    let contents = contents(rt, folder.as_str());
+    fs::remove_dir_all(rt, folder.as_str())?;
+    Ok([folder, kinds?, contents?])
+}
+
 #[test]
 fn checks_a_tree(rt: HostRuntime) -> Result<(), Fail> {
-    let folder = new_folder(&rt)?;
-    fill(&rt, folder.as_str())?;
-    let kinds = kinds(&rt, folder.as_str());
-    let contents = contents(&rt, folder.as_str());
-    fs::remove_dir_all(&rt, folder.as_str())?;
+    let [folder, kinds, contents] = check_folder(&rt)?;
     assert_eq!(rt;
-        kinds?.as_str(),
+        kinds.as_str(),
         "\
 /folder: var is file = false
   - actual filetype: dir
@@ -126,15 +132,19 @@ fn checks_a_tree(rt: HostRuntime) -> Result<(), Fail> {
   - error: permission denied
 "
     )?;
-    assert_eq!(rt; contents?.as_str(), expected.as_str());
+    assert_eq!(rt; contents.as_str(), expected.as_str());
     Ok(())
+}
+
+// Whether nothing is told of a path of no characters that is to be missing.
+fn is_missing_nowhere(rt: &HostRuntime) -> Result<bool, AllocError> {
+    let nothing = expect(rt, "", predicate::path::missing())?;
+    Ok(nothing.found.path() == "" && check_tree(rt.alloc(), &[nothing])?.is_empty())
 }
 
 #[test]
 fn expects_at_no_path(rt: HostRuntime) -> Result<(), Fail> {
-    let nothing = expect(&rt, "", predicate::path::missing())?;
-    assert_eq!(rt; nothing.found.path(), "");
-    assert_eq!(rt; check_tree(rt.alloc(), &[nothing])?.len(), 0);
+    assert!(rt; is_missing_nowhere(&rt)?);
     let failures = check_tree(rt.alloc(), &[expect(&rt, "", predicate::path::exists())?])?;
     assert_eq!(rt; failures.len(), 1);
     assert_eq!(rt;
