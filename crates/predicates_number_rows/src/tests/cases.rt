@@ -21,27 +21,8 @@ fn children_of(out: &mut String, view: &CaseView<'_>) -> Result<(), AllocError> 
     Ok(())
 }
 
-#[test]
-fn children_are_given_without_their_own(rt: HostRuntime) -> Result<(), Fail> {
-    let alloc = rt.alloc();
-    let below = node(alloc, "of a")?.add_child("c", node(alloc, "of c")?)?;
-    let case = node(alloc, "root")?
-        .add_child("a", below)?
-        .add_child("b", node(alloc, "of b")?)?;
-    let mut out = String::new(alloc);
-    children_of(&mut out, &case.root())?;
-    for CaseChild { case, .. } in case.root().children() {
-        children_of(&mut out, &case)?;
-    }
-    assert_eq!(rt; out.as_str(), "a: of a\nb: of b\nc: of c\n");
-    Ok(())
-}
-
-#[test]
-fn three_nodes_below_the_root(rt: HostRuntime) -> Result<(), Fail> {
-    let alloc = rt.alloc();
-    let either = always().and(always()).or(always());
-    let case = either.find_case(alloc, true, &4)?.ok_or("no case")?;
+// Writes them for the root, for its children and for theirs.
+fn lines_of(alloc: Global, case: &Case) -> Result<String, AllocError> {
     let mut out = String::new(alloc);
     children_of(&mut out, &case.root())?;
     for CaseChild { case, .. } in case.root().children() {
@@ -50,8 +31,33 @@ fn three_nodes_below_the_root(rt: HostRuntime) -> Result<(), Fail> {
             children_of(&mut out, &case)?;
         }
     }
+    Ok(out)
+}
+
+// A root with `a` and `b` below it, and with `c` below `a`.
+fn grown(alloc: Global) -> Result<Case, AllocError> {
+    let below = node(alloc, "of a")?.add_child("c", node(alloc, "of c")?)?;
+    node(alloc, "root")?
+        .add_child("a", below)?
+        .add_child("b", node(alloc, "of b")?)
+}
+
+#[test]
+fn children_are_given_without_their_own(rt: HostRuntime) -> Result<(), Fail> {
     assert_eq!(rt;
-        out.as_str(),
+        lines_of(rt.alloc(), &grown(rt.alloc())?)?.as_str(),
+        "a: of a\nb: of b\nc: of c\n"
+    );
+    Ok(())
+}
+
+#[test]
+fn three_nodes_below_the_root(rt: HostRuntime) -> Result<(), Fail> {
+    let alloc = rt.alloc();
+    let either = always().and(always()).or(always());
+    let case = either.find_case(alloc, true, &4)?.ok_or("no case")?;
+    assert_eq!(rt;
+        lines_of(alloc, &case)?.as_str(),
         "left: (true && true)\nleft: true\nright: true\n"
     );
     Ok(())

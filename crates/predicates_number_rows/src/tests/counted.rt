@@ -2,7 +2,7 @@
 use super::counting_member::{Calls, CountingMember};
 use predicates::boolean::PredicateBooleanExt;
 use predicates::constant::{BooleanPredicate, always, never};
-use predicates::iter::{Steps, in_hash, in_iter};
+use predicates::iter::{HashableInPredicate, InPredicate, OrdInPredicate, Steps, in_hash, in_iter};
 use predicates_core::Predicate;
 use predicates_generated::Counting;
 use std::alloc::{AllocError, Global};
@@ -25,30 +25,56 @@ fn members<'a>(
     Ok(members)
 }
 
+// Whether the set holds of 2, and something was hashed so far.
+fn is_hashed(
+    alloc: Global,
+    set: &HashableInPredicate<CountingMember<'_>>,
+    calls: &Calls,
+) -> Result<bool, AllocError> {
+    let item = CountingMember { number: 2, calls };
+    Ok(set.eval(alloc, &item)? && calls.hashed.get() != 0)
+}
+
 #[test]
 fn a_hashed_set_hashes_its_members(rt: HostRuntime) -> Result<(), Fail> {
     let alloc = rt.alloc();
     let calls = Calls::none();
     let set = in_hash(alloc, members(alloc, &calls, 3)?)?;
-    let item = CountingMember {
-        number: 2,
-        calls: &calls,
-    };
-    assert!(rt; set.eval(alloc, &item)?);
-    assert!(rt; calls.hashed.get() != 0);
+    assert!(rt; is_hashed(alloc, &set, &calls)?);
     // A look-up hashes its item.
     calls.hashed.set(0);
-    assert!(rt; set.eval(alloc, &item)?);
-    assert!(rt; calls.hashed.get() != 0);
+    assert!(rt; is_hashed(alloc, &set, &calls)?);
     Ok(())
 }
+
+// Whether the list finds the item or not, in so many comparisons at most; both by its search, which
+// counts them as well, and by `eval`.
+fn is_found(
+    alloc: Global,
+    sorted: &OrdInPredicate<CountingMember<'_>>,
+    item: &CountingMember<'_>,
+    is_member: bool,
+    most: usize,
+    steps: &mut Steps,
+) -> Result<bool, AllocError> {
+    let compared = &item.calls.compared;
+    compared.set(0);
+    let is_searched = sorted.search_counted(item, steps) == is_member
+        && compared.get() <= most
+        && steps.count() == compared.get();
+    compared.set(0);
+    Ok(is_searched && sorted.eval(alloc, item)? == is_member && compared.get() <= most)
+}
+
+// How many members there are, and how many comparisons at most.
+const HALVED: [(u16, usize); 6] = [(0, 0), (1, 1), (3, 2), (7, 3), (8, 4), (1000, 10)];
 
 #[test]
 fn a_sorted_list_is_halved(rt: HostRuntime) -> Result<(), Fail> {
     let alloc = rt.alloc();
     let calls = Calls::none();
     let mut steps = Steps::new();
-    for (count, most) in [(0u16, 0), (1, 1), (3, 2), (7, 3), (8, 4), (1000, 10)] {
+    for (count, most) in HALVED {
         let sorted = in_iter(alloc, members(alloc, &calls, count)?)?.sort()?;
         let end = 2 * i64::from(count);
         for number in -1..end + 1 {
@@ -57,32 +83,39 @@ fn a_sorted_list_is_halved(rt: HostRuntime) -> Result<(), Fail> {
                 calls: &calls,
             };
             let is_member = 0 <= number && number < end && number % 2 == 0;
-            calls.compared.set(0);
-            let found = sorted.search_counted(&item, &mut steps);
-            assert_eq!(rt; found, is_member, "{number} among {count}");
-            assert!(rt; calls.compared.get() <= most, "{number} among {count}");
-            assert_eq!(rt; steps.count(), calls.compared.get());
-            calls.compared.set(0);
-            assert_eq!(rt; sorted.eval(alloc, &item)?, is_member);
-            assert!(rt; calls.compared.get() <= most, "{number} among {count}");
+            assert!(rt;
+                is_found(alloc, &sorted, &item, is_member, most, &mut steps)?,
+                "{number} among {count}"
+            );
         }
     }
     Ok(())
 }
+
+// Whether the list holds of the number, and whether it compared each of a thousand members at most
+// once.
+fn is_scanned(
+    alloc: Global,
+    listed: &InPredicate<CountingMember<'_>>,
+    calls: &Calls,
+    number: i64,
+) -> Result<(bool, bool), AllocError> {
+    calls.compared.set(0);
+    let holds = listed.eval(alloc, &CountingMember { number, calls })?;
+    Ok((holds, calls.compared.get() <= 1000))
+}
+
+// Numbers, and whether they are members.
+const SCANNED: [(i64, bool); 4] = [(-1, false), (0, true), (1998, true), (1999, false)];
 
 #[test]
 fn a_list_compares_each_member_once(rt: HostRuntime) -> Result<(), Fail> {
     let alloc = rt.alloc();
     let calls = Calls::none();
     let listed = in_iter(alloc, members(alloc, &calls, 1000)?)?;
-    for (number, is_member) in [(-1, false), (0, true), (1998, true), (1999, false)] {
-        let item = CountingMember {
-            number,
-            calls: &calls,
-        };
-        calls.compared.set(0);
-        assert_eq!(rt; listed.eval(alloc, &item)?, is_member);
-        assert!(rt; calls.compared.get() <= 1000, "{number}");
+    for (number, is_member) in SCANNED {
+        let found = is_scanned(alloc, &listed, &calls, number)?;
+        assert_eq!(rt; found, (is_member, true), "{number}");
     }
     Ok(())
 }
@@ -94,16 +127,27 @@ fn true_leaf<'a>(evaluated: &'a Cell<usize>) -> Counting<'a, BooleanPredicate<i6
     }
 }
 
+// Whether the predicate holds of 5, and how often the leaf was asked so far.
+fn asked<P: Predicate<i64>>(
+    alloc: Global,
+    predicate: &P,
+    evaluated: &Cell<usize>,
+) -> Result<(bool, usize), AllocError>
+    requires { P.lawful predicate.now }
+{
+    let holds = predicate.eval(alloc, &5)?;
+    Ok((holds, evaluated.get()))
+}
+
 #[test]
 fn the_right_part_is_asked_where_the_left_decides_nothing(rt: HostRuntime) -> Result<(), Fail> {
     let alloc = rt.alloc();
-    let evaluated = Cell::new(0);
-    assert!(rt; !never().and(true_leaf(&evaluated)).eval(alloc, &5)?);
-    assert!(rt; always().or(true_leaf(&evaluated)).eval(alloc, &5)?);
-    assert_eq!(rt; evaluated.get(), 0);
-    assert!(rt; always().and(true_leaf(&evaluated)).eval(alloc, &5)?);
-    assert_eq!(rt; evaluated.get(), 1);
-    assert!(rt; never().or(true_leaf(&evaluated)).eval(alloc, &5)?);
-    assert_eq!(rt; evaluated.get(), 2);
+    let cell = Cell::new(0);
+    let both = asked(alloc, &never().and(true_leaf(&cell)), &cell)?;
+    let either = asked(alloc, &always().or(true_leaf(&cell)), &cell)?;
+    assert_eq!(rt; (both, either), ((false, 0), (true, 0)));
+    let both = asked(alloc, &always().and(true_leaf(&cell)), &cell)?;
+    let either = asked(alloc, &never().or(true_leaf(&cell)), &cell)?;
+    assert_eq!(rt; (both, either), ((true, 1), (true, 2)));
     Ok(())
 }

@@ -32,6 +32,17 @@ fn is_explained(alloc: Global, words: Vec<NumberWord>) -> Result<Option<bool>, A
     }
 }
 
+// The words that the number's digits stand for, the last one first.
+fn words_of(alloc: Global, number: u64, length: u64) -> Result<Vec<NumberWord>, AllocError> {
+    let mut words = Vec::new(alloc);
+    let mut rest = number;
+    for _ in 0..length {
+        words.push(word(rest))?;
+        rest /= 7;
+    }
+    Ok(words)
+}
+
 #[test]
 fn all_formulas_of_at_most_six_words(rt: HostRuntime) -> Result<(), Fail> {
     let alloc = rt.alloc();
@@ -40,18 +51,9 @@ fn all_formulas_of_at_most_six_words(rt: HostRuntime) -> Result<(), Fail> {
     for length in 1..7_u64 {
         all = all.saturating_mul(7);
         for number in 0..all {
-            let mut words = Vec::new(alloc);
-            let mut rest = number;
-            for _ in 0..length {
-                words.push(word(rest))?;
-                rest /= 7;
-            }
-            match is_explained(alloc, words)? {
-                Some(right) => {
-                    assert!(rt; right, "formula {number} of {length} words");
-                    explained = explained.saturating_add(1);
-                }
-                None => {}
+            if let Some(right) = is_explained(alloc, words_of(alloc, number, length)?)? {
+                assert!(rt; right, "formula {number} of {length} words");
+                explained = explained.saturating_add(1);
             }
         }
     }

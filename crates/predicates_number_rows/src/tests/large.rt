@@ -15,16 +15,30 @@ fn parts(alloc: Global, last: i64) -> Result<Vec<NumberWord>, AllocError> {
     Ok(words)
 }
 
+// The verdict on 4, how many leaves its case keeps, and the last of these; none without a formula,
+// a predicate or a case.
+fn kept(alloc: Global, last: i64) -> Result<Option<(bool, usize, Option<usize>)>, AllocError> {
+    let words = parts(alloc, last)?;
+    let Some(formula) = plain_number(alloc, words.as_slice(), 4)? else {
+        return Ok(None);
+    };
+    let Some(answers) = answer_number(alloc, words, 4)? else {
+        return Ok(None);
+    };
+    match answers.kept_leaves(alloc, &formula)? {
+        Some(leaves) => Ok(Some((answers.verdict, leaves.len(), leaves.last().copied()))),
+        None => Ok(None),
+    }
+}
+
 #[test]
 fn parts_as_many_as_a_level_has(rt: HostRuntime) -> Result<(), Fail> {
-    let alloc = rt.alloc();
-    for (last, verdict, kept) in [(4, true, 128), (3, false, 1)] {
-        let words = parts(alloc, last)?;
-        let formula = plain_number(alloc, words.as_slice(), 4)?.ok_or("no formula")?;
-        let answers = answer_number(alloc, words, 4)?.ok_or("no predicate")?;
-        let found = answers.kept_leaves(alloc, &formula)?.ok_or("no case")?;
-        assert_eq!(rt; (answers.verdict, found.len()), (verdict, kept));
-        assert_eq!(rt; found.last(), Some(&127));
+    for (last, verdict, leaves) in [(4, true, 128), (3, false, 1)] {
+        assert_eq!(rt;
+            kept(rt.alloc(), last)?,
+            Some((verdict, leaves, Some(127))),
+            "with {last}"
+        );
     }
     Ok(())
 }

@@ -5,58 +5,75 @@ use predicates::function::function;
 use predicates::iter::{Steps, in_hash, in_iter};
 use predicates::name::PredicateNameExt;
 use predicates::ord::le;
-use predicates_core::reflection::{Parameter, PredicateReflection, render};
-use predicates_generated::{ask, describe, tell};
+use predicates_core::Predicate;
+use predicates_core::reflection::{PredicateReflection, render};
+use predicates_generated::{ask, describe, tell, text};
+use std::alloc::{AllocError, Global};
 use std::test::Fail;
+
+// Whether the only parameter has the name and the value, and the predicate holds of the item.
+fn holds_with<P: Predicate<i64>>(
+    alloc: Global,
+    predicate: &P,
+    item: i64,
+    parameter: (&str, &str),
+) -> Result<bool, AllocError>
+    requires { P.lawful predicate.now }
+{
+    let answers = ask(alloc, predicate, &item)?;
+    let is_kept = match answers.parameters.as_slice() {
+        [only] => (only.name(), only.value()) == parameter,
+        _ => false,
+    };
+    Ok(is_kept && answers.verdict)
+}
+
+// What the predicate answers as its verdict.
+fn verdict_of<P: Predicate<i64>>(
+    alloc: Global,
+    predicate: &P,
+    item: i64,
+) -> Result<bool, AllocError>
+    requires { P.lawful predicate.now }
+{
+    Ok(ask(alloc, predicate, &item)?.verdict)
+}
 
 #[test]
 fn kept_members(rt: HostRuntime) -> Result<(), Fail> {
     let alloc = rt.alloc();
-    let sorted = ask(alloc, &in_iter(alloc, [3, 1, 3])?.sort()?, &3)?;
-    assert_eq!(rt;
-        only_parameter(&sorted.parameters),
-        Some(("values", "[1, 3, 3]"))
-    );
-    assert_eq!(rt; sorted.verdict, true);
-    let hashed = ask(alloc, &in_hash(alloc, [3, 1, 3])?, &3)?;
-    assert_eq!(rt;
-        only_parameter(&hashed.parameters),
-        Some(("values", "{3, 1}"))
-    );
-    assert_eq!(rt; hashed.verdict, true);
-    assert_eq!(rt;
-        ask(alloc, &in_iter(alloc, [3, 1, 3])?.sort()?, &2)?.verdict,
-        false
-    );
-    assert_eq!(rt; ask(alloc, &in_hash(alloc, [3, 1, 3])?, &2)?.verdict, false);
+    let sorted = in_iter(alloc, [3, 1, 3])?.sort()?;
+    assert!(rt; holds_with(alloc, &sorted, 3, ("values", "[1, 3, 3]"))?);
+    assert_eq!(rt; verdict_of(alloc, &sorted, 2)?, false);
+    let hashed = in_hash(alloc, [3, 1, 3])?;
+    assert!(rt; holds_with(alloc, &hashed, 3, ("values", "{3, 1}"))?);
+    assert_eq!(rt; verdict_of(alloc, &hashed, 2)?, false);
     Ok(())
 }
 
-// The only parameter.
-fn only_parameter(parameters: &Vec<Parameter>) -> Option<(&'static str, &str)> {
-    match parameters.as_slice() {
-        [only] => Some((only.name(), only.value())),
-        _ => None,
-    }
+const NONE: [i64; 0] = [];
+
+fn told_of_none(alloc: Global, out: &mut String) -> Result<(), AllocError> {
+    tell(alloc, out, &in_iter(alloc, NONE)?, &1)?;
+    tell(alloc, out, &in_iter(alloc, NONE)?.sort()?, &1)?;
+    tell(alloc, out, &in_hash(alloc, NONE)?, &1)
+}
+
+fn described_of_none(alloc: Global, out: &mut String) -> Result<(), AllocError> {
+    describe(alloc, out, &in_iter(alloc, NONE)?)?;
+    describe(alloc, out, &in_iter(alloc, NONE)?.sort()?)?;
+    describe(alloc, out, &in_hash(alloc, NONE)?)
 }
 
 #[test]
 fn no_members(rt: HostRuntime) -> Result<(), Fail> {
     let alloc = rt.alloc();
-    let none: [i64; 0] = [];
-    let sorted = in_iter(alloc, none)?.sort()?;
     let mut steps = Steps::new();
-    assert_eq!(rt;
-        (sorted.search_counted(&1, &mut steps), steps.count()),
-        (false, 0)
-    );
+    let found = in_iter(alloc, NONE)?.sort()?.search_counted(&1, &mut steps);
+    assert_eq!(rt; (found, steps.count()), (false, 0));
     let mut found = String::new(alloc);
-    tell(alloc, &mut found, &in_iter(alloc, none)?, &1)?;
-    tell(alloc, &mut found, &sorted, &1)?;
-    tell(alloc, &mut found, &in_hash(alloc, none)?, &1)?;
-    describe(alloc, &mut found, &in_iter(alloc, none)?)?;
-    describe(alloc, &mut found, &sorted)?;
-    describe(alloc, &mut found, &in_hash(alloc, none)?)?;
+    told_of_none(alloc, &mut found)?;
+    described_of_none(alloc, &mut found)?;
     assert_eq!(rt;
         found.as_str(),
         "\
@@ -84,10 +101,23 @@ fn at_most_three_comparisons_in_seven(rt: HostRuntime) -> Result<(), Fail> {
     let mut steps = Steps::new();
     for item in -1..10_i64 {
         let found = sorted.search_counted(&item, &mut steps);
-        assert_eq!(rt; found, 1 <= item && item <= 7, "on {item}");
-        assert!(rt; steps.count() <= 3, "on {item}");
+        assert!(rt;
+            found == (1 <= item && item <= 7) && steps.count() <= 3,
+            "on {item}"
+        );
     }
     Ok(())
+}
+
+// The lines of the case for false, or `none`.
+fn refusal<P: Predicate<i64>>(alloc: Global, predicate: &P, item: i64) -> Result<String, AllocError>
+    requires { P.lawful predicate.now }
+{
+    let found = ask(alloc, predicate, &item)?.case_false;
+    match &found {
+        Some(case) => render(alloc, case),
+        None => text(alloc, "none"),
+    }
 }
 
 #[test]
@@ -96,26 +126,32 @@ fn functions(rt: HostRuntime) -> Result<(), Fail> {
     let at_least = function(|n: &i64| *n >= 5);
     assert_eq!(rt; at_least.to_string(alloc)?.as_str(), "fn(var)");
     let between = at_least.fn_name("big").and(le(10));
-    let case = ask(alloc, &between, &3)?.case_false.ok_or("no case")?;
     assert_eq!(rt;
-        render(alloc, &case)?.as_str(),
+        refusal(alloc, &between, 3)?.as_str(),
         "(big(var) && var <= 10) = false\n  left: big(var) = false\n"
     );
     Ok(())
 }
 
+// Whether there is one child, with the name and the text.
+fn has_child<P: PredicateReflection>(
+    alloc: Global,
+    predicate: &P,
+    child: (&str, &str),
+) -> Result<bool, AllocError> {
+    match predicate.children(alloc)?.as_slice() {
+        [only] => Ok((only.name(), only.text()) == child),
+        _ => Ok(false),
+    }
+}
+
 #[test]
 fn names(rt: HostRuntime) -> Result<(), Fail> {
     let alloc = rt.alloc();
-    let case = ask(alloc, &never().name("n"), &1)?
-        .case_false
-        .ok_or("no case")?;
     assert_eq!(rt;
-        render(alloc, &case)?.as_str(),
+        refusal(alloc, &never().name("n"), 1)?.as_str(),
         "n = false\n  n: false = false\n"
     );
-    let children = never::<i64>().name("n").children(alloc)?;
-    assert_eq!(rt; children.len(), 1);
-    assert_eq!(rt; (children[0].name(), children[0].text()), ("n", "false"));
+    assert!(rt; has_child(alloc, &never::<i64>().name("n"), ("n", "false"))?);
     Ok(())
 }

@@ -5,19 +5,33 @@ use predicates::function::function;
 use predicates::name::PredicateNameExt;
 use predicates::ord::{ge, lt};
 use predicates::str::is_empty;
+use predicates_core::Predicate;
 use predicates_generated::{describe, tell, text};
+use std::alloc::{AllocError, Global};
 use std::test::Fail;
+
+// What the predicate tells of each of the items, and its description.
+fn told<P: Predicate<Item>, Item>(
+    alloc: Global,
+    predicate: &P,
+    items: &[Item],
+) -> Result<String, AllocError>
+    requires { P.lawful predicate.now }
+{
+    let mut out = String::new(alloc);
+    for item in items {
+        tell(alloc, &mut out, predicate, item)?;
+    }
+    describe(alloc, &mut out, predicate)?;
+    Ok(out)
+}
 
 #[test]
 fn two_names_under_combinators(rt: HostRuntime) -> Result<(), Fail> {
     let alloc = rt.alloc();
-    let mut out = String::new(alloc);
     let neither = ge(5).name("x").or(lt(3).name("y")).not();
-    tell(alloc, &mut out, &neither, &4)?;
-    tell(alloc, &mut out, &neither, &1)?;
-    describe(alloc, &mut out, &neither)?;
     assert_eq!(rt;
-        out.as_str(),
+        told(alloc, &neither, &[4, 1])?.as_str(),
         "\
 (! (x || y)) = true
   predicate: (x || y) = false
@@ -44,17 +58,12 @@ fn two_names_under_combinators(rt: HostRuntime) -> Result<(), Fail> {
 #[test]
 fn three_names_beside_a_function(rt: HostRuntime) -> Result<(), Fail> {
     let alloc = rt.alloc();
-    let mut out = String::new(alloc);
     let neither = ge(5).name("x").or(lt(3).name("y")).not();
     let both = neither
         .name("z")
         .and(function(|n: &i64| *n >= 4).fn_name("g"));
-    tell(alloc, &mut out, &both, &4)?;
-    tell(alloc, &mut out, &both, &3)?;
-    tell(alloc, &mut out, &both, &1)?;
-    describe(alloc, &mut out, &both)?;
     assert_eq!(rt;
-        out.as_str(),
+        told(alloc, &both, &[4, 3, 1])?.as_str(),
         "\
 (z && g(var)) = true
   left: z = true
@@ -88,18 +97,12 @@ fn three_names_beside_a_function(rt: HostRuntime) -> Result<(), Fail> {
 #[test]
 fn three_functions_under_combinators(rt: HostRuntime) -> Result<(), Fail> {
     let alloc = rt.alloc();
-    let mut out = String::new(alloc);
     let either = function(|n: &i64| *n >= 5)
         .fn_name("f")
         .and(function(|n: &i64| *n <= 10).fn_name("g"))
         .or(function(|n: &i64| *n == 1).fn_name("h"));
-    tell(alloc, &mut out, &either, &7)?;
-    tell(alloc, &mut out, &either, &1)?;
-    tell(alloc, &mut out, &either, &4)?;
-    tell(alloc, &mut out, &either, &11)?;
-    describe(alloc, &mut out, &either)?;
     assert_eq!(rt;
-        out.as_str(),
+        told(alloc, &either, &[7, 1, 4, 11])?.as_str(),
         "\
 ((f(var) && g(var)) || h(var)) = true
   left: (f(var) && g(var)) = true
@@ -128,10 +131,8 @@ fn three_functions_under_combinators(rt: HostRuntime) -> Result<(), Fail> {
 #[test]
 fn a_name_over_not_and_a_name_of_no_characters(rt: HostRuntime) -> Result<(), Fail> {
     let alloc = rt.alloc();
-    let mut out = String::new(alloc);
     let some = is_empty().not().name("non-empty");
-    tell(alloc, &mut out, &some, &text(alloc, "")?)?;
-    describe(alloc, &mut out, &some)?;
+    let mut out = told(alloc, &some, &[text(alloc, "")?])?;
     tell(alloc, &mut out, &never().name(""), &1)?;
     assert_eq!(rt;
         out.as_str(),

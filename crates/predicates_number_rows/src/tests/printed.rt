@@ -5,50 +5,60 @@ use predicates::function::function;
 use predicates::name::PredicateNameExt;
 use predicates::ord::{le, ne};
 use predicates_generated::{Counting, print_alone, print_number, tell};
+use std::alloc::{AllocError, Global};
 use std::cell::Cell;
 use std::test::Fail;
+
+// What is told of a number that is not to equal itself.
+fn unequal_to(alloc: Global, constant: i64) -> Result<String, AllocError> {
+    let mut out = String::new(alloc);
+    tell(alloc, &mut out, &ne(constant), &constant)?;
+    Ok(out)
+}
+
+// Constants, and how they are shown.
+const SHOWN: [(i64, &str); 5] = [
+    (0, "0"),
+    (-5, "-5"),
+    (10, "10"),
+    (i64::MIN, "-9223372036854775808"),
+    (i64::MAX, "9223372036854775807"),
+];
 
 #[test]
 fn debug_forms_of_numbers(rt: HostRuntime) -> Result<(), Fail> {
     let alloc = rt.alloc();
-    let rows = [
-        (0, "0"),
-        (-5, "-5"),
-        (10, "10"),
-        (i64::MIN, "-9223372036854775808"),
-        (i64::MAX, "9223372036854775807"),
-    ];
-    for (constant, shown) in rows {
-        let mut out = String::new(alloc);
-        tell(alloc, &mut out, &ne(constant), &constant)?;
+    for (constant, shown) in SHOWN {
         let case = format!(in alloc; "var != {shown} = false\n  - var: {shown}\n")?;
-        assert_eq!(rt; out.as_str(), case.as_str());
+        assert_eq!(rt; unequal_to(alloc, constant)?.as_str(), case.as_str());
     }
     Ok(())
 }
+
+// The words of predicates.
+const PRINTED: [&str; 15] = [
+    "always",
+    "never",
+    "eq=50000",
+    "ne=50000",
+    "lt=-5",
+    "le=5",
+    "ge=5",
+    "gt=5",
+    "in_iter=3,1",
+    "sorted=3,1",
+    "in_hash=3,1",
+    "lt=3 name=small",
+    "lt=3 gt=5 or",
+    "lt=3 gt=5 xor",
+    "lt=3 gt=5 or not",
+];
 
 #[test]
 fn flags_change_no_text_over_numbers(rt: HostRuntime) -> Result<(), Fail> {
     let alloc = rt.alloc();
     let mut out = String::new(alloc);
-    let rows = [
-        "always",
-        "never",
-        "eq=50000",
-        "ne=50000",
-        "lt=-5",
-        "le=5",
-        "ge=5",
-        "gt=5",
-        "in_iter=3,1",
-        "sorted=3,1",
-        "in_hash=3,1",
-        "lt=3 name=small",
-        "lt=3 gt=5 or",
-        "lt=3 gt=5 xor",
-        "lt=3 gt=5 or not",
-    ];
-    for words in rows {
+    for words in PRINTED {
         print_number(alloc, &mut out, words)?;
     }
     assert_eq!(rt;

@@ -103,17 +103,23 @@ struct Greeting {
     number: i64,
 }
 
+const GREETINGS: [(&str, i64, Option<bool>); 3] = [
+    ("hello", 42, YES),
+    ("goodbye", 0, NO),
+    ("hello", 0, NO),
+];
+
 #[test]
 fn functions_of_fields(rt: HostRuntime) -> Result<(), Fail> {
     let greets = function(|g: &Greeting| g.text.as_str() == "hello").and(function(
         |g: &Greeting| g.number == 42,
     ));
-    for (text, number, expected) in [("hello", 42, YES), ("goodbye", 0, NO), ("hello", 0, NO)] {
-        let greeting = Greeting {
-            text: String::from_str(rt.alloc(), text)?,
-            number,
-        };
-        assert_eq!(rt; verdict(rt.alloc(), &greets, &greeting)?, expected);
+    for (text, number, expected) in GREETINGS {
+        let text = String::from_str(rt.alloc(), text)?;
+        assert_eq!(rt;
+            verdict(rt.alloc(), &greets, &Greeting { text, number })?,
+            expected
+        );
     }
     Ok(())
 }

@@ -5,20 +5,21 @@ use predicates::ord::{eq, ge, gt, le, lt};
 use predicates_core::Predicate;
 use predicates_core::reflection::{PredicateReflection, render};
 use predicates_generated::{describe, tell};
+use std::alloc::{AllocError, Global};
 use std::test::Fail;
 
-// The lines of the case for the expected verdict; none where there is no case.
-fn case_text<P: Predicate<i64> + Drop>(
-    rt: &HostRuntime,
-    predicate: P,
+// The lines of the case for the expected verdict; `none` where there is no case.
+fn case_text<P: Predicate<i64>>(
+    alloc: Global,
+    predicate: &P,
     expected: bool,
     item: i64,
-) -> Result<Option<String>, Fail>
-    requires { P.lawful predicate }
+) -> Result<String, AllocError>
+    requires { P.lawful predicate.now }
 {
-    match predicate.find_case(rt.alloc(), expected, &item)? {
-        Some(case) => Ok(Some(render(rt.alloc(), &case)?)),
-        None => Ok(None),
+    match predicate.find_case(alloc, expected, &item)? {
+        Some(case) => render(alloc, &case),
+        None => String::from_str(alloc, "none"),
     }
 }
 
@@ -33,32 +34,32 @@ fn between(rt: HostRuntime) -> Result<(), Fail> {
 
 #[test]
 fn one_false_child_is_kept(rt: HostRuntime) -> Result<(), Fail> {
-    let case = case_text(&rt, lt(3).and(lt(5)), false, 9)?.ok_or("no case")?;
     assert_eq!(rt;
-        case.as_str(),
+        case_text(rt.alloc(), &lt(3).and(lt(5)), false, 9)?.as_str(),
         "\
 (var < 3 && var < 5) = false
   left: var < 3 = false
     - var: 9
 "
     );
-    let case = case_text(&rt, never().and(always()), false, 5)?.ok_or("no case")?;
     assert_eq!(rt;
-        case.as_str(),
+        case_text(rt.alloc(), &never().and(always()), false, 5)?.as_str(),
         "\
 (false && true) = false
   left: false = false
 "
     );
-    assert!(rt; case_text(&rt, never().and(always()), true, 5)?.is_none());
+    assert_eq!(rt;
+        case_text(rt.alloc(), &never().and(always()), true, 5)?.as_str(),
+        "none"
+    );
     Ok(())
 }
 
 #[test]
 fn both_false_children_are_kept(rt: HostRuntime) -> Result<(), Fail> {
-    let case = case_text(&rt, lt(3).or(gt(5)), false, 4)?.ok_or("no case")?;
     assert_eq!(rt;
-        case.as_str(),
+        case_text(rt.alloc(), &lt(3).or(gt(5)), false, 4)?.as_str(),
         "\
 (var < 3 || var > 5) = false
   left: var < 3 = false
@@ -72,9 +73,8 @@ fn both_false_children_are_kept(rt: HostRuntime) -> Result<(), Fail> {
 
 #[test]
 fn the_first_true_child_is_kept(rt: HostRuntime) -> Result<(), Fail> {
-    let case = case_text(&rt, always().and(always()).or(always()), true, 4)?.ok_or("no case")?;
     assert_eq!(rt;
-        case.as_str(),
+        case_text(rt.alloc(), &always().and(always()).or(always()), true, 4)?.as_str(),
         "\
 ((true && true) || true) = true
   left: (true && true) = true
@@ -87,9 +87,8 @@ fn the_first_true_child_is_kept(rt: HostRuntime) -> Result<(), Fail> {
 
 #[test]
 fn one_function_written_twice(rt: HostRuntime) -> Result<(), Fail> {
-    let case = case_text(&rt, lt(3).and(lt(5)).not(), true, 9)?.ok_or("no case")?;
     assert_eq!(rt;
-        case.as_str(),
+        case_text(rt.alloc(), &lt(3).and(lt(5)).not(), true, 9)?.as_str(),
         "\
 (! (var < 3 && var < 5)) = true
   predicate: (var < 3 && var < 5) = false
@@ -97,9 +96,8 @@ fn one_function_written_twice(rt: HostRuntime) -> Result<(), Fail> {
       - var: 9
 "
     );
-    let case = case_text(&rt, lt(3).not().or(lt(5).not()), true, 9)?.ok_or("no case")?;
     assert_eq!(rt;
-        case.as_str(),
+        case_text(rt.alloc(), &lt(3).not().or(lt(5).not()), true, 9)?.as_str(),
         "\
 ((! var < 3) || (! var < 5)) = true
   left: (! var < 3) = true
@@ -110,6 +108,28 @@ fn one_function_written_twice(rt: HostRuntime) -> Result<(), Fail> {
     Ok(())
 }
 
+// Whether there is one child with the name and text, and it has two parts with theirs.
+fn has_parts<P: PredicateReflection>(
+    alloc: Global,
+    predicate: &P,
+    child: (&str, &str),
+    left: (&str, &str),
+    right: (&str, &str),
+) -> Result<bool, AllocError> {
+    let children = predicate.children(alloc)?;
+    let [only] = children.as_slice() else {
+        return Ok(false);
+    };
+    match only.children() {
+        [first, second] => Ok(
+            (only.name(), only.text()) == child
+                && (first.name(), first.text()) == left
+                && (second.name(), second.text()) == right,
+        ),
+        _ => Ok(false),
+    }
+}
+
 #[test]
 fn descriptions(rt: HostRuntime) -> Result<(), Fail> {
     let alloc = rt.alloc();
@@ -118,25 +138,16 @@ fn descriptions(rt: HostRuntime) -> Result<(), Fail> {
         outside.to_string(alloc)?.as_str(),
         "(! (var >= 5 && var <= 10))"
     );
-    let children = outside.children(alloc)?;
-    assert_eq!(rt; children.len(), 1);
-    let between = &children[0];
-    assert_eq!(rt;
-        (between.name(), between.text()),
-        ("predicate", "(var >= 5 && var <= 10)")
-    );
-    let parts = between.children();
-    assert_eq!(rt; parts.len(), 2);
-    assert_eq!(rt; (parts[0].name(), parts[0].text()), ("left", "var >= 5"));
-    assert_eq!(rt; (parts[1].name(), parts[1].text()), ("right", "var <= 10"));
+    let between = ("predicate", "(var >= 5 && var <= 10)");
+    let (left, right) = (("left", "var >= 5"), ("right", "var <= 10"));
+    assert!(rt; has_parts(alloc, &outside, between, left, right)?);
     let text = eq(String::from_str(alloc, "a\n\"")?);
     assert_eq!(rt; text.to_string(alloc)?.as_str(), "var == \"a\\n\\\"\"");
     Ok(())
 }
 
-#[test]
-fn parts_that_differ(rt: HostRuntime) -> Result<(), Fail> {
-    let alloc = rt.alloc();
+// What the three forms with `xor` tell.
+fn told_of_xor(alloc: Global) -> Result<String, AllocError> {
     let mut found = String::new(alloc);
     let apart = lt(3).xor(lt(5));
     for item in [4, 9, 2] {
@@ -145,8 +156,13 @@ fn parts_that_differ(rt: HostRuntime) -> Result<(), Fail> {
     describe(alloc, &mut found, &apart)?;
     tell(alloc, &mut found, &lt(3).xor(lt(5)).and(never()), &4)?;
     tell(alloc, &mut found, &never().or(lt(3).xor(lt(5))), &4)?;
+    Ok(found)
+}
+
+#[test]
+fn parts_that_differ(rt: HostRuntime) -> Result<(), Fail> {
     assert_eq!(rt;
-        found.as_str(),
+        told_of_xor(rt.alloc())?.as_str(),
         "\
 (var < 3 ^ var < 5) = true
   left: var < 3 = false
