@@ -16,6 +16,11 @@ returns-clause-lines g c =
     c.in_ok-push_str-2.ensures.bytes ∙ ap (λ l. l ++ codes "  - var: ") ((rw c.deref-2.ensures at c.in_ok-push_str.ensures.bytes) ∙ ap (λ l. l ++ indent) (rw c.deref.ensures at c.in_ok-push_line.ensures)) in
     let ended : OnOk c.push_str-4.result (string_bytes c.push_str-4.new.self ≡ string_bytes c.push_str-3.new.self ++ codes "\n") = search rules in
     on_ok_weaker c.push_str-4.result
-    (λ e. record { text = text; fits = fits; shown = value; shown_fits = refl;
-    is = e ∙ ap (λ l. l ++ codes "\n") (c.in_ok-push_str-3.ensures.bytes ∙ ap (λ l. l ++ value) named) ∙ leaf_lines text c.args.verdict indent value old })
+    (λ e. record {
+      text = text;
+      fits = fits;
+      shown = value;
+      shown_fits = refl;
+      is = e ∙ ap (λ l. l ++ codes "\n") (c.in_ok-push_str-3.ensures.bytes ∙ ap (λ l. l ++ value) named) ∙ leaf_lines text c.args.verdict indent value old;
+    })
     ended
