@@ -139,6 +139,46 @@ fn compare_search(
     Ok(())
 }
 
+// The list, its case, and that there is none for the opposite.
+fn replay_listed(
+    alloc: Global,
+    wrong: &mut Vec<Difference>,
+    members: &Vec<i64>,
+    item: i64,
+    expected: Expected<'_>,
+    case: &str,
+) -> Result<()> {
+    let answers = ask(alloc, &in_iter(alloc, members.clone()?)?, &item)?;
+    compare_membership(alloc, wrong, &answers, members.as_slice(), expected)?;
+    compare_case(alloc, wrong, &answers, case)
+}
+
+// The sorted list, and its search.
+fn replay_sorted(
+    alloc: Global,
+    wrong: &mut Vec<Difference>,
+    members: &Vec<i64>,
+    item: i64,
+    expected: Expected<'_>,
+    most: &str,
+) -> Result<()> {
+    let sorted = in_iter(alloc, members.clone()?)?.sort()?;
+    let answers = ask(alloc, &sorted, &item)?;
+    compare_membership(alloc, wrong, &answers, members.as_slice(), expected)?;
+    compare_search(alloc, wrong, &sorted, item, expected.verdict, most)
+}
+
+fn replay_hashed(
+    alloc: Global,
+    wrong: &mut Vec<Difference>,
+    members: &Vec<i64>,
+    item: i64,
+    expected: Expected<'_>,
+) -> Result<()> {
+    let answers = ask(alloc, &in_hash(alloc, members.clone()?)?, &item)?;
+    compare_membership(alloc, wrong, &answers, members.as_slice(), expected)
+}
+
 impl Table for MembershipTable {
     fn replay(&self, alloc: Global, row: &str, wrong: &mut Vec<Difference>) -> Result<()> {
         let cells = cells(alloc, row)?;
@@ -159,18 +199,11 @@ impl Table for MembershipTable {
         };
         let item = item.parse::<i64>().context("no number")?;
         let members = read_members(alloc, members)?;
-        let all = in_iter(alloc, members.clone()?)?;
-        let answers = ask(alloc, &all, &item)?;
         let expected = Expected::new("in_iter", listed, listed_values, OF_LIST);
-        compare_membership(alloc, wrong, &answers, members.as_slice(), expected)?;
-        compare_case(alloc, wrong, &answers, case)?;
-        let all = all.sort()?;
-        let answers = ask(alloc, &all, &item)?;
+        replay_listed(alloc, wrong, &members, item, expected, case)?;
         let expected = Expected::new("sorted", sorted, sorted_values, OF_LIST);
-        compare_membership(alloc, wrong, &answers, members.as_slice(), expected)?;
-        compare_search(alloc, wrong, &all, item, sorted, most)?;
-        let answers = ask(alloc, &in_hash(alloc, members.clone()?)?, &item)?;
+        replay_sorted(alloc, wrong, &members, item, expected, most)?;
         let expected = Expected::new("in_hash", hashed, hashed_values, OF_SET);
-        compare_membership(alloc, wrong, &answers, members.as_slice(), expected)
+        replay_hashed(alloc, wrong, &members, item, expected)
     }
 }

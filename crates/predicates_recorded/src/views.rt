@@ -44,6 +44,64 @@ pub struct TextPairs;
 // The greatest number of characters of which every choice of places is tried.
 const SHORT: usize = 7;
 
+// The three tests of parts, with their cells.
+fn compare_parts(
+    alloc: Global,
+    wrong: &mut Vec<Difference>,
+    pattern: &String,
+    item: &String,
+    cells: [&str; 3],
+) -> Result<()> {
+    let [starts, ends, contained] = cells;
+    let found = answer(alloc, starts_with(pattern.clone()?), item)?;
+    compare(alloc, wrong, "starts", starts, found.as_str())?;
+    let found = answer(alloc, ends_with(pattern.clone()?), item)?;
+    compare(alloc, wrong, "ends", ends, found.as_str())?;
+    let found = answer(alloc, contains(pattern.clone()?), item)?;
+    compare(alloc, wrong, "contains", contained, found.as_str())
+}
+
+// The count, and what is answered where it is asked for, and for one more.
+fn compare_counts(
+    alloc: Global,
+    wrong: &mut Vec<Difference>,
+    pattern: &String,
+    item: &String,
+    expected: &str,
+) -> Result<()> {
+    let found = count(item.as_str(), pattern.as_str()).to_string(alloc)?;
+    compare(alloc, wrong, "count", expected, found.as_str())?;
+    let number = expected.parse::<usize>().context("no number")?;
+    let found = answer(alloc, contains(pattern.clone()?).count(number), item)?;
+    compare(alloc, wrong, "counted", "true", found.as_str())?;
+    let other = number.saturating_add(1);
+    let found = answer(alloc, contains(pattern.clone()?).count(other), item)?;
+    compare(alloc, wrong, "counted as one more", "false", found.as_str())
+}
+
+// The greatest number of disjoint places among all choices, where the item is short.
+fn compare_choices(
+    alloc: Global,
+    wrong: &mut Vec<Difference>,
+    pattern: &String,
+    item: &String,
+    expected: &str,
+) -> Result<()> {
+    let item = characters(alloc, item.as_str())?;
+    if item.len() > SHORT {
+        return Ok(());
+    }
+    let pattern = characters(alloc, pattern.as_str())?;
+    let found = greatest_choice(pattern.as_slice(), item.as_slice()).to_string(alloc)?;
+    compare(
+        alloc,
+        wrong,
+        "greatest choice of places",
+        expected,
+        found.as_str(),
+    )
+}
+
 impl Table for TextPairs {
     fn replay(&self, alloc: Global, row: &str, wrong: &mut Vec<Difference>) -> Result<()> {
         let cells = cells(alloc, row)?;
@@ -52,33 +110,9 @@ impl Table for TextPairs {
         };
         let pattern = text(alloc, pattern)?;
         let item = text(alloc, item)?;
-        let found = answer(alloc, starts_with(pattern.clone()?), &item)?;
-        compare(alloc, wrong, "starts", starts, found.as_str())?;
-        let found = answer(alloc, ends_with(pattern.clone()?), &item)?;
-        compare(alloc, wrong, "ends", ends, found.as_str())?;
-        let found = answer(alloc, contains(pattern.clone()?), &item)?;
-        compare(alloc, wrong, "contains", contained, found.as_str())?;
-        let found = count(item.as_str(), pattern.as_str()).to_string(alloc)?;
-        compare(alloc, wrong, "count", expected_count, found.as_str())?;
-        let number = expected_count.parse::<usize>().context("no number")?;
-        let found = answer(alloc, contains(pattern.clone()?).count(number), &item)?;
-        compare(alloc, wrong, "counted", "true", found.as_str())?;
-        let other = number.saturating_add(1);
-        let found = answer(alloc, contains(pattern.clone()?).count(other), &item)?;
-        compare(alloc, wrong, "counted as one more", "false", found.as_str())?;
-        let item = characters(alloc, item.as_str())?;
-        if item.len() <= SHORT {
-            let pattern = characters(alloc, pattern.as_str())?;
-            let found = greatest_choice(pattern.as_slice(), item.as_slice()).to_string(alloc)?;
-            compare(
-                alloc,
-                wrong,
-                "greatest choice of places",
-                expected_count,
-                found.as_str(),
-            )?;
-        }
-        Ok(())
+        compare_parts(alloc, wrong, &pattern, &item, [starts, ends, contained])?;
+        compare_counts(alloc, wrong, &pattern, &item, expected_count)?;
+        compare_choices(alloc, wrong, &pattern, &item, expected_count)
     }
 }
 
