@@ -36,31 +36,39 @@ fn sizes(alloc: Global, case: &Case) -> Result<Vec<usize>, AllocError> {
     Ok(sizes)
 }
 
-// The case of `always().and(always()).or(always())` for true, and then with another child.
+// The case of `always().and(always()).or(always())` for true.
+fn both_of_three(alloc: Global) -> Result<Case, AllocError> {
+    let text = String::from_str(alloc, "(true && true)")?;
+    let left = node(alloc, "true")?;
+    let both = over_both(alloc, text, true, left, node(alloc, "true")?)?;
+    let text = String::from_str(alloc, "((true && true) || true)")?;
+    over_found(alloc, text, true, Some(both), None)
+}
+
+// The same with another child.
+fn with_a_third(alloc: Global) -> Result<Case, AllocError> {
+    both_of_three(alloc)?.add_child("right", node(alloc, "true")?)
+}
+
+// The same under a name.
+fn under_a_name(alloc: Global) -> Result<Case, AllocError> {
+    node(alloc, "name")?.add_child("name", with_a_third(alloc)?)
+}
+
+// The sizes in the list of a case, which ends here.
+fn sizes_of(alloc: Global, case: Result<Case, AllocError>) -> Result<Vec<usize>, AllocError> {
+    let case = case?;
+    sizes(alloc, &case)
+}
+
 #[test]
 fn sizes_in_the_list(rt: HostRuntime) -> Result<(), Fail> {
     let alloc = rt.alloc();
-    let text = String::from_str(alloc, "(true && true)")?;
-    let both = over_both(
-        alloc,
-        text,
-        true,
-        node(alloc, "true")?,
-        node(alloc, "true")?,
-    )?;
-    let text = String::from_str(alloc, "((true && true) || true)")?;
-    let case = over_found(alloc, text, true, Some(both), None)?;
-    assert_eq!(rt; sizes(alloc, &case)?.as_slice(), [4, 3, 1, 1].as_slice());
-    assert_eq!(rt; case.root().children().count(), 1);
-    for child in case.root().children() {
-        assert_eq!(rt; child.case.children().count(), 2);
-    }
-    let case = case.add_child("right", node(alloc, "true")?)?;
-    assert_eq!(rt; sizes(alloc, &case)?.as_slice(), [5, 3, 1, 1, 1].as_slice());
-    let case = node(alloc, "name")?.add_child("name", case)?;
-    assert_eq!(rt;
-        sizes(alloc, &case)?.as_slice(),
-        [6, 5, 3, 1, 1, 1].as_slice()
-    );
+    let told = sizes_of(alloc, both_of_three(alloc))?;
+    assert_eq!(rt; told.as_slice(), [4, 3, 1, 1].as_slice());
+    let told = sizes_of(alloc, with_a_third(alloc))?;
+    assert_eq!(rt; told.as_slice(), [5, 3, 1, 1, 1].as_slice());
+    let told = sizes_of(alloc, under_a_name(alloc))?;
+    assert_eq!(rt; told.as_slice(), [6, 5, 3, 1, 1, 1].as_slice());
     Ok(())
 }

@@ -64,14 +64,28 @@ fn fill(rt: &HostRuntime, folder: &str) -> io::Result<()> {
     symlink(rt, "nothing", format!(in alloc; "{folder}/to_nothing")?)
 }
 
+fn take_at(rt: &HostRuntime, folder: &str, name: &str) -> io::Result<Snapshot> {
+    let path = format!(in rt.alloc(); "{folder}/{name}")?;
+    Ok(Snapshot::take(rt, path.as_str())?)
+}
+
 fn take_each(rt: &HostRuntime, folder: &str) -> io::Result<Vec<Snapshot>> {
     fill(rt, folder)?;
     let mut taken = Vec::new(rt.alloc());
     for (name, _) in ROWS {
-        let path = format!(in rt.alloc(); "{folder}/{name}")?;
-        taken.push(Snapshot::take(rt, path.as_str())?)?;
+        taken.push(take_at(rt, folder, name)?)?;
     }
     Ok(taken)
+}
+
+// Whether a snapshot of the name in the folder has these parts.
+fn is_of(snapshot: &Snapshot, folder: &str, name: &str, parts: Parts) -> bool {
+    let (plain, followed, content) = parts;
+    let below = snapshot.path().strip_prefix(folder).unwrap_or("");
+    below.strip_prefix("/") == Some(name)
+        && snapshot.plain() == plain
+        && snapshot.followed() == followed
+        && snapshot.content() == content
 }
 
 #[test]
@@ -81,12 +95,8 @@ fn what_stands_in_a_folder(rt: HostRuntime) -> Result<(), Fail> {
     fs::remove_dir_all(&rt, folder.as_str())?;
     let taken = taken?;
     assert_eq!(rt; taken.len(), ROWS.len());
-    for (snapshot, (name, (plain, followed, content))) in taken.iter().zip(ROWS) {
-        let path = format!(in rt.alloc(); "{folder}/{name}")?;
-        assert_eq!(rt; snapshot.path(), path.as_str());
-        assert_eq!(rt; snapshot.plain(), plain, "at {name}");
-        assert_eq!(rt; snapshot.followed(), followed, "at {name}");
-        assert_eq!(rt; snapshot.content(), content, "at {name}");
+    for (snapshot, (name, parts)) in taken.iter().zip(ROWS) {
+        assert!(rt; is_of(snapshot, folder.as_str(), name, parts), "at {name}");
     }
     Ok(())
 }
@@ -131,19 +141,25 @@ fn a_device(rt: HostRuntime) -> Result<(), Fail> {
     Ok(())
 }
 
-// A pipe stands behind a link of the system's. Reading it would wait, as nothing is written yet.
+// Whether a pipe that stands behind a link of the system's is taken, and its content is not.
+fn is_pipe(rt: &HostRuntime, path: &str) -> io::Result<bool> {
+    let pipe = Snapshot::take(rt, path)?;
+    Ok(
+        pipe.plain() == Ok(Symlink)
+            && pipe.followed() == Ok(Other)
+            && pipe.content() == Err(NotRegular),
+    )
+}
+
+// Reading a pipe would wait, as nothing is written yet.
 #[test]
 fn a_pipe_left_unread(rt: HostRuntime) -> Result<(), Fail> {
     let (mut reader, mut writer) = io::pipe(&rt)?;
     let number = reader.as_raw_fd();
     let path = format!(in rt.alloc(); "/proc/self/fd/{number}")?;
-    let pipe = Snapshot::take(&rt, path.as_str())?;
-    assert_eq!(rt; pipe.plain(), Ok(Symlink));
-    assert_eq!(rt; pipe.followed(), Ok(Other));
-    assert_eq!(rt; pipe.content(), Err(NotRegular));
+    assert!(rt; is_pipe(&rt, path.as_str())?);
     writer.write_all(b"a")?;
-    let pipe = Snapshot::take(&rt, path.as_str())?;
-    assert_eq!(rt; pipe.content(), Err(NotRegular));
+    assert!(rt; is_pipe(&rt, path.as_str())?);
     let mut byte = [0];
     assert_eq!(rt; reader.read(&mut byte)?, 1);
     assert_eq!(rt; byte, *b"a");

@@ -4,8 +4,8 @@ use predicates_core::reflection::{PredicateReflection, render};
 use predicates_path::FileType::{Dir, File, Other, Symlink};
 use predicates_path::PathFault::{NotFound, NotRegular, PermissionDenied};
 use predicates_path::{
-    FileType, FileTypePredicate, PathFault, PredicateFileContentExt, Snapshot, eq_file, exists,
-    is_dir, is_file, is_symlink, missing,
+    BinaryFilePredicate, FileType, FileTypePredicate, PathFault, PredicateFileContentExt, Snapshot,
+    StrFilePredicate, eq_file, exists, is_dir, is_file, is_symlink, missing,
 };
 use std::alloc::{AllocError, Global};
 use std::fmt;
@@ -51,19 +51,22 @@ fn check<P: Predicate<Item>, Item>(
     Ok(())
 }
 
-// The one parameter is this.
+// Whether the one parameter is this, and nothing stands below.
 fn has_parameter<P: PredicateReflection>(
-    rt: &(impl Abort + AllocGlobal),
+    alloc: Global,
     predicate: &P,
     name: &str,
     value: &str,
-) -> Result<(), Fail> {
-    let parameters = predicate.parameters(rt.alloc())?;
-    assert_eq!(rt; parameters.len(), 1);
-    assert_eq!(rt; parameters[0].name(), name);
-    assert_eq!(rt; parameters[0].value(), value);
-    assert_eq!(rt; predicate.children(rt.alloc())?.len(), 0);
-    Ok(())
+) -> Result<bool, AllocError> {
+    let parameters = predicate.parameters(alloc)?;
+    match parameters.as_slice() {
+        [parameter] => Ok(
+            parameter.name() == name
+                && parameter.value() == value
+                && predicate.children(alloc)?.is_empty(),
+        ),
+        _ => Ok(false),
+    }
 }
 
 // A value of a type that is copied, compared and shown, as the table of types has it.
@@ -79,6 +82,25 @@ fn is_shown<T: fmt::Debug + Eq>(alloc: Global, value: &T) -> Result<bool, AllocE
     Ok(value == value && !shown.is_empty())
 }
 
+// What is equal to these bytes.
+fn same_bytes(alloc: Global, bytes: &[u8]) -> Result<BinaryFilePredicate, Fail> {
+    Ok(eq_file(file(alloc, bytes)?)?)
+}
+
+fn same_text(alloc: Global, bytes: &[u8]) -> Result<StrFilePredicate, Fail> {
+    Ok(same_bytes(alloc, bytes)?.utf8().ok_or("no text")?)
+}
+
+fn bytes_differ(alloc: Global) -> Result<bool, Fail> {
+    let same = same_bytes(alloc, b"a")?;
+    Ok(is_shown(alloc, &same)? && same != same_bytes(alloc, b"b")?)
+}
+
+fn texts_differ(alloc: Global) -> Result<bool, Fail> {
+    let same = same_text(alloc, b"a")?;
+    Ok(is_shown(alloc, &same)? && same != same_text(alloc, b"b")?)
+}
+
 #[test]
 fn derives(rt: HostRuntime) -> Result<(), Fail> {
     let alloc = rt.alloc();
@@ -86,13 +108,9 @@ fn derives(rt: HostRuntime) -> Result<(), Fail> {
     assert!(rt; is_kept(alloc, is_file())?);
     assert!(rt; is_kept(alloc, Symlink)?);
     assert!(rt; is_kept(alloc, NotRegular)?);
-    let same = eq_file(file(alloc, b"a")?)?;
-    assert!(rt; is_shown(alloc, &same)?);
-    assert!(rt; same != eq_file(file(alloc, b"b")?)?);
-    let same = same.utf8().ok_or("no text")?;
-    assert!(rt; is_shown(alloc, &same)?);
-    assert!(rt; same != eq_file(file(alloc, b"b")?)?.utf8().ok_or("no text")?);
-    assert!(rt; is_shown(alloc, &eq_file(file(alloc, b"a")?)?.from_file_path())?);
+    assert!(rt; bytes_differ(alloc)?);
+    assert!(rt; texts_differ(alloc)?);
+    assert!(rt; is_shown(alloc, &same_bytes(alloc, b"a")?.from_file_path())?);
     assert!(rt; exists() != missing() && is_file() != is_file().follow_links(true));
     Ok(())
 }
@@ -120,22 +138,51 @@ fn nothing_at(alloc: Global, text: &str) -> Result<Snapshot, AllocError> {
     Ok(Snapshot::from_parts(path, Err(NotFound), Err(NotFound), gone))
 }
 
+// Whether the predicate answers the verdict, and has a case of it alone, which prints this.
+fn tells<P: Predicate<Item>, Item>(
+    alloc: Global,
+    predicate: &P,
+    item: &Item,
+    verdict: bool,
+    lines: &str,
+) -> Result<bool, AllocError>
+    requires { P.lawful predicate.now }
+{
+    match predicate.find_case(alloc, verdict, item)? {
+        Some(case) => Ok(
+            render(alloc, &case)?.as_str() == lines
+                && predicate.eval(alloc, item)? == verdict
+                && predicate.find_case(alloc, !verdict, item)?.is_none(),
+        ),
+        None => Ok(false),
+    }
+}
+
+fn tells_existence(alloc: Global, item: &Snapshot, verdict: bool) -> Result<bool, AllocError> {
+    let path = item.path();
+    let lines = format!(in alloc; "exists(var) = {verdict}\n  - var: {path}\n")?;
+    tells(alloc, &exists(), item, verdict, lines.as_str())
+}
+
+// Whether the file at `p`, which is empty, is handed on and compared.
+fn tells_content(alloc: Global, item: &Snapshot, verdict: bool, more: &str) -> Result<bool, Fail> {
+    let none = same_bytes(alloc, b"")?.from_file_path();
+    let path = item.path();
+    let lines = format!(in alloc; "var is p = {verdict}\n  - var: {path}\n{more}")?;
+    Ok(tells(alloc, &none, item, verdict, lines.as_str())?)
+}
+
 // A path and a content of this many bytes: they are there or not, and are handed on.
-fn sized(rt: &(impl Abort + AllocGlobal), length: usize) -> Result<(), Fail> {
-    let alloc = rt.alloc();
+fn sized(alloc: Global, length: usize) -> Result<bool, Fail> {
     let text = repeated(alloc, length)?;
     let there = file_of(alloc, text.as_str())?;
     let gone = nothing_at(alloc, text.as_str())?;
-    let lines = format!(in alloc; "exists(var) = true\n  - var: {text}\n")?;
-    check(rt, &exists(), &there, true, lines.as_str())?;
-    let lines = format!(in alloc; "exists(var) = false\n  - var: {text}\n")?;
-    check(rt, &exists(), &gone, false, lines.as_str())?;
-    let none = eq_file(file(alloc, b"")?)?.from_file_path();
-    let verdict = length == 0;
-    let lines = format!(in alloc; "var is p = {verdict}\n  - var: {text}\n")?;
-    check(rt, &none, &there, verdict, lines.as_str())?;
-    let lines = format!(in alloc; "var is p = false\n  - var: {text}\n  - error: not found\n")?;
-    check(rt, &none, &gone, false, lines.as_str())
+    Ok(
+        tells_existence(alloc, &there, true)?
+            && tells_existence(alloc, &gone, false)?
+            && tells_content(alloc, &there, length == 0, "")?
+            && tells_content(alloc, &gone, false, "  - error: not found\n")?,
+    )
 }
 
 // The debug form of so many bytes `a`.
@@ -148,36 +195,78 @@ fn listed(alloc: Global, length: usize) -> Result<String, AllocError> {
     Ok(text)
 }
 
-// A file of this many bytes, beside bytes, a text and files.
-fn sized_equality(rt: &(impl Abort + AllocGlobal), length: usize) -> Result<(), Fail> {
-    let alloc = rt.alloc();
-    let text = repeated(alloc, length)?;
-    let there = file_of(alloc, text.as_str())?;
-    let gone = nothing_at(alloc, text.as_str())?;
-    let same = eq_file(file_of(alloc, text.as_str())?)?;
-    let holds = format!(in alloc; "var is {text} = true\n")?;
-    let fails = format!(in alloc; "var is {text} = false\n")?;
+// Whether it tells that the item is the text, or is not.
+fn tells_equality<P: Predicate<Item>, Item>(
+    alloc: Global,
+    predicate: &P,
+    item: &Item,
+    text: &str,
+    verdict: bool,
+) -> Result<bool, AllocError>
+    requires { P.lawful predicate.now }
+{
+    let lines = format!(in alloc; "var is {text} = {verdict}\n")?;
+    tells(alloc, predicate, item, verdict, lines.as_str())
+}
+
+// The text as a file beside its bytes, and beside one more.
+fn equals_bytes(alloc: Global, text: &str) -> Result<bool, Fail> {
+    let same = eq_file(file_of(alloc, text)?)?;
     let mut bytes = Vec::from_slice(alloc, text.as_bytes())?;
-    check(rt, &same, &bytes, true, holds.as_str())?;
+    let holds = tells_equality(alloc, &same, &bytes, text, true)?;
     bytes.push(0)?;
-    check(rt, &same, &bytes, false, fails.as_str())?;
-    check(rt, &same, &there, true, holds.as_str())?;
-    check(rt, &same, &gone, false, fails.as_str())?;
-    has_parameter(rt, &same, "content", listed(alloc, length)?.as_str())?;
-    let same = same.utf8().ok_or("no text")?;
-    check(rt, &same, &text, true, holds.as_str())?;
+    Ok(holds && tells_equality(alloc, &same, &bytes, text, false)?)
+}
+
+// The text as a file beside the text, and beside one more character.
+fn equals_text(alloc: Global, text: &str) -> Result<bool, Fail> {
+    let same = eq_file(file_of(alloc, text)?)?.utf8().ok_or("no text")?;
+    let item = String::from_str(alloc, text)?;
     let longer = format!(in alloc; "{text}a")?;
-    check(rt, &same, &longer, false, fails.as_str())?;
-    check(rt, &same, &there, true, holds.as_str())?;
-    check(rt, &same, &gone, false, fails.as_str())?;
-    has_parameter(rt, &same, "content", text.as_str())
+    Ok(
+        tells_equality(alloc, &same, &item, text, true)?
+            && tells_equality(alloc, &same, &longer, text, false)?,
+    )
+}
+
+// The predicate beside the text as a file, and beside a path where nothing stands.
+fn equals_file<P: Predicate<Snapshot>>(
+    alloc: Global,
+    predicate: &P,
+    text: &str,
+) -> Result<bool, AllocError>
+    requires { P.lawful predicate.now }
+{
+    Ok(
+        tells_equality(alloc, predicate, &file_of(alloc, text)?, text, true)?
+            && tells_equality(alloc, predicate, &nothing_at(alloc, text)?, text, false)?,
+    )
+}
+
+// Two predicates that compare with a file of this many bytes beside files, and their content.
+fn sized_files(alloc: Global, length: usize) -> Result<bool, Fail> {
+    let text = repeated(alloc, length)?;
+    let bytes = eq_file(file_of(alloc, text.as_str())?)?;
+    let listed = listed(alloc, length)?;
+    let holds = equals_file(alloc, &bytes, text.as_str())?
+        && has_parameter(alloc, &bytes, "content", listed.as_str())?;
+    let texts = bytes.utf8().ok_or("no text")?;
+    Ok(
+        holds
+            && equals_file(alloc, &texts, text.as_str())?
+            && has_parameter(alloc, &texts, "content", text.as_str())?,
+    )
 }
 
 #[test]
 fn operands_of_any_size(rt: HostRuntime) -> Result<(), Fail> {
+    let alloc = rt.alloc();
     for length in [0, 1, 300, 70_000] {
-        sized(&rt, length)?;
-        sized_equality(&rt, length)?;
+        let text = repeated(alloc, length)?;
+        assert!(rt; sized(alloc, length)?, "{length}");
+        assert!(rt; equals_bytes(alloc, text.as_str())?, "{length}");
+        assert!(rt; equals_text(alloc, text.as_str())?, "{length}");
+        assert!(rt; sized_files(alloc, length)?, "{length}");
     }
     Ok(())
 }
@@ -245,7 +334,8 @@ fn kinds(rt: HostRuntime) -> Result<(), Fail> {
     check(&rt, &is_symlink(), &broken, true, lines)?;
     let lines = "var is symlink = false\n  - error: not found\n";
     check(&rt, &is_symlink().follow_links(true), &broken, false, lines)?;
-    has_parameter(&rt, &is_file(), "follow", "false")
+    assert!(rt; has_parameter(rt.alloc(), &is_file(), "follow", "false")?);
+    Ok(())
 }
 
 #[test]
@@ -255,7 +345,7 @@ fn kind_of_a_path(rt: HostRuntime) -> Result<(), Fail> {
     let other = FileTypePredicate::from_path(&device)?;
     let lines = "var is other = true\n  - actual filetype: other\n";
     check(&rt, &other, &device, true, lines)?;
-    has_parameter(&rt, &other, "follow", "true")?;
+    assert!(rt; has_parameter(rt.alloc(), &other, "follow", "true")?);
     assert_eq!(rt; FileTypePredicate::from_path(&broken), Err(NotFound));
     Ok(())
 }
@@ -272,7 +362,7 @@ fn equality(rt: HostRuntime) -> Result<(), Fail> {
     check(&rt, &same, &file(alloc, b"a")?, true, "var is p = true\n")?;
     check(&rt, &same, &file(alloc, b"b")?, false, "var is p = false\n")?;
     check(&rt, &same, &folder, false, "var is p = false\n")?;
-    has_parameter(&rt, &same, "content", "[97]")?;
+    assert!(rt; has_parameter(alloc, &same, "content", "[97]")?);
     assert_eq!(rt; eq_file(folder), Err(NotRegular));
     Ok(())
 }
@@ -295,32 +385,61 @@ fn text_equality(rt: HostRuntime) -> Result<(), Fail> {
         false,
         "var is p = false\n",
     )?;
-    has_parameter(&rt, &same, "content", "a")
+    assert!(rt; has_parameter(alloc, &same, "content", "a")?);
+    Ok(())
 }
+
+// The lines of the case of a fault, where a file at `p` is compared.
+fn tells_fault(alloc: Global, fault: PathFault, told: &str) -> Result<bool, Fail> {
+    let same = same_bytes(alloc, b"a")?.from_file_path();
+    let refused = snapshot(alloc, Ok(File), Ok(File), Err(fault))?;
+    let lines = format!(in alloc; "var is p = false\n  - var: p\n  - error: {told}\n")?;
+    Ok(tells(alloc, &same, &refused, false, lines.as_str())?)
+}
+
+// What it tells of itself: how many parameters it has, and its child's name, text and parameters.
+fn told_of_content(alloc: Global) -> Result<String, Fail> {
+    let same = same_bytes(alloc, b"a")?.from_file_path();
+    let count = same.parameters(alloc)?.len();
+    let mut told = format!(in alloc; "{count}")?;
+    for child in &same.children(alloc)? {
+        let (name, text) = (child.name(), child.text());
+        let count = child.parameters().len();
+        told = format!(in alloc; "{told}, {name}: {text} {count}")?;
+    }
+    Ok(told)
+}
+
+const FAULTS: [(PathFault, &str); 4] = [
+    (NotFound, "not found"),
+    (PermissionDenied, "permission denied"),
+    (NotRegular, "not a regular file"),
+    (PathFault::Other, "other fault"),
+];
 
 #[test]
 fn content(rt: HostRuntime) -> Result<(), Fail> {
     let alloc = rt.alloc();
-    let same = eq_file(file(alloc, b"a")?)?.from_file_path();
+    let same = same_bytes(alloc, b"a")?.from_file_path();
     let lines = "var is p = true\n  - var: p\n";
     check(&rt, &same, &file(alloc, b"a")?, true, lines)?;
     let lines = "var is p = false\n  - var: p\n";
-    check(&rt, &same, &file(alloc, b"b")?, false, lines)?;
-    for (fault, told) in [
-        (NotFound, "not found"),
-        (PermissionDenied, "permission denied"),
-        (NotRegular, "not a regular file"),
-        (PathFault::Other, "other fault"),
-    ] {
-        let refused = snapshot(alloc, Ok(File), Ok(File), Err(fault))?;
-        let lines = format!(in alloc; "var is p = false\n  - var: p\n  - error: {told}\n")?;
-        check(&rt, &same, &refused, false, lines.as_str())?;
+    check(&rt, &same, &file(alloc, b"b")?, false, lines)
+}
+
+#[test]
+fn no_content(rt: HostRuntime) -> Result<(), Fail> {
+    for (fault, told) in FAULTS {
+        assert!(rt; tells_fault(rt.alloc(), fault, told)?, "{told}");
     }
-    assert_eq!(rt; same.parameters(alloc)?.len(), 0);
-    let children = same.children(alloc)?;
-    assert_eq!(rt; children.len(), 1);
-    assert_eq!(rt; children[0].name(), "predicate");
-    assert_eq!(rt; children[0].text(), "var is p");
-    assert_eq!(rt; children[0].parameters().len(), 1);
+    Ok(())
+}
+
+#[test]
+fn parts_of_content(rt: HostRuntime) -> Result<(), Fail> {
+    assert_eq!(rt;
+        told_of_content(rt.alloc())?.as_str(),
+        "0, predicate: var is p 1"
+    );
     Ok(())
 }

@@ -1,5 +1,7 @@
 //! What the tests of texts derive, at types that have it.
-use predicates_text::{PredicateStrExt, contains, ends_with, is_empty, starts_with};
+use predicates_text::{
+    ContainsPredicate, PredicateStrExt, contains, ends_with, is_empty, starts_with,
+};
 use std::alloc::{AllocError, Global};
 use std::fmt;
 use std::test::Fail;
@@ -11,11 +13,49 @@ fn is_kept<T: fmt::Debug + Copy + Eq>(alloc: Global, value: T) -> Result<bool, A
     Ok(copied == value && value.clone()? == copied && !shown.is_empty())
 }
 
-// Two values of a type that is compared and shown, which differ.
-fn differ<T: fmt::Debug + Eq>(alloc: Global, left: &T, right: &T) -> Result<bool, AllocError> {
+// Two values of a type that is compared and shown, which differ, and end here.
+fn differ<T: fmt::Debug + Eq + Drop>(alloc: Global, left: T, right: T) -> Result<bool, AllocError> {
     let left_shown = format!(in alloc; "{left:?}")?;
     let right_shown = format!(in alloc; "{right:?}")?;
     Ok(left == left && left != right && left_shown != right_shown)
+}
+
+fn part(alloc: Global, pattern: &str) -> Result<ContainsPredicate, AllocError> {
+    Ok(contains(String::from_str(alloc, pattern)?))
+}
+
+fn fronts_differ(alloc: Global) -> Result<bool, AllocError> {
+    let a = starts_with(String::from_str(alloc, "a")?);
+    differ(alloc, a, starts_with(String::from_str(alloc, "b")?))
+}
+
+fn backs_differ(alloc: Global) -> Result<bool, AllocError> {
+    let a = ends_with(String::from_str(alloc, "a")?);
+    differ(alloc, a, ends_with(String::from_str(alloc, "b")?))
+}
+
+fn parts_differ(alloc: Global) -> Result<bool, AllocError> {
+    differ(alloc, part(alloc, "a")?, part(alloc, "b")?)
+}
+
+fn counts_differ(alloc: Global) -> Result<bool, AllocError> {
+    let once = part(alloc, "a")?.count(1);
+    differ(alloc, once, part(alloc, "a")?.count(2))
+}
+
+fn trimmed_differ(alloc: Global) -> Result<bool, AllocError> {
+    let a = part(alloc, "a")?.trim();
+    differ(alloc, a, part(alloc, "b")?.trim())
+}
+
+fn even_differ(alloc: Global) -> Result<bool, AllocError> {
+    let a = part(alloc, "a")?.normalize();
+    differ(alloc, a, part(alloc, "b")?.normalize())
+}
+
+fn decoded_differ(alloc: Global) -> Result<bool, AllocError> {
+    let a = part(alloc, "a")?.from_utf8();
+    differ(alloc, a, part(alloc, "b")?.from_utf8())
 }
 
 #[test]
@@ -31,24 +71,12 @@ fn copied(rt: HostRuntime) -> Result<(), Fail> {
 #[test]
 fn compared(rt: HostRuntime) -> Result<(), Fail> {
     let alloc = rt.alloc();
-    let a = String::from_str(alloc, "a")?;
-    let b = String::from_str(alloc, "b")?;
-    let starts = (starts_with(a.clone()?), starts_with(b.clone()?));
-    assert!(rt; differ(alloc, &starts.0, &starts.1)?);
-    let ends = (ends_with(a.clone()?), ends_with(b.clone()?));
-    assert!(rt; differ(alloc, &ends.0, &ends.1)?);
-    let parts = (contains(a.clone()?), contains(b.clone()?));
-    assert!(rt; differ(alloc, &parts.0, &parts.1)?);
-    let counted = (contains(a.clone()?).count(1), contains(a.clone()?).count(2));
-    assert!(rt; differ(alloc, &counted.0, &counted.1)?);
-    let trimmed = (contains(a.clone()?).trim(), contains(b.clone()?).trim());
-    assert!(rt; differ(alloc, &trimmed.0, &trimmed.1)?);
-    let even = (
-        contains(a.clone()?).normalize(),
-        contains(b.clone()?).normalize(),
-    );
-    assert!(rt; differ(alloc, &even.0, &even.1)?);
-    let decoded = (contains(a).from_utf8(), contains(b).from_utf8());
-    assert!(rt; differ(alloc, &decoded.0, &decoded.1)?);
+    assert!(rt; fronts_differ(alloc)?);
+    assert!(rt; backs_differ(alloc)?);
+    assert!(rt; parts_differ(alloc)?);
+    assert!(rt; counts_differ(alloc)?);
+    assert!(rt; trimmed_differ(alloc)?);
+    assert!(rt; even_differ(alloc)?);
+    assert!(rt; decoded_differ(alloc)?);
     Ok(())
 }

@@ -74,40 +74,63 @@ fn counts(rt: HostRuntime) -> Result<(), Fail> {
     Ok(())
 }
 
+// The lines of both cases of the text `a b`, first that of false.
+fn cases_of<P: Predicate<String>>(alloc: Global, predicate: &P) -> Result<String, AllocError>
+    requires { P.lawful predicate.now }
+{
+    let item = String::from_str(alloc, "a b")?;
+    let mut lines = case_of(alloc, predicate, false, &item)?;
+    lines.push_str(case_of(alloc, predicate, true, &item)?.as_str())?;
+    Ok(lines)
+}
+
+fn cases_of_front(alloc: Global) -> Result<String, AllocError> {
+    cases_of(alloc, &starts_with(String::from_str(alloc, "a \"")?))
+}
+
+fn cases_of_back(alloc: Global) -> Result<String, AllocError> {
+    cases_of(alloc, &ends_with(String::from_str(alloc, " b")?))
+}
+
+fn cases_of_part(alloc: Global) -> Result<String, AllocError> {
+    cases_of(alloc, &contains(String::from_str(alloc, "a b")?))
+}
+
+// The cases of a count of two, and what it tells of itself.
+fn cases_of_count(alloc: Global) -> Result<String, AllocError> {
+    let twice = contains(String::from_str(alloc, "a b")?).count(2);
+    let mut lines = cases_of(alloc, &twice)?;
+    for parameter in &twice.parameters(alloc)? {
+        let (name, value) = (parameter.name(), parameter.value());
+        lines.push_str(format!(in alloc; ", {name} {value}")?.as_str())?;
+    }
+    if twice.children(alloc)?.is_empty() {
+        lines.push_str(", no children")?;
+    }
+    Ok(lines)
+}
+
 #[test]
 fn cases(rt: HostRuntime) -> Result<(), Fail> {
     let alloc = rt.alloc();
-    let item = String::from_str(alloc, "a b")?;
-    let starts = starts_with(String::from_str(alloc, "a \"")?);
-    let ends = ends_with(String::from_str(alloc, " b")?);
-    assert!(rt; is_empty().eval(alloc, &item)? == false && ends.eval(alloc, &item)?);
-    assert_eq!(rt;
-        case_of(alloc, &is_empty(), false, &item)?.as_str(),
-        "var.is_empty() = false\n  - var: a b\n"
+    assert!(rt;
+        cases_of(alloc, &is_empty())?.as_str() == "var.is_empty() = false\n  - var: a b\nnone"
     );
-    assert_eq!(rt;
-        case_of(alloc, &starts, false, &item)?.as_str(),
-        "var.starts_with(\"a \\\"\") = false\n  - var: a b\n"
+    assert!(rt;
+        cases_of_front(alloc)?.as_str() == "var.starts_with(\"a \\\"\") = false\n  - var: a b\nnone"
     );
-    assert_eq!(rt; case_of(alloc, &starts, true, &item)?.as_str(), "none");
-    assert_eq!(rt;
-        case_of(alloc, &ends, true, &item)?.as_str(),
-        "var.ends_with(\" b\") = true\n  - var: a b\n"
+    assert!(rt;
+        cases_of_back(alloc)?.as_str() == "nonevar.ends_with(\" b\") = true\n  - var: a b\n"
     );
-    let part = contains(String::from_str(alloc, "a b")?);
+    assert!(rt; cases_of_part(alloc)?.as_str() == "nonevar.contains(a b) = true\n  - var: a b\n");
     assert_eq!(rt;
-        case_of(alloc, &part, true, &item)?.as_str(),
-        "var.contains(a b) = true\n  - var: a b\n"
+        cases_of_count(alloc)?.as_str(),
+        "\
+var.contains(a b) = false
+  - var: a b
+  - actual count: 1
+none, count 2, no children"
     );
-    let twice = part.count(2);
-    assert_eq!(rt;
-        case_of(alloc, &twice, false, &item)?.as_str(),
-        "var.contains(a b) = false\n  - var: a b\n  - actual count: 1\n"
-    );
-    let parameters = twice.parameters(alloc)?;
-    assert!(rt; parameters.len() == 1 && parameters[0].name() == "count");
-    assert_eq!(rt; parameters[0].value(), "2");
-    assert!(rt; twice.children(alloc)?.is_empty());
     Ok(())
 }
 
@@ -139,79 +162,144 @@ fn views(rt: HostRuntime) -> Result<(), Fail> {
     Ok(())
 }
 
-#[test]
-fn trimmed_and_even_texts(rt: HostRuntime) -> Result<(), Fail> {
-    let alloc = rt.alloc();
+// The lines of both cases of the blank predicate on four spaces, and what stands below it.
+fn told_of_blank(alloc: Global) -> Result<String, AllocError> {
     let spaces = String::from_str(alloc, "    ")?;
     let blank = is_empty().trim();
-    assert!(rt; blank.eval(alloc, &spaces)?);
-    assert_eq!(rt;
-        case_of(alloc, &blank, true, &spaces)?.as_str(),
-        "var.is_empty() = true\n  - var: \n"
-    );
-    let children = blank.children(alloc)?;
-    assert!(rt; children.len() == 1 && children[0].name() == "predicate");
+    let mut lines = case_of(alloc, &blank, true, &spaces)?;
+    lines.push_str(case_of(alloc, &blank, false, &spaces)?.as_str())?;
+    for child in &blank.children(alloc)? {
+        lines.push_str(", over ")?;
+        lines.push_str(child.name())?;
+    }
+    Ok(lines)
+}
+
+fn blank_holds(alloc: Global, text: &str) -> Result<bool, AllocError> {
+    is_empty()
+        .trim()
+        .eval(alloc, &String::from_str(alloc, text)?)
+}
+
+// The verdict and the lines of its case, on whether a text ends in `a` and a line's end.
+fn told_of_end(alloc: Global, text: &str) -> Result<(bool, String), AllocError> {
+    let text = String::from_str(alloc, text)?;
     let lines = ends_with(String::from_str(alloc, "a\n")?).normalize();
-    let returns = String::from_str(alloc, "a\r")?;
-    assert!(rt; lines.eval(alloc, &returns)?);
-    assert_eq!(rt;
-        case_of(alloc, &lines, true, &returns)?.as_str(),
-        "var.ends_with(\"a\\n\") = true\n  - var: a\n\n"
+    let verdict = lines.eval(alloc, &text)?;
+    Ok((verdict, case_of(alloc, &lines, verdict, &text)?))
+}
+
+#[test]
+fn trimmed_texts(rt: HostRuntime) -> Result<(), Fail> {
+    let alloc = rt.alloc();
+    assert!(rt; blank_holds(alloc, "    ")? && !blank_holds(alloc, "a\n")?);
+    assert!(rt;
+        told_of_blank(alloc)?.as_str() == "var.is_empty() = true\n  - var: \nnone, over predicate"
     );
-    let even = String::from_str(alloc, "a\n")?;
-    assert!(rt; lines.eval(alloc, &even)? && !blank.eval(alloc, &even)?);
     Ok(())
 }
 
 #[test]
-fn decoded_bytes(rt: HostRuntime) -> Result<(), Fail> {
-    let alloc = rt.alloc();
-    let decoded = is_empty().trim().from_utf8();
-    let text = bytes_of(alloc, b"  a")?;
-    assert_eq!(rt;
-        case_of(alloc, &decoded, false, &text)?.as_str(),
-        "var.is_empty() = false\n  - var: a\n  - var as str:   a\n"
-    );
-    for bytes in [
-        b"\xc3".as_slice(),
-        b"\xc0\x80",
-        b"\xed\xa0\x80",
-        b"\xf4\x90\x80\x80",
-        b"a\xff",
-    ] {
-        let bytes = bytes_of(alloc, bytes)?;
-        assert!(rt; !decoded.eval(alloc, &bytes)?);
-        assert_eq!(rt;
-            case_of(alloc, &decoded, false, &bytes)?.as_str(),
-            "var.is_empty() = false\n  - error: Invalid UTF-8 string\n"
-        );
-        assert_eq!(rt; case_of(alloc, &decoded, true, &bytes)?.as_str(), "none");
+fn even_texts(rt: HostRuntime) -> Result<(), Fail> {
+    for text in ["a\r", "a\n"] {
+        let (verdict, lines) = told_of_end(rt.alloc(), text)?;
+        assert!(rt; verdict && lines.as_str() == "var.ends_with(\"a\\n\") = true\n  - var: a\n\n");
     }
     Ok(())
+}
+
+// The lines of both cases of a blank text in bytes, first that of false.
+fn cases_of_bytes(alloc: Global, bytes: &[u8]) -> Result<String, AllocError> {
+    let decoded = is_empty().trim().from_utf8();
+    let bytes = bytes_of(alloc, bytes)?;
+    let mut lines = case_of(alloc, &decoded, false, &bytes)?;
+    lines.push_str(case_of(alloc, &decoded, true, &bytes)?.as_str())?;
+    Ok(lines)
+}
+
+fn decoded_holds(alloc: Global, bytes: &[u8]) -> Result<bool, AllocError> {
+    is_empty()
+        .trim()
+        .from_utf8()
+        .eval(alloc, &bytes_of(alloc, bytes)?)
+}
+
+// Bytes that are no text.
+const UNREADABLE: [&[u8]; 5] = [
+    b"\xc3",
+    b"\xc0\x80",
+    b"\xed\xa0\x80",
+    b"\xf4\x90\x80\x80",
+    b"a\xff",
+];
+
+#[test]
+fn decoded_bytes(rt: HostRuntime) -> Result<(), Fail> {
+    let alloc = rt.alloc();
+    assert!(rt;
+        cases_of_bytes(alloc, b"  a")?.as_str()
+            == "var.is_empty() = false\n  - var: a\n  - var as str:   a\nnone"
+    );
+    for bytes in UNREADABLE {
+        assert!(rt; !decoded_holds(alloc, bytes)?);
+        assert!(rt;
+            cases_of_bytes(alloc, bytes)?.as_str()
+                == "var.is_empty() = false\n  - error: Invalid UTF-8 string\nnone"
+        );
+    }
+    Ok(())
+}
+
+// Whether the pattern has a match in the text.
+fn matches(alloc: Global, pattern: &str, text: &str) -> Result<bool, Fail> {
+    let found = is_match(alloc, String::from_str(alloc, pattern)?)?;
+    Ok(found.eval(alloc, &String::from_str(alloc, text)?)?)
+}
+
+// Whether the pattern has so many matches in the text.
+fn matches_often(alloc: Global, pattern: &str, count: usize, text: &str) -> Result<bool, Fail> {
+    let found = is_match(alloc, String::from_str(alloc, pattern)?)?;
+    Ok(
+        found
+            .count(count)
+            .eval(alloc, &String::from_str(alloc, text)?)?,
+    )
+}
+
+const NAMES: &str = "T[a-z]*";
+
+// The lines of the case for true of the names in three.
+fn case_of_names(alloc: Global) -> Result<String, Fail> {
+    let names = is_match(alloc, String::from_str(alloc, NAMES)?)?;
+    let item = String::from_str(alloc, "One Two Three")?;
+    Ok(case_of(alloc, &names, true, &item)?)
+}
+
+// The lines of the case for false of a count of three names, and its parameters.
+fn case_of_three_names(alloc: Global) -> Result<String, Fail> {
+    let thrice = is_match(alloc, String::from_str(alloc, NAMES)?)?.count(3);
+    let item = String::from_str(alloc, "One Two Three")?;
+    let mut lines = case_of(alloc, &thrice, false, &item)?;
+    for parameter in &thrice.parameters(alloc)? {
+        lines.push_str(parameter.value())?;
+    }
+    Ok(lines)
 }
 
 #[test]
 fn patterns(rt: HostRuntime) -> Result<(), Fail> {
     let alloc = rt.alloc();
-    let words = is_match(alloc, String::from_str(alloc, "T[a-z]*")?)?;
-    let item = String::from_str(alloc, "One Two Three")?;
-    assert!(rt; words.eval(alloc, &item)?);
-    assert_eq!(rt;
-        case_of(alloc, &words, true, &item)?.as_str(),
-        "var.is_match(T[a-z]*) = true\n  - var: One Two Three\n"
-    );
-    let thrice = words.count(3);
-    assert!(rt; !thrice.eval(alloc, &item)?);
-    assert_eq!(rt;
-        case_of(alloc, &thrice, false, &item)?.as_str(),
-        "var.is_match(T[a-z]*) = false\n  - var: One Two Three\n  - actual count: 2\n"
-    );
-    assert_eq!(rt; thrice.parameters(alloc)?[0].value(), "3");
+    assert!(rt; matches(alloc, NAMES, "One Two Three")?);
+    assert!(rt; !matches_often(alloc, NAMES, 3, "One Two Three")?);
+    assert!(rt; matches_often(alloc, "", 3, "äb")?);
     assert!(rt; is_match(alloc, String::from_str(alloc, "(")?).is_err());
-    let nothing = is_match(alloc, String::new(alloc))?.count(3);
-    assert!(rt; nothing.eval(alloc, &String::from_str(alloc, "äb")?)?);
-    let backtracks = is_match(alloc, String::from_str(alloc, "(a+)+$")?)?;
-    let many = String::from_str(alloc, "aaaaaaaaaaaaaaaaaaaaaaaaaaaaaaaaaaaaaaaab")?;
-    assert!(rt; !backtracks.eval(alloc, &many)?);
+    assert!(rt; !matches(alloc, "(a+)+$", "aaaaaaaaaaaaaaaaaaaaaaaaaaaaaaaaaaaaaaaab")?);
+    assert!(rt;
+        case_of_names(alloc)?.as_str() == "var.is_match(T[a-z]*) = true\n  - var: One Two Three\n"
+    );
+    assert!(rt;
+        case_of_three_names(alloc)?.as_str()
+            == "var.is_match(T[a-z]*) = false\n  - var: One Two Three\n  - actual count: 2\n3"
+    );
     Ok(())
 }
