@@ -1,6 +1,7 @@
 //! Texts and patterns of 0, 1, 300 and 70 000 bytes, under both verdicts.
+use super::case_of;
 use predicates_core::Predicate;
-use predicates_core::reflection::{PredicateReflection, render};
+use predicates_core::reflection::PredicateReflection;
 use predicates_text::{
     PredicateStrExt, contains, ends_with, is_empty, is_match, lines_even, starts_with, trimmed,
 };
@@ -16,21 +17,6 @@ fn repeat(alloc: Global, piece: &str, times: usize) -> Result<String, AllocError
         text.push_str(piece)?;
     }
     Ok(text)
-}
-
-// The lines of the case where it is expected, or `none`.
-fn case_of<P: Predicate<Item>, Item>(
-    alloc: Global,
-    predicate: &P,
-    expected: bool,
-    item: &Item,
-) -> Result<String, AllocError>
-    requires { P.lawful predicate.now }
-{
-    match predicate.find_case(alloc, expected, item)? {
-        Some(case) => render(alloc, &case),
-        None => String::from_str(alloc, "none"),
-    }
 }
 
 // The lines of the case of what it answers, the opposite's, and what it tells of itself.

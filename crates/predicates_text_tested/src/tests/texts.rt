@@ -1,26 +1,12 @@
+use super::case_of;
 use predicates_core::Predicate;
-use predicates_core::reflection::{PredicateReflection, render};
+use predicates_core::reflection::PredicateReflection;
 use predicates_text::{
     PredicateStrExt, contains, count, ends_with, is_empty, is_match, lines_even, places,
     starts_with, trimmed,
 };
 use std::alloc::{AllocError, Global};
 use std::test::Fail;
-
-// The lines of the case where it is expected, or `none`.
-fn case_of<P: Predicate<Item>, Item>(
-    alloc: Global,
-    predicate: &P,
-    expected: bool,
-    item: &Item,
-) -> Result<String, AllocError>
-    requires { P.lawful predicate.now }
-{
-    match predicate.find_case(alloc, expected, item)? {
-        Some(case) => render(alloc, &case),
-        None => String::from_str(alloc, "none"),
-    }
-}
 
 fn bytes_of(alloc: Global, bytes: &[u8]) -> Result<Vec<u8>, AllocError> {
     let mut all = Vec::new(alloc);
