@@ -31,7 +31,27 @@ fn file(alloc: Global, bytes: &[u8]) -> Result<Snapshot, AllocError> {
     snapshot(alloc, Ok(File), Ok(File), Ok(bytes))
 }
 
-// The predicate answers the verdict, and has a case of it alone.
+// Whether the predicate answers the verdict, and has a case of it alone, which prints this.
+fn tells<P: Predicate<Item>, Item>(
+    alloc: Global,
+    predicate: &P,
+    item: &Item,
+    verdict: bool,
+    lines: &str,
+) -> Result<bool, AllocError>
+    requires { P.lawful predicate.now }
+{
+    match predicate.find_case(alloc, verdict, item)? {
+        Some(case) => Ok(
+            render(alloc, &case)?.as_str() == lines
+                && predicate.eval(alloc, item)? == verdict
+                && predicate.find_case(alloc, !verdict, item)?.is_none(),
+        ),
+        None => Ok(false),
+    }
+}
+
+// The predicate tells this of the item.
 fn check<P: Predicate<Item>, Item>(
     rt: &(impl Abort + AllocGlobal),
     predicate: &P,
@@ -41,13 +61,8 @@ fn check<P: Predicate<Item>, Item>(
 ) -> Result<(), Fail>
     requires { P.lawful predicate.now }
 {
-    let alloc = rt.alloc();
-    assert_eq!(rt; predicate.eval(alloc, item)?, verdict, "{lines}");
-    assert!(rt; predicate.find_case(alloc, !verdict, item)?.is_none());
-    match predicate.find_case(alloc, verdict, item)? {
-        Some(case) => assert_eq!(rt; render(alloc, &case)?.as_str(), lines),
-        None => panic!(rt; "no case: {lines}"),
-    }
+    let told = tells(rt.alloc(), predicate, item, verdict, lines)?;
+    assert!(rt; told, "{lines}");
     Ok(())
 }
 
@@ -136,26 +151,6 @@ fn nothing_at(alloc: Global, text: &str) -> Result<Snapshot, AllocError> {
     let path = String::from_str(alloc, text)?;
     let gone = Err(NotFound);
     Ok(Snapshot::from_parts(path, Err(NotFound), Err(NotFound), gone))
-}
-
-// Whether the predicate answers the verdict, and has a case of it alone, which prints this.
-fn tells<P: Predicate<Item>, Item>(
-    alloc: Global,
-    predicate: &P,
-    item: &Item,
-    verdict: bool,
-    lines: &str,
-) -> Result<bool, AllocError>
-    requires { P.lawful predicate.now }
-{
-    match predicate.find_case(alloc, verdict, item)? {
-        Some(case) => Ok(
-            render(alloc, &case)?.as_str() == lines
-                && predicate.eval(alloc, item)? == verdict
-                && predicate.find_case(alloc, !verdict, item)?.is_none(),
-        ),
-        None => Ok(false),
-    }
 }
 
 fn tells_existence(alloc: Global, item: &Snapshot, verdict: bool) -> Result<bool, AllocError> {
