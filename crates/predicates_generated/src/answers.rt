@@ -42,12 +42,12 @@ pub fn verdict<P: Predicate<Item>, Item>(
 ) -> Result<Option<bool>, AllocError>
     requires { P.lawful predicate.now }
 {
-    let answers = ask(alloc, predicate, item)?;
-    Ok(match (answers.case_true, answers.case_false) {
-        (Some(case), None) if answers.verdict && case.root().result() => Some(true),
-        (None, Some(case)) if !answers.verdict && !case.root().result() => Some(false),
-        _ => None,
-    })
+    let verdict = predicate.eval(alloc, item)?;
+    let has_other = predicate.find_case(alloc, !verdict, item)?.is_some();
+    match predicate.find_case(alloc, verdict, item)? {
+        Some(case) if case.root().result() == verdict && !has_other => Ok(Some(verdict)),
+        _ => Ok(None),
+    }
 }
 
 impl Answers {

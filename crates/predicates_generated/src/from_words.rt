@@ -40,50 +40,39 @@ fn pop_combinator<W: Word>(words: &mut Vec<W>) -> Option<Combinator> {
     Some(found)
 }
 
-// Two predicates from the end of a list of words, the left one and the right one.
-fn two_from_words<P: FromWords<W, Item>, W: Word, Item>(
+// What a combinator of two makes of them; none where it takes one.
+fn joined<P: Predicate<Item> + Drop, Item>(
     alloc: Global,
-    words: &mut Vec<W>,
-) -> Result<Option<(P, P)>, AllocError> {
-    let Some(right) = P::from_words(alloc, words)? else {
-        return Ok(None);
-    };
-    let Some(left) = P::from_words(alloc, words)? else {
-        return Ok(None);
-    };
-    Ok(Some((left, right)))
+    combinator: Combinator,
+    left: P,
+    right: P,
+) -> Result<Option<Level<P, Item>>, AllocError> {
+    match combinator {
+        Combinator::And => Ok(Some(Level::and(alloc, left, right)?)),
+        Combinator::Or => Ok(Some(Level::or(alloc, left, right)?)),
+        Combinator::Xor => Ok(Some(Level::xor(alloc, left, right)?)),
+        Combinator::Not | Combinator::Named(_) => Ok(None),
+    }
 }
 
 impl<P: FromWords<W, Item>, W: Word, Item> FromWords<W, Item> for Level<P, Item> {
     ghost always_lawful = { λ p. all_parts P.always_lawful p.node };
 
     fn from_words(alloc: Global, words: &mut Vec<W>) -> Result<Option<Level<P, Item>>, AllocError> {
-        Ok(match pop_combinator(words) {
-            Some(Combinator::Not) => match P::from_words(alloc, words)? {
-                Some(part) => Some(Level::not(alloc, part)?),
-                None => None,
+        let combinator = pop_combinator(words);
+        let Some(part) = P::from_words(alloc, words)? else {
+            return Ok(None);
+        };
+        match combinator {
+            None => Ok(Some(Level::below(part))),
+            Some(Combinator::Not) => Ok(Some(Level::not(alloc, part)?)),
+            Some(Combinator::Named(name)) => Ok(Some(Level::name(alloc, part, name)?)),
+            // The right one of two is read before the left one.
+            Some(combinator) => match P::from_words(alloc, words)? {
+                Some(left) => joined(alloc, combinator, left, part),
+                None => Ok(None),
             },
-            Some(Combinator::Named(name)) => match P::from_words(alloc, words)? {
-                Some(part) => Some(Level::name(alloc, part, name)?),
-                None => None,
-            },
-            Some(Combinator::And) => match two_from_words::<P, W, Item>(alloc, words)? {
-                Some((left, right)) => Some(Level::and(alloc, left, right)?),
-                None => None,
-            },
-            Some(Combinator::Or) => match two_from_words::<P, W, Item>(alloc, words)? {
-                Some((left, right)) => Some(Level::or(alloc, left, right)?),
-                None => None,
-            },
-            Some(Combinator::Xor) => match two_from_words::<P, W, Item>(alloc, words)? {
-                Some((left, right)) => Some(Level::xor(alloc, left, right)?),
-                None => None,
-            },
-            None => match P::from_words(alloc, words)? {
-                Some(part) => Some(Level::below(part)),
-                None => None,
-            },
-        })
+        }
     }
 }
 

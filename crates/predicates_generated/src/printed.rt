@@ -7,15 +7,19 @@ use predicates_core::static_text::StaticText;
 use std::alloc::{AllocError, Global};
 use std::fmt;
 
+fn is_text(shown: Result<String, AllocError>, expected: &str) -> Result<bool, AllocError> {
+    Ok(shown?.as_str() == expected)
+}
+
 // Whether the text is printed, also under each flag, in a width and cut short.
 fn prints<T: fmt::Display>(alloc: Global, value: &T, expected: &str) -> Result<bool, AllocError> {
     Ok(
-        value.to_string(alloc)?.as_str() == expected
-            && format!(in alloc; "{value:#}")?.as_str() == expected
-            && format!(in alloc; "{value:40}")?.as_str() == expected
-            && format!(in alloc; "{value:<40}")?.as_str() == expected
-            && format!(in alloc; "{value:.3}")?.as_str() == expected
-            && format!(in alloc; "{value:*^+#0400.1}")?.as_str() == expected,
+        is_text(value.to_string(alloc), expected)?
+            && is_text(format!(in alloc; "{value:#}"), expected)?
+            && is_text(format!(in alloc; "{value:40}"), expected)?
+            && is_text(format!(in alloc; "{value:<40}"), expected)?
+            && is_text(format!(in alloc; "{value:.3}"), expected)?
+            && is_text(format!(in alloc; "{value:*^+#0400.1}"), expected)?,
     )
 }
 
@@ -35,6 +39,19 @@ pub fn print_alone<T: fmt::Display>(
     Ok(())
 }
 
+// Whether a combinator prints the predicate's text, and a further one the name that is given.
+fn prints_inside<P: Predicate<Item> + Drop, Item>(
+    alloc: Global,
+    predicate: P,
+) -> Result<(bool, bool), AllocError> {
+    let text = predicate.to_string(alloc)?;
+    let line = format!(in alloc; "({text} && false)")?;
+    let both = predicate.and(never());
+    let is_joined = prints(alloc, &both, line.as_str())?;
+    let named = both.name(StaticText::new("n")).or(always()).not();
+    Ok((is_joined, prints(alloc, &named, "(! (n || true))")?))
+}
+
 /// The same of a predicate alone, in a combinator, and where that has a name in a further one.
 pub fn print<P: Predicate<Item> + Drop, Item>(
     alloc: Global,
@@ -42,14 +59,11 @@ pub fn print<P: Predicate<Item> + Drop, Item>(
     predicate: P,
 ) -> Result<(), AllocError> {
     print_alone(alloc, out, &predicate)?;
-    let text = predicate.to_string(alloc)?;
-    let both = predicate.and(never());
-    let line = format!(in alloc; "({text} && false)")?;
-    if !prints(alloc, &both, line.as_str())? {
+    let (is_joined, is_named) = prints_inside(alloc, predicate)?;
+    if !is_joined {
         out.push_str("another text in a combinator\n")?;
     }
-    let named = both.name(StaticText::new("n")).or(always()).not();
-    if !prints(alloc, &named, "(! (n || true))")? {
+    if !is_named {
         out.push_str("another text under a name\n")?;
     }
     Ok(())

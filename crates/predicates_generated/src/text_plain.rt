@@ -112,6 +112,44 @@ fn seen_by_parts(
     Ok(Some(seen))
 }
 
+// The formula of a word over those of two parts; none where it takes no two.
+fn joined(
+    alloc: Global,
+    word: &TextWord,
+    left: PlainFormula,
+    right: PlainFormula,
+) -> Result<Option<PlainFormula>, AllocError> {
+    let left = Box::new(alloc, left)?;
+    let right = Box::new(alloc, right)?;
+    Ok(match word {
+        TextWord::And => Some(PlainFormula::And(left, right)),
+        TextWord::Or => Some(PlainFormula::Or(left, right)),
+        TextWord::Xor => Some(PlainFormula::Xor(left, right)),
+        _ => None,
+    })
+}
+
+// The formula of a word over that of its part; none where it takes no one part.
+fn above(
+    alloc: Global,
+    word: &TextWord,
+    item: &PlainItem,
+    part: PlainFormula,
+) -> Result<Option<PlainFormula>, AllocError> {
+    Ok(match (word, item) {
+        (TextWord::Not, _) => Some(PlainFormula::Not(Box::new(alloc, part)?)),
+        (TextWord::Named(_), _) => Some(PlainFormula::Named(Box::new(alloc, part)?)),
+        (TextWord::FromUtf8, PlainItem::Bytes(bytes)) => {
+            Some(match str::from_utf8(bytes.as_slice()) {
+                Ok(_) => part,
+                Err(_) => PlainFormula::Leaf(false),
+            })
+        }
+        (TextWord::Trim | TextWord::Normalize, _) => Some(part),
+        _ => None,
+    })
+}
+
 // The formula of the word over those of its parts; none where they are not as many.
 fn combine(
     alloc: Global,
@@ -120,35 +158,16 @@ fn combine(
     first: Option<PlainFormula>,
     second: Option<PlainFormula>,
 ) -> Result<Option<PlainFormula>, AllocError> {
-    Ok(match (word, item, first, second) {
-        (TextWord::And, _, Some(left), Some(right)) => {
-            let left = Box::new(alloc, left)?;
-            Some(PlainFormula::And(left, Box::new(alloc, right)?))
-        }
-        (TextWord::Or, _, Some(left), Some(right)) => {
-            let left = Box::new(alloc, left)?;
-            Some(PlainFormula::Or(left, Box::new(alloc, right)?))
-        }
-        (TextWord::Xor, _, Some(left), Some(right)) => {
-            let left = Box::new(alloc, left)?;
-            Some(PlainFormula::Xor(left, Box::new(alloc, right)?))
-        }
-        (TextWord::Not, _, Some(part), None) => { Some(PlainFormula::Not(Box::new(alloc, part)?)) }
-        (TextWord::Named(_), _, Some(part), None) => {
-            Some(PlainFormula::Named(Box::new(alloc, part)?))
-        }
-        (TextWord::FromUtf8, PlainItem::Bytes(bytes), Some(part), None) => {
-            Some(match str::from_utf8(bytes.as_slice()) {
-                Ok(_) => part,
-                Err(_) => PlainFormula::Leaf(false),
-            })
-        }
-        (TextWord::Trim | TextWord::Normalize, _, Some(part), None) => Some(part),
-        (leaf, PlainItem::Text(text), None, None) => {
-            leaf_truth(alloc, leaf, text.as_str())?.map(PlainFormula::Leaf)
-        }
-        _ => None,
-    })
+    match (first, second) {
+        (Some(left), Some(right)) => joined(alloc, word, left, right),
+        (Some(part), None) => above(alloc, word, item, part),
+        (None, _) => match item {
+            PlainItem::Text(text) => {
+                Ok(leaf_truth(alloc, word, text.as_str())?.map(PlainFormula::Leaf))
+            }
+            PlainItem::Bytes(_) => Ok(None),
+        },
+    }
 }
 
 // The formula of the predicate at the words' end on the item. It takes the words.

@@ -80,6 +80,15 @@ impl<P: FromWords<TextWord, String>> FromWords<TextWord, String> for TextLevel<P
     }
 }
 
+// Takes the last word if it names the adapter from bytes to a text, and says whether it did.
+fn pop_from_utf8(words: &mut Vec<TextWord>) -> bool {
+    let found = matches!(words.last(), Some(TextWord::FromUtf8));
+    if found {
+        words.pop();
+    }
+    found
+}
+
 impl<P: FromWords<TextWord, String>> FromWords<TextWord, Vec<u8>> for Utf8Predicate<P> {
     ghost always_lawful = { λ p. P.always_lawful (utf8_part p) };
 
@@ -87,12 +96,12 @@ impl<P: FromWords<TextWord, String>> FromWords<TextWord, Vec<u8>> for Utf8Predic
         alloc: Global,
         words: &mut Vec<TextWord>,
     ) -> Result<Option<Utf8Predicate<P>>, AllocError> {
-        match words.pop() {
-            Some(TextWord::FromUtf8) => Ok(match P::from_words(alloc, words)? {
-                Some(part) => Some(part.from_utf8()),
-                None => None,
-            }),
-            _ => Ok(None),
+        if !pop_from_utf8(words) {
+            return Ok(None);
+        }
+        match P::from_words(alloc, words)? {
+            Some(part) => Ok(Some(part.from_utf8())),
+            None => Ok(None),
         }
     }
 }

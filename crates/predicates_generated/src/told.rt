@@ -1,7 +1,6 @@
 //! What a predicate tells, as lines that a test compares as a whole.
-use crate::answers::ask;
 use predicates_core::Predicate;
-use predicates_core::reflection::{Child, PredicateReflection, render};
+use predicates_core::reflection::{Case, Child, PredicateReflection, render_onto};
 use std::alloc::{AllocError, Global};
 
 /// A text of its own with these characters.
@@ -19,29 +18,44 @@ pub fn tell<P: Predicate<Item>, Item>(
 ) -> Result<(), AllocError>
     requires { P.lawful predicate.now }
 {
-    let answers = ask(alloc, predicate, item)?;
-    let (expected, other) = answers.cases();
-    if other.is_some() {
+    let verdict = predicate.eval(alloc, item)?;
+    if predicate.find_case(alloc, !verdict, item)?.is_some() {
         out.push_str("a case for the opposite\n")?;
     }
-    match expected {
-        Some(case) if case.root().result() == answers.verdict => {
-            out.push_str(render(alloc, case)?.as_str())?;
-        }
-        Some(_) => out.push_str("a case of the opposite\n")?,
-        None => out.push_str("no case\n")?,
+    match predicate.find_case(alloc, verdict, item)? {
+        Some(case) => tell_case(alloc, out, verdict, &case),
+        None => out.push_str("no case\n"),
     }
-    Ok(())
+}
+
+// Writes the lines of the case; another line where its result is not the verdict.
+fn tell_case(
+    alloc: Global,
+    out: &mut String,
+    verdict: bool,
+    case: &Case,
+) -> Result<(), AllocError> {
+    if case.root().result() != verdict {
+        return out.push_str("a case of the opposite\n");
+    }
+    render_onto(alloc, out, case)
+}
+
+// Writes a line with a name and a text.
+fn add_line(out: &mut String, start: &str, name: &str, text: &str) -> Result<(), AllocError> {
+    out.push_str(start)?;
+    out.push_str(name)?;
+    out.push_str(": ")?;
+    out.push_str(text)?;
+    out.push('\n')
 }
 
 // Writes a line for each child, with its parts as deep as two levels.
-fn tell_children(alloc: Global, out: &mut String, children: &[Child]) -> Result<(), AllocError> {
+fn tell_children(out: &mut String, children: &[Child]) -> Result<(), AllocError> {
     for child in children {
-        let (name, printed) = (child.name(), child.text());
-        out.push_str(format!(in alloc; "  {name}: {printed}\n")?.as_str())?;
+        add_line(out, "  ", child.name(), child.text())?;
         for part in child.children() {
-            let (name, printed) = (part.name(), part.text());
-            out.push_str(format!(in alloc; "    {name}: {printed}\n")?.as_str())?;
+            add_line(out, "    ", part.name(), part.text())?;
         }
     }
     Ok(())
@@ -56,9 +70,8 @@ pub fn describe<P: PredicateReflection>(
     out.push_str(predicate.to_string(alloc)?.as_str())?;
     out.push('\n')?;
     for parameter in &predicate.parameters(alloc)? {
-        let (name, value) = (parameter.name(), parameter.value());
-        out.push_str(format!(in alloc; "  - {name}: {value}\n")?.as_str())?;
+        add_line(out, "  - ", parameter.name(), parameter.value())?;
     }
     let children = predicate.children(alloc)?;
-    tell_children(alloc, out, children.as_slice())
+    tell_children(out, children.as_slice())
 }

@@ -1,4 +1,5 @@
 //! What `take` asks of the file system, and what it makes of each error.
+use super::parts::{Parts, has_parts};
 use predicates_path::PathFault::{NotFound, Other, PermissionDenied};
 use predicates_path::{FileType, PathFault, Snapshot};
 use std::alloc::{AllocError, Allocator, Global};
@@ -6,7 +7,6 @@ use std::cell::Cell;
 use std::fs::{Metadata, OpenOptions};
 use std::io;
 use std::io::ErrorKind;
-use std::process::Abort;
 use std::rt::Files;
 use std::test::Fail;
 
@@ -117,41 +117,62 @@ fn one_file(rt: &HostRuntime) -> Result<OneFile, AllocError> {
     })
 }
 
-// A snapshot whose parts are these, after so many questions of each sort.
-fn shows(
-    rt: &impl Abort,
-    files: OneFile,
-    plain: Result<FileType, PathFault>,
-    followed: Result<FileType, PathFault>,
-    content: Result<&[u8], PathFault>,
-    counts: [u8; 3],
-) -> Result<(), Fail> {
-    let snapshot = Snapshot::take(&files, "p")?;
-    assert!(rt; snapshot.path() == "p");
-    assert_eq!(rt; snapshot.plain(), plain);
-    assert_eq!(rt; snapshot.followed(), followed);
-    assert_eq!(rt; snapshot.content(), content);
-    let [first, second, third] = counts;
-    assert_eq!(rt; files.plain_count.get(), first);
-    assert_eq!(rt; files.followed_count.get(), second);
-    assert_eq!(rt; files.opened_count.get(), third);
-    Ok(())
+// Whether the snapshot at `p` has these parts, and how often each sort of question was asked.
+fn shows(files: &OneFile, parts: Parts<'_>) -> Result<(bool, [u8; 3]), AllocError> {
+    let taken = Snapshot::take(files, "p")?;
+    let counts = [
+        files.plain_count.get(),
+        files.followed_count.get(),
+        files.opened_count.get(),
+    ];
+    Ok((taken.path() == "p" && has_parts(&taken, parts), counts))
+}
+
+// The same where the first question ends with an error.
+fn plain_ends(
+    rt: &HostRuntime,
+    kind: ErrorKind,
+    parts: Parts<'_>,
+) -> Result<(bool, [u8; 3]), AllocError> {
+    let mut files = one_file(rt)?;
+    files.plain = Err(kind);
+    shows(&files, parts)
+}
+
+// The same where the question about what is behind a link does.
+fn followed_ends(
+    rt: &HostRuntime,
+    kind: ErrorKind,
+    parts: Parts<'_>,
+) -> Result<(bool, [u8; 3]), AllocError> {
+    let mut files = one_file(rt)?;
+    files.followed = Err(kind);
+    shows(&files, parts)
+}
+
+// The same where the opening does, or reads what stands at the path.
+fn opened_ends(
+    rt: &HostRuntime,
+    opened: Result<&'static str, ErrorKind>,
+    parts: Parts<'_>,
+) -> Result<(bool, [u8; 3]), AllocError> {
+    let mut files = one_file(rt)?;
+    files.opened = opened;
+    shows(&files, parts)
 }
 
 #[test]
 fn asks_once(rt: HostRuntime) -> Result<(), Fail> {
     let file = Ok(FileType::File);
-    shows(&rt, one_file(&rt)?, file, file, Ok(b""), [1, 1, 1])?;
+    let all = opened_ends(&rt, Ok("/dev/null"), (file, file, Ok(b"")))?;
+    assert_eq!(rt; all, (true, [1, 1, 1]));
     for (kind, fault) in KINDS {
-        let mut files = one_file(&rt)?;
-        files.plain = Err(kind);
-        shows(&rt, files, Err(fault), file, Ok(b""), [1, 1, 1])?;
-        let mut files = one_file(&rt)?;
-        files.followed = Err(kind);
-        shows(&rt, files, file, Err(fault), Err(fault), [1, 1, 0])?;
-        let mut files = one_file(&rt)?;
-        files.opened = Err(kind);
-        shows(&rt, files, file, file, Err(fault), [1, 1, 1])?;
+        let first = plain_ends(&rt, kind, (Err(fault), file, Ok(b"")))?;
+        assert_eq!(rt; first, (true, [1, 1, 1]), "{kind:?}");
+        let second = followed_ends(&rt, kind, (file, Err(fault), Err(fault)))?;
+        assert_eq!(rt; second, (true, [1, 1, 0]), "{kind:?}");
+        let third = opened_ends(&rt, Err(kind), (file, file, Err(fault)))?;
+        assert_eq!(rt; third, (true, [1, 1, 1]), "{kind:?}");
     }
     Ok(())
 }
@@ -160,21 +181,18 @@ fn asks_once(rt: HostRuntime) -> Result<(), Fail> {
 #[test]
 fn a_read_that_fails(rt: HostRuntime) -> Result<(), Fail> {
     let file = Ok(FileType::File);
-    let mut files = one_file(&rt)?;
-    files.opened = Ok("/");
-    shows(&rt, files, file, file, Err(Other), [1, 1, 1])
+    let read = opened_ends(&rt, Ok("/"), (file, file, Err(Other)))?;
+    assert_eq!(rt; read, (true, [1, 1, 1]));
+    Ok(())
 }
 
+// Whether each question that ends for want of memory refuses the snapshot.
 #[test]
 fn want_of_memory(rt: HostRuntime) -> Result<(), Fail> {
-    let mut files = one_file(&rt)?;
-    files.plain = Err(ErrorKind::OutOfMemory);
-    assert!(rt; matches!(Snapshot::take(&files, "p"), Err(AllocError)));
-    let mut files = one_file(&rt)?;
-    files.followed = Err(ErrorKind::OutOfMemory);
-    assert!(rt; matches!(Snapshot::take(&files, "p"), Err(AllocError)));
-    let mut files = one_file(&rt)?;
-    files.opened = Err(ErrorKind::OutOfMemory);
-    assert!(rt; matches!(Snapshot::take(&files, "p"), Err(AllocError)));
+    let nothing = (Err(Other), Err(Other), Err(Other));
+    let kind = ErrorKind::OutOfMemory;
+    assert!(rt; plain_ends(&rt, kind, nothing).is_err());
+    assert!(rt; followed_ends(&rt, kind, nothing).is_err());
+    assert!(rt; opened_ends(&rt, Err(kind), nothing).is_err());
     Ok(())
 }

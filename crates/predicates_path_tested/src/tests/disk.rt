@@ -1,22 +1,17 @@
 //! What `take` finds on a real file system.
+use super::parts::{Parts, has_parts};
 use predicates_path::FileType::{Dir, File, Other, Symlink};
 use predicates_path::PathFault::{NotFound, NotRegular, Other as Fault};
-use predicates_path::{FileType, PathFault, Snapshot};
+use predicates_path::Snapshot;
+use std::alloc::{AllocError, Global};
 use std::io::{Read, Write};
 use std::os::unix::fs::symlink;
 use std::os::unix::io::AsRawFd;
 use std::test::Fail;
 use std::{env, fs, io};
 
-// What a snapshot is to hold: the kinds, and the content.
-type Parts = (
-    Result<FileType, PathFault>,
-    Result<FileType, PathFault>,
-    Result<&'static [u8], PathFault>,
-);
-
 // The names in the folder, and what stands under each.
-const ROWS: [(&str, Parts); 15] = [
+const ROWS: [(&str, Parts<'static>); 15] = [
     ("file", (Ok(File), Ok(File), Ok(b"hello"))),
     ("empty", (Ok(File), Ok(File), Ok(b""))),
     ("folder", (Ok(Dir), Ok(Dir), Err(NotRegular))),
@@ -64,92 +59,80 @@ fn fill(rt: &HostRuntime, folder: &str) -> io::Result<()> {
     symlink(rt, "nothing", format!(in alloc; "{folder}/to_nothing")?)
 }
 
-fn take_at(rt: &HostRuntime, folder: &str, name: &str) -> io::Result<Snapshot> {
+// Whether what is taken at the path has the path and these parts.
+fn stands(rt: &HostRuntime, path: &str, parts: Parts<'_>) -> io::Result<bool> {
+    let taken = Snapshot::take(rt, path)?;
+    Ok(taken.path() == path && has_parts(&taken, parts))
+}
+
+// Whether what is taken under the name in the folder has these parts.
+fn stands_in(rt: &HostRuntime, folder: &str, name: &str, parts: Parts<'_>) -> io::Result<bool> {
     let path = format!(in rt.alloc(); "{folder}/{name}")?;
-    Ok(Snapshot::take(rt, path.as_str())?)
+    stands(rt, path.as_str(), parts)
 }
 
-fn take_each(rt: &HostRuntime, folder: &str) -> io::Result<Vec<Snapshot>> {
+// The first name under which something else is taken, or `none`.
+fn first_wrong(rt: &HostRuntime, folder: &str) -> io::Result<&'static str> {
     fill(rt, folder)?;
-    let mut taken = Vec::new(rt.alloc());
-    for (name, _) in ROWS {
-        taken.push(take_at(rt, folder, name)?)?;
+    for (name, parts) in ROWS {
+        if !stands_in(rt, folder, name, parts)? {
+            return Ok(name);
+        }
     }
-    Ok(taken)
-}
-
-// Whether a snapshot of the name in the folder has these parts.
-fn is_of(snapshot: &Snapshot, folder: &str, name: &str, parts: Parts) -> bool {
-    let (plain, followed, content) = parts;
-    let below = snapshot.path().strip_prefix(folder).unwrap_or("");
-    below.strip_prefix("/") == Some(name)
-        && snapshot.plain() == plain
-        && snapshot.followed() == followed
-        && snapshot.content() == content
+    Ok("none")
 }
 
 #[test]
 fn what_stands_in_a_folder(rt: HostRuntime) -> Result<(), Fail> {
     let folder = new_folder(&rt)?;
-    let taken = take_each(&rt, folder.as_str());
+    let wrong = first_wrong(&rt, folder.as_str());
     fs::remove_dir_all(&rt, folder.as_str())?;
-    let taken = taken?;
-    assert_eq!(rt; taken.len(), ROWS.len());
-    for (snapshot, (name, parts)) in taken.iter().zip(ROWS) {
-        assert!(rt; is_of(snapshot, folder.as_str(), name, parts), "at {name}");
-    }
+    assert_eq!(rt; wrong?, "none");
     Ok(())
 }
 
-// Takes what stands at the path of a file that is made with this content.
-fn take_written(rt: &HostRuntime, path: &str, content: &[u8]) -> io::Result<Snapshot> {
-    fs::write(rt, path, content)?;
-    Ok(Snapshot::take(rt, path)?)
+// So many bytes, which repeat after 251.
+fn bytes(alloc: Global, length: u32) -> Result<Vec<u8>, AllocError> {
+    let mut bytes = Vec::new(alloc);
+    for number in 0..length {
+        bytes.push((number % 251) as u8)?;
+    }
+    Ok(bytes)
+}
+
+// Whether a file in the folder is taken with the content that it is made with.
+fn is_kept(rt: &HostRuntime, folder: &str, content: &[u8]) -> io::Result<bool> {
+    let path = format!(in rt.alloc(); "{folder}/long")?;
+    fs::write(rt, path.as_str(), content)?;
+    stands(rt, path.as_str(), (Ok(File), Ok(File), Ok(content)))
 }
 
 #[test]
 fn a_long_content(rt: HostRuntime) -> Result<(), Fail> {
-    let mut content = Vec::new(rt.alloc());
-    for number in 0..70_001u32 {
-        content.push((number % 251) as u8)?;
-    }
+    let content = bytes(rt.alloc(), 70_001)?;
     let folder = new_folder(&rt)?;
-    let path = format!(in rt.alloc(); "{folder}/long")?;
-    let taken = take_written(&rt, path.as_str(), content.as_slice());
+    let kept = is_kept(&rt, folder.as_str(), content.as_slice());
     fs::remove_dir_all(&rt, folder.as_str())?;
-    assert_eq!(rt; taken?.content(), Ok(content.as_slice()));
+    assert!(rt; kept?);
     Ok(())
 }
 
 #[test]
 fn an_empty_path(rt: HostRuntime) -> Result<(), Fail> {
-    let nothing = Snapshot::take(&rt, "")?;
-    assert_eq!(rt; nothing.path(), "");
-    assert_eq!(rt; nothing.plain(), Err(NotFound));
-    assert_eq!(rt; nothing.followed(), Err(NotFound));
-    assert_eq!(rt; nothing.content(), Err(NotFound));
+    let nothing = (Err(NotFound), Err(NotFound), Err(NotFound));
+    assert!(rt; stands(&rt, "", nothing)?);
     Ok(())
 }
 
 #[test]
 fn a_device(rt: HostRuntime) -> Result<(), Fail> {
-    let device = Snapshot::take(&rt, "/dev/null")?;
-    assert_eq!(rt; device.path(), "/dev/null");
-    assert_eq!(rt; device.plain(), Ok(Other));
-    assert_eq!(rt; device.followed(), Ok(Other));
-    assert_eq!(rt; device.content(), Err(NotRegular));
+    let device = (Ok(Other), Ok(Other), Err(NotRegular));
+    assert!(rt; stands(&rt, "/dev/null", device)?);
     Ok(())
 }
 
-// Whether a pipe that stands behind a link of the system's is taken, and its content is not.
-fn is_pipe(rt: &HostRuntime, path: &str) -> io::Result<bool> {
-    let pipe = Snapshot::take(rt, path)?;
-    Ok(
-        pipe.plain() == Ok(Symlink)
-            && pipe.followed() == Ok(Other)
-            && pipe.content() == Err(NotRegular),
-    )
-}
+// A pipe stands behind a link of the system's.
+const PIPE: Parts<'static> = (Ok(Symlink), Ok(Other), Err(NotRegular));
 
 // Reading a pipe would wait, as nothing is written yet.
 #[test]
@@ -157,11 +140,11 @@ fn a_pipe_left_unread(rt: HostRuntime) -> Result<(), Fail> {
     let (mut reader, mut writer) = io::pipe(&rt)?;
     let number = reader.as_raw_fd();
     let path = format!(in rt.alloc(); "/proc/self/fd/{number}")?;
-    assert!(rt; is_pipe(&rt, path.as_str())?);
+    assert!(rt; stands(&rt, path.as_str(), PIPE)?);
     writer.write_all(b"a")?;
-    assert!(rt; is_pipe(&rt, path.as_str())?);
+    assert!(rt; stands(&rt, path.as_str(), PIPE)?);
     let mut byte = [0];
-    assert_eq!(rt; reader.read(&mut byte)?, 1);
-    assert_eq!(rt; byte, *b"a");
+    let count = reader.read(&mut byte)?;
+    assert_eq!(rt; (count, byte[0]), (1, b'a'));
     Ok(())
 }

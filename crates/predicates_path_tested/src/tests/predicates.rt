@@ -1,4 +1,5 @@
 //! Each public call once, with both verdicts, the case and what it prints.
+use super::parts::has_parts;
 use predicates_core::Predicate;
 use predicates_core::reflection::{PredicateReflection, render};
 use predicates_path::FileType::{Dir, File, Other, Symlink};
@@ -41,12 +42,10 @@ fn tells<P: Predicate<Item>, Item>(
 ) -> Result<bool, AllocError>
     requires { P.lawful predicate.now }
 {
+    let holds = predicate.eval(alloc, item)? == verdict;
+    let is_alone = predicate.find_case(alloc, !verdict, item)?.is_none();
     match predicate.find_case(alloc, verdict, item)? {
-        Some(case) => Ok(
-            render(alloc, &case)?.as_str() == lines
-                && predicate.eval(alloc, item)? == verdict
-                && predicate.find_case(alloc, !verdict, item)?.is_none(),
-        ),
+        Some(case) => Ok(render(alloc, &case)?.as_str() == lines && holds && is_alone),
         None => Ok(false),
     }
 }
@@ -172,12 +171,9 @@ fn sized(alloc: Global, length: usize) -> Result<bool, Fail> {
     let text = repeated(alloc, length)?;
     let there = file_of(alloc, text.as_str())?;
     let gone = nothing_at(alloc, text.as_str())?;
-    Ok(
-        tells_existence(alloc, &there, true)?
-            && tells_existence(alloc, &gone, false)?
-            && tells_content(alloc, &there, length == 0, "")?
-            && tells_content(alloc, &gone, false, "  - error: not found\n")?,
-    )
+    let exist = tells_existence(alloc, &there, true)? && tells_existence(alloc, &gone, false)?;
+    let handed_on = tells_content(alloc, &there, length == 0, "")?;
+    Ok(exist && handed_on && tells_content(alloc, &gone, false, "  - error: not found\n")?)
 }
 
 // The debug form of so many bytes `a`.
@@ -218,10 +214,8 @@ fn equals_text(alloc: Global, text: &str) -> Result<bool, Fail> {
     let same = eq_file(file_of(alloc, text)?)?.utf8().ok_or("no text")?;
     let item = String::from_str(alloc, text)?;
     let longer = format!(in alloc; "{text}a")?;
-    Ok(
-        tells_equality(alloc, &same, &item, text, true)?
-            && tells_equality(alloc, &same, &longer, text, false)?,
-    )
+    let holds = tells_equality(alloc, &same, &item, text, true)?;
+    Ok(holds && tells_equality(alloc, &same, &longer, text, false)?)
 }
 
 // The predicate beside the text as a file, and beside a path where nothing stands.
@@ -232,10 +226,9 @@ fn equals_file<P: Predicate<Snapshot>>(
 ) -> Result<bool, AllocError>
     requires { P.lawful predicate.now }
 {
-    Ok(
-        tells_equality(alloc, predicate, &file_of(alloc, text)?, text, true)?
-            && tells_equality(alloc, predicate, &nothing_at(alloc, text)?, text, false)?,
-    )
+    let (there, gone) = (file_of(alloc, text)?, nothing_at(alloc, text)?);
+    let holds = tells_equality(alloc, predicate, &there, text, true)?;
+    Ok(holds && tells_equality(alloc, predicate, &gone, text, false)?)
 }
 
 // Two predicates that compare with a file of this many bytes beside files, and their content.
@@ -270,10 +263,9 @@ fn operands_of_any_size(rt: HostRuntime) -> Result<(), Fail> {
 fn parts(rt: HostRuntime) -> Result<(), Fail> {
     let link = snapshot(rt.alloc(), Ok(Symlink), Ok(File), Err(PermissionDenied))?;
     assert_eq!(rt; link.path(), "p");
-    assert_eq!(rt; link.plain(), Ok(Symlink));
-    assert_eq!(rt; link.followed(), Ok(File));
-    assert_eq!(rt; link.content(), Err(PermissionDenied));
-    assert_eq!(rt; file(rt.alloc(), b"a")?.content(), Ok(b"a".as_slice()));
+    assert!(rt; has_parts(&link, (Ok(Symlink), Ok(File), Err(PermissionDenied))));
+    let file = file(rt.alloc(), b"a")?;
+    assert!(rt; has_parts(&file, (Ok(File), Ok(File), Ok(b"a"))));
     Ok(())
 }
 
@@ -341,45 +333,81 @@ fn kind_of_a_path(rt: HostRuntime) -> Result<(), Fail> {
     let lines = "var is other = true\n  - actual filetype: other\n";
     check(&rt, &other, &device, true, lines)?;
     assert!(rt; has_parameter(rt.alloc(), &other, "follow", "true")?);
-    assert_eq!(rt; FileTypePredicate::from_path(&broken), Err(NotFound));
+    assert!(rt; FileTypePredicate::from_path(&broken) == Err(NotFound));
     Ok(())
 }
+
+// Whether a comparison with the file at `p` tells this of a file of the bytes.
+fn tells_file<P: Predicate<Snapshot>>(
+    alloc: Global,
+    same: &P,
+    bytes: &[u8],
+    verdict: bool,
+) -> Result<bool, AllocError>
+    requires { P.lawful same.now }
+{
+    let item = file(alloc, bytes)?;
+    tells_equality(alloc, same, &item, "p", verdict)
+}
+
+// Whether it tells this of the bytes.
+fn tells_bytes(
+    alloc: Global,
+    same: &BinaryFilePredicate,
+    bytes: &[u8],
+    verdict: bool,
+) -> Result<bool, AllocError> {
+    let item = Vec::from_slice(alloc, bytes)?;
+    tells_equality(alloc, same, &item, "p", verdict)
+}
+
+// Whether it tells this of the text.
+fn tells_text(
+    alloc: Global,
+    same: &StrFilePredicate,
+    text: &str,
+    verdict: bool,
+) -> Result<bool, AllocError> {
+    let item = String::from_str(alloc, text)?;
+    tells_equality(alloc, same, &item, "p", verdict)
+}
+
+const BESIDE_A: [(&str, bool); 3] = [("a", true), ("b", false), ("", false)];
 
 #[test]
 fn equality(rt: HostRuntime) -> Result<(), Fail> {
     let alloc = rt.alloc();
-    let bytes = Vec::from_slice(alloc, b"a")?;
-    let none = Vec::new(alloc);
+    let same = same_bytes(alloc, b"a")?;
+    for (text, verdict) in BESIDE_A {
+        assert!(rt;
+            tells_bytes(alloc, &same, text.as_bytes(), verdict)?,
+            "{text}"
+        );
+        assert!(rt;
+            tells_file(alloc, &same, text.as_bytes(), verdict)?,
+            "{text}"
+        );
+    }
     let folder = snapshot(alloc, Ok(Dir), Ok(Dir), Err(NotRegular))?;
-    let same = eq_file(file(alloc, b"a")?)?;
-    check(&rt, &same, &bytes, true, "var is p = true\n")?;
-    check(&rt, &same, &none, false, "var is p = false\n")?;
-    check(&rt, &same, &file(alloc, b"a")?, true, "var is p = true\n")?;
-    check(&rt, &same, &file(alloc, b"b")?, false, "var is p = false\n")?;
-    check(&rt, &same, &folder, false, "var is p = false\n")?;
+    assert!(rt; tells_equality(alloc, &same, &folder, "p", false)?);
     assert!(rt; has_parameter(alloc, &same, "content", "[97]")?);
-    assert_eq!(rt; eq_file(folder), Err(NotRegular));
+    assert!(rt; eq_file(folder) == Err(NotRegular));
     Ok(())
 }
 
 #[test]
 fn text_equality(rt: HostRuntime) -> Result<(), Fail> {
     let alloc = rt.alloc();
-    let other = eq_file(file(alloc, b"\xff")?)?;
-    assert!(rt; other.utf8().is_none());
-    let same = eq_file(file(alloc, b"a")?)?.utf8().ok_or("no text")?;
-    let a = String::from_str(alloc, "a")?;
-    let b = String::from_str(alloc, "b")?;
-    check(&rt, &same, &a, true, "var is p = true\n")?;
-    check(&rt, &same, &b, false, "var is p = false\n")?;
-    check(&rt, &same, &file(alloc, b"a")?, true, "var is p = true\n")?;
-    check(
-        &rt,
-        &same,
-        &file(alloc, b"\xff")?,
-        false,
-        "var is p = false\n",
-    )?;
+    assert!(rt; same_bytes(alloc, b"\xff")?.utf8().is_none());
+    let same = same_text(alloc, b"a")?;
+    for (text, verdict) in BESIDE_A {
+        assert!(rt; tells_text(alloc, &same, text, verdict)?, "{text}");
+        assert!(rt;
+            tells_file(alloc, &same, text.as_bytes(), verdict)?,
+            "{text}"
+        );
+    }
+    assert!(rt; tells_file(alloc, &same, b"\xff", false)?);
     assert!(rt; has_parameter(alloc, &same, "content", "a")?);
     Ok(())
 }
