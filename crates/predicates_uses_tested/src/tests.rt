@@ -29,6 +29,19 @@ fn case_of<P: Predicate<Item>, Item>(
     }
 }
 
+// Whether the case has the lines, or is `none`.
+fn has_case<P: Predicate<Item>, Item>(
+    alloc: Global,
+    predicate: &P,
+    expected: bool,
+    item: &Item,
+    lines: &str,
+) -> Result<bool, AllocError>
+    requires { P.lawful predicate.now }
+{
+    Ok(case_of(alloc, predicate, expected, item)?.as_str() == lines)
+}
+
 fn text(alloc: Global, text: &str) -> Result<String, AllocError> {
     String::from_str(alloc, text)
 }

@@ -42,10 +42,9 @@ fn has_case<P: Predicate<String>>(
 ) -> Result<bool, AllocError>
     requires { P.lawful predicate.now }
 {
-    Ok(
-        case_of(alloc, predicate, verdict, item)?.as_str() == case
-            && case_of(alloc, predicate, !verdict, item)?.as_str() == "none",
-    )
+    let found = case_of(alloc, predicate, verdict, item)?;
+    let other = case_of(alloc, predicate, !verdict, item)?;
+    Ok(found.as_str() == case && other.as_str() == "none")
 }
 
 // Whether it answers the verdict and prints the text.
@@ -77,17 +76,37 @@ const BOXES: [(bool, &str, &str); 3] = [
     (true, "any", "any = true\n  any: true = true\n"),
 ];
 
+// A box over a leaf, one over a leaf with a pattern, and one over a named constant.
+fn three_boxes(alloc: Global) -> Result<Vec<BoxPredicate>, AllocError> {
+    let mut boxes = Vec::new(alloc);
+    boxes.push(BoxPredicate::new(alloc, Box::new(alloc, predicate::str::is_empty())?)?)?;
+    let part = String::from_str(alloc, "a")?;
+    boxes.push(BoxPredicate::new(alloc, Box::new(alloc, predicate::str::contains(part))?)?)?;
+    boxes.push(BoxPredicate::new(
+        alloc,
+        Box::new(alloc, predicate::always().name(StaticText::new("any")))?,
+    )?)?;
+    Ok(boxes)
+}
+
+// Whether the box has the row's verdict, text and case on `b`.
+fn is_told(
+    alloc: Global,
+    check: &BoxPredicate,
+    row: (bool, &str, &str),
+) -> Result<bool, AllocError> {
+    let (verdict, text, case) = row;
+    let is_text = has_text(alloc, check, verdict, "b", text)?;
+    Ok(is_text && has_case(alloc, check, verdict, "b", case)?)
+}
+
 #[test]
 fn boxes_in_a_loop(rt: HostRuntime) -> Result<(), Fail> {
     let alloc = rt.alloc();
-    let part = String::from_str(alloc, "a")?;
-    let empty = BoxPredicate::new(alloc, Box::new(alloc, predicate::str::is_empty())?)?;
-    let has_part = BoxPredicate::new(alloc, Box::new(alloc, predicate::str::contains(part))?)?;
-    let any = predicate::always().name(StaticText::new("any"));
-    let any = BoxPredicate::new(alloc, Box::new(alloc, any)?)?;
-    let checks = vec![in alloc; empty, has_part, any]?;
+    let checks = three_boxes(alloc)?;
+    let lines = lines_of(alloc, checks.as_slice(), "b")?;
     assert_eq!(rt;
-        lines_of(alloc, checks.as_slice(), "b")?.as_str(),
+        lines.as_str(),
         "\
 var.is_empty() = false
   - var: b
@@ -97,12 +116,8 @@ any = true
   any: true = true
 "
     );
-    for (check, (verdict, text, case)) in checks.iter().zip(BOXES) {
-        assert!(rt;
-            has_text(alloc, check, verdict, "b", text)?
-                && has_case(alloc, check, verdict, "b", case)?,
-            "{text}"
-        );
+    for (check, row) in checks.iter().zip(BOXES) {
+        assert!(rt; is_told(alloc, check, row)?, "{}", row.1);
     }
     Ok(())
 }
@@ -127,72 +142,80 @@ fn a_constant_in_a_box(rt: HostRuntime) -> Result<(), Fail> {
     let boxed = BoxPredicate::new(alloc, made)?;
     assert!(rt; has_case(alloc, &boxed, true, "b", "true = true\n")?);
     assert!(rt; has_parameter(alloc, &boxed, "value", "true")?);
-    assert_eq!(rt; format!(in alloc; "{boxed:?}")?.as_str(), "BoxPredicate");
+    let shown = format!(in alloc; "{boxed:?}")?;
+    assert_eq!(rt; shown.as_str(), "BoxPredicate");
     Ok(())
 }
 
-// How many children and parameters there are, the first child's name and text, and the text of that
-// one's first child.
-fn parts<P: PredicateReflection>(
+// The first child's name and text, and the text of that one's first child, a line each.
+fn first_parts<P: PredicateReflection>(alloc: Global, predicate: &P) -> Result<String, AllocError> {
+    let mut lines = String::new(alloc);
+    if let Some(child) = predicate.children(alloc)?.first() {
+        lines.push_str(child.name())?;
+        lines.push_str("\n")?;
+        lines.push_str(child.text())?;
+        lines.push_str("\n")?;
+        if let Some(part) = child.children().first() {
+            lines.push_str(part.text())?;
+        }
+    }
+    Ok(lines)
+}
+
+// How many children and parameters there are.
+fn counts<P: PredicateReflection>(
     alloc: Global,
     predicate: &P,
-) -> Result<((usize, usize), (&'static str, String, String)), AllocError> {
-    let children = predicate.children(alloc)?;
-    let mut found = ("none", String::new(alloc), String::new(alloc));
-    if let Some(child) = children.first() {
-        let mut below = String::new(alloc);
-        if let Some(part) = child.children().first() {
-            below.push_str(part.text())?;
-        }
-        found = (child.name(), String::from_str(alloc, child.text())?, below);
-    }
-    Ok(((children.len(), predicate.parameters(alloc)?.len()), found))
+) -> Result<(usize, usize), AllocError> {
+    let children = predicate.children(alloc)?.len();
+    Ok((children, predicate.parameters(alloc)?.len()))
+}
+
+// Whether it has so many children and no parameters, and these first parts.
+fn has_parts<P: PredicateReflection>(
+    alloc: Global,
+    predicate: &P,
+    count: usize,
+    parts: &str,
+) -> Result<bool, AllocError> {
+    let is_counted = counts(alloc, predicate)? == (count, 0);
+    Ok(is_counted && first_parts(alloc, predicate)?.as_str() == parts)
 }
 
 #[test]
 fn a_box_under_others(rt: HostRuntime) -> Result<(), Fail> {
     let alloc = rt.alloc();
     let part = String::from_str(alloc, "a")?;
-    let empty = BoxPredicate::new(alloc, Box::new(alloc, predicate::str::is_empty())?)?;
     let has_part = BoxPredicate::new(alloc, Box::new(alloc, predicate::str::contains(part))?)?;
-    let either = empty.trim().name("blank").or(has_part);
-    assert_eq!(rt;
-        case_of(alloc, &either, true, "  ")?.as_str(),
-        "\
+    let blank = BoxPredicate::new(alloc, Box::new(alloc, predicate::str::is_empty())?)?
+        .trim()
+        .name("blank");
+    let either = blank.or(has_part);
+    let lines = "\
 (blank || var.contains(a)) = true
   left: blank = true
     blank: var.is_empty() = true
-      - var: \n"
-    );
-    let ((children, _), (_, text, below)) = parts(alloc, &either)?;
-    assert_eq!(rt;
-        (children, text.as_str(), below.as_str()),
-        (2, "blank", "var.is_empty()")
-    );
+      - var: \n";
+    assert!(rt; has_case(alloc, &either, true, "  ", lines)?);
+    assert!(rt; has_parts(alloc, &either, 2, "left\nblank\nvar.is_empty()")?);
     Ok(())
 }
 
 #[test]
 fn parts_of_what_is_held(rt: HostRuntime) -> Result<(), Fail> {
     let alloc = rt.alloc();
-    let held = predicate::str::is_empty().not();
-    let boxed = BoxPredicate::new(alloc, Box::new(alloc, held)?)?;
-    let ((children, parameters), (name, text, _)) = parts(alloc, &boxed)?;
-    assert_eq!(rt;
-        (children, name, text.as_str(), parameters),
-        (1, "predicate", "var.is_empty()", 0)
-    );
+    let turned = BoxPredicate::new(alloc, Box::new(alloc, predicate::str::is_empty().not())?)?;
+    assert!(rt; has_parts(alloc, &turned, 1, "predicate\nvar.is_empty()\n")?);
     Ok(())
 }
 
 #[test]
 fn explained_boxed_or_not(rt: HostRuntime) -> Result<(), Fail> {
     let alloc = rt.alloc();
-    let alone = predicate::gt(String::from_str(alloc, "5")?);
-    let held = predicate::gt(String::from_str(alloc, "5")?);
-    let boxed = BoxPredicate::new(alloc, Box::new(alloc, held)?)?;
     let lines = "var > \"5\" = false\n  - var: \"4\"\n";
+    let alone = predicate::gt(String::from_str(alloc, "5")?);
     assert!(rt; has_case(alloc, &alone, false, "4", lines)?);
+    let boxed = BoxPredicate::new(alloc, Box::new(alloc, alone)?)?;
     assert!(rt; has_case(alloc, &boxed, false, "4", lines)?);
     Ok(())
 }
@@ -206,25 +229,39 @@ fn letters(alloc: Global, length: usize) -> Result<String, AllocError> {
     Ok(text)
 }
 
+// Whether there is a case of the verdict alone, and how many bytes it prints.
+fn length_of_case<P: Predicate<String>>(
+    alloc: Global,
+    predicate: &P,
+    verdict: bool,
+    item: &str,
+) -> Result<(bool, usize), AllocError>
+    requires { P.lawful predicate.now }
+{
+    let other = case_of(alloc, predicate, !verdict, item)?;
+    let found = case_of(alloc, predicate, verdict, item)?;
+    Ok((other.as_str() == "none", found.len()))
+}
+
 // The lengths of what a boxed comparison with the text prints, of its case on the text, and of its
 // case on `b`; and whether there are none of the opposites.
 fn lengths(alloc: Global, text: &str) -> Result<(usize, usize, usize, bool), AllocError> {
-    let held = predicate::eq(String::from_str(alloc, text)?);
-    let boxed = BoxPredicate::new(alloc, Box::new(alloc, held)?)?;
-    Ok((
-        boxed.to_string(alloc)?.len(),
-        case_of(alloc, &boxed, true, text)?.len(),
-        case_of(alloc, &boxed, false, "b")?.len(),
-        case_of(alloc, &boxed, false, text)?.as_str() == "none"
-            && case_of(alloc, &boxed, true, "b")?.as_str() == "none",
-    ))
+    let boxed = BoxPredicate::new(
+        alloc,
+        Box::new(alloc, predicate::eq(String::from_str(alloc, text)?))?,
+    )?;
+    let printed = boxed.to_string(alloc)?.len();
+    let (is_same, same) = length_of_case(alloc, &boxed, true, text)?;
+    let (is_other, other) = length_of_case(alloc, &boxed, false, "b")?;
+    Ok((printed, same, other, is_same && is_other))
 }
 
 #[test]
 fn boxes_long_texts(rt: HostRuntime) -> Result<(), Fail> {
     let alloc = rt.alloc();
     for length in [0usize, 1, 300, 70_000] {
-        let (printed, same, other, none) = lengths(alloc, letters(alloc, length)?.as_str())?;
+        let text = letters(alloc, length)?;
+        let (printed, same, other, none) = lengths(alloc, text.as_str())?;
         // `var == ` and two quotes
         assert_eq!(rt; printed, length + 9, "of {length}");
         assert!(rt; same > 2 * length && other > length && none, "of {length}");

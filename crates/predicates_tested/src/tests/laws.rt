@@ -8,18 +8,19 @@ use predicates_core::reflection::render;
 use std::alloc::{AllocError, Global};
 use std::test::Fail;
 
-// The lines of the verdict's case.
-fn explain<P: Predicate<i64>>(
+// Whether the case of the verdict has these lines.
+fn explains<P: Predicate<i64>>(
     alloc: Global,
     predicate: &P,
     item: &i64,
-) -> Result<String, AllocError>
+    lines: &str,
+) -> Result<bool, AllocError>
     requires { P.lawful predicate.now }
 {
     let verdict = predicate.eval(alloc, item)?;
     match predicate.find_case(alloc, verdict, item)? {
-        Some(case) => render(alloc, &case),
-        None => String::from_str(alloc, "none"),
+        Some(case) => Ok(render(alloc, &case)?.as_str() == lines),
+        None => Ok(false),
     }
 }
 
@@ -27,17 +28,25 @@ fn explain<P: Predicate<i64>>(
 fn negations_and_names(rt: HostRuntime) -> Result<(), Fail> {
     let alloc = rt.alloc();
     laws::double_negation(&lt(3), &9);
-    assert_eq!(rt;
-        explain(alloc, &lt(3).not().not(), &9)?.as_str(),
-        "(! (! var < 3)) = false\n  \
+    assert!(rt;
+        explains(
+            alloc,
+            &lt(3).not().not(),
+            &9,
+            "(! (! var < 3)) = false\n  \
            predicate: (! var < 3) = true\n    \
              predicate: var < 3 = false\n      \
                - var: 9\n"
+        )?
     );
     laws::named(&lt(3), &9, "small");
-    assert_eq!(rt;
-        explain(alloc, &lt(3).name("small"), &9)?.as_str(),
-        "small = false\n  small: var < 3 = false\n    - var: 9\n"
+    assert!(rt;
+        explains(
+            alloc,
+            &lt(3).name("small"),
+            &9,
+            "small = false\n  small: var < 3 = false\n    - var: 9\n"
+        )?
     );
     Ok(())
 }
@@ -46,19 +55,27 @@ fn negations_and_names(rt: HostRuntime) -> Result<(), Fail> {
 fn negations_of_both(rt: HostRuntime) -> Result<(), Fail> {
     let alloc = rt.alloc();
     laws::de_morgan(&lt(3), &lt(5), &9);
-    assert_eq!(rt;
-        explain(alloc, &lt(3).and(lt(5)).not(), &9)?.as_str(),
-        "(! (var < 3 && var < 5)) = true\n  \
+    assert!(rt;
+        explains(
+            alloc,
+            &lt(3).and(lt(5)).not(),
+            &9,
+            "(! (var < 3 && var < 5)) = true\n  \
            predicate: (var < 3 && var < 5) = false\n    \
              left: var < 3 = false\n      \
                - var: 9\n"
+        )?
     );
-    assert_eq!(rt;
-        explain(alloc, &lt(3).not().or(lt(5).not()), &9)?.as_str(),
-        "((! var < 3) || (! var < 5)) = true\n  \
+    assert!(rt;
+        explains(
+            alloc,
+            &lt(3).not().or(lt(5).not()),
+            &9,
+            "((! var < 3) || (! var < 5)) = true\n  \
            left: (! var < 3) = true\n    \
              predicate: var < 3 = false\n      \
                - var: 9\n"
+        )?
     );
     Ok(())
 }
@@ -67,23 +84,31 @@ fn negations_of_both(rt: HostRuntime) -> Result<(), Fail> {
 fn negations_of_just_one(rt: HostRuntime) -> Result<(), Fail> {
     let alloc = rt.alloc();
     laws::exclusive_or(&lt(3), &lt(5), &4);
-    assert_eq!(rt;
-        explain(alloc, &lt(3).xor(lt(5)).not(), &4)?.as_str(),
-        "(! (var < 3 ^ var < 5)) = false\n  \
+    assert!(rt;
+        explains(
+            alloc,
+            &lt(3).xor(lt(5)).not(),
+            &4,
+            "(! (var < 3 ^ var < 5)) = false\n  \
            predicate: (var < 3 ^ var < 5) = true\n    \
              left: var < 3 = false\n      \
                - var: 4\n    \
              right: var < 5 = true\n      \
                - var: 4\n"
+        )?
     );
-    assert_eq!(rt;
-        explain(alloc, &lt(3).not().xor(lt(5)), &4)?.as_str(),
-        "((! var < 3) ^ var < 5) = false\n  \
+    assert!(rt;
+        explains(
+            alloc,
+            &lt(3).not().xor(lt(5)),
+            &4,
+            "((! var < 3) ^ var < 5) = false\n  \
            left: (! var < 3) = true\n    \
              predicate: var < 3 = false\n      \
                - var: 4\n  \
            right: var < 5 = true\n    \
              - var: 4\n"
+        )?
     );
     Ok(())
 }

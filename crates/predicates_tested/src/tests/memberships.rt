@@ -55,11 +55,10 @@ fn shows_its_members(rt: HostRuntime) -> Result<(), Fail> {
 
 // Whether the list, the sorted list and the set hold of the item.
 fn verdicts(alloc: Global, item: i64) -> Result<[bool; 3], AllocError> {
-    Ok([
-        in_iter(alloc, [1i64, 3, 5])?.eval(alloc, &item)?,
-        in_iter(alloc, [5i64, 1, 3])?.sort()?.eval(alloc, &item)?,
-        in_hash(alloc, [1i64, 3, 5])?.eval(alloc, &item)?,
-    ])
+    let listed = in_iter(alloc, [1i64, 3, 5])?.eval(alloc, &item)?;
+    let sorted = in_iter(alloc, [5i64, 1, 3])?.sort()?.eval(alloc, &item)?;
+    let hashed = in_hash(alloc, [1i64, 3, 5])?.eval(alloc, &item)?;
+    Ok([listed, sorted, hashed])
 }
 
 #[test]
@@ -107,12 +106,10 @@ fn answers<P: Predicate<i64>>(
 ) -> Result<bool, AllocError>
     requires { P.lawful predicate.now }
 {
-    let found = predicate.find_case(alloc, verdict, &item)?;
-    Ok(
-        predicate.eval(alloc, &item)? == verdict
-            && found.is_some()
-            && predicate.find_case(alloc, !verdict, &item)?.is_none(),
-    )
+    let answered = predicate.eval(alloc, &item)?;
+    let is_found = predicate.find_case(alloc, verdict, &item)?.is_some();
+    let is_alone = predicate.find_case(alloc, !verdict, &item)?.is_none();
+    Ok(answered == verdict && is_found && is_alone)
 }
 
 // The numbers from 0 to the first of the ends hold, and the second one does not; the printed
@@ -140,14 +137,13 @@ fn holds_numbers<P: Predicate<i64>>(
 
 // Whether the list, the set and the sorted list of the numbers below the second end do so.
 fn holds_below(alloc: Global, ends: (i64, i64), bytes: usize) -> Result<[bool; 3], AllocError> {
-    let listed = in_iter(alloc, 0..ends.1)?;
-    let is_held = holds_numbers(alloc, &listed, ends, bytes)?;
     let hashed = in_hash(alloc, 0..ends.1)?;
-    Ok([
-        is_held,
-        holds_numbers(alloc, &hashed, ends, bytes)?,
-        holds_numbers(alloc, &listed.sort()?, ends, bytes)?,
-    ])
+    let is_hashed = holds_numbers(alloc, &hashed, ends, bytes)?;
+    let listed = in_iter(alloc, 0..ends.1)?;
+    let is_listed = holds_numbers(alloc, &listed, ends, bytes)?;
+    let sorted = listed.sort()?;
+    let is_sorted = holds_numbers(alloc, &sorted, ends, bytes)?;
+    Ok([is_listed, is_hashed, is_sorted])
 }
 
 // The ends, and the bytes: a number has as many as digits, and a comma and a space stand between

@@ -3,7 +3,7 @@ use predicates::constant::never;
 use predicates::function::function;
 use predicates::name::PredicateNameExt;
 use predicates::ord::{eq, lt};
-use predicates_core::reflection::{Case, PredicateReflection, render};
+use predicates_core::reflection::{PredicateReflection, render};
 use predicates_core::static_text::StaticText;
 use predicates_core::{Predicate, default_find_case};
 use std::alloc::{AllocError, Global};
@@ -16,30 +16,31 @@ const LONG: &str = "\
 0123456789 0123456789 0123456789 0123456789 0123456789 0123456789 012345678\
 0123456789 0123456789 0123456789 0123456789 0123456789 0123456789 012345678";
 
-// The case of the verdict, as any user of any predicate asks for it.
-fn explain<P: Predicate<Item>, Item>(
+// Whether the case of the verdict has the verdict at its root, and these lines.
+fn explains<P: Predicate<Item>, Item>(
     alloc: Global,
     predicate: &P,
     item: &Item,
-) -> Result<Case, AllocError>
+    lines: &str,
+) -> Result<bool, AllocError>
     requires { P.lawful predicate.now }
 {
     let verdict = predicate.eval(alloc, item)?;
     match predicate.find_case(alloc, verdict, item)? {
-        Some(case) => Ok(case),
-        None => Ok(Case::new(alloc, None, verdict)),
+        Some(case) => {
+            Ok(case.root().result() == verdict && render(alloc, &case)?.as_str() == lines)
+        }
+        None => Ok(false),
     }
 }
 
-// The lines of the case of the verdict.
-fn case_text<P: Predicate<Item>, Item>(
+// Whether it prints the text.
+fn prints<P: PredicateReflection>(
     alloc: Global,
     predicate: &P,
-    item: &Item,
-) -> Result<String, AllocError>
-    requires { P.lawful predicate.now }
-{
-    render(alloc, &explain(alloc, predicate, item)?)
+    text: &str,
+) -> Result<bool, AllocError> {
+    Ok(predicate.to_string(alloc)?.as_str() == text)
 }
 
 // The verdict, whether there are cases of true and of false, and how many children and parameters.
@@ -60,55 +61,33 @@ fn answers<P: Predicate<Item>, Item>(
     ))
 }
 
-// What the case of the verdict says at its root.
-fn root_of<P: Predicate<Item>, Item>(
-    alloc: Global,
-    predicate: &P,
-    item: &Item,
-) -> Result<bool, AllocError>
-    requires { P.lawful predicate.now }
-{
-    Ok(explain(alloc, predicate, item)?.root().result())
-}
-
 #[test]
 fn names_under_combinators(rt: HostRuntime) -> Result<(), Fail> {
     let alloc = rt.alloc();
     let neither = never().name("x").or(lt(3).name("y")).not();
-    assert_eq!(rt;
-        answers(alloc, &neither, &1)?,
-        ((false, false, true), (1, 0))
-    );
-    assert_eq!(rt; neither.to_string(alloc)?.as_str(), "(! (x || y))");
-    assert!(rt; !root_of(alloc, &neither, &1)?);
-    assert_eq!(rt;
-        case_text(alloc, &neither, &1)?.as_str(),
-        "\
+    let answered = answers(alloc, &neither, &1)?;
+    assert_eq!(rt; answered, ((false, false, true), (1, 0)));
+    assert!(rt; prints(alloc, &neither, "(! (x || y))")?);
+    let lines = "\
 (! (x || y)) = false
   predicate: (x || y) = true
     right: y = true
       y: var < 3 = true
         - var: 1
-"
-    );
+";
+    assert!(rt; explains(alloc, &neither, &1, lines)?);
     Ok(())
 }
 
 #[test]
 fn names_beside_a_function(rt: HostRuntime) -> Result<(), Fail> {
     let alloc = rt.alloc();
-    let both = never()
-        .name("x")
-        .or(lt(3).name("y"))
-        .not()
-        .name("z")
-        .and(function(|x: &i32| *x >= 5).fn_name("g"));
-    assert_eq!(rt; answers(alloc, &both, &9)?, ((true, true, false), (2, 0)));
-    assert_eq!(rt; both.to_string(alloc)?.as_str(), "(z && g(var))");
-    assert!(rt; root_of(alloc, &both, &9)?);
-    assert_eq!(rt;
-        case_text(alloc, &both, &1)?.as_str(),
-        "\
+    let neither = never().name("x").or(lt(3).name("y")).not().name("z");
+    let both = neither.and(function(|x: &i32| *x >= 5).fn_name("g"));
+    let answered = answers(alloc, &both, &9)?;
+    assert_eq!(rt; answered, ((true, true, false), (2, 0)));
+    assert!(rt; prints(alloc, &both, "(z && g(var))")?);
+    let lines = "\
 (z && g(var)) = false
   left: z = false
     z: (! (x || y)) = false
@@ -116,46 +95,52 @@ fn names_beside_a_function(rt: HostRuntime) -> Result<(), Fail> {
         right: y = true
           y: var < 3 = true
             - var: 1
-"
-    );
+";
+    assert!(rt; explains(alloc, &both, &1, lines)?);
+    let lines = "\
+(z && g(var)) = true
+  left: z = true
+    z: (! (x || y)) = true
+      predicate: (x || y) = false
+        left: x = false
+          x: false = false
+        right: y = false
+          y: var < 3 = false
+            - var: 9
+  right: g(var) = true
+";
+    assert!(rt; explains(alloc, &both, &9, lines)?);
     Ok(())
 }
 
 #[test]
 fn functions_under_combinators(rt: HostRuntime) -> Result<(), Fail> {
     let alloc = rt.alloc();
-    let either = function(|x: &i32| *x >= 5)
-        .and(function(|x: &i32| *x <= 10))
-        .or(function(|x: &i32| *x == 1));
-    assert_eq!(rt;
-        answers(alloc, &either, &4)?,
-        ((false, false, true), (2, 0))
-    );
-    assert_eq!(rt;
-        either.to_string(alloc)?.as_str(),
-        "((fn(var) && fn(var)) || fn(var))"
-    );
-    assert!(rt; root_of(alloc, &either, &7)?);
-    assert_eq!(rt;
-        case_text(alloc, &either, &7)?.as_str(),
-        "\
+    let between = function(|x: &i32| *x >= 5).and(function(|x: &i32| *x <= 10));
+    let either = between.or(function(|x: &i32| *x == 1));
+    let answered = answers(alloc, &either, &4)?;
+    assert_eq!(rt; answered, ((false, false, true), (2, 0)));
+    assert!(rt; prints(alloc, &either, "((fn(var) && fn(var)) || fn(var))")?);
+    let lines = "\
 ((fn(var) && fn(var)) || fn(var)) = true
   left: (fn(var) && fn(var)) = true
     left: fn(var) = true
     right: fn(var) = true
-"
-    );
+";
+    assert!(rt; explains(alloc, &either, &7, lines)?);
     Ok(())
 }
 
-// The name and the text of the first child.
-fn first_child<P: PredicateReflection>(
+// Whether the only child has the name and the text.
+fn has_child<P: PredicateReflection>(
     alloc: Global,
     predicate: &P,
-) -> Result<(&'static str, String), AllocError> {
-    match predicate.children(alloc)?.first() {
-        Some(child) => Ok((child.name(), String::from_str(alloc, child.text())?)),
-        None => Ok(("none", String::from_str(alloc, "none")?)),
+    name: &str,
+    text: &str,
+) -> Result<bool, AllocError> {
+    match predicate.children(alloc)?.as_slice() {
+        [only] => Ok(only.name() == name && only.text() == text),
+        _ => Ok(false),
     }
 }
 
@@ -165,8 +150,9 @@ fn copied(rt: HostRuntime) -> Result<(), Fail> {
     let other = one;
     assert!(rt; one == other);
     let held = other.name(StaticText::new("held")).not();
-    assert_eq!(rt; held.eval(rt.alloc(), &1)?, false);
-    assert_eq!(rt; first_child(rt.alloc(), &held)?.1.as_str(), "held");
+    let verdict = held.eval(rt.alloc(), &1)?;
+    let is_child = has_child(rt.alloc(), &held, "predicate", "held")?;
+    assert_eq!(rt; (verdict, is_child), (false, true));
     Ok(())
 }
 
@@ -180,26 +166,32 @@ fn shows_name(
     let lines = format!(in alloc;
         "{name} = {verdict}\n  {name}: var < 3 = {verdict}\n    - var: {item}\n"
     )?;
-    Ok(case_text(alloc, &lt(3).name(name), &item)? == lines)
+    explains(alloc, &lt(3).name(name), &item, lines.as_str())
 }
 
 // Whether a function of the name shows it in its case.
 fn shows_function(alloc: Global, name: &'static str) -> Result<bool, AllocError> {
     let asked = function(|x: &i32| *x < 3).fn_name(name);
     let lines = format!(in alloc; "{name}(var) = false\n")?;
-    Ok(case_text(alloc, &asked, &3)? == lines)
+    explains(alloc, &asked, &3, lines.as_str())
+}
+
+// Whether a comparison and a function of the name show it.
+fn is_shown(alloc: Global, name: &'static str) -> Result<bool, AllocError> {
+    let is_above = has_child(alloc, &lt::<i32>(3).name(name), name, "var < 3")?;
+    Ok(
+        is_above
+            && shows_name(alloc, name, 1, true)?
+            && shows_name(alloc, name, 3, false)?
+            && shows_function(alloc, name)?,
+    )
 }
 
 #[test]
 fn names_of_no_bytes_and_of_300(rt: HostRuntime) -> Result<(), Fail> {
-    let alloc = rt.alloc();
     assert_eq!(rt; LONG.len(), 300);
     for name in ["", LONG] {
-        for (item, verdict) in [(1, true), (3, false)] {
-            assert!(rt; shows_name(alloc, name, item, verdict)?, "{name} on {item}");
-        }
-        assert_eq!(rt; first_child(alloc, &lt::<i32>(3).name(name))?.0, name);
-        assert!(rt; shows_function(alloc, name)?, "{name}");
+        assert!(rt; is_shown(rt.alloc(), name)?, "{name}");
     }
     Ok(())
 }

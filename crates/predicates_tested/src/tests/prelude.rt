@@ -6,15 +6,11 @@ use std::test::Fail;
 
 // A check of a text, by what the prelude names alone.
 fn is_short_greeting(alloc: Global, item: &String) -> Result<bool, AllocError> {
-    let greeting = predicate::str::starts_with(String::from_str(alloc, "Hello")?).or(
-        predicate::str::ends_with(String::from_str(alloc, "bye")?),
-    );
+    let hello = predicate::str::starts_with(String::from_str(alloc, "Hello")?);
+    let bye = predicate::str::ends_with(String::from_str(alloc, "bye")?);
     let short = predicate::lt(String::from_str(alloc, "z")?);
-    greeting
-        .trim()
-        .and(short)
-        .name("greeting")
-        .eval(alloc, item)
+    let greeting = hello.or(bye).trim().and(short).name("greeting");
+    greeting.eval(alloc, item)
 }
 
 #[test]
@@ -77,33 +73,44 @@ fn printed_of_paths(alloc: Global) -> Result<String, AllocError> {
     Ok(out)
 }
 
-// The value of the first parameter.
-fn first_value<P: PredicateReflection>(alloc: Global, predicate: &P) -> Result<String, AllocError> {
+// Whether the first parameter has the value.
+fn has_value<P: PredicateReflection>(
+    alloc: Global,
+    predicate: &P,
+    value: &str,
+) -> Result<bool, AllocError> {
     match predicate.parameters(alloc)?.first() {
-        Some(parameter) => String::from_str(alloc, parameter.value()),
-        None => String::from_str(alloc, "none"),
+        Some(parameter) => Ok(parameter.value() == value),
+        None => Ok(false),
     }
 }
 
 #[test]
 fn each_name_prints_its_own_text(rt: HostRuntime) -> Result<(), Fail> {
     let alloc = rt.alloc();
+    let numbers = printed_of_numbers(alloc)?;
     assert_eq!(rt;
-        printed_of_numbers(alloc)?.as_str(),
+        numbers.as_str(),
         "true, false, fn(var), var == 3, var != 3, var < 3, var <= 3, var >= 3, var > 3"
     );
+    let texts = printed_of_texts(alloc)?;
     assert_eq!(rt;
-        printed_of_texts(alloc)?.as_str(),
+        texts.as_str(),
         "var.is_empty(), var.starts_with(\"a\"), var.ends_with(\"a\"), var.contains(a)"
     );
+    let paths = printed_of_paths(alloc)?;
     assert_eq!(rt;
-        printed_of_paths(alloc)?.as_str(),
+        paths.as_str(),
         "exists(var), missing(var), var is file, var is dir, var is symlink"
     );
-    let listed = first_value(alloc, &predicate::in_iter(alloc, [3i64, 3])?)?;
-    assert_eq!(rt; listed.as_str(), "[3, 3]");
-    let hashed = first_value(alloc, &predicate::in_hash(alloc, [3i64, 3])?)?;
-    assert_eq!(rt; hashed.as_str(), "{3}");
+    Ok(())
+}
+
+#[test]
+fn each_name_of_a_membership_shows_its_members(rt: HostRuntime) -> Result<(), Fail> {
+    let alloc = rt.alloc();
+    assert!(rt; has_value(alloc, &predicate::in_iter(alloc, [3i64, 3])?, "[3, 3]")?);
+    assert!(rt; has_value(alloc, &predicate::in_hash(alloc, [3i64, 3])?, "{3}")?);
     Ok(())
 }
 
@@ -119,10 +126,11 @@ fn is_one(alloc: Global, text: &str) -> Result<Option<bool>, AllocError> {
 }
 
 fn is_small(alloc: Global, item: i64) -> Result<bool, AllocError> {
-    let small = predicate::in_iter(alloc, [1i64, 2, 3])?
-        .and(predicate::in_hash(alloc, [1i64, 2])?)
-        .and(predicate::ne(3).and(predicate::ge(1)).and(predicate::le(2)))
-        .and(predicate::gt(0).and(predicate::function(|n: &i64| *n < 3)));
+    let listed = predicate::in_iter(alloc, [1i64, 2, 3])?;
+    let hashed = predicate::in_hash(alloc, [1i64, 2])?;
+    let compared = predicate::ne(3).and(predicate::ge(1)).and(predicate::le(2));
+    let asked = predicate::gt(0).and(predicate::function(|n: &i64| *n < 3));
+    let small = listed.and(hashed).and(compared.and(asked));
     small.eval(alloc, &item)
 }
 

@@ -87,7 +87,8 @@ fn each_part_with_its_own_truth(rt: HostRuntime) -> Result<(), Fail> {
     let alloc = rt.alloc();
     let either: XorPredicate<_, _, i32> = predicate::lt(3).xor(predicate::lt(5));
     for (item, verdict, lines) in ROWS {
-        assert_eq!(rt; explained(alloc, &either, &item, verdict)?.as_str(), lines);
+        let told = explained(alloc, &either, &item, verdict)?;
+        assert_eq!(rt; told.as_str(), lines);
     }
     assert!(rt; has_parts(alloc, &either, ("left", "var < 3"), ("right", "var < 5"))?);
     Ok(())
@@ -97,12 +98,14 @@ fn each_part_with_its_own_truth(rt: HostRuntime) -> Result<(), Fail> {
 fn below_other_combinators(rt: HostRuntime) -> Result<(), Fail> {
     let alloc = rt.alloc();
     let either = predicate::lt(3).xor(predicate::lt(5));
+    let refused = explained(alloc, &either.and(predicate::never()), &4, false)?;
     assert_eq!(rt;
-        explained(alloc, &either.and(predicate::never()), &4, false)?.as_str(),
+        refused.as_str(),
         "((var < 3 ^ var < 5) && false) = false\n  right: false = false\n"
     );
+    let held = explained(alloc, &predicate::never().or(either), &4, true)?;
     assert_eq!(rt;
-        explained(alloc, &predicate::never().or(either), &4, true)?.as_str(),
+        held.as_str(),
         "\
 (false || (var < 3 ^ var < 5)) = true
   right: (var < 3 ^ var < 5) = true
@@ -125,8 +128,9 @@ fn trimmed_named_and_boxed(rt: HostRuntime) -> Result<(), Fail> {
         .name(StaticText::new("either"));
     let boxed = BoxPredicate::new(alloc, Box::new(alloc, either)?)?;
     let item = String::from_str(alloc, " a ")?;
+    let lines = explained(alloc, &boxed, &item, true)?;
     assert_eq!(rt;
-        explained(alloc, &boxed, &item, true)?.as_str(),
+        lines.as_str(),
         "\
 either = true
   either: (var.is_empty() ^ var.contains(a)) = true

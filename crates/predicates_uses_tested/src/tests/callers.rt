@@ -2,7 +2,7 @@
 use super::text;
 use predicates::path::{FileType, PathFault, Snapshot};
 use predicates::prelude::*;
-use predicates::reflection::render;
+use predicates::reflection::{Case, render};
 use predicates_uses::{
     IsTheAnswer, PolicyFault, Sifted, Unmet, case_json, is_copy, no_script, read_policy, require,
     sift, sift_by,
@@ -11,12 +11,9 @@ use std::alloc::{AllocError, Global};
 use std::test::Fail;
 
 fn file(alloc: Global, path: &str, content: &[u8]) -> Result<Snapshot, AllocError> {
-    Ok(Snapshot::from_parts(
-        text(alloc, path)?,
-        Ok(FileType::File),
-        Ok(FileType::File),
-        Ok(Vec::from_slice(alloc, content)?),
-    ))
+    let (path, content) = (text(alloc, path)?, Vec::from_slice(alloc, content)?);
+    let kind = Ok(FileType::File);
+    Ok(Snapshot::from_parts(path, kind, kind, Ok(content)))
 }
 
 fn words(alloc: Global, tokens: &[&str]) -> Result<Vec<String>, AllocError> {
@@ -41,32 +38,47 @@ fn told<P: Predicate<Item>, Item>(
     }
 }
 
+// Whether that is told.
+fn tells<P: Predicate<Item>, Item>(
+    alloc: Global,
+    predicate: &P,
+    item: &Item,
+    lines: &str,
+) -> Result<bool, AllocError>
+    requires { P.lawful predicate.now }
+{
+    Ok(told(alloc, predicate, item)?.as_str() == lines)
+}
+
 #[test]
 fn requirements(rt: HostRuntime) -> Result<(), Fail> {
     let alloc = rt.alloc();
     let between = predicate::ge(5).and(predicate::le(10));
-    assert_eq!(rt; told(alloc, &between, &7)?.as_str(), "met");
-    assert_eq!(rt;
-        told(alloc, &between, &11)?.as_str(),
-        "(var >= 5 && var <= 10) = false\n  right: var <= 10 = false\n    - var: 11\n"
-    );
-    assert_eq!(rt;
-        told(alloc, &IsTheAnswer, &41)?.as_str(),
-        "var.is_the_answer() = false\n  - var: 41\n"
-    );
-    assert_eq!(rt; Unmet::NoMemory.to_string(alloc)?.as_str(), "no memory");
+    assert!(rt; tells(alloc, &between, &7, "met")?);
+    let lines = "(var >= 5 && var <= 10) = false\n  right: var <= 10 = false\n    - var: 11\n";
+    assert!(rt; tells(alloc, &between, &11, lines)?);
+    let lines = "var.is_the_answer() = false\n  - var: 41\n";
+    assert!(rt; tells(alloc, &IsTheAnswer, &41, lines)?);
+    let refused = Unmet::NoMemory.to_string(alloc)?;
+    assert_eq!(rt; refused.as_str(), "no memory");
     Ok(())
 }
 
-// What was kept, what was rejected, and the lines of the second reason.
-fn parts(alloc: Global, sifted: Sifted<i32>) -> Result<(Vec<i32>, Vec<i32>, String), Fail> {
-    let Sifted { kept, rejected } = sifted;
-    let mut items = Vec::new(alloc);
-    for rejection in &rejected {
-        items.push(rejection.item)?;
+// Whether 7 and 5 were kept and these two rejected, the second of them with these lines.
+fn keeps(
+    alloc: Global,
+    sifted: &Sifted<i32>,
+    others: [i32; 2],
+    lines: &str,
+) -> Result<bool, AllocError> {
+    match sifted.rejected.as_slice() {
+        [first, second] => {
+            let are_right = sifted.kept.as_slice() == [7, 5].as_slice()
+                && [first.item, second.item] == others;
+            Ok(are_right && render(alloc, &second.reason)?.as_str() == lines)
+        }
+        _ => Ok(false),
     }
-    let second = rejected.get(1).ok_or("no second")?;
-    Ok((kept, items, render(alloc, &second.reason)?))
 }
 
 #[test]
@@ -74,13 +86,8 @@ fn sifts(rt: HostRuntime) -> Result<(), Fail> {
     let alloc = rt.alloc();
     let between = predicate::ge(5).and(predicate::le(10));
     let sifted = sift(alloc, &between, vec![in alloc; 4, 7, 11, 5]?)?;
-    let (kept, rejected, lines) = parts(alloc, sifted)?;
-    assert_eq!(rt; kept.as_slice(), [7, 5].as_slice());
-    assert_eq!(rt; rejected.as_slice(), [4, 11].as_slice());
-    assert_eq!(rt;
-        lines.as_str(),
-        "(var >= 5 && var <= 10) = false\n  right: var <= 10 = false\n    - var: 11\n"
-    );
+    let lines = "(var >= 5 && var <= 10) = false\n  right: var <= 10 = false\n    - var: 11\n";
+    assert!(rt; keeps(alloc, &sifted, [4, 11], lines)?);
     Ok(())
 }
 
@@ -90,18 +97,15 @@ fn sifts_by_a_function(rt: HostRuntime) -> Result<(), Fail> {
     let bound = 5;
     let big = predicate::function(move |x: &i32| *x >= bound).fn_name("big");
     let sifted = sift_by(alloc, &big, vec![in alloc; 4, 7, 3, 5]?)?;
-    let (kept, rejected, lines) = parts(alloc, sifted)?;
-    assert_eq!(rt; kept.as_slice(), [7, 5].as_slice());
-    assert_eq!(rt; rejected.as_slice(), [4, 3].as_slice());
-    assert_eq!(rt; lines.as_str(), "big(var) = false\n");
+    assert!(rt; keeps(alloc, &sifted, [4, 3], "big(var) = false\n")?);
     Ok(())
 }
 
-// Why the file is a script or no file, or `none`.
-fn script(alloc: Global, file: &Snapshot) -> Result<String, AllocError> {
+// Whether these lines tell why the file is no script.
+fn is_refused(alloc: Global, file: &Snapshot, lines: &str) -> Result<bool, AllocError> {
     match no_script(alloc, file)? {
-        Some(case) => render(alloc, &case),
-        None => text(alloc, "none"),
+        Some(case) => Ok(render(alloc, &case)?.as_str() == lines),
+        None => Ok(false),
     }
 }
 
@@ -122,36 +126,37 @@ fn checks_scripts(rt: HostRuntime) -> Result<(), Fail> {
     let alloc = rt.alloc();
     let content = Vec::from_slice(alloc, b"#!/bin/sh\n")?;
     let linked = link(alloc, "link", Ok(FileType::File), Ok(content))?;
-    assert_eq!(rt; script(alloc, &linked)?.as_str(), "none");
-    assert_eq!(rt;
-        script(alloc, &file(alloc, "a", b" #!")?)?.as_str(),
-        "\
+    assert!(rt; no_script(alloc, &linked)?.is_none());
+    let spaced = file(alloc, "a", b" #!")?;
+    let lines = "\
 script = false
   script: (var is file && var.starts_with(\"#!\")) = false
     right: var.starts_with(\"#!\") = false
       - var:  #!
       - var as str:  #!
       - var: a
-"
-    );
+";
+    assert!(rt; is_refused(alloc, &spaced, lines)?);
     let nothing = Err(PathFault::NotFound);
     let lost = link(alloc, "lost", nothing, Err(PathFault::NotFound))?;
-    assert_eq!(rt;
-        script(alloc, &lost)?.as_str(),
-        "\
+    let lines = "\
 script = false
   script: (var is file && var.starts_with(\"#!\")) = false
     left: var is file = false
       - error: not found
-"
-    );
+";
+    assert!(rt; is_refused(alloc, &lost, lines)?);
     Ok(())
 }
 
-// Whether the file is a copy of one at `q` with the content `a`.
-fn is_copied(alloc: Global, file_there: Snapshot) -> Result<Result<bool, PathFault>, AllocError> {
+// Whether it is told so that the file is a copy of one at `q` with the content `a`, or is none.
+fn is_copied(
+    alloc: Global,
+    file_there: Snapshot,
+    told: Result<bool, PathFault>,
+) -> Result<bool, AllocError> {
     let copy = file(alloc, "q", b"a")?;
-    Ok(is_copy(alloc, file_there, &copy))
+    Ok(is_copy(alloc, file_there, &copy) == told)
 }
 
 // A folder at `d`.
@@ -164,44 +169,46 @@ fn folder(alloc: Global) -> Result<Snapshot, AllocError> {
 #[test]
 fn checks_files(rt: HostRuntime) -> Result<(), Fail> {
     let alloc = rt.alloc();
-    assert_eq!(rt; is_copied(alloc, file(alloc, "p", b"a")?)?, Ok(true));
-    assert_eq!(rt; is_copied(alloc, file(alloc, "p", b"b")?)?, Ok(false));
-    assert_eq!(rt;
-        is_copied(alloc, folder(alloc)?)?,
-        Err(PathFault::NotRegular)
-    );
+    assert!(rt; is_copied(alloc, file(alloc, "p", b"a")?, Ok(true))?);
+    assert!(rt; is_copied(alloc, file(alloc, "p", b"b")?, Ok(false))?);
+    assert!(rt; is_copied(alloc, folder(alloc)?, Err(PathFault::NotRegular))?);
     let marked = file(alloc, "run.sh", b"#!/bin/sh\n")?;
-    assert_eq!(rt; script(alloc, &marked)?.as_str(), "none");
-    assert_eq!(rt;
-        script(alloc, &file(alloc, "run.sh", b"echo")?)?.as_str(),
-        "\
+    assert!(rt; no_script(alloc, &marked)?.is_none());
+    let bare = file(alloc, "run.sh", b"echo")?;
+    let lines = "\
 script = false
   script: (var is file && var.starts_with(\"#!\")) = false
     right: var.starts_with(\"#!\") = false
       - var: echo
       - var as str: echo
       - var: run.sh
-"
-    );
+";
+    assert!(rt; is_refused(alloc, &bare, lines)?);
     Ok(())
 }
 
-// Why the policy of the tokens does not hold of the item, or `met`.
-fn policy_told(alloc: Global, tokens: &[String], item: &str) -> Result<String, Fail> {
-    let Ok(policy) = read_policy(alloc, tokens) else {
-        return Err("refused".into());
-    };
-    match require(alloc, &policy, &text(alloc, item)?) {
-        Ok(()) => Ok(text(alloc, "met")?),
-        Err(Unmet::Fails(lines)) => Ok(lines),
-        Err(Unmet::NoMemory) => Err("another answer".into()),
+// Why the policy of the tokens does not hold of the item, or `met`; or that it was refused.
+fn policy_told(alloc: Global, tokens: &[String], item: &str) -> Result<String, AllocError> {
+    let item = text(alloc, item)?;
+    match read_policy(alloc, tokens) {
+        Ok(policy) => told(alloc, &policy, &item),
+        Err(_) => text(alloc, "refused"),
     }
 }
 
-// The fault of the tokens, or none.
-fn refusal(alloc: Global, tokens: &[&str]) -> Result<Option<PolicyFault>, AllocError> {
+fn policy_tells(
+    alloc: Global,
+    tokens: &[String],
+    item: &str,
+    lines: &str,
+) -> Result<bool, AllocError> {
+    Ok(policy_told(alloc, tokens, item)?.as_str() == lines)
+}
+
+// Whether the tokens have the fault.
+fn has_fault(alloc: Global, tokens: &[&str], fault: PolicyFault) -> Result<bool, AllocError> {
     let tokens = words(alloc, tokens)?;
-    Ok(read_policy(alloc, tokens.as_slice()).err())
+    Ok(read_policy(alloc, tokens.as_slice()).err() == Some(fault))
 }
 
 const REFUSED: [(&[&str], PolicyFault); 4] = [
@@ -218,18 +225,16 @@ fn reads_policies(rt: HostRuntime) -> Result<(), Fail> {
         alloc,
         ["empty", "trim", "not", "contains=#", "not", "and"].as_slice(),
     )?;
-    assert_eq!(rt; policy_told(alloc, &tokens, "a line")?.as_str(), "met");
-    assert_eq!(rt;
-        policy_told(alloc, &tokens, "a # b")?.as_str(),
-        "\
+    assert!(rt; policy_tells(alloc, &tokens, "a line", "met")?);
+    let lines = "\
 ((! var.is_empty()) && (! var.contains(#))) = false
   right: (! var.contains(#)) = false
     predicate: var.contains(#) = true
       - var: a # b
-"
-    );
+";
+    assert!(rt; policy_tells(alloc, &tokens, "a # b", lines)?);
     for (tokens, fault) in REFUSED {
-        assert_eq!(rt; refusal(alloc, tokens)?, Some(fault), "at {tokens:?}");
+        assert!(rt; has_fault(alloc, tokens, fault)?, "at {tokens:?}");
     }
     Ok(())
 }
@@ -238,28 +243,35 @@ fn reads_policies(rt: HostRuntime) -> Result<(), Fail> {
 #[test]
 fn reads_no_words_and_many(rt: HostRuntime) -> Result<(), Fail> {
     let alloc = rt.alloc();
-    assert_eq!(rt; refusal(alloc, &[])?, Some(PolicyFault::NotOne));
+    assert!(rt; has_fault(alloc, &[], PolicyFault::NotOne)?);
     let mut tokens = words(alloc, ["empty"].as_slice())?;
     for _ in 0..300u32 {
         tokens.push(text(alloc, "not")?)?;
     }
-    assert_eq!(rt; policy_told(alloc, &tokens, "")?.as_str(), "met");
+    assert!(rt; policy_tells(alloc, &tokens, "", "met")?);
     let lines = policy_told(alloc, &tokens, "a")?;
     assert!(rt; lines.as_str().ends_with("  - var: a\n"));
     Ok(())
 }
 
+fn json(alloc: Global, case: &Case) -> Result<String, AllocError> {
+    case_json(alloc, &case.root())?.to_string(alloc)
+}
+
 // The case of 11, which is not between 5 and 10.
-fn json_of_eleven(alloc: Global) -> Result<String, Fail> {
+fn json_of_eleven(alloc: Global) -> Result<String, AllocError> {
     let between = predicate::ge(5).and(predicate::le(10));
-    let case = between.find_case(alloc, false, &11)?.ok_or("no case")?;
-    Ok(case_json(alloc, &case.root())?.to_string(alloc)?)
+    match between.find_case(alloc, false, &11)? {
+        Some(case) => json(alloc, &case),
+        None => text(alloc, "none"),
+    }
 }
 
 #[test]
 fn writes_json(rt: HostRuntime) -> Result<(), Fail> {
+    let written = json_of_eleven(rt.alloc())?;
     assert_eq!(rt;
-        json_of_eleven(rt.alloc())?.as_str(),
+        written.as_str(),
         "{\"children\":[{\"case\":{\"children\":[],\"products\":[{\"name\":\"var\",\"value\":\"11\"}],\"result\":false,\"text\":\"var <= 10\"},\"name\":\"right\"}],\"products\":[],\"result\":false,\"text\":\"(var >= 5 && var <= 10)\"}"
     );
     Ok(())

@@ -1,7 +1,7 @@
 // The cases that the guide shows.
 mod paths;
 
-use super::{case_of, explain_onto, has_parameter, text};
+use super::{explain_onto, has_case, has_parameter, text};
 use predicates::prelude::*;
 use predicates::static_text::StaticText;
 use predicates::{BoxPredicate, TextPredicate};
@@ -14,11 +14,9 @@ fn first_example(rt: HostRuntime) -> Result<(), Fail> {
     let alloc = rt.alloc();
     let between = predicate::ge(5).and(predicate::le(10));
     assert!(rt; between.eval(alloc, &7)?);
-    assert_eq!(rt; case_of(alloc, &between, false, &7)?.as_str(), "none");
-    assert_eq!(rt;
-        case_of(alloc, &between, false, &11)?.as_str(),
-        "(var >= 5 && var <= 10) = false\n  right: var <= 10 = false\n    - var: 11\n"
-    );
+    assert!(rt; has_case(alloc, &between, false, &7, "none")?);
+    let lines = "(var >= 5 && var <= 10) = false\n  right: var <= 10 = false\n    - var: 11\n";
+    assert!(rt; has_case(alloc, &between, false, &11, lines)?);
     Ok(())
 }
 
@@ -103,14 +101,18 @@ fn lists_onto(rt: &impl Abort, alloc: Global, out: &mut String) -> Result<(), Fa
     has_parameter(rt, alloc, &sorted, "values", "[1, 3, 3]")
 }
 
+fn set_onto(rt: &impl Abort, alloc: Global, out: &mut String) -> Result<(), Fail> {
+    let hashed = predicate::in_hash(alloc, [3i64, 1, 3])?;
+    explain_onto(alloc, out, &hashed, &1)?;
+    has_parameter(rt, alloc, &hashed, "values", "{3, 1}")
+}
+
 #[test]
 fn memberships(rt: HostRuntime) -> Result<(), Fail> {
     let alloc = rt.alloc();
     let mut out = String::new(alloc);
     lists_onto(&rt, alloc, &mut out)?;
-    let hashed = predicate::in_hash(alloc, [3i64, 1, 3])?;
-    explain_onto(alloc, &mut out, &hashed, &1)?;
-    has_parameter(&rt, alloc, &hashed, "values", "{3, 1}")?;
+    set_onto(&rt, alloc, &mut out)?;
     assert_eq!(rt;
         out.as_str(),
         "\
@@ -311,11 +313,8 @@ fn boxed_onto(
 fn boxes(rt: HostRuntime) -> Result<(), Fail> {
     let alloc = rt.alloc();
     let mut out = String::new(alloc);
-    boxed_onto(
-        alloc,
-        &mut out,
-        Box::new(alloc, predicate::str::is_empty())?,
-    )?;
+    let empty = Box::new(alloc, predicate::str::is_empty())?;
+    boxed_onto(alloc, &mut out, empty)?;
     let any = predicate::always().name(StaticText::new("any"));
     boxed_onto(alloc, &mut out, Box::new(alloc, any)?)?;
     assert_eq!(rt;

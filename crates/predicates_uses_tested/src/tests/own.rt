@@ -1,4 +1,4 @@
-use super::{case_of, explain_onto, text};
+use super::{explain_onto, has_case, text};
 use predicates::default_find_case;
 use predicates::own::{and_case, bare_case, leaf, not_case, xor_case};
 use predicates::prelude::*;
@@ -27,19 +27,18 @@ fn tell_onto<P: Predicate<u32>>(
     explain_onto(alloc, out, predicate, &41)
 }
 
-// The lines of the case for the verdict where `eval` gives it, or `another`.
-fn case_if<P: Predicate<u32>>(
+// Whether the verdict is that, and its case has the lines.
+fn holds_with<P: Predicate<u32>>(
     alloc: Global,
     predicate: &P,
     verdict: bool,
     item: &u32,
-) -> Result<String, AllocError>
+    lines: &str,
+) -> Result<bool, AllocError>
     requires { P.lawful predicate.now }
 {
-    if predicate.eval(alloc, item)? != verdict {
-        return text(alloc, "another");
-    }
-    case_of(alloc, predicate, verdict, item)
+    let answered = predicate.eval(alloc, item)?;
+    Ok(answered == verdict && has_case(alloc, predicate, verdict, item, lines)?)
 }
 
 // How many parameters and children there are.
@@ -55,19 +54,15 @@ fn sizes_of<P: PredicateReflection>(
 fn a_leaf_of_the_callers_own(rt: HostRuntime) -> Result<(), Fail> {
     let alloc = rt.alloc();
     let either = IsTheAnswer.or(predicate::in_iter(alloc, [41u32, 43])?);
-    assert_eq!(rt;
-        case_if(alloc, &either, true, &41)?.as_str(),
-        "\
+    let lines = "\
 (var.is_the_answer() || var in values) = true
   right: var in values = true
     - var: 41
-"
-    );
-    assert_eq!(rt;
-        case_of(alloc, &IsTheAnswer, false, &41)?.as_str(),
-        "var.is_the_answer() = false\n  - var: 41\n"
-    );
-    assert_eq!(rt; case_of(alloc, &IsTheAnswer, true, &41)?.as_str(), "none");
+";
+    assert!(rt; holds_with(alloc, &either, true, &41, lines)?);
+    let lines = "var.is_the_answer() = false\n  - var: 41\n";
+    assert!(rt; has_case(alloc, &IsTheAnswer, false, &41, lines)?);
+    assert!(rt; has_case(alloc, &IsTheAnswer, true, &41, "none")?);
     assert_eq!(rt; sizes_of(alloc, &IsTheAnswer)?, (0, 0));
     Ok(())
 }
@@ -76,36 +71,30 @@ fn a_leaf_of_the_callers_own(rt: HostRuntime) -> Result<(), Fail> {
 fn a_combinator_of_the_callers_own(rt: HostRuntime) -> Result<(), Fail> {
     let alloc = rt.alloc();
     let either = Either::new(IsTheAnswer, predicate::in_iter(alloc, [41u32, 43])?);
-    assert_eq!(rt;
-        case_if(alloc, &either, true, &41)?.as_str(),
-        "\
+    let lines = "\
 either(var.is_the_answer(), var in values) = true
   right: var in values = true
     - var: 41
-"
-    );
-    assert_eq!(rt;
-        case_of(alloc, &either, false, &40)?.as_str(),
-        "\
+";
+    assert!(rt; holds_with(alloc, &either, true, &41, lines)?);
+    let lines = "\
 either(var.is_the_answer(), var in values) = false
   left: var.is_the_answer() = false
     - var: 40
   right: var in values = false
     - var: 40
-"
-    );
+";
+    assert!(rt; has_case(alloc, &either, false, &40, lines)?);
     assert_eq!(rt; sizes_of(alloc, &either)?.0, 0);
     let under = either.not().name("answer");
-    assert_eq!(rt;
-        case_of(alloc, &under, false, &42)?.as_str(),
-        "\
+    let lines = "\
 answer = false
   answer: (! either(var.is_the_answer(), var in values)) = false
     predicate: either(var.is_the_answer(), var in values) = true
       left: var.is_the_answer() = true
         - var: 42
-"
-    );
+";
+    assert!(rt; has_case(alloc, &under, false, &42, lines)?);
     Ok(())
 }
 
@@ -249,72 +238,61 @@ either(var.is_the_answer(), var < 42) = true
 fn an_adapter_of_the_callers_own(rt: HostRuntime) -> Result<(), Fail> {
     let alloc = rt.alloc();
     let short = OfLength::new(predicate::le(3)).not();
-    assert_eq!(rt;
-        case_of(alloc, &short, true, &text(alloc, "äbc")?)?.as_str(),
-        "(! var <= 3) = true\n  predicate: var <= 3 = false\n    - var: 4\n"
-    );
-    assert_eq!(rt; short.eval(alloc, &text(alloc, "abc")?)?, false);
+    let long = text(alloc, "äbc")?;
+    let lines = "(! var <= 3) = true\n  predicate: var <= 3 = false\n    - var: 4\n";
+    assert!(rt; has_case(alloc, &short, true, &long, lines)?);
+    let item = text(alloc, "abc")?;
+    assert!(rt; !short.eval(alloc, &item)?);
     let of_any = OfLength::new(predicate::always::<usize>());
     assert_eq!(rt; sizes_of(alloc, &of_any)?.0, 1);
-    assert_eq!(rt;
-        sizes_of(alloc, &OfLength::new(IsTheAnswer.name("n")))?.1,
-        1
-    );
+    let of_named = OfLength::new(IsTheAnswer.name("n"));
+    assert_eq!(rt; sizes_of(alloc, &of_named)?.1, 1);
     Ok(())
 }
 
-// The lines of the case, or `none`.
-fn lines(alloc: Global, found: Option<Case>) -> Result<String, AllocError> {
+// Whether the case has the lines.
+fn has_lines(alloc: Global, found: Option<Case>, lines: &str) -> Result<bool, AllocError> {
     match found {
-        Some(case) => render(alloc, &case),
-        None => text(alloc, "none"),
+        Some(case) => Ok(render(alloc, &case)?.as_str() == lines),
+        None => Ok(false),
     }
 }
 
 // By `and` and by `xor`.
-fn cases_of_two(alloc: Global) -> Result<(String, String), AllocError> {
+fn has_cases_of_two(alloc: Global, both: &str, one: &str) -> Result<(bool, bool), AllocError> {
     let (low, small) = (predicate::lt(3), predicate::lt(5));
     let found = and_case(alloc, &IsTheAnswer, &low, &small, false, &4)?;
-    let both = lines(alloc, found)?;
+    let is_both = has_lines(alloc, found, both)?;
     let found = xor_case(alloc, &IsTheAnswer, &low, &small, true, &4)?;
-    Ok((both, lines(alloc, found)?))
+    Ok((is_both, has_lines(alloc, found, one)?))
 }
 
-// By `not`, and bare, of the verdict and of the opposite.
-fn cases_of_one(alloc: Global) -> Result<(String, String, String), AllocError> {
+// By `not`, and bare, of the verdict alone.
+fn has_cases_of_one(alloc: Global, turned: &str, bare: &str) -> Result<[bool; 3], AllocError> {
     let found = not_case(alloc, &IsTheAnswer, &predicate::lt(3), true, &4)?;
-    let turned = lines(alloc, found)?;
+    let is_turned = has_lines(alloc, found, turned)?;
     let found = bare_case(alloc, &IsTheAnswer, true, true)?;
-    let bare = lines(alloc, found)?;
+    let is_bare = has_lines(alloc, found, bare)?;
     let found = bare_case(alloc, &IsTheAnswer, true, false)?;
-    Ok((turned, bare, lines(alloc, found)?))
+    Ok([is_turned, is_bare, found.is_none()])
 }
 
 // Each call that makes a case for a predicate of one's own, under the text of the leaf.
 #[test]
 fn own_cases(rt: HostRuntime) -> Result<(), Fail> {
-    let (both, one) = cases_of_two(rt.alloc())?;
-    assert_eq!(rt;
-        both.as_str(),
-        "var.is_the_answer() = false\n  left: var < 3 = false\n    - var: 4\n"
-    );
-    assert_eq!(rt;
-        one.as_str(),
-        "\
+    let both = "var.is_the_answer() = false\n  left: var < 3 = false\n    - var: 4\n";
+    let one = "\
 var.is_the_answer() = true
   left: var < 3 = false
     - var: 4
   right: var < 5 = true
     - var: 4
-"
-    );
-    let (turned, bare, none) = cases_of_one(rt.alloc())?;
-    assert_eq!(rt;
-        turned.as_str(),
-        "var.is_the_answer() = true\n  predicate: var < 3 = false\n    - var: 4\n"
-    );
-    assert_eq!(rt; bare.as_str(), "var.is_the_answer() = true\n");
-    assert_eq!(rt; none.as_str(), "none");
+";
+    assert_eq!(rt; has_cases_of_two(rt.alloc(), both, one)?, (true, true));
+    let turned = "var.is_the_answer() = true\n  predicate: var < 3 = false\n    - var: 4\n";
+    let bare = "var.is_the_answer() = true\n";
+    let found = has_cases_of_one(rt.alloc(), turned, bare)?;
+    assert_eq!(rt; found, [true, true, true]);
     Ok(())
 }
 
@@ -322,11 +300,7 @@ var.is_the_answer() = true
 fn a_bare_leaf(rt: HostRuntime) -> Result<(), Fail> {
     let alloc = rt.alloc();
     let found = default_find_case(alloc, &IsTheAnswer, true, &42)?;
-    assert_eq!(rt;
-        lines(alloc, found)?.as_str(),
-        "var.is_the_answer() = true\n"
-    );
-    let found = default_find_case(alloc, &IsTheAnswer, true, &41)?;
-    assert_eq!(rt; lines(alloc, found)?.as_str(), "none");
+    assert!(rt; has_lines(alloc, found, "var.is_the_answer() = true\n")?);
+    assert!(rt; default_find_case(alloc, &IsTheAnswer, true, &41)?.is_none());
     Ok(())
 }
