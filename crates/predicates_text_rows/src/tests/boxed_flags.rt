@@ -45,6 +45,16 @@ fn pattern(alloc: Global) -> Result<RegexPredicate, Fail> {
     }
 }
 
+fn print_members(alloc: Global, out: &mut String) -> Result<(), AllocError> {
+    print_boxed(alloc, out, Box::new(alloc, in_iter(alloc, twice(alloc)?)?)?)?;
+    print_boxed(
+        alloc,
+        out,
+        Box::new(alloc, in_iter(alloc, twice(alloc)?)?.sort()?)?,
+    )?;
+    print_boxed(alloc, out, Box::new(alloc, in_hash(alloc, twice(alloc)?)?)?)
+}
+
 #[test]
 fn comparisons_and_memberships_in_boxes(rt: HostRuntime) -> Result<(), Fail> {
     let alloc = rt.alloc();
@@ -52,18 +62,7 @@ fn comparisons_and_memberships_in_boxes(rt: HostRuntime) -> Result<(), Fail> {
     print_boxed(alloc, &mut out, Box::new(alloc, always())?)?;
     print_boxed(alloc, &mut out, Box::new(alloc, eq(a_b(alloc)?))?)?;
     print_boxed(alloc, &mut out, Box::new(alloc, ge(a_b(alloc)?))?)?;
-    print_boxed(
-        alloc,
-        &mut out,
-        Box::new(alloc, in_iter(alloc, twice(alloc)?)?)?,
-    )?;
-    let sorted = in_iter(alloc, twice(alloc)?)?.sort()?;
-    print_boxed(alloc, &mut out, Box::new(alloc, sorted)?)?;
-    print_boxed(
-        alloc,
-        &mut out,
-        Box::new(alloc, in_hash(alloc, twice(alloc)?)?)?,
-    )?;
+    print_members(alloc, &mut out)?;
     assert_eq!(rt;
         out.as_str(),
         "\

@@ -7,19 +7,26 @@ use predicates::str::{contains, is_empty};
 use predicates::{BoxPredicate, TextPredicate};
 use predicates_core::static_text::StaticText;
 use predicates_generated::{describe, tell, text};
+use std::alloc::{AllocError, Global};
 use std::test::Fail;
+
+fn three_boxes(alloc: Global) -> Result<Vec<BoxPredicate>, AllocError> {
+    let mut boxes = Vec::new(alloc);
+    boxes.push(BoxPredicate::new(alloc, Box::new(alloc, is_empty())?)?)?;
+    boxes.push(BoxPredicate::new(alloc, Box::new(alloc, contains(text(alloc, "a")?))?)?)?;
+    boxes.push(BoxPredicate::new(
+        alloc,
+        Box::new(alloc, always().name(StaticText::new("any")))?,
+    )?)?;
+    Ok(boxes)
+}
 
 #[test]
 fn one_vector_of_three_types(rt: HostRuntime) -> Result<(), Fail> {
     let alloc = rt.alloc();
     let mut out = String::new(alloc);
     let item = text(alloc, "b")?;
-    let empty = BoxPredicate::new(alloc, Box::new(alloc, is_empty())?)?;
-    let part = contains(text(alloc, "a")?);
-    let part = BoxPredicate::new(alloc, Box::new(alloc, part)?)?;
-    let any = always().name(StaticText::new("any"));
-    let any = BoxPredicate::new(alloc, Box::new(alloc, any)?)?;
-    let checks = vec![in alloc; empty, part, any]?;
+    let checks = three_boxes(alloc)?;
     for check in &checks {
         tell(alloc, &mut out, check, &item)?;
         describe(alloc, &mut out, check)?;
@@ -46,13 +53,16 @@ any
 fn boxed_and_not(rt: HostRuntime) -> Result<(), Fail> {
     let alloc = rt.alloc();
     let item = text(alloc, "4")?;
-    let mut boxed = String::new(alloc);
-    let made = Box::new(alloc, gt(text(alloc, "5")?))?;
-    tell(alloc, &mut boxed, &BoxPredicate::new(alloc, made)?, &item)?;
-    let mut alone = String::new(alloc);
-    tell(alloc, &mut alone, &gt(text(alloc, "5")?), &item)?;
-    assert_eq!(rt; boxed.as_str(), "var > \"5\" = false\n  - var: \"4\"\n");
-    assert_eq!(rt; alone.as_str(), boxed.as_str());
+    let (mut told_alone, mut told_boxed) = (String::new(alloc), String::new(alloc));
+    let above = gt(text(alloc, "5")?);
+    tell(alloc, &mut told_alone, &above, &item)?;
+    let boxed = BoxPredicate::new(alloc, Box::new(alloc, above)?)?;
+    tell(alloc, &mut told_boxed, &boxed, &item)?;
+    assert_eq!(rt;
+        told_boxed.as_str(),
+        "var > \"5\" = false\n  - var: \"4\"\n"
+    );
+    assert_eq!(rt; told_alone.as_str(), told_boxed.as_str());
     Ok(())
 }
 

@@ -1,7 +1,8 @@
 //! What patterns match, and how often.
+use super::tell_on;
 use predicates::str::{RegexMatchesPredicate, RegexPredicate, is_match};
 use predicates_core::Predicate;
-use predicates_generated::{describe, tell, text};
+use predicates_generated::{describe, text};
 use std::alloc::Global;
 use std::test::Fail;
 
@@ -16,24 +17,27 @@ fn count_of(alloc: Global, of: &str, count: usize) -> Result<RegexMatchesPredica
     Ok(pattern(alloc, of)?.count(count))
 }
 
+fn counted_onto(alloc: Global, out: &mut String) -> Result<(), Fail> {
+    let three = count_of(alloc, "T[a-z]*", 3)?;
+    tell_on(alloc, out, &three, "One Two Three Two One")?;
+    tell_on(alloc, out, &three, "One Two Three")?;
+    describe(alloc, out, &three)?;
+    let none = count_of(alloc, "T[a-z]*", 0)?;
+    Ok(tell_on(alloc, out, &none, "one")?)
+}
+
+fn found_onto(alloc: Global, out: &mut String) -> Result<(), Fail> {
+    let some = pattern(alloc, "T[a-z]*")?;
+    tell_on(alloc, out, &some, "Two")?;
+    Ok(describe(alloc, out, &some)?)
+}
+
 #[test]
 fn words_are_counted(rt: HostRuntime) -> Result<(), Fail> {
     let alloc = rt.alloc();
     let mut out = String::new(alloc);
-    let three = count_of(alloc, "T[a-z]*", 3)?;
-    tell(
-        alloc,
-        &mut out,
-        &three,
-        &text(alloc, "One Two Three Two One")?,
-    )?;
-    tell(alloc, &mut out, &three, &text(alloc, "One Two Three")?)?;
-    describe(alloc, &mut out, &three)?;
-    let none = count_of(alloc, "T[a-z]*", 0)?;
-    tell(alloc, &mut out, &none, &text(alloc, "one")?)?;
-    let some = pattern(alloc, "T[a-z]*")?;
-    tell(alloc, &mut out, &some, &text(alloc, "Two")?)?;
-    describe(alloc, &mut out, &some)?;
+    counted_onto(alloc, &mut out)?;
+    found_onto(alloc, &mut out)?;
     assert_eq!(rt;
         out.as_str(),
         "\
@@ -61,8 +65,8 @@ fn whole_lines(rt: HostRuntime) -> Result<(), Fail> {
     let alloc = rt.alloc();
     let mut out = String::new(alloc);
     let greeting = pattern(alloc, "^Hello.*$")?;
-    tell(alloc, &mut out, &greeting, &text(alloc, "Hello World")?)?;
-    tell(alloc, &mut out, &greeting, &text(alloc, "Food World")?)?;
+    tell_on(alloc, &mut out, &greeting, "Hello World")?;
+    tell_on(alloc, &mut out, &greeting, "Food World")?;
     assert_eq!(rt;
         out.as_str(),
         "\
@@ -87,9 +91,17 @@ fn patterns_that_are_refused(rt: HostRuntime) -> Result<(), Fail> {
     Ok(())
 }
 
+// Whether the pattern is found as often as that, and not once more.
+fn is_counted(alloc: Global, of: &str, item: &str, count: usize) -> Result<bool, Fail> {
+    let item = text(alloc, item)?;
+    let is_found = pattern(alloc, of)?.eval(alloc, &item)? == (count != 0);
+    let is_right = count_of(alloc, of, count)?.eval(alloc, &item)?;
+    let is_more = count_of(alloc, of, count.saturating_add(1))?.eval(alloc, &item)?;
+    Ok(is_found && is_right && !is_more)
+}
+
 #[test]
 fn matches_of_no_characters(rt: HostRuntime) -> Result<(), Fail> {
-    let alloc = rt.alloc();
     // A pattern, a text, and the number of matches, one before each character and one at the end.
     let rows = [
         ("", "", 1),
@@ -99,19 +111,13 @@ fn matches_of_no_characters(rt: HostRuntime) -> Result<(), Fail> {
         ("x*", "ä€😀", 4),
     ];
     for (of, item, count) in rows {
-        let item = text(alloc, item)?;
-        assert!(rt; pattern(alloc, of)?.eval(alloc, &item)?, "{of} in {item}");
-        let right = count_of(alloc, of, count)?;
-        assert!(rt; right.eval(alloc, &item)?, "{of} in {item}");
-        let wrong = count_of(alloc, of, count + 1)?;
-        assert!(rt; !wrong.eval(alloc, &item)?, "{of} in {item}");
+        assert!(rt; is_counted(rt.alloc(), of, item, count)?, "{of} in {item}");
     }
     Ok(())
 }
 
 #[test]
 fn texts_beyond_ascii(rt: HostRuntime) -> Result<(), Fail> {
-    let alloc = rt.alloc();
     // A pattern, a text, and the number of matches.
     let rows = [
         ("ä", "ää", 2),
@@ -121,16 +127,7 @@ fn texts_beyond_ascii(rt: HostRuntime) -> Result<(), Fail> {
         ("é", "e", 0),
     ];
     for (of, item, count) in rows {
-        let item = text(alloc, item)?;
-        assert_eq!(rt;
-            pattern(alloc, of)?.eval(alloc, &item)?,
-            count != 0,
-            "{of} in {item}"
-        );
-        assert!(rt;
-            count_of(alloc, of, count)?.eval(alloc, &item)?,
-            "{of} in {item}"
-        );
+        assert!(rt; is_counted(rt.alloc(), of, item, count)?, "{of} in {item}");
     }
     Ok(())
 }

@@ -1,41 +1,43 @@
 //! What the tests of texts answer, and the count beside every choice of places.
+use super::tell_on;
 use predicates::str::{contains, ends_with, is_empty, is_match, starts_with};
-use predicates_generated::{ask, describe, greatest_choice, tell, text};
+use predicates_core::Predicate;
+use predicates_generated::{ask, describe, greatest_choice, text};
 use std::alloc::{AllocError, Global};
 use std::test::Fail;
 
+// A pattern and a text, the count that is set, and the verdict with the number of places.
+const COUNTS: [([&str; 2], usize, bool, usize); 11] = [
+    (["aba", "ababa"], 2, false, 1),
+    (["aa", "aaaa"], 1, false, 2),
+    (["aa", "aaaaa"], 2, true, 2),
+    (["", ""], 1, true, 1),
+    (["ä", "ää"], 2, true, 2),
+    (["x", "abc"], 0, true, 0),
+    (["abc", "ab"], 0, true, 0),
+    (["aa", "aaaa"], 2, true, 2),
+    (["", "äb"], 3, true, 3),
+    (["Two", "One Two Three Two One"], 2, true, 2),
+    (["Two", "One Two Three"], 2, false, 1),
+];
+
+// Whether the check says of itself which count is set.
+fn is_described(alloc: Global, pattern: &str, set: usize) -> Result<bool, AllocError> {
+    let check = contains(text(alloc, pattern)?).count(set);
+    let mut found = String::new(alloc);
+    describe(alloc, &mut found, &check)?;
+    let expected = format!(in alloc; "var.contains({pattern})\n  - count: {set}\n")?;
+    Ok(found == expected)
+}
+
 #[test]
 fn counts(rt: HostRuntime) -> Result<(), Fail> {
-    let alloc = rt.alloc();
-    // A pattern, the count that is set, a text, and the verdict with the number of places.
-    let rows = [
-        ("aba", 2, "ababa", false, 1),
-        ("aa", 1, "aaaa", false, 2),
-        ("aa", 2, "aaaaa", true, 2),
-        ("", 1, "", true, 1),
-        ("ä", 2, "ää", true, 2),
-        ("x", 0, "abc", true, 0),
-        ("abc", 0, "ab", true, 0),
-        ("aa", 2, "aaaa", true, 2),
-        ("", 3, "äb", true, 3),
-        ("Two", 2, "One Two Three Two One", true, 2),
-        ("Two", 2, "One Two Three", false, 1),
-    ];
-    for (pattern, set, item, verdict, count) in rows {
-        let check = contains(text(alloc, pattern)?).count(set);
-        let mut found = String::new(alloc);
-        tell(alloc, &mut found, &check, &text(alloc, item)?)?;
-        describe(alloc, &mut found, &check)?;
-        let expected = format!(in alloc;
-            "\
-var.contains({pattern}) = {verdict}
-  - var: {item}
-  - actual count: {count}
-var.contains({pattern})
-  - count: {set}
-"
-        )?;
-        assert_eq!(rt; found.as_str(), expected.as_str());
+    for (parts, set, verdict, count) in COUNTS {
+        assert!(rt;
+            is_counted(rt.alloc(), parts, set, verdict, count)?,
+            "{parts:?}"
+        );
+        assert!(rt; is_described(rt.alloc(), parts[0], set)?, "{parts:?}");
     }
     Ok(())
 }
@@ -62,12 +64,12 @@ fn is_counted(
     alloc: Global,
     [pattern, item]: [&str; 2],
     set: usize,
+    verdict: bool,
     count: usize,
 ) -> Result<bool, AllocError> {
     let check = contains(text(alloc, pattern)?).count(set);
     let mut found = String::new(alloc);
-    tell(alloc, &mut found, &check, &text(alloc, item)?)?;
-    let verdict = set == count;
+    tell_on(alloc, &mut found, &check, item)?;
     let expected = format!(in alloc;
         "\
 var.contains({pattern}) = {verdict}
@@ -98,7 +100,7 @@ fn counts_beside_every_choice(rt: HostRuntime) -> Result<(), Fail> {
                     greatest.saturating_sub(1),
                 ] {
                     assert!(rt;
-                        is_counted(alloc, parts, set, greatest)?,
+                        is_counted(alloc, parts, set, set == greatest, greatest)?,
                         "{pattern} in {whole}"
                     );
                     asked = asked.saturating_add(1);
@@ -111,28 +113,55 @@ fn counts_beside_every_choice(rt: HostRuntime) -> Result<(), Fail> {
     Ok(())
 }
 
+// What the predicate answers of the text, among all that it answers.
+fn answer<P: Predicate<String>>(
+    alloc: Global,
+    predicate: &P,
+    item: &str,
+) -> Result<bool, AllocError>
+    requires { P.lawful predicate.now }
+{
+    let item = text(alloc, item)?;
+    Ok(ask(alloc, predicate, &item)?.verdict)
+}
+
+fn starts(alloc: Global, item: &str, part: &str) -> Result<bool, AllocError> {
+    answer(alloc, &starts_with(text(alloc, part)?), item)
+}
+
+fn ends(alloc: Global, item: &str, part: &str) -> Result<bool, AllocError> {
+    answer(alloc, &ends_with(text(alloc, part)?), item)
+}
+
+fn has(alloc: Global, item: &str, part: &str) -> Result<bool, AllocError> {
+    answer(alloc, &contains(text(alloc, part)?), item)
+}
+
+// Whether the pattern is found; none where it is refused.
+fn matches_of(alloc: Global, item: &str, pattern: &str) -> Result<Option<bool>, AllocError> {
+    match is_match(alloc, text(alloc, pattern)?) {
+        Ok(found) => Ok(Some(answer(alloc, &found, item)?)),
+        Err(_) => Ok(None),
+    }
+}
+
 #[test]
 fn tests_of_texts(rt: HostRuntime) -> Result<(), Fail> {
     let alloc = rt.alloc();
-    let hello = text(alloc, "Hello World")?;
-    let food = text(alloc, "Food World")?;
-    let none = text(alloc, "")?;
-    assert!(rt; ask(alloc, &starts_with(text(alloc, "Hello")?), &hello)?.verdict);
-    assert!(rt; !ask(alloc, &starts_with(text(alloc, "Hello")?), &food)?.verdict);
-    assert!(rt; ask(alloc, &ends_with(text(alloc, "World")?), &hello)?.verdict);
-    assert!(rt; !ask(alloc, &ends_with(text(alloc, "Moon")?), &hello)?.verdict);
-    assert!(rt; ask(alloc, &is_empty(), &none)?.verdict);
-    assert!(rt; !ask(alloc, &is_empty(), &food)?.verdict);
-    for item in [&hello, &food, &none] {
-        assert!(rt; ask(alloc, &starts_with(text(alloc, "")?), item)?.verdict);
-        assert!(rt; ask(alloc, &ends_with(text(alloc, "")?), item)?.verdict);
-        assert!(rt; ask(alloc, &contains(text(alloc, "")?), item)?.verdict);
+    let (hello, food) = ("Hello World", "Food World");
+    assert!(rt; starts(alloc, hello, "Hello")?);
+    assert!(rt; !starts(alloc, food, "Hello")?);
+    assert!(rt; ends(alloc, hello, "World")?);
+    assert!(rt; !ends(alloc, hello, "Moon")?);
+    assert!(rt; answer(alloc, &is_empty(), "")?);
+    assert!(rt; !answer(alloc, &is_empty(), food)?);
+    for item in [hello, food, ""] {
+        assert!(rt; starts(alloc, item, "")?);
+        assert!(rt; ends(alloc, item, "")?);
+        assert!(rt; has(alloc, item, "")?);
     }
-    let greeting = is_match(alloc, text(alloc, "^Hello.*$")?)
-        .ok()
-        .ok_or("refused")?;
-    assert!(rt; ask(alloc, &greeting, &hello)?.verdict);
-    assert!(rt; !ask(alloc, &greeting, &food)?.verdict);
-    assert!(rt; is_match(alloc, text(alloc, "(")?).is_err());
+    assert_eq!(rt; matches_of(alloc, hello, "^Hello.*$")?, Some(true));
+    assert_eq!(rt; matches_of(alloc, food, "^Hello.*$")?, Some(false));
+    assert_eq!(rt; matches_of(alloc, hello, "(")?, None);
     Ok(())
 }

@@ -3,6 +3,7 @@
 use predicates::iter::{in_hash, in_iter};
 use predicates::ord::{eq, lt};
 use predicates::str::{contains, ends_with, is_empty, starts_with};
+use predicates_core::Predicate;
 use predicates_generated::{text, verdict};
 use std::alloc::{AllocError, Global};
 use std::test::Fail;
@@ -19,36 +20,58 @@ fn letters(alloc: Global) -> Result<Vec<String>, AllocError> {
     Ok(letters)
 }
 
+// The verdict on the text.
+fn verdict_on<P: Predicate<String>>(
+    alloc: Global,
+    predicate: &P,
+    item: &str,
+) -> Result<Option<bool>, AllocError>
+    requires { P.lawful predicate.now }
+{
+    verdict(alloc, predicate, &text(alloc, item)?)
+}
+
+// Those of the list, the sorted list and the set of the letters.
+fn among_letters(alloc: Global, item: &str) -> Result<[Option<bool>; 3], AllocError> {
+    let hashed = verdict_on(alloc, &in_hash(alloc, letters(alloc)?)?, item)?;
+    let listed = in_iter(alloc, letters(alloc)?)?;
+    let is_listed = verdict_on(alloc, &listed, item)?;
+    let sorted = verdict_on(alloc, &listed.sort()?, item)?;
+    Ok([is_listed, sorted, hashed])
+}
+
 #[test]
 fn memberships_of_texts(rt: HostRuntime) -> Result<(), Fail> {
-    let alloc = rt.alloc();
-    let listed = in_iter(alloc, letters(alloc)?)?;
-    let sorted = in_iter(alloc, letters(alloc)?)?.sort()?;
-    let hashed = in_hash(alloc, letters(alloc)?)?;
     for (item, expected) in [("a", YES), ("b", NO), ("c", YES)] {
-        let item = text(alloc, item)?;
-        assert_eq!(rt; verdict(alloc, &listed, &item)?, expected);
-        assert_eq!(rt; verdict(alloc, &sorted, &item)?, expected);
-        assert_eq!(rt; verdict(alloc, &hashed, &item)?, expected);
+        let found = among_letters(rt.alloc(), item)?;
+        assert_eq!(rt; found, [expected, expected, expected], "{item}");
     }
     Ok(())
+}
+
+fn starts(alloc: Global, item: &str, part: &str) -> Result<Option<bool>, AllocError> {
+    verdict_on(alloc, &starts_with(text(alloc, part)?), item)
+}
+
+fn ends(alloc: Global, item: &str, part: &str) -> Result<Option<bool>, AllocError> {
+    verdict_on(alloc, &ends_with(text(alloc, part)?), item)
+}
+
+fn has(alloc: Global, item: &str, part: &str) -> Result<Option<bool>, AllocError> {
+    verdict_on(alloc, &contains(text(alloc, part)?), item)
 }
 
 #[test]
 fn parts_of_texts(rt: HostRuntime) -> Result<(), Fail> {
     let alloc = rt.alloc();
-    let text = |written: &str| text(alloc, written);
-    let hello = starts_with(text("Hello")?);
-    assert_eq!(rt; verdict(alloc, &hello, &text("Hello World")?)?, YES);
-    assert_eq!(rt; verdict(alloc, &hello, &text("Goodbye World")?)?, NO);
-    let world = ends_with(text("World")?);
-    assert_eq!(rt; verdict(alloc, &world, &text("Hello World")?)?, YES);
-    assert_eq!(rt; verdict(alloc, &world, &text("Hello Moon")?)?, NO);
-    let two = contains(text("Two")?);
-    assert_eq!(rt; verdict(alloc, &two, &text("One Two Three")?)?, YES);
-    assert_eq!(rt; verdict(alloc, &two, &text("Four Five Six")?)?, NO);
-    assert_eq!(rt; verdict(alloc, &is_empty(), &text("")?)?, YES);
-    assert_eq!(rt; verdict(alloc, &is_empty(), &text("Food World")?)?, NO);
+    assert_eq!(rt; starts(alloc, "Hello World", "Hello")?, YES);
+    assert_eq!(rt; starts(alloc, "Goodbye World", "Hello")?, NO);
+    assert_eq!(rt; ends(alloc, "Hello World", "World")?, YES);
+    assert_eq!(rt; ends(alloc, "Hello Moon", "World")?, NO);
+    assert_eq!(rt; has(alloc, "One Two Three", "Two")?, YES);
+    assert_eq!(rt; has(alloc, "Four Five Six", "Two")?, NO);
+    assert_eq!(rt; verdict_on(alloc, &is_empty(), "")?, YES);
+    assert_eq!(rt; verdict_on(alloc, &is_empty(), "Food World")?, NO);
     Ok(())
 }
 
@@ -57,9 +80,9 @@ fn texts(rt: HostRuntime) -> Result<(), Fail> {
     let alloc = rt.alloc();
     let hello = eq(text(alloc, "Hello")?);
     let below_b = lt(text(alloc, "b")?);
-    assert_eq!(rt; verdict(alloc, &hello, &text(alloc, "Hello")?)?, YES);
-    assert_eq!(rt; verdict(alloc, &hello, &text(alloc, "Goodbye")?)?, NO);
-    assert_eq!(rt; verdict(alloc, &below_b, &text(alloc, "a")?)?, YES);
-    assert_eq!(rt; verdict(alloc, &below_b, &text(alloc, "c")?)?, NO);
+    assert_eq!(rt; verdict_on(alloc, &hello, "Hello")?, YES);
+    assert_eq!(rt; verdict_on(alloc, &hello, "Goodbye")?, NO);
+    assert_eq!(rt; verdict_on(alloc, &below_b, "a")?, YES);
+    assert_eq!(rt; verdict_on(alloc, &below_b, "c")?, NO);
     Ok(())
 }
