@@ -21,7 +21,12 @@ fn views_of_texts(rt: HostRuntime) -> Result<(), Fail> {
         )
     };
     let item = text(alloc, "    Hello    ")?;
-    ask(&rt, &eq(text(alloc, "Hello")?).trim(), &item, trimmed)?;
+    ask(&rt, &eq(text(alloc, "Hello")?).trim(), &item, trimmed)
+}
+
+#[test]
+fn texts_with_even_line_ends(rt: HostRuntime) -> Result<(), Fail> {
+    let alloc = rt.alloc();
     let normalized = Row {
         eval: Taken,
         opposite: Taken,
@@ -32,19 +37,17 @@ fn views_of_texts(rt: HostRuntime) -> Result<(), Fail> {
             "predicate: var == \"a\"\n",
         )
     };
-    ask(
-        &rt,
-        &eq(text(alloc, "a")?).normalize(),
-        &text(alloc, "a\r\n")?,
-        normalized,
-    )
+    let item = text(alloc, "a\r\n")?;
+    ask(&rt, &eq(text(alloc, "a")?).normalize(), &item, normalized)
 }
+
+// The parts of what decodes.
+const CHILDREN: &str = "predicate: (! var.is_empty())\n  predicate: var.is_empty()\n";
 
 #[test]
 fn texts_of_bytes(rt: HostRuntime) -> Result<(), Fail> {
     let alloc = rt.alloc();
     let decoded = is_empty().not().from_utf8();
-    let children = "predicate: (! var.is_empty())\n  predicate: var.is_empty()\n";
     let of_text = Row {
         eval: Taken,
         opposite: Taken,
@@ -57,36 +60,39 @@ fn texts_of_bytes(rt: HostRuntime) -> Result<(), Fail> {
   predicate: var.is_empty() = false
     - var: a
 ",
-            children,
+            CHILDREN,
         )
     };
-    ask(&rt, &decoded, &Vec::from_slice(alloc, b"a")?, of_text)?;
+    let bytes = Vec::from_slice(alloc, b"a")?;
+    ask(&rt, &decoded, &bytes, of_text)
+}
+
+#[test]
+fn texts_of_other_bytes(rt: HostRuntime) -> Result<(), Fail> {
+    let alloc = rt.alloc();
+    let decoded = is_empty().not().from_utf8();
     let of_bytes = Row {
         opposite: Never,
         ..over(
             "from_utf8 of other bytes",
             false,
             "(! var.is_empty()) = false\n  - error: Invalid UTF-8 string\n",
-            children,
+            CHILDREN,
         )
     };
-    ask(&rt, &decoded, &Vec::from_slice(alloc, b"\xff")?, of_bytes)?;
-    let of_nothing = over(
-        "from_utf8 of no bytes",
-        false,
-        "\
+    let bytes = Vec::from_slice(alloc, b"\xff")?;
+    ask(&rt, &decoded, &bytes, of_bytes)?;
+    let of_nothing = Row {
+        eval: Perhaps,
+        ..over(
+            "from_utf8 of no bytes",
+            false,
+            "\
 (! var.is_empty()) = false
   - var as str: \n  predicate: var.is_empty() = true
     - var: \n",
-        children,
-    );
-    ask(
-        &rt,
-        &decoded,
-        &Vec::new(alloc),
-        Row {
-            eval: Perhaps,
-            ..of_nothing
-        },
-    )
+            CHILDREN,
+        )
+    };
+    ask(&rt, &decoded, &Vec::new(alloc), of_nothing)
 }

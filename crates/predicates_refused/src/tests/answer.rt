@@ -25,15 +25,22 @@ pub enum Answer {
     OtherFault,
 }
 
+// Writes a line with a name and a text.
+fn add_line(lines: &mut String, start: &str, name: &str, text: &str) -> Result<(), AllocError> {
+    lines.push_str(start)?;
+    lines.push_str(name)?;
+    lines.push_str(": ")?;
+    lines.push_str(text)?;
+    lines.push('\n')
+}
+
 // A line for each child and, indented, one for each of its parts.
 fn tell_children(alloc: Global, children: &[Child]) -> Result<String, AllocError> {
     let mut lines = String::new(alloc);
     for child in children {
-        let (name, printed) = (child.name(), child.text());
-        lines.push_str(format!(in alloc; "{name}: {printed}\n")?.as_str())?;
+        add_line(&mut lines, "", child.name(), child.text())?;
         for part in child.children() {
-            let (name, printed) = (part.name(), part.text());
-            lines.push_str(format!(in alloc; "  {name}: {printed}\n")?.as_str())?;
+            add_line(&mut lines, "  ", part.name(), part.text())?;
         }
     }
     Ok(lines)
@@ -42,8 +49,7 @@ fn tell_children(alloc: Global, children: &[Child]) -> Result<String, AllocError
 fn tell_parameters(alloc: Global, parameters: &[Parameter]) -> Result<String, AllocError> {
     let mut lines = String::new(alloc);
     for parameter in parameters {
-        let (name, value) = (parameter.name(), parameter.value());
-        lines.push_str(format!(in alloc; "{name}: {value}\n")?.as_str())?;
+        add_line(&mut lines, "", parameter.name(), parameter.value())?;
     }
     Ok(lines)
 }
@@ -52,7 +58,8 @@ fn tell_parameters(alloc: Global, parameters: &[Parameter]) -> Result<String, Al
 fn tell_checks(alloc: Global, checks: &[TextCheck]) -> Result<String, AllocError> {
     let mut lines = String::new(alloc);
     for check in checks {
-        lines.push_str(format!(in alloc; "{check}\n")?.as_str())?;
+        let line = format!(in alloc; "{check}\n")?;
+        lines.push_str(line.as_str())?;
     }
     Ok(lines)
 }

@@ -1,11 +1,34 @@
 //! Input that is cut short at each of its bytes.
 use super::checks::stacked;
+use predicates::Predicate;
 use predicates::boolean::PredicateBooleanExt;
 use predicates::ord::{ge, le};
 use predicates_explain::{TextCheck, explain_one, number, run_between, run_check, run_text};
 use std::alloc::{AllocError, Global};
 use std::str;
 use std::test::Fail;
+
+// Writes that the line is no item.
+fn refuse(alloc: Global, out: &mut String, at: usize, why: &str) -> Result<bool, AllocError> {
+    let line = format!(in alloc; "line {at}: {why}\n")?;
+    out.push_str(line.as_str())?;
+    Ok(false)
+}
+
+// Writes the block of the item.
+fn add_block<P: Predicate<Item>, Item>(
+    alloc: Global,
+    predicate: &P,
+    out: &mut String,
+    label: &str,
+    item: &Item,
+) -> Result<bool, AllocError>
+    requires { P.lawful predicate.now }
+{
+    let block = explain_one(alloc, predicate, label, item)?;
+    out.push_str(block.as_str())?;
+    Ok(true)
+}
 
 // What is written for the number on the line between 5 and 10, and whether there is one.
 fn number_answer(
@@ -18,19 +41,11 @@ fn number_answer(
         [front @ .., b'\r'] => front,
         _ => line,
     };
-    match number(digits) {
-        Some(n) => {
-            let label = format!(in alloc; "{n}")?;
-            let block = explain_one(alloc, &ge(5i64).and(le(10)), label.as_str(), &n)?;
-            out.push_str(block.as_str())?;
-            Ok(true)
-        }
-        None => {
-            let label = format!(in alloc; "line {at}: not a number\n")?;
-            out.push_str(label.as_str())?;
-            Ok(false)
-        }
-    }
+    let Some(n) = number(digits) else {
+        return refuse(alloc, out, at, "not a number");
+    };
+    let label = format!(in alloc; "{n}")?;
+    add_block(alloc, &ge(5i64).and(le(10)), out, label.as_str(), &n)
 }
 
 // What is written for the text on the line by the check, and whether there is one.
@@ -41,20 +56,12 @@ fn text_answer(
     at: usize,
     line: &[u8],
 ) -> Result<bool, AllocError> {
-    match str::from_utf8(line) {
-        Ok(text) => {
-            let label = format!(in alloc; "line {at}")?;
-            let item = String::from_str(alloc, text)?;
-            let block = explain_one(alloc, check, label.as_str(), &item)?;
-            out.push_str(block.as_str())?;
-            Ok(true)
-        }
-        Err(_) => {
-            let label = format!(in alloc; "line {at}: not UTF-8\n")?;
-            out.push_str(label.as_str())?;
-            Ok(false)
-        }
-    }
+    let Ok(text) = str::from_utf8(line) else {
+        return refuse(alloc, out, at, "not UTF-8");
+    };
+    let item = String::from_str(alloc, text)?;
+    let label = format!(in alloc; "line {at}")?;
+    add_block(alloc, check, out, label.as_str(), &item)
 }
 
 // What is written for a line, and whether it is an item.
@@ -96,17 +103,36 @@ fn answers(
     Ok((all, out))
 }
 
+// Whether the run over the front of an input ends and writes as its lines are answered.
+fn runs_between(alloc: Global, front: &[u8]) -> Result<bool, AllocError> {
+    let (all, expected) = answers(alloc, None, front)?;
+    let mut reader = front;
+    let mut written = Vec::new(alloc);
+    let ended = run_between(alloc, 5, 10, &mut reader, &mut written);
+    Ok(ended == Ok(all) && written.as_slice() == expected.as_bytes())
+}
+
+fn runs_text(alloc: Global, check: &TextCheck, front: &[u8]) -> Result<bool, AllocError> {
+    let (all, expected) = answers(alloc, Some(check), front)?;
+    let mut reader = front;
+    let mut written = Vec::new(alloc);
+    let ended = run_text(alloc, check, &mut reader, &mut written);
+    Ok(ended == Ok(all) && written.as_slice() == expected.as_bytes())
+}
+
+fn runs_check(alloc: Global, check: &TextCheck, front: &[u8]) -> Result<bool, AllocError> {
+    let (all, expected) = answers(alloc, Some(check), front)?;
+    let mut reader = front;
+    let mut written = Vec::new(alloc);
+    let ended = run_check(alloc, check, &mut reader, &mut written);
+    Ok(ended == Ok(all) && written.as_slice() == expected.as_bytes())
+}
+
 #[test]
 fn numbers(rt: HostRuntime) -> Result<(), Fail> {
-    let alloc = rt.alloc();
     let input = b"7\n-12\n\nx\n+8\r\n9223372036854775808\r\r\n\xc3\xa4\n4".as_slice();
     for read in 0..=input.len() {
-        let (all, expected) = answers(alloc, None, &input[..read])?;
-        let mut reader = &input[..read];
-        let mut written = Vec::new(alloc);
-        let ended = run_between(alloc, 5, 10, &mut reader, &mut written);
-        assert_eq!(rt; ended, Ok(all), "at {read}");
-        assert_eq!(rt; written.as_slice(), expected.as_bytes(), "at {read}");
+        assert!(rt; runs_between(rt.alloc(), &input[..read])?, "at {read}");
     }
     Ok(())
 }
@@ -118,17 +144,8 @@ fn texts(rt: HostRuntime) -> Result<(), Fail> {
     let check = stack.first().ok_or("no check")?;
     let input = b" a\n\nb\r\n  \xc3\xa4\n\xff\n \r\nTwo".as_slice();
     for read in 0..=input.len() {
-        let (all, expected) = answers(alloc, Some(check), &input[..read])?;
-        let mut reader = &input[..read];
-        let mut written = Vec::new(alloc);
-        let ended = run_text(alloc, check, &mut reader, &mut written);
-        assert_eq!(rt; ended, Ok(all), "at {read}");
-        assert_eq!(rt; written.as_slice(), expected.as_bytes(), "at {read}");
-        let mut reader = &input[..read];
-        let mut written = Vec::new(alloc);
-        let ended = run_check(alloc, check, &mut reader, &mut written);
-        assert_eq!(rt; ended, Ok(all), "at {read}");
-        assert_eq!(rt; written.as_slice(), expected.as_bytes(), "at {read}");
+        assert!(rt; runs_text(alloc, check, &input[..read])?, "at {read}");
+        assert!(rt; runs_check(alloc, check, &input[..read])?, "at {read}");
     }
     Ok(())
 }

@@ -14,8 +14,8 @@ use predicates::ord::{eq, ge, gt, le, lt, ne};
 use predicates::static_text::StaticText;
 use predicates_core::Predicate;
 use predicates_path::{
-    FileType, FileTypePredicate, PredicateFileContentExt, Snapshot, eq_file, exists, is_dir,
-    is_file, is_symlink, missing,
+    BinaryFilePredicate, FileType, FileTypePredicate, PredicateFileContentExt, Snapshot,
+    StrFilePredicate, eq_file, exists, is_dir, is_file, is_symlink, missing,
 };
 use predicates_text::{PredicateStrExt, contains, ends_with, is_empty, is_match, starts_with};
 use std::process::Abort;
@@ -220,30 +220,51 @@ fn tests_of_paths(rt: HostRuntime) -> Result<(), Fail> {
     holds(&rt, begun, &kind, &there)
 }
 
+// The comparison with the bytes of the file, which holds of it.
+fn bytes_of<R: Abort + AllocGlobal + Print>(
+    rt: &R,
+    file: Snapshot,
+    there: &Snapshot,
+) -> Result<BinaryFilePredicate, Fail> {
+    let begun = Without::begin(rt.alloc(), "eq_file");
+    let Ok(bytes) = eq_file(file) else {
+        return Err("no content".into());
+    };
+    holds(rt, begun, &bytes, there)?;
+    Ok(bytes)
+}
+
+// That with its text, which holds of it as well.
+fn text_of<R: Abort + AllocGlobal + Print>(
+    rt: &R,
+    bytes: BinaryFilePredicate,
+    there: &Snapshot,
+) -> Result<StrFilePredicate, Fail> {
+    let begun = Without::begin(rt.alloc(), "utf8");
+    let Some(texts) = bytes.utf8() else {
+        return Err("no text".into());
+    };
+    holds(rt, begun, &texts, there)?;
+    Ok(texts)
+}
+
 #[test]
 fn tests_of_contents(rt: HostRuntime) -> Result<(), Fail> {
     let alloc = rt.alloc();
     let there = file(alloc, FileType::File, Ok(b"a"))?;
-    let same = file(alloc, FileType::File, Ok(b"a"))?;
-    let begun = Without::begin(alloc, "eq_file");
-    let Ok(bytes) = eq_file(same) else {
-        return Err("no content".into());
-    };
-    holds(&rt, begun, &bytes, &there)?;
-    let begun = Without::begin(alloc, "utf8");
-    let Some(texts) = bytes.utf8() else {
-        return Err("no text".into());
-    };
-    holds(&rt, begun, &texts, &there)?;
-    let content = eq(Vec::from_slice(alloc, b"a")?);
-    holds(
-        &rt,
-        Without::begin(alloc, "from_file_path"),
-        &content.from_file_path(),
-        &there,
-    )?;
+    let bytes = bytes_of(&rt, file(alloc, FileType::File, Ok(b"a"))?, &there)?;
+    let texts = text_of(&rt, bytes, &there)?;
     let (path, bytes) = (text(alloc, "p")?, Vec::from_slice(alloc, b"a")?);
     let begun = Without::begin(alloc, "from_parts");
     let parts = Snapshot::from_parts(path, Ok(FileType::File), Ok(FileType::File), Ok(bytes));
     holds(&rt, begun, &texts, &parts)
+}
+
+#[test]
+fn tests_of_what_is_handed_on(rt: HostRuntime) -> Result<(), Fail> {
+    let alloc = rt.alloc();
+    let there = file(alloc, FileType::File, Ok(b"a"))?;
+    let content = eq(Vec::from_slice(alloc, b"a")?);
+    let begun = Without::begin(alloc, "from_file_path");
+    holds(&rt, begun, &content.from_file_path(), &there)
 }

@@ -107,7 +107,13 @@ fn boxes(rt: HostRuntime) -> Result<(), Fail> {
             "var.contains(a) = true\n  - var: aa\n  - actual count: 2\n",
         )
     };
-    ask(&rt, &boxed, &item, of_count)?;
+    ask(&rt, &boxed, &item, of_count)
+}
+
+#[test]
+fn a_box_over_a_part(rt: HostRuntime) -> Result<(), Fail> {
+    let alloc = rt.alloc();
+    let item = text(alloc, "aa")?;
     let boxed = BoxPredicate::new(alloc, Box::new(alloc, is_empty().not())?)?;
     let of_not = over(
         "a box over a part",

@@ -5,11 +5,12 @@ use super::text;
 use predicates::ord::eq;
 use predicates_path::PathFault::{NotFound, PermissionDenied};
 use predicates_path::{
-    FileType, FileTypePredicate, PathFault, PredicateFileContentExt, Snapshot, eq_file, exists,
-    is_file, is_symlink, missing,
+    BinaryFilePredicate, FileType, FileTypePredicate, PathFault, PredicateFileContentExt, Snapshot,
+    StrFilePredicate, eq_file, exists, is_file, is_symlink, missing,
 };
 use predicates_text::PredicateStrExt;
 use std::alloc::{AllocError, Global};
+use std::process::Abort;
 use std::test::Fail;
 
 /// A file at the path `p`, or a link to it, with this content.
@@ -102,48 +103,54 @@ fn kinds(rt: HostRuntime) -> Result<(), Fail> {
     )
 }
 
-#[test]
-fn contents(rt: HostRuntime) -> Result<(), Fail> {
-    let alloc = rt.alloc();
-    let other = file(alloc, FileType::File, Ok(b"b"))?;
-    let Ok(bytes) = eq_file(file(alloc, FileType::File, Ok(b"a"))?) else {
-        return Err("no content".into());
-    };
-    let of_bytes = Row {
+// The comparison with the bytes of `a`.
+fn bytes_of_a<R: Abort + AllocGlobal + Print>(
+    rt: &R,
+    bytes: &BinaryFilePredicate,
+) -> Result<(), Fail> {
+    let other = file(rt.alloc(), FileType::File, Ok(b"b"))?;
+    let of_file = Row {
         parameters: "content: [97]\n",
         ..leaf("eq_file", false, "var is p = false\n")
     };
-    ask(&rt, &bytes, &other, of_bytes)?;
-    let same = Vec::from_slice(alloc, b"a")?;
-    ask(
-        &rt,
-        &bytes,
-        &same,
-        Row {
-            name: "eq_file of bytes",
-            verdict: true,
-            lines: "var is p = true\n",
-            ..of_bytes
-        },
-    )?;
-    let Some(texts) = bytes.utf8() else {
-        return Err("no text".into());
+    ask(rt, bytes, &other, of_file)?;
+    let same = Vec::from_slice(rt.alloc(), b"a")?;
+    let of_bytes = Row {
+        name: "eq_file of bytes",
+        verdict: true,
+        lines: "var is p = true\n",
+        ..of_file
     };
-    let of_text = Row {
-        name: "utf8",
+    ask(rt, bytes, &same, of_bytes)
+}
+
+// The comparison with the text `a`.
+fn text_of_a<R: Abort + AllocGlobal + Print>(rt: &R, texts: &StrFilePredicate) -> Result<(), Fail> {
+    let other = file(rt.alloc(), FileType::File, Ok(b"b"))?;
+    let of_file = Row {
         parameters: "content: a\n",
-        ..of_bytes
+        ..leaf("utf8", false, "var is p = false\n")
     };
-    ask(&rt, &texts, &other, of_text)?;
-    ask(
-        &rt,
-        &texts,
-        &text(alloc, "")?,
-        Row {
-            name: "utf8 of a text",
-            ..of_text
-        },
-    )
+    ask(rt, texts, &other, of_file)?;
+    let none = text(rt.alloc(), "")?;
+    let of_text = Row {
+        name: "utf8 of a text",
+        ..of_file
+    };
+    ask(rt, texts, &none, of_text)
+}
+
+#[test]
+fn contents(rt: HostRuntime) -> Result<(), Fail> {
+    let alloc = rt.alloc();
+    let Ok(bytes) = eq_file(file(alloc, FileType::File, Ok(b"a"))?) else {
+        return Err("no content".into());
+    };
+    bytes_of_a(&rt, &bytes)?;
+    match bytes.utf8() {
+        Some(texts) => text_of_a(&rt, &texts),
+        None => Err("no text".into()),
+    }
 }
 
 #[test]

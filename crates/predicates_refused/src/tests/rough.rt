@@ -44,29 +44,41 @@ const KINDS: [(ErrorKind, RunFault, RunFault); 3] = [
     ),
 ];
 
+// Whether the run with room for so many bytes writes them, and ends so.
+fn ends_after(
+    alloc: Global,
+    run: Run<'_>,
+    room: usize,
+    kind: ErrorKind,
+    told: Result<bool, RunFault>,
+) -> bool {
+    let mut reader = Slow {
+        bytes: run.input,
+        end: None,
+    };
+    let mut writer = Narrow {
+        got: Vec::new(alloc),
+        room,
+        kind,
+    };
+    let ended = run.ended(alloc, &mut reader, &mut writer);
+    ended == told && Some(writer.got.as_slice()) == run.whole.get(..room)
+}
+
 // The run is right over one byte at a time, and where each write in turn fails it tells that.
 fn writes<R: Abort + AllocGlobal>(rt: &R, run: Run<'_>) -> Result<(), Fail> {
-    let alloc = rt.alloc();
+    let whole = run.whole.len();
     for (kind, _, fault) in KINDS {
-        for room in 0..=run.whole.len() {
-            let mut reader = Slow {
-                bytes: run.input,
-                end: None,
-            };
-            let mut writer = Narrow {
-                got: Vec::new(alloc),
-                room,
-                kind,
-            };
-            let ended = run.ended(alloc, &mut reader, &mut writer);
-            let told = if room < run.whole.len() {
-                Err(fault)
-            } else {
-                Ok(true)
-            };
-            assert_eq!(rt; ended, told, "at {room}");
-            assert_eq!(rt; writer.got.as_slice(), &run.whole[..room], "at {room}");
+        for room in 0..whole {
+            assert!(rt;
+                ends_after(rt.alloc(), run, room, kind, Err(fault)),
+                "at {room}"
+            );
         }
+        assert!(rt;
+            ends_after(rt.alloc(), run, whole, kind, Ok(true)),
+            "at {whole}"
+        );
     }
     Ok(())
 }
@@ -82,28 +94,41 @@ fn answered(lines: &[(usize, usize)], read: usize) -> usize {
     written
 }
 
+// Whether the run over a front of the input, whose end is a fault, tells that after so many bytes.
+fn fails_behind(
+    alloc: Global,
+    run: Run<'_>,
+    front: &[u8],
+    kind: ErrorKind,
+    fault: RunFault,
+    written: usize,
+) -> bool {
+    let mut reader = Slow {
+        bytes: front,
+        end: Some(kind),
+    };
+    let mut writer = Narrow {
+        got: Vec::new(alloc),
+        room: usize::MAX,
+        kind,
+    };
+    let ended = run.ended(alloc, &mut reader, &mut writer);
+    ended == Err(fault) && Some(writer.got.as_slice()) == run.whole.get(..written)
+}
+
 // Where each read in turn fails, the run tells that, after the answers to the lines that it read.
 fn reads<R: Abort + AllocGlobal>(
     rt: &R,
     run: Run<'_>,
     lines: &[(usize, usize)],
 ) -> Result<(), Fail> {
-    let alloc = rt.alloc();
     for (kind, fault, _) in KINDS {
         for read in 0..=run.input.len() {
-            let mut reader = Slow {
-                bytes: &run.input[..read],
-                end: Some(kind),
-            };
-            let mut writer = Narrow {
-                got: Vec::new(alloc),
-                room: usize::MAX,
-                kind,
-            };
-            let ended = run.ended(alloc, &mut reader, &mut writer);
-            assert_eq!(rt; ended, Err(fault), "at {read}");
-            let written = answered(lines, read).min(run.whole.len());
-            assert_eq!(rt; writer.got.as_slice(), &run.whole[..written], "at {read}");
+            let (front, written) = (&run.input[..read], answered(lines, read));
+            assert!(rt;
+                fails_behind(rt.alloc(), run, front, kind, fault, written),
+                "at {read}"
+            );
         }
     }
     Ok(())

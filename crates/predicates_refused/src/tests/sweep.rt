@@ -50,8 +50,12 @@ fn is_right<C: Call>(alloc: Global, call: &C, expected: &str) -> Result<bool, Al
 {
     let operand = call.operand(alloc)?;
     let answer = call.call(alloc, operand)?;
-    let found = tell(alloc, &answer)?;
-    Ok(found.as_str() == expected)
+    is_told(alloc, &answer, expected)
+}
+
+// Whether the answer reads so.
+fn is_told(alloc: Global, answer: &Answer, expected: &str) -> Result<bool, AllocError> {
+    Ok(tell(alloc, answer)?.as_str() == expected)
 }
 
 // Makes the call once, with a request refused alone or with all after it.
@@ -71,18 +75,15 @@ fn run<R: Abort + AllocGlobal, C: Call>(
     allocator::refuse(alloc, nth, alone);
     let answer = call.call(alloc, operand);
     let refused = allocator::was_refused(alloc);
-    let answered = match answer {
-        Ok(answer) => {
-            let found = tell(alloc, &answer)?;
-            assert_eq!(rt;
-                found.as_str(),
-                expected,
-                "{name}: answered after refusal {nth}"
-            );
-            true
-        }
-        Err(AllocError) => false,
+    let found = match answer {
+        Ok(answer) => Some(is_told(alloc, &answer, expected)?),
+        Err(AllocError) => None,
     };
+    assert!(rt;
+        found != Some(false),
+        "{name}: answered after refusal {nth}"
+    );
+    let answered = found.is_some();
     assert!(rt;
         allocator::is_level(alloc),
         "{name}: blocks are left after refusal {nth}"
