@@ -30,8 +30,9 @@ fn told<P: Predicate<Item>, Item>(
 fn two_names_under_combinators(rt: HostRuntime) -> Result<(), Fail> {
     let alloc = rt.alloc();
     let neither = ge(5).name("x").or(lt(3).name("y")).not();
+    let told = told(alloc, &neither, &[4, 1])?;
     assert_eq!(rt;
-        told(alloc, &neither, &[4, 1])?.as_str(),
+        told.as_str(),
         "\
 (! (x || y)) = true
   predicate: (x || y) = false
@@ -62,8 +63,9 @@ fn three_names_beside_a_function(rt: HostRuntime) -> Result<(), Fail> {
     let both = neither
         .name("z")
         .and(function(|n: &i64| *n >= 4).fn_name("g"));
+    let told = told(alloc, &both, &[4, 3, 1])?;
     assert_eq!(rt;
-        told(alloc, &both, &[4, 3, 1])?.as_str(),
+        told.as_str(),
         "\
 (z && g(var)) = true
   left: z = true
@@ -97,12 +99,12 @@ fn three_names_beside_a_function(rt: HostRuntime) -> Result<(), Fail> {
 #[test]
 fn three_functions_under_combinators(rt: HostRuntime) -> Result<(), Fail> {
     let alloc = rt.alloc();
-    let either = function(|n: &i64| *n >= 5)
-        .fn_name("f")
-        .and(function(|n: &i64| *n <= 10).fn_name("g"))
-        .or(function(|n: &i64| *n == 1).fn_name("h"));
+    let low = function(|n: &i64| *n >= 5).fn_name("f");
+    let high = function(|n: &i64| *n <= 10).fn_name("g");
+    let either = low.and(high).or(function(|n: &i64| *n == 1).fn_name("h"));
+    let told = told(alloc, &either, &[7, 1, 4, 11])?;
     assert_eq!(rt;
-        told(alloc, &either, &[7, 1, 4, 11])?.as_str(),
+        told.as_str(),
         "\
 ((f(var) && g(var)) || h(var)) = true
   left: (f(var) && g(var)) = true

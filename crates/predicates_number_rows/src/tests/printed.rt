@@ -9,11 +9,12 @@ use std::alloc::{AllocError, Global};
 use std::cell::Cell;
 use std::test::Fail;
 
-// What is told of a number that is not to equal itself.
-fn unequal_to(alloc: Global, constant: i64) -> Result<String, AllocError> {
+// Whether the case of a number that is not to equal itself shows it so.
+fn is_shown(alloc: Global, constant: i64, shown: &str) -> Result<bool, AllocError> {
     let mut out = String::new(alloc);
     tell(alloc, &mut out, &ne(constant), &constant)?;
-    Ok(out)
+    let case = format!(in alloc; "var != {shown} = false\n  - var: {shown}\n")?;
+    Ok(out == case)
 }
 
 // Constants, and how they are shown.
@@ -27,10 +28,8 @@ const SHOWN: [(i64, &str); 5] = [
 
 #[test]
 fn debug_forms_of_numbers(rt: HostRuntime) -> Result<(), Fail> {
-    let alloc = rt.alloc();
     for (constant, shown) in SHOWN {
-        let case = format!(in alloc; "var != {shown} = false\n  - var: {shown}\n")?;
-        assert_eq!(rt; unequal_to(alloc, constant)?.as_str(), case.as_str());
+        assert!(rt; is_shown(rt.alloc(), constant, shown)?, "{shown}");
     }
     Ok(())
 }
