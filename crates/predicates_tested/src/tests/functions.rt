@@ -1,10 +1,11 @@
 ghost use Rattle.std.specs.Prelude.{◌≡◌, ◌≤◌, ◌&&◌, nat_le};
 
+use super::prints;
 use predicates::boolean::PredicateBooleanExt;
 use predicates::function::function;
 use predicates::ord::le;
 use predicates_core::Predicate;
-use predicates_core::reflection::{PredicateReflection, render};
+use predicates_core::reflection::render;
 use predicates_core::static_text::StaticText;
 use std::alloc::{AllocError, Global};
 use std::test::Fail;
@@ -35,15 +36,6 @@ fn is_refused_with<P: Predicate<Item>, Item>(
         Some(case) => Ok(render(alloc, &case)?.as_str() == lines),
         None => Ok(false),
     }
-}
-
-// Whether it prints the text.
-fn prints<P: PredicateReflection>(
-    alloc: Global,
-    predicate: &P,
-    text: &str,
-) -> Result<bool, AllocError> {
-    Ok(predicate.to_string(alloc)?.as_str() == text)
 }
 
 #[test]

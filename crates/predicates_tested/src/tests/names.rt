@@ -1,3 +1,4 @@
+use super::prints;
 use predicates::boolean::PredicateBooleanExt;
 use predicates::constant::never;
 use predicates::function::function;
@@ -32,15 +33,6 @@ fn explains<P: Predicate<Item>, Item>(
         }
         None => Ok(false),
     }
-}
-
-// Whether it prints the text.
-fn prints<P: PredicateReflection>(
-    alloc: Global,
-    predicate: &P,
-    text: &str,
-) -> Result<bool, AllocError> {
-    Ok(predicate.to_string(alloc)?.as_str() == text)
 }
 
 // The verdict, whether there are cases of true and of false, and how many children and parameters.
