@@ -130,7 +130,7 @@ fn functions(rt: HostRuntime) -> Result<(), Fail> {
     let at_least = function(|n: &i64| *n >= 5);
     let printed = at_least.to_string(alloc)?;
     assert_eq!(rt; printed.as_str(), "fn(var)");
-    let between = at_least.fn_name("big").and(le(10));
+    let between = at_least.fn_name("big").and(le(10i64));
     let lines = "(big(var) && var <= 10) = false\n  left: big(var) = false\n";
     assert!(rt; is_refused(alloc, &between, 3, lines)?);
     Ok(())

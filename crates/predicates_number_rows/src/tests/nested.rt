@@ -29,7 +29,7 @@ fn told<P: Predicate<Item>, Item>(
 #[test]
 fn two_names_under_combinators(rt: HostRuntime) -> Result<(), Fail> {
     let alloc = rt.alloc();
-    let neither = ge(5).name("x").or(lt(3).name("y")).not();
+    let neither = ge(5i64).name("x").or(lt(3i64).name("y")).not();
     let told = told(alloc, &neither, &[4, 1])?;
     assert_eq!(rt;
         told.as_str(),
@@ -59,7 +59,7 @@ fn two_names_under_combinators(rt: HostRuntime) -> Result<(), Fail> {
 #[test]
 fn three_names_beside_a_function(rt: HostRuntime) -> Result<(), Fail> {
     let alloc = rt.alloc();
-    let neither = ge(5).name("x").or(lt(3).name("y")).not();
+    let neither = ge(5i64).name("x").or(lt(3i64).name("y")).not();
     let both = neither
         .name("z")
         .and(function(|n: &i64| *n >= 4).fn_name("g"));

@@ -89,7 +89,7 @@ fn flags_change_no_text_of_functions(rt: HostRuntime) -> Result<(), Fail> {
     let mut out = String::new(alloc);
     let at_least = function(|n: &i64| *n >= 5);
     print_alone(alloc, &mut out, &at_least)?;
-    let both = at_least.fn_name("big").and(le(10));
+    let both = at_least.fn_name("big").and(le(10i64));
     print_alone(alloc, &mut out, &both)?;
     let named = both.name("n").or(function(|n: &i64| *n == 1));
     print_alone(alloc, &mut out, &named)?;

@@ -50,24 +50,24 @@ fn combinators(rt: HostRuntime) -> Result<(), Fail> {
 
 #[test]
 fn equality(rt: HostRuntime) -> Result<(), Fail> {
-    let equal = verdicts(&rt, eq(5), [5, 10])?;
+    let equal = verdicts(&rt, eq(5i64), [5, 10])?;
     assert_eq!(rt; equal.as_slice(), [YES, NO].as_slice());
-    let unequal = verdicts(&rt, ne(5), [5, 10])?;
+    let unequal = verdicts(&rt, ne(5i64), [5, 10])?;
     assert_eq!(rt; unequal.as_slice(), [NO, YES].as_slice());
     Ok(())
 }
 
 #[test]
 fn order(rt: HostRuntime) -> Result<(), Fail> {
-    let below_ten = verdicts(&rt, lt(10), [9, 11])?;
+    let below_ten = verdicts(&rt, lt(10i64), [9, 11])?;
     assert_eq!(rt; below_ten.as_slice(), [YES, NO].as_slice());
-    let below = verdicts(&rt, lt(5), [4, 6])?;
+    let below = verdicts(&rt, lt(5i64), [4, 6])?;
     assert_eq!(rt; below.as_slice(), [YES, NO].as_slice());
-    let at_most = verdicts(&rt, le(5), [4, 5, 6])?;
+    let at_most = verdicts(&rt, le(5i64), [4, 5, 6])?;
     assert_eq!(rt; at_most.as_slice(), [YES, YES, NO].as_slice());
-    let at_least = verdicts(&rt, ge(5), [4, 5, 6])?;
+    let at_least = verdicts(&rt, ge(5i64), [4, 5, 6])?;
     assert_eq!(rt; at_least.as_slice(), [NO, YES, YES].as_slice());
-    let above = verdicts(&rt, gt(5), [4, 5, 6])?;
+    let above = verdicts(&rt, gt(5i64), [4, 5, 6])?;
     assert_eq!(rt; above.as_slice(), [NO, NO, YES].as_slice());
     Ok(())
 }
@@ -90,7 +90,7 @@ fn functions(rt: HostRuntime) -> Result<(), Fail> {
     let at_least = function(|n: &i64| *n >= 5);
     assert_eq!(rt; verdict(rt.alloc(), &at_least, &7)?, YES);
     assert_eq!(rt; verdict(rt.alloc(), &at_least, &3)?, NO);
-    let between = at_least.and(le(10));
+    let between = at_least.and(le(10i64));
     assert_eq!(rt; verdict(rt.alloc(), &between, &7)?, YES);
     assert_eq!(rt; verdict(rt.alloc(), &between, &3)?, NO);
     Ok(())

@@ -35,7 +35,7 @@ fn prints<P: PredicateReflection>(
 
 #[test]
 fn between(rt: HostRuntime) -> Result<(), Fail> {
-    let between = ge(5).and(le(10));
+    let between = ge(5i64).and(le(10i64));
     for (item, verdict) in [(7, true), (11, false), (4, false)] {
         assert_eq!(rt; between.eval(rt.alloc(), &item)?, verdict, "on {item}");
     }
@@ -49,7 +49,7 @@ fn one_false_child_is_kept(rt: HostRuntime) -> Result<(), Fail> {
   left: var < 3 = false
     - var: 9
 ";
-    assert!(rt; has_case(rt.alloc(), &lt(3).and(lt(5)), false, 9, lines)?);
+    assert!(rt; has_case(rt.alloc(), &lt(3i64).and(lt(5i64)), false, 9, lines)?);
     let lines = "\
 (false && true) = false
   left: false = false
@@ -69,7 +69,7 @@ fn both_false_children_are_kept(rt: HostRuntime) -> Result<(), Fail> {
   right: var > 5 = false
     - var: 4
 ";
-    assert!(rt; has_case(rt.alloc(), &lt(3).or(gt(5)), false, 4, lines)?);
+    assert!(rt; has_case(rt.alloc(), &lt(3i64).or(gt(5i64)), false, 4, lines)?);
     Ok(())
 }
 
@@ -101,14 +101,22 @@ fn one_function_written_twice(rt: HostRuntime) -> Result<(), Fail> {
     left: var < 3 = false
       - var: 9
 ";
-    assert!(rt; has_case(rt.alloc(), &lt(3).and(lt(5)).not(), true, 9, lines)?);
+    assert!(rt; has_case(rt.alloc(), &lt(3i64).and(lt(5i64)).not(), true, 9, lines)?);
     let lines = "\
 ((! var < 3) || (! var < 5)) = true
   left: (! var < 3) = true
     predicate: var < 3 = false
       - var: 9
 ";
-    assert!(rt; has_case(rt.alloc(), &lt(3).not().or(lt(5).not()), true, 9, lines)?);
+    assert!(rt;
+        has_case(
+            rt.alloc(),
+            &lt(3i64).not().or(lt(5i64).not()),
+            true,
+            9,
+            lines
+        )?
+    );
     Ok(())
 }
 
@@ -137,7 +145,7 @@ fn has_parts<P: PredicateReflection>(
 #[test]
 fn descriptions(rt: HostRuntime) -> Result<(), Fail> {
     let alloc = rt.alloc();
-    let outside = ge(5).and(le(10)).not();
+    let outside = ge(5i64).and(le(10i64)).not();
     assert!(rt; prints(alloc, &outside, "(! (var >= 5 && var <= 10))")?);
     let between = ("predicate", "(var >= 5 && var <= 10)");
     let (left, right) = (("left", "var >= 5"), ("right", "var <= 10"));
@@ -150,7 +158,7 @@ fn descriptions(rt: HostRuntime) -> Result<(), Fail> {
 // What the three forms with `xor` tell.
 fn told_of_xor(alloc: Global) -> Result<String, AllocError> {
     let mut found = String::new(alloc);
-    let apart = lt(3).xor(lt(5));
+    let apart = lt(3i64).xor(lt(5i64));
     for item in [4, 9, 2] {
         tell(alloc, &mut found, &apart, &item)?;
     }

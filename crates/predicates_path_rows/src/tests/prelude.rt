@@ -10,14 +10,14 @@ fn names_of_the_prelude(rt: HostRuntime) -> Result<(), Fail> {
     let mut found = String::new(alloc);
     describe(alloc, &mut found, &predicate::always::<i64>())?;
     describe(alloc, &mut found, &predicate::never::<i64>())?;
-    describe(alloc, &mut found, &predicate::eq(5))?;
-    describe(alloc, &mut found, &predicate::ne(5))?;
-    describe(alloc, &mut found, &predicate::lt(5))?;
-    describe(alloc, &mut found, &predicate::le(5))?;
-    describe(alloc, &mut found, &predicate::ge(5))?;
-    describe(alloc, &mut found, &predicate::gt(5))?;
-    describe(alloc, &mut found, &predicate::in_iter(alloc, [3, 1, 3])?)?;
-    describe(alloc, &mut found, &predicate::in_hash(alloc, [3, 1, 3])?)?;
+    describe(alloc, &mut found, &predicate::eq(5i64))?;
+    describe(alloc, &mut found, &predicate::ne(5i64))?;
+    describe(alloc, &mut found, &predicate::lt(5i64))?;
+    describe(alloc, &mut found, &predicate::le(5i64))?;
+    describe(alloc, &mut found, &predicate::ge(5i64))?;
+    describe(alloc, &mut found, &predicate::gt(5i64))?;
+    describe(alloc, &mut found, &predicate::in_iter(alloc, [3i64, 1, 3])?)?;
+    describe(alloc, &mut found, &predicate::in_hash(alloc, [3i64, 1, 3])?)?;
     describe(alloc, &mut found, &predicate::str::is_empty())?;
     let a = || text(alloc, "a");
     describe(alloc, &mut found, &predicate::str::starts_with(a()?))?;
@@ -51,7 +51,7 @@ var <= 5
 var >= 5
 var > 5
 var in values
-  - values: [3, 1, 3]
+  - values: [3i64, 1, 3]
 var in values
   - values: {3, 1}
 var.is_empty()

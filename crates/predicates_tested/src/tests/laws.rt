@@ -27,11 +27,11 @@ fn explains<P: Predicate<i64>>(
 #[test]
 fn negations_and_names(rt: HostRuntime) -> Result<(), Fail> {
     let alloc = rt.alloc();
-    laws::double_negation(&lt(3), &9);
+    laws::double_negation(&lt(3i64), &9);
     assert!(rt;
         explains(
             alloc,
-            &lt(3).not().not(),
+            &lt(3i64).not().not(),
             &9,
             "(! (! var < 3)) = false\n  \
            predicate: (! var < 3) = true\n    \
@@ -39,11 +39,11 @@ fn negations_and_names(rt: HostRuntime) -> Result<(), Fail> {
                - var: 9\n"
         )?
     );
-    laws::named(&lt(3), &9, "small");
+    laws::named(&lt(3i64), &9, "small");
     assert!(rt;
         explains(
             alloc,
-            &lt(3).name("small"),
+            &lt(3i64).name("small"),
             &9,
             "small = false\n  small: var < 3 = false\n    - var: 9\n"
         )?
@@ -54,11 +54,11 @@ fn negations_and_names(rt: HostRuntime) -> Result<(), Fail> {
 #[test]
 fn negations_of_both(rt: HostRuntime) -> Result<(), Fail> {
     let alloc = rt.alloc();
-    laws::de_morgan(&lt(3), &lt(5), &9);
+    laws::de_morgan(&lt(3i64), &lt(5i64), &9);
     assert!(rt;
         explains(
             alloc,
-            &lt(3).and(lt(5)).not(),
+            &lt(3i64).and(lt(5i64)).not(),
             &9,
             "(! (var < 3 && var < 5)) = true\n  \
            predicate: (var < 3 && var < 5) = false\n    \
@@ -69,7 +69,7 @@ fn negations_of_both(rt: HostRuntime) -> Result<(), Fail> {
     assert!(rt;
         explains(
             alloc,
-            &lt(3).not().or(lt(5).not()),
+            &lt(3i64).not().or(lt(5i64).not()),
             &9,
             "((! var < 3) || (! var < 5)) = true\n  \
            left: (! var < 3) = true\n    \
@@ -83,11 +83,11 @@ fn negations_of_both(rt: HostRuntime) -> Result<(), Fail> {
 #[test]
 fn negations_of_just_one(rt: HostRuntime) -> Result<(), Fail> {
     let alloc = rt.alloc();
-    laws::exclusive_or(&lt(3), &lt(5), &4);
+    laws::exclusive_or(&lt(3i64), &lt(5i64), &4);
     assert!(rt;
         explains(
             alloc,
-            &lt(3).xor(lt(5)).not(),
+            &lt(3i64).xor(lt(5i64)).not(),
             &4,
             "(! (var < 3 ^ var < 5)) = false\n  \
            predicate: (var < 3 ^ var < 5) = true\n    \
@@ -100,7 +100,7 @@ fn negations_of_just_one(rt: HostRuntime) -> Result<(), Fail> {
     assert!(rt;
         explains(
             alloc,
-            &lt(3).not().xor(lt(5)),
+            &lt(3i64).not().xor(lt(5i64)),
             &4,
             "((! var < 3) ^ var < 5) = false\n  \
            left: (! var < 3) = true\n    \
@@ -117,13 +117,13 @@ fn negations_of_just_one(rt: HostRuntime) -> Result<(), Fail> {
 fn beside_five(alloc: Global, item: &i64) -> Result<[bool; 7], AllocError> {
     laws::complements(&5, item);
     Ok([
-        lt(5).eval(alloc, item)?,
-        lt(5).not().eval(alloc, item)?,
-        ge(5).eval(alloc, item)?,
-        gt(5).eval(alloc, item)?,
-        le(5).eval(alloc, item)?,
-        eq(5).eval(alloc, item)?,
-        ne(5).eval(alloc, item)?,
+        lt(5i64).eval(alloc, item)?,
+        lt(5i64).not().eval(alloc, item)?,
+        ge(5i64).eval(alloc, item)?,
+        gt(5i64).eval(alloc, item)?,
+        le(5i64).eval(alloc, item)?,
+        eq(5i64).eval(alloc, item)?,
+        ne(5i64).eval(alloc, item)?,
     ])
 }
 
@@ -197,11 +197,11 @@ fn cases<P: Predicate<i64>>(
 
 #[test]
 fn the_other_laws(rt: HostRuntime) -> Result<(), Fail> {
-    let both = lt(3).and(lt(5));
+    let both = lt(3i64).and(lt(5i64));
     laws::first_reasons();
     laws::one_case(&both, &4);
     laws::exactly_one(&both, &4);
-    laws::same_function(&both.not(), &lt(3).not().or(lt(5).not()), &4);
+    laws::same_function(&both.not(), &lt(3i64).not().or(lt(5i64).not()), &4);
     assert_eq!(rt; cases(rt.alloc(), &both, &4)?, (false, true));
     Ok(())
 }

@@ -56,7 +56,7 @@ fn answers<P: Predicate<Item>, Item>(
 #[test]
 fn names_under_combinators(rt: HostRuntime) -> Result<(), Fail> {
     let alloc = rt.alloc();
-    let neither = never().name("x").or(lt(3).name("y")).not();
+    let neither = never().name("x").or(lt(3i32).name("y")).not();
     let answered = answers(alloc, &neither, &1)?;
     assert_eq!(rt; answered, ((false, false, true), (1, 0)));
     assert!(rt; prints(alloc, &neither, "(! (x || y))")?);
@@ -74,7 +74,7 @@ fn names_under_combinators(rt: HostRuntime) -> Result<(), Fail> {
 #[test]
 fn names_beside_a_function(rt: HostRuntime) -> Result<(), Fail> {
     let alloc = rt.alloc();
-    let neither = never().name("x").or(lt(3).name("y")).not().name("z");
+    let neither = never().name("x").or(lt(3i32).name("y")).not().name("z");
     let both = neither.and(function(|x: &i32| *x >= 5).fn_name("g"));
     let answered = answers(alloc, &both, &9)?;
     assert_eq!(rt; answered, ((true, true, false), (2, 0)));
@@ -138,7 +138,7 @@ fn has_child<P: PredicateReflection>(
 
 #[test]
 fn copied(rt: HostRuntime) -> Result<(), Fail> {
-    let one = never().name("x").or(lt(3).name("y"));
+    let one = never().name("x").or(lt(3i32).name("y"));
     let other = one;
     assert!(rt; one == other);
     let held = other.name(StaticText::new("held")).not();
@@ -158,7 +158,7 @@ fn shows_name(
     let lines = format!(in alloc;
         "{name} = {verdict}\n  {name}: var < 3 = {verdict}\n    - var: {item}\n"
     )?;
-    explains(alloc, &lt(3).name(name), &item, lines.as_str())
+    explains(alloc, &lt(3i32).name(name), &item, lines.as_str())
 }
 
 // Whether a function of the name shows it in its case.

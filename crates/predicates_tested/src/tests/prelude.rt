@@ -44,12 +44,12 @@ fn printed_of_numbers(alloc: Global) -> Result<String, AllocError> {
     print(alloc, &mut out, &predicate::always::<i64>())?;
     print(alloc, &mut out, &predicate::never::<i64>())?;
     print(alloc, &mut out, &predicate::function(|n: &i64| *n < 3))?;
-    print(alloc, &mut out, &predicate::eq(3))?;
-    print(alloc, &mut out, &predicate::ne(3))?;
-    print(alloc, &mut out, &predicate::lt(3))?;
-    print(alloc, &mut out, &predicate::le(3))?;
-    print(alloc, &mut out, &predicate::ge(3))?;
-    print(alloc, &mut out, &predicate::gt(3))?;
+    print(alloc, &mut out, &predicate::eq(3i64))?;
+    print(alloc, &mut out, &predicate::ne(3i64))?;
+    print(alloc, &mut out, &predicate::lt(3i64))?;
+    print(alloc, &mut out, &predicate::le(3i64))?;
+    print(alloc, &mut out, &predicate::ge(3i64))?;
+    print(alloc, &mut out, &predicate::gt(3i64))?;
     Ok(out)
 }
 
@@ -128,8 +128,10 @@ fn is_one(alloc: Global, text: &str) -> Result<Option<bool>, AllocError> {
 fn is_small(alloc: Global, item: i64) -> Result<bool, AllocError> {
     let listed = predicate::in_iter(alloc, [1i64, 2, 3])?;
     let hashed = predicate::in_hash(alloc, [1i64, 2])?;
-    let compared = predicate::ne(3).and(predicate::ge(1)).and(predicate::le(2));
-    let asked = predicate::gt(0).and(predicate::function(|n: &i64| *n < 3));
+    let compared = predicate::ne(3i64)
+        .and(predicate::ge(1i64))
+        .and(predicate::le(2i64));
+    let asked = predicate::gt(0i64).and(predicate::function(|n: &i64| *n < 3));
     let small = listed.and(hashed).and(compared.and(asked));
     small.eval(alloc, &item)
 }

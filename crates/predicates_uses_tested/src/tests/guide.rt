@@ -24,7 +24,7 @@ fn first_example(rt: HostRuntime) -> Result<(), Fail> {
 fn reading(rt: HostRuntime) -> Result<(), Fail> {
     let alloc = rt.alloc();
     let mut out = String::new(alloc);
-    let turned = predicate::lt(3).and(predicate::lt(5)).not();
+    let turned = predicate::lt(3i32).and(predicate::lt(5i32)).not();
     explain_onto(alloc, &mut out, &turned, &9)?;
     let all = predicate::always()
         .and(predicate::always())
@@ -47,17 +47,17 @@ fn reading(rt: HostRuntime) -> Result<(), Fail> {
 }
 
 fn constants_onto(alloc: Global, out: &mut String) -> Result<(), AllocError> {
-    explain_onto(alloc, out, &predicate::always(), &5)?;
-    explain_onto(alloc, out, &predicate::never(), &5)?;
-    explain_onto(alloc, out, &predicate::eq(5), &10)?;
-    explain_onto(alloc, out, &predicate::ne(5), &10)
+    explain_onto(alloc, out, &predicate::always(), &5i32)?;
+    explain_onto(alloc, out, &predicate::never(), &5i32)?;
+    explain_onto(alloc, out, &predicate::eq(5i32), &10)?;
+    explain_onto(alloc, out, &predicate::ne(5i32), &10)
 }
 
 fn orders_onto(alloc: Global, out: &mut String) -> Result<(), AllocError> {
-    explain_onto(alloc, out, &predicate::lt(10), &11)?;
-    explain_onto(alloc, out, &predicate::le(5), &6)?;
-    explain_onto(alloc, out, &predicate::ge(5), &4)?;
-    explain_onto(alloc, out, &predicate::gt(5), &6)
+    explain_onto(alloc, out, &predicate::lt(10i32), &11)?;
+    explain_onto(alloc, out, &predicate::le(5i32), &6)?;
+    explain_onto(alloc, out, &predicate::ge(5i32), &4)?;
+    explain_onto(alloc, out, &predicate::gt(5i32), &6)
 }
 
 #[test]
@@ -128,13 +128,13 @@ var in values = true
 }
 
 fn pairs_onto(alloc: Global, out: &mut String) -> Result<(), AllocError> {
-    let both = predicate::lt(3).and(predicate::lt(5));
+    let both = predicate::lt(3i32).and(predicate::lt(5i32));
     explain_onto(alloc, out, &both, &9)?;
-    let both = predicate::always().and(predicate::lt(3));
+    let both = predicate::always().and(predicate::lt(3i32));
     explain_onto(alloc, out, &both, &4)?;
-    let either = predicate::lt(3).or(predicate::gt(5));
+    let either = predicate::lt(3i32).or(predicate::gt(5i32));
     explain_onto(alloc, out, &either, &4)?;
-    let just_one = predicate::lt(3).xor(predicate::lt(5));
+    let just_one = predicate::lt(3i32).xor(predicate::lt(5i32));
     explain_onto(alloc, out, &just_one, &4)
 }
 
@@ -143,7 +143,7 @@ fn combinators(rt: HostRuntime) -> Result<(), Fail> {
     let alloc = rt.alloc();
     let mut out = String::new(alloc);
     pairs_onto(alloc, &mut out)?;
-    let outside = predicate::ge(5).and(predicate::le(10)).not();
+    let outside = predicate::ge(5i32).and(predicate::le(10i32)).not();
     explain_onto(alloc, &mut out, &outside, &4)?;
     let named = predicate::str::is_empty().not().name("non-empty");
     explain_onto(alloc, &mut out, &named, &text(alloc, "")?)?;
@@ -184,7 +184,7 @@ fn functions(rt: HostRuntime) -> Result<(), Fail> {
     let mut out = String::new(alloc);
     let bound = 5;
     let big = predicate::function(move |x: &i32| *x >= bound).fn_name("big");
-    let middle = big.and(predicate::le(10));
+    let middle = big.and(predicate::le(10i32));
     explain_onto(alloc, &mut out, &middle, &3)?;
     assert_eq!(rt;
         out.as_str(),
