@@ -51,7 +51,7 @@ var <= 5
 var >= 5
 var > 5
 var in values
-  - values: [3i64, 1, 3]
+  - values: [3, 1, 3]
 var in values
   - values: {3, 1}
 var.is_empty()
