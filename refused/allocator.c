@@ -1,10 +1,14 @@
-/* The three calls of the heap that Rattle's code makes, over malloc, which refuse what they are told to refuse.
+/* The heap of C below a program that the gate linked, loaded before it (LD_PRELOAD): its requests are refused as they are
+ * told to be. Rattle's code makes its requests by the three calls malloc, realloc and free; those of the C library itself
+ * are served as ever.
  *
  * A request for a block of one of the sizes below is a word and not a request: refusing it says yes, serving it says no.
  * Each word's block is really there where it is served, so that what the calls promise holds throughout.
  *
  * In a program that says no words, REFUSE=N in the environment has its N-th request refused, REFUSE_FROM=N that one and
  * each after it; what became of that stands in the last line of standard error. */
+#define _GNU_SOURCE
+#include <link.h>
 #include <stdint.h>
 #include <stdio.h>
 #include <stdlib.h>
@@ -22,11 +26,6 @@ enum {
     MOST = 65535,
 };
 
-struct tried {
-    uint64_t ok;
-    void *p;
-};
-
 /* What stands before each block; it keeps the block aligned to 16. */
 struct head {
     size_t size;
@@ -40,17 +39,20 @@ static unsigned long nth, asked; /* the request that is refused, or the first; r
 static long live, level;         /* blocks; blocks when they were counted */
 static int refused, planted, loses;
 
-static const struct tried REFUSAL = {0, (void *)16};
+/* glibc's own names of its heap. */
+void *__libc_malloc(size_t size);
+void *__libc_realloc(void *p, size_t size);
+void __libc_free(void *p);
 
-static struct tried serve(size_t size) {
-    struct head *head = malloc(sizeof *head + size);
+static void *serve(size_t size) {
+    struct head *head = __libc_malloc(sizeof *head + size);
     if (!head)
-        return REFUSAL;
+        return 0;
     head->size = size;
     head->mark = THERE;
     memset(head + 1, 0xa5, size);
     live++;
-    return (struct tried){1, head + 1};
+    return head + 1;
 }
 
 static struct head *head_of(void *p) {
@@ -68,7 +70,7 @@ static void give_back(void *p) {
     head->mark = GONE;
     live -= !loses;
     loses = 0;
-    free(head);
+    __libc_free(head);
 }
 
 static void begin(int which, unsigned long number) {
@@ -114,37 +116,58 @@ static int is_word(size_t size) {
            (size > REFUSE_FROM && size <= REFUSE_FROM + MOST);
 }
 
-struct tried rattle_alloc(size_t size, size_t align) {
-    (void)align;
+/* Where the program's own code lies, and not that of a library that it loads. */
+static uintptr_t begins, ends;
+
+static int find_program(struct dl_phdr_info *it, size_t size, void *data) {
+    (void)size, (void)data;
+    for (int i = 0; i < it->dlpi_phnum; i++)
+        if (it->dlpi_phdr[i].p_type == PT_LOAD && it->dlpi_phdr[i].p_flags & PF_X) {
+            begins = it->dlpi_addr + it->dlpi_phdr[i].p_vaddr;
+            ends = begins + it->dlpi_phdr[i].p_memsz;
+        }
+    return 1; /* the program comes first, and is all that is wanted */
+}
+
+static int is_of_program(void *caller) {
+    return (uintptr_t)caller >= begins && (uintptr_t)caller < ends;
+}
+
+void *malloc(size_t size) {
+    if (!is_of_program(__builtin_return_address(0)))
+        return __libc_malloc(size);
     if (is_word(size) ? says_yes(size) : is_refused())
-        return REFUSAL;
+        return 0;
     return serve(size);
 }
 
 /* Moves the block each time, so that a use of its old place is seen. */
-struct tried rattle_realloc(void *p, size_t kept, size_t size, size_t align) {
-    (void)align;
+void *realloc(void *p, size_t size) {
+    if (!is_of_program(__builtin_return_address(0)))
+        return __libc_realloc(p, size);
     struct head *head = head_of(p);
     if (is_refused())
-        return REFUSAL;
-    if (kept > head->size || kept > size) {
-        fprintf(stderr, "more is kept than there is\n");
-        abort();
-    }
-    struct tried moved = serve(size);
-    if (moved.ok) {
-        memcpy(moved.p, p, kept);
+        return 0;
+    void *moved = serve(size);
+    if (moved) {
+        memcpy(moved, p, head->size < size ? head->size : size);
         give_back(p);
     }
     return moved;
 }
 
-void rattle_dealloc(void *p) { give_back(p); }
+void free(void *p) {
+    if (is_of_program(__builtin_return_address(0)))
+        give_back(p);
+    else
+        __libc_free(p);
+}
 
 static int of_program;
 
 __attribute__((constructor)) static void start(void) {
     const char *one = getenv("REFUSE"), *from = getenv("REFUSE_FROM");
+    dl_iterate_phdr(find_program, 0);
     planted = getenv("PLANTED") != 0;
     if (one || from) {
         of_program = 1;
