@@ -4,6 +4,7 @@ use oracle::explain::{render, Naming};
 use predicates::reflection::Case;
 use predicates::Predicate;
 use std::borrow::Borrow;
+use std::env;
 use std::hint::black_box;
 
 /// What is asked about each item.
@@ -20,6 +21,24 @@ pub enum Question {
 }
 
 impl Question {
+    pub const ALL: [Question; 4] = [Question::Verdict, Question::OtherCase, Question::Case, Question::Lines];
+
+    /// What the tables call it.
+    pub fn name(self) -> &'static str {
+        match self {
+            Question::Verdict => "eval",
+            Question::OtherCase => "none",
+            Question::Case => "owned case",
+            Question::Lines => "rendered",
+        }
+    }
+
+    /// The questions that are asked: all, or the one that the environment names.
+    pub fn asked() -> Vec<Question> {
+        let only = env::var("QUESTION").unwrap_or_default();
+        Question::ALL.into_iter().filter(|it| only.is_empty() || it.name() == only).collect()
+    }
+
     /// The number that the port's exports know it by.
     pub fn number(self) -> u8 {
         match self {

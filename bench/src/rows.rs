@@ -28,19 +28,18 @@ impl Row<'_> {
     pub fn print(&self) {
         let (check, naming) = self.naming;
         let mut cells = Vec::new();
-        for question in [Question::Verdict, Question::OtherCase, Question::Case, Question::Lines] {
+        for question in Question::asked() {
             assert_same(&self.name, question, (self.port)(question, 1), (self.original)(question, check, 1));
             let port = |rounds: usize| (self.port)(question, rounds);
             let original = |rounds: usize| black_box((self.original)(question, naming, rounds));
-            let (what, target) = match question {
-                Question::Verdict => ("eval", self.target),
+            let target = match question {
+                Question::Verdict => self.target,
                 // Shown, with no target of its own.
-                Question::OtherCase => ("none", f64::INFINITY),
-                Question::Case => ("owned case", 1.0),
-                Question::Lines => ("rendered", 1.0),
+                Question::OtherCase => f64::INFINITY,
+                Question::Case | Question::Lines => 1.0,
             };
             let pair = beside(&port, &original, self.items);
-            cells.push(cell(&format!("{}, {what}", self.name), pair, target));
+            cells.push(cell(&format!("{}, {}", self.name, question.name()), pair, target));
         }
         println!("| {} | {} |", self.name, cells.join(" | "));
     }
@@ -48,7 +47,7 @@ impl Row<'_> {
 
 /// Prints what has nothing beside it.
 pub fn print_alone(name: &str, port: &dyn Fn(Question, usize) -> usize) {
-    let times: Vec<String> = [Question::Verdict, Question::OtherCase, Question::Case, Question::Lines]
+    let times: Vec<String> = Question::ALL
         .into_iter()
         .map(|question| time(crate::clock::alone(&|rounds| port(question, rounds))))
         .collect();
