@@ -22,9 +22,14 @@ fn original(held: Held, members: &[i64], items: &[i64], rounds: usize) -> usize 
     }
 }
 
+// These rows have no question but the verdict.
+fn is_asked(name: &str, only: &str) -> bool {
+    name.contains(only) && Question::asked().contains(&Question::Verdict)
+}
+
 fn print_row(only: &str, held: Held, members: &[i64], items: &[i64], kind: &str) {
     let name = format!("`{}`, {} members, {kind}", held.name(), members.len());
-    if !name.contains(only) {
+    if !is_asked(&name, only) {
         return;
     }
     let port = |rounds: usize| port::member(held, members, items, Question::Verdict, rounds);
@@ -67,7 +72,7 @@ pub fn print_making(only: &str) {
         let first = members[0];
         for held in Held::ALL {
             let name = format!("making of `{}`, {count} members", held.name());
-            if !name.contains(only) {
+            if !is_asked(&name, only) {
                 continue;
             }
             let port = |rounds: usize| port::make_member(held, &members, first, rounds);
