@@ -1,6 +1,6 @@
 //! The leaves that the library keeps, beside those that the plain slow program finds.
 use predicates_core::static_text::StaticText;
-use predicates_generated::{NumberWord, answer_number, plain_number};
+use predicates_generated::{NumberWord, PlainFormula, answer_number, plain_number};
 use std::alloc::{AllocError, Global};
 use std::test::Fail;
 
@@ -20,15 +20,23 @@ fn word(number: u64) -> NumberWord {
     }
 }
 
-// Whether the library explains the formula of the words as the plain slow program does; none where
-// the words are no formula.
-fn is_explained(alloc: Global, words: Vec<NumberWord>) -> Result<Option<bool>, AllocError> {
-    let Some(formula) = plain_number(alloc, words.as_slice(), ITEM)? else {
-        return Ok(None);
-    };
+// Whether the library explains the formula of the words as the plain slow program does.
+fn explains(
+    alloc: Global,
+    words: Vec<NumberWord>,
+    formula: &PlainFormula,
+) -> Result<bool, AllocError> {
     match answer_number(alloc, words, ITEM)? {
-        Some(answers) => Ok(Some(answers.explain(alloc, &formula)?)),
-        None => Ok(Some(false)),
+        Some(answers) => answers.explain(alloc, formula),
+        None => Ok(false),
+    }
+}
+
+// The same of any words; none where they are no formula.
+fn is_explained(alloc: Global, words: Vec<NumberWord>) -> Result<Option<bool>, AllocError> {
+    match plain_number(alloc, words.as_slice(), ITEM)? {
+        Some(formula) => Ok(Some(explains(alloc, words, &formula)?)),
+        None => Ok(None),
     }
 }
 
@@ -96,14 +104,21 @@ fn add_formula(
     Ok(())
 }
 
+// Whether a formula by chance is explained.
+fn is_any_explained(alloc: Global, state: &mut u64, leaves: u64) -> Result<bool, AllocError> {
+    let mut words = Vec::new(alloc);
+    add_formula(&mut words, state, 128, leaves)?;
+    Ok(is_explained(alloc, words)? == Some(true))
+}
+
 #[test]
 fn deep_formulas_by_chance(rt: HostRuntime) -> Result<(), Fail> {
-    let alloc = rt.alloc();
     let mut state = 1_u64;
     for number in 0..400_u64 {
-        let mut words = Vec::new(alloc);
-        add_formula(&mut words, &mut state, 128, 3 + number % 6)?;
-        assert_eq!(rt; is_explained(alloc, words)?, Some(true), "formula {number}");
+        assert!(rt;
+            is_any_explained(rt.alloc(), &mut state, 3 + number % 6)?,
+            "formula {number}"
+        );
     }
     Ok(())
 }

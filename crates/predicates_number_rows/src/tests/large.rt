@@ -1,5 +1,5 @@
 //! As many parts as a level has.
-use predicates_generated::{NumberWord, answer_number, plain_number};
+use predicates_generated::{NumberWord, PlainFormula, answer_number, plain_number};
 use std::alloc::{AllocError, Global};
 use std::test::Fail;
 
@@ -15,30 +15,39 @@ fn parts(alloc: Global, last: i64) -> Result<Vec<NumberWord>, AllocError> {
     Ok(words)
 }
 
-// The verdict on 4, how many leaves its case keeps, and the last of these; none without a formula,
-// a predicate or a case.
-fn kept(alloc: Global, last: i64) -> Result<Option<(bool, usize, Option<usize>)>, AllocError> {
-    let words = parts(alloc, last)?;
-    let Some(formula) = plain_number(alloc, words.as_slice(), 4)? else {
-        return Ok(None);
-    };
+// Whether the verdict on 4 is that, and its case keeps so many leaves of the formula, the last one
+// among them.
+fn keeps_of(
+    alloc: Global,
+    words: Vec<NumberWord>,
+    formula: &PlainFormula,
+    verdict: bool,
+    count: usize,
+) -> Result<bool, AllocError> {
     let Some(answers) = answer_number(alloc, words, 4)? else {
-        return Ok(None);
+        return Ok(false);
     };
-    match answers.kept_leaves(alloc, &formula)? {
-        Some(leaves) => Ok(Some((answers.verdict, leaves.len(), leaves.last().copied()))),
-        None => Ok(None),
+    Ok(match answers.kept_leaves(alloc, formula)? {
+        Some(leaves) => {
+            answers.verdict == verdict && leaves.len() == count && leaves.last() == Some(&127)
+        }
+        None => false,
+    })
+}
+
+// The same of the parts with that last one.
+fn keeps(alloc: Global, last: i64, verdict: bool, count: usize) -> Result<bool, AllocError> {
+    let words = parts(alloc, last)?;
+    match plain_number(alloc, words.as_slice(), 4)? {
+        Some(formula) => keeps_of(alloc, words, &formula, verdict, count),
+        None => Ok(false),
     }
 }
 
 #[test]
 fn parts_as_many_as_a_level_has(rt: HostRuntime) -> Result<(), Fail> {
-    for (last, verdict, leaves) in [(4, true, 128), (3, false, 1)] {
-        assert_eq!(rt;
-            kept(rt.alloc(), last)?,
-            Some((verdict, leaves, Some(127))),
-            "with {last}"
-        );
+    for (last, verdict, count) in [(4, true, 128), (3, false, 1)] {
+        assert!(rt; keeps(rt.alloc(), last, verdict, count)?, "with {last}");
     }
     Ok(())
 }

@@ -1,4 +1,5 @@
 //! What the memberships, functions and names of the library show and say of themselves.
+use super::{has_case, prints};
 use predicates::boolean::PredicateBooleanExt;
 use predicates::constant::never;
 use predicates::function::function;
@@ -6,48 +7,43 @@ use predicates::iter::{Steps, in_hash, in_iter};
 use predicates::name::PredicateNameExt;
 use predicates::ord::le;
 use predicates_core::Predicate;
-use predicates_core::reflection::{PredicateReflection, render};
-use predicates_generated::{ask, describe, tell};
+use predicates_core::reflection::PredicateReflection;
+use predicates_generated::{describe, tell, verdict};
 use std::alloc::{AllocError, Global};
 use std::test::Fail;
 
-// Whether the only parameter has the name and the value, and the predicate holds of the item.
-fn holds_with<P: Predicate<i64>>(
+// Whether the only parameter has the name and the value.
+fn has_parameter<P: PredicateReflection>(
     alloc: Global,
     predicate: &P,
-    item: i64,
     parameter: (&str, &str),
-) -> Result<bool, AllocError>
-    requires { P.lawful predicate.now }
-{
-    let answers = ask(alloc, predicate, &item)?;
-    let is_kept = match answers.parameters.as_slice() {
+) -> Result<bool, AllocError> {
+    Ok(match predicate.parameters(alloc)?.as_slice() {
         [only] => (only.name(), only.value()) == parameter,
         _ => false,
-    };
-    Ok(is_kept && answers.verdict)
+    })
 }
 
-// What the predicate answers as its verdict.
-fn verdict_of<P: Predicate<i64>>(
+// Whether the predicate keeps the members so, and holds of 3 and not of 2.
+fn keeps<P: Predicate<i64> + Drop>(
     alloc: Global,
-    predicate: &P,
-    item: i64,
+    predicate: P,
+    members: &str,
 ) -> Result<bool, AllocError>
-    requires { P.lawful predicate.now }
+    requires { P.lawful predicate }
 {
-    Ok(ask(alloc, predicate, &item)?.verdict)
+    Ok(
+        has_parameter(alloc, &predicate, ("values", members))?
+            && verdict(alloc, &predicate, &3)? == Some(true)
+            && verdict(alloc, &predicate, &2)? == Some(false),
+    )
 }
 
 #[test]
 fn kept_members(rt: HostRuntime) -> Result<(), Fail> {
     let alloc = rt.alloc();
-    let sorted = in_iter(alloc, [3, 1, 3])?.sort()?;
-    assert!(rt; holds_with(alloc, &sorted, 3, ("values", "[1, 3, 3]"))?);
-    assert_eq!(rt; verdict_of(alloc, &sorted, 2)?, false);
-    let hashed = in_hash(alloc, [3, 1, 3])?;
-    assert!(rt; holds_with(alloc, &hashed, 3, ("values", "{3, 1}"))?);
-    assert_eq!(rt; verdict_of(alloc, &hashed, 2)?, false);
+    assert!(rt; keeps(alloc, in_iter(alloc, [3, 1, 3])?.sort()?, "[1, 3, 3]")?);
+    assert!(rt; keeps(alloc, in_hash(alloc, [3, 1, 3])?, "{3, 1}")?);
     Ok(())
 }
 
@@ -65,12 +61,17 @@ fn described_of_none(alloc: Global, out: &mut String) -> Result<(), AllocError> 
     describe(alloc, out, &in_hash(alloc, NONE)?)
 }
 
+// Whether an item is found in the empty list, and in how many comparisons.
+fn searched_in_none(alloc: Global) -> Result<(bool, usize), AllocError> {
+    let mut steps = Steps::new();
+    let is_found = in_iter(alloc, NONE)?.sort()?.search_counted(&1, &mut steps);
+    Ok((is_found, steps.count()))
+}
+
 #[test]
 fn no_members(rt: HostRuntime) -> Result<(), Fail> {
     let alloc = rt.alloc();
-    let mut steps = Steps::new();
-    let found = in_iter(alloc, NONE)?.sort()?.search_counted(&1, &mut steps);
-    assert_eq!(rt; (found, steps.count()), (false, 0));
+    assert!(rt; searched_in_none(alloc)? == (false, 0));
     let mut found = String::new(alloc);
     told_of_none(alloc, &mut found)?;
     described_of_none(alloc, &mut found)?;
@@ -94,45 +95,34 @@ var in values
     Ok(())
 }
 
+// Whether the number is found in the list of 1 to 7 where it is there, in three comparisons at
+// most.
+fn is_found_in_seven(alloc: Global, number: i64, steps: &mut Steps) -> Result<bool, AllocError> {
+    let sorted = in_iter(alloc, [1, 2, 3, 4, 5, 6, 7])?.sort()?;
+    let is_found = sorted.search_counted(&number, steps);
+    Ok(is_found == (1 <= number && number <= 7) && steps.count() <= 3)
+}
+
 #[test]
 fn at_most_three_comparisons_in_seven(rt: HostRuntime) -> Result<(), Fail> {
-    let alloc = rt.alloc();
-    let sorted = in_iter(alloc, [1, 2, 3, 4, 5, 6, 7])?.sort()?;
     let mut steps = Steps::new();
     for item in -1..10_i64 {
-        let found = sorted.search_counted(&item, &mut steps);
         assert!(rt;
-            found == (1 <= item && item <= 7) && steps.count() <= 3,
+            is_found_in_seven(rt.alloc(), item, &mut steps)?,
             "on {item}"
         );
     }
     Ok(())
 }
 
-// Whether the case for false has the lines.
-fn is_refused<P: Predicate<i64>>(
-    alloc: Global,
-    predicate: &P,
-    item: i64,
-    lines: &str,
-) -> Result<bool, AllocError>
-    requires { P.lawful predicate.now }
-{
-    match predicate.find_case(alloc, false, &item)? {
-        Some(case) => Ok(render(alloc, &case)?.as_str() == lines),
-        None => Ok(false),
-    }
-}
-
 #[test]
 fn functions(rt: HostRuntime) -> Result<(), Fail> {
     let alloc = rt.alloc();
     let at_least = function(|n: &i64| *n >= 5);
-    let printed = at_least.to_string(alloc)?;
-    assert_eq!(rt; printed.as_str(), "fn(var)");
+    assert!(rt; prints(alloc, &at_least, "fn(var)")?);
     let between = at_least.fn_name("big").and(le(10i64));
     let lines = "(big(var) && var <= 10) = false\n  left: big(var) = false\n";
-    assert!(rt; is_refused(alloc, &between, 3, lines)?);
+    assert!(rt; has_case(alloc, &between, false, 3, lines)?);
     Ok(())
 }
 
@@ -152,7 +142,7 @@ fn has_child<P: PredicateReflection>(
 fn names(rt: HostRuntime) -> Result<(), Fail> {
     let alloc = rt.alloc();
     let lines = "n = false\n  n: false = false\n";
-    assert!(rt; is_refused(alloc, &never().name("n"), 1, lines)?);
+    assert!(rt; has_case(alloc, &never().name("n"), false, 1, lines)?);
     assert!(rt; has_child(alloc, &never::<i64>().name("n"), ("n", "false"))?);
     Ok(())
 }

@@ -7,92 +7,89 @@ use predicates::iter::{in_hash, in_iter};
 use predicates::ord::{eq, ge, gt, le, lt, ne};
 use predicates_core::Predicate;
 use predicates_generated::verdict;
+use std::alloc::{AllocError, Global};
 use std::test::Fail;
 
-// The verdicts on numbers.
-fn verdicts<P: Predicate<i64> + Drop, const N: usize>(
-    rt: &HostRuntime,
-    predicate: P,
-    items: [i64; N],
-) -> Result<Vec<Option<bool>>, Fail>
-    requires { P.lawful predicate }
+// Whether the predicate has the verdicts on the numbers.
+fn has_verdicts<P: Predicate<i64>, const N: usize>(
+    alloc: Global,
+    predicate: &P,
+    rows: [(i64, bool); N],
+) -> Result<bool, AllocError>
+    requires { P.lawful predicate.now }
 {
-    let mut verdicts = Vec::new(rt.alloc());
-    for item in items {
-        verdicts.push(verdict(rt.alloc(), &predicate, &item)?)?;
+    for (item, expected) in rows {
+        if verdict(alloc, predicate, &item)? != Some(expected) {
+            return Ok(false);
+        }
     }
-    Ok(verdicts)
+    Ok(true)
 }
-
-const YES: Option<bool> = Some(true);
-
-const NO: Option<bool> = Some(false);
 
 #[test]
 fn constants(rt: HostRuntime) -> Result<(), Fail> {
-    let all = verdicts(&rt, always(), [5, 10, 15])?;
-    assert_eq!(rt; all.as_slice(), [YES, YES, YES].as_slice());
-    let none = verdicts(&rt, never(), [5, 10, 15])?;
-    assert_eq!(rt; none.as_slice(), [NO, NO, NO].as_slice());
+    let alloc = rt.alloc();
+    assert!(rt; has_verdicts(alloc, &always(), [(5, true), (10, true), (15, true)])?);
+    assert!(rt; has_verdicts(alloc, &never(), [(5, false), (10, false), (15, false)])?);
     Ok(())
 }
 
 #[test]
 fn combinators(rt: HostRuntime) -> Result<(), Fail> {
-    assert_eq!(rt; verdict(rt.alloc(), &always().or(never()), &4)?, YES);
-    assert_eq!(rt; verdict(rt.alloc(), &never().or(never()), &4)?, NO);
-    assert_eq!(rt; verdict(rt.alloc(), &always().and(always()), &4)?, YES);
-    assert_eq!(rt; verdict(rt.alloc(), &always().and(never()), &4)?, NO);
-    assert_eq!(rt; verdict(rt.alloc(), &always().not(), &4)?, NO);
-    assert_eq!(rt; verdict(rt.alloc(), &never().not(), &4)?, YES);
+    let alloc = rt.alloc();
+    assert!(rt; has_verdicts(alloc, &always().or(never()), [(4, true)])?);
+    assert!(rt; has_verdicts(alloc, &never().or(never()), [(4, false)])?);
+    assert!(rt; has_verdicts(alloc, &always().and(always()), [(4, true)])?);
+    assert!(rt; has_verdicts(alloc, &always().and(never()), [(4, false)])?);
+    assert!(rt; has_verdicts(alloc, &always().not(), [(4, false)])?);
+    assert!(rt; has_verdicts(alloc, &never().not(), [(4, true)])?);
     Ok(())
 }
 
 #[test]
 fn equality(rt: HostRuntime) -> Result<(), Fail> {
-    let equal = verdicts(&rt, eq(5i64), [5, 10])?;
-    assert_eq!(rt; equal.as_slice(), [YES, NO].as_slice());
-    let unequal = verdicts(&rt, ne(5i64), [5, 10])?;
-    assert_eq!(rt; unequal.as_slice(), [NO, YES].as_slice());
+    let alloc = rt.alloc();
+    assert!(rt; has_verdicts(alloc, &eq(5i64), [(5, true), (10, false)])?);
+    assert!(rt; has_verdicts(alloc, &ne(5i64), [(5, false), (10, true)])?);
     Ok(())
 }
 
 #[test]
 fn order(rt: HostRuntime) -> Result<(), Fail> {
-    let below_ten = verdicts(&rt, lt(10i64), [9, 11])?;
-    assert_eq!(rt; below_ten.as_slice(), [YES, NO].as_slice());
-    let below = verdicts(&rt, lt(5i64), [4, 6])?;
-    assert_eq!(rt; below.as_slice(), [YES, NO].as_slice());
-    let at_most = verdicts(&rt, le(5i64), [4, 5, 6])?;
-    assert_eq!(rt; at_most.as_slice(), [YES, YES, NO].as_slice());
-    let at_least = verdicts(&rt, ge(5i64), [4, 5, 6])?;
-    assert_eq!(rt; at_least.as_slice(), [NO, YES, YES].as_slice());
-    let above = verdicts(&rt, gt(5i64), [4, 5, 6])?;
-    assert_eq!(rt; above.as_slice(), [NO, NO, YES].as_slice());
+    let alloc = rt.alloc();
+    assert!(rt; has_verdicts(alloc, &lt(10i64), [(9, true), (11, false)])?);
+    assert!(rt; has_verdicts(alloc, &lt(5i64), [(4, true), (6, false)])?);
+    assert!(rt; has_verdicts(alloc, &le(5i64), [(4, true), (5, true), (6, false)])?);
+    assert!(rt; has_verdicts(alloc, &ge(5i64), [(4, false), (5, true), (6, true)])?);
+    assert!(rt; has_verdicts(alloc, &gt(5i64), [(4, false), (5, false), (6, true)])?);
     Ok(())
 }
+
+// Whether the predicate holds of 1 and 3, and not of 2.
+fn holds_of_odd<P: Predicate<i64> + Drop>(alloc: Global, predicate: P) -> Result<bool, AllocError>
+    requires { P.lawful predicate }
+{
+    has_verdicts(alloc, &predicate, [(1, true), (2, false), (3, true)])
+}
+
+const MEMBERS: [i64; 3] = [1, 3, 5];
 
 #[test]
 fn memberships(rt: HostRuntime) -> Result<(), Fail> {
     let alloc = rt.alloc();
-    let expected = [YES, NO, YES];
-    let listed = verdicts(&rt, in_iter(alloc, [1, 3, 5])?, [1, 2, 3])?;
-    assert_eq!(rt; listed.as_slice(), expected.as_slice());
-    let sorted = verdicts(&rt, in_iter(alloc, [1, 3, 5])?.sort()?, [1, 2, 3])?;
-    assert_eq!(rt; sorted.as_slice(), expected.as_slice());
-    let hashed = verdicts(&rt, in_hash(alloc, [1, 3, 5])?, [1, 2, 3])?;
-    assert_eq!(rt; hashed.as_slice(), expected.as_slice());
+    assert!(rt; holds_of_odd(alloc, in_iter(alloc, MEMBERS)?)?);
+    assert!(rt; holds_of_odd(alloc, in_iter(alloc, MEMBERS)?.sort()?)?);
+    assert!(rt; holds_of_odd(alloc, in_hash(alloc, MEMBERS)?)?);
     Ok(())
 }
 
 #[test]
 fn functions(rt: HostRuntime) -> Result<(), Fail> {
+    let alloc = rt.alloc();
     let at_least = function(|n: &i64| *n >= 5);
-    assert_eq!(rt; verdict(rt.alloc(), &at_least, &7)?, YES);
-    assert_eq!(rt; verdict(rt.alloc(), &at_least, &3)?, NO);
+    assert!(rt; has_verdicts(alloc, &at_least, [(7, true), (3, false)])?);
     let between = at_least.and(le(10i64));
-    assert_eq!(rt; verdict(rt.alloc(), &between, &7)?, YES);
-    assert_eq!(rt; verdict(rt.alloc(), &between, &3)?, NO);
+    assert!(rt; has_verdicts(alloc, &between, [(7, true), (3, false)])?);
     Ok(())
 }
 
@@ -103,22 +100,27 @@ struct Greeting {
     number: i64,
 }
 
-const GREETINGS: [(&str, i64, Option<bool>); 3] = [
-    ("hello", 42, YES),
-    ("goodbye", 0, NO),
-    ("hello", 0, NO),
+// What the function of the text and that of the number have as their verdict.
+fn greets(alloc: Global, text: &str, number: i64) -> Result<Option<bool>, AllocError> {
+    let greets = function(|g: &Greeting| g.text.as_str() == "hello").and(function(
+        |g: &Greeting| g.number == 42,
+    ));
+    let text = String::from_str(alloc, text)?;
+    verdict(alloc, &greets, &Greeting { text, number })
+}
+
+const GREETINGS: [(&str, i64, bool); 3] = [
+    ("hello", 42, true),
+    ("goodbye", 0, false),
+    ("hello", 0, false),
 ];
 
 #[test]
 fn functions_of_fields(rt: HostRuntime) -> Result<(), Fail> {
-    let greets = function(|g: &Greeting| g.text.as_str() == "hello").and(function(
-        |g: &Greeting| g.number == 42,
-    ));
     for (text, number, expected) in GREETINGS {
-        let text = String::from_str(rt.alloc(), text)?;
-        assert_eq!(rt;
-            verdict(rt.alloc(), &greets, &Greeting { text, number })?,
-            expected
+        assert!(rt;
+            greets(rt.alloc(), text, number)? == Some(expected),
+            "{text}, {number}"
         );
     }
     Ok(())

@@ -1,43 +1,19 @@
 //! Verdicts, cases and descriptions, each as a whole.
+use super::{has_any_case, has_case, prints};
 use predicates::boolean::PredicateBooleanExt;
 use predicates::constant::{always, never};
 use predicates::ord::{eq, ge, gt, le, lt};
 use predicates_core::Predicate;
-use predicates_core::reflection::{PredicateReflection, render};
+use predicates_core::reflection::PredicateReflection;
 use predicates_generated::{describe, tell};
 use std::alloc::{AllocError, Global};
 use std::test::Fail;
-
-// Whether the case for the expected verdict has the lines.
-fn has_case<P: Predicate<i64>>(
-    alloc: Global,
-    predicate: &P,
-    expected: bool,
-    item: i64,
-    lines: &str,
-) -> Result<bool, AllocError>
-    requires { P.lawful predicate.now }
-{
-    match predicate.find_case(alloc, expected, &item)? {
-        Some(case) => Ok(render(alloc, &case)?.as_str() == lines),
-        None => Ok(false),
-    }
-}
-
-// Whether it prints the text.
-fn prints<P: PredicateReflection>(
-    alloc: Global,
-    predicate: &P,
-    text: &str,
-) -> Result<bool, AllocError> {
-    Ok(predicate.to_string(alloc)?.as_str() == text)
-}
 
 #[test]
 fn between(rt: HostRuntime) -> Result<(), Fail> {
     let between = ge(5i64).and(le(10i64));
     for (item, verdict) in [(7, true), (11, false), (4, false)] {
-        assert_eq!(rt; between.eval(rt.alloc(), &item)?, verdict, "on {item}");
+        assert!(rt; between.eval(rt.alloc(), &item)? == verdict, "on {item}");
     }
     Ok(())
 }
@@ -55,8 +31,7 @@ fn one_false_child_is_kept(rt: HostRuntime) -> Result<(), Fail> {
   left: false = false
 ";
     assert!(rt; has_case(rt.alloc(), &never().and(always()), false, 5, lines)?);
-    let holds = never().and(always()).find_case(rt.alloc(), true, &5i64)?;
-    assert!(rt; holds.is_none());
+    assert!(rt; !has_any_case(rt.alloc(), &never().and(always()), true, 5)?);
     Ok(())
 }
 
@@ -142,6 +117,11 @@ fn has_parts<P: PredicateReflection>(
     }
 }
 
+// Whether a comparison with the text prints that.
+fn prints_text(alloc: Global, constant: &str, printed: &str) -> Result<bool, AllocError> {
+    prints(alloc, &eq(String::from_str(alloc, constant)?), printed)
+}
+
 #[test]
 fn descriptions(rt: HostRuntime) -> Result<(), Fail> {
     let alloc = rt.alloc();
@@ -150,27 +130,25 @@ fn descriptions(rt: HostRuntime) -> Result<(), Fail> {
     let between = ("predicate", "(var >= 5 && var <= 10)");
     let (left, right) = (("left", "var >= 5"), ("right", "var <= 10"));
     assert!(rt; has_parts(alloc, &outside, between, left, right)?);
-    let text = eq(String::from_str(alloc, "a\n\"")?);
-    assert!(rt; prints(alloc, &text, "var == \"a\\n\\\"\"")?);
+    assert!(rt; prints_text(alloc, "a\n\"", "var == \"a\\n\\\"\"")?);
     Ok(())
 }
 
-// What the three forms with `xor` tell.
-fn told_of_xor(alloc: Global) -> Result<String, AllocError> {
-    let mut found = String::new(alloc);
+// Writes what the three forms with `xor` tell.
+fn xor_onto(alloc: Global, out: &mut String) -> Result<(), AllocError> {
     let apart = lt(3i64).xor(lt(5i64));
     for item in [4, 9, 2] {
-        tell(alloc, &mut found, &apart, &item)?;
+        tell(alloc, out, &apart, &item)?;
     }
-    describe(alloc, &mut found, &apart)?;
-    tell(alloc, &mut found, &apart.and(never()), &4)?;
-    tell(alloc, &mut found, &never().or(apart), &4)?;
-    Ok(found)
+    describe(alloc, out, &apart)?;
+    tell(alloc, out, &apart.and(never()), &4)?;
+    tell(alloc, out, &never().or(apart), &4)
 }
 
 #[test]
 fn parts_that_differ(rt: HostRuntime) -> Result<(), Fail> {
-    let told = told_of_xor(rt.alloc())?;
+    let mut told = String::new(rt.alloc());
+    xor_onto(rt.alloc(), &mut told)?;
     assert_eq!(rt;
         told.as_str(),
         "\

@@ -1,222 +1,231 @@
+use super::{answers, counts, explains, has_child, has_parameter, prints};
 use predicates::prelude::*;
-use predicates::reflection::{PredicateReflection, render};
+use predicates::reflection::{PredicateReflection, render, render_onto};
 use predicates::static_text::StaticText;
 use predicates::{BoxPredicate, TextPredicate};
 use std::alloc::{AllocError, Global};
 use std::test::Fail;
 
-// The lines of the case where it is expected, or `none`.
-fn case_of<P: Predicate<String>>(
+// Whether it explains the verdict on the text with the lines.
+fn explains_on<P: Predicate<String>>(
     alloc: Global,
     predicate: &P,
-    expected: bool,
     item: &str,
-) -> Result<String, AllocError>
-    requires { P.lawful predicate.now }
-{
-    let item = String::from_str(alloc, item)?;
-    match predicate.find_case(alloc, expected, &item)? {
-        Some(case) => render(alloc, &case),
-        None => String::from_str(alloc, "none"),
-    }
-}
-
-// The lines of the cases of what each answers.
-fn lines_of(alloc: Global, checks: &[BoxPredicate], item: &str) -> Result<String, AllocError> {
-    let held = String::from_str(alloc, item)?;
-    let mut lines = String::new(alloc);
-    for check in checks {
-        let verdict = check.eval(alloc, &held)?;
-        lines.push_str(case_of(alloc, check, verdict, item)?.as_str())?;
-    }
-    Ok(lines)
-}
-
-// Whether it has the case of the verdict, and none of the opposite.
-fn has_case<P: Predicate<String>>(
-    alloc: Global,
-    predicate: &P,
     verdict: bool,
-    item: &str,
-    case: &str,
-) -> Result<bool, AllocError>
-    requires { P.lawful predicate.now }
-{
-    let found = case_of(alloc, predicate, verdict, item)?;
-    let other = case_of(alloc, predicate, !verdict, item)?;
-    Ok(found.as_str() == case && other.as_str() == "none")
-}
-
-// Whether it answers the verdict and prints the text.
-fn has_text<P: Predicate<String>>(
-    alloc: Global,
-    predicate: &P,
-    verdict: bool,
-    item: &str,
-    text: &str,
+    lines: &str,
 ) -> Result<bool, AllocError>
     requires { P.lawful predicate.now }
 {
     let item = String::from_str(alloc, item)?;
-    Ok(predicate.eval(alloc, &item)? == verdict && predicate.to_string(alloc)?.as_str() == text)
+    explains(alloc, predicate, &item, verdict, lines)
 }
 
-// The verdicts, texts and cases of three boxes on `b`.
-const BOXES: [(bool, &str, &str); 3] = [
+// The places, verdicts, texts and cases of three boxes on `b`.
+const BOXES: [(usize, bool, &str, &str); 3] = [
     (
+        0,
         false,
         "var.is_empty()",
         "var.is_empty() = false\n  - var: b\n",
     ),
     (
+        1,
         false,
         "var.contains(a)",
         "var.contains(a) = false\n  - var: b\n",
     ),
-    (true, "any", "any = true\n  any: true = true\n"),
+    (2, true, "any", "any = true\n  any: true = true\n"),
 ];
 
-// A box over a leaf, one over a leaf with a pattern, and one over a named constant.
+// A box over a leaf.
+fn is_empty(alloc: Global) -> Result<BoxPredicate, AllocError> {
+    BoxPredicate::new(alloc, Box::new(alloc, predicate::str::is_empty())?)
+}
+
+// A box over a leaf with a pattern.
+fn contains_a(alloc: Global) -> Result<BoxPredicate, AllocError> {
+    let part = String::from_str(alloc, "a")?;
+    BoxPredicate::new(alloc, Box::new(alloc, predicate::str::contains(part))?)
+}
+
+// A box over a named constant.
+fn any(alloc: Global) -> Result<BoxPredicate, AllocError> {
+    let any = predicate::always().name(StaticText::new("any"));
+    BoxPredicate::new(alloc, Box::new(alloc, any)?)
+}
+
+// These three boxes.
 fn three_boxes(alloc: Global) -> Result<Vec<BoxPredicate>, AllocError> {
     let mut boxes = Vec::new(alloc);
-    boxes.push(BoxPredicate::new(alloc, Box::new(alloc, predicate::str::is_empty())?)?)?;
-    let part = String::from_str(alloc, "a")?;
-    boxes.push(BoxPredicate::new(alloc, Box::new(alloc, predicate::str::contains(part))?)?)?;
-    boxes.push(BoxPredicate::new(
-        alloc,
-        Box::new(alloc, predicate::always().name(StaticText::new("any")))?,
-    )?)?;
+    boxes.push(is_empty(alloc)?)?;
+    boxes.push(contains_a(alloc)?)?;
+    boxes.push(any(alloc)?)?;
     Ok(boxes)
 }
 
-// Whether the box has the row's verdict, text and case on `b`.
-fn is_told(
+// Adds the lines of the case of what the box answers.
+fn add_lines(
     alloc: Global,
+    lines: &mut String,
     check: &BoxPredicate,
-    row: (bool, &str, &str),
-) -> Result<bool, AllocError> {
-    let (verdict, text, case) = row;
-    let is_text = has_text(alloc, check, verdict, "b", text)?;
-    Ok(is_text && has_case(alloc, check, verdict, "b", case)?)
+    item: &String,
+) -> Result<(), AllocError> {
+    let verdict = check.eval(alloc, item)?;
+    match check.find_case(alloc, verdict, item)? {
+        Some(case) => render_onto(alloc, lines, &case),
+        None => lines.push_str("none"),
+    }
+}
+
+// Whether the lines of the cases of what each answers are those.
+fn has_all_lines(alloc: Global, item: &str, expected: &str) -> Result<bool, AllocError> {
+    let item = String::from_str(alloc, item)?;
+    let mut lines = String::new(alloc);
+    for check in three_boxes(alloc)?.iter() {
+        add_lines(alloc, &mut lines, check, &item)?;
+    }
+    Ok(lines.as_str() == expected)
+}
+
+// Whether the box at the place has the verdict, the text and the case on `b`.
+fn is_told(alloc: Global, row: (usize, bool, &str, &str)) -> Result<bool, AllocError> {
+    let (place, verdict, text, case) = row;
+    match three_boxes(alloc)?.get(place) {
+        Some(check) => {
+            Ok(prints(alloc, check, text)? && explains_on(alloc, check, "b", verdict, case)?)
+        }
+        None => Ok(false),
+    }
 }
 
 #[test]
 fn boxes_in_a_loop(rt: HostRuntime) -> Result<(), Fail> {
-    let alloc = rt.alloc();
-    let checks = three_boxes(alloc)?;
-    let lines = lines_of(alloc, checks.as_slice(), "b")?;
-    assert_eq!(rt;
-        lines.as_str(),
-        "\
+    let lines = "\
 var.is_empty() = false
   - var: b
 var.contains(a) = false
   - var: b
 any = true
   any: true = true
-"
-    );
-    for (check, row) in checks.iter().zip(BOXES) {
-        assert!(rt; is_told(alloc, check, row)?, "{}", row.1);
+";
+    assert!(rt; has_all_lines(rt.alloc(), "b", lines)?);
+    for row in BOXES {
+        assert!(rt; is_told(rt.alloc(), row)?, "{}", row.2);
     }
     Ok(())
 }
 
-// Whether the predicate tells of one parameter, of the name and the value.
-fn has_parameter<P: PredicateReflection>(
-    alloc: Global,
-    predicate: &P,
-    name: &str,
-    value: &str,
-) -> Result<bool, AllocError> {
-    match predicate.parameters(alloc)?.as_slice() {
-        [only] => Ok(only.name() == name && only.value() == value),
-        _ => Ok(false),
-    }
+// A constant in a box.
+fn constant(alloc: Global) -> Result<BoxPredicate, AllocError> {
+    let made: Box<dyn TextPredicate> = Box::new(alloc, predicate::always())?;
+    BoxPredicate::new(alloc, made)
+}
+
+// Whether it holds, and tells of its value.
+fn tells_of_its_value(alloc: Global) -> Result<bool, AllocError> {
+    let boxed = constant(alloc)?;
+    Ok(
+        explains_on(alloc, &boxed, "b", true, "true = true\n")?
+            && has_parameter(alloc, &boxed, "value", "true")?,
+    )
+}
+
+// Whether its debug form is its type's name.
+fn is_shown(alloc: Global) -> Result<bool, AllocError> {
+    let boxed = constant(alloc)?;
+    let shown = format!(in alloc; "{boxed:?}")?;
+    Ok(shown.as_str() == "BoxPredicate")
 }
 
 #[test]
 fn a_constant_in_a_box(rt: HostRuntime) -> Result<(), Fail> {
-    let alloc = rt.alloc();
-    let made: Box<dyn TextPredicate> = Box::new(alloc, predicate::always())?;
-    let boxed = BoxPredicate::new(alloc, made)?;
-    assert!(rt; has_case(alloc, &boxed, true, "b", "true = true\n")?);
-    assert!(rt; has_parameter(alloc, &boxed, "value", "true")?);
-    let shown = format!(in alloc; "{boxed:?}")?;
-    assert_eq!(rt; shown.as_str(), "BoxPredicate");
+    assert!(rt; tells_of_its_value(rt.alloc())?);
+    assert!(rt; is_shown(rt.alloc())?);
     Ok(())
 }
 
-// The first child's name and text, and the text of that one's first child, a line each.
-fn first_parts<P: PredicateReflection>(alloc: Global, predicate: &P) -> Result<String, AllocError> {
-    let mut lines = String::new(alloc);
-    if let Some(child) = predicate.children(alloc)?.first() {
-        lines.push_str(child.name())?;
-        lines.push_str("\n")?;
-        lines.push_str(child.text())?;
-        lines.push_str("\n")?;
-        if let Some(part) = child.children().first() {
-            lines.push_str(part.text())?;
-        }
-    }
-    Ok(lines)
-}
-
-// How many children and parameters there are.
-fn counts<P: PredicateReflection>(
+// Whether the text of the first part of the first child is that, or there is no such part.
+fn has_first_part<P: PredicateReflection>(
     alloc: Global,
     predicate: &P,
-) -> Result<(usize, usize), AllocError> {
-    let children = predicate.children(alloc)?.len();
-    Ok((children, predicate.parameters(alloc)?.len()))
+    text: Option<&str>,
+) -> Result<bool, AllocError> {
+    match predicate.children(alloc)?.first() {
+        Some(child) => match child.children().first() {
+            Some(part) => Ok(Some(part.text()) == text),
+            None => Ok(text.is_none()),
+        },
+        None => Ok(false),
+    }
 }
 
-// Whether it has so many children and no parameters, and these first parts.
+// Whether it has so many children and no parameters, the first of the name and the text, over a
+// part of the text where there is one.
 fn has_parts<P: PredicateReflection>(
     alloc: Global,
     predicate: &P,
     count: usize,
-    parts: &str,
+    first: (&str, &str),
+    part: Option<&str>,
 ) -> Result<bool, AllocError> {
-    let is_counted = counts(alloc, predicate)? == (count, 0);
-    Ok(is_counted && first_parts(alloc, predicate)?.as_str() == parts)
+    let (name, text) = first;
+    Ok(
+        counts(alloc, predicate)? == (count, 0)
+            && has_child(alloc, predicate, 0, name, text)?
+            && has_first_part(alloc, predicate, part)?,
+    )
+}
+
+// Whether a box under others explains itself with the lines, and tells of its parts.
+fn tells_under_others(alloc: Global, lines: &str) -> Result<bool, AllocError> {
+    let blank = is_empty(alloc)?.trim().name("blank");
+    let either = blank.or(contains_a(alloc)?);
+    let is_explained = explains_on(alloc, &either, "  ", true, lines)?;
+    let part = Some("var.is_empty()");
+    Ok(is_explained && has_parts(alloc, &either, 2, ("left", "blank"), part)?)
 }
 
 #[test]
 fn a_box_under_others(rt: HostRuntime) -> Result<(), Fail> {
-    let alloc = rt.alloc();
-    let part = String::from_str(alloc, "a")?;
-    let has_part = BoxPredicate::new(alloc, Box::new(alloc, predicate::str::contains(part))?)?;
-    let blank = BoxPredicate::new(alloc, Box::new(alloc, predicate::str::is_empty())?)?
-        .trim()
-        .name("blank");
-    let either = blank.or(has_part);
     let lines = "\
 (blank || var.contains(a)) = true
   left: blank = true
     blank: var.is_empty() = true
       - var: \n";
-    assert!(rt; has_case(alloc, &either, true, "  ", lines)?);
-    assert!(rt; has_parts(alloc, &either, 2, "left\nblank\nvar.is_empty()")?);
+    assert!(rt; tells_under_others(rt.alloc(), lines)?);
     Ok(())
+}
+
+// Whether a negation in a box tells of its part.
+fn tells_of_its_part(alloc: Global) -> Result<bool, AllocError> {
+    let turned = BoxPredicate::new(alloc, Box::new(alloc, predicate::str::is_empty().not())?)?;
+    has_parts(alloc, &turned, 1, ("predicate", "var.is_empty()"), None)
 }
 
 #[test]
 fn parts_of_what_is_held(rt: HostRuntime) -> Result<(), Fail> {
-    let alloc = rt.alloc();
-    let turned = BoxPredicate::new(alloc, Box::new(alloc, predicate::str::is_empty().not())?)?;
-    assert!(rt; has_parts(alloc, &turned, 1, "predicate\nvar.is_empty()\n")?);
+    assert!(rt; tells_of_its_part(rt.alloc())?);
     Ok(())
+}
+
+// Whether a comparison explains itself with the lines on `4`.
+fn explains_alone(alloc: Global, lines: &str) -> Result<bool, AllocError> {
+    let alone = predicate::gt(String::from_str(alloc, "5")?);
+    explains_on(alloc, &alone, "4", false, lines)
+}
+
+// Whether it does so in a box.
+fn explains_boxed(alloc: Global, lines: &str) -> Result<bool, AllocError> {
+    let alone = predicate::gt(String::from_str(alloc, "5")?);
+    let boxed = BoxPredicate::new(alloc, Box::new(alloc, alone)?)?;
+    explains_on(alloc, &boxed, "4", false, lines)
 }
 
 #[test]
 fn explained_boxed_or_not(rt: HostRuntime) -> Result<(), Fail> {
-    let alloc = rt.alloc();
     let lines = "var > \"5\" = false\n  - var: \"4\"\n";
-    let alone = predicate::gt(String::from_str(alloc, "5")?);
-    assert!(rt; has_case(alloc, &alone, false, "4", lines)?);
-    let boxed = BoxPredicate::new(alloc, Box::new(alloc, alone)?)?;
-    assert!(rt; has_case(alloc, &boxed, false, "4", lines)?);
+    assert!(rt; explains_alone(rt.alloc(), lines)?);
+    assert!(rt; explains_boxed(rt.alloc(), lines)?);
     Ok(())
 }
 
@@ -229,42 +238,66 @@ fn letters(alloc: Global, length: usize) -> Result<String, AllocError> {
     Ok(text)
 }
 
-// Whether there is a case of the verdict alone, and how many bytes it prints.
-fn length_of_case<P: Predicate<String>>(
-    alloc: Global,
-    predicate: &P,
-    verdict: bool,
-    item: &str,
-) -> Result<(bool, usize), AllocError>
-    requires { P.lawful predicate.now }
-{
-    let other = case_of(alloc, predicate, !verdict, item)?;
-    let found = case_of(alloc, predicate, verdict, item)?;
-    Ok((other.as_str() == "none", found.len()))
+// A boxed comparison with so many letters.
+fn is_letters(alloc: Global, length: usize) -> Result<BoxPredicate, AllocError> {
+    let letters = letters(alloc, length)?;
+    BoxPredicate::new(alloc, Box::new(alloc, predicate::eq(letters))?)
 }
 
-// The lengths of what a boxed comparison with the text prints, of its case on the text, and of its
-// case on `b`; and whether there are none of the opposites.
-fn lengths(alloc: Global, text: &str) -> Result<(usize, usize, usize, bool), AllocError> {
-    let boxed = BoxPredicate::new(
-        alloc,
-        Box::new(alloc, predicate::eq(String::from_str(alloc, text)?))?,
-    )?;
-    let printed = boxed.to_string(alloc)?.len();
-    let (is_same, same) = length_of_case(alloc, &boxed, true, text)?;
-    let (is_other, other) = length_of_case(alloc, &boxed, false, "b")?;
-    Ok((printed, same, other, is_same && is_other))
+// How many bytes it prints.
+fn printed(alloc: Global, length: usize) -> Result<usize, AllocError> {
+    Ok(is_letters(alloc, length)?.to_string(alloc)?.len())
+}
+
+// Whether there is a case of the verdict alone on the text, which prints more bytes than that.
+fn prints_more(
+    alloc: Global,
+    check: &BoxPredicate,
+    item: &String,
+    verdict: bool,
+    bytes: usize,
+) -> Result<bool, AllocError> {
+    let is_answer = answers(alloc, check, item, verdict)?;
+    match check.find_case(alloc, verdict, item)? {
+        Some(case) => Ok(is_answer && render(alloc, &case)?.len() > bytes),
+        None => Ok(false),
+    }
+}
+
+// Whether its case on the same text prints more bytes than that.
+fn prints_both(alloc: Global, length: usize, bytes: usize) -> Result<bool, AllocError> {
+    let check = is_letters(alloc, length)?;
+    let item = letters(alloc, length)?;
+    prints_more(alloc, &check, &item, true, bytes)
+}
+
+// Whether its case on `b` prints more than the text.
+fn prints_own(alloc: Global, length: usize) -> Result<bool, AllocError> {
+    let check = is_letters(alloc, length)?;
+    let item = String::from_str(alloc, "b")?;
+    prints_more(alloc, &check, &item, false, length)
+}
+
+// Whether it prints so many bytes, and its cases more than twice the text and than the text.
+fn prints_lengths(
+    alloc: Global,
+    length: usize,
+    bytes: usize,
+    twice: usize,
+) -> Result<bool, AllocError> {
+    Ok(
+        printed(alloc, length)? == bytes
+            && prints_both(alloc, length, twice)?
+            && prints_own(alloc, length)?,
+    )
 }
 
 #[test]
 fn boxes_long_texts(rt: HostRuntime) -> Result<(), Fail> {
-    let alloc = rt.alloc();
     for length in [0usize, 1, 300, 70_000] {
-        let text = letters(alloc, length)?;
-        let (printed, same, other, none) = lengths(alloc, text.as_str())?;
         // `var == ` and two quotes
-        assert_eq!(rt; printed, length + 9, "of {length}");
-        assert!(rt; same > 2 * length && other > length && none, "of {length}");
+        let is_printed = prints_lengths(rt.alloc(), length, length + 9, 2 * length)?;
+        assert!(rt; is_printed, "of {length}");
     }
     Ok(())
 }

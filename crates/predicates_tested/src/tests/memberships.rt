@@ -4,9 +4,10 @@ ghost use Rattle.predicates_item.specs.In.{members_of};
 ghost use Rattle.predicates_item.specs.HashableIn as HashableIn;
 ghost use Rattle.predicates_item.specs.Members.{first_of_equals};
 
-use predicates::iter::{HashableInPredicate, InPredicate, Steps, in_hash, in_iter};
+use super::{answers, counts, explains, has_parameter, prints};
+use predicates::iter::{HashableInPredicate, InPredicate, OrdInPredicate, Steps, in_hash, in_iter};
 use predicates_core::Predicate;
-use predicates_core::reflection::{PredicateReflection, render};
+use predicates_core::reflection::PredicateReflection;
 use std::alloc::{AllocError, Global};
 use std::test::Fail;
 
@@ -31,11 +32,7 @@ fn shows<P: PredicateReflection>(
     predicate: &P,
     values: &str,
 ) -> Result<bool, AllocError> {
-    let is_shown = match predicate.parameters(alloc)?.as_slice() {
-        [only] => only.name() == "values" && only.value() == values,
-        _ => false,
-    };
-    Ok(is_shown && predicate.children(alloc)?.len() == 0)
+    Ok(has_parameter(alloc, predicate, "values", values)? && counts(alloc, predicate)? == (0, 1))
 }
 
 fn shows_listed(alloc: Global) -> Result<bool, AllocError> {
@@ -43,73 +40,69 @@ fn shows_listed(alloc: Global) -> Result<bool, AllocError> {
     Ok(shows(alloc, &listed, "[3, 1, 3]")? && shows(alloc, &listed.sort()?, "[1, 3, 3]")?)
 }
 
+fn shows_hashed(alloc: Global) -> Result<bool, AllocError> {
+    let hashed = first_of_vec(alloc, vec![in alloc; 3i64, 1, 3]?)?;
+    Ok(shows(alloc, &hashed, "{3, 1}")? && prints(alloc, &hashed, "var in values")?)
+}
+
 #[test]
 fn shows_its_members(rt: HostRuntime) -> Result<(), Fail> {
-    let alloc = rt.alloc();
-    assert!(rt; shows_listed(alloc)?);
-    let hashed = first_of_vec(alloc, vec![in alloc; 3i64, 1, 3]?)?;
-    assert!(rt; shows(alloc, &hashed, "{3, 1}")?);
-    assert_eq!(rt; hashed.to_string(alloc)?.as_str(), "var in values");
+    assert!(rt; shows_listed(rt.alloc())?);
+    assert!(rt; shows_hashed(rt.alloc())?);
     Ok(())
 }
 
-// Whether the list, the sorted list and the set hold of the item.
-fn verdicts(alloc: Global, item: i64) -> Result<[bool; 3], AllocError> {
+// Whether the list, the sorted list and the set answer the verdict on the item.
+fn all_answer(alloc: Global, item: i64, verdict: bool) -> Result<bool, AllocError> {
     let listed = in_iter(alloc, [1i64, 3, 5])?.eval(alloc, &item)?;
     let sorted = in_iter(alloc, [5i64, 1, 3])?.sort()?.eval(alloc, &item)?;
     let hashed = in_hash(alloc, [1i64, 3, 5])?.eval(alloc, &item)?;
-    Ok([listed, sorted, hashed])
+    Ok(listed == verdict && sorted == verdict && hashed == verdict)
 }
+
+// Items, and whether they are members.
+const MEMBERS: [(i64, bool); 3] = [(1, true), (2, false), (3, true)];
 
 #[test]
 fn holds_of_members(rt: HostRuntime) -> Result<(), Fail> {
-    for (item, verdict) in [(1i64, true), (2, false), (3, true)] {
-        assert_eq!(rt;
-            verdicts(rt.alloc(), item)?,
-            [verdict, verdict, verdict],
-            "at {item}"
-        );
+    for (item, verdict) in MEMBERS {
+        assert!(rt; all_answer(rt.alloc(), item, verdict)?, "at {item}");
     }
     Ok(())
 }
 
-// The lines of the case of an empty set, or `none`.
-fn case_of_none(alloc: Global, expected: bool) -> Result<String, AllocError> {
+// Whether an empty set refuses the item with the lines.
+fn explains_none(alloc: Global, item: i64, lines: &str) -> Result<bool, AllocError> {
     let none: HashableInPredicate<i64> = in_hash(alloc, [])?;
-    match none.find_case(alloc, expected, &1)? {
-        Some(case) => render(alloc, &case),
-        None => String::from_str(alloc, "none"),
-    }
+    explains(alloc, &none, &item, false, lines)
+}
+
+// Whether an empty sorted list finds the item, and how many comparisons that takes.
+fn counted_in_none(alloc: Global, item: i64) -> Result<(bool, usize), AllocError> {
+    let none: InPredicate<i64> = in_iter(alloc, [])?;
+    let mut steps = Steps::new();
+    let found = none.sort()?.search_counted(&item, &mut steps);
+    Ok((found, steps.count()))
 }
 
 #[test]
 fn explains_no_members(rt: HostRuntime) -> Result<(), Fail> {
-    let alloc = rt.alloc();
-    assert_eq!(rt; case_of_none(alloc, true)?.as_str(), "none");
-    assert_eq!(rt;
-        case_of_none(alloc, false)?.as_str(),
-        "var in values = false\n  - var: 1\n"
-    );
-    let none: InPredicate<i64> = in_iter(alloc, [])?;
-    let mut steps = Steps::new();
-    let found = none.sort()?.search_counted(&1, &mut steps);
-    assert_eq!(rt; (found, steps.count()), (false, 0));
+    let lines = "var in values = false\n  - var: 1\n";
+    assert!(rt; explains_none(rt.alloc(), 1, lines)?);
+    assert!(rt; counted_in_none(rt.alloc(), 1)? == (false, 0));
     Ok(())
 }
 
-// Whether it answers the verdict, and gives a case of that answer alone.
-fn answers<P: Predicate<i64>>(
+// Whether the first parameter has so many bytes.
+fn has_bytes<P: PredicateReflection>(
     alloc: Global,
     predicate: &P,
-    item: i64,
-    verdict: bool,
-) -> Result<bool, AllocError>
-    requires { P.lawful predicate.now }
-{
-    let answered = predicate.eval(alloc, &item)?;
-    let is_found = predicate.find_case(alloc, verdict, &item)?.is_some();
-    let is_alone = predicate.find_case(alloc, !verdict, &item)?.is_none();
-    Ok(answered == verdict && is_found && is_alone)
+    bytes: usize,
+) -> Result<bool, AllocError> {
+    match predicate.parameters(alloc)?.first() {
+        Some(values) => Ok(values.value().len() == bytes),
+        None => Ok(false),
+    }
 }
 
 // The numbers from 0 to the first of the ends hold, and the second one does not; the printed
@@ -123,27 +116,39 @@ fn holds_numbers<P: Predicate<i64>>(
     requires { P.lawful predicate.now }
 {
     let (last, next) = ends;
-    let parameters = predicate.parameters(alloc)?;
-    let Some(values) = parameters.first() else {
-        return Ok(false);
-    };
     Ok(
-        values.value().len() == bytes
-            && answers(alloc, predicate, next, false)?
-            && answers(alloc, predicate, last, last >= 0)?
-            && answers(alloc, predicate, next / 2, last >= 0)?,
+        has_bytes(alloc, predicate, bytes)?
+            && answers(alloc, predicate, &next, false)?
+            && answers(alloc, predicate, &last, last >= 0)?
+            && answers(alloc, predicate, &(next / 2), last >= 0)?,
     )
 }
 
-// Whether the list, the set and the sorted list of the numbers below the second end do so.
-fn holds_below(alloc: Global, ends: (i64, i64), bytes: usize) -> Result<[bool; 3], AllocError> {
-    let hashed = in_hash(alloc, 0..ends.1)?;
-    let is_hashed = holds_numbers(alloc, &hashed, ends, bytes)?;
+// Whether the list of the numbers below the second end does so.
+fn is_listed(alloc: Global, ends: (i64, i64), bytes: usize) -> Result<bool, AllocError> {
     let listed = in_iter(alloc, 0..ends.1)?;
-    let is_listed = holds_numbers(alloc, &listed, ends, bytes)?;
-    let sorted = listed.sort()?;
-    let is_sorted = holds_numbers(alloc, &sorted, ends, bytes)?;
-    Ok([is_listed, is_hashed, is_sorted])
+    holds_numbers(alloc, &listed, ends, bytes)
+}
+
+// Whether the sorted list of these numbers does so.
+fn is_sorted(alloc: Global, ends: (i64, i64), bytes: usize) -> Result<bool, AllocError> {
+    let sorted = in_iter(alloc, 0..ends.1)?.sort()?;
+    holds_numbers(alloc, &sorted, ends, bytes)
+}
+
+// Whether the set of these numbers does so.
+fn is_hashed(alloc: Global, ends: (i64, i64), bytes: usize) -> Result<bool, AllocError> {
+    let hashed = in_hash(alloc, 0..ends.1)?;
+    holds_numbers(alloc, &hashed, ends, bytes)
+}
+
+// Whether the list, the sorted list and the set do so.
+fn holds_below(alloc: Global, ends: (i64, i64), bytes: usize) -> Result<bool, AllocError> {
+    Ok(
+        is_listed(alloc, ends, bytes)?
+            && is_sorted(alloc, ends, bytes)?
+            && is_hashed(alloc, ends, bytes)?,
+    )
 }
 
 // The ends, and the bytes: a number has as many as digits, and a comma and a space stand between
@@ -162,43 +167,61 @@ const ENDS: [(i64, i64, usize); 4] = [
 #[test]
 fn holds_many_members(rt: HostRuntime) -> Result<(), Fail> {
     for (last, next, bytes) in ENDS {
-        assert_eq!(rt;
+        assert!(rt;
             holds_below(rt.alloc(), (last, next), bytes)?,
-            [true, true, true],
             "below {next}"
         );
     }
     Ok(())
 }
 
+// Whether the item is found among 1 to 7, and how many comparisons that takes after those of
+// another search.
+fn counted(alloc: Global, item: i64) -> Result<(bool, usize), AllocError> {
+    let sorted = in_iter(alloc, [4i64, 2, 6, 1, 3, 5, 7])?.sort()?;
+    let mut steps = Steps::new();
+    sorted.search_counted(&0, &mut steps);
+    let found = sorted.search_counted(&item, &mut steps);
+    Ok((found, steps.count()))
+}
+
 #[test]
 fn counts_comparisons(rt: HostRuntime) -> Result<(), Fail> {
-    let sorted = in_iter(rt.alloc(), [4i64, 2, 6, 1, 3, 5, 7])?.sort()?;
-    let mut steps = Steps::new();
     for item in 0i64..9 {
-        let found = sorted.search_counted(&item, &mut steps);
+        let (found, count) = counted(rt.alloc(), item)?;
         assert!(rt;
-            found == (1 <= item && item <= 7) && 1 <= steps.count() && steps.count() <= 3,
+            found == (1 <= item && item <= 7) && 1 <= count && count <= 3,
             "at {item}"
         );
     }
     Ok(())
 }
 
-fn three_texts(alloc: Global) -> Result<Vec<String>, AllocError> {
+// The sorted texts `a`, `c` and `e`.
+fn three_texts(alloc: Global) -> Result<OrdInPredicate<String>, AllocError> {
     let mut texts = Vec::new(alloc);
     for text in ["e", "a", "c"] {
         texts.push(String::from_str(alloc, text)?)?;
     }
-    Ok(texts)
+    in_iter(alloc, texts)?.sort()
+}
+
+fn shows_texts(alloc: Global) -> Result<bool, AllocError> {
+    let sorted = three_texts(alloc)?;
+    shows(alloc, &sorted, "[\"a\", \"c\", \"e\"]")
+}
+
+// Whether the text is one of the three.
+fn is_text(alloc: Global, text: &str) -> Result<bool, AllocError> {
+    let sorted = three_texts(alloc)?;
+    let text = String::from_str(alloc, text)?;
+    sorted.eval(alloc, &text)
 }
 
 #[test]
 fn holds_texts(rt: HostRuntime) -> Result<(), Fail> {
-    let alloc = rt.alloc();
-    let sorted = in_iter(alloc, three_texts(alloc)?)?.sort()?;
-    assert!(rt; shows(alloc, &sorted, "[\"a\", \"c\", \"e\"]")?);
-    assert!(rt; sorted.eval(alloc, &String::from_str(alloc, "c")?)?);
-    assert!(rt; !sorted.eval(alloc, &String::from_str(alloc, "b")?)?);
+    assert!(rt; shows_texts(rt.alloc())?);
+    assert!(rt; is_text(rt.alloc(), "c")?);
+    assert!(rt; !is_text(rt.alloc(), "b")?);
     Ok(())
 }

@@ -1,4 +1,4 @@
-use super::prints;
+use super::{answers, counts, explains, has_child, prints};
 use predicates::boolean::PredicateBooleanExt;
 use predicates::constant::never;
 use predicates::function::function;
@@ -17,49 +17,27 @@ const LONG: &str = "\
 0123456789 0123456789 0123456789 0123456789 0123456789 0123456789 012345678\
 0123456789 0123456789 0123456789 0123456789 0123456789 0123456789 012345678";
 
-// Whether the case of the verdict has the verdict at its root, and these lines.
-fn explains<P: Predicate<Item>, Item>(
+// Whether it has so many children and no parameters, prints the text, and explains the verdict on
+// the item with the lines.
+fn tells_parts<P: Predicate<i32>>(
     alloc: Global,
     predicate: &P,
-    item: &Item,
-    lines: &str,
+    parts: usize,
+    text: &str,
+    row: (i32, bool, &str),
 ) -> Result<bool, AllocError>
     requires { P.lawful predicate.now }
 {
-    let verdict = predicate.eval(alloc, item)?;
-    match predicate.find_case(alloc, verdict, item)? {
-        Some(case) => {
-            Ok(case.root().result() == verdict && render(alloc, &case)?.as_str() == lines)
-        }
-        None => Ok(false),
-    }
-}
-
-// The verdict, whether there are cases of true and of false, and how many children and parameters.
-fn answers<P: Predicate<Item>, Item>(
-    alloc: Global,
-    predicate: &P,
-    item: &Item,
-) -> Result<((bool, bool, bool), (usize, usize)), AllocError>
-    requires { P.lawful predicate.now }
-{
-    let verdict = predicate.eval(alloc, item)?;
-    let is_true = predicate.find_case(alloc, true, item)?.is_some();
-    let is_false = predicate.find_case(alloc, false, item)?.is_some();
-    let children = predicate.children(alloc)?.len();
-    Ok((
-        (verdict, is_true, is_false),
-        (children, predicate.parameters(alloc)?.len()),
-    ))
+    let (item, verdict, lines) = row;
+    Ok(
+        counts(alloc, predicate)? == (parts, 0)
+            && prints(alloc, predicate, text)?
+            && explains(alloc, predicate, &item, verdict, lines)?,
+    )
 }
 
 #[test]
 fn names_under_combinators(rt: HostRuntime) -> Result<(), Fail> {
-    let alloc = rt.alloc();
-    let neither = never().name("x").or(lt(3i32).name("y")).not();
-    let answered = answers(alloc, &neither, &1)?;
-    assert_eq!(rt; answered, ((false, false, true), (1, 0)));
-    assert!(rt; prints(alloc, &neither, "(! (x || y))")?);
     let lines = "\
 (! (x || y)) = false
   predicate: (x || y) = true
@@ -67,19 +45,24 @@ fn names_under_combinators(rt: HostRuntime) -> Result<(), Fail> {
       y: var < 3 = true
         - var: 1
 ";
-    assert!(rt; explains(alloc, &neither, &1, lines)?);
+    let neither = never().name("x").or(lt(3i32).name("y")).not();
+    assert!(rt; tells_parts(rt.alloc(), &neither, 1, "(! (x || y))", (1, false, lines))?);
     Ok(())
 }
 
-#[test]
-fn names_beside_a_function(rt: HostRuntime) -> Result<(), Fail> {
-    let alloc = rt.alloc();
+// Whether a negation under a name, beside a function, is told of by the row.
+fn tells_of_both(alloc: Global, row: (i32, bool, &str)) -> Result<bool, AllocError> {
     let neither = never().name("x").or(lt(3i32).name("y")).not().name("z");
     let both = neither.and(function(|x: &i32| *x >= 5).fn_name("g"));
-    let answered = answers(alloc, &both, &9)?;
-    assert_eq!(rt; answered, ((true, true, false), (2, 0)));
-    assert!(rt; prints(alloc, &both, "(z && g(var))")?);
-    let lines = "\
+    tells_parts(alloc, &both, 2, "(z && g(var))", row)
+}
+
+// Items and verdicts of `z && g(var)`, with the lines of their cases.
+const BESIDE_A_FUNCTION: [(i32, bool, &str); 2] = [
+    (
+        1,
+        false,
+        "\
 (z && g(var)) = false
   left: z = false
     z: (! (x || y)) = false
@@ -87,9 +70,12 @@ fn names_beside_a_function(rt: HostRuntime) -> Result<(), Fail> {
         right: y = true
           y: var < 3 = true
             - var: 1
-";
-    assert!(rt; explains(alloc, &both, &1, lines)?);
-    let lines = "\
+",
+    ),
+    (
+        9,
+        true,
+        "\
 (z && g(var)) = true
   left: z = true
     z: (! (x || y)) = true
@@ -100,51 +86,60 @@ fn names_beside_a_function(rt: HostRuntime) -> Result<(), Fail> {
           y: var < 3 = false
             - var: 9
   right: g(var) = true
-";
-    assert!(rt; explains(alloc, &both, &9, lines)?);
+",
+    ),
+];
+
+#[test]
+fn names_beside_a_function(rt: HostRuntime) -> Result<(), Fail> {
+    for row in BESIDE_A_FUNCTION {
+        assert!(rt; tells_of_both(rt.alloc(), row)?, "{}", row.0);
+    }
     Ok(())
+}
+
+// Whether functions under combinators refuse 4, and are told of by the row.
+fn tells_of_functions(alloc: Global, row: (i32, bool, &str)) -> Result<bool, AllocError> {
+    let between = function(|x: &i32| *x >= 5).and(function(|x: &i32| *x <= 10));
+    let either = between.or(function(|x: &i32| *x == 1));
+    let is_refused = answers(alloc, &either, &4, false)?;
+    let text = "((fn(var) && fn(var)) || fn(var))";
+    Ok(is_refused && tells_parts(alloc, &either, 2, text, row)?)
 }
 
 #[test]
 fn functions_under_combinators(rt: HostRuntime) -> Result<(), Fail> {
-    let alloc = rt.alloc();
-    let between = function(|x: &i32| *x >= 5).and(function(|x: &i32| *x <= 10));
-    let either = between.or(function(|x: &i32| *x == 1));
-    let answered = answers(alloc, &either, &4)?;
-    assert_eq!(rt; answered, ((false, false, true), (2, 0)));
-    assert!(rt; prints(alloc, &either, "((fn(var) && fn(var)) || fn(var))")?);
     let lines = "\
 ((fn(var) && fn(var)) || fn(var)) = true
   left: (fn(var) && fn(var)) = true
     left: fn(var) = true
     right: fn(var) = true
 ";
-    assert!(rt; explains(alloc, &either, &7, lines)?);
+    assert!(rt; tells_of_functions(rt.alloc(), (7, true, lines))?);
     Ok(())
 }
 
 // Whether the only child has the name and the text.
-fn has_child<P: PredicateReflection>(
+fn has_only_child<P: PredicateReflection>(
     alloc: Global,
     predicate: &P,
     name: &str,
     text: &str,
 ) -> Result<bool, AllocError> {
-    match predicate.children(alloc)?.as_slice() {
-        [only] => Ok(only.name() == name && only.text() == text),
-        _ => Ok(false),
-    }
+    Ok(counts(alloc, predicate)? == (1, 0) && has_child(alloc, predicate, 0, name, text)?)
+}
+
+// Whether a copy equals the first, and is told of under another name and a negation.
+fn is_copied(alloc: Global) -> Result<bool, AllocError> {
+    let one = never().name("x").or(lt(3i32).name("y"));
+    let other = one;
+    let held = other.name(StaticText::new("held")).not();
+    Ok(one == other && !held.eval(alloc, &1)? && has_only_child(alloc, &held, "predicate", "held")?)
 }
 
 #[test]
 fn copied(rt: HostRuntime) -> Result<(), Fail> {
-    let one = never().name("x").or(lt(3i32).name("y"));
-    let other = one;
-    assert!(rt; one == other);
-    let held = other.name(StaticText::new("held")).not();
-    let verdict = held.eval(rt.alloc(), &1)?;
-    let is_child = has_child(rt.alloc(), &held, "predicate", "held")?;
-    assert_eq!(rt; (verdict, is_child), (false, true));
+    assert!(rt; is_copied(rt.alloc())?);
     Ok(())
 }
 
@@ -158,21 +153,20 @@ fn shows_name(
     let lines = format!(in alloc;
         "{name} = {verdict}\n  {name}: var < 3 = {verdict}\n    - var: {item}\n"
     )?;
-    explains(alloc, &lt(3i32).name(name), &item, lines.as_str())
+    explains(alloc, &lt(3i32).name(name), &item, verdict, lines.as_str())
 }
 
 // Whether a function of the name shows it in its case.
 fn shows_function(alloc: Global, name: &'static str) -> Result<bool, AllocError> {
     let asked = function(|x: &i32| *x < 3).fn_name(name);
     let lines = format!(in alloc; "{name}(var) = false\n")?;
-    explains(alloc, &asked, &3, lines.as_str())
+    explains(alloc, &asked, &3, false, lines.as_str())
 }
 
 // Whether a comparison and a function of the name show it.
 fn is_shown(alloc: Global, name: &'static str) -> Result<bool, AllocError> {
-    let is_above = has_child(alloc, &lt::<i32>(3).name(name), name, "var < 3")?;
     Ok(
-        is_above
+        has_only_child(alloc, &lt(3i32).name(name), name, "var < 3")?
             && shows_name(alloc, name, 1, true)?
             && shows_name(alloc, name, 3, false)?
             && shows_function(alloc, name)?,
@@ -181,7 +175,7 @@ fn is_shown(alloc: Global, name: &'static str) -> Result<bool, AllocError> {
 
 #[test]
 fn names_of_no_bytes_and_of_300(rt: HostRuntime) -> Result<(), Fail> {
-    assert_eq!(rt; LONG.len(), 300);
+    assert!(rt; LONG.len() == 300);
     for name in ["", LONG] {
         assert!(rt; is_shown(rt.alloc(), name)?, "{name}");
     }

@@ -1,3 +1,4 @@
+use super::{has_parameter, prints};
 use predicates::path::{FileType, PathFault, Snapshot};
 use predicates::prelude::*;
 use predicates::reflection::PredicateReflection;
@@ -5,112 +6,108 @@ use std::alloc::{AllocError, Global};
 use std::test::Fail;
 
 // A check of a text, by what the prelude names alone.
-fn is_short_greeting(alloc: Global, item: &String) -> Result<bool, AllocError> {
+fn is_short_greeting(alloc: Global, item: &str) -> Result<bool, AllocError> {
+    let item = String::from_str(alloc, item)?;
     let hello = predicate::str::starts_with(String::from_str(alloc, "Hello")?);
     let bye = predicate::str::ends_with(String::from_str(alloc, "bye")?);
     let short = predicate::lt(String::from_str(alloc, "z")?);
     let greeting = hello.or(bye).trim().and(short).name("greeting");
-    greeting.eval(alloc, item)
+    greeting.eval(alloc, &item)
 }
+
+// Texts, and whether they are short greetings.
+const GREETINGS: [(&str, bool); 3] = [
+    (" Hello World", true),
+    ("Goodbye\n", true),
+    ("zHello", false),
+];
 
 #[test]
 fn texts(rt: HostRuntime) -> Result<(), Fail> {
-    let alloc = rt.alloc();
-    for (item, verdict) in [
-        (" Hello World", true),
-        ("Goodbye\n", true),
-        ("zHello", false),
-    ] {
-        let item = String::from_str(alloc, item)?;
-        assert_eq!(rt; is_short_greeting(alloc, &item)?, verdict, "at {item}");
+    for (item, verdict) in GREETINGS {
+        assert!(rt;
+            is_short_greeting(rt.alloc(), item)? == verdict,
+            "at {item}"
+        );
     }
     Ok(())
 }
 
-// Adds what the predicate prints, after a comma where it is not the first.
-fn print<P: PredicateReflection>(
+// Whether it prints the text, and ends here.
+fn print<P: PredicateReflection + Drop>(
     alloc: Global,
-    out: &mut String,
-    predicate: &P,
-) -> Result<(), AllocError> {
-    if !out.is_empty() {
-        out.push_str(", ")?;
-    }
-    out.push_str(predicate.to_string(alloc)?.as_str())
-}
-
-fn printed_of_numbers(alloc: Global) -> Result<String, AllocError> {
-    let mut out = String::new(alloc);
-    print(alloc, &mut out, &predicate::always::<i64>())?;
-    print(alloc, &mut out, &predicate::never::<i64>())?;
-    print(alloc, &mut out, &predicate::function(|n: &i64| *n < 3))?;
-    print(alloc, &mut out, &predicate::eq(3i64))?;
-    print(alloc, &mut out, &predicate::ne(3i64))?;
-    print(alloc, &mut out, &predicate::lt(3i64))?;
-    print(alloc, &mut out, &predicate::le(3i64))?;
-    print(alloc, &mut out, &predicate::ge(3i64))?;
-    print(alloc, &mut out, &predicate::gt(3i64))?;
-    Ok(out)
-}
-
-fn printed_of_texts(alloc: Global) -> Result<String, AllocError> {
-    let letter = || String::from_str(alloc, "a");
-    let mut out = String::new(alloc);
-    print(alloc, &mut out, &predicate::str::is_empty())?;
-    print(alloc, &mut out, &predicate::str::starts_with(letter()?))?;
-    print(alloc, &mut out, &predicate::str::ends_with(letter()?))?;
-    print(alloc, &mut out, &predicate::str::contains(letter()?))?;
-    Ok(out)
-}
-
-fn printed_of_paths(alloc: Global) -> Result<String, AllocError> {
-    let mut out = String::new(alloc);
-    print(alloc, &mut out, &predicate::path::exists())?;
-    print(alloc, &mut out, &predicate::path::missing())?;
-    print(alloc, &mut out, &predicate::path::is_file())?;
-    print(alloc, &mut out, &predicate::path::is_dir())?;
-    print(alloc, &mut out, &predicate::path::is_symlink())?;
-    Ok(out)
-}
-
-// Whether the first parameter has the value.
-fn has_value<P: PredicateReflection>(
-    alloc: Global,
-    predicate: &P,
-    value: &str,
+    predicate: P,
+    text: &str,
 ) -> Result<bool, AllocError> {
-    match predicate.parameters(alloc)?.first() {
-        Some(parameter) => Ok(parameter.value() == value),
-        None => Ok(false),
-    }
+    prints(alloc, &predicate, text)
+}
+
+// Whether constants, functions and comparisons of numbers print their texts.
+fn print_numbers(alloc: Global) -> Result<bool, AllocError> {
+    Ok(
+        print(alloc, predicate::always::<i64>(), "true")?
+            && print(alloc, predicate::never::<i64>(), "false")?
+            && print(alloc, predicate::function(|n: &i64| *n < 3), "fn(var)")?
+            && print(alloc, predicate::eq(3i64), "var == 3")?
+            && print(alloc, predicate::ne(3i64), "var != 3")?
+            && print(alloc, predicate::lt(3i64), "var < 3")?
+            && print(alloc, predicate::le(3i64), "var <= 3")?
+            && print(alloc, predicate::ge(3i64), "var >= 3")?
+            && print(alloc, predicate::gt(3i64), "var > 3")?,
+    )
+}
+
+// A text of one letter.
+fn letter(alloc: Global) -> Result<String, AllocError> {
+    String::from_str(alloc, "a")
+}
+
+// Whether the checks of texts print their texts.
+fn print_texts(alloc: Global) -> Result<bool, AllocError> {
+    let starts = "var.starts_with(\"a\")";
+    let ends = "var.ends_with(\"a\")";
+    Ok(
+        print(alloc, predicate::str::is_empty(), "var.is_empty()")?
+            && print(alloc, predicate::str::starts_with(letter(alloc)?), starts)?
+            && print(alloc, predicate::str::ends_with(letter(alloc)?), ends)?
+            && print(
+                alloc,
+                predicate::str::contains(letter(alloc)?),
+                "var.contains(a)",
+            )?,
+    )
+}
+
+// Whether the checks of paths print their texts.
+fn print_paths(alloc: Global) -> Result<bool, AllocError> {
+    Ok(
+        print(alloc, predicate::path::exists(), "exists(var)")?
+            && print(alloc, predicate::path::missing(), "missing(var)")?
+            && print(alloc, predicate::path::is_file(), "var is file")?
+            && print(alloc, predicate::path::is_dir(), "var is dir")?
+            && print(alloc, predicate::path::is_symlink(), "var is symlink")?,
+    )
 }
 
 #[test]
 fn each_name_prints_its_own_text(rt: HostRuntime) -> Result<(), Fail> {
-    let alloc = rt.alloc();
-    let numbers = printed_of_numbers(alloc)?;
-    assert_eq!(rt;
-        numbers.as_str(),
-        "true, false, fn(var), var == 3, var != 3, var < 3, var <= 3, var >= 3, var > 3"
-    );
-    let texts = printed_of_texts(alloc)?;
-    assert_eq!(rt;
-        texts.as_str(),
-        "var.is_empty(), var.starts_with(\"a\"), var.ends_with(\"a\"), var.contains(a)"
-    );
-    let paths = printed_of_paths(alloc)?;
-    assert_eq!(rt;
-        paths.as_str(),
-        "exists(var), missing(var), var is file, var is dir, var is symlink"
-    );
+    assert!(rt; print_numbers(rt.alloc())?);
+    assert!(rt; print_texts(rt.alloc())?);
+    assert!(rt; print_paths(rt.alloc())?);
     Ok(())
+}
+
+// Whether a list and a set of equal members show them as the values.
+fn show_members(alloc: Global) -> Result<bool, AllocError> {
+    let listed = predicate::in_iter(alloc, [3i64, 3])?;
+    let is_listed = has_parameter(alloc, &listed, "values", "[3, 3]")?;
+    let hashed = predicate::in_hash(alloc, [3i64, 3])?;
+    Ok(is_listed && has_parameter(alloc, &hashed, "values", "{3}")?)
 }
 
 #[test]
 fn each_name_of_a_membership_shows_its_members(rt: HostRuntime) -> Result<(), Fail> {
-    let alloc = rt.alloc();
-    assert!(rt; has_value(alloc, &predicate::in_iter(alloc, [3i64, 3])?, "[3, 3]")?);
-    assert!(rt; has_value(alloc, &predicate::in_hash(alloc, [3i64, 3])?, "{3}")?);
+    assert!(rt; show_members(rt.alloc())?);
     Ok(())
 }
 
@@ -139,9 +136,9 @@ fn is_small(alloc: Global, item: i64) -> Result<bool, AllocError> {
 #[test]
 fn each_name(rt: HostRuntime) -> Result<(), Fail> {
     let alloc = rt.alloc();
-    assert_eq!(rt; is_one(alloc, "1")?, Some(true));
-    assert_eq!(rt; is_small(alloc, 2)?, true);
-    assert_eq!(rt; is_small(alloc, 3)?, false);
+    assert!(rt; is_one(alloc, "1")? == Some(true));
+    assert!(rt; is_small(alloc, 2)?);
+    assert!(rt; !is_small(alloc, 3)?);
     Ok(())
 }
 
@@ -155,8 +152,9 @@ fn a_file(alloc: Global) -> Result<Snapshot, AllocError> {
     ))
 }
 
-// Whether there is a file, and nothing else.
-fn is_there(alloc: Global, file: &Snapshot) -> Result<bool, AllocError> {
+// Whether the file is there, and is nothing else.
+fn is_there(alloc: Global) -> Result<bool, AllocError> {
+    let file = a_file(alloc)?;
     let there = predicate::path::exists()
         .and(predicate::path::missing().not())
         .and(predicate::path::is_file())
@@ -165,29 +163,33 @@ fn is_there(alloc: Global, file: &Snapshot) -> Result<bool, AllocError> {
                 .or(predicate::path::is_symlink())
                 .not(),
         );
-    there.eval(alloc, file)
+    there.eval(alloc, &file)
 }
 
 // Whether the file's content is `a`.
-fn holds_a(alloc: Global, file: &Snapshot) -> Result<bool, AllocError> {
+fn holds_a(alloc: Global) -> Result<bool, AllocError> {
+    let file = a_file(alloc)?;
     let is_a = predicate::eq(String::from_str(alloc, "a")?)
         .from_utf8()
         .from_file_path();
-    is_a.eval(alloc, file)
+    is_a.eval(alloc, &file)
 }
 
-#[test]
-fn paths(rt: HostRuntime) -> Result<(), Fail> {
-    let alloc = rt.alloc();
-    let file = a_file(alloc)?;
-    assert_eq!(rt; is_there(alloc, &file)?, true);
-    assert_eq!(rt; holds_a(alloc, &file)?, true);
-    let refused = Snapshot::from_parts(
+// Whether a folder's content is refused.
+fn refuses_a_folder(alloc: Global) -> Result<bool, AllocError> {
+    let folder = Snapshot::from_parts(
         String::from_str(alloc, "p")?,
         Ok(FileType::Dir),
         Ok(FileType::Dir),
         Err(PathFault::NotRegular),
     );
-    assert!(rt; predicate::path::eq_file(refused).is_err());
+    Ok(predicate::path::eq_file(folder).is_err())
+}
+
+#[test]
+fn paths(rt: HostRuntime) -> Result<(), Fail> {
+    assert!(rt; is_there(rt.alloc())?);
+    assert!(rt; holds_a(rt.alloc())?);
+    assert!(rt; refuses_a_folder(rt.alloc())?);
     Ok(())
 }
