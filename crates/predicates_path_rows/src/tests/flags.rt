@@ -1,5 +1,5 @@
 //! Flags, a width and a precision change no text of a predicate of paths.
-use super::snapshots::{file, folder};
+use super::snapshots::{FILE, FOLDER, snapshot};
 use predicates::boolean::PredicateBooleanExt;
 use predicates::path::{
     BinaryFilePredicate, FileType, FileTypePredicate, PathFault, PredicateFileContentExt, Snapshot,
@@ -47,27 +47,36 @@ other fault
     Ok(())
 }
 
-fn file_a(alloc: Global) -> Result<Snapshot, AllocError> {
-    file(alloc, b"a")
+fn existence_onto(alloc: Global, out: &mut String) -> Result<(), AllocError> {
+    for existence in [exists(), missing()] {
+        print(alloc, out, existence)?;
+    }
+    Ok(())
+}
+
+fn kinds_onto(alloc: Global, out: &mut String) -> Result<(), Fail> {
+    let dir = FileTypePredicate::from_path(&snapshot(alloc, FOLDER)?)?;
+    for kind in [is_file(), is_dir().follow_links(true), is_symlink(), dir] {
+        print(alloc, out, kind)?;
+    }
+    Ok(())
+}
+
+fn contents_onto(alloc: Global, out: &mut String) -> Result<(), Fail> {
+    let same = eq_file(snapshot(alloc, FILE)?)?;
+    print::<BinaryFilePredicate, Snapshot>(alloc, out, same)?;
+    let same = eq_file(snapshot(alloc, FILE)?)?.utf8().ok_or("no text")?;
+    print::<StrFilePredicate, Snapshot>(alloc, out, same)?;
+    let some = is_empty().not().from_utf8().from_file_path();
+    Ok(print(alloc, out, some)?)
 }
 
 #[test]
 fn flags_change_no_text_over_paths(rt: HostRuntime) -> Result<(), Fail> {
-    let alloc = rt.alloc();
-    let mut out = String::new(alloc);
-    for existence in [exists(), missing()] {
-        print(alloc, &mut out, existence)?;
-    }
-    let dir = FileTypePredicate::from_path(&folder(alloc)?)?;
-    for kind in [is_file(), is_dir().follow_links(true), is_symlink(), dir] {
-        print(alloc, &mut out, kind)?;
-    }
-    let same = eq_file(file_a(alloc)?)?;
-    print::<BinaryFilePredicate, Snapshot>(alloc, &mut out, same)?;
-    let same = eq_file(file_a(alloc)?)?.utf8().ok_or("no text")?;
-    print::<StrFilePredicate, Snapshot>(alloc, &mut out, same)?;
-    let some = is_empty().not().from_utf8().from_file_path();
-    print(alloc, &mut out, some)?;
+    let mut out = String::new(rt.alloc());
+    existence_onto(rt.alloc(), &mut out)?;
+    kinds_onto(rt.alloc(), &mut out)?;
+    contents_onto(rt.alloc(), &mut out)?;
     assert_eq!(rt;
         out.as_str(),
         "\

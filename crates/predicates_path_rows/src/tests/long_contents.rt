@@ -1,9 +1,8 @@
 //! Nested predicates over long contents.
-use super::snapshots::file;
+use super::snapshots::{file, tell_at};
 use predicates::boolean::PredicateBooleanExt;
 use predicates::path::PredicateFileContentExt;
 use predicates::str::{PredicateStrExt, is_empty};
-use predicates_generated::tell;
 use std::alloc::{AllocError, Global};
 use std::test::Fail;
 
@@ -20,16 +19,18 @@ fn long_text(alloc: Global, length: u32, end: &str) -> Result<String, AllocError
     Ok(text)
 }
 
-#[test]
-fn nested_over_long_contents(rt: HostRuntime) -> Result<(), Fail> {
-    let alloc = rt.alloc();
+// Whether nested predicates tell the lines of the content.
+fn tells(alloc: Global, content: &[u8], lines: &str) -> Result<bool, AllocError> {
     let some = is_empty().not().normalize().from_utf8().from_file_path();
-    let content = long_text(alloc, LENGTH, "\r\n")?;
-    let long = content.as_str();
-    let mut even = long_text(alloc, LENGTH, "\n")?;
     let mut found = String::new(alloc);
-    tell(alloc, &mut found, &some, &file(alloc, long.as_bytes())?)?;
-    let expected = format!(in alloc;
+    tell_at(alloc, &mut found, &some, file(content))?;
+    Ok(found.as_str() == lines)
+}
+
+// The lines of a long content, and of what is handed on of it.
+fn told(alloc: Global, long: &str) -> Result<String, AllocError> {
+    let even = long_text(alloc, LENGTH, "\n")?;
+    format!(in alloc;
         "\
 (! var.is_empty()) = true
   - var as str: {long}
@@ -37,21 +38,37 @@ fn nested_over_long_contents(rt: HostRuntime) -> Result<(), Fail> {
   predicate: var.is_empty() = false
     - var: {even}
 "
-    )?;
-    assert!(rt; found.as_str() == expected.as_str());
-    even.push('ä')?;
-    // The last character is cut.
-    let bytes = even.as_bytes();
-    let cut = bytes.split_last().ok_or("no bytes")?.1;
-    let mut found = String::new(alloc);
-    tell(alloc, &mut found, &some, &file(alloc, cut)?)?;
-    assert_eq!(rt;
-        found.as_str(),
+    )
+}
+
+// Whether a long text is told and handed on as a whole.
+fn is_told(alloc: Global) -> Result<bool, AllocError> {
+    let content = long_text(alloc, LENGTH, "\r\n")?;
+    let long = content.as_str();
+    let lines = told(alloc, long)?;
+    tells(alloc, long.as_bytes(), lines.as_str())
+}
+
+// Whether a long text is refused where its last character is cut.
+fn is_refused(alloc: Global) -> Result<bool, AllocError> {
+    let content = long_text(alloc, LENGTH, "\nä")?;
+    let Some((_, cut)) = content.as_str().as_bytes().split_last() else {
+        return Ok(false);
+    };
+    tells(
+        alloc,
+        cut,
         "\
 (! var.is_empty()) = false
   - error: Invalid UTF-8 string
   - var: p
-"
-    );
+",
+    )
+}
+
+#[test]
+fn nested_over_long_contents(rt: HostRuntime) -> Result<(), Fail> {
+    assert!(rt; is_told(rt.alloc())?);
+    assert!(rt; is_refused(rt.alloc())?);
     Ok(())
 }

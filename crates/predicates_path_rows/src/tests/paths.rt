@@ -1,6 +1,7 @@
 //! What kind of thing stands at a path.
 use super::snapshots::{
-    device, file, folder, link_to_file, link_to_folder, link_to_nothing, nothing,
+    DEVICE, FILE, FOLDER, LINK_TO_FILE, LINK_TO_FOLDER, LINK_TO_NOTHING, NOTHING, Parts, snapshot,
+    tell_at,
 };
 use predicates::path::PathFault::NotFound;
 use predicates::path::{FileTypePredicate, Snapshot, exists, is_dir, is_file, is_symlink, missing};
@@ -23,58 +24,78 @@ fn kinds(alloc: Global, snapshot: &Snapshot) -> Result<[Option<bool>; 8], AllocE
     ])
 }
 
+const YES: Option<bool> = Some(true);
+
+const NO: Option<bool> = Some(false);
+
+// What stands there, and the verdicts.
+const KINDS: [(&str, Parts<'static>, [Option<bool>; 8]); 7] = [
+    ("file", FILE, [YES, NO, NO, YES, NO, NO, YES, NO]),
+    ("folder", FOLDER, [NO, YES, NO, NO, YES, NO, YES, NO]),
+    (
+        "link to file",
+        LINK_TO_FILE,
+        [NO, NO, YES, YES, NO, NO, YES, NO],
+    ),
+    (
+        "link to folder",
+        LINK_TO_FOLDER,
+        [NO, NO, YES, NO, YES, NO, YES, NO],
+    ),
+    (
+        "link to nothing",
+        LINK_TO_NOTHING,
+        [NO, NO, YES, NO, NO, NO, NO, YES],
+    ),
+    ("device", DEVICE, [NO, NO, NO, NO, NO, NO, YES, NO]),
+    ("nothing", NOTHING, [NO, NO, NO, NO, NO, NO, NO, YES]),
+];
+
+// Whether the verdicts on a snapshot of the parts are the expected ones.
+fn has_kinds(
+    alloc: Global,
+    parts: Parts<'_>,
+    expected: [Option<bool>; 8],
+) -> Result<bool, AllocError> {
+    Ok(kinds(alloc, &snapshot(alloc, parts)?)? == expected)
+}
+
 #[test]
 fn kinds_of_what_stands_there(rt: HostRuntime) -> Result<(), Fail> {
-    let alloc = rt.alloc();
-    let (yes, no) = (Some(true), Some(false));
-    assert_eq!(rt;
-        kinds(alloc, &file(alloc, b"a")?)?,
-        [yes, no, no, yes, no, no, yes, no]
-    );
-    assert_eq!(rt;
-        kinds(alloc, &folder(alloc)?)?,
-        [no, yes, no, no, yes, no, yes, no]
-    );
-    assert_eq!(rt;
-        kinds(alloc, &link_to_file(alloc)?)?,
-        [no, no, yes, yes, no, no, yes, no]
-    );
-    assert_eq!(rt;
-        kinds(alloc, &link_to_folder(alloc)?)?,
-        [no, no, yes, no, yes, no, yes, no]
-    );
-    assert_eq!(rt;
-        kinds(alloc, &link_to_nothing(alloc)?)?,
-        [no, no, yes, no, no, no, no, yes]
-    );
-    assert_eq!(rt;
-        kinds(alloc, &device(alloc)?)?,
-        [no, no, no, no, no, no, yes, no]
-    );
-    assert_eq!(rt;
-        kinds(alloc, &nothing(alloc)?)?,
-        [no, no, no, no, no, no, no, yes]
-    );
+    for (name, parts, expected) in KINDS {
+        assert!(rt; has_kinds(rt.alloc(), parts, expected)?, "{name}");
+    }
     Ok(())
+}
+
+fn told_onto(alloc: Global, out: &mut String) -> Result<(), AllocError> {
+    tell_at(alloc, out, &is_file(), FILE)?;
+    tell_at(alloc, out, &is_symlink(), DEVICE)?;
+    tell_at(alloc, out, &is_symlink(), LINK_TO_NOTHING)?;
+    tell_at(
+        alloc,
+        out,
+        &is_symlink().follow_links(true),
+        LINK_TO_NOTHING,
+    )?;
+    tell_at(alloc, out, &exists(), LINK_TO_NOTHING)?;
+    tell_at(alloc, out, &missing(), LINK_TO_NOTHING)
+}
+
+fn described_onto(alloc: Global, out: &mut String) -> Result<(), AllocError> {
+    describe(alloc, out, &is_symlink())?;
+    describe(alloc, out, &is_dir().follow_links(true))?;
+    describe(alloc, out, &is_file())?;
+    describe(alloc, out, &exists())?;
+    describe(alloc, out, &missing())
 }
 
 // What kind predicates tell of a file, a device and a link without a target.
 #[test]
 fn cases_of_kinds(rt: HostRuntime) -> Result<(), Fail> {
-    let alloc = rt.alloc();
-    let mut out = String::new(alloc);
-    let link = link_to_nothing(alloc)?;
-    tell(alloc, &mut out, &is_file(), &file(alloc, b"a")?)?;
-    tell(alloc, &mut out, &is_symlink(), &device(alloc)?)?;
-    tell(alloc, &mut out, &is_symlink(), &link)?;
-    tell(alloc, &mut out, &is_symlink().follow_links(true), &link)?;
-    tell(alloc, &mut out, &exists(), &link)?;
-    tell(alloc, &mut out, &missing(), &link)?;
-    describe(alloc, &mut out, &is_symlink())?;
-    describe(alloc, &mut out, &is_dir().follow_links(true))?;
-    describe(alloc, &mut out, &is_file())?;
-    describe(alloc, &mut out, &exists())?;
-    describe(alloc, &mut out, &missing())?;
+    let mut out = String::new(rt.alloc());
+    told_onto(rt.alloc(), &mut out)?;
+    described_onto(rt.alloc(), &mut out)?;
     assert_eq!(rt;
         out.as_str(),
         "\
@@ -104,11 +125,12 @@ missing(var)
 }
 
 // The predicate of the kind that stands at a path, asked of that path.
-fn tell_kind(alloc: Global, out: &mut String, snapshot: &Snapshot) -> Result<(), AllocError> {
-    match FileTypePredicate::from_path(snapshot) {
+fn tell_kind(alloc: Global, out: &mut String, parts: Parts<'_>) -> Result<(), AllocError> {
+    let snapshot = snapshot(alloc, parts)?;
+    match FileTypePredicate::from_path(&snapshot) {
         Ok(kind) => {
             describe(alloc, out, &kind)?;
-            tell(alloc, out, &kind, snapshot)
+            tell(alloc, out, &kind, &snapshot)
         }
         Err(NotFound) => Ok(out.push_str("not found\n")?),
         Err(_) => Ok(out.push_str("another fault\n")?),
@@ -117,12 +139,10 @@ fn tell_kind(alloc: Global, out: &mut String, snapshot: &Snapshot) -> Result<(),
 
 #[test]
 fn the_kind_of_a_path(rt: HostRuntime) -> Result<(), Fail> {
-    let alloc = rt.alloc();
-    let mut out = String::new(alloc);
-    tell_kind(alloc, &mut out, &device(alloc)?)?;
-    tell_kind(alloc, &mut out, &link_to_folder(alloc)?)?;
-    tell_kind(alloc, &mut out, &link_to_nothing(alloc)?)?;
-    tell_kind(alloc, &mut out, &nothing(alloc)?)?;
+    let mut out = String::new(rt.alloc());
+    for parts in [DEVICE, LINK_TO_FOLDER, LINK_TO_NOTHING, NOTHING] {
+        tell_kind(rt.alloc(), &mut out, parts)?;
+    }
     assert_eq!(rt;
         out.as_str(),
         "\
