@@ -1,4 +1,7 @@
 mod asked;
 mod disk;
+mod equality;
 mod parts;
 mod predicates;
+mod sizes;
+mod told;
