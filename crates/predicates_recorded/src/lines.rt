@@ -29,23 +29,41 @@ impl Table for NumberLines {
 /// Rows of the words `between LO HI`, the input, the status and what is written.
 pub struct BetweenRuns;
 
+// The bounds of the words `between LO HI`.
+fn bounds(words: &str) -> Result<(i64, i64)> {
+    let bounds = words.strip_prefix("between ").context("another command")?;
+    let (lo, hi) = bounds.split_once(' ').context("one bound alone")?;
+    let lo = number(lo.as_bytes()).context("no number")?;
+    let hi = number(hi.as_bytes()).context("no number")?;
+    Ok((lo, hi))
+}
+
+// Compares a run over the input with the row's last two cells.
+fn compare_between(
+    alloc: Global,
+    wrong: &mut Vec<Difference>,
+    bounds: (i64, i64),
+    input: &[u8],
+    expected: [&str; 2],
+) -> Result<()> {
+    let (lo, hi) = bounds;
+    let mut input = input;
+    let mut written = Vec::new(alloc);
+    let all = run_between(alloc, lo, hi, &mut input, &mut written).map_err(|fault| anyhow!(
+        "{fault}"
+    ))?;
+    compare_run(alloc, wrong, expected, all, written)
+}
+
 impl Table for BetweenRuns {
     fn replay(&self, alloc: Global, row: &str, wrong: &mut Vec<Difference>) -> Result<()> {
         let cells = cells(alloc, row)?;
         let [words, input, status, output] = cells.as_slice() else {
             bail!("not four cells");
         };
-        let bounds = words.strip_prefix("between ").context("another command")?;
-        let (lo, hi) = bounds.split_once(' ').context("one bound alone")?;
-        let lo = number(lo.as_bytes()).context("no number")?;
-        let hi = number(hi.as_bytes()).context("no number")?;
         let input = bytes(alloc, input)?;
-        let mut written = Vec::new(alloc);
-        let mut input = input.as_slice();
-        let all = run_between(alloc, lo, hi, &mut input, &mut written).map_err(|fault| anyhow!(
-            "{fault}"
-        ))?;
-        compare_run(alloc, wrong, [status, output], all, written)
+        let expected = [*status, *output];
+        compare_between(alloc, wrong, bounds(words)?, input.as_slice(), expected)
     }
 }
 
@@ -58,11 +76,11 @@ fn compare_run(
     written: Vec<u8>,
 ) -> Result<()> {
     let [status, output] = expected;
-    compare(alloc, wrong, "status", status, if all { "0" } else { "1" })?;
     let written = String::from_utf8(written)
         .ok()
         .context("written bytes that are no text")?;
-    compare(alloc, wrong, "output", output, written.as_str())
+    compare(alloc, wrong, "output", output, written.as_str())?;
+    compare_text(alloc, wrong, "status", status, if all { "0" } else { "1" })
 }
 
 // The check that the words leave, as the program has it.
@@ -93,6 +111,27 @@ fn compare_flags(alloc: Global, wrong: &mut Vec<Difference>, check: &TextCheck) 
     )
 }
 
+// Compares a run over the input, by the case of each line or by the check itself, with the row's
+// last two cells.
+fn compare_text_run(
+    alloc: Global,
+    wrong: &mut Vec<Difference>,
+    check: &TextCheck,
+    input: &[u8],
+    makes_cases: bool,
+    expected: [&str; 2],
+) -> Result<()> {
+    let mut input = input;
+    let mut written = Vec::new(alloc);
+    let ended = if makes_cases {
+        run_text(alloc, check, &mut input, &mut written)
+    } else {
+        run_check(alloc, check, &mut input, &mut written)
+    };
+    let all = ended.map_err(|fault| anyhow!("{fault}"))?;
+    compare_run(alloc, wrong, expected, all, written)
+}
+
 /// Rows of the words `text TOKEN..`, the input, the status and what is written.
 pub struct TextRuns;
 
@@ -107,15 +146,15 @@ impl Table for TextRuns {
         compare_flags(alloc, wrong, &check)?;
         let input = bytes(alloc, input)?;
         for makes_cases in [false, true] {
-            let mut written = Vec::new(alloc);
-            let mut input = input.as_slice();
-            let ended = if makes_cases {
-                run_text(alloc, &check, &mut input, &mut written)
-            } else {
-                run_check(alloc, &check, &mut input, &mut written)
-            };
-            let all = ended.map_err(|fault| anyhow!("{fault}"))?;
-            compare_run(alloc, wrong, [status, output], all, written)?;
+            let expected = [*status, *output];
+            compare_text_run(
+                alloc,
+                wrong,
+                &check,
+                input.as_slice(),
+                makes_cases,
+                expected,
+            )?;
         }
         Ok(())
     }

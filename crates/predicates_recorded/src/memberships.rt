@@ -1,10 +1,10 @@
 //! The table of members and items.
 use crate::cells::cells;
-use crate::outcome::{Difference, compare};
-use crate::shown::shown_case;
+use crate::outcome::{Difference, compare_case, compare_number, compare_text, compare_truth};
 use crate::table::Table;
 use anyhow::{Context, Result, bail};
 use predicates::iter::{OrdInPredicate, Steps, in_hash, in_iter};
+use predicates::reflection::Parameter;
 use predicates_generated::{Answers, ask, read_numbers};
 use std::alloc::Global;
 
@@ -81,8 +81,24 @@ impl<'a> Expected<'a> {
     }
 }
 
-// Compares the verdict and the parameter `values`, whose cell is `long` for a list that is too long
-// to be written.
+// Compares the parameter `values`, whose cell is `long` for a list that is too long to be written.
+fn compare_values(
+    alloc: Global,
+    wrong: &mut Vec<Difference>,
+    parameter: &Parameter,
+    members: &[i64],
+    expected: Expected<'_>,
+) -> Result<()> {
+    let column = expected.column;
+    compare_text(alloc, wrong, column, "values", parameter.name())?;
+    if expected.values != "long" {
+        return compare_text(alloc, wrong, column, expected.values, parameter.value());
+    }
+    let written = text_of_members(alloc, members, expected.brackets)?;
+    compare_text(alloc, wrong, column, written.as_str(), parameter.value())
+}
+
+// Compares the verdict and the one parameter.
 fn compare_membership(
     alloc: Global,
     wrong: &mut Vec<Difference>,
@@ -90,32 +106,17 @@ fn compare_membership(
     members: &[i64],
     expected: Expected<'_>,
 ) -> Result<()> {
-    let column = expected.column;
-    let found = answers.verdict.to_string(alloc)?;
-    compare(alloc, wrong, column, expected.verdict, found.as_str())?;
+    compare_truth(
+        alloc,
+        wrong,
+        expected.column,
+        expected.verdict,
+        answers.verdict,
+    )?;
     let [parameter] = answers.parameters.as_slice() else {
         bail!("not one parameter");
     };
-    compare(alloc, wrong, column, "values", parameter.name())?;
-    if expected.values == "long" {
-        let written = text_of_members(alloc, members, expected.brackets)?;
-        return compare(alloc, wrong, column, written.as_str(), parameter.value());
-    }
-    compare(alloc, wrong, column, expected.values, parameter.value())
-}
-
-// Compares the case for the verdict, and that there is none for its opposite.
-fn compare_case(
-    alloc: Global,
-    wrong: &mut Vec<Difference>,
-    answers: &Answers,
-    case: &str,
-) -> Result<()> {
-    let (of_verdict, opposite) = answers.cases();
-    let found = shown_case(alloc, of_verdict)?;
-    compare(alloc, wrong, "case_in_iter", case, found.as_str())?;
-    let found = shown_case(alloc, opposite)?;
-    compare(alloc, wrong, "the other case", "none", found.as_str())
+    compare_values(alloc, wrong, parameter, members, expected)
 }
 
 // Compares what the search answers, and that it makes no more comparisons than the row allows.
@@ -127,14 +128,11 @@ fn compare_search(
     verdict: &str,
     most: &str,
 ) -> Result<()> {
-    let most_count = most.parse::<usize>().context("no number")?;
     let mut steps = Steps::new();
-    let found = sorted.search_counted(&item, &mut steps).to_string(alloc)?;
-    compare(alloc, wrong, "searched", verdict, found.as_str())?;
-    let count = steps.count();
-    if count > most_count {
-        let found = count.to_string(alloc)?;
-        compare(alloc, wrong, "most_comparisons", most, found.as_str())?;
+    let found = sorted.search_counted(&item, &mut steps);
+    compare_truth(alloc, wrong, "searched", verdict, found)?;
+    if steps.count() > most.parse::<usize>().context("no number")? {
+        compare_number(alloc, wrong, "most_comparisons", most, steps.count())?;
     }
     Ok(())
 }
@@ -150,7 +148,9 @@ fn replay_listed(
 ) -> Result<()> {
     let answers = ask(alloc, &in_iter(alloc, members.clone()?)?, &item)?;
     compare_membership(alloc, wrong, &answers, members.as_slice(), expected)?;
-    compare_case(alloc, wrong, &answers, case)
+    let (of_verdict, opposite) = answers.cases();
+    compare_case(alloc, wrong, "case_in_iter", case, of_verdict)?;
+    compare_case(alloc, wrong, "the other case", "none", opposite)
 }
 
 // The sorted list, and its search.

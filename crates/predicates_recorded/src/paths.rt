@@ -1,6 +1,6 @@
 //! The table of predicates of paths.
 use crate::cells::{cells, text};
-use crate::outcome::{Difference, compare_text};
+use crate::outcome::{Difference, compare_text, compare_truth};
 use crate::table::Table;
 use anyhow::{Context, Result, anyhow, bail};
 use predicates::Predicate;
@@ -19,6 +19,9 @@ use std::alloc::{AllocError, Global};
 /// the case for the verdict.
 pub struct PathTable;
 
+// The kind at a path, or the fault where nothing is there.
+type Kind = Result<FileType, PathFault>;
+
 // What stands at the path of a device.
 const DEVICE: &str = "device";
 
@@ -30,12 +33,7 @@ fn file(alloc: Global, path: &str, plain: FileType, bytes: &[u8]) -> Result<Snap
 }
 
 // A path that leads to something without a content, which is the fault where nothing is there.
-fn other(
-    alloc: Global,
-    path: &str,
-    plain: Result<FileType, PathFault>,
-    followed: Result<FileType, PathFault>,
-) -> Result<Snapshot, AllocError> {
+fn other(alloc: Global, path: &str, plain: Kind, followed: Kind) -> Result<Snapshot, AllocError> {
     let path = String::from_str(alloc, path)?;
     let fault = match followed {
         Ok(_) => PathFault::NotRegular,
@@ -44,25 +42,63 @@ fn other(
     Ok(Snapshot::from_parts(path, plain, followed, Err(fault)))
 }
 
+// The files: their names in the rows, their paths, what stands at these, and the content.
+const FILES: [(&str, &str, FileType, &[u8]); 5] = [
+    ("regular file a", "$ROOT/file_a", FileType::File, b"a"),
+    ("regular file b", "$ROOT/file_b", FileType::File, b"b"),
+    ("empty file", "$ROOT/empty", FileType::File, b""),
+    ("file with byte ff", "$ROOT/bytes", FileType::File, b"\xff"),
+    ("link to file a", "$ROOT/to_file", FileType::Symlink, b"a"),
+];
+
+// What is no file: its name, its path, the kind at that, and the kind behind a link.
+const OTHERS: [(&str, &str, Kind, Kind); 5] = [
+    (
+        "directory",
+        "$ROOT/dir",
+        Ok(FileType::Dir),
+        Ok(FileType::Dir),
+    ),
+    (
+        "link to directory",
+        "$ROOT/to_dir",
+        Ok(FileType::Symlink),
+        Ok(FileType::Dir),
+    ),
+    (
+        "dangling link",
+        "$ROOT/dangling",
+        Ok(FileType::Symlink),
+        Err(PathFault::NotFound),
+    ),
+    (
+        DEVICE,
+        "/dev/null",
+        Ok(FileType::Other),
+        Ok(FileType::Other),
+    ),
+    (
+        "nothing",
+        "$ROOT/nothing",
+        Err(PathFault::NotFound),
+        Err(PathFault::NotFound),
+    ),
+];
+
 // The snapshot that is taken where this stands, made of its parts: the folder of the recorded
 // answers is not at hand.
 fn snapshot(alloc: Global, what: &str) -> Result<Option<Snapshot>, AllocError> {
-    let link = Ok(FileType::Symlink);
-    let dir = Ok(FileType::Dir);
-    let nothing = Err(PathFault::NotFound);
-    Ok(Some(match what {
-        "regular file a" => file(alloc, "$ROOT/file_a", FileType::File, b"a")?,
-        "regular file b" => file(alloc, "$ROOT/file_b", FileType::File, b"b")?,
-        "empty file" => file(alloc, "$ROOT/empty", FileType::File, b"")?,
-        "file with byte ff" => file(alloc, "$ROOT/bytes", FileType::File, &[255])?,
-        "link to file a" => file(alloc, "$ROOT/to_file", FileType::Symlink, b"a")?,
-        "directory" => other(alloc, "$ROOT/dir", dir, dir)?,
-        "link to directory" => other(alloc, "$ROOT/to_dir", link, dir)?,
-        "dangling link" => other(alloc, "$ROOT/dangling", link, nothing)?,
-        DEVICE => other(alloc, "/dev/null", Ok(FileType::Other), Ok(FileType::Other))?,
-        "nothing" => other(alloc, "$ROOT/nothing", nothing, nothing)?,
-        _ => return Ok(None),
-    }))
+    for (name, path, plain, content) in FILES {
+        if name == what {
+            return Ok(Some(file(alloc, path, plain, content)?));
+        }
+    }
+    for (name, path, plain, followed) in OTHERS {
+        if name == what {
+            return Ok(Some(other(alloc, path, plain, followed)?));
+        }
+    }
+    Ok(None)
 }
 
 // What a test of kinds answers.
@@ -81,27 +117,25 @@ fn answer_kind(alloc: Global, name: &str, item: &Snapshot) -> Result<Option<Answ
     Ok(Some(ask(alloc, &predicate.follow_links(follow), item)?))
 }
 
+// What a comparison with the file of the byte `a` answers.
+fn answer_equality(alloc: Global, rest: &str, item: &Snapshot) -> Result<Option<Answers>> {
+    let compared = snapshot(alloc, "regular file a")?.context("no file")?;
+    let same = eq_file(compared).map_err(|fault| anyhow!("{fault}"))?;
+    Ok(match rest {
+        "" => Some(ask(alloc, &same, item)?),
+        " utf8" => Some(ask(alloc, &same.utf8().context("no text")?, item)?),
+        _ => None,
+    })
+}
+
 // What the predicate of the words answers; none where it is none of a path.
 fn answer(alloc: Global, name: &str, item: &Snapshot) -> Result<Option<Answers>> {
-    if name == "exists" {
-        return Ok(Some(ask(alloc, &exists(), item)?));
-    }
-    if name == "missing" {
-        return Ok(Some(ask(alloc, &missing(), item)?));
-    }
     if let Some(rest) = name.strip_prefix("eq_file a") {
-        let compared = snapshot(alloc, "regular file a")?.context("no file")?;
-        let same = eq_file(compared).map_err(|fault| anyhow!("{fault}"))?;
-        return Ok(match rest {
-            "" => Some(ask(alloc, &same, item)?),
-            " utf8" => {
-                let same = same.utf8().context("no text")?;
-                Some(ask(alloc, &same, item)?)
-            }
-            _ => None,
-        });
+        return answer_equality(alloc, rest, item);
     }
     Ok(match name {
+        "exists" => Some(ask(alloc, &exists(), item)?),
+        "missing" => Some(ask(alloc, &missing(), item)?),
         "eq=a from_utf8 from_file_path" => {
             let constant = String::from_str(alloc, "a")?;
             Some(ask(alloc, &eq(constant).from_utf8().from_file_path(), item)?)
@@ -162,6 +196,37 @@ fn root_products(alloc: Global, case: &Option<Case>) -> Result<String> {
     }
 }
 
+// Compares the root's products of the case for the verdict.
+fn compare_products(
+    alloc: Global,
+    wrong: &mut Vec<Difference>,
+    products: &str,
+    is_kind_of_device: bool,
+    case: &Option<Case>,
+) -> Result<()> {
+    let given = text(alloc, products)?;
+    let expected = stated_products(alloc, given.as_str(), is_kind_of_device)?;
+    let found = root_products(alloc, case)?;
+    compare_text(alloc, wrong, "products", expected.as_str(), found.as_str())
+}
+
+// Compares what the predicate answers with the row's last three cells.
+fn compare_of_path(
+    alloc: Global,
+    wrong: &mut Vec<Difference>,
+    answers: &Answers,
+    expected: [&str; 3],
+    is_kind_of_device: bool,
+) -> Result<()> {
+    let [verdict, printed, products] = expected;
+    compare_truth(alloc, wrong, "verdict", verdict, answers.verdict)?;
+    compare_text(alloc, wrong, "text", printed, answers.text.as_str())?;
+    let (of_verdict, opposite) = answers.cases();
+    compare_products(alloc, wrong, products, is_kind_of_device, of_verdict)?;
+    let found = if opposite.is_some() { "some" } else { "none" };
+    compare_text(alloc, wrong, "case for the opposite", "none", found)
+}
+
 impl Table for PathTable {
     fn replay(&self, alloc: Global, row: &str, wrong: &mut Vec<Difference>) -> Result<()> {
         let cells = cells(alloc, row)?;
@@ -170,16 +235,8 @@ impl Table for PathTable {
         };
         let item = snapshot(alloc, what)?.context("an unknown thing at the path")?;
         let answers = answer(alloc, predicate, &item)?.context("an unknown predicate")?;
-        let found = answers.verdict.to_string(alloc)?;
-        compare_text(alloc, wrong, "verdict", verdict, found.as_str())?;
-        compare_text(alloc, wrong, "text", printed, answers.text.as_str())?;
-        let (of_verdict, opposite) = answers.cases();
+        let expected = [*verdict, *printed, *products];
         let is_kind_of_device = *what == DEVICE && predicate.starts_with("is_");
-        let given = text(alloc, products)?;
-        let expected = stated_products(alloc, given.as_str(), is_kind_of_device)?;
-        let found = root_products(alloc, of_verdict)?;
-        compare_text(alloc, wrong, "products", expected.as_str(), found.as_str())?;
-        let found = if opposite.is_some() { "some" } else { "none" };
-        compare_text(alloc, wrong, "case for the opposite", "none", found)
+        compare_of_path(alloc, wrong, &answers, expected, is_kind_of_device)
     }
 }

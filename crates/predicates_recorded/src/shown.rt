@@ -1,15 +1,7 @@
 //! Answers as the tables write them.
 use anyhow::{Result, ensure};
-use predicates::reflection::{Case, Child, Parameter, render};
+use predicates::reflection::{Child, Parameter};
 use std::alloc::Global;
-
-/// The lines of a case, or `none`.
-pub fn shown_case(alloc: Global, case: &Option<Case>) -> Result<String> {
-    Ok(match case {
-        Some(case) => render(alloc, case)?,
-        None => String::from_str(alloc, "none")?,
-    })
-}
 
 /// The numbers with commas between them.
 pub fn shown_numbers(alloc: Global, numbers: &[usize]) -> Result<String> {

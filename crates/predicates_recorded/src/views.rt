@@ -1,6 +1,6 @@
 //! Tables of texts, and of what is made of them.
 use crate::cells::{bytes, cells, text};
-use crate::outcome::{Difference, compare};
+use crate::outcome::{Difference, compare, compare_number, compare_truth};
 use crate::table::Table;
 use anyhow::{Context, Result, bail};
 use predicates::Predicate;
@@ -18,15 +18,19 @@ fn text_of_digits(alloc: Global, cell: &str) -> Result<String> {
         .context("bytes that are no text")
 }
 
-// Whether the predicate holds of the text, as it is written.
-fn answer<P: Predicate<String> + Drop>(
+// Compares whether the predicate holds of the text.
+fn compare_verdict<P: Predicate<String> + Drop>(
     alloc: Global,
+    wrong: &mut Vec<Difference>,
+    column: &'static str,
+    cell: &str,
     predicate: P,
     item: &String,
-) -> Result<String, AllocError>
+) -> Result<()>
     requires { P.lawful predicate }
 {
-    predicate.eval(alloc, item)?.to_string(alloc)
+    let found = predicate.eval(alloc, item)?;
+    compare_truth(alloc, wrong, column, cell, found)
 }
 
 // The characters of a text.
@@ -53,12 +57,12 @@ fn compare_parts(
     cells: [&str; 3],
 ) -> Result<()> {
     let [starts, ends, contained] = cells;
-    let found = answer(alloc, starts_with(pattern.clone()?), item)?;
-    compare(alloc, wrong, "starts", starts, found.as_str())?;
-    let found = answer(alloc, ends_with(pattern.clone()?), item)?;
-    compare(alloc, wrong, "ends", ends, found.as_str())?;
-    let found = answer(alloc, contains(pattern.clone()?), item)?;
-    compare(alloc, wrong, "contains", contained, found.as_str())
+    let predicate = starts_with(pattern.clone()?);
+    compare_verdict(alloc, wrong, "starts", starts, predicate, item)?;
+    let predicate = ends_with(pattern.clone()?);
+    compare_verdict(alloc, wrong, "ends", ends, predicate, item)?;
+    let predicate = contains(pattern.clone()?);
+    compare_verdict(alloc, wrong, "contains", contained, predicate, item)
 }
 
 // The count, and what is answered where it is asked for, and for one more.
@@ -69,14 +73,20 @@ fn compare_counts(
     item: &String,
     expected: &str,
 ) -> Result<()> {
-    let found = count(item.as_str(), pattern.as_str()).to_string(alloc)?;
-    compare(alloc, wrong, "count", expected, found.as_str())?;
+    let found = count(item.as_str(), pattern.as_str());
+    compare_number(alloc, wrong, "count", expected, found)?;
     let number = expected.parse::<usize>().context("no number")?;
-    let found = answer(alloc, contains(pattern.clone()?).count(number), item)?;
-    compare(alloc, wrong, "counted", "true", found.as_str())?;
-    let other = number.saturating_add(1);
-    let found = answer(alloc, contains(pattern.clone()?).count(other), item)?;
-    compare(alloc, wrong, "counted as one more", "false", found.as_str())
+    let predicate = contains(pattern.clone()?).count(number);
+    compare_verdict(alloc, wrong, "counted", "true", predicate, item)?;
+    let predicate = contains(pattern.clone()?).count(number.saturating_add(1));
+    compare_verdict(
+        alloc,
+        wrong,
+        "counted as one more",
+        "false",
+        predicate,
+        item,
+    )
 }
 
 // The greatest number of disjoint places among all choices, where the item is short.
@@ -92,14 +102,8 @@ fn compare_choices(
         return Ok(());
     }
     let pattern = characters(alloc, pattern.as_str())?;
-    let found = greatest_choice(pattern.as_slice(), item.as_slice()).to_string(alloc)?;
-    compare(
-        alloc,
-        wrong,
-        "greatest choice of places",
-        expected,
-        found.as_str(),
-    )
+    let found = greatest_choice(pattern.as_slice(), item.as_slice());
+    compare_number(alloc, wrong, "greatest choice of places", expected, found)
 }
 
 impl Table for TextPairs {
@@ -126,17 +130,10 @@ impl Table for TrimmedTexts {
             bail!("not two cells");
         };
         let item = text_of_digits(alloc, item)?;
-        let found = trimmed(alloc, item.as_str())?;
-        compare(
-            alloc,
-            wrong,
-            "trimmed_hex",
-            expected,
-            digits(alloc, found.as_str())?.as_str(),
-        )?;
+        let found = digits(alloc, trimmed(alloc, item.as_str())?)?;
+        compare(alloc, wrong, "trimmed_hex", expected, found.as_str())?;
         let predicate = eq(text_of_digits(alloc, expected)?).trim();
-        let found = answer(alloc, predicate, &item)?;
-        compare(alloc, wrong, "equal behind trim", "true", found.as_str())
+        compare_verdict(alloc, wrong, "equal behind trim", "true", predicate, &item)
     }
 }
 
@@ -150,22 +147,16 @@ impl Table for EvenTexts {
             bail!("not two cells");
         };
         let item = text_of_digits(alloc, item)?;
-        let found = lines_even(alloc, item.as_str())?;
-        compare(
-            alloc,
-            wrong,
-            "even_hex",
-            expected,
-            digits(alloc, found.as_str())?.as_str(),
-        )?;
+        let found = digits(alloc, lines_even(alloc, item.as_str())?)?;
+        compare(alloc, wrong, "even_hex", expected, found.as_str())?;
         let predicate = eq(text_of_digits(alloc, expected)?).normalize();
-        let found = answer(alloc, predicate, &item)?;
-        compare(
+        compare_verdict(
             alloc,
             wrong,
             "equal behind normalize",
             "true",
-            found.as_str(),
+            predicate,
+            &item,
         )
     }
 }
@@ -181,13 +172,7 @@ impl Table for ValidBytes {
         };
         let item = bytes(alloc, item)?;
         let found = always::<String>().from_utf8().eval(alloc, &item)?;
-        compare(
-            alloc,
-            wrong,
-            "valid",
-            expected,
-            found.to_string(alloc)?.as_str(),
-        )
+        compare_truth(alloc, wrong, "valid", expected, found)
     }
 }
 
@@ -210,7 +195,7 @@ impl Table for DebugForms {
 }
 
 // The bytes of a text as hexadecimal digits, which is a point where there are none.
-fn digits(alloc: Global, text: &str) -> Result<String, AllocError> {
+fn digits(alloc: Global, text: String) -> Result<String, AllocError> {
     if text.is_empty() {
         return String::from_str(alloc, ".");
     }
