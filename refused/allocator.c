@@ -19,8 +19,6 @@ enum {
     IS_LEVEL,
     WAS_REFUSED,
     TAKE_LEVEL,
-    IS_PLANTED,
-    LOSE_A_BLOCK,
     REFUSE = 18000000,      /* and the number of the request */
     REFUSE_FROM = 19000000, /* and the number of the first of the requests */
     MOST = 65535,
@@ -37,7 +35,7 @@ static const size_t THERE = 0x5eedb10c5eedb10c, GONE = 0xdeadb10cdeadb10c;
 static enum { NOT_AT_ALL, ONE, FROM_ONE_ON } refuses;
 static unsigned long nth, asked; /* the request that is refused, or the first; requests since the refusals began */
 static long live, level;         /* blocks; blocks when they were counted */
-static int refused, planted, loses;
+static int refused;
 
 /* glibc's own names of its heap. */
 void *__libc_malloc(size_t size);
@@ -68,8 +66,7 @@ static void give_back(void *p) {
     struct head *head = head_of(p);
     memset(p, 0x5a, head->size);
     head->mark = GONE;
-    live -= !loses;
-    loses = 0;
+    live--;
     __libc_free(head);
 }
 
@@ -99,10 +96,6 @@ static int says_yes(size_t word) {
     case TAKE_LEVEL:
         level = live;
         return 1;
-    case IS_PLANTED:
-        return planted;
-    case LOSE_A_BLOCK:
-        return loses = 1;
     }
     if (word > REFUSE_FROM)
         begin(FROM_ONE_ON, word - REFUSE_FROM);
@@ -112,7 +105,7 @@ static int says_yes(size_t word) {
 }
 
 static int is_word(size_t size) {
-    return (size >= LISTENS && size <= LOSE_A_BLOCK) || (size > REFUSE && size <= REFUSE + MOST) ||
+    return (size >= LISTENS && size <= TAKE_LEVEL) || (size > REFUSE && size <= REFUSE + MOST) ||
            (size > REFUSE_FROM && size <= REFUSE_FROM + MOST);
 }
 
@@ -168,7 +161,6 @@ static int of_program;
 __attribute__((constructor)) static void start(void) {
     const char *one = getenv("REFUSE"), *from = getenv("REFUSE_FROM");
     dl_iterate_phdr(find_program, 0);
-    planted = getenv("PLANTED") != 0;
     if (one || from) {
         of_program = 1;
         begin(one ? ONE : FROM_ONE_ON, strtoul(one ? one : from, 0, 10));

@@ -1,6 +1,7 @@
 //! Times the port's predicates beside the original's, in one process and in turn, and prints tables.
 //! beside PORT_EXPLAIN ORIGINAL_EXPLAIN ORIGINAL_TEXT LINES [ROW]
 
+mod check;
 mod clock;
 mod port;
 mod program;
@@ -8,7 +9,6 @@ mod programs;
 mod question;
 mod rows;
 mod table;
-mod tree;
 
 use std::env;
 use programs::Programs;

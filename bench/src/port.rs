@@ -4,7 +4,6 @@ use crate::question::Question;
 
 unsafe extern "C" {
     fn bench_between(lo: i64, hi: i64, items: *const i64, len: usize, question: u8, rounds: usize) -> usize;
-    fn bench_between_tree(lo: i64, hi: i64, items: *const i64, len: usize, question: u8, rounds: usize) -> usize;
     fn bench_chosen(
         first: u8,
         lo: i64,
@@ -15,10 +14,18 @@ unsafe extern "C" {
         question: u8,
         rounds: usize,
     ) -> usize;
-    fn bench_nots(depth: usize, items: *const i64, len: usize, question: u8, rounds: usize) -> usize;
-    fn bench_row(ands: u16, items: *const i64, len: usize, question: u8, rounds: usize) -> usize;
-    fn bench_xors(xors: u16, right: u8, items: *const i64, len: usize, question: u8, rounds: usize) -> usize;
-    fn bench_full(levels: u8, items: *const i64, len: usize, question: u8, rounds: usize) -> usize;
+    fn bench_nots(depth: usize, t: *const u8, tlen: usize, copies: usize, question: u8, rounds: usize) -> usize;
+    fn bench_row(leaves: usize, t: *const u8, tlen: usize, copies: usize, question: u8, rounds: usize) -> usize;
+    fn bench_xors(
+        xors: usize,
+        right: u8,
+        t: *const u8,
+        tlen: usize,
+        copies: usize,
+        question: u8,
+        rounds: usize,
+    ) -> usize;
+    fn bench_full(levels: u8, t: *const u8, tlen: usize, copies: usize, question: u8, rounds: usize) -> usize;
     fn bench_listed(m: *const i64, mlen: usize, items: *const i64, len: usize, question: u8, rounds: usize) -> usize;
     fn bench_sorted(m: *const i64, mlen: usize, items: *const i64, len: usize, question: u8, rounds: usize) -> usize;
     fn bench_hashed(m: *const i64, mlen: usize, items: *const i64, len: usize, question: u8, rounds: usize) -> usize;
@@ -77,26 +84,6 @@ pub const GE_LE: (u8, u8) = (2, 1);
 pub fn chosen(lo: i64, hi: i64, items: &[i64], question: Question, rounds: usize) -> usize {
     let (first, second) = GE_LE;
     unsafe { bench_chosen(first, lo, second, hi, items.as_ptr(), items.len(), question.number(), rounds) }
-}
-
-pub fn between_tree(lo: i64, hi: i64, items: &[i64], question: Question, rounds: usize) -> usize {
-    unsafe { bench_between_tree(lo, hi, items.as_ptr(), items.len(), question.number(), rounds) }
-}
-
-pub fn nots(depth: usize, items: &[i64], question: Question, rounds: usize) -> usize {
-    unsafe { bench_nots(depth, items.as_ptr(), items.len(), question.number(), rounds) }
-}
-
-pub fn row(ands: u16, items: &[i64], question: Question, rounds: usize) -> usize {
-    unsafe { bench_row(ands, items.as_ptr(), items.len(), question.number(), rounds) }
-}
-
-pub fn xors(xors: u16, on_the_right: bool, items: &[i64], question: Question, rounds: usize) -> usize {
-    unsafe { bench_xors(xors, u8::from(on_the_right), items.as_ptr(), items.len(), question.number(), rounds) }
-}
-
-pub fn full(levels: u8, items: &[i64], question: Question, rounds: usize) -> usize {
-    unsafe { bench_full(levels, items.as_ptr(), items.len(), question.number(), rounds) }
 }
 
 /// How the members of a membership are held.
@@ -177,4 +164,25 @@ pub fn trimmed(text: Copied<'_>, question: Question, rounds: usize) -> usize {
 pub fn from_utf8(text: Copied<'_>, question: Question, rounds: usize) -> usize {
     let Copied { bytes, copies } = text;
     unsafe { bench_from_utf8(bytes.as_ptr(), bytes.len(), copies, question.number(), rounds) }
+}
+
+pub fn nots(depth: usize, text: Copied<'_>, question: Question, rounds: usize) -> usize {
+    let Copied { bytes, copies } = text;
+    unsafe { bench_nots(depth, bytes.as_ptr(), bytes.len(), copies, question.number(), rounds) }
+}
+
+pub fn row(leaves: usize, text: Copied<'_>, question: Question, rounds: usize) -> usize {
+    let Copied { bytes, copies } = text;
+    unsafe { bench_row(leaves, bytes.as_ptr(), bytes.len(), copies, question.number(), rounds) }
+}
+
+pub fn xors(xors: usize, on_the_right: bool, text: Copied<'_>, question: Question, rounds: usize) -> usize {
+    let Copied { bytes, copies } = text;
+    let right = u8::from(on_the_right);
+    unsafe { bench_xors(xors, right, bytes.as_ptr(), bytes.len(), copies, question.number(), rounds) }
+}
+
+pub fn full(levels: u8, text: Copied<'_>, question: Question, rounds: usize) -> usize {
+    let Copied { bytes, copies } = text;
+    unsafe { bench_full(levels, bytes.as_ptr(), bytes.len(), copies, question.number(), rounds) }
 }

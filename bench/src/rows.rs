@@ -1,5 +1,6 @@
 //! What is measured: each row, its items, and what both sides are asked.
 
+mod checks;
 mod members;
 mod numbers;
 mod texts;
@@ -59,6 +60,7 @@ pub fn print(only: &str) {
     println!("| What | `eval` | `find_case`, other verdict | owned case | rendered |");
     println!("|---|---|---|---|---|");
     numbers::print(only);
+    checks::print(only);
     texts::print(only);
     println!("\n| Membership | `eval` |");
     println!("|---|---|");

@@ -26,8 +26,8 @@ both_of operator a b f g = And (plain (infix_text operator a b)) f g
 abbrev pub one_of : List ℕ → Entry → Entry → Formula → Formula → Formula
 one_of operator a b f g = Or (plain (infix_text operator a b)) f g
 
-abbrev pub just_one_of : List ℕ → Entry → Entry → Formula → Formula → Formula
-just_one_of operator a b f g = Xor (plain (infix_text operator a b)) f g
+abbrev pub exactly_one_of : List ℕ → Entry → Entry → Formula → Formula → Formula
+exactly_one_of operator a b f g = Xor (plain (infix_text operator a b)) f g
 
 -- each formula of F has the opposite truth of each of G
 pub record AreOpposite (F G : Formula → Type 0) : Type 0 where

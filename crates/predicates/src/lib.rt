@@ -22,7 +22,8 @@
 //! Of any item: `always`, `never`; `eq`, `ne`, `lt`, `le`, `ge`, `gt`; `in_iter`, `in_hash` and
 //! `InPredicate::sort`; `function` over a function or a closure.
 //!
-//! Over other predicates: `and`, `or`, `xor`, `not`, and `name`.
+//! Over other predicates: `and`, `or`, `xor`, `not`, and `name`; `of` and `of_ref` over a predicate
+//! of a part of the item, and `of_some`, which makes of a predicate one of an `Option`.
 //!
 //! Of texts: `str::is_empty`, `str::starts_with`, `str::ends_with`, `str::contains` and its
 //! `count`, `str::is_match` and its `count`; `trim` and `normalize` over a predicate of texts, and
@@ -31,24 +32,28 @@
 //! Of paths, over a `Snapshot`: `path::exists`, `path::missing`, `path::is_file`, `path::is_dir`,
 //! `path::is_symlink`, `path::eq_file`; `from_file_path` over a predicate of bytes.
 //!
+//! Of your own: `custom::leaf` over a test of an item; the rest of `custom` makes the cases and
+//! descriptions of other custom predicates.
+//!
 //! # Memory
 //!
-//! A call that may take memory is handed the allocator and answers a `Result`. `eval` and
-//! `find_case` are refused only where memory is. What is steady on an item, as comparisons are on
-//! each, evaluates without memory there.
+//! A call that may take memory takes the allocator and returns a `Result`. `eval` and `find_case`
+//! fail only where memory is refused. A predicate that is infallible on an item, as a comparison is
+//! on every item, takes no memory to evaluate it.
 #![tactic(auto)]
 
 mod boxed;
 pub mod laws;
-pub mod meaning;
 pub mod prelude;
+pub mod semantics;
 
 pub use boxed::{BoxPredicate, TextPredicate};
-pub use predicates_boolean::{boolean, name, own};
+pub use predicates_boolean::{boolean, name};
 pub use predicates_core::{
-    Content, Predicate, ReadsContent, Total, default_find_case, lasting, node, reflection,
-    static_text,
+    Content, Predicate, ReadsContent, Total, as_static_str, custom, default_find_case, node,
+    reflection, static_text,
 };
 pub use predicates_item::{constant, function, iter, ord};
+pub use predicates_part as part;
 pub use predicates_path as path;
 pub use predicates_text as str;

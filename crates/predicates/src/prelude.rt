@@ -14,6 +14,7 @@ pub use predicates_boolean::name::PredicateNameExt;
 pub use predicates_core::Predicate;
 pub use predicates_core::reflection::render;
 pub use predicates_core::static_text::StaticText;
+pub use predicates_part::PredicatePartExt;
 pub use predicates_path::{PredicateFileContentExt, Snapshot};
 pub use predicates_text::PredicateStrExt;
 

@@ -3,8 +3,7 @@
 #![tactic(auto)]
 
 mod asked;
+mod checks;
 mod comparisons;
 mod members;
 mod texts;
-mod tree;
-mod trees;

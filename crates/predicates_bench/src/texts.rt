@@ -6,7 +6,7 @@ use predicates_text::{PredicateStrExt, contains, is_empty, is_match, starts_with
 use std::alloc::{AllocError, Global};
 
 // The text that the bytes are; other bytes are refused as memory is.
-fn text(alloc: Global, bytes: &[u8]) -> Result<String, AllocError> {
+pub(crate) fn text(alloc: Global, bytes: &[u8]) -> Result<String, AllocError> {
     match str::from_utf8(bytes) {
         Ok(text) => String::from_str(alloc, text),
         Err(_) => Err(AllocError),
@@ -23,7 +23,7 @@ fn copies_of(alloc: Global, bytes: &[u8], copies: usize) -> Result<Vec<String>, 
 }
 
 // The sum of the answers about so many copies of the text, and zero where memory is refused.
-fn ask_of_text<P: Predicate<String>>(
+pub(crate) fn ask_of_text<P: Predicate<String>>(
     alloc: Global,
     predicate: &P,
     bytes: &[u8],

@@ -3,4 +3,3 @@ pub mod Or
 pub mod Xor
 pub mod Not
 pub mod Name
-pub mod Own

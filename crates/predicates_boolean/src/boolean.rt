@@ -25,21 +25,21 @@ pub use xor::XorPredicate;
 
 /// Combines any predicates over one item type.
 pub trait PredicateBooleanExt<Item>: Predicate<Item> {
-    /// Both `self` and `other` hold; `other` is asked only where `self` holds.
+    /// Both `self` and `other` hold; `other` is evaluated only where `self` holds.
     fn and<B: Predicate<Item>>(self, other: B) -> AndPredicate<Self, B, Item>
     where
         Self: Sized,
         ensures left { And.left_of result ≡ self }
         ensures right { And.right_of result ≡ other };
 
-    /// `self` or `other` holds; `other` is asked only where `self` does not hold.
+    /// `self` or `other` holds; `other` is evaluated only where `self` does not hold.
     fn or<B: Predicate<Item>>(self, other: B) -> OrPredicate<Self, B, Item>
     where
         Self: Sized,
         ensures left { Or.left_of result ≡ self }
         ensures right { Or.right_of result ≡ other };
 
-    /// Exactly one of `self` and `other` holds; both are asked.
+    /// Exactly one of `self` and `other` holds; both are evaluated.
     fn xor<B: Predicate<Item>>(self, other: B) -> XorPredicate<Self, B, Item>
     where
         Self: Sized,

@@ -1,5 +1,4 @@
-//! Predicates over other predicates: and, or, xor, not and names; and what predicates of a
-//! caller's own are made of.
+//! Predicates over other predicates: and, or, xor, not and names.
 //!
 //! ```
 //! let outside = predicate::ge(5).and(predicate::le(10)).not().name("outside");
@@ -11,6 +10,5 @@
 #![tactic(auto)]
 
 pub mod boolean;
-pub mod meaning;
 pub mod name;
-pub mod own;
+pub mod semantics;

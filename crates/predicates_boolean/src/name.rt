@@ -11,8 +11,8 @@ ghost use Rattle.predicates_core.specs.Combined.{IsNamed};
 ghost use Rattle.predicates_core.proofs.CombinedLemmas.{named_text_fits, one_named, has_named};
 ghost use Rattle.predicates_boolean.specs.Name.{inner_of, name_of};
 
-use predicates_core::lasting::Lasting;
-use predicates_core::node::{over_one, printed};
+use predicates_core::as_static_str::AsStaticStr;
+use predicates_core::node::{printed, unary_node};
 use predicates_core::reflection::{Case, Child, Parameter, PredicateReflection, describe};
 use predicates_core::{Content, Predicate, ReadsContent, Total};
 use std::alloc::{AllocError, Global};
@@ -28,7 +28,7 @@ pub struct NamePredicate<M, Item, N = &'static str> {
     name: N,
 }
 
-impl<M: fmt::Display, Item, N: Lasting> fmt::Display for NamePredicate<M, Item, N> {
+impl<M: fmt::Display, Item, N: AsStaticStr> fmt::Display for NamePredicate<M, Item, N> {
     ghost output = { λ p. Some (N.bytes p.name) };
 
     fn fmt<W: fmt::Write>(&self, f: &mut fmt::Formatter<W>) -> fmt::Result {
@@ -37,7 +37,8 @@ impl<M: fmt::Display, Item, N: Lasting> fmt::Display for NamePredicate<M, Item, 
     }
 }
 
-impl<M: PredicateReflection, Item, N: Lasting> PredicateReflection for NamePredicate<M, Item, N> {
+impl<M: PredicateReflection, Item, N: AsStaticStr> PredicateReflection
+    for NamePredicate<M, Item, N> {
     ghost parameters_of = { λ p. [] };
 
     ghost children_of = { λ p. part
@@ -54,12 +55,12 @@ impl<M: PredicateReflection, Item, N: Lasting> PredicateReflection for NamePredi
     }
 }
 
-impl<M: Predicate<Item>, Item, N: Lasting> Predicate<Item> for NamePredicate<M, Item, N> {
+impl<M: Predicate<Item>, Item, N: AsStaticStr> Predicate<Item> for NamePredicate<M, Item, N> {
     ghost lawful = { λ p. M.lawful p.inner };
 
     ghost formula = { λ p v. IsNamed (N.bytes p.name) (M.formula p.inner v) };
 
-    ghost steady = { λ p v. M.steady p.inner v };
+    ghost infallible = { λ p v. M.infallible p.inner v };
 
     ghost text_fits = { λ p v f. named_text_fits };
 
@@ -81,11 +82,11 @@ impl<M: Predicate<Item>, Item, N: Lasting> Predicate<Item> for NamePredicate<M, 
             return Ok(None);
         };
         let text = printed(alloc, self)?;
-        Ok(Some(over_one(alloc, text, expected, self.name.text(), part)?))
+        Ok(Some(unary_node(alloc, text, expected, self.name.text(), part)?))
     }
 }
 
-impl<M: Total<Item>, Item, N: Lasting> Total<Item> for NamePredicate<M, Item, N> {
+impl<M: Total<Item>, Item, N: AsStaticStr> Total<Item> for NamePredicate<M, Item, N> {
     ghost formula_of = { λ p v. Named
         (plain (Some (N.bytes p.name)))
         (N.bytes p.name)
@@ -96,7 +97,7 @@ impl<M: Total<Item>, Item, N: Lasting> Total<Item> for NamePredicate<M, Item, N>
     ghost has_formula = { λ p v. has_named (M.has_formula p.inner v) };
 }
 
-impl<M: ReadsContent<Item>, Item: Content, N: Lasting> ReadsContent<Item>
+impl<M: ReadsContent<Item>, Item: Content, N: AsStaticStr> ReadsContent<Item>
     for NamePredicate<M, Item, N> {
     ghost content_formula = { λ p bytes. Named
         (plain (Some (N.bytes p.name)))
@@ -112,7 +113,7 @@ impl<M: ReadsContent<Item>, Item: Content, N: Lasting> ReadsContent<Item>
 pub trait PredicateNameExt<Item>: Predicate<Item> {
     /// The same predicate under a name, which is a `&'static str` or, where no lifetime may stand
     /// in the type, as in a box, a `StaticText`. It takes no memory.
-    fn name<N: Lasting>(self, name: N) -> NamePredicate<Self, Item, N>
+    fn name<N: AsStaticStr>(self, name: N) -> NamePredicate<Self, Item, N>
     where
         Self: Sized,
         ensures inner { inner_of result ≡ self }
@@ -120,7 +121,7 @@ pub trait PredicateNameExt<Item>: Predicate<Item> {
 }
 
 impl<P: Predicate<Item>, Item> PredicateNameExt<Item> for P {
-    fn name<N: Lasting>(self, name: N) -> NamePredicate<Self, Item, N> {
+    fn name<N: AsStaticStr>(self, name: N) -> NamePredicate<Self, Item, N> {
         NamePredicate {
             inner: self,
             item: PhantomData,

@@ -8,6 +8,7 @@ use Rattle.predicates_core.specs.Tree.{Tree, empty, forest}
 use Rattle.predicates_core.specs.Describe.{CaseNode, NamedCase}
 use Rattle.predicates_core.specs.Shows.{FitsNode, ShowsPart, ShowsBoth, Shows, Explains, IsCaseOf, IsAnswer, IsNode, found_parts}
 use Rattle.predicates_core.specs.Combined.{IsJoin, IsAnd, IsOr, IsXor, IsNot, IsNamed}
+use Rattle.predicates_core.specs.LeafLaws.{fits_itself}
 use Rattle.predicates_core.proofs.Values.{truth-And, truth-Or, truth-Xor, truth-Not, truth-Named}
 pub use Rattle.predicates_core.proofs.Values.{not-not}
 use Rattle.predicates_core.proofs.Numbers.{shifted}
@@ -15,10 +16,6 @@ use Rattle.predicates_core.proofs.FirstReasonOf.{first-And_both, first-And_left,
 use Rattle.predicates_core.proofs.Shown.{shows_both, shows_left, shows_right, shows_part, not_empty, numbers_of}
 
 -- an entry fits what is printed just so
-pub fits_itself : (entry : Option (List ℕ)) → FitsEntry entry entry
-fits_itself None = tt
-fits_itself (Some bytes) = refl
-
 join_text_fits : {join : Formula → Formula → Formula} {left right : Formula → Type 0} (text : Option (List ℕ)) {f : Formula} → ((l r : Formula) → text_of (join l r) ≡ text) → IsJoin join left right f → FitsEntry (text_of f) text
 join_text_fits text printed h = subst (λ entry. FitsEntry entry text) (sym (ap text_of h.is ∙ printed h.left_formula h.right_formula)) (fits_itself text)
 

@@ -8,19 +8,13 @@ use Rattle.predicates_core.specs.Shows.{Shows, Explains, IsCaseOf, IsNode}
 use Rattle.predicates_core.specs.Leaves.{IsExactly, IsShowing}
 use Rattle.predicates_core.proofs.Values.{truth-Leaf}
 use Rattle.predicates_core.proofs.FirstReasonOf.{first-Leaf}
-use Rattle.predicates_core.proofs.CombinedLemmas.{fits_itself, node_fits, node_of_text}
+use Rattle.predicates_core.proofs.CombinedLemmas.{node_fits, node_of_text}
 use Rattle.predicates_core.proofs.Added.{IsCaseOf-with_product}
 
 pub HasTruth-same : {F : Formula → Type 0} {a b : Bool} → HasTruth F a → a ≡ b → HasTruth F b
 HasTruth-same {F} h e = subst (HasTruth F) e h
 
-pub one_exactly : {f g h : Formula} → IsExactly h f → IsExactly h g → f ≡ g
-one_exactly x y = x.is ∙ sym y.is
-
 module _ {label : Label} {own : Bool} where
-  pub exactly_text_fits : {f : Formula} → IsExactly (Leaf label own) f → FitsEntry (text_of f) label.text
-  exactly_text_fits h = subst (λ g. FitsEntry (text_of g) label.text) (sym h.is) (fits_itself label.text)
-
   pub HasTruth-exactly : {b : Bool} → own ≡ b → HasTruth (IsExactly (Leaf label own)) b
   HasTruth-exactly e = record { at = λ f h. ap truth h.is ∙ truth-Leaf label own ∙ e }
 

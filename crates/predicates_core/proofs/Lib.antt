@@ -6,14 +6,15 @@ pub mod FirstOfJoins
 pub mod FirstReasonOf
 pub mod Shown
 pub mod CombinedLemmas
-pub mod Retold
+pub mod NodeText
 pub mod Leaves
 pub mod Added
 pub mod Forests
 pub mod Lines
 pub mod Preorder
 pub mod OwnedFields
-pub mod HeldForGood
+pub mod StaticReads
 pub mod Existence
 pub mod Alike
 pub mod OneCase
+pub mod ShortCircuit

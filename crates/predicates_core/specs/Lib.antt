@@ -8,6 +8,7 @@ pub mod Shows
 pub mod Combined
 pub mod Alike
 pub mod Leaves
+pub mod LeafLaws
 pub mod Added
 pub mod Parts
 pub mod Text
@@ -17,3 +18,4 @@ pub mod Lines
 pub mod CaseViews
 pub mod IndentedLines
 pub mod Ownership
+pub mod Custom

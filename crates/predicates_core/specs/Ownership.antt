@@ -10,5 +10,5 @@ abbrev pub IsPlaced : Ptr → Type 0
 IsPlaced p = p ≡ block_ptr (block_of p) (count_of p)
 
 -- the right to read the bytes xs at p under the lifetime `[]`, which never ends
-abbrev pub seen_owns : Ptr → List ℕ → Fml
-seen_owns p xs = elements_shared u8 xs (block_of p) (count_of p) []
+abbrev pub static_bytes_own : Ptr → List ℕ → Fml
+static_bytes_own p xs = elements_shared u8 xs (block_of p) (count_of p) []

@@ -1,18 +1,19 @@
-//! Predicates, the cases that explain their verdicts, and what they tell of themselves.
+//! Predicates, the cases that explain their verdicts, and the descriptions of predicates.
 //!
-//! A user of predicates names the crate `predicates`, which gives all of this again. A predicate of
-//! one's own implements `Predicate` and makes its cases by the calls of `node`:
+//! A user of predicates names the crate `predicates`, which re-exports all of this. A custom
+//! predicate implements `Predicate` and makes its cases by the calls of `custom` and `node`:
 //!
 //! ```
 //! if self.eval(alloc, item)? != expected {
 //!     return Ok(None);
 //! }
-//! let case = alone(alloc, self.to_string(alloc)?, expected);
+//! let case = leaf_node(alloc, self.to_string(alloc)?, expected);
 //! Ok(Some(showing_item(alloc, case, item)?))
 //! ```
 #![tactic(auto)]
 
-pub mod lasting;
+pub mod as_static_str;
+pub mod custom;
 pub mod laws;
 pub mod node;
 mod predicate;

@@ -2,7 +2,7 @@
 //!
 //! ```
 //! let text = printed(alloc, self)?;
-//! Ok(Some(over_one(alloc, text, expected, "predicate", part)?))
+//! Ok(Some(unary_node(alloc, text, expected, "predicate", part)?))
 //! ```
 //!
 //! Each call is refused where memory is, and then drops what it was handed.
@@ -30,14 +30,14 @@ pub fn printed<T: fmt::Display>(alloc: Global, value: &T) -> Result<String, Allo
 }
 
 /// A node alone, without products. It takes no memory.
-pub fn alone(alloc: Global, text: String, outcome: bool) -> Case
+pub fn leaf_node(alloc: Global, text: String, outcome: bool) -> Case
     ensures { IsNode (Some (string_bytes text)) outcome [] result }
 {
     Case::new(alloc, Some(text), outcome)
 }
 
 /// A node over one part, which stands under the name.
-pub fn over_one(
+pub fn unary_node(
     alloc: Global,
     text: String,
     outcome: bool,
@@ -47,11 +47,11 @@ pub fn over_one(
     ensures { IfOk result
         (IsNode (Some (string_bytes text)) outcome ((name.entry.now, part) ∷ [])) }
 {
-    alone(alloc, text, outcome).add_child(name, part)
+    leaf_node(alloc, text, outcome).add_child(name, part)
 }
 
 /// A node over a left and a right part, under the names `left` and `right`.
-pub fn over_both(
+pub fn binary_node(
     alloc: Global,
     text: String,
     outcome: bool,
@@ -62,14 +62,14 @@ pub fn over_both(
         (IsNode (Some (string_bytes text)) outcome
         ((codes "left", left) ∷ (codes "right", right) ∷ [])) }
 {
-    alone(alloc, text, outcome)
+    leaf_node(alloc, text, outcome)
         .add_child("left", left)?
         .add_child("right", right)
 }
 
 /// A node over the parts whose cases were found: the left one, the right one, both or none.
 #[inline(never)]
-pub fn over_found(
+pub fn binary_node_of(
     alloc: Global,
     text: String,
     outcome: bool,
@@ -79,7 +79,7 @@ pub fn over_found(
     ensures { IfOk result
         (IsNode (Some (string_bytes text)) outcome (found_parts left right)) }
 {
-    let mut case = alone(alloc, text, outcome);
+    let mut case = leaf_node(alloc, text, outcome);
     if let Some(left) = left {
         case = case.add_child("left", left)?;
     }
@@ -99,8 +99,8 @@ fn root_text(case: &Case) -> &str
     }
 }
 
-/// A node over a part that is turned round. Its text is made of the part's, which is not printed
-/// anew: so a chain of such nodes takes one copy of a text a node.
+/// The node of a negation over its part's case. Its text is made of the part's text, which is not
+/// printed again: a chain of such nodes copies one text for each node.
 #[inline(never)]
 pub fn negated(alloc: Global, outcome: bool, part: Case) -> Result<Case, AllocError>
     ensures { IfOk result
@@ -111,11 +111,11 @@ pub fn negated(alloc: Global, outcome: bool, part: Case) -> Result<Case, AllocEr
     text.push_str("(! ")?;
     text.push_str(inner)?;
     text.push_str(")")?;
-    over_one(alloc, text, outcome, "predicate", part)
+    unary_node(alloc, text, outcome, "predicate", part)
 }
 
-/// A node over a left and a right part with the operator between them. Its text is made of the
-/// parts' texts, which are not printed anew.
+/// A node over the cases of a left and a right part with the operator between them. Its text is made
+/// of the parts' texts, which are not printed again.
 #[inline(never)]
 pub fn joined(
     alloc: Global,
@@ -137,7 +137,7 @@ pub fn joined(
     text.push_str(operator)?;
     text.push_str(second)?;
     text.push_str(")")?;
-    over_both(alloc, text, outcome, left, right)
+    binary_node(alloc, text, outcome, left, right)
 }
 
 /// A node of which the left part decides; the right one is printed and has no case.
@@ -160,7 +160,7 @@ pub fn joined_by_left<R: fmt::Display>(
     text.push_str(operator)?;
     text.write(right)?;
     text.push_str(")")?;
-    Ok(over_one(alloc, text, outcome, "left", left)?)
+    Ok(unary_node(alloc, text, outcome, "left", left)?)
 }
 
 /// A node of which the right part decides; the left one is printed and has no case.
@@ -183,7 +183,7 @@ pub fn joined_by_right<L: fmt::Display>(
     text.push_str(operator)?;
     text.push_str(second)?;
     text.push_str(")")?;
-    over_one(alloc, text, outcome, "right", right)
+    unary_node(alloc, text, outcome, "right", right)
 }
 
 /// The case with a value more under the name, the last of its root's products; the value is kept.

@@ -25,16 +25,16 @@ pub trait Predicate<Item>: PredicateReflection {
     ghost formula: { Self → Item → Formula → Type 0 };
 
     // On the item `eval` takes no memory, so it answers.
-    ghost steady: { Self → Item → Type 0 };
+    ghost infallible: { Self → Item → Type 0 };
 
     /// Whether the predicate holds of the item.
     ///
-    /// The one error is that memory was refused, never where the predicate is steady. There is then
+    /// The one error is that memory was refused, never where the predicate is infallible. There is then
     /// no verdict, and the predicate is as before.
     fn eval(&self, alloc: Global, item: &Item) -> Result<bool, AllocError>
         requires { lawful self.now }
         ensures truth { IfOk result (HasTruth (formula self.now item.now)) }
-        ensures steady { steady self.now item.now → IsOk result };
+        ensures infallible { infallible self.now item.now → IsOk result };
 
     /// A case that explains the verdict where it is the expected one, and none where it is not.
     ///
@@ -112,11 +112,11 @@ pub fn default_find_case<P: Predicate<Item>, Item>(
     requires leaf { (f : Formula) → P.formula predicate.now item.now f → IsLeaf f }
     ensures answer { IfOk result
         (IsBareAnswer (P.formula predicate.now item.now) (P.output predicate.now) expected) }
-    ensures steady { P.steady predicate.now item.now → (f : Formula)
+    ensures infallible { P.infallible predicate.now item.now → (f : Formula)
         → P.formula predicate.now item.now f → truth f ≡ not expected → IsOk result }
 {
     if predicate.eval(alloc, item)? != expected {
         return Ok(None);
     }
-    Ok(Some(node::alone(alloc, node::printed(alloc, predicate)?, expected)))
+    Ok(Some(node::leaf_node(alloc, node::printed(alloc, predicate)?, expected)))
 }

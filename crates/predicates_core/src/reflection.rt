@@ -1,4 +1,4 @@
-//! What predicates tell of themselves, and the cases that explain their verdicts.
+//! Descriptions of predicates, and the cases that explain their verdicts.
 //!
 //! ```
 //! use predicates::reflection::{PredicateReflection, render};
@@ -20,7 +20,7 @@ mod parameter;
 mod product;
 mod text;
 
-use crate::lasting::Lasting;
+use crate::as_static_str::AsStaticStr;
 use crate::node::printed;
 pub use case::{Case, CaseChild, CaseChildren, CaseView};
 pub use child::Child;
@@ -32,7 +32,7 @@ pub use text::{render, render_onto};
 
 /// A printed text, the values that a predicate was made with, and its parts.
 ///
-/// Both calls take memory for what they answer, and none where there is nothing to tell.
+/// Both calls take memory for what they answer, and none where there is nothing to list.
 pub trait PredicateReflection: fmt::Display {
     // The values that `parameters` is to give, in order.
     ghost parameters_of: { Self → List Product };
@@ -53,7 +53,7 @@ pub trait PredicateReflection: fmt::Display {
 
 /// The description of a part that stands under a name: its printed text, its parameters and its own
 /// parts, down to the leaves. It takes memory for all of these, and is refused where that is.
-pub fn describe<P: PredicateReflection, N: Lasting + Copy>(
+pub fn describe<P: PredicateReflection, N: AsStaticStr + Copy>(
     alloc: Global,
     name: N,
     part: &P,

@@ -6,30 +6,30 @@
 
 ghost use Rattle.std.specs.Prelude.{◌≡◌, ℕ, List, length, ◌^◌, ◌<◌};
 ghost use denote.RawPtr.{Ptr};
-ghost use Rattle.predicates_core.specs.Ownership.{IsPlaced, seen_owns};
+ghost use Rattle.predicates_core.specs.Ownership.{IsPlaced, static_bytes_own};
 
 use std::marker::Model;
 use std::{slice, str};
 
 // The right to read `items` at `ptr` for good. It takes no memory.
 #[derive(Drop)]
-struct Seen {
+struct StaticBytes {
     ghost ptr: { Ptr },
     ghost items: { List ℕ },
     ghost placed: { IsPlaced ptr × (length items < 2 ^ 63) },
 }
 
-impl Model for Seen {
-    ghost also_owns = { λ s. seen_owns s.ptr s.items };
+impl Model for StaticBytes {
+    ghost also_owns = { λ s. static_bytes_own s.ptr s.items };
 
-    ghost also_shares = { λ s _ _. seen_owns s.ptr s.items };
+    ghost also_shares = { λ s _ _. static_bytes_own s.ptr s.items };
 }
 
-impl Seen {
-    fn forever(bytes: &'static [u8]) -> (*const u8, Seen)
+impl StaticBytes {
+    fn forever(bytes: &'static [u8]) -> (*const u8, StaticBytes)
         ensures { (result.1.ptr ≡ result.0) × (result.1.items ≡ bytes.now) }
     {
-        (bytes.as_ptr(), Seen {})
+        (bytes.as_ptr(), StaticBytes {})
     }
 
     fn read(&self, ptr: *const u8, len: usize) -> &'static [u8]
@@ -47,7 +47,7 @@ impl Seen {
 pub struct StaticText {
     at: *const u8,
     len: usize,
-    seen: Seen,
+    seen: StaticBytes,
 }
 
 impl Model for StaticText {
@@ -67,7 +67,7 @@ impl StaticText {
         ensures { result ≡ text.now }
     {
         let bytes = text.as_bytes();
-        let (at, seen) = Seen::forever(bytes);
+        let (at, seen) = StaticBytes::forever(bytes);
         StaticText {
             at,
             len: bytes.len(),

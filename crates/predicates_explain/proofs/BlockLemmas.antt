@@ -5,7 +5,6 @@ use Rattle.predicates_core.specs.Tree.{Tree}
 use Rattle.predicates_core.specs.Describe.{CaseNode}
 use Rattle.predicates_core.specs.Lines.{lines}
 use Rattle.predicates_core.specs.Shows.{IsCaseOf}
-use Rattle.predicates_words.specs.WrittenLines.{HasLines}
 use Rattle.predicates_explain.specs.Blocks.{heading, HasBlocks}
 
 pub block_of_case : {F : Formula → Type 0} {b : Bool} {label bytes : List ℕ} (case : Tree CaseNode) → IsCaseOf F b case
@@ -17,9 +16,6 @@ block_of_case {F} {b} {label} {bytes} case h e = record {
     is = e ∙ ap (λ x. heading label x ++ lines case) (sym (h.truth.at f k));
   };
 }
-
-pub block_of_lines : {F : Formula → Type 0} {b : Bool} {mid new : List ℕ} (label : List ℕ) → mid ≡ heading label b → HasLines F b mid new → HasBlocks F label new
-block_of_lines label e w = block_of_case w.case w.explains (w.is ∙ ap (λ m. m ++ lines w.case) e)
 
 not_both : (b : Bool) → b ≡ not b → ⊥
 not_both true e = absurd (cc)

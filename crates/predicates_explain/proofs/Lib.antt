@@ -1,7 +1,7 @@
-pub mod BetweenBlocks
 pub mod BlockLemmas
+pub mod CommandLine
 pub mod Ending
 pub mod Numerals
+pub mod PartsOfChecks
 pub mod Progress
 pub mod Splitting
-pub mod Typing

@@ -1,7 +1,8 @@
 -- What is written for one line.
-use Rattle.std.specs.Prelude.{◌≡◌, ℕ, ℤ, Bool, int_le, List, ◌++◌, Option, Some, codes, decimal}
+use Rattle.std.specs.Prelude.{◌≡◌, ℕ, ℤ, Bool, List, ◌++◌, Option, Some, codes, decimal}
 use Rattle.std.specs.Fmt.{signed_decimal}
 use Rattle.std.specs.Io.BufRead.{strip_last}
+use Rattle.std.specs.Ordering.{int_cmp, is_ge, is_le}
 use Rattle.predicates_core.specs.Label.{plain, showing}
 use Rattle.predicates_core.specs.Formula.{Formula, Leaf, And}
 use Rattle.predicates_core.specs.Combined.{infix_text}
@@ -38,14 +39,9 @@ abbrev pub comparison : List ℕ → ℤ → ℤ → Bool → Formula
 comparison symbol constant n holds =
     Leaf (showing (number_text symbol constant) (codes "var") (Some (signed_decimal n))) holds
 
--- what `ge(lo).and(le(hi))` prints
-abbrev pub between_text : ℤ → ℤ → Option (List ℕ)
-between_text lo hi = infix_text (codes " && ") (number_text (codes ">=") lo)
-    (number_text (codes "<=") hi)
-
--- the formula of `ge(lo).and(le(hi))` on n: n is lo, hi or between
+-- the formula of `ge(lo).and(le(hi))` on n
 abbrev pub between_formula : ℤ → ℤ → ℤ → Formula
 between_formula lo hi n =
-    And (plain (between_text lo hi))
-    (comparison (codes ">=") lo n (int_le lo n))
-    (comparison (codes "<=") hi n (int_le n hi))
+    And (plain (infix_text (codes " && ") (number_text (codes ">=") lo) (number_text (codes "<=") hi)))
+    (comparison (codes ">=") lo n (is_ge (int_cmp n lo)))
+    (comparison (codes "<=") hi n (is_le (int_cmp n hi)))

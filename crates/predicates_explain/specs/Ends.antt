@@ -1,19 +1,16 @@
 -- How a call of the program ends: its status, and what it says of it.
-use Rattle.std.specs.Prelude.{◌≡◌, ℕ, Bool, true, false, List, [], Option, Result, Ok, Err, IsTrue}
-use Rattle.std.specs.Prelude.{codes}
-use Rattle.std.specs.Io.KnownBytes.{Appends}
-use Rattle.predicates_explain.specs.Typed.{FailsFirst, IsWrongToken, IsPatternToken, AreWrongTokens}
-use Rattle.predicates_explain.specs.Typed.{AreWrongWords, AreRightWords, HasRefusedPattern}
-use Rattle.predicates_explain.specs.Typed.{HasRunOf}
-use Rattle.predicates_words.specs.declared.check.TextCheck.{TextCheck}
-use Rattle.predicates_explain.specs.declared.fault.RunFault.{RunFault}
-use Rattle.predicates_explain.specs.declared.fault.RunFault.TheVariants.{NoMemory as RunNoMemory}
-use Rattle.predicates_explain.specs.declared.fault.RunFault.TheVariants.{Input, Output}
+use Rattle.std.specs.Prelude.{ℕ, Bool, true, false, List, [], Option, Result, Ok, Err, codes}
+use Rattle.predicates_explain.specs.CommandLine.{FailsFirst, IsWrongToken, IsPatternToken, AreWrongTokens}
+use Rattle.predicates_explain.specs.CommandLine.{AreWrongWords, AreRightWords, HasRefusedPattern}
+use Rattle.predicates_explain.specs.CommandLine.{HasRunOf}
+use Rattle.predicates_explain.specs.declared.check.TextCheck.{TextCheck}
+use Rattle.predicates_explain.specs.declared.run_fault.RunFault.{RunFault}
+use Rattle.predicates_explain.specs.declared.run_fault.RunFault.TheVariants.{NoMemory as RunNoMemory}
+use Rattle.predicates_explain.specs.declared.run_fault.RunFault.TheVariants.{Input, Output}
 use Rattle.predicates_explain.specs.declared.program.end.End.{End}
 use Rattle.predicates_explain.specs.declared.program.end.End.TheVariants.{AllItems, NotAllItems}
 use Rattle.predicates_explain.specs.declared.program.end.End.TheVariants.{Usage, PatternRefused}
 use Rattle.predicates_explain.specs.declared.program.end.End.TheVariants.{NoMemory, InputOrOutput}
-use Rattle.predicates_explain.specs.declared.program.end.Ended.{Ended}
 
 abbrev pub status_of : End → ℕ
 status_of AllItems = 0
@@ -31,7 +28,7 @@ message_of PatternRefused = codes "explain: pattern refused\n"
 message_of NoMemory = codes "explain: no memory\n"
 message_of InputOrOutput = codes "explain: input or output fault\n"
 
--- what a run that gave up comes to
+-- the end of a run that had a fault
 abbrev pub end_of_fault : RunFault → End
 end_of_fault RunNoMemory = NoMemory
 end_of_fault Input = InputOrOutput
@@ -65,15 +62,3 @@ EndsBy words untouched r0 r1 w0 w1 Usage = AreWrongWords words × untouched
 EndsBy words untouched r0 r1 w0 w1 PatternRefused = HasRefusedPattern words × untouched
 EndsBy words untouched r0 r1 w0 w1 NoMemory = Unit {0}
 EndsBy words untouched r0 r1 w0 w1 InputOrOutput = AreRightWords words
-
--- the status is that of an end, and where the message was told it is that of the same end
-pub record HasTold (end : End) (before after : Option (List ℕ)) (ended : Ended) : Type 0 where
-  pub status : ended.status ≡ status_of end
-  pub message : IsTrue ended.told → Appends before after (message_of end)
-
--- the program ended as the words ask for
-pub record HasEnded (words : List (List ℕ)) (untouched : Type 0)
-    (r0 r1 w0 w1 m0 m1 : Option (List ℕ)) (ended : Ended) : Type 0 where
-  pub end : End
-  pub by : EndsBy words untouched r0 r1 w0 w1 end
-  pub told : HasTold end m0 m1 ended

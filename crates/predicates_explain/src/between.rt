@@ -1,104 +1,30 @@
 //! A run over numbers.
-ghost use Rattle.std.specs.Prelude.{◌≡◌, ◌++◌, codes, IfOk, OnOk, string_bytes};
+ghost use Rattle.std.specs.Prelude.{◌≡◌, ℤ, IfOk, OnOk, string_bytes};
 ghost use Rattle.std.specs.Fmt.{signed_decimal};
 ghost use Rattle.std.specs.Io.BufRead.{strip_last};
+ghost use Rattle.predicates_boolean.specs.And.{left_of, right_of};
+ghost use Rattle.predicates_boolean.specs.declared.boolean.and.AndPredicate.{AndPredicate};
+ghost use Rattle.predicates_item.specs.Makers.{at_least, at_most};
+ghost use Rattle.predicates_item.specs.declared.ord.order.OrdPredicate.{OrdPredicate};
 ghost use Rattle.predicates_explain.specs.Answers.{between_formula, no_number, IsNumber};
 ghost use Rattle.predicates_explain.specs.Answers.{IsNumberAnswer};
-ghost use Rattle.predicates_explain.specs.BetweenTexts.{bound_text, AreTexts, IsBetween};
-ghost use Rattle.predicates_explain.specs.Blocks.{IsBlock};
 ghost use Rattle.predicates_explain.specs.Runs.{HasRun};
 
-use crate::fault::RunFault;
-use crate::numeral;
-use crate::run::{AnswerLine, Spare, run_lines};
-use itoa::Buffer;
-use predicates_core::node::printed;
-use predicates_item::ord::{ge, le};
+use crate::block::complete_block;
+use crate::parse_number;
+use crate::run::{AnswerLine, run_lines};
+use crate::run_fault::RunFault;
+use predicates::Total;
+use predicates::boolean::{AndPredicate, PredicateBooleanExt};
+use predicates::ord::{OrdPredicate, ge, le};
 use std::alloc::{AllocError, Global};
 use std::fmt::Write as _;
 use std::io::{BufRead, Write};
 
-// The check `ge(lo).and(le(hi))`, with what its blocks write around the number. A number is below
-// the bounds, above them or inside, and nothing else of its block depends on it: so the blocks are
-// printed once, and a line makes no case.
+// Answers lines that are numbers by a predicate.
 #[derive(Drop)]
-pub(crate) struct Between {
-    lo: i64,
-    hi: i64,
-    below: String,
-    above: String,
-    inside: String,
-    // Between the two numbers of a block inside the bounds.
-    second: String,
-}
-
-// Writes a number, what stands between, and the number once more, which ends its line.
-fn write_shown(text: &mut String, digits: &str, between: &str) -> Result<(), AllocError>
-    ensures { OnOk result (string_bytes text.new ≡
-        string_bytes text.old ++ digits.now ++ between.now ++ digits.now ++ codes "\n") }
-{
-    text.push_str(digits)?;
-    text.push_str(between)?;
-    text.push_str(digits)?;
-    text.push_str("\n")
-}
-
-impl Between {
-    // The check of the bounds that print so.
-    fn from_texts(
-        alloc: Global,
-        lo: i64,
-        hi: i64,
-        lower: &str,
-        upper: &str,
-    ) -> Result<Between, AllocError>
-        ensures bounds { IfOk result (λ b. (b.lo ≡ lo) × (b.hi ≡ hi)) }
-        ensures texts { IfOk result (AreTexts lower.now upper.now) }
-    {
-        let both = format!(in alloc; "({lower} && {upper})")?;
-        Ok(Between {
-            lo,
-            hi,
-            below: format!(in alloc;
-                ": false\n{both} = false\n  left: {lower} = false\n    - var: "
-            )?,
-            above: format!(in alloc;
-                ": false\n{both} = false\n  right: {upper} = false\n    - var: "
-            )?,
-            inside: format!(in alloc;
-                ": true\n{both} = true\n  left: {lower} = true\n    - var: "
-            )?,
-            second: format!(in alloc; "\n  right: {upper} = true\n    - var: ")?,
-        })
-    }
-
-    fn new(alloc: Global, lo: i64, hi: i64) -> Result<Between, AllocError>
-        ensures { IfOk result (IsBetween lo hi) }
-    {
-        let lower = printed(alloc, &ge(lo))?;
-        let upper = printed(alloc, &le(hi))?;
-        Between::from_texts(alloc, lo, hi, &lower, &upper)
-    }
-
-    // Writes the block of the number, in place of what the text held.
-    fn write_block(&self, text: &mut String, n: i64) -> Result<(), AllocError>
-        requires { IsBetween self.now.lo self.now.hi self.now }
-        ensures { OnOk result (IsBlock (signed_decimal n)
-            (between_formula self.now.lo self.now.hi n) (string_bytes text.new)) }
-    {
-        let mut buffer = Buffer::new();
-        let digits = buffer.format(n);
-        text.clear();
-        if n < self.lo {
-            return write_shown(text, digits, &self.below);
-        }
-        if n > self.hi {
-            return write_shown(text, digits, &self.above);
-        }
-        text.push_str(digits)?;
-        text.push_str(&self.inside)?;
-        write_shown(text, digits, &self.second)
-    }
+struct Numbers<'a, P> {
+    predicate: &'a P,
 }
 
 // The bytes without one at the end, if it is this one.
@@ -111,6 +37,14 @@ fn drop_last(line: &[u8], byte: u8) -> &[u8]
     }
 }
 
+// Writes the number, as the label of its block, in place of what the text held.
+fn write_number(text: &mut String, n: i64) -> Result<(), AllocError>
+    ensures { OnOk result (string_bytes text.new ≡ signed_decimal n) }
+{
+    text.clear();
+    write!(text, "{n}")
+}
+
 // Writes that the line is no number, in place of what the text held.
 fn write_no_number(text: &mut String, number: u64) -> Result<(), AllocError>
     ensures { OnOk result (string_bytes text.new ≡ no_number number) }
@@ -119,25 +53,24 @@ fn write_no_number(text: &mut String, number: u64) -> Result<(), AllocError>
     writeln!(text, "line {number}: not a number")
 }
 
-impl AnswerLine for Between {
-    ghost lawful = { λ s. IsBetween s.lo s.hi s };
-
-    ghost is_answer = { λ s number line written. IsNumberAnswer (between_formula s.lo s.hi) number
+impl<P: Total<i64>> AnswerLine for Numbers<'_, P> {
+    ghost is_answer = { λ s number line written. IsNumberAnswer (P.formula_of s.predicate.now) number
         line written };
 
     ghost is_item = { λ _ line. IsNumber line };
 
     fn answer(
         &self,
-        _alloc: Global,
+        alloc: Global,
         number: u64,
         line: &[u8],
         text: &mut String,
-        _spare: &mut Spare,
+        _scratch: &mut String,
     ) -> Result<bool, AllocError> {
-        match numeral::number(drop_last(line, b'\r')) {
+        match parse_number::number(drop_last(line, b'\r')) {
             Some(n) => {
-                self.write_block(text, n)?;
+                write_number(text, n)?;
+                complete_block(alloc, text, self.predicate, &n)?;
                 Ok(true)
             }
             None => {
@@ -148,13 +81,12 @@ impl AnswerLine for Between {
     }
 }
 
-/// Writes, for each line of the input, the block that explains whether the number on it lies from
-/// `lo` to `hi`, both included, and says whether every line was a number.
+/// Writes, for each line of the input, the block that explains whether `ge(lo).and(le(hi))` holds
+/// of the number on it, and says whether every line was a number.
 ///
 /// Lines end by a line feed, and one carriage return before it is dropped. A line that is no number
-/// is told as `line K: not a number`, with K from 1. It takes memory for its texts before it reads,
-/// and then for one line and one block at a time. After a fault nothing is said of how much was
-/// written.
+/// is answered by `line K: not a number`, with K from 1. It takes memory for one line and one block
+/// at a time. After a fault nothing is said of how much was written.
 pub fn run_between<R: BufRead, W: Write>(
     alloc: Global,
     lo: i64,
@@ -162,10 +94,21 @@ pub fn run_between<R: BufRead, W: Write>(
     input: &mut R,
     output: &mut W,
 ) -> Result<bool, RunFault>
-    ensures { IfOk result (HasRun (IsNumberAnswer (between_formula lo hi)) IsNumber
+    ensures run { IfOk result (HasRun (IsNumberAnswer (between_formula lo hi)) IsNumber
         (R.remaining input.old) (R.remaining input.new)
         (W.contents output.old) (W.contents output.new)) }
+    ensures formula { (both : AndPredicate (OrdPredicate ℤ) (OrdPredicate ℤ) ℤ) (n : ℤ)
+        → left_of both ≡ at_least lo → right_of both ≡ at_most hi
+        → ⟦<AndPredicate<OrdPredicate<i64>, OrdPredicate<i64>, i64> as Total<i64>>⟧.formula_of both n
+        ≡ between_formula lo hi n }
 {
-    let between = Between::new(alloc, lo, hi)?;
-    run_lines(alloc, &between, input, output)
+    let between = ge(lo).and(le(hi));
+    run_lines(
+        alloc,
+        &Numbers {
+            predicate: &between,
+        },
+        input,
+        output,
+    )
 }

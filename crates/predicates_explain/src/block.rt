@@ -1,11 +1,9 @@
 //! The block of text that explains a verdict.
-ghost use Rattle.std.specs.Prelude.{◌≡◌, IfOk, OnOk, string_bytes};
-ghost use Rattle.predicates_explain.specs.Blocks.{heading, HasBlocks, IsBlock};
-ghost use Rattle.predicates_words.specs.Checks.{HasFormula};
+ghost use Rattle.std.specs.Prelude.{IfOk, OnOk, string_bytes};
+ghost use Rattle.predicates_explain.specs.Blocks.{HasBlocks, IsBlock};
 
-use predicates_core::reflection::render_onto;
-use predicates_core::{Predicate, Total};
-use predicates_words::{Draft, TextCheck};
+use predicates::reflection::render_onto;
+use predicates::{Predicate, Total};
 use std::alloc::{AllocError, Global};
 
 // Makes the label that the text holds into its block.
@@ -32,31 +30,6 @@ pub(crate) fn complete_block<P: Predicate<Item>, Item>(
         render_onto(alloc, text, &case)?;
     }
     Ok(())
-}
-
-// Writes the verdict after the label that the text holds, to the end of the line.
-fn write_verdict(text: &mut String, verdict: bool) -> Result<(), AllocError>
-    ensures { OnOk result (string_bytes text.new ≡ heading (string_bytes text.old) verdict) }
-{
-    text.push_str(if verdict { ": true\n" } else { ": false\n" })
-}
-
-// Makes the label that the text holds into its block, for a check of words, of which no case is
-// made.
-pub(crate) fn complete_check(
-    alloc: Global,
-    text: &mut String,
-    check: &TextCheck,
-    item: &String,
-    draft: &mut Draft,
-) -> Result<(), AllocError>
-    ensures { OnOk result
-        (HasBlocks (HasFormula check.now (string_bytes item.now)) (string_bytes text.old)
-        (string_bytes text.new)) }
-{
-    let verdict = check.eval(alloc, item)?;
-    write_verdict(text, verdict)?;
-    check.write_lines(alloc, verdict, item, draft, text)
 }
 
 /// The label with the verdict, and the lines of a case that explains it: `11: false`, and the case

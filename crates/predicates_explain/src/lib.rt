@@ -17,18 +17,26 @@
 //! A check that is made of words at run time is a `TextCheck`.
 #![tactic(auto)]
 
+mod apply;
 mod between;
 mod block;
-mod fault;
-mod numeral;
+mod check;
+mod parse_number;
 mod program;
 mod run;
+mod run_fault;
+pub mod semantics;
 mod text;
+mod word;
+mod word_fault;
 
+pub use apply::apply_word;
 pub use between::run_between;
 pub use block::{explain_one, explain_total};
-pub use fault::RunFault;
-pub use numeral::number;
-pub use predicates_words::{TextCheck, Word, WordFault, apply_word, laws, read_word};
-pub use program::{Ended, explain_words, run_program};
-pub use text::{run_check, run_text};
+pub use check::TextCheck;
+pub use parse_number::number;
+pub use program::{End, explain_words, run_program};
+pub use run_fault::RunFault;
+pub use text::run_text;
+pub use word::{Word, read_word};
+pub use word_fault::WordFault;

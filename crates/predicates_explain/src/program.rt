@@ -6,5 +6,5 @@ mod read;
 mod runtime;
 
 pub use answer::explain_words;
-pub use end::Ended;
+pub use end::End;
 pub use runtime::run_program;

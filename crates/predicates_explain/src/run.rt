@@ -6,21 +6,12 @@ ghost use Rattle.std.specs.IoError.{error_kind};
 ghost use Rattle.std.specs.Io.BufRead.{strip_last};
 ghost use Rattle.std.specs.Io.KnownBytes.{Appends, Keeps};
 ghost use Rattle.predicates_explain.specs.Runs.{input_lines, HasRun};
-ghost use Rattle.predicates_explain.specs.declared.fault.RunFault.TheVariants.{NoMemory};
+ghost use Rattle.predicates_explain.specs.declared.run_fault.RunFault.TheVariants.{NoMemory};
 
-use crate::fault::RunFault;
-use predicates_words::Draft;
+use crate::run_fault::RunFault;
 use std::alloc::{AllocError, Global};
 use std::io;
 use std::io::{BufRead, ErrorKind, Write};
-
-// Texts that an answer may use, and that take memory once for many lines.
-#[derive(Drop)]
-pub(crate) struct Spare {
-    // The line as a text.
-    pub(crate) item: String,
-    pub(crate) draft: Draft,
-}
 
 // Answers lines one by one.
 pub(crate) trait AnswerLine {
@@ -33,22 +24,22 @@ pub(crate) trait AnswerLine {
     ghost is_item: { Self → List ℕ → Type 0 };
 
     // Writes the answer to the line in place of what the text held, and says whether the line is an
-    // item.
+    // item. The scratch text takes memory once for many lines, and what it holds has no meaning.
     fn answer(
         &self,
         alloc: Global,
         number: u64,
         line: &[u8],
         text: &mut String,
-        spare: &mut Spare,
+        scratch: &mut String,
     ) -> Result<bool, AllocError>
         requires { lawful self.now }
         ensures text { OnOk result (is_answer self.now number line.now (string_bytes text.new)) }
         ensures item { IfOk result (λ found. IsTrue found ↔ is_item self.now line.now) };
 }
 
-// What a read or a write that failed comes to, unless it wanted memory.
-fn fault_of(error: &io::Error, fault: RunFault) -> RunFault
+// The fault of a read or a write that failed: want of memory, or the one that is given.
+fn classify_error(error: &io::Error, fault: RunFault) -> RunFault
     ensures memory { error_kind error.now ≡ ErrorKind.OutOfMemory → result ≡ NoMemory }
     ensures other { error_kind error.now ≢ ErrorKind.OutOfMemory → result ≡ fault }
 {
@@ -84,7 +75,7 @@ fn next_line<R: BufRead>(input: &mut R, line: &mut Vec<u8>) -> Result<bool, RunF
             pop_if_last(line, b'\n');
             Ok(true)
         }
-        Err(error) => Err(fault_of(&error, RunFault::Input)),
+        Err(error) => Err(classify_error(&error, RunFault::Input)),
     }
 }
 
@@ -93,7 +84,7 @@ fn write_text<W: Write>(output: &mut W, text: &str) -> Result<(), RunFault>
 {
     output
         .write_all(text.as_bytes())
-        .map_err(|error| fault_of(&error, RunFault::Output))
+        .map_err(|error| classify_error(&error, RunFault::Output))
 }
 
 // Passes on to the system what the writer keeps back.
@@ -102,7 +93,7 @@ fn flush<W: Write>(output: &mut W) -> Result<(), RunFault>
 {
     output
         .flush()
-        .map_err(|error| fault_of(&error, RunFault::Output))
+        .map_err(|error| classify_error(&error, RunFault::Output))
 }
 
 // Answers each line of the input, and says whether every one was an item.
@@ -119,17 +110,14 @@ pub(crate) fn run_lines<C: AnswerLine, R: BufRead, W: Write>(
 {
     let mut line = Vec::new(alloc);
     let mut text = String::new(alloc);
-    let mut spare = Spare {
-        item: String::new(alloc),
-        draft: Draft::new(alloc),
-    };
+    let mut scratch = String::new(alloc);
     let mut all = true;
     for taken in 0..u64::MAX {
         if !next_line(input, &mut line)? {
             flush(output)?;
             return Ok(all);
         }
-        let is_item = check.answer(alloc, taken + 1, &line, &mut text, &mut spare)?;
+        let is_item = check.answer(alloc, taken + 1, &line, &mut text, &mut scratch)?;
         write_text(output, text.as_str())?;
         all &= is_item;
     }

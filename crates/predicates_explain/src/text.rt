@@ -4,14 +4,10 @@ ghost use Rattle.std.specs.Str.{IsUtf8};
 ghost use Rattle.predicates_explain.specs.TextAnswers.{line_label, no_text, IsTextAnswer};
 ghost use Rattle.predicates_explain.specs.Runs.{HasRun};
 
-mod checked;
-mod shallow;
-
 use crate::block::complete_block;
-use crate::fault::RunFault;
-use crate::run::{AnswerLine, Spare, run_lines};
-pub use checked::run_check;
-use predicates_core::Predicate;
+use crate::run::{AnswerLine, run_lines};
+use crate::run_fault::RunFault;
+use predicates::Predicate;
 use std::alloc::{AllocError, Global};
 use std::fmt::Write as _;
 use std::io::{BufRead, Write};
@@ -39,6 +35,14 @@ fn write_no_text(text: &mut String, number: u64) -> Result<(), AllocError>
     writeln!(text, "line {number}: not UTF-8")
 }
 
+// Puts the line in place of what the item held.
+fn set_item(item: &mut String, line: &str) -> Result<(), AllocError>
+    ensures { OnOk result (string_bytes item.new ≡ line.now) }
+{
+    item.clear();
+    item.push_str(line)
+}
+
 impl<P: Predicate<String>> AnswerLine for Texts<'_, P> {
     ghost lawful = { λ s. P.lawful s.predicate.now };
 
@@ -53,13 +57,13 @@ impl<P: Predicate<String>> AnswerLine for Texts<'_, P> {
         number: u64,
         line: &[u8],
         text: &mut String,
-        _spare: &mut Spare,
+        scratch: &mut String,
     ) -> Result<bool, AllocError> {
         match str::from_utf8(line) {
             Ok(decoded) => {
-                let item = String::from_str(alloc, decoded)?;
+                set_item(scratch, decoded)?;
                 write_label(text, number)?;
-                complete_block(alloc, text, self.predicate, &item)?;
+                complete_block(alloc, text, self.predicate, &*scratch)?;
                 Ok(true)
             }
             Err(_) => {
@@ -74,9 +78,9 @@ impl<P: Predicate<String>> AnswerLine for Texts<'_, P> {
 /// and says whether every line was UTF-8.
 ///
 /// Lines end by a line feed; a carriage return before it stays. The label is `line K`, with K from
-/// 1, and a line that is no text is told as `line K: not UTF-8`. It takes memory for one line and
-/// one block at a time, and what the predicate takes. After a fault nothing is said of how much was
-/// written.
+/// 1, and a line that is no text is answered by `line K: not UTF-8`. It takes memory for the longest
+/// line and the longest block, which is kept between lines, and what the predicate takes. After a
+/// fault nothing is said of how much was written.
 pub fn run_text<P: Predicate<String>, R: BufRead, W: Write>(
     alloc: Global,
     predicate: &P,

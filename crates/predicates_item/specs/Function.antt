@@ -5,7 +5,7 @@ use Rattle.std.proofs.Common.{sym, ap, ◌∙◌, subst}
 use denote.Ref.{Bor}
 use Rattle.predicates_core.specs.Label.{plain, FitsEntry}
 use Rattle.predicates_core.specs.Formula.{Formula, Leaf, text_of}
-use Rattle.predicates_core.proofs.CombinedLemmas.{fits_itself}
+use Rattle.predicates_core.specs.LeafLaws.{fits_itself}
 use Rattle.predicates_item.specs.declared.function.FnPredicate.{FnPredicate}
 
 -- two answers that the function may give on one item are equal

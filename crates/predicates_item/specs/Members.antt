@@ -1,4 +1,4 @@
--- Membership by an equality that is only known to be lawful, and the items that are handed in.
+-- Membership by any lawful equality, and the items that an iterator gives.
 use Rattle.std.specs.Prelude.{◌≡◌, ℕ, Bool, List, [], ◌∷◌, ◌++◌, Option, Some, if◌then◌else◌, fold}
 use Rattle.std.specs.Prelude.{codes, string_bytes}
 use Rattle.std.specs.Iterator.{Drains}

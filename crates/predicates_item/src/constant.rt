@@ -9,9 +9,9 @@ ghost use Rattle.predicates_core.specs.Formula.{Leaf};
 ghost use Rattle.predicates_core.specs.Tree.{empty};
 ghost use Rattle.predicates_core.specs.Leaves.{IsExactly, word};
 ghost use Rattle.predicates_item.specs.Constant.{answer_of};
-ghost use Rattle.predicates_core.proofs.Leaves.{exactly_text_fits, one_exactly};
+ghost use Rattle.predicates_core.specs.LeafLaws.{exactly_text_fits, one_exactly};
 
-use predicates_core::node::{alone, printed};
+use predicates_core::custom::bare_case;
 use predicates_core::reflection::{Case, Child, Parameter, PredicateReflection};
 use predicates_core::{Content, Predicate, ReadsContent, Total};
 use std::alloc::{AllocError, Global};
@@ -74,7 +74,7 @@ impl<Item> PredicateReflection for BooleanPredicate<Item> {
 impl<Item> Predicate<Item> for BooleanPredicate<Item> {
     ghost formula = { λ p v. IsExactly (Leaf (plain (Some (word p.retval))) p.retval) };
 
-    ghost steady = { λ p v. Unit {0} };
+    ghost infallible = { λ p v. Unit {0} };
 
     ghost text_fits = { λ p v f. exactly_text_fits };
 
@@ -85,17 +85,13 @@ impl<Item> Predicate<Item> for BooleanPredicate<Item> {
         Ok(self.retval)
     }
 
-    #[tactic(auto, using(predicates_core::proofs::Leaves::leaves))]
     fn find_case(
         &self,
         alloc: Global,
         expected: bool,
         _item: &Item,
     ) -> Result<Option<Case>, AllocError> {
-        if self.retval != expected {
-            return Ok(None);
-        }
-        Ok(Some(alone(alloc, printed(alloc, self)?, expected)))
+        bare_case(alloc, self, self.retval, expected)
     }
 }
 

@@ -9,8 +9,7 @@ ghost use Rattle.predicates_item.specs.Function.{HasOneAnswer, IsCall, call_text
 ghost use Rattle.predicates_item.specs.Function.{one_call, function_of, name_of};
 
 use predicates_core::Predicate;
-use predicates_core::lasting::Lasting;
-use predicates_core::node::{alone, printed};
+use predicates_core::custom::bare_case;
 use predicates_core::reflection::{Case, Child, Parameter, PredicateReflection};
 use predicates_core::static_text::StaticText;
 use std::alloc::{AllocError, Global};
@@ -44,9 +43,9 @@ pub fn function<F: Fn(&T) -> bool, T>(function: F) -> FnPredicate<F, T>
 
 impl<F, T> FnPredicate<F, T> {
     /// The same predicate under another name; the old one is dropped. It takes no memory.
-    pub fn fn_name<N: Lasting + Drop>(self, name: N) -> FnPredicate<F, T>
+    pub fn fn_name(self, name: &'static str) -> FnPredicate<F, T>
         ensures function { function_of result ≡ function_of self }
-        ensures name { name_of result ≡ N.bytes name }
+        ensures name { name_of result ≡ name.now }
     {
         let FnPredicate {
             function,
@@ -55,7 +54,7 @@ impl<F, T> FnPredicate<F, T> {
         } = self;
         FnPredicate {
             function,
-            name: StaticText::new(name.text()),
+            name: StaticText::new(name),
             item,
         }
     }
@@ -89,7 +88,7 @@ impl<F: Fn(&T) -> bool, T> Predicate<T> for FnPredicate<F, T> {
 
     ghost formula = { λ p v. IsCall F.Fn p.function (call_text p.name) v };
 
-    ghost steady = { λ p v. Unit {0} };
+    ghost infallible = { λ p v. Unit {0} };
 
     ghost text_fits = { λ p v f. call_text_fits };
 
@@ -99,15 +98,13 @@ impl<F: Fn(&T) -> bool, T> Predicate<T> for FnPredicate<F, T> {
         Ok((self.function)(item))
     }
 
+    #[tactic(auto, using(crate::proofs::Calls::answer_of_leaf))]
     fn find_case(
         &self,
         alloc: Global,
         expected: bool,
         item: &T,
     ) -> Result<Option<Case>, AllocError> {
-        if self.eval(alloc, item)? != expected {
-            return Ok(None);
-        }
-        Ok(Some(alone(alloc, printed(alloc, self)?, expected)))
+        bare_case(alloc, self, self.eval(alloc, item)?, expected)
     }
 }

@@ -12,5 +12,5 @@
 pub mod constant;
 pub mod function;
 pub mod iter;
-pub mod meaning;
 pub mod ord;
+pub mod semantics;

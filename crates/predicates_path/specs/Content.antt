@@ -1,4 +1,4 @@
--- The formulas of predicates of bytes that are asked about contents.
+-- The formulas of predicates of bytes on contents.
 use Rattle.std.specs.Prelude.{◌≡◌, ℕ, false, List, Result, Ok, Err, Some, codes}
 use Rattle.predicates_core.specs.Label.{Entry, showing_both}
 use Rattle.predicates_core.specs.Formula.{Formula, Leaf, with_product}
@@ -19,8 +19,8 @@ without_content text path fault =
     Leaf (showing_both text (codes "var") (Some path) (codes "error") (Some (fault_text fault)))
     false
 
--- f is a formula of the part on the content that is there, with the path as a product more, or the
--- leaf of its fault
+-- f is a formula of the part on the content, with the path as its last product, or the leaf of the
+-- fault
 pub record IsOfContent (text : Entry) (has : Bytes → Formula → Type 0) (path : List ℕ)
     (held : Result Bytes PathFault) (f : Formula) : Type 0 where
   pub of_bytes : (bytes : Bytes) → held ≡ Ok bytes

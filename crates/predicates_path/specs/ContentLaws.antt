@@ -3,7 +3,7 @@ use Rattle.std.specs.Prelude.{◌≡◌, refl, ℕ, List, Result, Ok, Err, Some,
 use Rattle.std.proofs.Common.{ap}
 use Rattle.predicates_core.specs.Label.{Entry, FitsEntry}
 use Rattle.predicates_core.specs.Formula.{Formula, text_of, with_product}
-use Rattle.predicates_core.proofs.Leaves.{exactly_text_fits, one_exactly}
+use Rattle.predicates_core.specs.LeafLaws.{exactly_text_fits, one_exactly}
 use Rattle.predicates_core.proofs.Added.{with_product_text_fits, one_with_product}
 use Rattle.predicates_path.specs.declared.fault.PathFault.{PathFault}
 use Rattle.predicates_path.specs.Snapshot.{Bytes}

@@ -1,4 +1,4 @@
--- What the tests of existence print and test.
+-- What the predicates of existence print and test.
 use Rattle.std.specs.Prelude.{ℕ, Bool, true, false, not, List, Some, codes, is_ok}
 use Rattle.predicates_core.specs.Label.{showing}
 use Rattle.predicates_core.specs.Formula.{Formula, Leaf}
@@ -6,7 +6,7 @@ use Rattle.predicates_path.specs.declared.existence.ExistencePredicate.{Existenc
 use Rattle.predicates_path.specs.declared.snapshot.Snapshot.{Snapshot}
 use Rattle.predicates_path.specs.Snapshot.{path_of, followed_of}
 
--- whether something has to be there, or nothing
+-- whether it holds where something is there, or where nothing is
 abbrev pub asks_presence : ExistencePredicate → Bool
 asks_presence p = p.exists
 

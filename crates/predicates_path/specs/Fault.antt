@@ -1,4 +1,4 @@
--- The texts of faults, and what an answer of the system comes to.
+-- The texts of faults, and how answers of the system are kept.
 use Rattle.std.specs.Prelude.{◌≡◌, ℕ, List, Option, None, Some, Result, Ok, Err, IsOkAnd}
 use Rattle.std.specs.Prelude.{MatchResult, codes}
 use Rattle.std.specs.declared.alloc.AllocError.{AllocError}
@@ -19,23 +19,24 @@ fault_text PermissionDenied = codes "permission denied"
 fault_text NotRegular = codes "not a regular file"
 fault_text Other = codes "other fault"
 
--- the fault of a path that a kind of error is; want of memory is none
+-- the fault that a kind of error is; that memory ran out is none
 abbrev pub fault_of : ErrorKind → Option PathFault
 fault_of SystemNotFound = Some NotFound
 fault_of SystemPermissionDenied = Some PermissionDenied
 fault_of OutOfMemory = None
 fault_of _ = Some Other
 
--- the fault that an error of the system is, or want of memory
-abbrev pub ComesTo : Error → Result PathFault AllocError → Type 0
-ComesTo error result = MatchResult result (λ fault. fault_of (error_kind error) ≡ Some fault)
+-- the result is the fault that the error is, or that memory ran out
+abbrev pub IsFaultOf : Error → Result PathFault AllocError → Type 0
+IsFaultOf error result = MatchResult result (λ fault. fault_of (error_kind error) ≡ Some fault)
     (λ _. fault_of (error_kind error) ≡ None)
 
--- what the system told is found as the relation says, and its error is a fault, or want of memory
-abbrev pub TellsAs : {T F : Type 0} → (T → F → Type 0) → Result T Error
+-- what the system answered is kept as the relation says, and its error as a fault, unless memory ran
+-- out
+abbrev pub IsKeptAs : {T F : Type 0} → (T → F → Type 0) → Result T Error
     → Result (Result F PathFault) AllocError → Type 0
-TellsAs IsFound (Ok told) result = IsOkAnd result (λ found. IsOkAnd found (IsFound told))
-TellsAs IsFound (Err error) result =
+IsKeptAs IsFound (Ok answer) result = IsOkAnd result (λ found. IsOkAnd found (IsFound answer))
+IsKeptAs IsFound (Err error) result =
     MatchResult result
     (λ found. MatchResult found (λ _. ⊥) (λ fault. fault_of (error_kind error) ≡ Some fault))
     (λ _. fault_of (error_kind error) ≡ None)

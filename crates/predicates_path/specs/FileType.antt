@@ -1,4 +1,4 @@
--- The texts of kinds, when two are the same, and what kind the system tells.
+-- The texts of kinds, when two are the same, and the kind that the system reports.
 use Rattle.std.specs.Prelude.{◌≡◌, ◌↔◌, ℕ, Bool, true, false, List, codes}
 use Rattle.std.specs.declared.fs.FileType.{FileType as SystemFileType}
 use Rattle.std.specs.Fs.{IsDir, IsFile, IsSymlink}
@@ -19,8 +19,8 @@ is_same_kind Symlink Symlink = true
 is_same_kind Other Other = true
 is_same_kind _ _ = false
 
--- the kind that the system tells, which is `Other` where it is no file, directory or link
-pub record IsKindOf (told : SystemFileType) (kind : FileType) : Type 0 where
-  pub file : (kind ≡ File) ↔ IsFile told
-  pub dir : (kind ≡ Dir) ↔ IsDir told
-  pub symlink : (kind ≡ Symlink) ↔ IsSymlink told
+-- the kind that the system reports, which is `Other` where it is no file, directory or link
+pub record IsKindOf (reported : SystemFileType) (kind : FileType) : Type 0 where
+  pub file : (kind ≡ File) ↔ IsFile reported
+  pub dir : (kind ≡ Dir) ↔ IsDir reported
+  pub symlink : (kind ≡ Symlink) ↔ IsSymlink reported

@@ -1,4 +1,4 @@
--- What the tests of kinds print and test.
+-- What the predicates of kinds print and test.
 use Rattle.std.specs.Prelude.{ℕ, Bool, false, cond, List, ◌++◌, Result, Ok, Err, Some, codes}
 use Rattle.predicates_core.specs.Label.{showing}
 use Rattle.predicates_core.specs.Formula.{Formula, Leaf}
@@ -10,7 +10,7 @@ use Rattle.predicates_path.specs.Fault.{fault_text}
 use Rattle.predicates_path.specs.FileType.{kind_text, is_same_kind}
 use Rattle.predicates_path.specs.Snapshot.{plain_of, followed_of}
 
--- the kind that is asked for
+-- the kind that is tested for
 abbrev pub tested_kind : FileTypePredicate → FileType
 tested_kind p = p.kind
 
@@ -18,11 +18,11 @@ tested_kind p = p.kind
 abbrev pub follows : FileTypePredicate → Bool
 follows p = p.follow
 
--- the kind of a snapshot that the test looks at
+-- the kind of a snapshot that is compared
 abbrev pub found_kind : FileTypePredicate → Snapshot → Result FileType PathFault
 found_kind p s = cond (follows p) (followed_of s) (plain_of s)
 
--- the kind is there, and is the one that is asked for
+-- there is a kind, and it is the one that is tested for
 abbrev pub has_kind : FileType → Result FileType PathFault → Bool
 has_kind kind (Ok found) = is_same_kind found kind
 has_kind kind (Err fault) = false

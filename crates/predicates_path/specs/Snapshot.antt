@@ -11,7 +11,7 @@ use Rattle.predicates_path.specs.declared.fault.PathFault.TheVariants.{NotRegula
 abbrev pub Bytes : Type 0
 Bytes = Vec ℕ Global
 
--- the path that was asked for
+-- the path that was given
 abbrev pub path_of : Snapshot → List ℕ
 path_of s = string_bytes s.path
 
@@ -23,7 +23,7 @@ plain_of s = s.plain
 abbrev pub followed_of : Snapshot → Result FileType PathFault
 followed_of s = s.followed
 
--- the content, as it is lent
+-- the content, as it is stored
 abbrev pub held_of : Snapshot → Result Bytes PathFault
 held_of s = s.content
 

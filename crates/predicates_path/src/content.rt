@@ -1,4 +1,4 @@
-//! Predicates of bytes, asked about the content at a path.
+//! Predicates of bytes, evaluated on the content at a path.
 ghost use Rattle.std.specs.Prelude.{◌≡◌, ◌↔◌, false, [], codes, IfOk};
 ghost use Rattle.predicates_core.specs.Parts.{part};
 ghost use Rattle.predicates_core.specs.Formula.{Formula};
@@ -13,13 +13,13 @@ ghost use Rattle.predicates_path.specs.ContentLaws.{has_content_formula};
 
 use crate::fault::show_fault;
 use crate::{PathFault, Snapshot};
-use predicates_core::node::{alone, printed};
+use predicates_core::node::{leaf_node, printed};
 use predicates_core::reflection::{Case, Child, Parameter, PredicateReflection, describe};
 use predicates_core::{Predicate, Total};
 use std::alloc::{AllocError, Global};
 use std::fmt;
 
-/// Lends the content at a path to a predicate of bytes, and does not hold where there is none. Made
+/// Passes the content at a path to a predicate of bytes, and does not hold where there is none. Made
 /// by `PredicateFileContentExt::from_file_path`.
 #[derive(Debug, Clone, Copy, PartialEq, Eq, Drop)]
 pub struct FileContentPredicate<P> {
@@ -27,7 +27,7 @@ pub struct FileContentPredicate<P> {
 }
 
 impl<P: fmt::Display> FileContentPredicate<P> {
-    // The case where the content is a fault: a false leaf, with the path and the fault.
+    // The case where the content is a fault: a false leaf that shows the path and the fault.
     fn no_content(
         &self,
         alloc: Global,
@@ -38,7 +38,7 @@ impl<P: fmt::Display> FileContentPredicate<P> {
             (IsExactly (without_content (P.output (part_of self.now)) (path_of item.now) fault))
             false) }
     {
-        let node = alone(alloc, printed(alloc, self)?, false);
+        let node = leaf_node(alloc, printed(alloc, self)?, false);
         let case = item.show_path(alloc, node)?;
         Ok(show_fault(alloc, case, fault)?)
     }
@@ -77,7 +77,7 @@ impl<P: Predicate<Vec<u8>>> Predicate<Snapshot> for FileContentPredicate<P> {
     ghost formula = { λ p s. IsOfContent (P.output (part_of p)) (P.formula (part_of p)) (path_of s)
         (held_of s) };
 
-    ghost steady = { λ p s. IfOk (held_of s) (P.steady (part_of p)) };
+    ghost infallible = { λ p s. IfOk (held_of s) (P.infallible (part_of p)) };
 
     ghost text_fits = { λ p s f. content_text_fits (held_of s) (λ v. P.text_fits (part_of p) v) };
 
@@ -127,10 +127,10 @@ impl<P: Total<Vec<u8>>> Total<Snapshot> for FileContentPredicate<P> {
         (held_of s) (P.has_formula (part_of p)) };
 }
 
-/// Asks any predicate of bytes about contents.
+/// Evaluates predicates of bytes on the contents of files.
 pub trait PredicateFileContentExt: Predicate<Vec<u8>> {
-    /// The predicate of snapshots whose content is there, and of whose bytes this one holds. It
-    /// takes no memory where this one takes none on the bytes, or where there is no content.
+    /// Holds where the snapshot has a content and this predicate holds of its bytes. `eval` does not
+    /// allocate where this one does not on the bytes, or where there is no content.
     fn from_file_path(self) -> FileContentPredicate<Self>
     where
         Self: Sized,

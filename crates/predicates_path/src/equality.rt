@@ -1,4 +1,4 @@
-//! Whether a path leads to the bytes of a file.
+//! Whether a content equals the bytes of a file.
 ghost use Rattle.std.specs.Prelude.{◌≡◌, ◌↔◌, refl, codes, Ok, Err, Some, IfOk, IfSome, IsOkAnd};
 ghost use Rattle.std.specs.Prelude.{MatchOption, MatchResult, string_bytes};
 ghost use Rattle.std.specs.Str.{IsUtf8};
@@ -6,31 +6,32 @@ ghost use Rattle.predicates_core.specs.Tree.{empty};
 ghost use Rattle.predicates_core.specs.Label.{value_of};
 ghost use Rattle.predicates_core.specs.Formula.{Formula};
 ghost use Rattle.predicates_core.specs.Leaves.{IsExactly};
-ghost use Rattle.predicates_core.proofs.Leaves.{exactly_text_fits, one_exactly};
+ghost use Rattle.predicates_core.specs.LeafLaws.{exactly_text_fits, one_exactly};
 ghost use Rattle.predicates_path.specs.declared.snapshot.Snapshot.{Snapshot};
 ghost use Rattle.predicates_core.specs.Text.{Text};
 ghost use Rattle.predicates_path.specs.Snapshot.{Bytes, path_of, content_of};
 ghost use Rattle.predicates_path.specs.Equality.{compared_path, compared_bytes, equality_text};
-ghost use Rattle.predicates_path.specs.Equality.{has_bytes, equals_content, equals_bytes};
+ghost use Rattle.predicates_path.specs.Equality.{equals_content, equals_bytes};
 ghost use Rattle.predicates_path.specs.TextEquality as text;
 
+use crate::snapshot::has_bytes;
 use crate::text_equality::StrFilePredicate;
 use crate::{PathFault, Snapshot};
-use predicates_core::node::{alone, printed};
+use predicates_core::custom::bare_case;
 use predicates_core::reflection::{Case, Child, Parameter, PredicateReflection};
 use predicates_core::{Predicate, Total};
 use std::alloc::{AllocError, Global};
 use std::fmt;
 
-/// Whether a content is the bytes of a file. Made by `eq_file`.
+/// Whether a content equals the bytes of a file. Made by `eq_file`.
 #[derive(Debug, PartialEq, Eq, Drop)]
 pub struct BinaryFilePredicate {
     path: String,
     content: Vec<u8>,
 }
 
-/// The predicate of contents that are the snapshot's. It is refused where the snapshot has none,
-/// with the fault that stands in its place; the path is then dropped. Takes no memory.
+/// Holds where the content equals the snapshot's. It fails with the snapshot's fault where that has
+/// no content; the path is then dropped. It does not allocate.
 pub fn eq_file(snapshot: Snapshot) -> Result<BinaryFilePredicate, PathFault>
     ensures content { MatchResult (content_of snapshot)
         (λ bytes. IsOkAnd result
@@ -51,8 +52,8 @@ pub fn eq_file(snapshot: Snapshot) -> Result<BinaryFilePredicate, PathFault>
 }
 
 impl BinaryFilePredicate {
-    /// The predicate of texts and contents that are these bytes. `Some` says that they are UTF-8.
-    /// Where they are not, path and bytes are dropped. Takes no memory.
+    /// The predicate that compares texts and contents with these bytes, where they are UTF-8. Where
+    /// they are not, it is `None`, and the path and the bytes are dropped. It does not allocate.
     pub fn utf8(self) -> Option<StrFilePredicate>
         ensures text { MatchOption result (¬ (IsUtf8 (compared_bytes self)))
             (λ p. (text.compared_path p ≡ compared_path self)
@@ -70,13 +71,6 @@ impl BinaryFilePredicate {
             Ok(text) => Some(StrFilePredicate::new(path, text)),
             Err(_) => None,
         }
-    }
-
-    // Whether these are the bytes.
-    fn has_bytes(&self, bytes: &[u8]) -> bool
-        ensures { result ≡ has_bytes (compared_bytes self.now) bytes.now }
-    {
-        bytes == self.content.as_slice()
     }
 }
 
@@ -111,7 +105,7 @@ impl PredicateReflection for BinaryFilePredicate {
 impl Predicate<Snapshot> for BinaryFilePredicate {
     ghost formula = { λ p s. IsExactly (equals_content (compared_path p) (compared_bytes p) s) };
 
-    ghost steady = { λ p s. Unit {0} };
+    ghost infallible = { λ p s. Unit {0} };
 
     ghost text_fits = { λ p s f. exactly_text_fits };
 
@@ -119,10 +113,7 @@ impl Predicate<Snapshot> for BinaryFilePredicate {
 
     #[tactic(auto, using(predicates_core::proofs::Leaves::leaves))]
     fn eval(&self, _alloc: Global, item: &Snapshot) -> Result<bool, AllocError> {
-        match item.content() {
-            Ok(bytes) => Ok(self.has_bytes(bytes)),
-            Err(_) => Ok(false),
-        }
+        Ok(item.has_content(self.content.as_slice()))
     }
 
     fn find_case(
@@ -131,17 +122,15 @@ impl Predicate<Snapshot> for BinaryFilePredicate {
         expected: bool,
         item: &Snapshot,
     ) -> Result<Option<Case>, AllocError> {
-        if self.eval(alloc, item)? != expected {
-            return Ok(None);
-        }
-        Ok(Some(alone(alloc, printed(alloc, self)?, expected)))
+        let holds = item.has_content(self.content.as_slice());
+        bare_case(alloc, self, holds, expected)
     }
 }
 
 impl Predicate<Vec<u8>> for BinaryFilePredicate {
     ghost formula = { λ p v. IsExactly (equals_bytes (compared_path p) (compared_bytes p) v.items) };
 
-    ghost steady = { λ p v. Unit {0} };
+    ghost infallible = { λ p v. Unit {0} };
 
     ghost text_fits = { λ p v f. exactly_text_fits };
 
@@ -149,20 +138,17 @@ impl Predicate<Vec<u8>> for BinaryFilePredicate {
 
     #[tactic(auto, using(predicates_core::proofs::Leaves::leaves))]
     fn eval(&self, _alloc: Global, item: &Vec<u8>) -> Result<bool, AllocError> {
-        Ok(self.has_bytes(item.as_slice()))
+        Ok(has_bytes(self.content.as_slice(), item.as_slice()))
     }
 
-    #[tactic(auto, using(predicates_core::proofs::Leaves::leaves))]
     fn find_case(
         &self,
         alloc: Global,
         expected: bool,
         item: &Vec<u8>,
     ) -> Result<Option<Case>, AllocError> {
-        if self.has_bytes(item.as_slice()) != expected {
-            return Ok(None);
-        }
-        Ok(Some(alone(alloc, printed(alloc, self)?, expected)))
+        let holds = has_bytes(self.content.as_slice(), item.as_slice());
+        bare_case(alloc, self, holds, expected)
     }
 }
 

@@ -3,24 +3,24 @@ ghost use Rattle.std.specs.Prelude.{◌≡◌, ◌↔◌, refl, true, false, [],
 ghost use Rattle.predicates_core.specs.Tree.{empty};
 ghost use Rattle.predicates_core.specs.Formula.{Formula};
 ghost use Rattle.predicates_core.specs.Leaves.{IsExactly};
-ghost use Rattle.predicates_core.proofs.Leaves.{exactly_text_fits, one_exactly};
+ghost use Rattle.predicates_core.specs.LeafLaws.{exactly_text_fits, one_exactly};
 ghost use Rattle.predicates_path.specs.Existence.{asks_presence, existence_text, existence_formula};
 ghost use Rattle.predicates_path.specs.declared.snapshot.Snapshot.{Snapshot};
 
 use crate::Snapshot;
-use predicates_core::node::{alone, printed};
+use predicates_core::node::{leaf_node, printed};
 use predicates_core::reflection::{Case, Child, Parameter, PredicateReflection};
 use predicates_core::{Predicate, Total};
 use std::alloc::{AllocError, Global};
 use std::fmt;
 
-/// Whether a path leads to anything, where links are followed. Made by `exists` and `missing`.
+/// Whether a path leads to anything, after following links. Made by `exists` and `missing`.
 #[derive(Debug, Clone, Copy, PartialEq, Eq)]
 pub struct ExistencePredicate {
     exists: bool,
 }
 
-/// The predicate of paths that lead to something. It takes no memory.
+/// Holds where the path leads to something. It does not allocate.
 pub fn exists() -> ExistencePredicate
     ensures presence { asks_presence result ≡ true }
     ensures formula { (s : Snapshot) (f : Formula)
@@ -30,7 +30,7 @@ pub fn exists() -> ExistencePredicate
     ExistencePredicate { exists: true }
 }
 
-/// The predicate of paths that lead to nothing, also of links without a target. It takes no memory.
+/// Holds where the path leads to nothing, or is a link without a target. It does not allocate.
 pub fn missing() -> ExistencePredicate
     ensures presence { asks_presence result ≡ false }
     ensures formula { (s : Snapshot) (f : Formula)
@@ -69,7 +69,7 @@ impl PredicateReflection for ExistencePredicate {
 impl Predicate<Snapshot> for ExistencePredicate {
     ghost formula = { λ p s. IsExactly (existence_formula p s) };
 
-    ghost steady = { λ p s. Unit {0} };
+    ghost infallible = { λ p s. Unit {0} };
 
     ghost text_fits = { λ p s f. exactly_text_fits };
 
@@ -89,7 +89,7 @@ impl Predicate<Snapshot> for ExistencePredicate {
         if self.eval(alloc, item)? != expected {
             return Ok(None);
         }
-        let case = alone(alloc, printed(alloc, self)?, expected);
+        let case = leaf_node(alloc, printed(alloc, self)?, expected);
         Ok(Some(item.show_path(alloc, case)?))
     }
 }

@@ -1,7 +1,7 @@
-//! Why there is nothing to tell of a path.
+//! Why a path has no kind or no content.
 ghost use Rattle.std.specs.Prelude.{Some, codes, IfOk};
 ghost use Rattle.predicates_core.specs.Leaves.{IsShowing};
-ghost use Rattle.predicates_path.specs.Fault.{ComesTo, fault_text};
+ghost use Rattle.predicates_path.specs.Fault.{IsFaultOf, fault_text};
 
 use predicates_core::node::showing;
 use predicates_core::reflection::Case;
@@ -10,16 +10,17 @@ use std::error::Error;
 use std::io::ErrorKind;
 use std::{fmt, io};
 
-/// Why a kind or a content is not there. It prints in words, as `not found`.
+/// Why a kind or a content is missing. It prints in words, such as `not found`.
 #[derive(Debug, Clone, Copy, PartialEq, Eq)]
 pub enum PathFault {
-    /// Nothing stands there: `not found`.
+    /// Nothing exists at the path: `not found`.
     NotFound,
-    /// The system did not let it be read: `permission denied`.
+    /// The system denied access: `permission denied`.
     PermissionDenied,
-    /// What stands there is no regular file, so it has no content: `not a regular file`.
+    /// The path leads to something other than a regular file, so there is no content: `not a
+    /// regular file`.
     NotRegular,
-    /// The system told of another error, want of memory excepted: `other fault`.
+    /// Any other error of the system, except that memory ran out: `other fault`.
     Other,
 }
 
@@ -38,9 +39,9 @@ impl fmt::Display for PathFault {
 
 impl Error for PathFault {}
 
-// What an error of the system comes to. Want of memory is no fault of the path.
+// The fault that an error of the system is. That memory ran out is not a fault of the path.
 pub(crate) fn path_fault(error: &io::Error) -> Result<PathFault, AllocError>
-    ensures { ComesTo error.now result }
+    ensures { IsFaultOf error.now result }
 {
     match error.kind() {
         ErrorKind::NotFound => Ok(PathFault::NotFound),
@@ -50,7 +51,7 @@ pub(crate) fn path_fault(error: &io::Error) -> Result<PathFault, AllocError>
     }
 }
 
-// The case with the fault as the product `error`.
+// Adds the fault as the product `error`.
 pub(crate) fn show_fault(alloc: Global, case: Case, fault: PathFault) -> Result<Case, AllocError>
     ensures { IfOk result (IsShowing (codes "error") (Some (fault_text fault)) case) }
 {

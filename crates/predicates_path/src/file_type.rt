@@ -1,4 +1,4 @@
-//! What kinds of things stand at paths.
+//! Kinds of files.
 ghost use Rattle.std.specs.Prelude.{Some, codes, IfOk};
 ghost use Rattle.std.specs.Fs.{file_type};
 ghost use Rattle.predicates_core.specs.Leaves.{IsShowing};
@@ -10,7 +10,7 @@ use std::alloc::{AllocError, Global};
 use std::fmt;
 use std::fs::Metadata;
 
-/// The kind of what stands at a path. It prints in one word, as `file`.
+/// The kind of file at a path. It prints as one word, such as `file`.
 #[derive(Debug, Clone, Copy, PartialEq, Eq)]
 pub enum FileType {
     /// A regular file: `file`.
@@ -36,23 +36,23 @@ impl fmt::Display for FileType {
     }
 }
 
-// The kind that the system tells.
+// The kind that the metadata gives.
 pub(crate) fn kind_of(metadata: &Metadata) -> FileType
     ensures { IsKindOf (file_type metadata.now) result }
 {
-    let told = metadata.file_type();
-    if told.is_file() {
+    let found = metadata.file_type();
+    if found.is_file() {
         FileType::File
-    } else if told.is_dir() {
+    } else if found.is_dir() {
         FileType::Dir
-    } else if told.is_symlink() {
+    } else if found.is_symlink() {
         FileType::Symlink
     } else {
         FileType::Other
     }
 }
 
-// The case with the kind as the product `actual filetype`.
+// Adds the kind as the product `actual filetype`.
 pub(crate) fn show_kind(alloc: Global, case: Case, kind: FileType) -> Result<Case, AllocError>
     ensures { IfOk result (IsShowing (codes "actual filetype") (Some (kind_text kind)) case) }
 {

@@ -1,11 +1,11 @@
-//! Which kind of thing stands at a path.
+//! Which kind of file is at a path.
 ghost use Rattle.std.specs.Prelude.{◌≡◌, ◌↔◌, refl, true, false, codes, Ok, Err, Some, IfOk};
 ghost use Rattle.std.specs.Prelude.{IsOkAnd, MatchResult};
 ghost use Rattle.predicates_core.specs.Label.{value_of};
 ghost use Rattle.predicates_core.specs.Tree.{empty};
 ghost use Rattle.predicates_core.specs.Formula.{Formula};
 ghost use Rattle.predicates_core.specs.Leaves.{IsExactly, IsShowing, word};
-ghost use Rattle.predicates_core.proofs.Leaves.{exactly_text_fits, one_exactly};
+ghost use Rattle.predicates_core.specs.LeafLaws.{exactly_text_fits, one_exactly};
 ghost use Rattle.predicates_path.specs.declared.snapshot.Snapshot.{Snapshot};
 ghost use Rattle.predicates_path.specs.Snapshot.{followed_of};
 ghost use Rattle.predicates_path.specs.FileType.{is_same_kind};
@@ -15,13 +15,13 @@ ghost use Rattle.predicates_path.specs.Kind.{shown_value, kind_predicate_text, k
 use crate::fault::show_fault;
 use crate::file_type::show_kind;
 use crate::{FileType, PathFault, Snapshot};
-use predicates_core::node::{alone, printed};
+use predicates_core::node::{leaf_node, printed};
 use predicates_core::reflection::{Case, Child, Parameter, PredicateReflection};
 use predicates_core::{Predicate, Total};
 use std::alloc::{AllocError, Global};
 use std::fmt;
 
-/// Whether what stands at a path is of one kind. Made by `is_file`, `is_dir`, `is_symlink` and
+/// Whether the file at a path is of one kind. Made by `is_file`, `is_dir`, `is_symlink` and
 /// `from_path`.
 #[derive(Debug, Clone, Copy, PartialEq, Eq)]
 pub struct FileTypePredicate {
@@ -29,8 +29,8 @@ pub struct FileTypePredicate {
     follow: bool,
 }
 
-/// The predicate of paths where a regular file stands, without following links. Where the kind is a
-/// fault, it does not hold. It takes no memory.
+/// Holds where a regular file is at the path itself, without following links, and not where the kind
+/// is a fault. It does not allocate.
 pub fn is_file() -> FileTypePredicate
     ensures kind { tested_kind result ≡ FileType.File }
     ensures follow { follows result ≡ false }
@@ -44,8 +44,8 @@ pub fn is_file() -> FileTypePredicate
     }
 }
 
-/// The predicate of paths where a directory stands, without following links. Where the kind is a
-/// fault, it does not hold. It takes no memory.
+/// Holds where a directory is at the path itself, without following links, and not where the kind
+/// is a fault. It does not allocate.
 pub fn is_dir() -> FileTypePredicate
     ensures kind { tested_kind result ≡ FileType.Dir }
     ensures follow { follows result ≡ false }
@@ -59,7 +59,7 @@ pub fn is_dir() -> FileTypePredicate
     }
 }
 
-/// The predicate of paths where a link stands, whatever it leads to. It takes no memory.
+/// Holds where a link is at the path itself, whatever it leads to. It does not allocate.
 pub fn is_symlink() -> FileTypePredicate
     ensures kind { tested_kind result ≡ FileType.Symlink }
     ensures follow { follows result ≡ false }
@@ -94,9 +94,8 @@ fn show_found(
 }
 
 impl FileTypePredicate {
-    /// The predicate of the kind that the snapshot's path leads to, which follows links. It is
-    /// refused where there is no such kind, with the fault that stands in its place. It takes no
-    /// memory.
+    /// Holds where a path leads to the same kind of file as the snapshot's, after following links.
+    /// It fails with the snapshot's fault where that has no kind. It does not allocate.
     pub fn from_path(snapshot: &Snapshot) -> Result<FileTypePredicate, PathFault>
         ensures found { MatchResult (followed_of snapshot.now)
             (λ kind. IsOkAnd result (λ p. tested_kind p ≡ kind))
@@ -112,7 +111,7 @@ impl FileTypePredicate {
         })
     }
 
-    /// The predicate of the same kind that follows links where `yes` is true. It takes no memory.
+    /// The predicate of the same kind, which follows links where `yes` is true. It does not allocate.
     pub fn follow_links(mut self, yes: bool) -> Self
         ensures kind { tested_kind result ≡ tested_kind self }
         ensures follow { follows result ≡ yes }
@@ -124,7 +123,7 @@ impl FileTypePredicate {
         self
     }
 
-    // The kind that the test looks at.
+    // The kind that is compared.
     fn kind_at(&self, item: &Snapshot) -> Result<FileType, PathFault>
         ensures { result ≡ found_kind self.now item.now }
     {
@@ -164,7 +163,7 @@ impl PredicateReflection for FileTypePredicate {
 impl Predicate<Snapshot> for FileTypePredicate {
     ghost formula = { λ p s. IsExactly (kind_formula p s) };
 
-    ghost steady = { λ p s. Unit {0} };
+    ghost infallible = { λ p s. Unit {0} };
 
     ghost text_fits = { λ p s f. exactly_text_fits };
 
@@ -187,7 +186,7 @@ impl Predicate<Snapshot> for FileTypePredicate {
         if self.eval(alloc, item)? != expected {
             return Ok(None);
         }
-        let case = alone(alloc, printed(alloc, self)?, expected);
+        let case = leaf_node(alloc, printed(alloc, self)?, expected);
         Ok(Some(show_found(alloc, case, self.kind_at(item))?))
     }
 }

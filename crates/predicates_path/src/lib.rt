@@ -1,14 +1,14 @@
-//! Predicates over what stands at a path, taken once.
+//! Predicates over what was found at a path, read once.
 //!
 //! ```
-//! let file = Snapshot::take(&rt, "run.sh")?;
+//! let file = Snapshot::take(&rt, alloc, "run.sh")?;
 //! let script = predicate::path::is_file().follow_links(true);
 //! assert!(rt; script.eval(alloc, &file)?);
 //! ```
 //!
-//! Items are `Snapshot`s: a predicate itself never asks the file system. Making one of these
-//! predicates takes no memory, and neither does `eval`, but what a predicate of bytes takes under
-//! `from_file_path`.
+//! Items are `Snapshot`s: a predicate itself never queries the file system. Making one of these
+//! predicates does not allocate, and neither does `eval`, apart from what a predicate of bytes
+//! allocates under `from_file_path`.
 #![tactic(auto)]
 
 mod content;
@@ -17,6 +17,7 @@ mod existence;
 mod fault;
 mod file_type;
 mod kind;
+pub mod semantics;
 mod snapshot;
 mod text_equality;
 

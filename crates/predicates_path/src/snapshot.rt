@@ -1,14 +1,15 @@
-//! What stands at a path, taken once.
+//! What was found at a path, read once.
 //!
 //! ```
-//! let taken = Snapshot::take(&rt, "run.sh")?;
+//! let taken = Snapshot::take(&rt, alloc, "run.sh")?;
 //! let made = Snapshot::from_parts("l".to_owned(alloc)?, kind, kind, Ok(bytes));
 //! ```
 ghost use Rattle.std.specs.Prelude.{◌≡◌, Some, codes, IfOk, string_bytes};
 ghost use Rattle.predicates_core.specs.Leaves.{IsShowing};
 ghost use Rattle.std.specs.Fs.{file_type};
+ghost use Rattle.predicates_path.specs.Equality.{has_bytes, has_content};
 ghost use Rattle.predicates_path.specs.FileType.{IsKindOf};
-ghost use Rattle.predicates_path.specs.Fault.{TellsAs};
+ghost use Rattle.predicates_path.specs.Fault.{IsKeptAs};
 ghost use Rattle.predicates_path.specs.Snapshot.{path_of, plain_of, followed_of, held_of};
 ghost use Rattle.predicates_path.specs.Snapshot.{content_of, read_bytes, IsConsistent};
 
@@ -21,8 +22,7 @@ use std::fs::Metadata;
 use std::rt::Files;
 use std::{fs, io};
 
-/// A path with the kinds and the content that were found there, or the faults that stand in their
-/// place.
+/// A path with the kinds and the content that were found there, or the faults in their place.
 #[derive(Drop)]
 pub struct Snapshot {
     path: String,
@@ -31,36 +31,47 @@ pub struct Snapshot {
     content: Result<Vec<u8>, PathFault>,
 }
 
-// The kind that the system told, or its fault.
-fn kind(told: io::Result<Metadata>) -> Result<Result<FileType, PathFault>, AllocError>
-    ensures { TellsAs (λ metadata. IsKindOf (file_type metadata)) told result }
+// The kind that the metadata gives, or the fault.
+fn kind(answer: io::Result<Metadata>) -> Result<Result<FileType, PathFault>, AllocError>
+    ensures { IsKeptAs (λ metadata. IsKindOf (file_type metadata)) answer result }
 {
-    match told {
+    match answer {
         Ok(metadata) => Ok(Ok(kind_of(&metadata))),
         Err(error) => Ok(Err(path_fault(&error)?)),
     }
 }
 
-// What reading the file gave, or its fault.
-fn content(told: io::Result<Vec<u8>>) -> Result<Result<Vec<u8>, PathFault>, AllocError>
-    ensures { TellsAs ◌≡◌ told result }
+// The bytes that were read, or the fault.
+fn content(answer: io::Result<Vec<u8>>) -> Result<Result<Vec<u8>, PathFault>, AllocError>
+    ensures { IsKeptAs ◌≡◌ answer result }
 {
-    match told {
+    match answer {
         Ok(bytes) => Ok(Ok(bytes)),
         Err(error) => Ok(Err(path_fault(&error)?)),
     }
 }
 
+// Whether the bytes that were found equal these.
+pub(crate) fn has_bytes(bytes: &[u8], found: &[u8]) -> bool
+    ensures { result ≡ has_bytes bytes.now found.now }
+{
+    found == bytes
+}
+
 impl Snapshot {
-    /// Asks the file system once for each of the two kinds, and reads the content once where the
-    /// path leads to a regular file; it never waits for a pipe or a device. What fails is kept as a
-    /// `PathFault`. It is refused only for want of memory, here or in the system. It takes memory
-    /// for the path and the content.
-    pub fn take<R: Files + AllocGlobal>(rt: &R, path: &str) -> Result<Snapshot, AllocError>
+    /// Queries the file system once for each of the two kinds, and reads the content once where the
+    /// path leads to a regular file; it never waits for a pipe or a device. A failed query is kept
+    /// as a `PathFault`. It fails only where memory runs out, here or in the system. It allocates
+    /// the path and the content.
+    pub fn take<R: Files + AllocGlobal>(
+        rt: &R,
+        alloc: Global,
+        path: &str,
+    ) -> Result<Snapshot, AllocError>
         ensures path { IfOk result (λ snapshot. path_of snapshot ≡ path.now) }
         ensures consistent { IfOk result IsConsistent }
     {
-        let owned = String::from_str(rt.alloc(), path)?;
+        let owned = String::from_str(alloc, path)?;
         let plain = kind(fs::symlink_metadata(rt, path))?;
         let followed = kind(fs::metadata(rt, path))?;
         let content = match followed {
@@ -76,7 +87,8 @@ impl Snapshot {
         })
     }
 
-    /// A snapshot of any parts, also of such as no file system gives. Takes no memory.
+    /// A snapshot made of the given parts, even of parts that no file system would give together.
+    /// It does not allocate.
     pub fn from_parts(
         path: String,
         plain: Result<FileType, PathFault>,
@@ -96,29 +108,28 @@ impl Snapshot {
         }
     }
 
-    /// The path as it was handed in.
+    /// The path as it was given.
     pub fn path(&self) -> &str
         ensures { result.now ≡ path_of self.now }
     {
         self.path.as_str()
     }
 
-    /// The kind of what stands at the path, where a link is not followed, or why there is none.
+    /// The kind of file at the path itself, without following a link, or why there is none.
     pub fn plain(&self) -> Result<FileType, PathFault>
         ensures { result ≡ plain_of self.now }
     {
         self.plain
     }
 
-    /// The kind of what the path leads to, where a link is followed, or why there is none.
+    /// The kind of file that the path leads to, after following links, or why there is none.
     pub fn followed(&self) -> Result<FileType, PathFault>
         ensures { result ≡ followed_of self.now }
     {
         self.followed
     }
 
-    /// The bytes of the file that the path leads to, where a link is followed, or why there are
-    /// none.
+    /// The bytes of the file that the path leads to, after following links, or why there are none.
     pub fn content(&self) -> Result<&[u8], PathFault>
         ensures { read_bytes (λ bytes. bytes.now) result ≡ content_of self.now }
     {
@@ -128,14 +139,24 @@ impl Snapshot {
         }
     }
 
-    // The case with the path as the product `var`.
+    // Whether there is a content, and it equals the bytes.
+    pub(crate) fn has_content(&self, bytes: &[u8]) -> bool
+        ensures { result ≡ has_content bytes.now (content_of self.now) }
+    {
+        match &self.content {
+            Ok(found) => has_bytes(bytes, found.as_slice()),
+            Err(_) => false,
+        }
+    }
+
+    // Adds the path as the product `var`.
     pub(crate) fn show_path(&self, alloc: Global, case: Case) -> Result<Case, AllocError>
         ensures { IfOk result (IsShowing (codes "var") (Some (path_of self.now)) case) }
     {
         showing_text(alloc, case, "var", self.path.as_str())
     }
 
-    // The content as it is held.
+    // The content as it is stored.
     pub(crate) fn content_or_fault(&self) -> &Result<Vec<u8>, PathFault>
         ensures { result.now ≡ held_of self.now }
     {

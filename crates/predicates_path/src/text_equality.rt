@@ -1,21 +1,21 @@
-//! Whether a path leads to the text of a file.
+//! Whether a text or a content equals the text of a file.
 ghost use Rattle.std.specs.Prelude.{◌≡◌, refl, codes, Some, string_bytes};
 ghost use Rattle.predicates_core.specs.Tree.{empty};
 ghost use Rattle.predicates_core.specs.Label.{value_of};
 ghost use Rattle.predicates_core.specs.Leaves.{IsExactly};
-ghost use Rattle.predicates_core.proofs.Leaves.{exactly_text_fits, one_exactly};
-ghost use Rattle.predicates_path.specs.Equality.{equality_text, has_bytes, equals_content};
-ghost use Rattle.predicates_path.specs.Equality.{equals_bytes};
+ghost use Rattle.predicates_core.specs.LeafLaws.{exactly_text_fits, one_exactly};
+ghost use Rattle.predicates_path.specs.Equality.{equality_text, equals_content, equals_bytes};
 ghost use Rattle.predicates_path.specs.TextEquality.{compared_path, compared_text};
 
 use crate::Snapshot;
-use predicates_core::node::{alone, printed};
+use crate::snapshot::has_bytes;
+use predicates_core::custom::bare_case;
 use predicates_core::reflection::{Case, Child, Parameter, PredicateReflection};
 use predicates_core::{Predicate, ReadsContent, Total};
 use std::alloc::{AllocError, Global};
 use std::fmt;
 
-/// Whether a text or a content is the text of a file. Made by `BinaryFilePredicate::utf8`.
+/// Whether a text or a content equals the text of a file. Made by `BinaryFilePredicate::utf8`.
 #[derive(Debug, PartialEq, Eq, Drop)]
 pub struct StrFilePredicate {
     path: String,
@@ -23,19 +23,12 @@ pub struct StrFilePredicate {
 }
 
 impl StrFilePredicate {
-    // The predicate of the text, which stands at the path.
+    // The predicate of the text, which was found at the path.
     pub(crate) fn new(path: String, content: String) -> Self
         ensures path { compared_path result ≡ string_bytes path }
         ensures text { compared_text result ≡ string_bytes content }
     {
         StrFilePredicate { path, content }
-    }
-
-    // Whether these are the text's bytes.
-    fn has_bytes(&self, bytes: &[u8]) -> bool
-        ensures { result ≡ has_bytes (compared_text self.now) bytes.now }
-    {
-        bytes == self.content.as_bytes()
     }
 }
 
@@ -67,7 +60,7 @@ impl PredicateReflection for StrFilePredicate {
 impl Predicate<Snapshot> for StrFilePredicate {
     ghost formula = { λ p s. IsExactly (equals_content (compared_path p) (compared_text p) s) };
 
-    ghost steady = { λ p s. Unit {0} };
+    ghost infallible = { λ p s. Unit {0} };
 
     ghost text_fits = { λ p s f. exactly_text_fits };
 
@@ -75,10 +68,7 @@ impl Predicate<Snapshot> for StrFilePredicate {
 
     #[tactic(auto, using(predicates_core::proofs::Leaves::leaves))]
     fn eval(&self, _alloc: Global, item: &Snapshot) -> Result<bool, AllocError> {
-        match item.content() {
-            Ok(bytes) => Ok(self.has_bytes(bytes)),
-            Err(_) => Ok(false),
-        }
+        Ok(item.has_content(self.content.as_bytes()))
     }
 
     fn find_case(
@@ -87,10 +77,8 @@ impl Predicate<Snapshot> for StrFilePredicate {
         expected: bool,
         item: &Snapshot,
     ) -> Result<Option<Case>, AllocError> {
-        if self.eval(alloc, item)? != expected {
-            return Ok(None);
-        }
-        Ok(Some(alone(alloc, printed(alloc, self)?, expected)))
+        let holds = item.has_content(self.content.as_bytes());
+        bare_case(alloc, self, holds, expected)
     }
 }
 
@@ -98,7 +86,7 @@ impl Predicate<String> for StrFilePredicate {
     ghost formula = { λ p v. IsExactly
         (equals_bytes (compared_path p) (compared_text p) (string_bytes v)) };
 
-    ghost steady = { λ p v. Unit {0} };
+    ghost infallible = { λ p v. Unit {0} };
 
     ghost text_fits = { λ p v f. exactly_text_fits };
 
@@ -106,20 +94,17 @@ impl Predicate<String> for StrFilePredicate {
 
     #[tactic(auto, using(predicates_core::proofs::Leaves::leaves))]
     fn eval(&self, _alloc: Global, item: &String) -> Result<bool, AllocError> {
-        Ok(self.has_bytes(item.as_bytes()))
+        Ok(has_bytes(self.content.as_bytes(), item.as_bytes()))
     }
 
-    #[tactic(auto, using(predicates_core::proofs::Leaves::leaves))]
     fn find_case(
         &self,
         alloc: Global,
         expected: bool,
         item: &String,
     ) -> Result<Option<Case>, AllocError> {
-        if self.has_bytes(item.as_bytes()) != expected {
-            return Ok(None);
-        }
-        Ok(Some(alone(alloc, printed(alloc, self)?, expected)))
+        let holds = has_bytes(self.content.as_bytes(), item.as_bytes());
+        bare_case(alloc, self, holds, expected)
     }
 }
 

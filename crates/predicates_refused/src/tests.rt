@@ -1,29 +1,17 @@
-mod adapters;
 mod allocator;
 mod answer;
-mod checks;
-mod fronts;
-mod leaves;
+mod faulty_io;
+mod functions_and_boxes;
 mod made;
 mod makers;
-mod members;
-mod nested;
 mod paths;
 mod patterns;
-mod planted;
-mod question;
+mod predicate_calls;
 mod readers;
 mod reflected;
-mod rough;
+mod rows;
 mod runs;
-mod said;
+mod stacked;
 mod streams;
 mod sweep;
-mod texts;
 mod words;
-
-use std::alloc::{AllocError, Global};
-
-fn text(alloc: Global, text: &str) -> Result<String, AllocError> {
-    String::from_str(alloc, text)
-}

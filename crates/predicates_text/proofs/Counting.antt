@@ -7,7 +7,7 @@ use Rattle.std.specs.Str.Pattern.{FindsText, LacksTextAt, SplitsAroundMatch}
 use Rattle.std.proofs.Common.{None, Some, length-take}
 use Rattle.memchr.specs.Find.{OccursAt, FindsNeedle}
 use Rattle.std.proofs.lemmas.Str.{encodes-chars, encodes-append, length-le-encodes}
-use Rattle.predicates_text.proofs.Cuts.{cut_around, lacks_around, lacks_bytes, bytes_around, IsCutAround}
+use Rattle.predicates_text.proofs.Slices.{cut_around, lacks_around, lacks_bytes, bytes_around, IsCutAround}
 use Rattle.predicates_text.proofs.Found.{empty_chars}
 use Rattle.predicates_text.proofs.Searching.{found_text, lacks_text, of_texts}
 use Rattle.predicates_text.specs.Places.{StandsAt}

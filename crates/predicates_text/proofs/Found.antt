@@ -5,7 +5,7 @@ use Rattle.std.specs.Str.{chars, IsUtf8, encode_utf8_all}
 use Rattle.std.specs.Str.Pattern.{HasPrefixMatch, HasSuffixMatch, HasMatch, FindsText, FindsTextPrefix, FindsTextSuffix}
 use Rattle.std.proofs.lemmas.Str.{encodes-chars, chars-nil, IsUtf8-take}
 use Rattle.predicates_text.specs.Places.{IsFrontOf, IsBackOf, IsPartOf}
-use Rattle.predicates_text.proofs.Cuts.{chars_cut, bytes_cut, cut_around, lacks_around, bytes_around, lacks_bytes, IsCutAround}
+use Rattle.predicates_text.proofs.Slices.{chars_cut, bytes_cut, cut_around, lacks_around, bytes_around, lacks_bytes, IsCutAround}
 
 pub empty_chars : (t : List ℕ) → IsUtf8 t → (length t ≡ 0) ↔ (chars t ≡ [])
 empty_chars [] u = ((λ _. chars-nil), λ _. refl)

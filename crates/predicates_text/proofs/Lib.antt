@@ -1,10 +1,10 @@
-mod Cuts
-mod Bare
+mod Slices
+mod AlreadyTrimmed
 mod Found
 mod Counting
 mod Showing
 pub mod Trimming
-pub mod Evening
-pub mod Handing
+pub mod LineEndings
+pub mod AdapterAnswers
 pub mod OneByte
 pub mod Searching

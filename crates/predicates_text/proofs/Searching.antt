@@ -11,7 +11,7 @@ use Rattle.std.proofs.lemmas.Bool.Decides.{nat_tests}
 use Rattle.memchr.specs.Find.{OccursAt, FindsNeedle, IsFirstByte, is_byte}
 use Rattle.predicates_text.specs.Places.{IsPartOf, is_part}
 use Rattle.predicates_text.proofs.Found.{contains_chars, contains_bytes}
-use Rattle.predicates_text.specs.PlaceLaws.{part_tells, same_test}
+use Rattle.predicates_text.specs.PlaceLaws.{part_decides, same_test}
 
 -- where the bytes begin what is left from a place on, they occur there
 occurs : (p t rest : List ℕ) (i : ℕ) → i ≤ length t → drop i t ≡ p ++ rest → OccursAt t p i
@@ -108,26 +108,26 @@ found_text p t k up ut h =
 pub lacks_text : (p t : List ℕ) → FindsNeedle t p 0 None → FindsText p t None
 lacks_text p t nowhere = λ i le. missing p t i le (nowhere i (omega arith) (omega (arith, le)))
 
-bytes_tell : (p t : List ℕ) (r : Option ℕ) → IsUtf8 p → IsUtf8 t → FindsNeedle t p 0 r → MatchBool (is_some r) (HasMatch (FindsText p) t) (FindsText p t None)
-bytes_tell p t None up ut nowhere = lacks_text p t nowhere
-bytes_tell p t (Some k) up ut h = (k, k + length p, found_text p t k up ut h, omega arith, h.1.fits)
+bytes_decide : (p t : List ℕ) (r : Option ℕ) → IsUtf8 p → IsUtf8 t → FindsNeedle t p 0 r → MatchBool (is_some r) (HasMatch (FindsText p) t) (FindsText p t None)
+bytes_decide p t None up ut nowhere = lacks_text p t nowhere
+bytes_decide p t (Some k) up ut h = (k, k + length p, found_text p t k up ut h, omega arith, h.1.fits)
 
 -- the answer of a search, in characters and in bytes
-pub record TellsPart (p t : List ℕ) (r : Bool) : Type 0 where
+pub record DecidesPart (p t : List ℕ) (r : Bool) : Type 0 where
   pub part : IsTrue r ↔ IsPartOf (chars p) (chars t)
   pub bytes : IsTrue r ↔ IsPartOf p t
   pub value : r ≡ is_part (chars p) (chars t)
 
-pub search_tells : (p t : List ℕ) (r : Bool) → IsUtf8 p → IsUtf8 t → MatchBool r (HasMatch (FindsText p) t) (FindsText p t None) → TellsPart p t r
-search_tells p t r up ut found =
+pub search_decides : (p t : List ℕ) (r : Bool) → IsUtf8 p → IsUtf8 t → MatchBool r (HasMatch (FindsText p) t) (FindsText p t None) → DecidesPart p t r
+search_decides p t r up ut found =
     let is = contains_chars p t r up ut found in
-    record { part = is; bytes = contains_bytes p t r up ut found; value = same_test _ _ is (part_tells _ _) }
+    record { part = is; bytes = contains_bytes p t r up ut found; value = same_test _ _ is (part_decides _ _) }
 
 -- the bytes of a text and of a pattern, by their other names
 pub of_texts : (p t bytes hay : List ℕ) (r : Option ℕ) → bytes ≡ p → hay ≡ t → FindsNeedle hay bytes 0 r → FindsNeedle t p 0 r
 of_texts p t bytes hay r is_p is_t found = subst (λ n. FindsNeedle t n 0 r) is_p (subst (λ l. FindsNeedle l bytes 0 r) is_t found)
 
 -- the same of a search for bytes
-pub byte_search_tells : (p t bytes hay : List ℕ) (r : Option ℕ) (b : Bool) → bytes ≡ p → hay ≡ t → b ≡ is_some r → IsUtf8 p → IsUtf8 t → FindsNeedle hay bytes 0 r → TellsPart p t b
-byte_search_tells p t bytes hay r b is_p is_t is_b up ut found =
-    subst (TellsPart p t) (sym is_b) (search_tells p t (is_some r) up ut (bytes_tell p t r up ut (of_texts p t bytes hay r is_p is_t found)))
+pub byte_search_decides : (p t bytes hay : List ℕ) (r : Option ℕ) (b : Bool) → bytes ≡ p → hay ≡ t → b ≡ is_some r → IsUtf8 p → IsUtf8 t → FindsNeedle hay bytes 0 r → DecidesPart p t b
+byte_search_decides p t bytes hay r b is_p is_t is_b up ut found =
+    subst (DecidesPart p t) (sym is_b) (search_decides p t (is_some r) up ut (bytes_decide p t r up ut (of_texts p t bytes hay r is_p is_t found)))

@@ -1,4 +1,4 @@
--- The predicates that adapters hand a view on to.
+-- The predicates that adapters evaluate on a view.
 use Rattle.predicates_text.specs.declared.adapters.trim.TrimPredicate.{TrimPredicate}
 use Rattle.predicates_text.specs.declared.adapters.normalize.NormalizedPredicate.{NormalizedPredicate}
 use Rattle.predicates_text.specs.declared.adapters.utf8.Utf8Predicate.{Utf8Predicate}

@@ -6,8 +6,8 @@ use Rattle.regex.specs.Patterns.{Re, find_str, find_all_str, default_config}
 use Rattle.regex.specs.Strings.{regex_pattern, regex_source, regex_config, IsReadFromSource}
 use Rattle.regex.specs.declared.string.regex.Regex.{Regex}
 use Rattle.predicates_text.specs.Leaves.{text_leaf, counted_leaf}
-use Rattle.predicates_text.specs.declared.expressions.found.RegexPredicate.{RegexPredicate}
-use Rattle.predicates_text.specs.declared.expressions.counted.RegexMatchesPredicate.{RegexMatchesPredicate}
+use Rattle.predicates_text.specs.declared.expressions.is_match.RegexPredicate.{RegexPredicate}
+use Rattle.predicates_text.specs.declared.expressions.match_count.RegexMatchesPredicate.{RegexMatchesPredicate}
 
 -- the pattern, as it was written
 abbrev pub regex_text : RegexPredicate → List ℕ

@@ -6,9 +6,8 @@ pub mod Counting
 pub mod CountLaws
 pub mod Leaves
 pub mod Patterns
-pub mod Meant
-pub mod MeantLaws
-pub mod Shown
+pub mod LeafFormulas
+pub mod LeafFormulaLaws
 pub mod Views
 pub mod EvenLines
 pub mod ViewTexts

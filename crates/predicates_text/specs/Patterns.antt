@@ -1,9 +1,9 @@
 -- What the tests of texts were made with.
 use Rattle.std.specs.Prelude.{ℕ, List, string_bytes}
-use Rattle.predicates_text.specs.declared.basics.front.StartsWithPredicate.{StartsWithPredicate}
-use Rattle.predicates_text.specs.declared.basics.back.EndsWithPredicate.{EndsWithPredicate}
-use Rattle.predicates_text.specs.declared.basics.part.ContainsPredicate.{ContainsPredicate}
-use Rattle.predicates_text.specs.declared.basics.counted.MatchesPredicate.{MatchesPredicate}
+use Rattle.predicates_text.specs.declared.basics.starts_with.StartsWithPredicate.{StartsWithPredicate}
+use Rattle.predicates_text.specs.declared.basics.ends_with.EndsWithPredicate.{EndsWithPredicate}
+use Rattle.predicates_text.specs.declared.basics.contains.ContainsPredicate.{ContainsPredicate}
+use Rattle.predicates_text.specs.declared.basics.count.MatchesPredicate.{MatchesPredicate}
 
 -- the pattern that is looked for
 abbrev pub starts_pattern : StartsWithPredicate → List ℕ

@@ -1,4 +1,4 @@
--- The laws of predicates that hand a text on.
+-- The laws of predicates that evaluate another on a view of a text.
 use Rattle.std.specs.Prelude.{◌≡◌, refl, ℕ, List, Option, true, false, string_bytes}
 use Rattle.std.specs.Str.{IsUtf8, is_utf8}
 use Rattle.std.proofs.Common.{subst, ◌⊎◌, ⊎_elim}
@@ -7,25 +7,25 @@ use Rattle.std.proofs.lemmas.Bool.{cases_Bool}
 use Rattle.predicates_core.specs.Text.{Text}
 use Rattle.predicates_core.specs.Label.{FitsEntry}
 use Rattle.predicates_core.specs.Formula.{Formula, text_of}
-use Rattle.predicates_core.proofs.Leaves.{exactly_text_fits, one_exactly}
+use Rattle.predicates_core.specs.LeafLaws.{exactly_text_fits, one_exactly}
 use Rattle.predicates_core.proofs.Added.{with_product_text_fits, one_with_product}
 use Rattle.predicates_text.specs.ViewFormulas.{IsOfEach, IsDecoded, decoded_formula}
 
-module _ {has : Text → Formula → Type 0} {handed : Text → Type 0} where
-  pub each_text_fits : {f : Formula} (printed : Option (List ℕ)) → (t : Text) × handed t
-      → ((t : Text) → has t f → FitsEntry (text_of f) printed) → IsOfEach has handed f
+module _ {has : Text → Formula → Type 0} {viewed : Text → Type 0} where
+  pub each_text_fits : {f : Formula} (printed : Option (List ℕ)) → (t : Text) × viewed t
+      → ((t : Text) → has t f → FitsEntry (text_of f) printed) → IsOfEach has viewed f
       → FitsEntry (text_of f) printed
   each_text_fits printed some fits h = fits some.0 (h.each some.0 some.1)
 
-  pub one_each : {f g : Formula} → (t : Text) × handed t → ((t : Text) → has t f → has t g → f ≡ g)
-      → IsOfEach has handed f → IsOfEach has handed g → f ≡ g
+  pub one_each : {f g : Formula} → (t : Text) × viewed t → ((t : Text) → has t f → has t g → f ≡ g)
+      → IsOfEach has viewed f → IsOfEach has viewed g → f ≡ g
   one_each some one h k = one some.0 (h.each some.0 some.1) (k.each some.0 some.1)
 
--- the formula at the content that is handed on
-pub has_each : (content : List ℕ → Formula) (has : Text → Formula → Type 0) (handed : Text → Type 0)
+-- the formula at the content of the view
+pub has_each : (content : List ℕ → Formula) (has : Text → Formula → Type 0) (viewed : Text → Type 0)
     (bytes : List ℕ) → ((t : Text) → has t (content (string_bytes t)))
-    → ((t : Text) → handed t → string_bytes t ≡ bytes) → IsOfEach has handed (content bytes)
-has_each content has handed bytes had same = record
+    → ((t : Text) → viewed t → string_bytes t ≡ bytes) → IsOfEach has viewed (content bytes)
+has_each content has viewed bytes had same = record
     { each = λ t is. subst (λ bs. has t (content bs)) (same t is) (had t) }
 
 -- the bytes are those of a text, or not UTF-8

@@ -1,4 +1,4 @@
--- The formulas of predicates that hand a text on to another.
+-- The formulas of predicates that evaluate another on a view of a text.
 use Rattle.std.specs.Prelude.{◌≡◌, ℕ, List, Option, Some, false, if◌then◌else◌, codes, string_bytes}
 use Rattle.std.specs.Str.{chars, encode_utf8_all, IsUtf8, is_utf8}
 use Rattle.predicates_core.specs.Text.{Text}
@@ -23,16 +23,16 @@ trimmed_bytes bytes = encode_utf8_all (view.trimmed (chars bytes))
 abbrev pub even_bytes : List ℕ → List ℕ
 even_bytes bytes = encode_utf8_all (view.lines_even (chars bytes))
 
--- f is had on each text that may be handed on
-pub record IsOfEach (has : Text → Formula → Type 0) (handed : Text → Type 0) (f : Formula) : Type 0
+-- f is a formula of the part on each text that is such a view
+pub record IsOfEach (has : Text → Formula → Type 0) (viewed : Text → Type 0) (f : Formula) : Type 0
   where
-    pub each : (t : Text) → handed t → has t f
+    pub each : (t : Text) → viewed t → has t f
 
--- what is said of bytes that are no text
+-- the formula of bytes that are not text
 abbrev pub undecoded : Option (List ℕ) → Formula
 undecoded text = Leaf (showing text (codes "error") (Some (codes "Invalid UTF-8 string"))) false
 
--- what is said of bytes that are text, from what is said of the text
+-- the formula of bytes that are text, from that of the text
 abbrev pub decoded : List ℕ → Formula → Formula
 decoded bytes f = with_product f (record { name = codes "var as str"; value = Some bytes })
 

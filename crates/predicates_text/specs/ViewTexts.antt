@@ -103,7 +103,7 @@ bytes_of_chars t cs e = sym (encodes-chars (string_bytes t) (IsUtf8-string_bytes
 pub text_or_other : (v : Vec ℕ Global) → TextOrNot v.items
 text_or_other v = ⊎_elim (λ u. inl (has_decoded v u)) inr (text_or_not v.items)
 
--- the bytes of each text that is handed on
+-- the bytes of each view
 pub trimmed_is : (v t : Text) → IsTrimmedOf v t → string_bytes t ≡ trimmed_bytes (string_bytes v)
 trimmed_is v t is = bytes_of_chars t _ is
 

@@ -1,4 +1,4 @@
--- What the adapters hand on: a text without white space at its ends, and one with even line
+-- The views that adapters make: a text without white space at its ends, and one with even line
 -- endings.
 use Rattle.std.specs.Prelude.{List, [], ◌∷◌, ℕ, ◌-◌, Bool, ◌&&◌, not, ◌==◌, nat_le, length, map}
 use Rattle.std.specs.Prelude.{filter, slice_range, if◌then◌else◌}

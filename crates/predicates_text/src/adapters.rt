@@ -1,4 +1,4 @@
-//! Predicates that hand a view of the item on to another predicate.
+//! Predicates that evaluate another predicate on a view of the item.
 //!
 //! ```
 //! let blank = predicate::str::is_empty().trim();
@@ -44,7 +44,7 @@ pub trait PredicateStrExt: Predicate<String> {
             ⟦<NormalizedPredicate<Self> as Predicate<String>>⟧.formula result v f
             ↔ IsOfEach (Self.formula self) (HasEvenLinesOf v) f };
 
-    /// The predicate of the text that bytes are, which does not hold of other bytes. Its `eval`
+    /// The predicate of the text that bytes encode, which is false on other bytes. Its `eval`
     /// takes memory for the text, and none on other bytes.
     fn from_utf8(self) -> Utf8Predicate<Self>
     where

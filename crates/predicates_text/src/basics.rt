@@ -5,14 +5,8 @@
 //! assert!(rt; greets.eval(alloc, &"Hello World".to_owned(alloc)?)?);
 //! ```
 
-mod back;
-mod counted;
-mod empty;
-mod front;
-mod part;
-
-pub use back::{EndsWithPredicate, ends_with};
-pub use counted::MatchesPredicate;
-pub use empty::{IsEmptyPredicate, is_empty};
-pub use front::{StartsWithPredicate, starts_with};
-pub use part::{ContainsPredicate, contains};
+pub mod contains;
+pub mod count;
+pub mod ends_with;
+pub mod is_empty;
+pub mod starts_with;

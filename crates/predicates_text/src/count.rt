@@ -1,4 +1,4 @@
-//! How often one text stands in another. The call takes no memory.
+//! How often one text occurs in another. The call takes no memory.
 //!
 //! ```
 //! assert_eq!(rt; count("aa", "aaaa"), 2);
@@ -8,15 +8,15 @@ ghost use Rattle.std.specs.Prelude.{◌≡◌, ◌≢◌, ◌+◌, [], length, f
 ghost use Rattle.memchr.specs.Find.{FindsNeedle};
 ghost use Rattle.predicates_text.specs.Count.{IsCountOf, IsPastFirst, IsNowhere, count_of};
 
-use crate::places::LONG;
+use crate::search::LONG;
 use memchr::arch::all::is_prefix;
 use memchr::arch::all::packedpair::Pair;
 use memchr::memchr;
 use memchr::memmem::Finder;
 
-/// The greatest number of places of the pattern in the text of which no two overlap.
+/// The greatest number of occurrences of the pattern in the text of which no two overlap.
 ///
-/// The empty pattern has a place before each character and one at the end.
+/// The empty pattern occurs before each character and at the end.
 pub fn count(text: &str, pattern: &str) -> usize
     ensures greatest { IsCountOf (chars pattern.now) (chars text.now) result }
     ensures bytes { pattern.now ≢ [] → IsCountOf pattern.now text.now result }
@@ -26,28 +26,28 @@ pub fn count(text: &str, pattern: &str) -> usize
     if pattern.is_empty() {
         return text.chars().count() + 1;
     }
-    // One character of ASCII stands wherever its byte does.
+    // An ASCII character occurs wherever its byte does.
     if let [byte] = pattern.as_bytes() {
         if byte.is_ascii() {
             return count_byte(*byte, text);
         }
     }
-    // In a long text the search is prepared once, for all places.
+    // In a long text the searcher is made once, for all occurrences.
     let search = if text.len() < LONG {
         None
     } else {
-        Some(Prepared::new(pattern.as_bytes()))
+        Some(Searcher::new(pattern.as_bytes()))
     };
     let mut count = 0;
     let mut rest = text;
-    while let Some(after) = past_first(rest, pattern, &search) {
+    while let Some(after) = after_first_match(rest, pattern, &search) {
         count += 1;
         rest = after;
     }
     count
 }
 
-// How often the byte stands in the text.
+// How often the byte occurs in the text.
 fn count_byte(byte: u8, text: &str) -> usize
     ensures { result ≡ length (filter (nat_eq byte) text.now) }
 {
@@ -60,15 +60,19 @@ fn count_byte(byte: u8, text: &str) -> usize
     count
 }
 
-// What follows the first place of the pattern, if it has one. The search is the pattern's.
-fn past_first<'a>(text: &'a str, pattern: &str, search: &Option<Prepared<'_>>) -> Option<&'a str>
+// What follows the first occurrence of the pattern, if there is one. The searcher is the pattern's.
+fn after_first_match<'a>(
+    text: &'a str,
+    pattern: &str,
+    search: &Option<Searcher<'_>>,
+) -> Option<&'a str>
     requires some { pattern.now ≢ [] }
     requires prepared { IfSome search.now (λ s. s.finder ≡ pattern.now) }
     ensures { MatchOption result (IsNowhere pattern.now text.now)
         (λ rest. IsPastFirst pattern.now text.now rest.now) }
 {
     let (bytes, wanted) = (text.as_bytes(), pattern.as_bytes());
-    // A place at the front is seen without a search.
+    // A match at the front needs no search.
     if is_prefix(bytes, wanted) {
         return Some(&text[pattern.len()..]);
     }
@@ -76,38 +80,38 @@ fn past_first<'a>(text: &'a str, pattern: &str, search: &Option<Prepared<'_>>) -
         let (_, rest) = text.split_once(pattern)?;
         return Some(rest);
     };
-    let place = search.first_place(bytes, wanted)?;
+    let place = search.find(bytes, wanted)?;
     Some(&text[place + pattern.len()..])
 }
 
-// A search for one pattern, and where in it stands a byte that texts seldom have.
+// A search for one pattern, with the position in it of a byte that is rare in texts.
 #[derive(Drop)]
-struct Prepared<'p> {
+struct Searcher<'p> {
     finder: Finder<'p>,
-    seldom: usize,
+    rare_byte: usize,
 }
 
-impl<'p> Prepared<'p> {
-    fn new(pattern: &'p [u8]) -> Prepared<'p>
+impl<'p> Searcher<'p> {
+    fn new(pattern: &'p [u8]) -> Searcher<'p>
         ensures { result.finder ≡ pattern.now }
     {
-        let seldom = match Pair::new(pattern) {
+        let rare_byte = match Pair::new(pattern) {
             Some(pair) => pair.index1() as usize,
             None => 0,
         };
-        Prepared {
+        Searcher {
             finder: Finder::new(pattern),
-            seldom,
+            rare_byte,
         }
     }
 
-    // The first place of the pattern. Mostly it is where that byte is first seen.
-    fn first_place(&self, text: &[u8], pattern: &[u8]) -> Option<usize>
+    // The first occurrence of the pattern, mostly where that byte first occurs.
+    fn find(&self, text: &[u8], pattern: &[u8]) -> Option<usize>
         requires { self.now.finder ≡ pattern.now }
         ensures { FindsNeedle text.now pattern.now 0 result }
     {
-        if self.seldom < pattern.len() && pattern.len() <= text.len() {
-            let place = memchr(pattern[self.seldom], &text[self.seldom..])?;
+        if self.rare_byte < pattern.len() && pattern.len() <= text.len() {
+            let place = memchr(pattern[self.rare_byte], &text[self.rare_byte..])?;
             if is_prefix(&text[place..], pattern) {
                 return Some(place);
             }

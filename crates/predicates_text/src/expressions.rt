@@ -4,12 +4,9 @@
 //! let word = predicate::str::is_match(alloc, "T[a-z]*".to_owned(alloc)?)?;
 //! ```
 
-mod counted;
-mod found;
+pub mod is_match;
+pub mod match_count;
 mod search;
-
-pub use counted::RegexMatchesPredicate;
-pub use found::{RegexPredicate, is_match};
 
 /// Why a pattern is refused: for its syntax, for its size, or for want of memory.
 pub type RegexError = regex::Error;

@@ -5,23 +5,28 @@
 //! assert!(rt; two.eval(alloc, &"Two or Two".to_owned(alloc)?)?);
 //! ```
 //!
-//! Items are `String`s, and lengths, places and counts are in characters. A text that a maker is
-//! handed is kept, so making a predicate takes no memory, but for `is_match`. Tests against a text
-//! evaluate without memory; `trim`, `normalize`, `from_utf8` and regular expressions may take some.
+//! Items are `String`s, and lengths, positions and counts are in characters. A predicate owns the
+//! text that it is made of, so making one takes no memory, except for `is_match`. Tests against a
+//! text evaluate without memory; `trim`, `normalize`, `from_utf8` and regular expressions may take
+//! some.
 #![tactic(auto)]
 
 mod adapters;
 mod basics;
 pub mod count;
 mod expressions;
-mod node;
-pub mod places;
+mod leaf_case;
+pub mod search;
+pub mod semantics;
 mod views;
 
 pub use adapters::{NormalizedPredicate, PredicateStrExt, TrimPredicate, Utf8Predicate};
-pub use basics::{
-    ContainsPredicate, EndsWithPredicate, IsEmptyPredicate, MatchesPredicate, StartsWithPredicate,
-    contains, ends_with, is_empty, starts_with,
-};
-pub use expressions::{RegexError, RegexMatchesPredicate, RegexPredicate, is_match};
-pub use views::{lines_even, trimmed};
+pub use basics::contains::{ContainsPredicate, contains};
+pub use basics::count::MatchesPredicate;
+pub use basics::ends_with::{EndsWithPredicate, ends_with};
+pub use basics::is_empty::{IsEmptyPredicate, is_empty};
+pub use basics::starts_with::{StartsWithPredicate, starts_with};
+pub use expressions::RegexError;
+pub use expressions::is_match::{RegexPredicate, is_match};
+pub use expressions::match_count::RegexMatchesPredicate;
+pub use views::{lines_even, lines_even_view, trimmed, trimmed_view};

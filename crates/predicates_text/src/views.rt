@@ -4,9 +4,11 @@
 //! let bare = trimmed(alloc, "  a b ")?; // "a b"
 //! let even = lines_even(alloc, "a\r\nb\r")?; // "a\nb\n"
 //! ```
-ghost use Rattle.std.specs.Prelude.{◌≡◌, ◌≢◌, All, IfOk, MatchOption, string_bytes};
+ghost use Rattle.std.specs.Prelude.{◌≡◌, ◌≢◌, All, IfOk, string_bytes};
 ghost use Rattle.std.specs.Str.{chars};
 ghost use Rattle.predicates_text.specs.Views.{trimmed, lines_even, carriage_return};
+ghost use Rattle.predicates_text.specs.ViewFormulas.{IsTrimmedOf, HasEvenLinesOf};
+ghost use Rattle.predicates_text.specs.ViewFormulas.{trimmed_bytes, even_bytes};
 
 use std::alloc::{AllocError, Global};
 
@@ -19,23 +21,31 @@ pub fn trimmed(alloc: Global, text: &str) -> Result<String, AllocError>
     String::from_str(alloc, text.trim())
 }
 
-// The text without the white space at its ends, or none where it has none there.
+/// The text without the white space at its ends: the text itself where it has none there, and
+/// otherwise a copy, which is stored in `copy`.
+#[inline(never)]
 #[tactic(auto, using(crate::proofs::Trimming::copy_of_trim))]
-pub(crate) fn trimmed_copy(alloc: Global, text: &str) -> Result<Option<String>, AllocError>
-    ensures { IfOk result (λ copy. MatchOption copy
-        (chars text.now ≡ trimmed (chars text.now))
-        (λ s. chars (string_bytes s) ≡ trimmed (chars text.now))) }
+pub fn trimmed_view<'a>(
+    alloc: Global,
+    text: &'a String,
+    copy: &'a mut String,
+) -> Result<&'a String, AllocError>
+    ensures view { IfOk result (λ view. IsTrimmedOf text.now view.now) }
+    ensures bytes { IfOk result
+        (λ view. string_bytes view.now ≡ trimmed_bytes (string_bytes text.now)) }
 {
     if let [first, .., last] = text.as_bytes() {
         if first.is_ascii_graphic() && last.is_ascii_graphic() {
-            return Ok(None);
+            return Ok(text);
         }
     }
-    let rest = text.trim();
-    if rest.len() == text.len() {
-        return Ok(None);
+    let whole = text.as_str();
+    let rest = whole.trim();
+    if rest.len() == whole.len() {
+        return Ok(text);
     }
-    Ok(Some(String::from_str(alloc, rest)?))
+    *copy = String::from_str(alloc, rest)?;
+    Ok(copy)
 }
 
 /// The text in which each line ends by one line feed.
@@ -58,14 +68,21 @@ pub fn lines_even(alloc: Global, text: &str) -> Result<String, AllocError>
     Ok(even)
 }
 
-// The text with even line endings, or none where each line already ends so.
-pub(crate) fn lines_even_copy(alloc: Global, text: &str) -> Result<Option<String>, AllocError>
-    ensures { IfOk result (λ copy. MatchOption copy
-        (chars text.now ≡ lines_even (chars text.now))
-        (λ s. chars (string_bytes s) ≡ lines_even (chars text.now))) }
+/// The text in which each line ends by one line feed: the text itself where it has no carriage
+/// return, and otherwise a copy, which is stored in `copy`.
+#[inline(never)]
+pub fn lines_even_view<'a>(
+    alloc: Global,
+    text: &'a String,
+    copy: &'a mut String,
+) -> Result<&'a String, AllocError>
+    ensures view { IfOk result (λ view. HasEvenLinesOf text.now view.now) }
+    ensures bytes { IfOk result
+        (λ view. string_bytes view.now ≡ even_bytes (string_bytes text.now)) }
 {
-    match text.find('\r') {
-        None => Ok(None),
-        Some(_) => Ok(Some(lines_even(alloc, text)?)),
-    }
+    let Some(_) = text.find('\r') else {
+        return Ok(text);
+    };
+    *copy = lines_even(alloc, text)?;
+    Ok(copy)
 }

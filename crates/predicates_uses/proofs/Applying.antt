@@ -2,12 +2,12 @@
 use Rattle.std.proofs.Common.{◌≡◌, ◌<◌, ℕ, suc, List, [], ◌∷◌, ◌++◌, length, take, drop, get_or, string_bytes, refl, subst}
 use Rattle.std.proofs.Math.Seq.{split_at}
 use Rattle.predicates_core.specs.Text.{Text}
-use Rattle.predicates_words.specs.Tokens.{token_of}
-use Rattle.predicates_words.specs.Applied.{IsApplied, IsPattern, operand_count}
-use Rattle.predicates_words.specs.declared.word.Word.{Word}
-use Rattle.predicates_words.specs.declared.fault.WordFault.{WordFault}
-use Rattle.predicates_words.specs.declared.fault.WordFault.TheVariants.{Operand, Pattern, NoMemory}
-use Rattle.predicates_words.specs.declared.check.TextCheck.{TextCheck}
+use Rattle.predicates_explain.specs.Tokens.{token_of}
+use Rattle.predicates_explain.specs.Applied.{IsApplied, IsPattern, operand_count}
+use Rattle.predicates_explain.specs.declared.word.Word.{Word}
+use Rattle.predicates_explain.specs.declared.word_fault.WordFault.{WordFault}
+use Rattle.predicates_explain.specs.declared.word_fault.WordFault.TheVariants.{Operand, Pattern, NoMemory}
+use Rattle.predicates_explain.specs.declared.check.TextCheck.{TextCheck}
 use Rattle.predicates_uses.specs.Applied.{AreApplied, StopsAt, TakesMore, HoldsPattern, IsFaultOf}
 use Rattle.predicates_uses.specs.PolicyFault.{of_word}
 

@@ -2,6 +2,6 @@ pub mod Sifting
 pub mod Scripts
 pub mod Trees
 pub mod SiftingBy
-pub mod Asked
+pub mod BothEvaluated
 pub mod Applying
 pub mod Written

@@ -23,8 +23,8 @@ use Rattle.predicates_core.specs.Leaves.{IsExactly}
 use Rattle.predicates_text.specs.ViewFormulas.{IsDecoded}
 use Rattle.predicates_text.specs.ViewFormulaLaws.{has_decoded_formula}
 use Rattle.predicates_text.specs.Leaves.{starts_text}
-use Rattle.predicates_text.specs.Meant.{IsStartsLeaf}
-use Rattle.predicates_text.specs.MeantLaws.{has_starts}
+use Rattle.predicates_text.specs.LeafFormulas.{IsStartsLeaf}
+use Rattle.predicates_text.specs.LeafFormulaLaws.{has_starts}
 use Rattle.predicates_path.specs.Content.{IsOfContent}
 use Rattle.predicates_path.specs.ContentLaws.{has_content_formula}
 use Rattle.predicates_path.specs.Kind.{tested_kind, follows, found_kind, has_kind, kind_formula}

@@ -1,10 +1,10 @@
 -- What some words make of a stack of checks.
 use Rattle.std.specs.Prelude.{◌≡◌, ◌≢◌, ◌<◌, List, [], ◌∷◌, ◌++◌, length, string_bytes}
 use Rattle.predicates_core.specs.Text.{Text}
-use Rattle.predicates_words.specs.Tokens.{token_of}
-use Rattle.predicates_words.specs.Applied.{IsApplied, IsPattern, operand_count}
-use Rattle.predicates_words.specs.declared.word.Word.{Word}
-use Rattle.predicates_words.specs.declared.check.TextCheck.{TextCheck}
+use Rattle.predicates_explain.specs.Tokens.{token_of}
+use Rattle.predicates_explain.specs.Applied.{IsApplied, IsPattern, operand_count}
+use Rattle.predicates_explain.specs.declared.word.Word.{Word}
+use Rattle.predicates_explain.specs.declared.check.TextCheck.{TextCheck}
 use Rattle.predicates_uses.specs.declared.policy.PolicyFault.{PolicyFault}
 use Rattle.predicates_uses.specs.declared.policy.PolicyFault.TheVariants.{Unknown, Operand, Pattern}
 use Rattle.predicates_uses.specs.declared.policy.PolicyFault.TheVariants.{NotOne, NoMemory}

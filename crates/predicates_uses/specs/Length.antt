@@ -1,6 +1,6 @@
--- The predicate that is asked about a length.
+-- The predicate of a length.
 use Rattle.predicates_uses.specs.declared.length.OfLength.{OfLength}
 
 module _ {P : Type 0} where
-  abbrev pub asked_of : OfLength P → P
-  asked_of p = p.inner
+  abbrev pub inner_of : OfLength P → P
+  inner_of p = p.inner

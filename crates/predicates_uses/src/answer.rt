@@ -2,10 +2,10 @@
 ghost use Rattle.std.specs.Prelude.{refl, []};
 ghost use Rattle.predicates_core.specs.Tree.{empty};
 ghost use Rattle.predicates_core.specs.Leaves.{IsExactly};
-ghost use Rattle.predicates_core.proofs.Leaves.{exactly_text_fits, one_exactly};
+ghost use Rattle.predicates_core.specs.LeafLaws.{exactly_text_fits, one_exactly};
 ghost use Rattle.predicates_uses.specs.Answer.{answer_text, answer_formula};
 
-use predicates::own::showing_case;
+use predicates::custom::showing_case;
 use predicates::reflection::{Case, Child, Parameter, PredicateReflection};
 use predicates::{Predicate, Total};
 use std::alloc::{AllocError, Global};
@@ -40,7 +40,7 @@ impl PredicateReflection for IsTheAnswer {
 impl Predicate<u32> for IsTheAnswer {
     ghost formula = { λ p v. IsExactly (answer_formula v) };
 
-    ghost steady = { λ p v. Unit {0} };
+    ghost infallible = { λ p v. Unit {0} };
 
     ghost text_fits = { λ p v f. exactly_text_fits };
 

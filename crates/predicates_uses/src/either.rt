@@ -1,19 +1,19 @@
 //! A combinator of the caller's own.
-ghost use Rattle.std.specs.Prelude.{◌≡◌, ◌↔◌, [], codes};
+ghost use Rattle.std.specs.Prelude.{◌≡◌, ◌↔◌, [], ◌∷◌, codes, Some, IfOk, string_bytes};
 ghost use Rattle.predicates_core.specs.Label.{plain};
 ghost use Rattle.predicates_core.specs.Formula.{Formula, Or};
 ghost use Rattle.predicates_core.specs.Parts.{two_parts};
 ghost use Rattle.predicates_core.specs.Combined.{IsOr};
+ghost use Rattle.predicates_core.specs.Shows.{IsNode};
 ghost use Rattle.predicates_core.proofs.CombinedLemmas.{or_text_fits, one_or, has_or};
 ghost use Rattle.predicates_uses.specs.Either.{either_text, left_of, right_of};
 
-use predicates::own::{or_case, two_children};
-use predicates::reflection::{Case, Child, Parameter, PredicateReflection};
+use predicates::reflection::{Case, Child, Parameter, PredicateReflection, describe};
 use predicates::{Predicate, Total};
 use std::alloc::{AllocError, Global};
 use std::fmt;
 
-/// Either part holds. The right one is asked only where the left one does not hold.
+/// Either part holds. The right one is evaluated only where the left one does not hold.
 #[derive(Debug, Clone, Copy, PartialEq, Eq, Drop)]
 pub struct Either<P, Q> {
     left: P,
@@ -54,8 +54,42 @@ impl<P: PredicateReflection, Q: PredicateReflection> PredicateReflection for Eit
     }
 
     fn children(&self, alloc: Global) -> Result<Vec<Child>, AllocError> {
-        two_children(alloc, &self.left, &self.right)
+        let mut children = Vec::new(alloc);
+        children.push(describe(alloc, "left", &self.left)?)?;
+        children.push(describe(alloc, "right", &self.right)?)?;
+        Ok(children)
     }
+}
+
+// A node over one part.
+fn over_one(
+    alloc: Global,
+    text: String,
+    outcome: bool,
+    name: &'static str,
+    part: Case,
+) -> Result<Case, AllocError>
+    ensures { IfOk result
+        (IsNode (Some (string_bytes text)) outcome ((name.entry.now, part) ∷ [])) }
+{
+    Case::new(alloc, Some(text), outcome).add_child(name, part)
+}
+
+// A node over both parts.
+fn over_both(
+    alloc: Global,
+    text: String,
+    outcome: bool,
+    left: Case,
+    right: Case,
+) -> Result<Case, AllocError>
+    ensures { IfOk result
+        (IsNode (Some (string_bytes text)) outcome
+        ((codes "left", left) ∷ (codes "right", right) ∷ [])) }
+{
+    Case::new(alloc, Some(text), outcome)
+        .add_child("left", left)?
+        .add_child("right", right)
 }
 
 impl<P: Predicate<Item>, Q: Predicate<Item>, Item> Predicate<Item> for Either<P, Q> {
@@ -66,7 +100,7 @@ impl<P: Predicate<Item>, Q: Predicate<Item>, Item> Predicate<Item> for Either<P,
         (P.formula (left_of p) v)
         (Q.formula (right_of p) v) };
 
-    ghost steady = { λ p v. P.steady (left_of p) v × Q.steady (right_of p) v };
+    ghost infallible = { λ p v. P.infallible (left_of p) v × Q.infallible (right_of p) v };
 
     ghost text_fits = { λ p v f. or_text_fits };
 
@@ -79,13 +113,34 @@ impl<P: Predicate<Item>, Q: Predicate<Item>, Item> Predicate<Item> for Either<P,
         Ok(self.left.eval(alloc, item)? || self.right.eval(alloc, item)?)
     }
 
+    #[tactic(auto, using(predicates_core::proofs::CombinedLemmas::combined))]
     fn find_case(
         &self,
         alloc: Global,
         expected: bool,
         item: &Item,
     ) -> Result<Option<Case>, AllocError> {
-        or_case(alloc, self, &self.left, &self.right, expected, item)
+        match self.left.find_case(alloc, expected, item)? {
+            None if !expected => Ok(None),
+            None => {
+                let Some(right) = self.right.find_case(alloc, expected, item)? else {
+                    return Ok(None);
+                };
+                let text = self.to_string(alloc)?;
+                Ok(Some(over_one(alloc, text, expected, "right", right)?))
+            }
+            Some(left) if expected => {
+                let text = self.to_string(alloc)?;
+                Ok(Some(over_one(alloc, text, expected, "left", left)?))
+            }
+            Some(left) => {
+                let Some(right) = self.right.find_case(alloc, expected, item)? else {
+                    return Ok(None);
+                };
+                let text = self.to_string(alloc)?;
+                Ok(Some(over_both(alloc, text, expected, left, right)?))
+            }
+        }
     }
 }
 
@@ -102,7 +157,7 @@ impl<P: Total<Item>, Q: Total<Item>, Item> Total<Item> for Either<P, Q> {
         (Q.has_formula (right_of p) v) };
 }
 
-/// What `Either` means: its formulas are `Or` over a formula of each part. It may be asked where
+/// What `Either` means: its formulas are `Or` over a formula of each part. It may be evaluated where
 /// its parts may, and takes no memory where they take none.
 pub fn alternatives<P: Predicate<Item>, Q: Predicate<Item>, Item>(
     either: &Either<P, Q>,
@@ -116,8 +171,8 @@ pub fn alternatives<P: Predicate<Item>, Q: Predicate<Item>, Item>(
         f }
     ensures lawful { ⟦<Either<P, Q> as Predicate<Item>>⟧.lawful either.now
         ↔ P.lawful (left_of either.now) × Q.lawful (right_of either.now) }
-    ensures steady { ⟦<Either<P, Q> as Predicate<Item>>⟧.steady either.now item.now
-        ↔ P.steady (left_of either.now) item.now × Q.steady (right_of either.now) item.now }
+    ensures infallible { ⟦<Either<P, Q> as Predicate<Item>>⟧.infallible either.now item.now
+        ↔ P.infallible (left_of either.now) item.now × Q.infallible (right_of either.now) item.now }
     ensures values { ⟦<Either<P, Q> as PredicateReflection>⟧.parameters_of either.now ≡ [] }
     ensures parts { ⟦<Either<P, Q> as PredicateReflection>⟧.children_of either.now ≡ two_parts
         (codes "left") (P.output (left_of either.now))

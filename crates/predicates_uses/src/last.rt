@@ -1,23 +1,25 @@
-//! A combinator of the caller's own that asks its right part first.
+//! A custom combinator that evaluates its right part first.
 ghost use Rattle.std.specs.Prelude.{◌≡◌, ◌==◌, ◌||◌, [], Ok, codes, nat_lt};
+ghost use Rattle.predicates_core.specs.Label.{plain};
+ghost use Rattle.predicates_core.specs.Formula.{Or};
 ghost use Rattle.predicates_core.specs.Parts.{two_parts};
 ghost use Rattle.predicates_core.specs.Combined.{IsOr};
-ghost use Rattle.predicates_core.proofs.CombinedLemmas.{or_text_fits, one_or};
+ghost use Rattle.predicates_core.proofs.CombinedLemmas.{or_text_fits, one_or, has_or};
 ghost use Rattle.predicates_uses.specs.Either.{either_text};
 ghost use Rattle.predicates_uses.specs.Last.{left_of, right_of};
 
 use crate::IsTheAnswer;
-use predicates::Predicate;
-use predicates::node::{over_both, over_one};
+use predicates::custom::two_children;
+use predicates::node::{binary_node, unary_node};
 use predicates::ord::lt;
-use predicates::own::two_children;
 use predicates::reflection::{Case, Child, Parameter, PredicateReflection};
+use predicates::{Predicate, Total};
 use std::alloc::{AllocError, Global};
 use std::fmt;
 
-/// Either part holds. The right one is asked first, and is shown where the left one does not hold.
-// No contract speaks of the order in which parts are asked: an answer is the same in each. What is
-// shown is pinned, and the first reason needs the left part's answer.
+/// Either part holds. The right one is evaluated first, and is shown where the left one does not hold.
+// No contract speaks of the order in which parts are evaluated: the answer is the same in each. What
+// is shown is pinned, and the first reason needs the left part's answer.
 #[derive(Debug, Clone, Copy, PartialEq, Eq, Drop)]
 pub struct LastFirst<P, Q> {
     left: P,
@@ -70,7 +72,7 @@ impl<P: Predicate<Item>, Q: Predicate<Item>, Item> Predicate<Item> for LastFirst
         (P.formula (left_of p) v)
         (Q.formula (right_of p) v) };
 
-    ghost steady = { λ p v. P.steady (left_of p) v × Q.steady (right_of p) v };
+    ghost infallible = { λ p v. P.infallible (left_of p) v × Q.infallible (right_of p) v };
 
     ghost text_fits = { λ p v f. or_text_fits };
 
@@ -78,7 +80,7 @@ impl<P: Predicate<Item>, Q: Predicate<Item>, Item> Predicate<Item> for LastFirst
         (λ x y. P.one_formula (left_of p) v x y lawful.0)
         (λ x y. Q.one_formula (right_of p) v x y lawful.1) };
 
-    #[tactic(auto, using(crate::proofs::Asked::asked))]
+    #[tactic(auto, using(crate::proofs::BothEvaluated::both_evaluated))]
     fn eval(&self, alloc: Global, item: &Item) -> Result<bool, AllocError> {
         let right = self.right.eval(alloc, item)?;
         let left = self.left.eval(alloc, item)?;
@@ -100,21 +102,34 @@ impl<P: Predicate<Item>, Q: Predicate<Item>, Item> Predicate<Item> for LastFirst
                     return Ok(None);
                 };
                 let text = self.to_string(alloc)?;
-                Ok(Some(over_one(alloc, text, expected, "right", right)?))
+                Ok(Some(unary_node(alloc, text, expected, "right", right)?))
             }
             Some(left) if expected => {
                 let text = self.to_string(alloc)?;
-                Ok(Some(over_one(alloc, text, expected, "left", left)?))
+                Ok(Some(unary_node(alloc, text, expected, "left", left)?))
             }
             Some(left) => {
                 let Some(right) = right else {
                     return Ok(None);
                 };
                 let text = self.to_string(alloc)?;
-                Ok(Some(over_both(alloc, text, expected, left, right)?))
+                Ok(Some(binary_node(alloc, text, expected, left, right)?))
             }
         }
     }
+}
+
+impl<P: Total<Item>, Q: Total<Item>, Item> Total<Item> for LastFirst<P, Q> {
+    ghost formula_of = { λ p v. Or
+        (plain (either_text (P.output (left_of p)) (Q.output (right_of p))))
+        (P.formula_of (left_of p) v)
+        (Q.formula_of (right_of p) v) };
+
+    ghost always_lawful = { λ p. (P.always_lawful (left_of p), Q.always_lawful (right_of p)) };
+
+    ghost has_formula = { λ p v. has_or
+        (P.has_formula (left_of p) v)
+        (Q.has_formula (right_of p) v) };
 }
 
 /// Whether the number is 42 or below 10. It takes no memory.

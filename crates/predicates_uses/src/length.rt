@@ -1,6 +1,6 @@
 //! An adapter of the caller's own.
 ghost use Rattle.std.specs.Prelude.{◌≡◌, length, string_bytes};
-ghost use Rattle.predicates_uses.specs.Length.{asked_of};
+ghost use Rattle.predicates_uses.specs.Length.{inner_of};
 
 use predicates::reflection::{Case, Child, Parameter, PredicateReflection};
 use predicates::{Predicate, ReadsContent, Total};
@@ -16,14 +16,14 @@ pub struct OfLength<P> {
 impl<P> OfLength<P> {
     /// The predicate of a text's length.
     pub fn new(inner: P) -> OfLength<P>
-        ensures { asked_of result ≡ inner }
+        ensures { inner_of result ≡ inner }
     {
         OfLength { inner }
     }
 }
 
 impl<P: fmt::Display> fmt::Display for OfLength<P> {
-    ghost output = { λ p. P.output (asked_of p) };
+    ghost output = { λ p. P.output (inner_of p) };
 
     fn fmt<W: fmt::Write>(&self, f: &mut fmt::Formatter<W>) -> fmt::Result {
         let inner = &self.inner;
@@ -32,9 +32,9 @@ impl<P: fmt::Display> fmt::Display for OfLength<P> {
 }
 
 impl<P: PredicateReflection> PredicateReflection for OfLength<P> {
-    ghost parameters_of = { λ p. P.parameters_of (asked_of p) };
+    ghost parameters_of = { λ p. P.parameters_of (inner_of p) };
 
-    ghost children_of = { λ p. P.children_of (asked_of p) };
+    ghost children_of = { λ p. P.children_of (inner_of p) };
 
     fn parameters(&self, alloc: Global) -> Result<Vec<Parameter>, AllocError> {
         self.inner.parameters(alloc)
@@ -46,15 +46,15 @@ impl<P: PredicateReflection> PredicateReflection for OfLength<P> {
 }
 
 impl<P: Predicate<usize>> Predicate<String> for OfLength<P> {
-    ghost lawful = { λ p. P.lawful (asked_of p) };
+    ghost lawful = { λ p. P.lawful (inner_of p) };
 
-    ghost formula = { λ p v. P.formula (asked_of p) (length (string_bytes v)) };
+    ghost formula = { λ p v. P.formula (inner_of p) (length (string_bytes v)) };
 
-    ghost steady = { λ p v. P.steady (asked_of p) (length (string_bytes v)) };
+    ghost infallible = { λ p v. P.infallible (inner_of p) (length (string_bytes v)) };
 
-    ghost text_fits = { λ p v f. P.text_fits (asked_of p) (length (string_bytes v)) f };
+    ghost text_fits = { λ p v f. P.text_fits (inner_of p) (length (string_bytes v)) f };
 
-    ghost one_formula = { λ p v f g. P.one_formula (asked_of p) (length (string_bytes v)) f g };
+    ghost one_formula = { λ p v f g. P.one_formula (inner_of p) (length (string_bytes v)) f g };
 
     fn eval(&self, alloc: Global, item: &String) -> Result<bool, AllocError> {
         self.inner.eval(alloc, &item.len())
@@ -71,9 +71,9 @@ impl<P: Predicate<usize>> Predicate<String> for OfLength<P> {
 }
 
 impl<P: Total<usize>> ReadsContent<String> for OfLength<P> {
-    ghost content_formula = { λ p bytes. P.formula_of (asked_of p) (length bytes) };
+    ghost content_formula = { λ p bytes. P.formula_of (inner_of p) (length bytes) };
 
-    ghost always_lawful = { λ p. P.always_lawful (asked_of p) };
+    ghost always_lawful = { λ p. P.always_lawful (inner_of p) };
 
-    ghost has_formula = { λ p v. P.has_formula (asked_of p) (length (string_bytes v)) };
+    ghost has_formula = { λ p v. P.has_formula (inner_of p) (length (string_bytes v)) };
 }

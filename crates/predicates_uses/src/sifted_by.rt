@@ -1,4 +1,4 @@
-//! The filter, by any predicate that may be asked.
+//! The filter, by any predicate that may be evaluated.
 ghost use Rattle.std.specs.Prelude.{IfOk};
 ghost use Rattle.predicates_uses.specs.Sifted.{IsSiftedBy};
 
@@ -6,7 +6,7 @@ use crate::{Rejection, Sifted};
 use predicates::Predicate;
 use std::alloc::{AllocError, Global};
 
-/// Sifts by any predicate that may be asked, also one with a stored function.
+/// Sifts by any predicate that may be evaluated, also one with a stored function.
 #[tactic(auto, using(crate::proofs::SiftingBy::sifting_by))]
 pub fn sift_by<P: Predicate<T>, T: Drop>(
     alloc: Global,

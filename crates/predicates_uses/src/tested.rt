@@ -2,7 +2,7 @@
 ghost use Rattle.std.specs.Prelude.{◌==◌};
 ghost use Rattle.predicates_uses.specs.Answer.{answer_text};
 
-use predicates::own::Test;
+use predicates::custom::Test;
 use std::fmt;
 
 /// The test of 42; `leaf(FortyTwo)` is a predicate.

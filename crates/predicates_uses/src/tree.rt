@@ -33,7 +33,7 @@ pub fn expect<R: Files + AllocGlobal, P: Drop>(
     ensures consistent { IfOk result (λ expectation. IsConsistent expectation.found) }
     ensures check { IfOk result (λ expectation. expectation.check ≡ check) }
 {
-    let found = Snapshot::take(rt, path)?;
+    let found = Snapshot::take(rt, rt.alloc(), path)?;
     Ok(Expectation { found, check })
 }
 
@@ -54,7 +54,7 @@ fn failure_at<P: Total<Snapshot>>(
     Ok(Some(Failure { path, lines }))
 }
 
-/// One failure for each expectation that does not hold, in their order. It asks no file system:
+/// One failure for each expectation that does not hold, in their order. It reads no file system:
 /// what stood at the paths was taken before.
 #[tactic(auto, using(crate::proofs::Trees::trees))]
 pub fn check_tree<P: Total<Snapshot>>(

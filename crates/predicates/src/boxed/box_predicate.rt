@@ -76,7 +76,7 @@ fn eval_held(
 ) -> Result<bool, AllocError>
     ensures truth { IfOk result
         (HasTruth (IsExactly (text_formula held.now (string_bytes item.now)))) }
-    ensures steady { text_steady held.now item.now → IsOk result }
+    ensures infallible { text_infallible held.now item.now → IsOk result }
 {
     held.text_eval(alloc, item)
 }
@@ -99,7 +99,7 @@ impl Predicate<String> for BoxPredicate {
         (kept_text p)
         ((TextPredicate-box (held_by p)).text_formula (held_by p).value (string_bytes v)) };
 
-    ghost steady = { λ p v. (TextPredicate-box (held_by p)).text_steady (held_by p).value v };
+    ghost infallible = { λ p v. (TextPredicate-box (held_by p)).text_infallible (held_by p).value v };
 
     ghost text_fits = { λ p v f. printed_text_fits };
 

@@ -22,7 +22,7 @@ pub trait TextPredicate: Drop {
     ghost text_formula: { Self → List ℕ → Formula };
 
     // On the text `text_eval` takes no memory.
-    ghost text_steady: { Self → Text → Type 0 };
+    ghost text_infallible: { Self → Text → Type 0 };
 
     // The printed text, where its bytes are stated.
     ghost text_output: { Self → Option (List ℕ) };
@@ -37,7 +37,7 @@ pub trait TextPredicate: Drop {
     fn text_eval(&self, alloc: Global, item: &String) -> Result<bool, AllocError>
         ensures truth { IfOk result
             (HasTruth (IsExactly (text_formula self.now (string_bytes item.now)))) }
-        ensures steady { text_steady self.now item.now → IsOk result };
+        ensures infallible { text_infallible self.now item.now → IsOk result };
 
     /// A case that explains the verdict where it is the expected one, and none where it is not;
     /// refused only where memory is.
@@ -69,7 +69,7 @@ pub trait TextPredicate: Drop {
 impl<P: ReadsContent<String> + Drop> TextPredicate for P {
     ghost text_formula = { P.content_formula };
 
-    ghost text_steady = { P.steady };
+    ghost text_infallible = { P.infallible };
 
     ghost text_output = { P.output };
 

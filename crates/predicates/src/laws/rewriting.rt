@@ -14,7 +14,7 @@ ghost use Rattle.predicates_item.specs.Makers.{equal_to, unequal_to, less_than, 
 ghost use Rattle.predicates_item.specs.Makers.{greater_than};
 ghost use Rattle.predicates_item.specs.Members.{has_equal, first_of_equals};
 ghost use Rattle.predicates.specs.Laws.{opposite, twice_opposite, under_name, both_of, one_of};
-ghost use Rattle.predicates.specs.Laws.{just_one_of, AreOpposite, HasAtMostOneCase, HasOneAnswer};
+ghost use Rattle.predicates.specs.Laws.{exactly_one_of, AreOpposite, HasAtMostOneCase, HasOneAnswer};
 
 use predicates_core::Predicate;
 use predicates_item::ord::{EqPredicate, OrdPredicate};
@@ -66,8 +66,8 @@ pub fn exclusive_or<P: Predicate<Item>, Q: Predicate<Item>, Item>(left: &P, righ
     ensures { (f g : Formula) → P.formula left.now item.now f → Q.formula right.now item.now g
         → AreAlike
         (opposite (infix_text (codes " ^ ") (P.output left.now) (Q.output right.now))
-        (just_one_of (codes " ^ ") (P.output left.now) (Q.output right.now) f g))
-        (just_one_of (codes " ^ ") (not_text (P.output left.now)) (Q.output right.now)
+        (exactly_one_of (codes " ^ ") (P.output left.now) (Q.output right.now) f g))
+        (exactly_one_of (codes " ^ ") (not_text (P.output left.now)) (Q.output right.now)
         (opposite (P.output left.now) f) g) }
 {}
 

@@ -6,8 +6,8 @@ ghost use Rattle.predicates_core.specs.Parts.{two_parts};
 ghost use Rattle.predicates_core.specs.Combined.{infix_text, IsAnd};
 ghost use Rattle.predicates_core.proofs.CombinedLemmas.{and_text_fits, one_and, has_and};
 
-use crate::own::and_case;
-use predicates_core::reflection::{Case, Child, Parameter, PredicateReflection, describe};
+use predicates_core::custom::{and_case, two_children};
+use predicates_core::reflection::{Case, Child, Parameter, PredicateReflection};
 use predicates_core::{Content, Predicate, ReadsContent, Total};
 use std::alloc::{AllocError, Global};
 use std::fmt;
@@ -24,7 +24,7 @@ pub struct AndPredicate<M1, M2, Item> {
 impl<M1, M2, Item> AndPredicate<M1, M2, Item> {
     ghost use Rattle.predicates_boolean.specs.And.{left_of, right_of};
 
-    /// Both parts; the left one is asked first.
+    /// Both parts; the left one is evaluated first.
     pub fn new(a: M1, b: M2) -> AndPredicate<M1, M2, Item>
         ensures left { left_of result ≡ a }
         ensures right { right_of result ≡ b }
@@ -60,10 +60,7 @@ impl<M1: PredicateReflection, M2: PredicateReflection, Item> PredicateReflection
     }
 
     fn children(&self, alloc: Global) -> Result<Vec<Child>, AllocError> {
-        let mut children = Vec::new(alloc);
-        children.push(describe(alloc, "left", &self.a)?)?;
-        children.push(describe(alloc, "right", &self.b)?)?;
-        Ok(children)
+        two_children(alloc, &self.a, &self.b)
     }
 }
 
@@ -76,7 +73,7 @@ impl<M1: Predicate<Item>, M2: Predicate<Item>, Item> Predicate<Item>
         (M1.formula p.a v)
         (M2.formula p.b v) };
 
-    ghost steady = { λ p v. M1.steady p.a v × M2.steady p.b v };
+    ghost infallible = { λ p v. M1.infallible p.a v × M2.infallible p.b v };
 
     ghost text_fits = { λ p v f. and_text_fits };
 
@@ -89,7 +86,7 @@ impl<M1: Predicate<Item>, M2: Predicate<Item>, Item> Predicate<Item>
         Ok(self.a.eval(alloc, item)? && self.b.eval(alloc, item)?)
     }
 
-    /// `eval` is asked first, so that no case of a part is made in vain. So this asks each part at
+    /// Evaluates first, so that no part makes a case that is thrown away. Each part is evaluated at
     /// most twice: once by `eval`, and once for its case.
     fn find_case(
         &self,

@@ -6,7 +6,7 @@ ghost use Rattle.predicates_core.specs.Parts.{part};
 ghost use Rattle.predicates_core.specs.Combined.{not_text, IsNot};
 ghost use Rattle.predicates_core.proofs.CombinedLemmas.{not_text_fits, one_not, has_not};
 
-use crate::own::not_case;
+use predicates_core::custom::not_case;
 use predicates_core::reflection::{Case, Child, Parameter, PredicateReflection, describe};
 use predicates_core::{Content, Predicate, ReadsContent, Total};
 use std::alloc::{AllocError, Global};
@@ -65,7 +65,7 @@ impl<M: Predicate<Item>, Item> Predicate<Item> for NotPredicate<M, Item> {
 
     ghost formula = { λ p v. IsNot (not_text (M.output p.inner)) (M.formula p.inner v) };
 
-    ghost steady = { λ p v. M.steady p.inner v };
+    ghost infallible = { λ p v. M.infallible p.inner v };
 
     ghost text_fits = { λ p v f. not_text_fits };
 

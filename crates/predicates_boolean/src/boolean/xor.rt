@@ -6,8 +6,8 @@ ghost use Rattle.predicates_core.specs.Parts.{two_parts};
 ghost use Rattle.predicates_core.specs.Combined.{infix_text, IsXor};
 ghost use Rattle.predicates_core.proofs.CombinedLemmas.{xor_text_fits, one_xor, has_xor};
 
-use crate::own::xor_case;
-use predicates_core::reflection::{Case, Child, Parameter, PredicateReflection, describe};
+use predicates_core::custom::{two_children, xor_case};
+use predicates_core::reflection::{Case, Child, Parameter, PredicateReflection};
 use predicates_core::{Content, Predicate, ReadsContent, Total};
 use std::alloc::{AllocError, Global};
 use std::fmt;
@@ -24,7 +24,7 @@ pub struct XorPredicate<M1, M2, Item> {
 impl<M1, M2, Item> XorPredicate<M1, M2, Item> {
     ghost use Rattle.predicates_boolean.specs.Xor.{left_of, right_of};
 
-    /// Exactly one part; both are asked, the left one first.
+    /// Exactly one part; both are evaluated, the left one first.
     pub fn new(a: M1, b: M2) -> XorPredicate<M1, M2, Item>
         ensures left { left_of result ≡ a }
         ensures right { right_of result ≡ b }
@@ -60,10 +60,7 @@ impl<M1: PredicateReflection, M2: PredicateReflection, Item> PredicateReflection
     }
 
     fn children(&self, alloc: Global) -> Result<Vec<Child>, AllocError> {
-        let mut children = Vec::new(alloc);
-        children.push(describe(alloc, "left", &self.a)?)?;
-        children.push(describe(alloc, "right", &self.b)?)?;
-        Ok(children)
+        two_children(alloc, &self.a, &self.b)
     }
 }
 
@@ -76,7 +73,7 @@ impl<M1: Predicate<Item>, M2: Predicate<Item>, Item> Predicate<Item>
         (M1.formula p.a v)
         (M2.formula p.b v) };
 
-    ghost steady = { λ p v. M1.steady p.a v × M2.steady p.b v };
+    ghost infallible = { λ p v. M1.infallible p.a v × M2.infallible p.b v };
 
     ghost text_fits = { λ p v f. xor_text_fits };
 

@@ -233,3 +233,25 @@ impl<'a> Iterator for CaseChildren<'a> {
         })
     }
 }
+
+#[cfg(test)]
+mod tests {
+    use super::*;
+    use std::test::Fail;
+
+    // `((true && true) || true)`: the root over three nodes in one list, each with its subtree's size.
+    #[test]
+    fn sizes_of_the_flat_list(rt: HostRuntime) -> Result<(), Fail> {
+        let alloc = rt.alloc();
+        let both = Case::new(alloc, None, true)
+            .add_child("left", Case::new(alloc, None, true))?
+            .add_child("right", Case::new(alloc, None, true))?;
+        let case = Case::new(alloc, None, true).add_child("left", both)?;
+        let mut sizes = Vec::new(alloc);
+        for entry in case.below.as_slice() {
+            sizes.push(entry.size)?;
+        }
+        assert_eq!(rt; sizes.as_slice(), [3usize, 1, 1].as_slice());
+        Ok(())
+    }
+}

@@ -1,13 +1,14 @@
 //! What the program does for the words of its command line.
 ghost use Rattle.std.specs.Prelude.{◌≡◌, ◌↔◌, IsTrue};
-ghost use Rattle.predicates_explain.specs.Ends.{end_of_ran, EndsBy, HasEnded};
-ghost use Rattle.predicates_explain.specs.Typed.{typed};
+ghost use Rattle.std.specs.Io.KnownBytes.{Appends};
+ghost use Rattle.predicates_explain.specs.Ends.{end_of_ran, message_of, EndsBy};
+ghost use Rattle.predicates_explain.specs.CommandLine.{typed};
 
-use super::end::{End, Ended, end_of};
+use super::end::{End, end_of};
 use super::read::{read_bounds, read_check};
 use crate::between::run_between;
-use crate::fault::RunFault;
-use crate::text::run_check;
+use crate::run_fault::RunFault;
+use crate::text::run_text;
 use std::alloc::Global;
 use std::io::{BufRead, Write};
 
@@ -45,7 +46,7 @@ fn run_words<R: BufRead, W: Write>(
             None => End::Usage,
         },
         [name, tokens @ ..] if is_name(name, "text") => match read_check(alloc, tokens) {
-            Ok(check) => end_of_run(run_check(alloc, &check, input, output)),
+            Ok(check) => end_of_run(run_text(alloc, &check, input, output)),
             Err(end) => end,
         },
         _ => End::Usage,
@@ -53,19 +54,25 @@ fn run_words<R: BufRead, W: Write>(
 }
 
 /// Does what the words after the program's name ask for: answers the lines of the input on the
-/// output, and writes to `messages` what standard error is told. A word that is no text is a wrong
-/// word. Wrong words and refused patterns leave the input and the output untouched.
+/// output, writes the message of its end to `messages`, and says how it ended and whether the
+/// message was written whole.
+///
+/// A word that is no text is a wrong word. Wrong words and refused patterns leave the input and the
+/// output untouched.
 pub fn explain_words<R: BufRead, W: Write, M: Write>(
     alloc: Global,
     words: &[Vec<u8>],
     input: &mut R,
     output: &mut W,
     messages: &mut M,
-) -> Ended
-    ensures { HasEnded (typed words.now) ((input.new ≡ input.old) × (output.new ≡ output.old))
+) -> (End, bool)
+    ensures end { EndsBy (typed words.now) ((input.new ≡ input.old) × (output.new ≡ output.old))
         (R.remaining input.old) (R.remaining input.new)
-        (W.contents output.old) (W.contents output.new)
-        (M.contents messages.old) (M.contents messages.new) result }
+        (W.contents output.old) (W.contents output.new) result.0 }
+    ensures message { IsTrue result.1
+        → Appends (M.contents messages.old) (M.contents messages.new) (message_of result.0) }
 {
-    run_words(alloc, words, input, output).tell(messages)
+    let end = run_words(alloc, words, input, output);
+    let message_written = end.report(messages);
+    (end, message_written)
 }

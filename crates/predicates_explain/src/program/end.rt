@@ -1,35 +1,28 @@
 //! How a call of the program ends.
-ghost use Rattle.std.specs.Prelude.{◌≡◌};
+ghost use Rattle.std.specs.Prelude.{◌≡◌, IsTrue};
+ghost use Rattle.std.specs.Io.KnownBytes.{Appends};
 ghost use Rattle.predicates_explain.specs.declared.program.end.End.TheVariants.{NoMemory};
-ghost use Rattle.predicates_explain.specs.Ends.{status_of, message_of, HasTold, end_of_fault};
+ghost use Rattle.predicates_explain.specs.Ends.{status_of, message_of, end_of_fault};
 
-use crate::fault::RunFault;
+use crate::run_fault::RunFault;
 use std::alloc::AllocError;
 use std::io::Write;
 
-// How a call of the program ends.
-#[derive(Clone, Copy)]
-pub(crate) enum End {
-    // Every line was an item.
+/// How a call of the program ends.
+#[derive(Clone, Copy, Debug, PartialEq, Eq)]
+pub enum End {
+    /// Every line was an item.
     AllItems,
-    // Some line was not.
+    /// Some line was not.
     NotAllItems,
-    // The words are wrong.
+    /// The words are wrong.
     Usage,
-    // A regular expression was refused.
+    /// A regular expression was refused.
     PatternRefused,
+    /// Memory was refused.
     NoMemory,
-    // Reading or writing failed.
+    /// Reading or writing failed.
     InputOrOutput,
-}
-
-/// How a call of the program ended.
-#[derive(Clone, Copy)]
-pub struct Ended {
-    /// The status of the process.
-    pub status: u8,
-    /// The message was written whole.
-    pub told: bool,
 }
 
 impl From<AllocError> for End {
@@ -41,7 +34,8 @@ impl From<AllocError> for End {
 }
 
 impl End {
-    fn status(self) -> u8
+    /// The status of the process.
+    pub fn status(self) -> u8
         ensures { result ≡ status_of self }
     {
         match self {
@@ -52,6 +46,7 @@ impl End {
         }
     }
 
+    // What standard error says of it.
     fn message(self) -> &'static str
         ensures { result.now ≡ message_of self }
     {
@@ -64,19 +59,16 @@ impl End {
         }
     }
 
-    // Writes the message of this end.
-    pub(crate) fn tell<M: Write>(self, messages: &mut M) -> Ended
-        ensures { HasTold self (M.contents messages.old) (M.contents messages.new) result }
+    // Writes the message, and says whether it was written whole.
+    pub(crate) fn report<M: Write>(self, messages: &mut M) -> bool
+        ensures { IsTrue result
+            → Appends (M.contents messages.old) (M.contents messages.new) (message_of self) }
     {
-        let told = messages.write_all(self.message().as_bytes()).is_ok();
-        Ended {
-            status: self.status(),
-            told,
-        }
+        messages.write_all(self.message().as_bytes()).is_ok()
     }
 }
 
-// What a run that gave up comes to.
+// The end of a run that had a fault.
 pub(crate) fn end_of(fault: RunFault) -> End
     ensures { result ≡ end_of_fault fault }
 {

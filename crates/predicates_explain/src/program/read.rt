@@ -1,15 +1,18 @@
 //! What the words of a command line ask for.
 ghost use Rattle.std.specs.Prelude.{◌≡◌, ◌≢◌, ◌↔◌, ℤ, [], ◌∷◌, IfOk, IfErr, IsTrue, OnOk};
 ghost use Rattle.std.specs.Prelude.{MatchOption};
-ghost use Rattle.predicates_words.specs.declared.word.Word.{Word};
-ghost use Rattle.predicates_words.specs.Tokens.{token_of};
+ghost use Rattle.predicates_explain.specs.declared.word.Word.{Word};
+ghost use Rattle.predicates_explain.specs.Tokens.{token_of};
 ghost use Rattle.predicates_explain.specs.Number.{Reads};
 ghost use Rattle.predicates_explain.specs.Ends.{IsTokenFault, HasTokensFault};
-ghost use Rattle.predicates_explain.specs.Typed.{typed, AreNumbers, Makes};
+ghost use Rattle.predicates_explain.specs.CommandLine.{typed, AreNumbers, Makes};
 
 use super::end::End;
-use crate::numeral::number;
-use predicates_words::{TextCheck, Word, WordFault, apply_word, read_word};
+use crate::apply::apply_word;
+use crate::check::TextCheck;
+use crate::parse_number::number;
+use crate::word::{Word, read_word};
+use crate::word_fault::WordFault;
 use std::alloc::{AllocError, Global};
 use std::str;
 

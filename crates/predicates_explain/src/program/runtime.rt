@@ -1,6 +1,6 @@
 //! The program over what its process is given.
 use super::answer::explain_words;
-use super::end::{End, Ended};
+use super::end::End;
 use std::alloc::{AllocError, Global};
 use std::env::FillError;
 use std::io::{BufReader, BufWriter, Error, ErrorKind, Write};
@@ -9,11 +9,11 @@ use std::{io, str};
 
 // Standard error, as a place for texts.
 #[derive(Drop)]
-struct Messages<'a, E> {
+struct Stderr<'a, E> {
     rt: &'a E,
 }
 
-impl<E: Eprint> Write for Messages<'_, E> {
+impl<E: Eprint> Write for Stderr<'_, E> {
     fn write(&mut self, buf: &[u8]) -> io::Result<usize> {
         let Ok(text) = str::from_utf8(buf) else {
             return Err(Error::from(ErrorKind::InvalidData));
@@ -61,21 +61,25 @@ fn read_words<E: Env>(alloc: Global, rt: &E) -> Result<Vec<Vec<u8>>, AllocError>
 fn answer<E: Env + Input + Print + AllocGlobal, M: Write>(
     rt: &E,
     messages: &mut M,
-) -> io::Result<Ended> {
+) -> io::Result<End> {
     let alloc = rt.alloc();
     let words = read_words(alloc, rt)?;
     let mut input = BufReader::new(alloc, rt.reader())?;
     let mut output = BufWriter::new(alloc, io::writer(rt))?;
-    Ok(explain_words(alloc, &words, &mut input, &mut output, messages))
+    Ok(explain_words(alloc, &words, &mut input, &mut output, messages).0)
 }
 
 /// Runs the program on the words, the streams and the memory of a process, and answers the
 /// process's status: 0 where every line was an item, 1 where some was not, 2 for wrong words and
 /// refused patterns, 3 for want of memory and for faults of the streams.
 pub fn run_program<E: Env + Input + Print + Eprint + AllocGlobal>(rt: &E) -> u8 {
-    let mut messages = Messages { rt };
-    match answer(rt, &mut messages) {
-        Ok(ended) => ended.status,
-        Err(_) => End::NoMemory.tell(&mut messages).status,
-    }
+    let mut messages = Stderr { rt };
+    let end = match answer(rt, &mut messages) {
+        Ok(end) => end,
+        Err(_) => {
+            End::NoMemory.report(&mut messages);
+            End::NoMemory
+        }
+    };
+    end.status()
 }

@@ -4,12 +4,12 @@ ghost use Rattle.std.specs.Iterator.{IsFiniteIterable};
 ghost use Rattle.predicates_core.specs.Label.{value_of};
 ghost use Rattle.predicates_core.specs.Tree.{empty};
 ghost use Rattle.predicates_core.specs.Leaves.{IsExactly};
-ghost use Rattle.predicates_core.proofs.Leaves.{exactly_text_fits, one_exactly};
+ghost use Rattle.predicates_core.specs.LeafLaws.{exactly_text_fits, one_exactly};
 ghost use Rattle.predicates_item.specs.Members.{KeepsFirst, has_equal, member_text, member_leaf};
 ghost use Rattle.predicates_item.specs.HashableIn.{members_of};
 
 use indexmap::IndexSet;
-use predicates_core::node::{alone, printed, showing_item};
+use predicates_core::custom::showing_case;
 use predicates_core::reflection::{Case, Child, Parameter, PredicateReflection};
 use predicates_core::{Predicate, ReadsContent, Total};
 use std::alloc::{AllocError, Global};
@@ -76,7 +76,7 @@ impl<T: fmt::Debug + Eq + Hash> Predicate<T> for HashableInPredicate<T> {
     ghost formula = { λ p v. IsExactly
         (member_leaf (T.debug_output v) (has_equal T.eq p.members.keys v)) };
 
-    ghost steady = { λ p v. Unit {0} };
+    ghost infallible = { λ p v. Unit {0} };
 
     ghost text_fits = { λ p v f. exactly_text_fits };
 
@@ -87,18 +87,13 @@ impl<T: fmt::Debug + Eq + Hash> Predicate<T> for HashableInPredicate<T> {
         Ok(self.holds(item))
     }
 
-    #[tactic(auto, using(predicates_core::proofs::Leaves::leaves))]
     fn find_case(
         &self,
         alloc: Global,
         expected: bool,
         item: &T,
     ) -> Result<Option<Case>, AllocError> {
-        if self.eval(alloc, item)? != expected {
-            return Ok(None);
-        }
-        let case = alone(alloc, printed(alloc, self)?, expected);
-        Ok(Some(showing_item(alloc, case, item)?))
+        showing_case(alloc, self, self.holds(item), expected, item)
     }
 }
 

@@ -5,20 +5,21 @@ ghost use Rattle.std.specs.List.Sorted.{IsPermutation, IsSorted};
 ghost use Rattle.predicates_core.specs.Label.{value_of};
 ghost use Rattle.predicates_core.specs.Tree.{empty};
 ghost use Rattle.predicates_core.specs.Leaves.{IsExactly};
-ghost use Rattle.predicates_core.proofs.Leaves.{exactly_text_fits, one_exactly};
+ghost use Rattle.predicates_core.specs.LeafLaws.{exactly_text_fits, one_exactly};
 ghost use Rattle.predicates_item.specs.Members.{GivesItems, HasSameMembers, has_equal, member_text};
 ghost use Rattle.predicates_item.specs.Members.{member_leaf};
 ghost use Rattle.predicates_item.specs.In.{members_of};
 ghost use Rattle.predicates_item.specs.OrdIn as OrdIn;
 
 use crate::iter::sorted::OrdInPredicate;
-use predicates_core::node::{alone, printed, showing_item};
+use predicates_core::custom::showing_case;
 use predicates_core::reflection::{Case, Child, Parameter, PredicateReflection};
 use predicates_core::{Predicate, ReadsContent, Total};
 use std::alloc::{AllocError, Global};
 use std::fmt;
 
-/// Holds of an item that equals one of some values, which are asked one by one. Made by `in_iter`.
+/// Holds of an item that equals one of some values, which are compared one by one. Made by
+/// `in_iter`.
 #[derive(Debug, PartialEq, Eq, Drop)]
 pub struct InPredicate<T> {
     members: Vec<T>,
@@ -99,7 +100,7 @@ impl<T: fmt::Debug + PartialEq> Predicate<T> for InPredicate<T> {
     ghost formula = { λ p v. IsExactly
         (member_leaf (T.debug_output v) (has_equal T.eq p.members.items v)) };
 
-    ghost steady = { λ p v. Unit {0} };
+    ghost infallible = { λ p v. Unit {0} };
 
     ghost text_fits = { λ p v f. exactly_text_fits };
 
@@ -110,18 +111,13 @@ impl<T: fmt::Debug + PartialEq> Predicate<T> for InPredicate<T> {
         Ok(self.holds(item))
     }
 
-    #[tactic(auto, using(predicates_core::proofs::Leaves::leaves))]
     fn find_case(
         &self,
         alloc: Global,
         expected: bool,
         item: &T,
     ) -> Result<Option<Case>, AllocError> {
-        if self.eval(alloc, item)? != expected {
-            return Ok(None);
-        }
-        let case = alone(alloc, printed(alloc, self)?, expected);
-        Ok(Some(showing_item(alloc, case, item)?))
+        showing_case(alloc, self, self.holds(item), expected, item)
     }
 }
 

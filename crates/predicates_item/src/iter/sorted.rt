@@ -2,7 +2,7 @@
 ghost use Rattle.std.specs.List.Sorted.{IsSorted};
 
 use crate::iter::steps::Steps;
-use predicates_core::node::{alone, printed, showing_item};
+use predicates_core::custom::showing_case;
 use predicates_core::reflection::{Case, Child, Parameter, PredicateReflection};
 use predicates_core::{Predicate, ReadsContent, Total};
 use std::alloc::{AllocError, Global};
@@ -82,13 +82,13 @@ impl<T: fmt::Debug + Ord> PredicateReflection for OrdInPredicate<T> {
 
 impl<T: fmt::Debug + Ord> Predicate<T> for OrdInPredicate<T> {
     ghost use Rattle.predicates_core.specs.Leaves.{IsExactly};
-    ghost use Rattle.predicates_core.proofs.Leaves.{exactly_text_fits, one_exactly};
+    ghost use Rattle.predicates_core.specs.LeafLaws.{exactly_text_fits, one_exactly};
     ghost use Rattle.predicates_item.specs.Members.{has_equal, member_leaf};
 
     ghost formula = { λ p v. IsExactly
         (member_leaf (T.debug_output v) (has_equal T.eq p.members.items v)) };
 
-    ghost steady = { λ p v. Unit {0} };
+    ghost infallible = { λ p v. Unit {0} };
 
     ghost text_fits = { λ p v f. exactly_text_fits };
 
@@ -99,18 +99,14 @@ impl<T: fmt::Debug + Ord> Predicate<T> for OrdInPredicate<T> {
         Ok(self.search_counted(item, &mut Steps::new()))
     }
 
-    #[tactic(auto, using(predicates_core::proofs::Leaves::leaves))]
     fn find_case(
         &self,
         alloc: Global,
         expected: bool,
         item: &T,
     ) -> Result<Option<Case>, AllocError> {
-        if self.eval(alloc, item)? != expected {
-            return Ok(None);
-        }
-        let case = alone(alloc, printed(alloc, self)?, expected);
-        Ok(Some(showing_item(alloc, case, item)?))
+        let holds = self.search_counted(item, &mut Steps::new());
+        showing_case(alloc, self, holds, expected, item)
     }
 }
 

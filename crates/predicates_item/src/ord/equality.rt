@@ -3,9 +3,9 @@ ghost use Rattle.std.specs.Prelude.{◌≡◌, refl, []};
 ghost use Rattle.predicates_core.specs.Tree.{empty};
 ghost use Rattle.predicates_item.specs.Makers.{equal_to, unequal_to};
 ghost use Rattle.predicates_core.specs.Leaves.{IsExactly};
-ghost use Rattle.predicates_core.proofs.Leaves.{exactly_text_fits, one_exactly};
+ghost use Rattle.predicates_core.specs.LeafLaws.{exactly_text_fits, one_exactly};
 
-use predicates_core::node::{alone, printed, showing_item};
+use predicates_core::custom::showing_case;
 use predicates_core::reflection::{Case, Child, Parameter, PredicateReflection};
 use predicates_core::{Predicate, ReadsContent, Total};
 use std::alloc::{AllocError, Global};
@@ -36,6 +36,21 @@ impl fmt::Display for EqOps {
 pub struct EqPredicate<T> {
     constant: T,
     op: EqOps,
+}
+
+impl<T: PartialEq> EqPredicate<T> {
+    ghost use Rattle.predicates_item.specs.Comparison.{eq_truth};
+
+    // Whether the item equals the constant, or does not.
+    fn holds(&self, item: &T) -> bool
+        ensures { result ≡ eq_truth self.now.op (T.eq item.now self.now.constant) }
+    {
+        let equal = *item == self.constant;
+        match self.op {
+            EqOps::Equal => equal,
+            EqOps::NotEqual => !equal,
+        }
+    }
 }
 
 impl<T: fmt::Debug> fmt::Display for EqPredicate<T> {
@@ -69,7 +84,7 @@ impl<T: fmt::Debug + PartialEq> Predicate<T> for EqPredicate<T> {
 
     ghost formula = { λ p v. IsExactly (eq_leaf p.op (T.debug_output p.constant) (T.debug_output v) (T.eq v p.constant)) };
 
-    ghost steady = { λ p v. Unit {0} };
+    ghost infallible = { λ p v. Unit {0} };
 
     ghost text_fits = { λ p v f. exactly_text_fits };
 
@@ -77,25 +92,16 @@ impl<T: fmt::Debug + PartialEq> Predicate<T> for EqPredicate<T> {
 
     #[tactic(auto, using(predicates_core::proofs::Leaves::leaves))]
     fn eval(&self, _alloc: Global, item: &T) -> Result<bool, AllocError> {
-        let equal = *item == self.constant;
-        Ok(match self.op {
-            EqOps::Equal => equal,
-            EqOps::NotEqual => !equal,
-        })
+        Ok(self.holds(item))
     }
 
-    #[tactic(auto, using(predicates_core::proofs::Leaves::leaves))]
     fn find_case(
         &self,
         alloc: Global,
         expected: bool,
         item: &T,
     ) -> Result<Option<Case>, AllocError> {
-        if self.eval(alloc, item)? != expected {
-            return Ok(None);
-        }
-        let case = alone(alloc, printed(alloc, self)?, expected);
-        Ok(Some(showing_item(alloc, case, item)?))
+        showing_case(alloc, self, self.holds(item), expected, item)
     }
 }
 

@@ -3,9 +3,9 @@ ghost use Rattle.std.specs.Prelude.{◌≡◌, refl, []};
 ghost use Rattle.predicates_core.specs.Tree.{empty};
 ghost use Rattle.predicates_item.specs.Makers.{less_than, at_most, at_least, greater_than};
 ghost use Rattle.predicates_core.specs.Leaves.{IsExactly};
-ghost use Rattle.predicates_core.proofs.Leaves.{exactly_text_fits, one_exactly};
+ghost use Rattle.predicates_core.specs.LeafLaws.{exactly_text_fits, one_exactly};
 
-use predicates_core::node::{alone, printed, showing_item};
+use predicates_core::custom::showing_case;
 use predicates_core::reflection::{Case, Child, Parameter, PredicateReflection};
 use predicates_core::{Predicate, ReadsContent, Total};
 use std::alloc::{AllocError, Global};
@@ -43,6 +43,23 @@ pub struct OrdPredicate<T> {
     op: OrdOps,
 }
 
+impl<T: Ord> OrdPredicate<T> {
+    ghost use Rattle.predicates_item.specs.Comparison.{ord_truth};
+
+    // Whether the item stands in the order to the constant.
+    fn holds(&self, item: &T) -> bool
+        ensures { result ≡ ord_truth self.now.op (T.cmp item.now self.now.constant) }
+    {
+        let order = item.cmp(&self.constant);
+        match self.op {
+            OrdOps::LessThan => order.is_lt(),
+            OrdOps::LessThanOrEqual => order.is_le(),
+            OrdOps::GreaterThanOrEqual => order.is_ge(),
+            OrdOps::GreaterThan => order.is_gt(),
+        }
+    }
+}
+
 impl<T: fmt::Debug> fmt::Display for OrdPredicate<T> {
     ghost use Rattle.predicates_item.specs.Comparison.{ord_symbol, comparison_text};
 
@@ -75,7 +92,7 @@ impl<T: fmt::Debug + Ord> Predicate<T> for OrdPredicate<T> {
     ghost formula = { λ p v. IsExactly
         (ord_leaf p.op (T.debug_output p.constant) (T.debug_output v) (T.cmp v p.constant)) };
 
-    ghost steady = { λ p v. Unit {0} };
+    ghost infallible = { λ p v. Unit {0} };
 
     ghost text_fits = { λ p v f. exactly_text_fits };
 
@@ -83,27 +100,16 @@ impl<T: fmt::Debug + Ord> Predicate<T> for OrdPredicate<T> {
 
     #[tactic(auto, using(predicates_core::proofs::Leaves::leaves))]
     fn eval(&self, _alloc: Global, item: &T) -> Result<bool, AllocError> {
-        let order = item.cmp(&self.constant);
-        Ok(match self.op {
-            OrdOps::LessThan => order.is_lt(),
-            OrdOps::LessThanOrEqual => order.is_le(),
-            OrdOps::GreaterThanOrEqual => order.is_ge(),
-            OrdOps::GreaterThan => order.is_gt(),
-        })
+        Ok(self.holds(item))
     }
 
-    #[tactic(auto, using(predicates_core::proofs::Leaves::leaves))]
     fn find_case(
         &self,
         alloc: Global,
         expected: bool,
         item: &T,
     ) -> Result<Option<Case>, AllocError> {
-        if self.eval(alloc, item)? != expected {
-            return Ok(None);
-        }
-        let case = alone(alloc, printed(alloc, self)?, expected);
-        Ok(Some(showing_item(alloc, case, item)?))
+        showing_case(alloc, self, self.holds(item), expected, item)
     }
 }
 

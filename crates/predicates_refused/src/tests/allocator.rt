@@ -1,6 +1,6 @@
-//! Words with the allocator of `refused/`, which refuses the requests that it is told to refuse.
+//! Words with the allocator of `refused/`, which refuses the requests that it is ordered to refuse.
 //!
-//! A word is a request for a block of a size that nothing else asks for. That allocator says yes by
+//! A word is a request for a block of a size that nothing else requests. That allocator says yes by
 //! refusing it. Any other one serves it, which is a no, and the block goes back at once.
 use std::alloc::Global;
 
@@ -11,10 +11,6 @@ const IS_LEVEL: usize = 17_000_002;
 const WAS_REFUSED: usize = 17_000_003;
 
 const TAKE_LEVEL: usize = 17_000_004;
-
-const IS_PLANTED: usize = 17_000_005;
-
-const LOSE_A_BLOCK: usize = 17_000_006;
 
 // And the number of the request that is to be refused.
 const REFUSE: usize = 18_000_000;
@@ -49,14 +45,4 @@ pub fn take_level(alloc: Global) {
 /// Whether there are as many blocks as were counted.
 pub fn is_level(alloc: Global) -> bool {
     says_yes(alloc, IS_LEVEL)
-}
-
-/// Whether the planted mistakes are to be made.
-pub fn is_planted(alloc: Global) -> bool {
-    says_yes(alloc, IS_PLANTED)
-}
-
-/// Has the next block that is given back counted as if it were still there.
-pub fn lose_a_block(alloc: Global) {
-    says_yes(alloc, LOSE_A_BLOCK);
 }

@@ -35,7 +35,7 @@ fn add_line(lines: &mut String, start: &str, name: &str, text: &str) -> Result<(
 }
 
 // A line for each child and, indented, one for each of its parts.
-fn tell_children(alloc: Global, children: &[Child]) -> Result<String, AllocError> {
+fn render_children(alloc: Global, children: &[Child]) -> Result<String, AllocError> {
     let mut lines = String::new(alloc);
     for child in children {
         add_line(&mut lines, "", child.name(), child.text())?;
@@ -46,7 +46,7 @@ fn tell_children(alloc: Global, children: &[Child]) -> Result<String, AllocError
     Ok(lines)
 }
 
-fn tell_parameters(alloc: Global, parameters: &[Parameter]) -> Result<String, AllocError> {
+fn render_parameters(alloc: Global, parameters: &[Parameter]) -> Result<String, AllocError> {
     let mut lines = String::new(alloc);
     for parameter in parameters {
         add_line(&mut lines, "", parameter.name(), parameter.value())?;
@@ -55,7 +55,7 @@ fn tell_parameters(alloc: Global, parameters: &[Parameter]) -> Result<String, Al
 }
 
 // A line for each check.
-fn tell_checks(alloc: Global, checks: &[TextCheck]) -> Result<String, AllocError> {
+fn render_checks(alloc: Global, checks: &[TextCheck]) -> Result<String, AllocError> {
     let mut lines = String::new(alloc);
     for check in checks {
         let line = format!(in alloc; "{check}\n")?;
@@ -65,7 +65,7 @@ fn tell_checks(alloc: Global, checks: &[TextCheck]) -> Result<String, AllocError
 }
 
 // How many bytes of content there are, or the fault.
-fn tell_snapshot(alloc: Global, snapshot: &Snapshot) -> Result<String, AllocError> {
+fn render_snapshot(alloc: Global, snapshot: &Snapshot) -> Result<String, AllocError> {
     let (path, plain, followed) = (snapshot.path(), snapshot.plain(), snapshot.followed());
     let bytes = match snapshot.content() {
         Ok(bytes) => Ok(bytes.len()),
@@ -75,7 +75,7 @@ fn tell_snapshot(alloc: Global, snapshot: &Snapshot) -> Result<String, AllocErro
 }
 
 // Whether each line was an item, and below it what was written.
-fn tell_run(alloc: Global, all: bool, written: &[u8]) -> Result<String, AllocError> {
+fn render_run(alloc: Global, all: bool, written: &[u8]) -> Result<String, AllocError> {
     match str::from_utf8(written) {
         Ok(written) => format!(in alloc; "{all}\n{written}"),
         Err(_) => String::from_str(alloc, "no text was written"),
@@ -83,25 +83,25 @@ fn tell_run(alloc: Global, all: bool, written: &[u8]) -> Result<String, AllocErr
 }
 
 // Whether the pattern matches a text.
-fn tell_pattern(alloc: Global, pattern: &RegexPredicate) -> Result<String, AllocError> {
+fn render_pattern(alloc: Global, pattern: &RegexPredicate) -> Result<String, AllocError> {
     let found = pattern.eval(alloc, &String::from_str(alloc, "One Two")?)?;
     format!(in alloc; "{pattern} {found}")
 }
 
 /// The answer as a text, which a row compares as a whole.
-pub fn tell(alloc: Global, answer: &Answer) -> Result<String, AllocError> {
+pub fn rendered(alloc: Global, answer: &Answer) -> Result<String, AllocError> {
     match answer {
         Answer::Verdict(verdict) => format!(in alloc; "{verdict}"),
         Answer::Text(text) => String::from_str(alloc, text.as_str()),
         Answer::Case(None) => String::from_str(alloc, "none"),
         Answer::Case(Some(case)) => render(alloc, case),
-        Answer::Parameters(parameters) => tell_parameters(alloc, parameters.as_slice()),
-        Answer::Children(children) => tell_children(alloc, children.as_slice()),
-        Answer::Pattern(pattern) => tell_pattern(alloc, pattern),
-        Answer::Snapshot(snapshot) => tell_snapshot(alloc, snapshot),
+        Answer::Parameters(parameters) => render_parameters(alloc, parameters.as_slice()),
+        Answer::Children(children) => render_children(alloc, children.as_slice()),
+        Answer::Pattern(pattern) => render_pattern(alloc, pattern),
+        Answer::Snapshot(snapshot) => render_snapshot(alloc, snapshot),
         Answer::Word(word) => format!(in alloc; "{word:?}"),
-        Answer::Checks(checks) => tell_checks(alloc, checks.as_slice()),
-        Answer::Run(all, written) => tell_run(alloc, *all, written.as_slice()),
+        Answer::Checks(checks) => render_checks(alloc, checks.as_slice()),
+        Answer::Run(all, written) => render_run(alloc, *all, written.as_slice()),
         Answer::OtherFault => String::from_str(alloc, "another fault"),
     }
 }

@@ -2,11 +2,11 @@
 use super::answer::Answer;
 use super::sweep::Memory::{GoesOn, Taken};
 use super::sweep::{Call, sweep};
-use super::text;
 use predicates::boolean::{NotPredicate, PredicateBooleanExt};
 use predicates::iter::{InPredicate, in_hash, in_iter};
 use predicates::{BoxPredicate, Predicate};
 use predicates_path::Snapshot;
+use predicates_testing::text;
 use predicates_text::{IsEmptyPredicate, is_empty, is_match};
 use std::alloc::{AllocError, Global};
 use std::fs::Files;
@@ -18,41 +18,13 @@ const MEMBERS: [i64; 24] = [
 ];
 
 #[derive(Clone, Copy)]
-struct Listed;
-
-impl Call for Listed {
-    type Operand = ();
-
-    fn operand(&self, _alloc: Global) -> Result<(), AllocError> {
-        Ok(())
-    }
-
-    fn call(&self, alloc: Global, _operand: ()) -> Result<Answer, AllocError> {
-        let list = in_iter(alloc, MEMBERS)?;
-        Ok(Answer::Verdict(list.eval(alloc, &23)?))
-    }
+enum Membership {
+    Listed,
+    Hashed,
+    Sorted,
 }
 
-#[derive(Clone, Copy)]
-struct Hashed;
-
-impl Call for Hashed {
-    type Operand = ();
-
-    fn operand(&self, _alloc: Global) -> Result<(), AllocError> {
-        Ok(())
-    }
-
-    fn call(&self, alloc: Global, _operand: ()) -> Result<Answer, AllocError> {
-        let set = in_hash(alloc, MEMBERS)?;
-        Ok(Answer::Verdict(set.eval(alloc, &24)?))
-    }
-}
-
-#[derive(Clone, Copy)]
-struct Sorted;
-
-impl Call for Sorted {
+impl Call for Membership {
     type Operand = InPredicate<i64>;
 
     fn operand(&self, alloc: Global) -> Result<InPredicate<i64>, AllocError> {
@@ -60,16 +32,20 @@ impl Call for Sorted {
     }
 
     fn call(&self, alloc: Global, list: InPredicate<i64>) -> Result<Answer, AllocError> {
-        let sorted = list.sort()?;
-        Ok(Answer::Verdict(sorted.eval(alloc, &23)?))
+        let verdict = match self {
+            Membership::Listed => in_iter(alloc, MEMBERS)?.eval(alloc, &23)?,
+            Membership::Hashed => in_hash(alloc, MEMBERS)?.eval(alloc, &24)?,
+            Membership::Sorted => list.sort()?.eval(alloc, &23)?,
+        };
+        Ok(Answer::Verdict(verdict))
     }
 }
 
 #[test]
 fn memberships(rt: HostRuntime) -> Result<(), Fail> {
-    sweep(&rt, "in_iter", &Listed, "true", GoesOn)?;
-    sweep(&rt, "in_hash", &Hashed, "false", GoesOn)?;
-    sweep(&rt, "sort", &Sorted, "true", Taken)
+    sweep(&rt, "in_iter", &Membership::Listed, "true", GoesOn)?;
+    sweep(&rt, "in_hash", &Membership::Hashed, "false", GoesOn)?;
+    sweep(&rt, "sort", &Membership::Sorted, "true", Taken)
 }
 
 #[derive(Drop)]
@@ -95,8 +71,8 @@ impl Call for Pattern<'_> {
 #[test]
 fn patterns(rt: HostRuntime) -> Result<(), Fail> {
     let pattern = Pattern { pattern: "T[a-z]*" };
-    let told = "var.is_match(T[a-z]*) true";
-    sweep(&rt, "is_match", &pattern, told, GoesOn)?;
+    let expected = "var.is_match(T[a-z]*) true";
+    sweep(&rt, "is_match", &pattern, expected, GoesOn)?;
     let pattern = Pattern { pattern: "" };
     sweep(
         &rt,
@@ -139,7 +115,7 @@ impl<R: Files + AllocGlobal> Call for Taking<'_, R> {
     }
 
     fn call(&self, _alloc: Global, _operand: ()) -> Result<Answer, AllocError> {
-        Ok(Answer::Snapshot(Snapshot::take(self.rt, self.path)?))
+        Ok(Answer::Snapshot(Snapshot::take(self.rt, self.rt.alloc(), self.path)?))
     }
 }
 
@@ -157,18 +133,18 @@ fn boxes_and_snapshots(rt: HostRuntime) -> Result<(), Fail> {
         rt: &rt,
         path: "/proc/self",
     };
-    let told = "/proc/self Ok(Symlink) Ok(Dir) Err(NotRegular)";
-    sweep(&rt, "Snapshot::take of a link", &folder, told, Taken)?;
+    let expected = "/proc/self Ok(Symlink) Ok(Dir) Err(NotRegular)";
+    sweep(&rt, "Snapshot::take of a link", &folder, expected, Taken)?;
     let nothing = Taking {
         rt: &rt,
         path: "/proc/no such file",
     };
-    let told = "/proc/no such file Err(NotFound) Err(NotFound) Err(NotFound)";
-    sweep(&rt, "Snapshot::take of nothing", &nothing, told, Taken)?;
+    let expected = "/proc/no such file Err(NotFound) Err(NotFound) Err(NotFound)";
+    sweep(&rt, "Snapshot::take of nothing", &nothing, expected, Taken)?;
     let file = Taking {
         rt: &rt,
         path: "/proc/sys/kernel/ostype",
     };
-    let told = "/proc/sys/kernel/ostype Ok(File) Ok(File) Ok(6)";
-    sweep(&rt, "Snapshot::take of a file", &file, told, Taken)
+    let expected = "/proc/sys/kernel/ostype Ok(File) Ok(File) Ok(6)";
+    sweep(&rt, "Snapshot::take of a file", &file, expected, Taken)
 }

@@ -1,58 +1,40 @@
 //! Patterns, whose searches may go on without some of their memory.
-use super::question::{Row, ask, leaf};
+use super::predicate_calls::{Row, leaf, sweep_calls};
 use super::sweep::Memory::GoesOn;
-use super::text;
-use predicates_text::is_match;
+use predicates_testing::text;
+use predicates_text::{RegexPredicate, is_match};
+use std::alloc::Global;
 use std::test::Fail;
+
+fn pattern(alloc: Global, pattern: &str) -> Result<RegexPredicate, Fail> {
+    Ok(is_match(alloc, text(alloc, pattern)?)?)
+}
+
+// The row of a pattern that holds.
+fn found<'a>(name: &'a str, lines: &'a str) -> Row<'a> {
+    let mut row = leaf(name, true, lines);
+    row.eval = GoesOn;
+    row.case = GoesOn;
+    row.opposite = GoesOn;
+    row
+}
 
 #[test]
 fn matches(rt: HostRuntime) -> Result<(), Fail> {
     let alloc = rt.alloc();
     let item = text(alloc, "One Two Three Two One")?;
-    let Ok(pattern) = is_match(alloc, text(alloc, "T[a-z]*")?) else {
-        return Err("refused".into());
-    };
-    let found = Row {
-        eval: GoesOn,
-        case: GoesOn,
-        opposite: GoesOn,
-        ..leaf(
-            "is_match",
-            true,
-            "var.is_match(T[a-z]*) = true\n  - var: One Two Three Two One\n",
-        )
-    };
-    ask(&rt, &pattern, &item, found)?;
-    let counted = Row {
-        eval: GoesOn,
-        case: GoesOn,
-        opposite: GoesOn,
-        parameters: "count: 3\n",
-        ..leaf(
-            "a counted is_match",
-            true,
-            "var.is_match(T[a-z]*) = true\n  - var: One Two Three Two One\n  - actual count: 3\n",
-        )
-    };
-    ask(&rt, &pattern.count(3), &item, counted)
+    let words = pattern(alloc, "T[a-z]*")?;
+    let lines = "var.is_match(T[a-z]*) = true\n  - var: One Two Three Two One\n";
+    sweep_calls(&rt, &words, &item, found("is_match", lines))?;
+    let lines =
+        "var.is_match(T[a-z]*) = true\n  - var: One Two Three Two One\n  - actual count: 3\n";
+    let counted = found("a counted is_match", lines).with_parameters("count: 3\n");
+    sweep_calls(&rt, &words.count(3), &item, counted)
 }
 
 #[test]
 fn the_empty_pattern(rt: HostRuntime) -> Result<(), Fail> {
     let alloc = rt.alloc();
-    let Ok(pattern) = is_match(alloc, text(alloc, "")?) else {
-        return Ok(());
-    };
-    let item = text(alloc, "")?;
-    let found = Row {
-        eval: GoesOn,
-        case: GoesOn,
-        opposite: GoesOn,
-        ..leaf(
-            "is_match of nothing",
-            true,
-            "var.is_match() = true\n  - var: \n",
-        )
-    };
-    ask(&rt, &pattern, &item, found)
+    let row = found("is_match of nothing", "var.is_match() = true\n  - var: \n");
+    sweep_calls(&rt, &pattern(alloc, "")?, &text(alloc, "")?, row)
 }

@@ -1,15 +1,17 @@
-//! What reads and asks without memory.
+//! What reads, evaluates and rewrites without memory.
 use super::paths::file;
-use super::sweep::Without;
-use super::text;
+use super::sweep::refusing;
 use predicates::boolean::PredicateBooleanExt;
 use predicates::constant::always;
 use predicates::iter::{Steps, in_iter};
+use predicates::name::PredicateNameExt;
 use predicates::ord::{ge, le, lt};
+use predicates::{laws, semantics};
 use predicates_core::reflection::{Case, CaseChild, Child, Parameter, Product};
 use predicates_core::{Predicate, default_find_case};
 use predicates_explain::number;
 use predicates_path::{FileType, PathFault};
+use predicates_testing::text;
 use std::test::Fail;
 
 #[test]
@@ -18,11 +20,11 @@ fn verdicts(rt: HostRuntime) -> Result<(), Fail> {
     let between = ge(5i64).and(le(10));
     for (item, verdict) in [(7i64, true), (11, false), (4, false)] {
         let name = format!(in alloc; "eval of ge(5).and(le(10)) on {item}")?;
-        let begun = Without::begin(alloc, name.as_str());
+        let begun = refusing(alloc, name.as_str());
         let right = between.eval(alloc, &item) == Ok(verdict);
         begun.end(&rt, right)?;
     }
-    let begun = Without::begin(alloc, "default_find_case for the opposite truth");
+    let begun = refusing(alloc, "default_find_case for the opposite truth");
     let right = matches!(default_find_case(alloc, &lt(5i64), true, &9), Ok(None));
     begun.end(&rt, right)
 }
@@ -30,16 +32,16 @@ fn verdicts(rt: HostRuntime) -> Result<(), Fail> {
 #[test]
 fn searches(rt: HostRuntime) -> Result<(), Fail> {
     let alloc = rt.alloc();
-    let begun = Without::begin(alloc, "Steps");
+    let begun = refusing(alloc, "Steps");
     let mut steps = Steps::new();
     let right = steps.count() == 0;
     begun.end(&rt, right)?;
     let sorted = in_iter(alloc, [3i64, 1, 5])?.sort()?;
-    let begun = Without::begin(alloc, "search_counted");
+    let begun = refusing(alloc, "search_counted");
     let found = sorted.search_counted(&3, &mut steps) && !sorted.search_counted(&2, &mut steps);
     let right = found && steps.count() == 2;
     begun.end(&rt, right)?;
-    let begun = Without::begin(alloc, "number");
+    let begun = refusing(alloc, "number");
     let right = number(b"-7") == Some(-7) && number(b"7 ") == None;
     begun.end(&rt, right)
 }
@@ -48,7 +50,7 @@ fn searches(rt: HostRuntime) -> Result<(), Fail> {
 fn products(rt: HostRuntime) -> Result<(), Fail> {
     let alloc = rt.alloc();
     let value = text(alloc, "7")?;
-    let begun = Without::begin(alloc, "Product and its readers");
+    let begun = refusing(alloc, "Product and its readers");
     let product = Product::new("var", value);
     let right = product.name() == "var" && product.value() == "7";
     begun.end(&rt, right)
@@ -58,13 +60,13 @@ fn products(rt: HostRuntime) -> Result<(), Fail> {
 fn parameters_and_children(rt: HostRuntime) -> Result<(), Fail> {
     let alloc = rt.alloc();
     let value = text(alloc, "2")?;
-    let begun = Without::begin(alloc, "Parameter and its readers");
+    let begun = refusing(alloc, "Parameter and its readers");
     let parameter = Parameter::new("count", value);
     let right = parameter.name() == "count" && parameter.value() == "2";
     begun.end(&rt, right)?;
     let (printed, mut parameters) = (text(alloc, "p")?, Vec::new(alloc));
     parameters.push(parameter)?;
-    let begun = Without::begin(alloc, "Child and its readers");
+    let begun = refusing(alloc, "Child and its readers");
     let child = Child::new("left", printed, parameters, Vec::new(alloc));
     let counts = child.parameters().len() == 1 && child.children().is_empty();
     let right = counts && child.name() == "left" && child.text() == "p";
@@ -75,9 +77,13 @@ fn parameters_and_children(rt: HostRuntime) -> Result<(), Fail> {
 fn parts_of_snapshots(rt: HostRuntime) -> Result<(), Fail> {
     let alloc = rt.alloc();
     let link = file(alloc, FileType::Symlink, Err(PathFault::NotFound))?;
-    let begun = Without::begin(alloc, "the readers of Snapshot");
+    let begun = refusing(alloc, "the readers of Snapshot");
     let kinds = link.plain() == Ok(FileType::Symlink) && link.followed() == Ok(FileType::File);
     let right = kinds && link.path() == "p" && link.content() == Err(PathFault::NotFound);
+    begun.end(&rt, right)?;
+    let there = file(alloc, FileType::File, Ok(b"a"))?;
+    let begun = refusing(alloc, "the content of a file");
+    let right = there.content() == Ok(b"a");
     begun.end(&rt, right)
 }
 
@@ -85,7 +91,7 @@ fn parts_of_snapshots(rt: HostRuntime) -> Result<(), Fail> {
 fn new_cases(rt: HostRuntime) -> Result<(), Fail> {
     let alloc = rt.alloc();
     let label = text(alloc, "a")?;
-    let begun = Without::begin(alloc, "Case::new");
+    let begun = refusing(alloc, "Case::new");
     let case = Case::new(alloc, Some(label), true);
     let root = case.root();
     let right = root.predicate() == Some("a") && root.result() && root.products().is_empty();
@@ -98,7 +104,7 @@ fn views_of_cases(rt: HostRuntime) -> Result<(), Fail> {
     let nested = always().and(always()).or(always());
     let found = nested.find_case(alloc, true, &4i64)?;
     let case = found.ok_or("it holds")?;
-    let begun = Without::begin(alloc, "all views of a case");
+    let begun = refusing(alloc, "all views of a case");
     let root = case.root();
     let mut right = root.predicate() == Some("((true && true) || true)")
         && root.result()
@@ -114,5 +120,39 @@ fn views_of_cases(rt: HostRuntime) -> Result<(), Fail> {
     }
     // Once `left` and once `right`.
     right = right && root.children().count() == 1 && names == 9;
+    begun.end(&rt, right)
+}
+
+#[test]
+fn laws_of_predicates(rt: HostRuntime) -> Result<(), Fail> {
+    let begun = refusing(rt.alloc(), "the laws");
+    laws::double_negation(&lt(3i64), &9);
+    laws::named(&lt(3i64), &9, "small");
+    laws::de_morgan(&lt(3i64), &lt(5), &9);
+    laws::exclusive_or(&lt(3i64), &lt(5), &4);
+    laws::same_function(&lt(3i64), &lt(3).not().not(), &4);
+    laws::first_reasons();
+    laws::one_case(&lt(3i64), &9);
+    laws::exactly_one(&lt(3i64), &9);
+    laws::complements(&5i64, &9);
+    laws::memberships(&[3i64, 1, 3], &9);
+    let right = lt(3i64).eval(rt.alloc(), &9) == Ok(false);
+    begun.end(&rt, right)
+}
+
+#[test]
+fn semantics_of_predicates(rt: HostRuntime) -> Result<(), Fail> {
+    let list = in_iter(rt.alloc(), [3i64, 1, 3])?;
+    let begun = refusing(rt.alloc(), "the semantics");
+    semantics::and(&ge(5i64).and(le(10)), &7);
+    semantics::or(&ge(5i64).or(le(10)), &7);
+    semantics::xor(&ge(5i64).xor(le(10)), &7);
+    semantics::not(&lt(3i64).not(), &7);
+    semantics::named(&lt(3i64).name("small"), &7);
+    semantics::constant(&always(), &7i64);
+    semantics::equality(&5i64, &7);
+    semantics::order(&5i64, &7);
+    semantics::listed(&list, &7);
+    let right = list.eval(rt.alloc(), &3) == Ok(true);
     begun.end(&rt, right)
 }

@@ -2,9 +2,9 @@
 use super::answer::Answer;
 use super::sweep::Memory::{Never, Taken};
 use super::sweep::{Call, sweep};
-use super::text;
 use predicates::boolean::PredicateBooleanExt;
 use predicates_core::reflection::{Case, Product, describe, render, render_onto};
+use predicates_testing::text;
 use predicates_text::{is_empty, lines_even, trimmed};
 use std::alloc::{AllocError, Global};
 use std::test::Fail;
@@ -62,17 +62,23 @@ impl Call for AddChild {
 
 #[test]
 fn cases(rt: HostRuntime) -> Result<(), Fail> {
-    let told = "predicate = false\n  - var: 7\n";
-    sweep(&rt, "add_product", &AddProduct, told, Taken)?;
-    let told = "a = true\n  - var: 7\n  right: c = true\n    - var: 7\n";
-    sweep(&rt, "add_child", &AddChild { second: false }, told, Taken)?;
-    let told =
+    let expected = "predicate = false\n  - var: 7\n";
+    sweep(&rt, "add_product", &AddProduct, expected, Taken)?;
+    let expected = "a = true\n  - var: 7\n  right: c = true\n    - var: 7\n";
+    sweep(
+        &rt,
+        "add_child",
+        &AddChild { second: false },
+        expected,
+        Taken,
+    )?;
+    let expected =
         "a = true\n  - var: 7\n  left: b = true\n    - var: 7\n  right: c = true\n    - var: 7\n    part: predicate = true\n    part: predicate = true\n    part: predicate = true\n    part: predicate = true\n";
     sweep(
         &rt,
         "add_child beside another",
         &AddChild { second: true },
-        told,
+        expected,
         Taken,
     )
 }
@@ -80,7 +86,7 @@ fn cases(rt: HostRuntime) -> Result<(), Fail> {
 // The lines of a case alone, or after what a text holds.
 #[derive(Clone, Copy)]
 struct Rendering {
-    onto: bool,
+    appends: bool,
 }
 
 impl Call for Rendering {
@@ -93,7 +99,7 @@ impl Call for Rendering {
 
     fn call(&self, alloc: Global, operand: (String, Case)) -> Result<Answer, AllocError> {
         let (mut lines, case) = operand;
-        if self.onto {
+        if self.appends {
             render_onto(alloc, &mut lines, &case)?;
             return Ok(Answer::Text(lines));
         }
@@ -103,9 +109,21 @@ impl Call for Rendering {
 
 #[test]
 fn lines(rt: HostRuntime) -> Result<(), Fail> {
-    let told = "a = true\n  - var: 7\n  left: b = true\n    - var: 7\n";
-    sweep(&rt, "render", &Rendering { onto: false }, told, Taken)?;
-    sweep(&rt, "render_onto", &Rendering { onto: true }, told, Taken)
+    let expected = "a = true\n  - var: 7\n  left: b = true\n    - var: 7\n";
+    sweep(
+        &rt,
+        "render",
+        &Rendering { appends: false },
+        expected,
+        Taken,
+    )?;
+    sweep(
+        &rt,
+        "render_onto",
+        &Rendering { appends: true },
+        expected,
+        Taken,
+    )
 }
 
 #[derive(Clone, Copy)]
@@ -149,8 +167,8 @@ impl Call for View<'_> {
 
 #[test]
 fn descriptions(rt: HostRuntime) -> Result<(), Fail> {
-    let told = "part: (! var.is_empty())\n  predicate: var.is_empty()\n";
-    sweep(&rt, "describe", &Describing, told, Taken)
+    let expected = "part: (! var.is_empty())\n  predicate: var.is_empty()\n";
+    sweep(&rt, "describe", &Describing, expected, Taken)
 }
 
 #[test]

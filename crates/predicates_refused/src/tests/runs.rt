@@ -1,13 +1,11 @@
 //! Blocks, and runs over lines of an input.
 use super::answer::Answer;
-use super::checks::stacked;
-use super::sweep::Memory::{GoesOn, Never, Taken};
+use super::stacked::stacked;
+use super::sweep::Memory::{self, GoesOn, Never, Perhaps, Taken};
 use super::sweep::{Call, sweep};
 use predicates::boolean::PredicateBooleanExt;
 use predicates::ord::{ge, le};
-use predicates_explain::{
-    RunFault, TextCheck, explain_one, explain_total, run_between, run_check, run_text,
-};
+use predicates_explain::{RunFault, TextCheck, explain_one, explain_total, run_between, run_text};
 use std::alloc::{AllocError, Global};
 use std::test::Fail;
 
@@ -15,7 +13,8 @@ use std::test::Fail;
 pub const NUMBERS: &str =
     "7: true\n(var >= 5 && var <= 10) = true\n  left: var >= 5 = true\n    - var: 7\n  right: var <= 10 = true\n    - var: 7\n11: false\n(var >= 5 && var <= 10) = false\n  right: var <= 10 = false\n    - var: 11\n4: false\n(var >= 5 && var <= 10) = false\n  left: var >= 5 = false\n    - var: 4\n";
 
-const SEVEN: &str =
+/// What is written for 7 alone.
+pub const SEVEN: &str =
     "7: true\n(var >= 5 && var <= 10) = true\n  left: var >= 5 = true\n    - var: 7\n  right: var <= 10 = true\n    - var: 7\n";
 
 // The block of 7 between 5 and 10; over predicates of any kind, or such as have a formula on each
@@ -70,12 +69,14 @@ fn answer_of(ended: Result<bool, RunFault>, written: Vec<u8>) -> Result<Answer, 
     }
 }
 
+// A run over numbers between 5 and 10, or over texts by the check.
 #[derive(Drop)]
-struct Between<'a> {
+struct Run<'a> {
+    check: Option<&'a TextCheck>,
     input: &'a [u8],
 }
 
-impl Call for Between<'_> {
+impl Call for Run<'_> {
     type Operand = ();
 
     fn operand(&self, _alloc: Global) -> Result<(), AllocError> {
@@ -85,32 +86,9 @@ impl Call for Between<'_> {
     fn call(&self, alloc: Global, _operand: ()) -> Result<Answer, AllocError> {
         let mut reader = self.input;
         let mut written = Vec::new(alloc);
-        let ended = run_between(alloc, 5, 10, &mut reader, &mut written);
-        answer_of(ended, written)
-    }
-}
-
-#[derive(Drop)]
-struct Texts<'a> {
-    check: &'a TextCheck,
-    input: &'a [u8],
-    makes_cases: bool,
-}
-
-impl Call for Texts<'_> {
-    type Operand = ();
-
-    fn operand(&self, _alloc: Global) -> Result<(), AllocError> {
-        Ok(())
-    }
-
-    fn call(&self, alloc: Global, _operand: ()) -> Result<Answer, AllocError> {
-        let mut reader = self.input;
-        let mut written = Vec::new(alloc);
-        let ended = if self.makes_cases {
-            run_text(alloc, self.check, &mut reader, &mut written)
-        } else {
-            run_check(alloc, self.check, &mut reader, &mut written)
+        let ended = match self.check {
+            Some(check) => run_text(alloc, check, &mut reader, &mut written),
+            None => run_between(alloc, 5, 10, &mut reader, &mut written),
         };
         answer_of(ended, written)
     }
@@ -118,83 +96,58 @@ impl Call for Texts<'_> {
 
 #[test]
 fn runs_over_numbers(rt: HostRuntime) -> Result<(), Fail> {
-    let lines = Between {
-        input: b"7\n11\n4\n",
-    };
-    let told = format!(in rt.alloc(); "true\n{NUMBERS}")?;
-    sweep(&rt, "run_between", &lines, told.as_str(), Taken)?;
-    let other = Between { input: b"x\n" };
-    let told = "false\nline 1: not a number\n";
-    sweep(&rt, "run_between over no number", &other, told, Taken)
+    let (check, input) = (None, b"7\n11\n4\n".as_slice());
+    let expected = format!(in rt.alloc(); "true\n{NUMBERS}")?;
+    sweep(
+        &rt,
+        "run_between",
+        &Run { check, input },
+        expected.as_str(),
+        Taken,
+    )?;
+    let (expected, input) = ("false\nline 1: not a number\n", b"x\n".as_slice());
+    sweep(
+        &rt,
+        "run_between over no number",
+        &Run { check, input },
+        expected,
+        Taken,
+    )?;
+    let input = b"".as_slice();
+    sweep(
+        &rt,
+        "run_between over nothing",
+        &Run { check, input },
+        "true\n",
+        Perhaps,
+    )
 }
 
-// The calls that run over texts, and whether each makes cases.
-const RUNS: [(&str, bool); 2] = [("run_text", true), ("run_check", false)];
+// The words of a check, the input, and what is answered and written.
+const TEXTS: [(&[&str], &[u8], &str, Memory); 4] = [
+    (
+        &["empty", "trim", "contains=a", "or"],
+        b"  \n",
+        "true\nline 1: true\n(var.is_empty() || var.contains(a)) = true\n  left: var.is_empty() = true\n    - var: \n",
+        Taken,
+    ),
+    (
+        &["match=T[a-z]*"],
+        b"Two",
+        "true\nline 1: true\nvar.is_match(T[a-z]*) = true\n  - var: Two\n",
+        GoesOn,
+    ),
+    (&["empty"], b"\xff", "false\nline 1: not UTF-8\n", Taken),
+    (&["empty"], b"", "true\n", Never),
+];
 
 #[test]
 fn runs_over_texts(rt: HostRuntime) -> Result<(), Fail> {
-    let alloc = rt.alloc();
-    let stack = stacked(alloc, &["empty", "trim", "contains=a", "or"])?;
-    let check = stack.first().ok_or("no check")?;
-    let told =
-        "true\nline 1: true\n(var.is_empty() || var.contains(a)) = true\n  left: var.is_empty() = true\n    - var: \n";
-    for (name, makes_cases) in RUNS {
-        let blank = Texts {
-            check,
-            input: b"  \n",
-            makes_cases,
-        };
-        sweep(&rt, name, &blank, told, Taken)?;
-    }
-    Ok(())
-}
-
-#[test]
-fn runs_over_no_text(rt: HostRuntime) -> Result<(), Fail> {
-    let stack = stacked(rt.alloc(), &["empty"])?;
-    let check = stack.first().ok_or("no check")?;
-    for (name, makes_cases) in RUNS {
-        let other = Texts {
-            check,
-            input: b"\xff",
-            makes_cases,
-        };
-        let told = "false\nline 1: not UTF-8\n";
-        sweep(&rt, name, &other, told, Taken)?;
-    }
-    Ok(())
-}
-
-#[test]
-fn runs_of_a_pattern(rt: HostRuntime) -> Result<(), Fail> {
-    let stack = stacked(rt.alloc(), &["match=T[a-z]*"])?;
-    let check = stack.first().ok_or("no check")?;
-    for (name, makes_cases) in RUNS {
-        let lines = Texts {
-            check,
-            input: b"Two",
-            makes_cases,
-        };
-        let told = "true\nline 1: true\nvar.is_match(T[a-z]*) = true\n  - var: Two\n";
-        sweep(&rt, name, &lines, told, GoesOn)?;
-    }
-    Ok(())
-}
-
-// Nothing is read and nothing is written. A run over numbers prints its blocks before it reads.
-#[test]
-fn runs_over_nothing(rt: HostRuntime) -> Result<(), Fail> {
-    let nothing = Between { input: b"" };
-    sweep(&rt, "run_between over nothing", &nothing, "true\n", Taken)?;
-    let stack = stacked(rt.alloc(), &["empty"])?;
-    let check = stack.first().ok_or("no check")?;
-    for (name, makes_cases) in RUNS {
-        let nothing = Texts {
-            check,
-            input: b"",
-            makes_cases,
-        };
-        sweep(&rt, name, &nothing, "true\n", Never)?;
+    for (words, input, expected, memory) in TEXTS {
+        let stack = stacked(rt.alloc(), words)?;
+        let check = stack.first();
+        let name = format!(in rt.alloc(); "run_text of {words:?}")?;
+        sweep(&rt, name.as_str(), &Run { check, input }, expected, memory)?;
     }
     Ok(())
 }

@@ -1,6 +1,6 @@
 //! A call whose requests for memory are refused in turn.
 use super::allocator;
-use super::answer::{Answer, tell};
+use super::answer::{Answer, rendered};
 use std::alloc::{AllocError, Global};
 use std::process::Abort;
 use std::test::Fail;
@@ -8,7 +8,7 @@ use std::test::Fail;
 // More requests than any of the calls makes.
 const MOST: u16 = 4_000;
 
-/// A call that may ask for memory.
+/// A call that may request memory.
 pub trait Call {
     // It may be made.
     ghost ready: { Self → Type 0 } = { λ _. Unit {0} };
@@ -31,7 +31,7 @@ pub enum Memory {
     Never,
     /// It answers want of memory.
     Taken,
-    /// That, where it asks for any.
+    /// That, where it requests any.
     Perhaps,
     /// A library under it may go on by other means; the answer is then right.
     GoesOn,
@@ -50,12 +50,12 @@ fn is_right<C: Call>(alloc: Global, call: &C, expected: &str) -> Result<bool, Al
 {
     let operand = call.operand(alloc)?;
     let answer = call.call(alloc, operand)?;
-    is_told(alloc, &answer, expected)
+    reads_as(alloc, &answer, expected)
 }
 
 // Whether the answer reads so.
-fn is_told(alloc: Global, answer: &Answer, expected: &str) -> Result<bool, AllocError> {
-    Ok(tell(alloc, answer)?.as_str() == expected)
+fn reads_as(alloc: Global, answer: &Answer, expected: &str) -> Result<bool, AllocError> {
+    Ok(rendered(alloc, answer)?.as_str() == expected)
 }
 
 // Makes the call once, with a request refused alone or with all after it.
@@ -76,7 +76,7 @@ fn run<R: Abort + AllocGlobal, C: Call>(
     let answer = call.call(alloc, operand);
     let refused = allocator::was_refused(alloc);
     let found = match answer {
-        Ok(answer) => Some(is_told(alloc, &answer, expected)?),
+        Ok(answer) => Some(reads_as(alloc, &answer, expected)?),
         Err(AllocError) => None,
     };
     assert!(rt;
@@ -138,7 +138,7 @@ pub fn sweep<R: Abort + AllocGlobal + Print, C: Call>(
     let errors = refusals.saturating_sub(went_on);
     assert!(rt;
         memory != Memory::Never || requests == 0,
-        "{name}: it asks for memory"
+        "{name}: it requests memory"
     );
     assert!(rt;
         errors > 0 || memory == Memory::Perhaps || memory == Memory::Never,
@@ -161,20 +161,20 @@ pub struct Without<'a> {
     name: &'a str,
 }
 
-impl<'a> Without<'a> {
-    /// From here on each request is refused.
-    pub fn begin(alloc: Global, name: &'a str) -> Without<'a> {
-        allocator::refuse(alloc, 1, false);
-        Without { name }
-    }
+/// From here on each request is refused.
+pub fn refusing(alloc: Global, name: &str) -> Without<'_> {
+    allocator::refuse(alloc, 1, false);
+    Without { name }
+}
 
-    /// None was made, and what was answered is right.
+impl Without<'_> {
+    /// No request was made, and the answer is right.
     pub fn end<R: Abort + AllocGlobal + Print>(self, rt: &R, right: bool) -> Result<(), Fail> {
         let alloc = rt.alloc();
         let listens = allocator::listens(alloc);
-        let asked = listens && allocator::was_refused(alloc);
+        let requested = listens && allocator::was_refused(alloc);
         let name = self.name;
-        assert!(rt; !asked, "{name}: it asks for memory");
+        assert!(rt; !requested, "{name}: it requests memory");
         assert!(rt; right, "{name}: another answer");
         if listens {
             println!(rt; "{name}: without memory")?;

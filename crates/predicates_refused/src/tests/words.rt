@@ -1,11 +1,9 @@
 //! Words of a check of texts.
 use super::answer::Answer;
-use super::checks::stacked;
+use super::stacked::stacked;
 use super::sweep::Memory::{GoesOn, Never, Taken};
 use super::sweep::{Call, sweep};
-use super::text;
-use predicates_core::Predicate;
-use predicates_words::{Draft, TextCheck, Word, WordFault, apply_word, read_word};
+use predicates_explain::{TextCheck, Word, WordFault, apply_word, read_word};
 use std::alloc::{AllocError, Global};
 use std::test::Fail;
 
@@ -28,7 +26,7 @@ impl Call for Reading<'_> {
 
 #[test]
 fn tokens(rt: HostRuntime) -> Result<(), Fail> {
-    for (token, told, memory) in [
+    for (token, expected, memory) in [
         ("empty", "Some(Empty)", Never),
         ("eq=a=b", "Some(Equals(\"a=b\"))", Taken),
         ("starts=a", "Some(Starts(\"a\"))", Taken),
@@ -45,7 +43,7 @@ fn tokens(rt: HostRuntime) -> Result<(), Fail> {
         ("nor", "None", Never),
     ] {
         let name = format!(in rt.alloc(); "read_word of {token}")?;
-        sweep(&rt, name.as_str(), &Reading { token }, told, memory)?;
+        sweep(&rt, name.as_str(), &Reading { token }, expected, memory)?;
     }
     Ok(())
 }
@@ -78,7 +76,7 @@ impl Call for Applying<'_> {
 
 #[test]
 fn words_of_no_operands(rt: HostRuntime) -> Result<(), Fail> {
-    for (token, told, memory) in [
+    for (token, expected, memory) in [
         ("empty", "var.is_empty()\n", Taken),
         ("eq=a", "var == \"a\"\n", Taken),
         ("starts=a", "var.starts_with(\"a\")\n", Taken),
@@ -92,7 +90,7 @@ fn words_of_no_operands(rt: HostRuntime) -> Result<(), Fail> {
             &rt,
             name.as_str(),
             &Applying { before: &[], token },
-            told,
+            expected,
             memory,
         )?;
     }
@@ -101,7 +99,7 @@ fn words_of_no_operands(rt: HostRuntime) -> Result<(), Fail> {
 
 #[test]
 fn words_over_checks(rt: HostRuntime) -> Result<(), Fail> {
-    for (token, told) in [
+    for (token, expected) in [
         ("trim", "var.is_empty()\nvar.contains(a)\n"),
         ("normalize", "var.is_empty()\nvar.contains(a)\n"),
         ("not", "var.is_empty()\n(! var.contains(a))\n"),
@@ -115,7 +113,7 @@ fn words_over_checks(rt: HostRuntime) -> Result<(), Fail> {
             before: &before,
             token,
         };
-        sweep(&rt, name.as_str(), &applying, told, Taken)?;
+        sweep(&rt, name.as_str(), &applying, expected, Taken)?;
     }
     Ok(())
 }
@@ -129,46 +127,4 @@ fn missing_operands(rt: HostRuntime) -> Result<(), Fail> {
         sweep(&rt, name.as_str(), &applying, "another fault", Never)?;
     }
     Ok(())
-}
-
-// The lines of a check, of the verdict that it has.
-#[derive(Drop)]
-struct Writing;
-
-impl Call for Writing {
-    type Operand = (Vec<TextCheck>, String);
-
-    fn operand(&self, alloc: Global) -> Result<(Vec<TextCheck>, String), AllocError> {
-        let stack = stacked(alloc, &["empty", "trim", "not", "eq=b", "xor"])?;
-        Ok((stack, text(alloc, "  b")?))
-    }
-
-    fn call(&self, alloc: Global, operand: (Vec<TextCheck>, String)) -> Result<Answer, AllocError> {
-        let (stack, item) = operand;
-        let Some(check) = stack.first() else {
-            return Ok(Answer::OtherFault);
-        };
-        let verdict = check.eval(alloc, &item)?;
-        let mut out = String::new(alloc);
-        check.write_lines(alloc, verdict, &item, &mut Draft::new(alloc), &mut out)?;
-        Ok(Answer::Text(out))
-    }
-}
-
-#[test]
-fn written_lines(rt: HostRuntime) -> Result<(), Fail> {
-    sweep(
-        &rt,
-        "write_lines",
-        &Writing,
-        "\
-((! var.is_empty()) ^ var == \"b\") = true
-  left: (! var.is_empty()) = true
-    predicate: var.is_empty() = false
-      - var: b
-  right: var == \"b\" = false
-    - var: \"  b\"
-",
-        Taken,
-    )
 }

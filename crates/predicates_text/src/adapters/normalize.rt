@@ -6,13 +6,13 @@ ghost use Rattle.predicates_text.specs.ViewFormulaLaws.{each_text_fits, one_each
 ghost use Rattle.predicates_text.specs.ViewTexts.{has_even_lines, even_lines_are};
 ghost use Rattle.predicates_text.specs.AdapterParts.{normalized_part};
 
-use crate::views::lines_even_copy;
+use crate::views::lines_even_view;
 use predicates_core::reflection::{Case, Child, Parameter, PredicateReflection, describe};
 use predicates_core::{Predicate, ReadsContent, Total};
 use std::alloc::{AllocError, Global};
 use std::fmt;
 
-/// Hands on a text with even line endings. It takes memory for a copy only where there is a
+/// Evaluates its part on the text with even line endings. It takes memory for a copy only where there is a
 /// carriage return. Made by `PredicateStrExt::normalize`.
 #[derive(Debug, Clone, Copy, PartialEq, Eq, Drop)]
 pub struct NormalizedPredicate<P> {
@@ -20,7 +20,7 @@ pub struct NormalizedPredicate<P> {
 }
 
 impl<P> NormalizedPredicate<P> {
-    // The predicate that hands on to this one.
+    // The adapter over this predicate.
     pub(crate) fn new(inner: P) -> NormalizedPredicate<P>
         ensures { normalized_part result ≡ inner }
     {
@@ -60,7 +60,7 @@ impl<P: Predicate<String>> Predicate<String> for NormalizedPredicate<P> {
 
     ghost formula = { λ p v. IsOfEach (P.formula (normalized_part p)) (HasEvenLinesOf v) };
 
-    ghost steady = { λ p v. ⊥ };
+    ghost infallible = { λ p v. ⊥ };
 
     ghost text_fits = { λ p v f h. each_text_fits (P.output (normalized_part p)) (has_even_lines v)
         (λ t. P.text_fits (normalized_part p) t f) h };
@@ -68,25 +68,23 @@ impl<P: Predicate<String>> Predicate<String> for NormalizedPredicate<P> {
     ghost one_formula = { λ p v f g lawful h k. one_each (has_even_lines v)
         (λ t. P.one_formula (normalized_part p) t f g lawful) h k };
 
-    #[tactic(auto, using(crate::proofs::Handing::handing))]
+    #[tactic(auto, using(crate::proofs::AdapterAnswers::adapters))]
     fn eval(&self, alloc: Global, item: &String) -> Result<bool, AllocError> {
-        match lines_even_copy(alloc, item)? {
-            None => self.inner.eval(alloc, item),
-            Some(view) => self.inner.eval(alloc, &view),
-        }
+        let mut copy = String::new(alloc);
+        let view = lines_even_view(alloc, item, &mut copy)?;
+        self.inner.eval(alloc, view)
     }
 
-    #[tactic(auto, using(crate::proofs::Handing::handing))]
+    #[tactic(auto, using(crate::proofs::AdapterAnswers::adapters))]
     fn find_case(
         &self,
         alloc: Global,
         expected: bool,
         item: &String,
     ) -> Result<Option<Case>, AllocError> {
-        match lines_even_copy(alloc, item)? {
-            None => self.inner.find_case(alloc, expected, item),
-            Some(view) => self.inner.find_case(alloc, expected, &view),
-        }
+        let mut copy = String::new(alloc);
+        let view = lines_even_view(alloc, item, &mut copy)?;
+        self.inner.find_case(alloc, expected, view)
     }
 }
 

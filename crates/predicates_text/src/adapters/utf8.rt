@@ -9,14 +9,14 @@ ghost use Rattle.predicates_text.specs.ViewFormulaLaws.{has_decoded_formula};
 ghost use Rattle.predicates_text.specs.ViewTexts.{text_or_other};
 ghost use Rattle.predicates_text.specs.AdapterParts.{utf8_part};
 
-use predicates_core::node::{alone, printed, showing, showing_text};
+use predicates_core::node::{leaf_node, printed, showing, showing_text};
 use predicates_core::reflection::{Case, Child, Parameter, PredicateReflection, describe};
 use predicates_core::{Predicate, ReadsContent, Total};
 use simdutf8::basic::from_utf8;
 use std::alloc::{AllocError, Global};
 use std::fmt;
 
-/// Hands on the text that the bytes are, and does not hold of other bytes. Made by
+/// Evaluates its part on the text that the bytes encode, and is false on other bytes. Made by
 /// `PredicateStrExt::from_utf8`.
 #[derive(Debug, Clone, Copy, PartialEq, Eq, Drop)]
 pub struct Utf8Predicate<P> {
@@ -24,7 +24,7 @@ pub struct Utf8Predicate<P> {
 }
 
 impl<P> Utf8Predicate<P> {
-    // The predicate that hands on to this one.
+    // The adapter over this predicate.
     pub(crate) fn new(inner: P) -> Utf8Predicate<P>
         ensures { utf8_part result ≡ inner }
     {
@@ -32,7 +32,7 @@ impl<P> Utf8Predicate<P> {
     }
 }
 
-// The text that the bytes are, or nothing. Other bytes take no memory.
+// The text that the bytes encode, if they are UTF-8. Other bytes take no memory.
 fn decode(alloc: Global, bytes: &Vec<u8>) -> Result<Option<String>, AllocError>
     ensures text { IfOk result
         (λ found. MatchOption found (¬ (IsUtf8 bytes.now.items))
@@ -78,14 +78,14 @@ impl<P: Predicate<String>> Predicate<Vec<u8>> for Utf8Predicate<P> {
 
     ghost formula = { λ p v. IsDecoded (P.output (utf8_part p)) (P.formula (utf8_part p)) v.items };
 
-    ghost steady = { λ p v. ¬ (IsUtf8 v.items) };
+    ghost infallible = { λ p v. ¬ (IsUtf8 v.items) };
 
     ghost text_fits = { λ p v f h. decoded_text_fits (text_or_other v) (P.text_fits (utf8_part p)) h };
 
     ghost one_formula = { λ p v f g lawful h k. one_decoded (text_or_other v)
         (λ t x y. P.one_formula (utf8_part p) t x y lawful) h k };
 
-    #[tactic(auto, using(crate::proofs::Handing::decoding))]
+    #[tactic(auto, using(crate::proofs::AdapterAnswers::decoding))]
     fn eval(&self, alloc: Global, item: &Vec<u8>) -> Result<bool, AllocError> {
         match decode(alloc, item)? {
             Some(text) => self.inner.eval(alloc, &text),
@@ -93,7 +93,7 @@ impl<P: Predicate<String>> Predicate<Vec<u8>> for Utf8Predicate<P> {
         }
     }
 
-    #[tactic(auto, using(crate::proofs::Handing::decoding))]
+    #[tactic(auto, using(crate::proofs::AdapterAnswers::decoding))]
     fn find_case(
         &self,
         alloc: Global,
@@ -104,7 +104,7 @@ impl<P: Predicate<String>> Predicate<Vec<u8>> for Utf8Predicate<P> {
             if expected {
                 return Ok(None);
             }
-            let case = alone(alloc, printed(alloc, self)?, expected);
+            let case = leaf_node(alloc, printed(alloc, self)?, expected);
             return Ok(Some(showing_text(alloc, case, "error", "Invalid UTF-8 string")?));
         };
         let Some(case) = self.inner.find_case(alloc, expected, &text)? else {

@@ -31,7 +31,7 @@ loop-after-preserved c =
 pub returns : goal.returns
 returns c =
     let same : c.loop-after.count + 0 ≡ c.loop-after.count = omega arith in
-    let none = c.in_default-past_first.ensures in
+    let none = c.in_default-after_first_match.ensures in
     let counts = subst (λ m. IsCountOf (chars c.args.pattern.now) (chars c.args.text.now) m) same
     (c.loop-after.invariant.2.among_characters 0 none.among_characters) in
     record {

@@ -1,10 +1,9 @@
 use Rattle.std.specs.Prelude.{All}
-use Rattle.std.proofs.Common.{◌≡◌, ◌≢◌, sym, subst, ◌++◌, ◌∷◌, [], ◌∙◌, ap, lit<, string_bytes, ◌<◌}
-use Rattle.std.specs.Char.{encode_utf8}
+use Rattle.std.proofs.Common.{◌≡◌, ◌≢◌, sym, subst, ◌++◌, ◌∷◌, [], ◌∙◌, ap, string_bytes}
 use Rattle.std.specs.Str.{chars}
 use Rattle.std.proofs.lemmas.Str.{IsUtf8-string_bytes, chars-nil}
 use Rattle.predicates_text.specs.Views.{lines_even}
-use Rattle.predicates_text.proofs.Evening.{line_turn, line_end, lines_even-lacks, lines_even_twice, IsLineTurn}
+use Rattle.predicates_text.proofs.LineEndings.{line_turn, line_end, lines_even-lacks, lines_even_twice, IsLineTurn}
 use Rattle.predicates_text.proofs.views.lines_even.Goals as goal
 
 pub loop-line-init : goal.loop-line-init

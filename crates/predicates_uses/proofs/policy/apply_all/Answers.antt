@@ -1,6 +1,6 @@
 use Rattle.std.proofs.Common.{◌≡◌, rules, arith, sym, subst, take, get_or, string_bytes}
 use Rattle.std.proofs.lemmas.List.{take_more}
-use Rattle.predicates_words.specs.Tokens.{token_of}
+use Rattle.predicates_explain.specs.Tokens.{token_of}
 use Rattle.predicates_uses.specs.Applied.{AreApplied, IsNoWord}
 use Rattle.predicates_uses.proofs.Applying.{one_more, stops_at, fault_of_word}
 use Rattle.predicates_uses.proofs.policy.apply_all.Goals as goal

@@ -3,4 +3,4 @@ use Rattle.predicates_boolean.proofs.Names.{IsCaseOf-under}
 use Rattle.predicates_boolean.proofs.name.NamePredicatePredicate.find_case.Goals as goal
 
 pub returns : goal.returns
-returns g c = IsCaseOf-under c.in_ok-over_one.ensures (search rules) (search rules) (search rules)
+returns g c = IsCaseOf-under c.in_ok-unary_node.ensures (search rules) (search rules) (search rules)

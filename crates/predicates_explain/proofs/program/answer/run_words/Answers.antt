@@ -1,7 +1,7 @@
 use Rattle.std.proofs.Common.{arith, codes, refl}
 use Rattle.std.specs.Int.{w64}
 use Rattle.std.proofs.lemmas.Int.{to_z-of_z}
-use Rattle.predicates_explain.specs.Typed.{typed, wrong_bounds}
+use Rattle.predicates_explain.specs.CommandLine.{typed, wrong_bounds}
 use Rattle.predicates_explain.proofs.Ending.{others_of, first_word, ends_between, ends_text, ends_by_fault}
 use Rattle.predicates_explain.proofs.program.answer.run_words.Goals as goal
 
@@ -10,7 +10,7 @@ returns-in-Some g c =
     let first = first_word c.args.words.now c.name-item.result (codes "between") (omega (arith, c.in-len1-up.len_at_least)) c.name-item.is (c.is_name.ensures.0 c.if-is_name.true) in
     let lo = to_z-of_z w64 c.in-Some.lo c.in-Some.ensures.3.fits in
     let hi = to_z-of_z w64 c.in-Some.hi c.in-Some.ensures.4.fits in
-    rw c.end_of_run.ensures (ends_between _ _ _ _ _ _ c.run_between.result c.in-Some.lo c.in-Some.hi (typed (others_of c.args.words.now), first, c.in-Some.ensures) (rw (lo, hi) at c.run_between.ensures))
+    rw c.end_of_run.ensures (ends_between _ _ _ _ _ _ c.run_between.result c.in-Some.lo c.in-Some.hi (typed (others_of c.args.words.now), first, c.in-Some.ensures) (rw (lo, hi) at c.run_between.ensures.run))
 
 pub returns-in-None : goal.returns-in-None
 returns-in-None g c =
@@ -20,7 +20,7 @@ returns-in-None g c =
 pub returns-in-Ok : goal.returns-in-Ok
 returns-in-Ok g c =
     let first = first_word c.args.words.now c.name-item-2.result (codes "text") (omega (arith, c.in-len1-up.len_at_least)) c.name-item-2.is (c.is_name-2.ensures.0 c.if-is_name-2.true) in
-    rw c.end_of_run-in-Ok.ensures (ends_text _ _ _ _ _ _ c.run_check.result c.in-Ok.check (typed (others_of c.args.words.now), first, c.in-Ok.ensures.made) c.run_check.ensures)
+    rw c.end_of_run-in-Ok.ensures (ends_text _ _ _ _ _ _ c.run_text.result c.in-Ok.check (typed (others_of c.args.words.now), first, c.in-Ok.ensures.made) c.run_text.ensures)
 
 pub returns-in-Err : goal.returns-in-Err
 returns-in-Err g c =

@@ -1,5 +1,5 @@
 use Rattle.std.proofs.Common.{arith}
-use Rattle.predicates_explain.proofs.Typing.{two_words, numbers_of}
+use Rattle.predicates_explain.proofs.CommandLine.{two_words, numbers_of}
 use Rattle.predicates_explain.proofs.program.read.read_bounds.Goals as goal
 
 pub returns-in-len2 : goal.returns-in-len2

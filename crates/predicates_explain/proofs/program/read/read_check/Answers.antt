@@ -1,5 +1,5 @@
 use Rattle.std.proofs.Common.{arith}
-use Rattle.predicates_explain.specs.Typed.{checks}
+use Rattle.predicates_explain.specs.CommandLine.{checks}
 use Rattle.predicates_explain.proofs.program.read.read_check.Goals as goal
 
 pub returns-then-not-is_one-clause-fault : goal.returns-then-not-is_one-clause-fault

@@ -1,5 +1,5 @@
 use Rattle.std.proofs.Common.{[], take}
-use Rattle.predicates_explain.specs.Typed.{typed, Makes}
+use Rattle.predicates_explain.specs.CommandLine.{typed, Makes}
 use Rattle.predicates_explain.proofs.program.read.read_checks.Given as goal
 
 abbrev pub invariant-loop-token : goal.invariant-loop-token

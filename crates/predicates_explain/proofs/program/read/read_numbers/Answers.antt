@@ -1,6 +1,6 @@
 use Rattle.std.specs.Int.{w64}
 use Rattle.std.proofs.lemmas.Int.{to_z-of_z}
-use Rattle.predicates_explain.proofs.Typing.{found, not_found}
+use Rattle.predicates_explain.proofs.CommandLine.{found, not_found}
 use Rattle.predicates_explain.proofs.program.read.read_numbers.Goals as goal
 
 pub returns-in-Some-Some : goal.returns-in-Some-Some

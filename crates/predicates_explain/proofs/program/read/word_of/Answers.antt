@@ -1,4 +1,4 @@
-use Rattle.predicates_explain.proofs.Typing.{no_token}
+use Rattle.predicates_explain.proofs.CommandLine.{no_token}
 use Rattle.predicates_explain.proofs.program.read.word_of.Goals as goal
 
 pub returns-in-Err : goal.returns-in-Err

@@ -1,6 +1,0 @@
-use Rattle.std.proofs.Common.{rules}
-use Rattle.predicates_core.proofs.Leaves.{IsCaseOf-leaf, HasTruth-exactly}
-use Rattle.predicates_boolean.proofs.own.cases.bare_case.Goals as goal
-
-pub returns : goal.returns
-returns g c = IsCaseOf-leaf c.alone.ensures (search rules) (HasTruth-exactly (search rules))

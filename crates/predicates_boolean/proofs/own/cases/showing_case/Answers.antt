@@ -1,6 +1,0 @@
-use Rattle.std.proofs.Common.{rules}
-use Rattle.predicates_core.proofs.Leaves.{IsCaseOf-showing, HasTruth-exactly}
-use Rattle.predicates_boolean.proofs.own.cases.showing_case.Goals as goal
-
-pub returns : goal.returns
-returns g c = IsCaseOf-showing c.in_ok-showing_item.ensures c.alone-case.ensures (search rules) (HasTruth-exactly (search rules))

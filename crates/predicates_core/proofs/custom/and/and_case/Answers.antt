@@ -1,0 +1,28 @@
+use Rattle.std.proofs.Common.{rules, ◌∙◌}
+use Rattle.predicates_core.proofs.ShortCircuit.{where_asked, where_decided, and_asks, and_ends, HasTruth-and_in_turn, IsCaseOf-and_in_turn}
+use Rattle.predicates_core.proofs.custom.and.and_case.Goals as goal
+use Rattle.predicates_core.proofs.custom.and.and_case.Goals.{then-left_holds+in_ok-right, else-left_holds, then-left_holds-2, else-left_holds-2}
+
+pub returns-then-holds-expected : goal.returns-then-holds-expected
+returns-then-holds-expected g c = HasTruth-and_in_turn c.args.expected c.in_ok-left.left c.if-left_holds.right (search rules)
+    (elim c.if-left_holds.branch [
+      | then-left_holds+in_ok-right w ↦ where_asked c.in_ok-left.left c.is_some.ensures (search rules) (search rules)
+      | else-left_holds w ↦ where_decided c.in_ok-left.left c.is_some.ensures (search rules) (search rules)
+    ])
+    (elim c.if-left_holds-2.branch [
+      | then-left_holds-2 w ↦ and_asks (cc (c.is_some.ensures, w.if-left_holds-2.true)) (cc (w.holds-is, w.is_some-then-left_holds-2.ensures))
+      | else-left_holds-2 w ↦ and_ends (cc (c.is_some.ensures, w.if-left_holds-2.false)) (w.holds-is ∙ w.if-left_holds-2.false)
+    ])
+    c.if-holds-expected.true
+
+pub returns : goal.returns
+returns g c = IsCaseOf-and_in_turn c.args.expected c.in_ok-left.left c.if-left_holds.right c.in_ok-binary_node_of.ensures (search rules) (search rules)
+    (elim c.if-left_holds.branch [
+      | then-left_holds+in_ok-right v ↦ where_asked c.in_ok-left.left c.is_some.ensures (search rules) (search rules)
+      | else-left_holds v ↦ where_decided c.in_ok-left.left c.is_some.ensures (search rules) (search rules)
+    ])
+    (elim c.if-left_holds-2.branch [
+      | then-left_holds-2 v ↦ and_asks (cc (c.is_some.ensures, v.if-left_holds-2.true)) (cc (v.holds-is, v.is_some-then-left_holds-2.ensures))
+      | else-left_holds-2 v ↦ and_ends (cc (c.is_some.ensures, v.if-left_holds-2.false)) (v.holds-is ∙ v.if-left_holds-2.false)
+    ])
+    c.if-holds-expected.false

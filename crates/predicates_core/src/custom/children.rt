@@ -1,0 +1,24 @@
+//! The description of two parts.
+ghost use Rattle.std.specs.Prelude.{IfOk, codes};
+ghost use Rattle.predicates_core.specs.Parts.{FitsParts, two_parts};
+ghost use Rattle.predicates_core.specs.Tree.{forest};
+
+use crate::reflection::{Child, PredicateReflection, describe};
+use std::alloc::{AllocError, Global};
+
+/// The descriptions of a left and a right part, for `children`.
+pub fn two_children<P: PredicateReflection, Q: PredicateReflection>(
+    alloc: Global,
+    left: &P,
+    right: &Q,
+) -> Result<Vec<Child>, AllocError>
+    ensures { IfOk result (λ children. FitsParts (two_parts
+        (codes "left") (P.output left.now) (P.parameters_of left.now) (P.children_of left.now)
+        (codes "right") (Q.output right.now) (Q.parameters_of right.now) (Q.children_of right.now))
+        (forest children.items)) }
+{
+    let mut children = Vec::new(alloc);
+    children.push(describe(alloc, "left", left)?)?;
+    children.push(describe(alloc, "right", right)?)?;
+    Ok(children)
+}

@@ -1,0 +1,49 @@
+//! The cases of leaves.
+ghost use Rattle.std.specs.Prelude.{IfOk, codes};
+ghost use Rattle.predicates_core.specs.Formula.{Leaf};
+ghost use Rattle.predicates_core.specs.Label.{plain, showing};
+ghost use Rattle.predicates_core.specs.Leaves.{IsExactly};
+ghost use Rattle.predicates_core.specs.Shows.{IsAnswer};
+
+use crate::node::{leaf_node, printed, showing_item};
+use crate::reflection::Case;
+use std::alloc::{AllocError, Global};
+use std::fmt;
+
+/// What `find_case` of a leaf without products is to answer, where the leaf `holds` or does not. It
+/// takes memory for the case alone.
+#[tactic(auto, using(crate::proofs::Leaves::leaves))]
+pub fn bare_case<P: fmt::Display>(
+    alloc: Global,
+    leaf: &P,
+    holds: bool,
+    expected: bool,
+) -> Result<Option<Case>, AllocError>
+    ensures { IfOk result
+        (IsAnswer (IsExactly (Leaf (plain (P.output leaf.now)) holds)) expected) }
+{
+    if holds != expected {
+        return Ok(None);
+    }
+    Ok(Some(leaf_node(alloc, printed(alloc, leaf)?, expected)))
+}
+
+/// The same of a leaf that shows the item's debug form as its product `var`.
+#[tactic(auto, using(crate::proofs::Leaves::leaves))]
+pub fn showing_case<P: fmt::Display, Item: fmt::Debug>(
+    alloc: Global,
+    leaf: &P,
+    holds: bool,
+    expected: bool,
+    item: &Item,
+) -> Result<Option<Case>, AllocError>
+    ensures { IfOk result (IsAnswer (IsExactly
+        (Leaf (showing (P.output leaf.now) (codes "var") (Item.debug_output item.now)) holds))
+        expected) }
+{
+    if holds != expected {
+        return Ok(None);
+    }
+    let case = leaf_node(alloc, printed(alloc, leaf)?, expected);
+    Ok(Some(showing_item(alloc, case, item)?))
+}

@@ -1,0 +1,30 @@
+//! The case of a negation, over a part that is asked here.
+ghost use Rattle.std.specs.Prelude.{IfOk};
+ghost use Rattle.predicates_core.specs.Combined.{IsNot};
+ghost use Rattle.predicates_core.specs.Shows.{IsAnswer};
+
+use crate::Predicate;
+use crate::node::{printed, unary_node};
+use crate::reflection::Case;
+use std::alloc::{AllocError, Global};
+use std::fmt;
+
+/// What `find_case` of a predicate is to answer that holds where its part does not.
+#[tactic(auto, using(crate::proofs::CombinedLemmas::combined))]
+pub fn not_case<W: fmt::Display, P: Predicate<Item>, Item>(
+    alloc: Global,
+    whole: &W,
+    inner: &P,
+    expected: bool,
+    item: &Item,
+) -> Result<Option<Case>, AllocError>
+    requires { P.lawful inner.now }
+    ensures { IfOk result
+        (IsAnswer (IsNot (W.output whole.now) (P.formula inner.now item.now)) expected) }
+{
+    let Some(part) = inner.find_case(alloc, !expected, item)? else {
+        return Ok(None);
+    };
+    let text = printed(alloc, whole)?;
+    Ok(Some(unary_node(alloc, text, expected, "predicate", part)?))
+}

@@ -1,3 +1,0 @@
-mod cases;
-mod list;
-mod static_text;

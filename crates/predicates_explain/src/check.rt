@@ -1,0 +1,241 @@
+//! A check of texts, made of words.
+ghost use Rattle.std.specs.Prelude.{[], string_bytes};
+ghost use Rattle.predicates_core.specs.Tree.{empty};
+ghost use Rattle.predicates_explain.specs.Checks.{check_text, check_formula, HasFormula};
+ghost use Rattle.predicates_explain.specs.Checks.{IsInfallibleCheck};
+ghost use Rattle.predicates_explain.specs.CheckLaws.{check_text_fits, one_check, has_check_formula};
+ghost use Rattle.predicates_explain.specs.Weight.{IsLeafCheck};
+
+mod find;
+mod rotate;
+
+use predicates::ord::EqPredicate;
+use predicates::reflection::{Case, Child, Parameter, PredicateReflection};
+use predicates::str::{
+    ContainsPredicate, EndsWithPredicate, IsEmptyPredicate, RegexPredicate, StartsWithPredicate,
+    lines_even_view, trimmed_view,
+};
+use predicates::{Predicate, ReadsContent, Total};
+use rotate::rotate_left;
+use std::alloc::{AllocError, Global};
+use std::fmt;
+
+/// A check of texts, with a variant for each word of `Word`. It has no parameters and no children.
+///
+/// Its `eval` takes no memory except under `Matches`, `Trim` and `Normalize`.
+pub enum TextCheck {
+    /// The text has no characters.
+    Empty(IsEmptyPredicate),
+    /// The text is the constant.
+    Equals(EqPredicate<String>),
+    /// The text begins with the pattern.
+    Starts(StartsWithPredicate),
+    /// The text ends with the pattern.
+    Ends(EndsWithPredicate),
+    /// The pattern has a place in the text.
+    Contains(ContainsPredicate),
+    /// The regular expression has a match in the text.
+    Matches(RegexPredicate),
+    /// The check holds of the text without the white space at its ends.
+    Trim(Box<TextCheck>),
+    /// The check holds of the text with even line endings.
+    Normalize(Box<TextCheck>),
+    /// The check does not hold.
+    Not(Box<TextCheck>),
+    /// Both checks hold; the right one is asked only where the left one holds.
+    And(Box<TextCheck>, Box<TextCheck>),
+    /// One or both checks hold; the right one is asked only where the left one does not hold.
+    Or(Box<TextCheck>, Box<TextCheck>),
+    /// Exactly one check holds; both are asked.
+    Xor(Box<TextCheck>, Box<TextCheck>),
+}
+
+impl TextCheck {
+    // Drops a check without parts.
+    fn drop_leaf(self)
+        requires { IsLeafCheck self }
+    {
+        match self {
+            TextCheck::Empty(_)
+            | TextCheck::Equals(_)
+            | TextCheck::Starts(_)
+            | TextCheck::Ends(_)
+            | TextCheck::Contains(_)
+            | TextCheck::Matches(_) => {}
+            _ => unreachable!(),
+        }
+    }
+}
+
+// A loop, so that a deep check does not run out of stack: it rotates left parts to the right until
+// there are none. It takes no memory.
+impl Drop for TextCheck {
+    fn drop(mut self) {
+        loop {
+            match self {
+                TextCheck::Trim(inner) | TextCheck::Normalize(inner) | TextCheck::Not(inner) => {
+                    self = Box::into_inner(inner);
+                }
+                TextCheck::And(mut left, mut right)
+                | TextCheck::Or(mut left, mut right)
+                | TextCheck::Xor(mut left, mut right) => {
+                    if rotate_left(&mut left, &mut right) {
+                        self = TextCheck::And(right, left);
+                    } else {
+                        Box::into_inner(left).drop_leaf();
+                        self = Box::into_inner(right);
+                    }
+                }
+                TextCheck::Empty(_)
+                | TextCheck::Equals(_)
+                | TextCheck::Starts(_)
+                | TextCheck::Ends(_)
+                | TextCheck::Contains(_)
+                | TextCheck::Matches(_) => return,
+            }
+        }
+    }
+}
+
+impl fmt::Display for TextCheck {
+    ghost output = { λ c. check_text c };
+
+    fn fmt<W: fmt::Write>(&self, f: &mut fmt::Formatter<W>) -> fmt::Result {
+        match self {
+            TextCheck::Empty(leaf) => leaf.fmt(f),
+            TextCheck::Equals(leaf) => leaf.fmt(f),
+            TextCheck::Starts(leaf) => leaf.fmt(f),
+            TextCheck::Ends(leaf) => leaf.fmt(f),
+            TextCheck::Contains(leaf) => leaf.fmt(f),
+            TextCheck::Matches(leaf) => leaf.fmt(f),
+            TextCheck::Trim(inner) | TextCheck::Normalize(inner) => (**inner).fmt(f),
+            TextCheck::Not(inner) => {
+                write!(f, "(! ")?;
+                (**inner).fmt(f)?;
+                write!(f, ")")
+            }
+            TextCheck::And(left, right) => {
+                write!(f, "(")?;
+                (**left).fmt(f)?;
+                write!(f, " && ")?;
+                (**right).fmt(f)?;
+                write!(f, ")")
+            }
+            TextCheck::Or(left, right) => {
+                write!(f, "(")?;
+                (**left).fmt(f)?;
+                write!(f, " || ")?;
+                (**right).fmt(f)?;
+                write!(f, ")")
+            }
+            TextCheck::Xor(left, right) => {
+                write!(f, "(")?;
+                (**left).fmt(f)?;
+                write!(f, " ^ ")?;
+                (**right).fmt(f)?;
+                write!(f, ")")
+            }
+        }
+    }
+}
+
+impl PredicateReflection for TextCheck {
+    ghost parameters_of = { λ _. [] };
+
+    ghost children_of = { λ _. empty };
+
+    fn parameters(&self, alloc: Global) -> Result<Vec<Parameter>, AllocError> {
+        Ok(Vec::new(alloc))
+    }
+
+    fn children(&self, alloc: Global) -> Result<Vec<Child>, AllocError> {
+        Ok(Vec::new(alloc))
+    }
+}
+
+impl Predicate<String> for TextCheck {
+    ghost formula = { λ c v. HasFormula c (string_bytes v) };
+
+    ghost infallible = { λ c _. IsInfallibleCheck c };
+
+    ghost text_fits = { λ c v f. check_text_fits c (string_bytes v) f };
+
+    ghost one_formula = { λ c v f g lawful. one_check c (string_bytes v) f g };
+
+    #[tactic(auto, using(predicates_core::proofs::CombinedLemmas::combined))]
+    fn eval(&self, alloc: Global, item: &String) -> Result<bool, AllocError> {
+        match self {
+            TextCheck::Empty(leaf) => leaf.eval(alloc, item),
+            TextCheck::Equals(leaf) => leaf.eval(alloc, item),
+            TextCheck::Starts(leaf) => leaf.eval(alloc, item),
+            TextCheck::Ends(leaf) => leaf.eval(alloc, item),
+            TextCheck::Contains(leaf) => leaf.eval(alloc, item),
+            TextCheck::Matches(leaf) => leaf.eval(alloc, item),
+            TextCheck::Trim(inner) => {
+                let mut copy = String::new(alloc);
+                inner.eval(alloc, trimmed_view(alloc, item, &mut copy)?)
+            }
+            TextCheck::Normalize(inner) => {
+                let mut copy = String::new(alloc);
+                inner.eval(alloc, lines_even_view(alloc, item, &mut copy)?)
+            }
+            TextCheck::Not(inner) => Ok(!inner.eval(alloc, item)?),
+            TextCheck::And(left, right) => {
+                Ok(left.eval(alloc, item)? && right.eval(alloc, item)?)
+            }
+            TextCheck::Or(left, right) => {
+                Ok(left.eval(alloc, item)? || right.eval(alloc, item)?)
+            }
+            TextCheck::Xor(left, right) => {
+                Ok(left.eval(alloc, item)? != right.eval(alloc, item)?)
+            }
+        }
+    }
+
+    /// A check that joins two others is evaluated first, so that no case of a part is made in vain.
+    #[cycle(find)]
+    fn find_case(
+        &self,
+        alloc: Global,
+        expected: bool,
+        item: &String,
+    ) -> Result<Option<Case>, AllocError> {
+        match self {
+            TextCheck::Empty(leaf) => leaf.find_case(alloc, expected, item),
+            TextCheck::Equals(leaf) => leaf.find_case(alloc, expected, item),
+            TextCheck::Starts(leaf) => leaf.find_case(alloc, expected, item),
+            TextCheck::Ends(leaf) => leaf.find_case(alloc, expected, item),
+            TextCheck::Contains(leaf) => leaf.find_case(alloc, expected, item),
+            TextCheck::Matches(leaf) => leaf.find_case(alloc, expected, item),
+            TextCheck::Trim(inner) => {
+                let mut copy = String::new(alloc);
+                inner.find_case(alloc, expected, trimmed_view(alloc, item, &mut copy)?)
+            }
+            TextCheck::Normalize(inner) => {
+                let mut copy = String::new(alloc);
+                inner.find_case(alloc, expected, lines_even_view(alloc, item, &mut copy)?)
+            }
+            TextCheck::Not(inner) => self.find_not(alloc, inner, expected, item),
+            _ if self.eval(alloc, item)? != expected => Ok(None),
+            TextCheck::And(left, right) => self.find_and(alloc, left, right, expected, item),
+            TextCheck::Or(left, right) => self.find_or(alloc, left, right, expected, item),
+            TextCheck::Xor(left, right) => self.find_xor(alloc, left, right, expected, item),
+        }
+    }
+}
+
+impl Total<String> for TextCheck {
+    ghost formula_of = { λ c v. check_formula c (string_bytes v) };
+
+    ghost always_lawful = { λ c. tt };
+
+    ghost has_formula = { λ c v. has_check_formula c (string_bytes v) };
+}
+
+impl ReadsContent<String> for TextCheck {
+    ghost content_formula = { λ c bytes. check_formula c bytes };
+
+    ghost always_lawful = { λ c. tt };
+
+    ghost has_formula = { λ c v. has_check_formula c (string_bytes v) };
+}

@@ -1,0 +1,43 @@
+//! Why a run ended before its input did.
+ghost use Rattle.std.specs.Prelude.{◌≡◌};
+ghost use Rattle.predicates_explain.specs.declared.run_fault.RunFault.TheVariants.{NoMemory};
+
+use std::alloc::AllocError;
+use std::error::Error;
+use std::fmt;
+
+/// Why a run ended before its input did. After it nothing is said of how much was written.
+#[derive(Clone, Copy, Debug, PartialEq, Eq)]
+pub enum RunFault {
+    /// Memory was refused.
+    NoMemory,
+    /// A read failed, or there were more lines than 64 bits count.
+    Input,
+    /// A write failed.
+    Output,
+}
+
+impl fmt::Display for RunFault {
+    ghost use Rattle.std.specs.Prelude.{Some};
+    ghost use Rattle.predicates_explain.specs.RunFault.{fault_text};
+
+    ghost output = { λ fault. Some (fault_text fault) };
+
+    fn fmt<W: fmt::Write>(&self, f: &mut fmt::Formatter<W>) -> fmt::Result {
+        match self {
+            RunFault::NoMemory => write!(f, "no memory"),
+            RunFault::Input => write!(f, "input fault"),
+            RunFault::Output => write!(f, "output fault"),
+        }
+    }
+}
+
+impl Error for RunFault {}
+
+impl From<AllocError> for RunFault {
+    ghost from_gives = { λ _ fault. fault ≡ NoMemory };
+
+    fn from(_error: AllocError) -> RunFault {
+        RunFault::NoMemory
+    }
+}

@@ -1,5 +1,0 @@
-mod numbers;
-mod program;
-mod streams;
-mod text_rows;
-mod texts;

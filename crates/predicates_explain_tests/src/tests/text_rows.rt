@@ -1,0 +1,157 @@
+use predicates::BoxPredicate;
+use predicates::prelude::*;
+use predicates_explain::{TextCheck, apply_word, read_word, run_text};
+use std::alloc::Global;
+use std::test::Fail;
+
+// Tokens, an input, what is written for it, and whether every line is a text.
+const ROWS: [(&[&str], &[u8], &str, bool); 7] = [
+    (
+        &["empty", "trim", "contains=a", "or"],
+        b"  \n",
+        "\
+line 1: true
+(var.is_empty() || var.contains(a)) = true
+  left: var.is_empty() = true
+    - var: \n",
+        true,
+    ),
+    (
+        &["contains=a", "normalize", "match=T[a-z]*", "or"],
+        b"Two",
+        "\
+line 1: true
+(var.contains(a) || var.is_match(T[a-z]*)) = true
+  right: var.is_match(T[a-z]*) = true
+    - var: Two
+",
+        true,
+    ),
+    (
+        &["empty", "contains=a", "xor"],
+        b"b",
+        "\
+line 1: false
+(var.is_empty() ^ var.contains(a)) = false
+  left: var.is_empty() = false
+    - var: b
+  right: var.contains(a) = false
+    - var: b
+",
+        true,
+    ),
+    (
+        &["starts=a", "ends=b", "and"],
+        b"ab\nba\n",
+        "\
+line 1: true
+(var.starts_with(\"a\") && var.ends_with(\"b\")) = true
+  left: var.starts_with(\"a\") = true
+    - var: ab
+  right: var.ends_with(\"b\") = true
+    - var: ab
+line 2: false
+(var.starts_with(\"a\") && var.ends_with(\"b\")) = false
+  left: var.starts_with(\"a\") = false
+    - var: ba
+",
+        true,
+    ),
+    (&["empty"], b"\xff\n", "line 1: not UTF-8\n", false),
+    (
+        &["empty"],
+        b"a\r\n",
+        "line 1: false\nvar.is_empty() = false\n  - var: a\r\n",
+        true,
+    ),
+    (
+        &["eq=a", "not"],
+        b"a\n\xc3\n\n",
+        "\
+line 1: false
+(! var == \"a\") = false
+  predicate: var == \"a\" = true
+    - var: \"a\"
+line 2: not UTF-8
+line 3: true
+(! var == \"a\") = true
+  predicate: var == \"a\" = false
+    - var: \"\"
+",
+        false,
+    ),
+];
+
+// Puts the check that the token names on the stack.
+fn apply(alloc: Global, stack: &mut Vec<TextCheck>, token: &str) -> Result<(), Fail> {
+    let word = read_word(alloc, token)?.ok_or("a token of no word")?;
+    if apply_word(alloc, stack, word).is_err() {
+        return Err("a word that was refused".into());
+    }
+    Ok(())
+}
+
+// The check of the tokens, alone on its stack.
+fn apply_all(alloc: Global, tokens: &[&str]) -> Result<Vec<TextCheck>, Fail> {
+    let mut stack = Vec::new(alloc);
+    for token in tokens {
+        apply(alloc, &mut stack, token)?;
+    }
+    if stack.len() != 1 {
+        return Err("not one check".into());
+    }
+    Ok(stack)
+}
+
+// Whether the check of the tokens answers so.
+fn answers(
+    alloc: Global,
+    tokens: &[&str],
+    mut input: &[u8],
+    expected: &str,
+    all: bool,
+) -> Result<bool, Fail> {
+    let stack = apply_all(alloc, tokens)?;
+    let check = stack.first().ok_or("no check")?;
+    let mut output = Vec::new(alloc);
+    let answer = run_text(alloc, check, &mut input, &mut output);
+    Ok(answer == Ok(all) && output.as_slice() == expected.as_bytes())
+}
+
+#[test]
+fn rows(rt: HostRuntime) -> Result<(), Fail> {
+    for (tokens, input, expected, all) in ROWS {
+        let holds = answers(rt.alloc(), tokens, input, expected, all)?;
+        assert!(rt; holds, "for {expected:?}");
+    }
+    Ok(())
+}
+
+// Whether a predicate in a box answers true of `b`, and what is written goes to the output.
+fn is_true_in_a_box(alloc: Global, output: &mut Vec<u8>) -> Result<bool, Fail> {
+    let boxed = BoxPredicate::new(alloc, Box::new(alloc, predicate::str::is_empty())?)?;
+    let mut reader = b"b".as_slice();
+    let answer = run_text(alloc, &boxed.not(), &mut reader, output);
+    Ok(answer == Ok(true))
+}
+
+// The same of one with a stored function.
+fn is_true_of_a_function(alloc: Global, output: &mut Vec<u8>) -> bool {
+    let short = predicate::function(|text: &String| text.len() < 2).fn_name("short");
+    let mut reader = b"b".as_slice();
+    let answer = run_text(alloc, &short, &mut reader, output);
+    answer == Ok(true)
+}
+
+// Any predicate of texts will do: one in a box, and one with a stored function.
+#[test]
+fn other_predicates(rt: HostRuntime) -> Result<(), Fail> {
+    let mut output = Vec::new(rt.alloc());
+    assert!(rt; is_true_in_a_box(rt.alloc(), &mut output)?);
+    assert!(rt; is_true_of_a_function(rt.alloc(), &mut output));
+    assert_eq!(rt;
+        output.as_slice(),
+        b"line 1: true\n(! var.is_empty()) = true\n  predicate: var.is_empty() = false\n    - var: b\nline 1: true\nshort(var) = true\n".as_slice()
+    );
+    Ok(())
+}

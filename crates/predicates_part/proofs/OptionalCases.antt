@@ -1,0 +1,25 @@
+-- Verdicts and cases of a predicate of a value that may be absent, from those of the inner predicate.
+use Rattle.std.proofs.Common.{◌≡◌, sym, Bool, false, Option, Some, None}
+use Rattle.predicates_core.specs.Label.{Entry}
+use Rattle.predicates_core.specs.Formula.{Formula, HasTruth}
+use Rattle.predicates_core.specs.Shows.{IsCaseOf}
+use Rattle.predicates_core.specs.Tree.{Tree}
+use Rattle.predicates_core.specs.Describe.{CaseNode}
+use Rattle.predicates_core.specs.Leaves.{IsExactly}
+use Rattle.predicates_core.proofs.Leaves.{HasTruth-exactly}
+use Rattle.predicates_part.specs.Optional.{IsOfSome, none_leaf}
+
+module _ {U : Type 0} {text : Entry} {has : U → Formula → Type 0} {held : Option U} where
+  pub HasTruth-some : {b : Bool} {u : U} → held ≡ Some u → HasTruth (has u) b → HasTruth (IsOfSome text has held) b
+  HasTruth-some {b} {u} e h = record { at = λ f x. h.at f (x.of_some u e) }
+
+  pub IsCaseOf-some : {b : Bool} {u : U} {t : Tree CaseNode} → held ≡ Some u → IsCaseOf (has u) b t → IsCaseOf (IsOfSome text has held) b t
+  IsCaseOf-some {b} {u} e h = record { truth = HasTruth-some e h.truth; explains = λ f x. h.explains f (x.of_some u e) }
+
+  pub HasTruth-none : {b : Bool} → held ≡ None → b ≡ false → HasTruth (IsOfSome text has held) b
+  HasTruth-none {b} e isnt = record { at = λ f x. (HasTruth-exactly (sym isnt)).at f (x.of_none e) }
+
+  pub IsCaseOf-none : {b : Bool} {t : Tree CaseNode} → held ≡ None → b ≡ false → IsCaseOf (IsExactly (none_leaf text)) false t → IsCaseOf (IsOfSome text has held) b t
+  IsCaseOf-none {b} e isnt h = record { truth = HasTruth-none e isnt; explains = λ f x. h.explains f (x.of_none e) }
+
+pub ruleset optional_cases = (HasTruth-some, IsCaseOf-some, HasTruth-none, IsCaseOf-none)

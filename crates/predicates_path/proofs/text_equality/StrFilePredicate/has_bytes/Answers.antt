@@ -1,5 +1,0 @@
-use Rattle.std.proofs.Common.{rules}
-use Rattle.predicates_path.proofs.text_equality.StrFilePredicate.has_bytes.Goals as goal
-
-pub returns : goal.returns
-returns c = search rules

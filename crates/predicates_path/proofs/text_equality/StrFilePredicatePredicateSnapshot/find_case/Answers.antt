@@ -1,6 +1,0 @@
-use Rattle.std.proofs.Common.{rules}
-use Rattle.predicates_core.proofs.Leaves.{HasTruth-same, IsCaseOf-leaf}
-use Rattle.predicates_path.proofs.text_equality.StrFilePredicatePredicateSnapshot.find_case.Goals as goal
-
-pub returns : goal.returns
-returns c = IsCaseOf-leaf c.alone.ensures c.in_ok-printed.ensures (HasTruth-same c.in_ok-eval.ensures.truth (search rules))

@@ -1,6 +1,0 @@
-mod contents;
-mod flags;
-mod long_contents;
-mod paths;
-mod prelude;
-mod snapshots;

@@ -1,7 +1,0 @@
-mod asked;
-mod disk;
-mod equality;
-mod parts;
-mod predicates;
-mod sizes;
-mod told;

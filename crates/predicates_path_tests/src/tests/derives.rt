@@ -1,0 +1,87 @@
+//! The traits that types derive, and the parts of a snapshot and of a description.
+use super::helpers::{file, same_bytes, same_text, snapshot};
+use super::parts::has_parts;
+use predicates::constant::always;
+use predicates::str::PredicateStrExt;
+use predicates_path::FileType::{File, Symlink};
+use predicates_path::PathFault::{NotRegular, PermissionDenied};
+use predicates_path::{PredicateFileContentExt, exists, is_file, missing};
+use predicates_testing::describe;
+use std::alloc::{AllocError, Global};
+use std::fmt;
+use std::test::Fail;
+
+// Whether two values differ, and each is equal to itself.
+fn differ<T: fmt::Debug + Eq>(alloc: Global, left: &T, right: &T) -> Result<bool, AllocError> {
+    let shown = format!(in alloc; "{left:?}{right:?}")?;
+    Ok(left == left && right == right && left != right && !shown.is_empty())
+}
+
+// The same of values that are copied.
+fn are_copied<T: fmt::Debug + Copy + Eq>(
+    alloc: Global,
+    left: T,
+    right: T,
+) -> Result<bool, AllocError> {
+    let copied = left;
+    Ok(copied == left && left.clone()? == copied && differ(alloc, &copied, &right)?)
+}
+
+#[test]
+fn copied(rt: HostRuntime) -> Result<(), Fail> {
+    let alloc = rt.alloc();
+    assert!(rt; are_copied(alloc, exists(), missing())?);
+    assert!(rt; are_copied(alloc, is_file(), is_file().follow_links(true))?);
+    assert!(rt; are_copied(alloc, File, Symlink)?);
+    assert!(rt; are_copied(alloc, NotRegular, PermissionDenied)?);
+    Ok(())
+}
+
+// Whether an adapter over a predicate that is copied is copied.
+fn is_adapter_copied(alloc: Global) -> Result<bool, AllocError> {
+    let first = always::<Vec<u8>>().from_file_path();
+    let second = always::<String>().from_utf8().from_file_path();
+    let copied = second;
+    Ok(
+        first.clone()? == first
+            && copied == second
+            && copied.clone()? == second
+            && !format!(in alloc; "{first:?}{second:?}")?.is_empty(),
+    )
+}
+
+fn do_bytes_differ(alloc: Global) -> Result<bool, Fail> {
+    let (a, b) = (same_bytes(alloc, b"a")?, same_bytes(alloc, b"b")?);
+    Ok(differ(alloc, &a, &b)? && differ(alloc, &a.from_file_path(), &b.from_file_path())?)
+}
+
+fn do_texts_differ(alloc: Global) -> Result<bool, Fail> {
+    Ok(differ(alloc, &same_text(alloc, b"a")?, &same_text(alloc, b"b")?)?)
+}
+
+#[test]
+fn compared(rt: HostRuntime) -> Result<(), Fail> {
+    assert!(rt; is_adapter_copied(rt.alloc())?);
+    assert!(rt; do_bytes_differ(rt.alloc())?);
+    assert!(rt; do_texts_differ(rt.alloc())?);
+    Ok(())
+}
+
+#[test]
+fn parts(rt: HostRuntime) -> Result<(), Fail> {
+    let link = snapshot(rt.alloc(), Ok(Symlink), Ok(File), Err(PermissionDenied))?;
+    assert_eq!(rt; link.path(), "p");
+    assert!(rt; has_parts(&link, (Ok(Symlink), Ok(File), Err(PermissionDenied))));
+    let file = file(rt.alloc(), b"a")?;
+    assert!(rt; has_parts(&file, (Ok(File), Ok(File), Ok(b"a"))));
+    Ok(())
+}
+
+#[test]
+fn description_of_a_content(rt: HostRuntime) -> Result<(), Fail> {
+    let alloc = rt.alloc();
+    let mut out = String::new(alloc);
+    describe(alloc, &mut out, &same_bytes(alloc, b"a")?.from_file_path())?;
+    assert_eq!(rt; out.as_str(), "var is p\n  predicate: var is p\n");
+    Ok(())
+}

@@ -1,0 +1,145 @@
+//! The calls of a predicate on an item, with requests for memory refused in turn.
+use super::answer::Answer;
+use super::sweep::{Call, Memory, sweep};
+use predicates_core::Predicate;
+use std::alloc::{AllocError, Global};
+use std::process::Abort;
+use std::test::Fail;
+
+// One call of a predicate.
+#[derive(Clone, Copy)]
+enum Called {
+    Verdict,
+    Case(bool),
+    Parameters,
+    Children,
+}
+
+// A predicate, an item and a call.
+#[derive(Drop)]
+struct Question<'a, P, Item> {
+    predicate: &'a P,
+    item: &'a Item,
+    called: Called,
+}
+
+impl<P: Predicate<Item>, Item> Call for Question<'_, P, Item> {
+    ghost ready = { λ q. P.lawful q.predicate.now };
+
+    type Operand = ();
+
+    fn operand(&self, _alloc: Global) -> Result<(), AllocError> {
+        Ok(())
+    }
+
+    fn call(&self, alloc: Global, _operand: ()) -> Result<Answer, AllocError> {
+        match self.called {
+            Called::Verdict => Ok(Answer::Verdict(self.predicate.eval(alloc, self.item)?)),
+            Called::Case(expected) => {
+                Ok(Answer::Case(self.predicate.find_case(alloc, expected, self.item)?))
+            }
+            Called::Parameters => Ok(Answer::Parameters(self.predicate.parameters(alloc)?)),
+            Called::Children => Ok(Answer::Children(self.predicate.children(alloc)?)),
+        }
+    }
+}
+
+/// What a predicate answers on an item: the lines of its case, of its parameters and of its
+/// children.
+#[derive(Clone, Copy)]
+pub struct Row<'a> {
+    pub name: &'a str,
+    pub verdict: bool,
+    pub eval: Memory,
+    pub case: Memory,
+    /// What `find_case` for the opposite truth does.
+    pub opposite: Memory,
+    pub lines: &'a str,
+    pub parameters: &'a str,
+    pub children: &'a str,
+}
+
+impl<'a> Row<'a> {
+    /// The row with these lines of parameters.
+    pub fn with_parameters(mut self, parameters: &'a str) -> Row<'a> {
+        self.parameters = parameters;
+        self
+    }
+}
+
+/// The row of a leaf, which takes memory for its case alone.
+pub fn leaf<'a>(name: &'a str, verdict: bool, lines: &'a str) -> Row<'a> {
+    Row {
+        name,
+        verdict,
+        eval: Memory::Never,
+        case: Memory::Taken,
+        opposite: Memory::Never,
+        lines,
+        parameters: "",
+        children: "",
+    }
+}
+
+/// The row of a predicate over parts, of which the items are seen without memory.
+pub fn over<'a>(name: &'a str, verdict: bool, lines: &'a str, children: &'a str) -> Row<'a> {
+    Row {
+        name,
+        verdict,
+        eval: Memory::Never,
+        case: Memory::Taken,
+        opposite: Memory::Perhaps,
+        lines,
+        parameters: "",
+        children,
+    }
+}
+
+/// Sweeps over `eval`, `find_case` for either truth, `parameters` and `children` of the predicate.
+pub fn sweep_calls<R: Abort + AllocGlobal + Print, P: Predicate<Item>, Item>(
+    rt: &R,
+    predicate: &P,
+    item: &Item,
+    row: Row<'_>,
+) -> Result<(), Fail>
+    requires { P.lawful predicate.now }
+{
+    let opposite = !row.verdict;
+    let verdict = if row.verdict { "true" } else { "false" };
+    let (parameters, children) = (row.parameters, row.children);
+    for (call, called, expected, memory) in [
+        ("eval", Called::Verdict, verdict, row.eval),
+        ("find_case", Called::Case(row.verdict), row.lines, row.case),
+        (
+            "find_case for the opposite",
+            Called::Case(opposite),
+            "none",
+            row.opposite,
+        ),
+        (
+            "parameters",
+            Called::Parameters,
+            parameters,
+            of_list(parameters),
+        ),
+        ("children", Called::Children, children, of_list(children)),
+    ] {
+        let name = format!(in rt.alloc(); "{call} of {}", row.name)?;
+        let question = Question {
+            predicate,
+            item,
+            called,
+        };
+        sweep(rt, name.as_str(), &question, expected, memory)?;
+    }
+    Ok(())
+}
+
+// A list that is empty takes no memory.
+fn of_list(expected: &str) -> Memory {
+    if expected.is_empty() {
+        Memory::Never
+    } else {
+        Memory::Taken
+    }
+}

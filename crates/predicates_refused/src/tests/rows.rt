@@ -1,0 +1,224 @@
+//! Predicates that are made of words, one a row: leaves, combinators, names, adapters and checks.
+use super::predicate_calls::{Row, sweep_calls};
+use super::stacked::stacked;
+use super::sweep::Memory::{self, GoesOn, Never, Perhaps, Taken};
+use predicates::str::Utf8Predicate;
+use predicates_testing::{
+    FromWords, Level, NumberLeaf, NumberWord, TextLeaf, TextLevel, TextWord, read_number_words,
+    read_text_words, text, unescape,
+};
+use std::alloc::{AllocError, Global};
+use std::process::Abort;
+use std::test::Fail;
+
+// A row has the words, the item, what `eval`, `find_case` of the verdict and that of the opposite do
+// with memory, and the lines of the case, of the parameters and of the children.
+
+// Over numbers.
+const NUMBERS: [&str; 20] = [
+    r"always@4@-m-@true = true\n@value: true\n@",
+    r"never@4@-m-@false = false\n@value: false\n@",
+    r"eq=5@5@-m-@var == 5 = true\n  - var: 5\n@@",
+    r"ne=5@5@-m-@var != 5 = false\n  - var: 5\n@@",
+    r"lt=5@4@-m-@var < 5 = true\n  - var: 4\n@@",
+    r"le=5@6@-m-@var <= 5 = false\n  - var: 6\n@@",
+    r"ge=5@5@-m-@var >= 5 = true\n  - var: 5\n@@",
+    r"gt=5@5@-m-@var > 5 = false\n  - var: 5\n@@",
+    r"in_iter=3,1,3@3@-m-@var in values = true\n  - var: 3\n@values: [3, 1, 3]\n@",
+    r"sorted=3,1,3@3@-m-@var in values = true\n  - var: 3\n@values: [1, 3, 3]\n@",
+    r"in_hash=3,1,3@3@-m-@var in values = true\n  - var: 3\n@values: {3, 1}\n@",
+    r"in_iter=.@1@-m-@var in values = false\n  - var: 1\n@values: []\n@",
+    r"sorted=.@1@-m-@var in values = false\n  - var: 1\n@values: []\n@",
+    r"in_hash=.@1@-m-@var in values = false\n  - var: 1\n@values: {}\n@",
+    r"ge=5 le=10 and@7@-m?@(var >= 5 && var <= 10) = true\n  left: var >= 5 = true\n    - var: 7\n  right: var <= 10 = true\n    - var: 7\n@@left: var >= 5\nright: var <= 10\n",
+    r"ge=5 le=10 and@11@-m?@(var >= 5 && var <= 10) = false\n  right: var <= 10 = false\n    - var: 11\n@@left: var >= 5\nright: var <= 10\n",
+    r"lt=3 gt=5 or@4@-m?@(var < 3 || var > 5) = false\n  left: var < 3 = false\n    - var: 4\n  right: var > 5 = false\n    - var: 4\n@@left: var < 3\nright: var > 5\n",
+    r"lt=3 gt=5 or@9@-m?@(var < 3 || var > 5) = true\n  right: var > 5 = true\n    - var: 9\n@@left: var < 3\nright: var > 5\n",
+    r"lt=3 lt=5 xor@4@-m?@(var < 3 ^ var < 5) = true\n  left: var < 3 = false\n    - var: 4\n  right: var < 5 = true\n    - var: 4\n@@left: var < 3\nright: var < 5\n",
+    r"lt=3 lt=5 xor@9@-m?@(var < 3 ^ var < 5) = false\n  left: var < 3 = false\n    - var: 9\n  right: var < 5 = false\n    - var: 9\n@@left: var < 3\nright: var < 5\n",
+];
+
+// Over texts.
+const TEXTS: [&str; 16] = [
+    r#"eq=Hello@@-m-@var == "Hello" = false\n  - var: ""\n@@"#,
+    r"empty@abc@-m-@var.is_empty() = false\n  - var: abc\n@@",
+    r#"starts=ab@abc@-m-@var.starts_with("ab") = true\n  - var: abc\n@@"#,
+    r#"ends=ab@abc@-m-@var.ends_with("ab") = false\n  - var: abc\n@@"#,
+    r"contains=b@abc@-m-@var.contains(b) = true\n  - var: abc\n@@",
+    r"contains=aa count=2@aaaa@-m-@var.contains(aa) = true\n  - var: aaaa\n  - actual count: 2\n@count: 2\n@",
+    r"empty@@-m-@var.is_empty() = true\n  - var: \n@@",
+    r#"starts=@@-m-@var.starts_with("") = true\n  - var: \n@@"#,
+    r#"ends=@@-m-@var.ends_with("") = true\n  - var: \n@@"#,
+    r"contains=@@-m-@var.contains() = true\n  - var: \n@@",
+    r"contains= count=3@@-m-@var.contains() = false\n  - var: \n  - actual count: 1\n@count: 3\n@",
+    r"empty not name=non-empty@@-m?@non-empty = false\n  non-empty: (! var.is_empty()) = false\n    predicate: var.is_empty() = true\n      - var: \n@@non-empty: (! var.is_empty())\n  predicate: var.is_empty()\n",
+    r"empty name=@@-m?@ = true\n  : var.is_empty() = true\n    - var: \n@@: var.is_empty()\n",
+    r"empty name= not@a@-m?@(! ) = true\n  predicate:  = false\n    : var.is_empty() = false\n      - var: a\n@@predicate: \n  : var.is_empty()\n",
+    r#"eq=Hello trim@    Hello    @mmm@var == "Hello" = true\n  - var: "Hello"\n@@predicate: var == "Hello"\n"#,
+    r#"eq=a normalize@a\r\n@mmm@var == "a" = false\n  - var: "a\\n"\n@@predicate: var == "a"\n"#,
+];
+
+// Over bytes, which stand beside the row.
+const BYTES: [(&[u8], &str); 3] = [
+    (
+        b"a",
+        r"empty not from_utf8@a@mmm@(! var.is_empty()) = true\n  - var as str: a\n  predicate: var.is_empty() = false\n    - var: a\n@@predicate: (! var.is_empty())\n  predicate: var.is_empty()\n",
+    ),
+    (
+        b"\xff",
+        r"empty not from_utf8@a byte that is no text@-m-@(! var.is_empty()) = false\n  - error: Invalid UTF-8 string\n@@predicate: (! var.is_empty())\n  predicate: var.is_empty()\n",
+    ),
+    (
+        b"",
+        r"empty not from_utf8@@?m?@(! var.is_empty()) = false\n  - var as str: \n  predicate: var.is_empty() = true\n    - var: \n@@predicate: (! var.is_empty())\n  predicate: var.is_empty()\n",
+    ),
+];
+
+// Checks of the words of `explain`.
+const CHECKS: [&str; 4] = [
+    r#"empty contains=a xor eq=b not and@a@-m?@((var.is_empty() ^ var.contains(a)) && (! var == "b")) = true\n  left: (var.is_empty() ^ var.contains(a)) = true\n    left: var.is_empty() = false\n      - var: a\n    right: var.contains(a) = true\n      - var: a\n  right: (! var == "b") = true\n    predicate: var == "b" = false\n      - var: "a"\n@@"#,
+    r#"starts=a trim ends=a normalize or@ ba\r\n@mmm@(var.starts_with("a") || var.ends_with("a")) = false\n  left: var.starts_with("a") = false\n    - var: ba\n  right: var.ends_with("a") = false\n    - var:  ba\n\n@@"#,
+    r"match=T[a-z]*@Two@ggg@var.is_match(T[a-z]*) = true\n  - var: Two\n@@",
+    r#"eq= starts= ends= contains= xor xor xor@a@-m?@(var == "" ^ (var.starts_with("") ^ (var.ends_with("") ^ var.contains()))) = true\n  left: var == "" = false\n    - var: "a"\n  right: (var.starts_with("") ^ (var.ends_with("") ^ var.contains())) = true\n    left: var.starts_with("") = true\n      - var: a\n    right: (var.ends_with("") ^ var.contains()) = false\n      left: var.ends_with("") = true\n        - var: a\n      right: var.contains() = true\n        - var: a\n@@"#,
+];
+
+// A row that was read.
+#[derive(Drop)]
+struct Parts {
+    words: String,
+    item: String,
+    memory: String,
+    lines: String,
+    parameters: String,
+    children: String,
+}
+
+// A part without its escapes.
+fn read_part(alloc: Global, part: Option<&str>) -> Result<String, AllocError> {
+    match unescape(alloc, part.unwrap_or(""))? {
+        Some(part) => Ok(part),
+        None => text(alloc, "not readable"),
+    }
+}
+
+// The words keep their escapes, which their reader removes.
+fn read_row(alloc: Global, row: &str) -> Result<Parts, AllocError> {
+    let mut parts = row.split('@');
+    Ok(Parts {
+        words: text(alloc, parts.next().unwrap_or(""))?,
+        item: read_part(alloc, parts.next())?,
+        memory: read_part(alloc, parts.next())?,
+        lines: read_part(alloc, parts.next())?,
+        parameters: read_part(alloc, parts.next())?,
+        children: read_part(alloc, parts.next())?,
+    })
+}
+
+// What a letter says of memory.
+fn memory_of(letter: u8) -> Memory {
+    match letter {
+        b'-' => Never,
+        b'm' => Taken,
+        b'?' => Perhaps,
+        _ => GoesOn,
+    }
+}
+
+impl Parts {
+    fn row(&self) -> Row<'_> {
+        let memory = match self.memory.as_bytes() {
+            [eval, case, opposite] => [memory_of(*eval), memory_of(*case), memory_of(*opposite)],
+            _ => [Never, Never, Never],
+        };
+        let head = match self.lines.as_str().split_once('\n') {
+            Some((head, _)) => head,
+            None => "",
+        };
+        Row {
+            name: self.words.as_str(),
+            verdict: head.ends_with(" = true"),
+            eval: memory[0],
+            case: memory[1],
+            opposite: memory[2],
+            lines: self.lines.as_str(),
+            parameters: self.parameters.as_str(),
+            children: self.children.as_str(),
+        }
+    }
+}
+
+// Sweeps over the calls of the predicate of the words.
+fn sweep_words<R: Abort + AllocGlobal + Print, P: FromWords<W, Item>, W: Drop, Item>(
+    rt: &R,
+    words: Option<Vec<W>>,
+    item: &Item,
+    parts: &Parts,
+) -> Result<(), Fail> {
+    let Some(mut words) = words else {
+        return Err("an unknown word".into());
+    };
+    match P::from_words(rt.alloc(), &mut words)? {
+        Some(predicate) => sweep_calls(rt, &predicate, item, parts.row()),
+        None => Err("no predicate".into()),
+    }
+}
+
+type Numbers = Level<Level<NumberLeaf, i64>, i64>;
+
+type Texts = TextLevel<TextLevel<TextLeaf>>;
+
+type Bytes = Utf8Predicate<Texts>;
+
+#[test]
+fn numbers(rt: HostRuntime) -> Result<(), Fail> {
+    let alloc = rt.alloc();
+    for row in NUMBERS {
+        let parts = read_row(alloc, row)?;
+        let item = parts.item.as_str().parse::<i64>().ok().ok_or("no number")?;
+        let words = read_number_words(alloc, parts.words.as_str())?;
+        sweep_words::<HostRuntime, Numbers, NumberWord, i64>(&rt, words, &item, &parts)?;
+    }
+    Ok(())
+}
+
+#[test]
+fn texts(rt: HostRuntime) -> Result<(), Fail> {
+    let alloc = rt.alloc();
+    for row in TEXTS {
+        let parts = read_row(alloc, row)?;
+        let words = read_text_words(alloc, parts.words.as_str())?;
+        sweep_words::<HostRuntime, Texts, TextWord, String>(&rt, words, &parts.item, &parts)?;
+    }
+    Ok(())
+}
+
+#[test]
+fn bytes(rt: HostRuntime) -> Result<(), Fail> {
+    let alloc = rt.alloc();
+    for (item, row) in BYTES {
+        let parts = read_row(alloc, row)?;
+        let words = read_text_words(alloc, parts.words.as_str())?;
+        let item = Vec::from_slice(alloc, item)?;
+        sweep_words::<HostRuntime, Bytes, TextWord, Vec<u8>>(&rt, words, &item, &parts)?;
+    }
+    Ok(())
+}
+
+// Sweeps over the calls of the check of the words.
+fn sweep_check<R: Abort + AllocGlobal + Print>(rt: &R, parts: &Parts) -> Result<(), Fail> {
+    let mut tokens = Vec::new(rt.alloc());
+    for token in parts.words.as_str().split(' ') {
+        tokens.push(token)?;
+    }
+    let stack = stacked(rt.alloc(), tokens.as_slice())?;
+    let check = stack.first().ok_or("no check")?;
+    sweep_calls(rt, check, &parts.item, parts.row())
+}
+
+#[test]
+fn checks(rt: HostRuntime) -> Result<(), Fail> {
+    for row in CHECKS {
+        sweep_check(&rt, &read_row(rt.alloc(), row)?)?;
+    }
+    Ok(())
+}

@@ -1,0 +1,93 @@
+//! What a predicate answers.
+use crate::kept_leaves::kept_leaves;
+use crate::printed::keeps_text;
+use crate::reference::{ReferenceFormula, first_reason};
+use predicates_core::Predicate;
+use predicates_core::reflection::{Case, Child, Parameter};
+use std::alloc::{AllocError, Global};
+
+/// What a predicate answers about itself and about one item.
+#[derive(Drop)]
+pub struct Answers {
+    pub verdict: bool,
+    pub case_true: Option<Case>,
+    pub case_false: Option<Case>,
+    pub text: String,
+    /// Whether flags, a width and a precision leave the text as it is.
+    pub keeps_text: bool,
+    pub parameters: Vec<Parameter>,
+    pub children: Vec<Child>,
+}
+
+/// All that the predicate answers.
+pub fn ask<P: Predicate<Item>, Item>(
+    alloc: Global,
+    predicate: &P,
+    item: &Item,
+) -> Result<Answers, AllocError>
+    requires { P.lawful predicate.now }
+{
+    Ok(Answers {
+        verdict: predicate.eval(alloc, item)?,
+        case_true: predicate.find_case(alloc, true, item)?,
+        case_false: predicate.find_case(alloc, false, item)?,
+        text: predicate.to_string(alloc)?,
+        keeps_text: keeps_text(alloc, predicate)?,
+        parameters: predicate.parameters(alloc)?,
+        children: predicate.children(alloc)?,
+    })
+}
+
+/// The verdict, where its case has that result and there is none for the opposite.
+pub fn verdict<P: Predicate<Item>, Item>(
+    alloc: Global,
+    predicate: &P,
+    item: &Item,
+) -> Result<Option<bool>, AllocError>
+    requires { P.lawful predicate.now }
+{
+    let verdict = predicate.eval(alloc, item)?;
+    let has_other = predicate.find_case(alloc, !verdict, item)?.is_some();
+    match predicate.find_case(alloc, verdict, item)? {
+        Some(case) if case.root().result() == verdict && !has_other => Ok(Some(verdict)),
+        _ => Ok(None),
+    }
+}
+
+impl Answers {
+    /// The case for the verdict, and that for its opposite.
+    pub fn cases(&self) -> (&Option<Case>, &Option<Case>) {
+        if self.verdict {
+            (&self.case_true, &self.case_false)
+        } else {
+            (&self.case_false, &self.case_true)
+        }
+    }
+
+    /// The leaves that the case for the verdict keeps of the formula; none where there is no such
+    /// case, where there is one for the opposite, or where it is not cut from the formula.
+    pub fn kept_leaves(
+        &self,
+        alloc: Global,
+        formula: &ReferenceFormula,
+    ) -> Result<Option<Vec<usize>>, AllocError> {
+        let (expected, other) = self.cases();
+        match expected {
+            Some(case) if other.is_none() => kept_leaves(alloc, formula, case),
+            _ => Ok(None),
+        }
+    }
+
+    /// Whether the verdict is the formula's truth, with one case alone, which keeps just the leaves
+    /// that the reference program finds.
+    pub fn explain(&self, alloc: Global, formula: &ReferenceFormula) -> Result<bool, AllocError> {
+        let kept = self.kept_leaves(alloc, formula)?;
+        let first = first_reason(alloc, formula)?;
+        Ok(match (kept, first) {
+            (Some(kept), Some(first)) => {
+                self.verdict == formula.truth() && kept.as_slice() == first.as_slice()
+            }
+            _ => false,
+        })
+    }
+}

@@ -1,0 +1,66 @@
+//! A predicate that counts how often it is asked, and prints itself otherwise in a width.
+use predicates_core::Predicate;
+use predicates_core::reflection::{Case, Child, Parameter, PredicateReflection};
+use std::alloc::{AllocError, Global};
+use std::cell::Cell;
+use std::fmt;
+
+/// Answers as what it holds does, and counts how often `eval` is called. In a width it prints
+/// another text.
+#[derive(Drop)]
+pub struct Counting<'a, P> {
+    pub held: P,
+    pub evaluated: &'a Cell<usize>,
+}
+
+impl<'a, P: fmt::Display> fmt::Display for Counting<'a, P> {
+    ghost output = { λ p. P.output p.held };
+
+    fn fmt<W: fmt::Write>(&self, f: &mut fmt::Formatter<W>) -> fmt::Result {
+        if f.width().is_some() {
+            write!(f, "wide")
+        } else {
+            self.held.fmt(f)
+        }
+    }
+}
+
+impl<'a, P: PredicateReflection> PredicateReflection for Counting<'a, P> {
+    ghost parameters_of = { λ p. P.parameters_of p.held };
+
+    ghost children_of = { λ p. P.children_of p.held };
+
+    fn parameters(&self, alloc: Global) -> Result<Vec<Parameter>, AllocError> {
+        self.held.parameters(alloc)
+    }
+
+    fn children(&self, alloc: Global) -> Result<Vec<Child>, AllocError> {
+        self.held.children(alloc)
+    }
+}
+
+impl<'a, P: Predicate<Item>, Item> Predicate<Item> for Counting<'a, P> {
+    ghost lawful = { λ p. P.lawful p.held };
+
+    ghost formula = { λ p v. P.formula p.held v };
+
+    ghost infallible = { λ p v. P.infallible p.held v };
+
+    ghost text_fits = { λ p v f. P.text_fits p.held v f };
+
+    ghost one_formula = { λ p v f g. P.one_formula p.held v f g };
+
+    fn eval(&self, alloc: Global, item: &Item) -> Result<bool, AllocError> {
+        self.evaluated.set(self.evaluated.get().saturating_add(1));
+        self.held.eval(alloc, item)
+    }
+
+    fn find_case(
+        &self,
+        alloc: Global,
+        expected: bool,
+        item: &Item,
+    ) -> Result<Option<Case>, AllocError> {
+        self.held.find_case(alloc, expected, item)
+    }
+}

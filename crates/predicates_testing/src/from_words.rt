@@ -1,0 +1,96 @@
+//! Predicates that are read from the end of a list of postfix words.
+ghost use Rattle.predicates_testing.specs.Level.{all_parts};
+
+use crate::answers::{Answers, ask};
+use crate::level::Level;
+use predicates_core::Predicate;
+use predicates_core::static_text::StaticText;
+use std::alloc::{AllocError, Global};
+
+/// What takes the predicates before it.
+#[derive(Drop)]
+pub enum Combinator {
+    Not,
+    Named(StaticText),
+    And,
+    Or,
+    Xor,
+}
+
+/// A word that may name a combinator.
+pub trait Word: Drop {
+    /// The combinator that the word names, if it names one.
+    fn combinator(&self) -> Option<Combinator>;
+}
+
+/// A predicate that is read from the end of a list of words; none where the words are not one, or
+/// where it is too deep.
+pub trait FromWords<W, Item>: Predicate<Item> + Drop + Sized {
+    fn from_words(alloc: Global, words: &mut Vec<W>) -> Result<Option<Self>, AllocError>;
+
+    ghost always_lawful: { (p : Self) → Self.lawful p };
+}
+
+// Takes the last word if it names a combinator.
+fn pop_combinator<W: Word>(words: &mut Vec<W>) -> Option<Combinator> {
+    let found = words.last()?.combinator()?;
+    words.pop();
+    Some(found)
+}
+
+// What a combinator of two makes of them; none where it takes one.
+fn joined<P: Predicate<Item> + Drop, Item>(
+    alloc: Global,
+    combinator: Combinator,
+    left: P,
+    right: P,
+) -> Result<Option<Level<P, Item>>, AllocError> {
+    match combinator {
+        Combinator::And => Ok(Some(Level::and(alloc, left, right)?)),
+        Combinator::Or => Ok(Some(Level::or(alloc, left, right)?)),
+        Combinator::Xor => Ok(Some(Level::xor(alloc, left, right)?)),
+        Combinator::Not | Combinator::Named(_) => Ok(None),
+    }
+}
+
+impl<P: FromWords<W, Item>, W: Word, Item> FromWords<W, Item> for Level<P, Item> {
+    ghost always_lawful = { λ p. all_parts P.always_lawful p.node };
+
+    fn from_words(alloc: Global, words: &mut Vec<W>) -> Result<Option<Level<P, Item>>, AllocError> {
+        let combinator = pop_combinator(words);
+        let Some(part) = P::from_words(alloc, words)? else {
+            return Ok(None);
+        };
+        match combinator {
+            None => Ok(Some(Level::below(part))),
+            Some(Combinator::Not) => Ok(Some(Level::not(alloc, part)?)),
+            Some(Combinator::Named(name)) => Ok(Some(Level::name(alloc, part, name)?)),
+            // The right one of two is read before the left one.
+            Some(combinator) => match P::from_words(alloc, words)? {
+                Some(left) => joined(alloc, combinator, left, part),
+                None => Ok(None),
+            },
+        }
+    }
+}
+
+// The predicate of the words; none where the words are not one predicate.
+fn whole<P: FromWords<W, Item>, W: Drop, Item>(
+    alloc: Global,
+    mut words: Vec<W>,
+) -> Result<Option<P>, AllocError> {
+    let predicate = P::from_words(alloc, &mut words)?;
+    Ok(if words.is_empty() { predicate } else { None })
+}
+
+/// What the predicate of the words answers; none where the words are not one predicate.
+pub fn answer<P: FromWords<W, Item>, W: Drop, Item>(
+    alloc: Global,
+    words: Vec<W>,
+    item: &Item,
+) -> Result<Option<Answers>, AllocError> {
+    match whole::<P, W, Item>(alloc, words)? {
+        Some(predicate) => Ok(Some(ask(alloc, &predicate, item)?)),
+        None => Ok(None),
+    }
+}

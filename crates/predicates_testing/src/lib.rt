@@ -1,0 +1,44 @@
+//! What tests share: predicates that are made of words at run time, a reference program that finds
+//! the first reason of a verdict by trying every set of leaves, and helpers over any predicate.
+#![tactic(auto)]
+
+mod answers;
+mod at_least;
+mod choices;
+mod counting;
+mod escapes;
+mod from_words;
+mod helpers;
+mod kept_leaves;
+mod level;
+mod number_leaf;
+mod numbers;
+mod one_of;
+mod printed;
+mod reference;
+mod text_leaf;
+mod text_level;
+mod text_reference;
+mod text_words;
+mod texts;
+mod words;
+
+pub use answers::{Answers, ask, verdict};
+pub use at_least::AtLeast;
+pub use choices::greatest_choice;
+pub use counting::Counting;
+pub use escapes::unescape;
+pub use from_words::{Combinator, FromWords, Word, answer};
+pub use helpers::{describe, has_child, has_parameter, render_verdict, repeated, text};
+pub use level::Level;
+pub use number_leaf::NumberLeaf;
+pub use numbers::{answer_number, number_formula};
+pub use one_of::OneOf;
+pub use printed::{keeps_text, print_in_combinators, print_under_flags};
+pub use reference::{ReferenceFormula, first_reason};
+pub use text_leaf::TextLeaf;
+pub use text_level::TextLevel;
+pub use text_reference::{bytes_formula, text_formula};
+pub use text_words::{TextWord, read_text_words};
+pub use texts::{answer_bytes, answer_text};
+pub use words::{NumberWord, read_name, read_number_words, read_numbers};

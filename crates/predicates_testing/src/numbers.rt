@@ -1,0 +1,133 @@
+//! What the library's predicates over numbers answer, and the formulas that they have.
+ghost use Rattle.predicates_testing.specs.OneOf.{lawful_by_type};
+
+use crate::answers::Answers;
+use crate::from_words::{Combinator, FromWords, Word, answer};
+use crate::level::Level;
+use crate::number_leaf::NumberLeaf;
+use crate::reference::ReferenceFormula;
+use crate::words::NumberWord;
+use predicates_core::static_text::StaticText;
+use std::alloc::{AllocError, Global};
+
+impl Word for NumberWord {
+    fn combinator(&self) -> Option<Combinator> {
+        Some(match self {
+            NumberWord::Not => Combinator::Not,
+            NumberWord::Named(name) => Combinator::Named(StaticText::new(name.as_str())),
+            NumberWord::And => Combinator::And,
+            NumberWord::Or => Combinator::Or,
+            NumberWord::Xor => Combinator::Xor,
+            _ => return None,
+        })
+    }
+}
+
+impl FromWords<NumberWord, i64> for NumberLeaf {
+    ghost always_lawful = { λ p. lawful_by_type
+        (lawful_by_type (λ q. tt) (lawful_by_type (λ q. tt) (λ q. tt)))
+        (lawful_by_type (lawful_by_type (λ q. tt) (λ q. tt)) (lawful_by_type (λ q. tt) (λ q. tt)))
+        p.leaf };
+
+    fn from_words(
+        alloc: Global,
+        words: &mut Vec<NumberWord>,
+    ) -> Result<Option<NumberLeaf>, AllocError> {
+        match words.pop() {
+            Some(word) => NumberLeaf::of_word(alloc, word),
+            None => Ok(None),
+        }
+    }
+}
+
+type Deep2 = Level<Level<NumberLeaf, i64>, i64>;
+
+type Deep4 = Level<Level<Deep2, i64>, i64>;
+
+type Deep6 = Level<Level<Deep4, i64>, i64>;
+
+type Deep = Level<Deep6, i64>;
+
+/// What the predicate of the words answers, which is made of the library's own types at every
+/// node; none where the words are not one predicate.
+pub fn answer_number(
+    alloc: Global,
+    words: Vec<NumberWord>,
+    item: i64,
+) -> Result<Option<Answers>, AllocError> {
+    answer::<Deep, NumberWord, i64>(alloc, words, &item)
+}
+
+// The only value of a stack that holds one.
+fn only<T: Drop>(mut stack: Vec<T>) -> Option<T> {
+    let last = stack.pop()?;
+    if stack.is_empty() { Some(last) } else { None }
+}
+
+// Whether a leaf is true of a number; none where the word names no leaf.
+fn leaf_truth(word: &NumberWord, item: i64) -> Option<bool> {
+    Some(match word {
+        NumberWord::Always => true,
+        NumberWord::Never => false,
+        NumberWord::Equal(c) => item == *c,
+        NumberWord::Unequal(c) => item != *c,
+        NumberWord::Less(c) => item < *c,
+        NumberWord::AtMost(c) => item <= *c,
+        NumberWord::AtLeast(c) => item >= *c,
+        NumberWord::Greater(c) => item > *c,
+        NumberWord::Called(c) => item >= *c,
+        NumberWord::Listed(list) | NumberWord::Sorted(list) | NumberWord::Hashed(list) => {
+            list.as_slice().contains(&item)
+        }
+        _ => return None,
+    })
+}
+
+// The formula of a combinator over the last ones of the stack; none where there are too few, or
+// where the word names no combinator.
+fn combine(
+    alloc: Global,
+    word: &NumberWord,
+    stack: &mut Vec<ReferenceFormula>,
+) -> Result<Option<ReferenceFormula>, AllocError> {
+    let Some(last) = stack.pop() else {
+        return Ok(None);
+    };
+    let last = Box::new(alloc, last)?;
+    if let NumberWord::Named(_) = word {
+        return Ok(Some(ReferenceFormula::Named(last)));
+    }
+    if let NumberWord::Not = word {
+        return Ok(Some(ReferenceFormula::Not(last)));
+    }
+    let Some(left) = stack.pop() else {
+        return Ok(None);
+    };
+    let left = Box::new(alloc, left)?;
+    Ok(match word {
+        NumberWord::And => Some(ReferenceFormula::And(left, last)),
+        NumberWord::Or => Some(ReferenceFormula::Or(left, last)),
+        NumberWord::Xor => Some(ReferenceFormula::Xor(left, last)),
+        _ => None,
+    })
+}
+
+/// The formula that the words mean on a number; none where they are not one predicate.
+pub fn number_formula(
+    alloc: Global,
+    words: &[NumberWord],
+    item: i64,
+) -> Result<Option<ReferenceFormula>, AllocError> {
+    let mut stack: Vec<ReferenceFormula> = Vec::new(alloc);
+    for word in words {
+        let made = match leaf_truth(word, item) {
+            Some(truth) => ReferenceFormula::Leaf(truth),
+            None => match combine(alloc, word, &mut stack)? {
+                Some(made) => made,
+                None => return Ok(None),
+            },
+        };
+        stack.push(made)?;
+    }
+    Ok(only(stack))
+}

@@ -1,0 +1,146 @@
+//! Which leaves explain a formula's truth, found by trying every set of leaves under every
+//! choice of truths.
+use std::alloc::{AllocError, Global};
+
+/// A formula whose leaves are numbered from 0, from left to right.
+#[derive(Drop)]
+pub enum ReferenceFormula {
+    Leaf(bool),
+    And(Box<ReferenceFormula>, Box<ReferenceFormula>),
+    Or(Box<ReferenceFormula>, Box<ReferenceFormula>),
+    Xor(Box<ReferenceFormula>, Box<ReferenceFormula>),
+    Not(Box<ReferenceFormula>),
+    Named(Box<ReferenceFormula>),
+}
+
+impl ReferenceFormula {
+    /// The number of leaves.
+    pub fn leaf_count(&self) -> usize {
+        match self {
+            ReferenceFormula::Leaf(_) => 1,
+            ReferenceFormula::And(left, right)
+            | ReferenceFormula::Or(left, right)
+            | ReferenceFormula::Xor(left, right) => {
+                left.leaf_count().saturating_add(right.leaf_count())
+            }
+            ReferenceFormula::Not(part) | ReferenceFormula::Named(part) => part.leaf_count(),
+        }
+    }
+
+    /// The truth by the leaves' own truths.
+    pub fn truth(&self) -> bool {
+        match self {
+            ReferenceFormula::Leaf(own) => *own,
+            ReferenceFormula::And(left, right) => left.truth() && right.truth(),
+            ReferenceFormula::Or(left, right) => left.truth() || right.truth(),
+            ReferenceFormula::Xor(left, right) => left.truth() != right.truth(),
+            ReferenceFormula::Not(part) => !part.truth(),
+            ReferenceFormula::Named(part) => part.truth(),
+        }
+    }
+
+    // The leaves' own truths, the first in the lowest bit, and above them the bits `above`.
+    fn own_truths(&self, above: u32) -> u32 {
+        match self {
+            ReferenceFormula::Leaf(own) => above << 1 | u32::from(*own),
+            ReferenceFormula::And(left, right)
+            | ReferenceFormula::Or(left, right)
+            | ReferenceFormula::Xor(left, right) => { left.own_truths(right.own_truths(above)) }
+            ReferenceFormula::Not(part) | ReferenceFormula::Named(part) => part.own_truths(above),
+        }
+    }
+
+    // The truth where the leaves have those of the lowest bits, and the bits above them.
+    fn value(&self, truths: u32) -> (bool, u32) {
+        match self {
+            ReferenceFormula::Leaf(_) => (truths & 1 == 1, truths >> 1),
+            ReferenceFormula::And(left, right) => {
+                let (left, rest) = left.value(truths);
+                let (right, rest) = right.value(rest);
+                (left && right, rest)
+            }
+            ReferenceFormula::Or(left, right) => {
+                let (left, rest) = left.value(truths);
+                let (right, rest) = right.value(rest);
+                (left || right, rest)
+            }
+            ReferenceFormula::Xor(left, right) => {
+                let (left, rest) = left.value(truths);
+                let (right, rest) = right.value(rest);
+                (left != right, rest)
+            }
+            ReferenceFormula::Not(part) => {
+                let (part, rest) = part.value(truths);
+                (!part, rest)
+            }
+            ReferenceFormula::Named(part) => part.value(truths),
+        }
+    }
+}
+
+// The leaf k stands at the bit k.
+const LEAVES: [u32; 8] = [1, 2, 4, 8, 16, 32, 64, 128];
+
+// Whether the truth is the same under all choices of truths that leave the set's leaves as they
+// are.
+fn is_reason(formula: &ReferenceFormula, choices: u32, set: u32) -> bool {
+    let own = formula.own_truths(0);
+    let (truth, _) = formula.value(own);
+    for choice in 0..choices {
+        if (choice ^ own) & set == 0 && formula.value(choice).0 != truth {
+            return false;
+        }
+    }
+    true
+}
+
+// Whether the set is a reason, and none without any one of its leaves.
+fn is_minimal_reason(formula: &ReferenceFormula, choices: u32, set: u32) -> bool {
+    if !is_reason(formula, choices, set) {
+        return false;
+    }
+    for leaf in LEAVES {
+        if set & leaf != 0 && is_reason(formula, choices, set ^ leaf) {
+            return false;
+        }
+    }
+    true
+}
+
+// The numbers of a set's leaves, in order.
+fn numbers(alloc: Global, set: u32) -> Result<Vec<usize>, AllocError> {
+    let mut numbers = Vec::new(alloc);
+    for (number, leaf) in LEAVES.into_iter().enumerate() {
+        if set & leaf != 0 {
+            numbers.push(number)?;
+        }
+    }
+    Ok(numbers)
+}
+
+/// The first of all minimal reasons, as the order of lists has it; none for a formula of more than
+/// eight leaves.
+pub fn first_reason(
+    alloc: Global,
+    formula: &ReferenceFormula,
+) -> Result<Option<Vec<usize>>, AllocError> {
+    let count = formula.leaf_count();
+    if count > LEAVES.len() {
+        return Ok(None);
+    }
+    let sets = 1_u32 << count;
+    let mut first: Option<Vec<usize>> = None;
+    for set in 0..sets {
+        if is_minimal_reason(formula, sets, set) {
+            let found = numbers(alloc, set)?;
+            let is_before = match &first {
+                Some(best) => found.as_slice() < best.as_slice(),
+                None => true,
+            };
+            if is_before {
+                first = Some(found);
+            }
+        }
+    }
+    Ok(first)
+}

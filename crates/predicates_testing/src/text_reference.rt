@@ -1,0 +1,234 @@
+//! The formulas that words mean on texts and bytes.
+use crate::reference::ReferenceFormula;
+use crate::text_words::TextWord;
+use std::alloc::{AllocError, Global};
+
+// An item, as the predicates above `from_utf8` see it, or as those below it do.
+#[derive(Drop)]
+enum SeenItem {
+    Text(String),
+    Bytes(Vec<u8>),
+}
+
+// How deep the words may be nested.
+const ROOM: u32 = 100;
+
+fn characters(alloc: Global, text: &str) -> Result<Vec<char>, AllocError> {
+    let mut characters = Vec::new(alloc);
+    for character in text.chars() {
+        characters.push(character)?;
+    }
+    Ok(characters)
+}
+
+// How many places of the pattern are there where they are taken from the left, and none overlap.
+fn count_places(alloc: Global, pattern: &str, text: &str) -> Result<usize, AllocError> {
+    let pattern = characters(alloc, pattern)?;
+    let text = characters(alloc, text)?;
+    let mut count = 0_usize;
+    let mut free = 0_usize;
+    for place in 0..text.len().saturating_add(1) {
+        let stands = match text.as_slice().get(place..) {
+            Some(rest) => rest.starts_with(pattern.as_slice()),
+            None => false,
+        };
+        if stands && place >= free {
+            count = count.saturating_add(1);
+            free = place.saturating_add(pattern.len());
+        }
+    }
+    Ok(count)
+}
+
+// The text in which a carriage return, with the line feed behind it or alone, is a line feed.
+fn even(alloc: Global, text: &str) -> Result<String, AllocError> {
+    let mut even = String::new(alloc);
+    let mut is_after_return = false;
+    for character in text.chars() {
+        if character == '\r' {
+            even.push('\n')?;
+        } else if character != '\n' || !is_after_return {
+            even.push(character)?;
+        }
+        is_after_return = character == '\r';
+    }
+    Ok(even)
+}
+
+// Whether a leaf is true of a text; none where the word names no leaf.
+fn leaf_truth(alloc: Global, word: &TextWord, item: &str) -> Result<Option<bool>, AllocError> {
+    Ok(Some(match word {
+        TextWord::Always => true,
+        TextWord::Never => false,
+        TextWord::Empty => item.is_empty(),
+        TextWord::Equal(c) => item == c.as_str(),
+        TextWord::Unequal(c) => item != c.as_str(),
+        TextWord::Less(c) => item < c.as_str(),
+        TextWord::AtMost(c) => item <= c.as_str(),
+        TextWord::AtLeast(c) => item >= c.as_str(),
+        TextWord::Greater(c) => item > c.as_str(),
+        TextWord::Starts(pattern) => item.starts_with(pattern.as_str()),
+        TextWord::Ends(pattern) => item.ends_with(pattern.as_str()),
+        TextWord::Contains(pattern) => count_places(alloc, pattern.as_str(), item)? > 0,
+        TextWord::Counted(pattern, count) => {
+            count_places(alloc, pattern.as_str(), item)? == *count
+        }
+        _ => return Ok(None),
+    }))
+}
+
+// How many parts a word takes.
+fn part_count(word: &TextWord) -> u8 {
+    match word {
+        TextWord::And | TextWord::Or | TextWord::Xor => 2,
+        TextWord::Not | TextWord::Named(_) => 1,
+        TextWord::Trim | TextWord::Normalize | TextWord::FromUtf8 => 1,
+        _ => 0,
+    }
+}
+
+// The item that the word's parts see, which for bytes that are no text is empty; none where the
+// word is not one of such items.
+fn seen_by_parts(
+    alloc: Global,
+    word: &TextWord,
+    item: &SeenItem,
+) -> Result<Option<SeenItem>, AllocError> {
+    let seen = match (word, item) {
+        (TextWord::Trim, SeenItem::Text(text)) => {
+            SeenItem::Text(String::from_str(alloc, text.as_str().trim())?)
+        }
+        (TextWord::Normalize, SeenItem::Text(text)) => {
+            SeenItem::Text(even(alloc, text.as_str())?)
+        }
+        (TextWord::FromUtf8, SeenItem::Bytes(bytes)) => {
+            let text = str::from_utf8(bytes.as_slice()).unwrap_or("");
+            SeenItem::Text(String::from_str(alloc, text)?)
+        }
+        (TextWord::Trim | TextWord::Normalize | TextWord::FromUtf8, _) => return Ok(None),
+        (_, SeenItem::Text(text)) => SeenItem::Text(text.clone()?),
+        (_, SeenItem::Bytes(bytes)) => SeenItem::Bytes(bytes.clone()?),
+    };
+    Ok(Some(seen))
+}
+
+// The formula of a word over those of two parts; none where it takes no two.
+fn joined(
+    alloc: Global,
+    word: &TextWord,
+    left: ReferenceFormula,
+    right: ReferenceFormula,
+) -> Result<Option<ReferenceFormula>, AllocError> {
+    let left = Box::new(alloc, left)?;
+    let right = Box::new(alloc, right)?;
+    Ok(match word {
+        TextWord::And => Some(ReferenceFormula::And(left, right)),
+        TextWord::Or => Some(ReferenceFormula::Or(left, right)),
+        TextWord::Xor => Some(ReferenceFormula::Xor(left, right)),
+        _ => None,
+    })
+}
+
+// The formula of a word over that of its part; none where it takes no one part.
+fn above(
+    alloc: Global,
+    word: &TextWord,
+    item: &SeenItem,
+    part: ReferenceFormula,
+) -> Result<Option<ReferenceFormula>, AllocError> {
+    Ok(match (word, item) {
+        (TextWord::Not, _) => Some(ReferenceFormula::Not(Box::new(alloc, part)?)),
+        (TextWord::Named(_), _) => Some(ReferenceFormula::Named(Box::new(alloc, part)?)),
+        (TextWord::FromUtf8, SeenItem::Bytes(bytes)) => {
+            Some(match str::from_utf8(bytes.as_slice()) {
+                Ok(_) => part,
+                Err(_) => ReferenceFormula::Leaf(false),
+            })
+        }
+        (TextWord::Trim | TextWord::Normalize, _) => Some(part),
+        _ => None,
+    })
+}
+
+// The formula of the word over those of its parts; none where they are not as many.
+fn combine(
+    alloc: Global,
+    word: &TextWord,
+    item: &SeenItem,
+    first: Option<ReferenceFormula>,
+    second: Option<ReferenceFormula>,
+) -> Result<Option<ReferenceFormula>, AllocError> {
+    match (first, second) {
+        (Some(left), Some(right)) => joined(alloc, word, left, right),
+        (Some(part), None) => above(alloc, word, item, part),
+        (None, _) => match item {
+            SeenItem::Text(text) => {
+                Ok(leaf_truth(alloc, word, text.as_str())?.map(ReferenceFormula::Leaf))
+            }
+            SeenItem::Bytes(_) => Ok(None),
+        },
+    }
+}
+
+// The formula of the predicate at the words' end on the item. It takes the words.
+fn formula_of_words(
+    alloc: Global,
+    room: u32,
+    words: &mut Vec<TextWord>,
+    item: &SeenItem,
+) -> Result<Option<ReferenceFormula>, AllocError> {
+    if room == 0 {
+        return Ok(None);
+    }
+    let Some(word) = words.pop() else {
+        return Ok(None);
+    };
+    let Some(seen) = seen_by_parts(alloc, &word, item)? else {
+        return Ok(None);
+    };
+    let mut parts: Vec<ReferenceFormula> = Vec::new(alloc);
+    for _ in 0..part_count(&word) {
+        let Some(part) = formula_of_words(alloc, room - 1, words, &seen)? else {
+            return Ok(None);
+        };
+        parts.push(part)?;
+    }
+    // The right one of two parts is read before the left one.
+    let first = parts.pop();
+    combine(alloc, &word, item, first, parts.pop())
+}
+
+fn formula_on(
+    alloc: Global,
+    mut words: Vec<TextWord>,
+    item: &SeenItem,
+) -> Result<Option<ReferenceFormula>, AllocError> {
+    let formula = formula_of_words(alloc, ROOM, &mut words, item)?;
+    Ok(if words.is_empty() { formula } else { None })
+}
+
+/// The formula that the words mean on a text; none where they are not one predicate of texts.
+pub fn text_formula(
+    alloc: Global,
+    words: Vec<TextWord>,
+    item: &str,
+) -> Result<Option<ReferenceFormula>, AllocError> {
+    formula_on(
+        alloc,
+        words,
+        &SeenItem::Text(String::from_str(alloc, item)?),
+    )
+}
+
+/// The formula that the words mean on bytes; none where they are not one predicate of bytes.
+pub fn bytes_formula(
+    alloc: Global,
+    words: Vec<TextWord>,
+    item: &[u8],
+) -> Result<Option<ReferenceFormula>, AllocError> {
+    formula_on(
+        alloc,
+        words,
+        &SeenItem::Bytes(Vec::from_slice(alloc, item)?),
+    )
+}

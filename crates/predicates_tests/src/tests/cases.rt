@@ -1,0 +1,265 @@
+//! What no clause says of cases: that the calls answer with ample memory, and how a case prints.
+use predicates_core::node::{
+    binary_node, binary_node_of, joined, joined_by_left, joined_by_right, leaf_node, negated,
+    printed, showing, showing_item, showing_text, unary_node,
+};
+use predicates_core::reflection::{Case, Child, Parameter, Product, render, render_onto};
+use predicates_testing::{repeated, text};
+use std::alloc::{AllocError, Global};
+use std::fmt::Write;
+use std::test::Fail;
+
+// A case of a text alone, for true.
+fn leaf(alloc: Global, words: &str) -> Result<Case, AllocError> {
+    Ok(leaf_node(alloc, text(alloc, words)?, true))
+}
+
+// The lines of a case, which ends here.
+fn lines_of(alloc: Global, case: Result<Case, AllocError>) -> Result<String, AllocError> {
+    let case = case?;
+    render(alloc, &case)
+}
+
+fn both(alloc: Global) -> Result<Case, AllocError> {
+    let left = showing_item(alloc, leaf(alloc, "var >= 5")?, &7)?;
+    let right = showing_text(alloc, leaf(alloc, "named")?, "name", "a\nb")?;
+    binary_node(alloc, text(alloc, "both")?, true, left, right)
+}
+
+fn not_both(alloc: Global) -> Result<Case, AllocError> {
+    let part = both(alloc)?;
+    unary_node(alloc, text(alloc, "(! both)")?, false, "predicate", part)
+}
+
+#[test]
+fn a_case_of_four_nodes(rt: HostRuntime) -> Result<(), Fail> {
+    let alloc = rt.alloc();
+    assert_eq!(rt;
+        lines_of(alloc, not_both(alloc))?.as_str(),
+        "\
+(! both) = false
+  predicate: both = true
+    left: var >= 5 = true
+      - var: 7
+    right: named = true
+      - name: a
+b
+"
+    );
+    Ok(())
+}
+
+fn found_on_the_left(alloc: Global) -> Result<Case, AllocError> {
+    let seven = leaf_node(alloc, printed(alloc, &7)?, true);
+    binary_node_of(alloc, printed(alloc, &"a")?, false, Some(seven), None)
+}
+
+fn found_on_the_right(alloc: Global) -> Result<Case, AllocError> {
+    let none = binary_node_of(alloc, printed(alloc, &"")?, false, None, None)?;
+    binary_node_of(alloc, printed(alloc, &"b")?, true, None, Some(none))
+}
+
+fn found_on_both_sides(alloc: Global) -> Result<Case, AllocError> {
+    let left = found_on_the_left(alloc)?;
+    let right = found_on_the_right(alloc)?;
+    binary_node_of(alloc, printed(alloc, &-1)?, true, Some(left), Some(right))
+}
+
+#[test]
+fn parts_that_were_found(rt: HostRuntime) -> Result<(), Fail> {
+    let alloc = rt.alloc();
+    assert_eq!(rt;
+        lines_of(alloc, found_on_both_sides(alloc))?.as_str(),
+        "\
+-1 = true
+  left: a = false
+    left: 7 = true
+  right: b = true
+    right:  = false
+"
+    );
+    Ok(())
+}
+
+// The root's text.
+fn text_of_root(alloc: Global, case: Result<Case, AllocError>) -> Result<String, AllocError> {
+    let case = case?;
+    text(alloc, case.root().predicate().unwrap_or("no text"))
+}
+
+fn not_a_and_b(alloc: Global) -> Result<Case, AllocError> {
+    let left = negated(alloc, true, leaf_node(alloc, text(alloc, "a")?, false))?;
+    joined(alloc, " && ", true, left, leaf(alloc, "b")?)
+}
+
+fn seven_and_not(alloc: Global) -> Result<Case, AllocError> {
+    let first = joined_by_left(alloc, " || ", true, not_a_and_b(alloc)?, &"c")?;
+    joined_by_right(alloc, " && ", false, &7, negated(alloc, false, first)?)
+}
+
+#[test]
+fn texts_of_the_parts(rt: HostRuntime) -> Result<(), Fail> {
+    let alloc = rt.alloc();
+    assert_eq!(rt;
+        text_of_root(alloc, seven_and_not(alloc))?.as_str(),
+        "(7 && (! (((! a) && b) || c)))"
+    );
+    let bare = negated(alloc, true, Case::new(alloc, None, false));
+    assert_eq!(rt; text_of_root(alloc, bare)?.as_str(), "(! )");
+    Ok(())
+}
+
+fn without_texts(alloc: Global) -> Result<Case, AllocError> {
+    let shown = showing(Case::new(alloc, None, true), "var", text(alloc, "")?)?;
+    let parent = Case::new(alloc, Some(text(alloc, "")?), false);
+    let product = Product::new("error", text(alloc, "none")?);
+    parent.add_child("", shown)?.add_product(product)
+}
+
+#[test]
+fn a_case_without_a_text(rt: HostRuntime) -> Result<(), Fail> {
+    let alloc = rt.alloc();
+    assert_eq!(rt;
+        lines_of(alloc, without_texts(alloc))?.as_str(),
+        " = false\n  - error: none\n  : predicate = true\n    - var: \n"
+    );
+    Ok(())
+}
+
+// A child with the text, a parameter of the value, and these children.
+fn child(alloc: Global, words: &str, children: Vec<Child>) -> Result<Child, AllocError> {
+    let mut parameters = Vec::new(alloc);
+    parameters.push(Parameter::new("value", text(alloc, words)?))?;
+    Ok(Child::new("part", text(alloc, words)?, parameters, children))
+}
+
+fn nested_child(alloc: Global, outer: &str, inner: &str) -> Result<Child, AllocError> {
+    let mut children = Vec::new(alloc);
+    children.push(child(alloc, inner, Vec::new(alloc))?)?;
+    child(alloc, outer, children)
+}
+
+// The name, the text and the parameters of a child, without its own children.
+fn describe_child(alloc: Global, child: &Child) -> Result<String, AllocError> {
+    let (name, words) = (child.name(), child.text());
+    let mut described = format!(in alloc; "{name}: {words}")?;
+    for parameter in child.parameters() {
+        let (name, value) = (parameter.name(), parameter.value());
+        described = format!(in alloc; "{described}, {name} {value}")?;
+    }
+    Ok(described)
+}
+
+// The same, and that of each of its children.
+fn describe_nested(alloc: Global, child: Result<Child, AllocError>) -> Result<String, AllocError> {
+    let child = child?;
+    let mut described = describe_child(alloc, &child)?;
+    for part in child.children() {
+        let part = describe_child(alloc, part)?;
+        described = format!(in alloc; "{described} over {part}")?;
+    }
+    Ok(described)
+}
+
+// A case of the text, which shows it and, as an item, once more.
+fn shown_twice(alloc: Global, words: &String) -> Result<Case, AllocError> {
+    let case = showing_text(alloc, leaf(alloc, words)?, "var", words)?;
+    showing_item(alloc, case, words)
+}
+
+// Its lines, after the text itself.
+fn lines_after(alloc: Global, words: &String) -> Result<String, AllocError> {
+    let case = shown_twice(alloc, words)?;
+    let mut lines = words.clone()?;
+    render_onto(alloc, &mut lines, &case)?;
+    Ok(lines)
+}
+
+#[test]
+fn texts_of_any_length(rt: HostRuntime) -> Result<(), Fail> {
+    let alloc = rt.alloc();
+    for length in [0, 1, 300, 70_000] {
+        let words = repeated(alloc, "x", length, "")?;
+        let shown = "  - var: ";
+        let lines = format!(in alloc; "{words} = true\n{shown}{words}\n{shown}{words:?}\n")?;
+        assert!(rt;
+            lines_of(alloc, shown_twice(alloc, &words))? == lines,
+            "{length}"
+        );
+        let after = format!(in alloc; "{words}{lines}")?;
+        assert!(rt; lines_after(alloc, &words)? == after, "{length}");
+        let one = format!(in alloc; "part: {words}, value {words}")?;
+        let nested = nested_child(alloc, words.as_str(), "b");
+        assert!(rt;
+            describe_nested(alloc, nested)? == format!(in alloc; "{one} over part: b, value b")?,
+            "{length}"
+        );
+    }
+    Ok(())
+}
+
+const MANY: i32 = 300;
+
+// A part that prints the number, over one without a text.
+fn numbered(alloc: Global, number: i32) -> Result<Case, AllocError> {
+    let inner = Case::new(alloc, None, true);
+    unary_node(alloc, printed(alloc, &number)?, false, "inner", inner)
+}
+
+fn many_parts(alloc: Global) -> Result<Case, AllocError> {
+    let mut case = Case::new(alloc, None, true);
+    for number in 0..MANY {
+        case = showing_item(alloc, case, &number)?;
+    }
+    for number in 0..MANY {
+        case = case.add_child("part", numbered(alloc, number)?)?;
+    }
+    Ok(case)
+}
+
+fn lines_of_many(alloc: Global) -> Result<String, Fail> {
+    let mut lines = text(alloc, "predicate = true\n")?;
+    for number in 0..MANY {
+        writeln!(lines, "  - var: {number}")?;
+    }
+    for number in 0..MANY {
+        writeln!(
+            lines,
+            "  part: {number} = false\n    inner: predicate = true"
+        )?;
+    }
+    Ok(lines)
+}
+
+#[test]
+fn many_products_and_children(rt: HostRuntime) -> Result<(), Fail> {
+    let alloc = rt.alloc();
+    assert_eq!(rt; lines_of(alloc, many_parts(alloc))?, lines_of_many(alloc)?);
+    Ok(())
+}
+
+fn chain(alloc: Global, length: usize) -> Result<Case, AllocError> {
+    let mut case = Case::new(alloc, None, true);
+    for _ in 0..length {
+        case = unary_node(alloc, text(alloc, "predicate")?, true, "part", case)?;
+    }
+    Ok(case)
+}
+
+fn lines_of_chain(alloc: Global, length: usize) -> Result<String, Fail> {
+    let mut lines = text(alloc, "predicate = true\n")?;
+    let mut indent = String::new(alloc);
+    for _ in 0..length {
+        indent.push_str("  ")?;
+        writeln!(lines, "{indent}part: predicate = true")?;
+    }
+    Ok(lines)
+}
+
+#[test]
+fn a_chain_of_children(rt: HostRuntime) -> Result<(), Fail> {
+    let alloc = rt.alloc();
+    let lines = lines_of(alloc, chain(alloc, 1_000))?;
+    assert_eq!(rt; lines, lines_of_chain(alloc, 1_000)?);
+    Ok(())
+}

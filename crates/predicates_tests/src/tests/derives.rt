@@ -1,0 +1,137 @@
+//! The traits that types derive, at types that have them.
+use predicates::boolean::PredicateBooleanExt;
+use predicates::constant::{always, never};
+use predicates::iter::{in_hash, in_iter};
+use predicates::name::PredicateNameExt;
+use predicates::ord::{EqPredicate, eq, ge, lt, ne};
+use predicates::static_text::StaticText;
+use predicates::{BoxPredicate, Predicate};
+use predicates_testing::text;
+use std::alloc::{AllocError, Global};
+use std::fmt;
+use std::test::Fail;
+
+// An item that derives nothing.
+#[derive(Drop)]
+struct Bare;
+
+// Whether the debug form has a text, in both of its forms.
+fn is_shown<P: fmt::Debug>(alloc: Global, predicate: &P) -> Result<bool, AllocError> {
+    let is_plain = !format!(in alloc; "{predicate:?}")?.is_empty();
+    Ok(is_plain && !format!(in alloc; "{predicate:#?}")?.is_empty())
+}
+
+// Whether two values differ, each is equal to itself, and both are shown.
+fn differ<P: fmt::Debug + Eq>(alloc: Global, left: &P, right: &P) -> Result<bool, AllocError> {
+    Ok(
+        left == left
+            && right == right
+            && left != right
+            && is_shown(alloc, left)?
+            && is_shown(alloc, right)?,
+    )
+}
+
+// Whether the copy and the clone equal the value, which differs from the other.
+fn are_copied<P: fmt::Debug + Copy + Eq>(
+    alloc: Global,
+    predicate: P,
+    other: P,
+) -> Result<bool, AllocError> {
+    let copy = predicate;
+    let clone = predicate.clone()?;
+    Ok(copy == predicate && clone == predicate && differ(alloc, &copy, &other)?)
+}
+
+#[test]
+fn copied(rt: HostRuntime) -> Result<(), Fail> {
+    let alloc = rt.alloc();
+    let (five, six) = (ge(5i32), ge(6i32));
+    assert!(rt; are_copied(alloc, always::<Bare>(), never())?);
+    assert!(rt; are_copied(alloc, eq(5i32), ne(5))?);
+    assert!(rt; are_copied(alloc, five, lt(5))?);
+    assert!(rt; are_copied(alloc, five.and(never()), six.and(never()))?);
+    assert!(rt; are_copied(alloc, five.or(never()), five.or(always()))?);
+    assert!(rt; are_copied(alloc, five.xor(never()), six.xor(never()))?);
+    assert!(rt; are_copied(alloc, five.not(), six.not())?);
+    assert!(rt; are_copied(alloc, five.name("big"), five.name("large"))?);
+    Ok(())
+}
+
+// Whether a copy is named on, also by a text without a lifetime, and equals the first.
+fn is_copy_named(alloc: Global) -> Result<bool, AllocError> {
+    let one = never().name("x").or(lt(3i32).name("y"));
+    let other = one;
+    let held = other.name(StaticText::new("held")).not();
+    Ok(one == other && !held.eval(alloc, &1)?)
+}
+
+#[test]
+fn copied_names(rt: HostRuntime) -> Result<(), Fail> {
+    assert!(rt; is_copy_named(rt.alloc())?);
+    Ok(())
+}
+
+fn is_letter(alloc: Global, letter: &str) -> Result<EqPredicate<String>, AllocError> {
+    Ok(eq(text(alloc, letter)?))
+}
+
+// Whether comparisons with texts are cloned, though a text is not copied.
+fn is_letter_cloned(alloc: Global) -> Result<bool, AllocError> {
+    let letter = is_letter(alloc, "a")?;
+    Ok(letter.clone()? == letter && differ(alloc, &letter, &is_letter(alloc, "b")?)?)
+}
+
+// Whether combinators of what is not copied are compared.
+fn are_letters_joined(alloc: Global) -> Result<bool, AllocError> {
+    let both = always().and(is_letter(alloc, "a")?);
+    let one = always().xor(is_letter(alloc, "a")?);
+    Ok(
+        differ(alloc, &both, &always().and(is_letter(alloc, "b")?))?
+            && differ(alloc, &one, &never().xor(is_letter(alloc, "a")?))?,
+    )
+}
+
+fn do_lists_differ(alloc: Global) -> Result<bool, AllocError> {
+    differ(
+        alloc,
+        &in_iter(alloc, [3i64, 1])?,
+        &in_iter(alloc, [1i64, 3])?,
+    )
+}
+
+// Whether two lists are equal once sorted, and differ from another one.
+fn are_sorted_alike(alloc: Global) -> Result<bool, AllocError> {
+    let first = in_iter(alloc, [3i64, 1])?.sort()?;
+    let second = in_iter(alloc, [1i64, 3])?.sort()?;
+    let third = in_iter(alloc, [1i64, 3, 3])?.sort()?;
+    Ok(first == second && differ(alloc, &first, &third)?)
+}
+
+#[test]
+fn compared(rt: HostRuntime) -> Result<(), Fail> {
+    assert!(rt; is_letter_cloned(rt.alloc())?);
+    assert!(rt; are_letters_joined(rt.alloc())?);
+    assert!(rt; do_lists_differ(rt.alloc())?);
+    assert!(rt; are_sorted_alike(rt.alloc())?);
+    Ok(())
+}
+
+// Whether a set is shown.
+fn is_set_shown(alloc: Global) -> Result<bool, AllocError> {
+    is_shown(alloc, &in_hash(alloc, [1i64])?)
+}
+
+// Whether one in a box is shown by its type's name, also in the alternate form.
+fn is_box_shown(alloc: Global) -> Result<bool, AllocError> {
+    let held = always().and(is_letter(alloc, "a")?);
+    let boxed = BoxPredicate::new(alloc, Box::new(alloc, held)?)?;
+    Ok(format!(in alloc; "{boxed:#?}")?.as_str() == "BoxPredicate")
+}
+
+#[test]
+fn shown(rt: HostRuntime) -> Result<(), Fail> {
+    assert!(rt; is_set_shown(rt.alloc())?);
+    assert!(rt; is_box_shown(rt.alloc())?);
+    Ok(())
+}

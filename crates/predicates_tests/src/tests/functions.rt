@@ -1,0 +1,72 @@
+ghost use Rattle.std.specs.Prelude.{◌≡◌, ◌≤◌, ◌&&◌, nat_le};
+
+use super::{explains, prints};
+use predicates::boolean::PredicateBooleanExt;
+use predicates::function::function;
+use predicates::ord::le;
+use predicates_core::Predicate;
+use std::alloc::{AllocError, Global};
+use std::test::Fail;
+
+fn is_digit(byte: &u8) -> bool
+    ensures { result ≡ (nat_le 48 byte.now && nat_le byte.now 57) }
+{
+    b'0' <= *byte && *byte <= b'9'
+}
+
+// Whether a closure over the bound prints itself, alone and with a name.
+fn prints_closure(alloc: Global, bound: i32) -> Result<bool, AllocError> {
+    let big = function(move |x: &i32| *x >= bound);
+    let is_printed = prints(alloc, &big, "fn(var)")?;
+    Ok(is_printed && prints(alloc, &big.fn_name("big"), "big(var)")?)
+}
+
+// Whether such a closure under a comparison is explained with the lines.
+fn explains_closure(
+    alloc: Global,
+    bound: i32,
+    item: i32,
+    verdict: bool,
+    lines: &str,
+) -> Result<bool, AllocError> {
+    let middle = function(move |x: &i32| *x >= bound)
+        .fn_name("big")
+        .and(le(10i32));
+    explains(alloc, &middle, &item, verdict, lines)
+}
+
+#[test]
+fn a_closure(rt: HostRuntime) -> Result<(), Fail> {
+    let alloc = rt.alloc();
+    assert!(rt; prints_closure(alloc, 5)?);
+    let lines = "(big(var) && var <= 10) = false\n  left: big(var) = false\n";
+    assert!(rt; explains_closure(alloc, 5, 3, false, lines)?);
+    let lines = "\
+(big(var) && var <= 10) = true
+  left: big(var) = true
+  right: var <= 10 = true
+    - var: 7
+";
+    assert!(rt; explains_closure(alloc, 5, 7, true, lines)?);
+    Ok(())
+}
+
+#[test]
+fn a_named_function(rt: HostRuntime) -> Result<(), Fail> {
+    let digit = function(is_digit).fn_name("is_digit");
+    assert!(rt; digit.eval(rt.alloc(), &b'7')?);
+    assert!(rt; !digit.eval(rt.alloc(), &b'x')?);
+    assert!(rt; prints(rt.alloc(), &digit, "is_digit(var)")?);
+    Ok(())
+}
+
+#[test]
+fn a_closure_that_captures_references(rt: HostRuntime) -> Result<(), Fail> {
+    let (low, high) = (3, 9);
+    let outside = function(|x: &i32| *x >= low && *x <= high)
+        .fn_name("inside")
+        .not();
+    let lines = "(! inside(var)) = false\n  predicate: inside(var) = true\n";
+    assert!(rt; explains(rt.alloc(), &outside, &7, false, lines)?);
+    Ok(())
+}

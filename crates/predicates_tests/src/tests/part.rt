@@ -1,0 +1,143 @@
+ghost use Rattle.std.specs.Prelude.{◌≡◌};
+
+use super::{explains, is_described};
+use predicates::prelude::*;
+use std::alloc::{AllocError, Global};
+use std::test::Fail;
+
+// A guest with a name, an age and a seat, if there is one.
+#[derive(Drop)]
+struct Guest {
+    name: String,
+    age: u32,
+    seat: Option<u32>,
+}
+
+fn name_of(guest: &Guest) -> &String
+    ensures { result.now ≡ guest.now.name }
+{
+    &guest.name
+}
+
+fn seat_of(guest: &Guest) -> &Option<u32>
+    ensures { result.now ≡ guest.now.seat }
+{
+    &guest.seat
+}
+
+// Whether a policy over all three fields explains the verdict on the guest by the lines.
+fn explains_guest(
+    alloc: Global,
+    guest: (&str, u32, Option<u32>),
+    verdict: bool,
+    lines: &str,
+) -> Result<bool, AllocError> {
+    let adult = predicate::ge(18u32).of("age", |guest: &Guest| guest.age);
+    let known = predicate::str::starts_with(String::from_str(alloc, "A")?).of_ref("name", name_of);
+    let seated = predicate::le(40u32).of_some().of_ref("seat", seat_of);
+    let (name, age, seat) = guest;
+    let name = String::from_str(alloc, name)?;
+    let guest = Guest { name, age, seat };
+    explains(alloc, &adult.and(known).and(seated), &guest, verdict, lines)
+}
+
+const GUESTS: [((&str, u32, Option<u32>), bool, &str); 4] = [
+    (
+        ("Ada", 36, Some(7)),
+        true,
+        "\
+((age && name) && seat) = true
+  left: (age && name) = true
+    left: age = true
+      age: var >= 18 = true
+        - var: 36
+    right: name = true
+      name: var.starts_with(\"A\") = true
+        - var: Ada
+  right: seat = true
+    seat: var <= 40 = true
+      - var: 7
+",
+    ),
+    (
+        ("Ada", 17, Some(7)),
+        false,
+        "\
+((age && name) && seat) = false
+  left: (age && name) = false
+    left: age = false
+      age: var >= 18 = false
+        - var: 17
+",
+    ),
+    (
+        ("Bob", 36, Some(7)),
+        false,
+        "\
+((age && name) && seat) = false
+  left: (age && name) = false
+    right: name = false
+      name: var.starts_with(\"A\") = false
+        - var: Bob
+",
+    ),
+    (
+        ("Ada", 36, None),
+        false,
+        "\
+((age && name) && seat) = false
+  right: seat = false
+    seat: var <= 40 = false
+      - error: no value
+",
+    ),
+];
+
+#[test]
+fn policy_over_three_fields(rt: HostRuntime) -> Result<(), Fail> {
+    for (guest, verdict, lines) in GUESTS {
+        assert!(rt;
+            explains_guest(rt.alloc(), guest, verdict, lines)?,
+            "{lines}"
+        );
+    }
+    Ok(())
+}
+
+// Whether a predicate of one field explains the verdict on the age by the lines.
+fn explains_age(alloc: Global, age: u32, verdict: bool, lines: &str) -> Result<bool, AllocError> {
+    let adult = predicate::ge(18u32).of("age", |guest: &Guest| guest.age);
+    let guest = Guest {
+        name: String::new(alloc),
+        age,
+        seat: None,
+    };
+    Ok(
+        is_described(alloc, &adult, "age\n  age: var >= 18\n")?
+            && explains(alloc, &adult, &guest, verdict, lines)?,
+    )
+}
+
+#[test]
+fn one_field(rt: HostRuntime) -> Result<(), Fail> {
+    let lines = "age = false\n  age: var >= 18 = false\n    - var: 17\n";
+    assert!(rt; explains_age(rt.alloc(), 17, false, lines)?);
+    let lines = "age = true\n  age: var >= 18 = true\n    - var: 18\n";
+    assert!(rt; explains_age(rt.alloc(), 18, true, lines)?);
+    Ok(())
+}
+
+#[test]
+fn value_or_none(rt: HostRuntime) -> Result<(), Fail> {
+    let alloc = rt.alloc();
+    let some = predicate::ge(18u32).of_some();
+    assert!(rt; some == some.clone()?);
+    assert!(rt; is_described(alloc, &some, "var >= 18\n  predicate: var >= 18\n")?);
+    let lines = "var >= 18 = false\n  - var: 17\n";
+    assert!(rt; explains(alloc, &some, &Some(17), false, lines)?);
+    let lines = "var >= 18 = true\n  - var: 18\n";
+    assert!(rt; explains(alloc, &some, &Some(18), true, lines)?);
+    let lines = "var >= 18 = false\n  - error: no value\n";
+    assert!(rt; explains(alloc, &some, &None, false, lines)?);
+    Ok(())
+}

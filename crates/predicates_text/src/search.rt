@@ -1,0 +1,50 @@
+//! Whether one text is at the start, at the end or anywhere in another. These calls take no memory.
+//!
+//! ```
+//! assert!(rt; starts_with("Hello", "Hello World"));
+//! ```
+ghost use Rattle.std.specs.Prelude.{◌≡◌, ◌↔◌, [], IsTrue};
+ghost use Rattle.std.specs.Str.{chars};
+ghost use Rattle.predicates_text.specs.Places.{IsFrontOf, IsBackOf, IsPartOf, is_empty, is_front};
+ghost use Rattle.predicates_text.specs.Places.{is_back, is_part};
+
+use memchr::memmem;
+
+// In texts of at least this many bytes, a search that is prepared first takes less time.
+pub(crate) const LONG: usize = 512;
+
+/// Whether the text has no characters.
+pub fn is_empty(text: &str) -> bool
+    ensures empty { IsTrue result ↔ (chars text.now ≡ []) }
+    ensures value { result ≡ is_empty (chars text.now) }
+{
+    text.is_empty()
+}
+
+/// Whether the text begins with the pattern.
+pub fn starts_with(text: &str, pattern: &str) -> bool
+    ensures front { IsTrue result ↔ IsFrontOf (chars pattern.now) (chars text.now) }
+    ensures value { result ≡ is_front (chars pattern.now) (chars text.now) }
+{
+    text.starts_with(pattern)
+}
+
+/// Whether the text ends with the pattern.
+pub fn ends_with(text: &str, pattern: &str) -> bool
+    ensures back { IsTrue result ↔ IsBackOf (chars pattern.now) (chars text.now) }
+    ensures value { result ≡ is_back (chars pattern.now) (chars text.now) }
+{
+    text.ends_with(pattern)
+}
+
+/// Whether the text contains the pattern.
+pub fn contains(text: &str, pattern: &str) -> bool
+    ensures part { IsTrue result ↔ IsPartOf (chars pattern.now) (chars text.now) }
+    ensures bytes { IsTrue result ↔ IsPartOf pattern.now text.now }
+    ensures value { result ≡ is_part (chars pattern.now) (chars text.now) }
+{
+    if text.len() < LONG {
+        return text.contains(pattern);
+    }
+    memmem::find(text.as_bytes(), pattern.as_bytes()).is_some()
+}

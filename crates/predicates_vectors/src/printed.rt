@@ -1,0 +1,43 @@
+//! The table of printed texts and descriptions.
+use crate::cells::cells;
+use crate::outcome::{Difference, compare};
+use crate::shown::shown_description;
+use crate::table::Table;
+use anyhow::{Context, Result, bail};
+use predicates_testing::{
+    Answers, TextWord, answer_bytes, answer_number, answer_text, read_number_words, read_text_words,
+};
+use std::alloc::{AllocError, Global};
+
+/// Rows of a predicate, its printed text and its description.
+pub struct PrintedTable;
+
+// What the predicate of the words answers. It is one of numbers where each word is a word of
+// numbers, else one of bytes where a word is `from_utf8`, else one of texts. What it prints is not
+// of the item, so any item serves.
+fn answer(alloc: Global, predicate: &str) -> Result<Option<Answers>, AllocError> {
+    if let Some(words) = read_number_words(alloc, predicate)? {
+        return answer_number(alloc, words, 0);
+    }
+    let Some(words) = read_text_words(alloc, predicate)? else {
+        return Ok(None);
+    };
+    if words.iter().any(|word| matches!(word, TextWord::FromUtf8)) {
+        return answer_bytes(alloc, words, &Vec::new(alloc));
+    }
+    answer_text(alloc, words, &String::new(alloc))
+}
+
+impl Table for PrintedTable {
+    fn replay(&self, alloc: Global, row: &str, wrong: &mut Vec<Difference>) -> Result<()> {
+        let cells = cells(alloc, row)?;
+        let [predicate, printed, description] = cells.as_slice() else {
+            bail!("not three cells");
+        };
+        let answers = answer(alloc, predicate)?.context("no predicate, or too deep")?;
+        compare(alloc, wrong, "text", printed, answers.text.as_str())?;
+        let parameters = answers.parameters.as_slice();
+        let found = shown_description(alloc, parameters, answers.children.as_slice())?;
+        compare(alloc, wrong, "description", description, found.as_str())
+    }
+}

@@ -1,5 +1,0 @@
-pub mod CheckTexts
-pub mod Finding
-pub mod Meant
-mod WordCount
-pub mod WrittenLines

@@ -1,9 +1,0 @@
-pub mod Applied
-pub mod CheckLaws
-pub mod Checks
-pub mod Found
-pub mod Meaning
-pub mod Tokens
-pub mod Weight
-pub mod WordFault
-pub mod WrittenLines

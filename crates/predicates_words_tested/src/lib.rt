@@ -1,5 +1,0 @@
-//! Tests of what `predicates_words` gives.
-#![tactic(auto)]
-
-#[cfg(test)]
-mod tests;

@@ -1,2 +1,0 @@
-mod lines;
-mod words;
