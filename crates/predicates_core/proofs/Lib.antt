@@ -6,7 +6,6 @@ pub mod FirstOfJoins
 pub mod FirstReasonOf
 pub mod Shown
 pub mod CombinedLemmas
-pub mod NodeText
 pub mod Leaves
 pub mod Added
 pub mod Forests

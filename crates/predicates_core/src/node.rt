@@ -9,8 +9,6 @@
 ghost use Rattle.std.specs.Prelude.{◌≡◌, [], ◌∷◌, codes, Some, IfOk, IfSome, string_bytes};
 ghost use Rattle.predicates_core.specs.Shows.{IsNode, found_parts};
 ghost use Rattle.predicates_core.specs.Leaves.{IsShowing};
-ghost use Rattle.predicates_core.specs.Label.{Fits};
-ghost use Rattle.predicates_core.specs.Combined.{infix_text, not_text};
 
 use crate::reflection::{Case, Product};
 use std::alloc::{AllocError, Global};
@@ -87,103 +85,6 @@ pub fn binary_node_of(
         case = case.add_child("right", right)?;
     }
     Ok(case)
-}
-
-// The text of the root, and the empty one where it has none.
-fn root_text(case: &Case) -> &str
-    ensures { Fits case.now.root.text result.now }
-{
-    match case.root().predicate() {
-        Some(text) => text,
-        None => "",
-    }
-}
-
-/// The node of a negation over its part's case. Its text is made of the part's text, which is not
-/// printed again: a chain of such nodes copies one text for each node.
-#[inline(never)]
-pub fn negated(alloc: Global, outcome: bool, part: Case) -> Result<Case, AllocError>
-    ensures { IfOk result
-        (IsNode (not_text part.root.text) outcome ((codes "predicate", part) ∷ [])) }
-{
-    let inner = root_text(&part);
-    let mut text = String::with_capacity(alloc, inner.len().saturating_add(4))?;
-    text.push_str("(! ")?;
-    text.push_str(inner)?;
-    text.push_str(")")?;
-    unary_node(alloc, text, outcome, "predicate", part)
-}
-
-/// A node over the cases of a left and a right part with the operator between them. Its text is made
-/// of the parts' texts, which are not printed again.
-#[inline(never)]
-pub fn joined(
-    alloc: Global,
-    operator: &str,
-    outcome: bool,
-    left: Case,
-    right: Case,
-) -> Result<Case, AllocError>
-    ensures { IfOk result
-        (IsNode (infix_text operator.now left.root.text right.root.text) outcome
-        ((codes "left", left) ∷ (codes "right", right) ∷ [])) }
-{
-    let first = root_text(&left);
-    let second = root_text(&right);
-    let room = first.len().saturating_add(second.len()).saturating_add(8);
-    let mut text = String::with_capacity(alloc, room)?;
-    text.push_str("(")?;
-    text.push_str(first)?;
-    text.push_str(operator)?;
-    text.push_str(second)?;
-    text.push_str(")")?;
-    binary_node(alloc, text, outcome, left, right)
-}
-
-/// A node of which the left part decides; the right one is printed and has no case.
-#[inline(never)]
-pub fn joined_by_left<R: fmt::Display>(
-    alloc: Global,
-    operator: &str,
-    outcome: bool,
-    left: Case,
-    right: &R,
-) -> Result<Case, AllocError>
-    ensures { IfOk result
-        (IsNode (infix_text operator.now left.root.text (R.output right.now)) outcome
-        ((codes "left", left) ∷ [])) }
-{
-    let first = root_text(&left);
-    let mut text = String::with_capacity(alloc, first.len().saturating_add(ROOM))?;
-    text.push_str("(")?;
-    text.push_str(first)?;
-    text.push_str(operator)?;
-    text.write(right)?;
-    text.push_str(")")?;
-    Ok(unary_node(alloc, text, outcome, "left", left)?)
-}
-
-/// A node of which the right part decides; the left one is printed and has no case.
-#[inline(never)]
-pub fn joined_by_right<L: fmt::Display>(
-    alloc: Global,
-    operator: &str,
-    outcome: bool,
-    left: &L,
-    right: Case,
-) -> Result<Case, AllocError>
-    ensures { IfOk result
-        (IsNode (infix_text operator.now (L.output left.now) right.root.text) outcome
-        ((codes "right", right) ∷ [])) }
-{
-    let second = root_text(&right);
-    let mut text = String::with_capacity(alloc, second.len().saturating_add(ROOM))?;
-    text.push_str("(")?;
-    text.write(left)?;
-    text.push_str(operator)?;
-    text.push_str(second)?;
-    text.push_str(")")?;
-    unary_node(alloc, text, outcome, "right", right)
 }
 
 /// The case with a value more under the name, the last of its root's products; the value is kept.
