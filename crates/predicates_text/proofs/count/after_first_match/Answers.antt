@@ -1,4 +1,4 @@
-use Rattle.std.proofs.Common.{None, Some, refl}
+use Rattle.std.proofs.Common.{None, Some, refl, rules}
 use Rattle.predicates_text.proofs.Counting.{past_front, past_place, nowhere, filled}
 use Rattle.predicates_text.proofs.Counting.{found_at_front, cut_front, cut_found, past_found, nowhere_found}
 use Rattle.predicates_text.proofs.Searching.{of_texts}
@@ -22,15 +22,15 @@ returns-in_default c = past_place c.args.pattern.now c.args.text.now _ c.in_ok-r
 
 pub returns-in_err-place : goal.returns-in_err-place
 returns-in_err-place c =
-    let found = of_texts c.args.pattern.now c.args.text.now _ _ None c.as_bytes-wanted.ensures.value c.as_bytes-bytes.ensures.value c.in_err-place.ensures in
+    let found = of_texts c.args.pattern.now c.args.text.now c.in-Some.finder _ None (search rules) c.as_bytes-bytes.ensures.value c.in_err-place.ensures in
     rw c.from_residual-in_err-place.ensures (nowhere_found c.args.pattern.now c.args.text.now c.utf8.pattern c.utf8.text found)
 
 pub range_from-requires-2 : goal.range_from-requires-2
 range_from-requires-2 c =
-    let found = of_texts c.args.pattern.now c.args.text.now _ _ (Some c.in_ok-place.place) c.as_bytes-wanted.ensures.value c.as_bytes-bytes.ensures.value c.in_ok-place.ensures in
+    let found = of_texts c.args.pattern.now c.args.text.now c.in-Some.finder _ (Some c.in_ok-place.place) (search rules) c.as_bytes-bytes.ensures.value c.in_ok-place.ensures in
     λ _. cut_found c.args.pattern.now c.args.text.now c.in_ok-place.place c.utf8.pattern c.utf8.text found
 
 pub returns : goal.returns
 returns c =
-    let found = of_texts c.args.pattern.now c.args.text.now _ _ (Some c.in_ok-place.place) c.as_bytes-wanted.ensures.value c.as_bytes-bytes.ensures.value c.in_ok-place.ensures in
+    let found = of_texts c.args.pattern.now c.args.text.now c.in-Some.finder _ (Some c.in_ok-place.place) (search rules) c.as_bytes-bytes.ensures.value c.in_ok-place.ensures in
     past_found c.args.pattern.now c.args.text.now c.range_from-2.result.now c.in_ok-place.place c.utf8.pattern c.utf8.text (filled c.args.pattern.now c.requires.some) found c.range_from-2.ensures.value
