@@ -7,7 +7,7 @@ use std::alloc::{AllocError, Global};
 // `starts_with("a")`, the leaf of all checks here.
 fn leaf(alloc: Global) -> Result<Box<TextCheck>, AllocError> {
     let pattern = String::from_str(alloc, "a")?;
-    Box::new(alloc, TextCheck::Starts(starts_with(pattern)))
+    Ok(Box::new(alloc, TextCheck::Starts(starts_with(pattern)))?)
 }
 
 // The leaf under so many `not`.
@@ -26,7 +26,7 @@ fn row(alloc: Global, leaves: usize) -> Result<Box<TextCheck>, AllocError> {
         check = Box::new(alloc, TextCheck::And(check, leaf(alloc)?))?;
     }
     let last = TextCheck::Ends(ends_with(String::from_str(alloc, "b")?));
-    Box::new(alloc, TextCheck::And(check, Box::new(alloc, last)?))
+    Ok(Box::new(alloc, TextCheck::And(check, Box::new(alloc, last)?))?)
 }
 
 // So many `xor` over leaves; the checks made so far stand on the right or on the left.
