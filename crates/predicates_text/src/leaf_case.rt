@@ -24,7 +24,22 @@ pub(crate) fn text_case<P: fmt::Display>(
     if holds != expected {
         return Ok(None);
     }
-    let case = leaf_node(alloc, printed(alloc, leaf)?, expected);
+    made_case(alloc, leaf, holds, item)
+}
+
+// The case of `text_case`, in a function of its own, so that a leaf without one needs no frame.
+#[inline(never)]
+#[tactic(auto, using(predicates_core::proofs::Leaves::leaves))]
+fn made_case<P: fmt::Display>(
+    alloc: Global,
+    leaf: &P,
+    holds: bool,
+    item: &String,
+) -> Result<Option<Case>, AllocError>
+    ensures { IfOk result (IsAnswer
+        (IsExactly (text_leaf (P.output leaf.now) (string_bytes item.now) holds)) holds) }
+{
+    let case = leaf_node(alloc, printed(alloc, leaf)?, holds);
     Ok(Some(showing_text(alloc, case, "var", item)?))
 }
 
