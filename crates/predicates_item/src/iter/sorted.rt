@@ -6,7 +6,6 @@ use predicates_core::custom::showing_case;
 use predicates_core::reflection::{Case, Child, Parameter, PredicateReflection};
 use predicates_core::{Predicate, ReadsContent, Total};
 use std::alloc::{AllocError, Global};
-use std::cmp::Ordering;
 use std::fmt;
 
 /// Holds of an item that equals one of some values, which are kept in ascending order and searched
@@ -31,19 +30,27 @@ impl<T: Ord> OrdInPredicate<T> {
         ensures bound { steps.new ≤ digits (length (members_of self.now)) }
     {
         steps.clear();
-        let mut rest = self.members.as_slice();
-        loop {
-            let (before, others) = rest.split_at(rest.len() / 2);
-            let Some((middle, after)) = others.split_first() else {
-                return false;
-            };
+        // The `left` members from `base` on are undecided, and `found` is the end of the members
+        // up to an equal one, or 0. It is no `bool`, since the compiler would then jump on what a
+        // comparison says, which no processor can foresee.
+        let members = self.members.as_slice();
+        let mut base = 0;
+        let mut left = members.len();
+        let mut found = 0;
+        while left > 0 {
+            let half = (left + 1) / 2;
+            let end = base + half;
+            let order = members[end - 1].cmp(item);
             steps.add_one();
-            match middle.cmp(item) {
-                Ordering::Less => rest = after,
-                Ordering::Equal => return true,
-                Ordering::Greater => rest = before,
+            if order.is_eq() {
+                found = end;
             }
+            if order.is_lt() {
+                base = end;
+            }
+            left -= half;
         }
+        found > 0
     }
 }
 

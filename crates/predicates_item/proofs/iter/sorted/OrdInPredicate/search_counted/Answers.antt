@@ -1,18 +1,20 @@
-use Rattle.std.proofs.Common.{ap, length, arith}
-use Rattle.predicates_item.proofs.Halving.{left_at_start, can_count, within_digits, left_after, left_before}
+use Rattle.std.proofs.Common.{arith}
+use Rattle.std.proofs.lemmas.List.Sorted.{searchable_from_sorted}
+use Rattle.predicates_item.proofs.Halving.{left_at_start, can_count, chosen, found_at_end, left_now}
+use Rattle.predicates_item.proofs.iter.sorted.OrdInPredicate.search_counted.Goals.{then-is_eq, else-is_eq, then-is_lt, else-is_lt}
 use Rattle.predicates_item.proofs.iter.sorted.OrdInPredicate.search_counted.Goals as goal
 
-pub loop-middle-init : goal.loop-middle-init
-loop-middle-init g c = left_at_start g.met.T.Ord.total c.args.item.now c.args.self.now.sorted c.as_slice-rest.ensures.value c.clear.ensures
+pub loop-left-init : goal.loop-left-init
+loop-left-init g c = rw c.as_slice-members.ensures.value (left_at_start c.clear.ensures)
 
 pub add_one-requires : goal.add_one-requires
-add_one-requires g c = can_count c.loop-middle.invariant (omega (arith, c.in-Some.ensures.cases.1)) (omega (arith, ap length c.as_slice-rest.ensures.value, c.as_slice-rest.type_inv.0))
+add_one-requires g c = can_count c.loop-left.invariant c.loop-left-test.true (omega (arith, c.args.self.now.members.ok, c.args.self.now.members.small))
 
-pub loop-middle-preserved-in-Less : goal.loop-middle-preserved-in-Less
-loop-middle-preserved-in-Less g c = left_after g.met.T.Ord.matches_eq c.loop-middle.invariant (omega arith) c.split_at.ensures.front c.split_at.ensures.back c.in-Some.ensures.cases.0 c.cmp.ensures c.add_one.ensures c.in-Less.is
+pub loop-left-preserved : goal.loop-left-preserved
+loop-left-preserved g c =
+    left_now c.loop-left.invariant g.T.Ord.cmp g.met.T.Ord.matches_eq (searchable_from_sorted g.met.T.Ord.total (λ x. x) c.args.self.now.members.items c.args.item.now c.args.self.now.sorted) c.loop-left-test.true (omega arith) c.as_slice-members.ensures.value c.index-members-end.is c.cmp-order.result c.cmp-order.ensures c.add_one.ensures
+    (elim c.if-is_lt.branch [ then-is_lt w ↦ chosen _ _ w.if-is_lt.ensures w.base-is | else-is_lt w ↦ chosen _ _ w.if-is_lt.ensures w.base-is ])
+    (elim c.if-is_eq.branch [ then-is_eq w ↦ chosen _ _ w.if-is_eq.ensures w.found-is | else-is_eq w ↦ chosen _ _ w.if-is_eq.ensures w.found-is ])
 
-pub returns-in-Equal-clause-bound : goal.returns-in-Equal-clause-bound
-returns-in-Equal-clause-bound g c = omega (arith, within_digits c.loop-middle.invariant (omega (arith, c.in-Some.ensures.cases.1)), c.add_one.ensures)
-
-pub loop-middle-preserved : goal.loop-middle-preserved
-loop-middle-preserved g c = left_before g.met.T.Ord.matches_eq c.loop-middle.invariant (omega arith) c.split_at.ensures.front c.split_at.ensures.back c.in-Some.ensures.cases.0 c.cmp.ensures c.add_one.ensures c.in-Greater.is
+pub returns-clause-member : goal.returns-clause-member
+returns-clause-member g c = found_at_end c.loop-left.invariant (omega arith)
