@@ -98,7 +98,9 @@ impl Predicate<i64> for NumberLeaf {
 
     ghost infallible = { λ p. ⟦<Leaf as Predicate<i64>>⟧.infallible p.leaf };
 
-    ghost text_fits = { λ p v f. text_fits_by_type _ _ _ _
+    ghost text_fits = { λ p v f. text_fits_by_type
+        (λ q. ⟦<Plain as Predicate<i64>>⟧.formula q v)
+        (λ q. ⟦<Asked as Predicate<i64>>⟧.formula q v) _ _
         (text_fits_by_type _ _ _ _
         (λ q g h. exactly_text_fits h)
         (text_fits_by_type _ _ _ _ (λ q g h. exactly_text_fits h) (λ q g h. exactly_text_fits h)))

@@ -79,9 +79,17 @@ impl<P: Predicate<String>> Predicate<String> for TextLevel<P> {
 
     ghost infallible = { λ p. ⟦<OneOf<Level<P, String>, Handed<P>> as Predicate<String>>⟧.infallible p.node };
 
-    ghost text_fits = { λ p v f. text_fits_by_type _ _ _ _
+    ghost text_fits = { λ p v f. text_fits_by_type
+        (λ q. ⟦<Level<P, String> as Predicate<String>>⟧.formula q v)
+        (λ q. ⟦<Handed<P> as Predicate<String>>⟧.formula q v)
+        ⟦<Level<P, String> as fmt::Display>⟧.output
+        ⟦<Handed<P> as fmt::Display>⟧.output
         (λ l. level_text_fits P.output (λ q. P.formula q v) (λ q. P.text_fits q v) l.node)
-        (text_fits_by_type _ _ _ _
+        (text_fits_by_type
+        (λ q. ⟦<TrimPredicate<P> as Predicate<String>>⟧.formula q v)
+        (λ q. ⟦<NormalizedPredicate<P> as Predicate<String>>⟧.formula q v)
+        ⟦<TrimPredicate<P> as fmt::Display>⟧.output
+        ⟦<NormalizedPredicate<P> as fmt::Display>⟧.output
         (λ q g h. each_text_fits (P.output (trim_part q)) (has_trimmed v)
         (λ t. P.text_fits (trim_part q) t g) h)
         (λ q g h. each_text_fits (P.output (normalized_part q)) (has_even_lines v)
