@@ -4,6 +4,8 @@ mod faulty_io;
 mod functions_and_boxes;
 mod made;
 mod makers;
+mod meanings;
+mod parts;
 mod paths;
 mod patterns;
 mod predicate_calls;

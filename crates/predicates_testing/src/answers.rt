@@ -1,9 +1,10 @@
 //! What a predicate answers.
+use crate::helpers::description;
 use crate::kept_leaves::kept_leaves;
 use crate::printed::keeps_text;
 use crate::reference::{ReferenceFormula, first_reason};
 use predicates_core::Predicate;
-use predicates_core::reflection::{Case, Child, Parameter};
+use predicates_core::reflection::Case;
 use std::alloc::{AllocError, Global};
 
 /// What a predicate answers about itself and about one item.
@@ -15,8 +16,8 @@ pub struct Answers {
     pub text: String,
     /// Whether flags, a width and a precision leave the text as it is.
     pub keeps_text: bool,
-    pub parameters: Vec<Parameter>,
-    pub children: Vec<Child>,
+    /// A line for each parameter and for each child, down to the leaves.
+    pub description: String,
 }
 
 /// All that the predicate answers.
@@ -27,18 +28,20 @@ pub fn ask<P: Predicate<Item>, Item>(
 ) -> Result<Answers, AllocError>
     requires { P.lawful predicate.now }
 {
+    let parameters = predicate.parameters(alloc)?;
+    let children = predicate.children(alloc)?;
     Ok(Answers {
         verdict: predicate.eval(alloc, item)?,
         case_true: predicate.find_case(alloc, true, item)?,
         case_false: predicate.find_case(alloc, false, item)?,
         text: predicate.to_string(alloc)?,
         keeps_text: keeps_text(alloc, predicate)?,
-        parameters: predicate.parameters(alloc)?,
-        children: predicate.children(alloc)?,
+        description: description(alloc, parameters.as_slice(), children.as_slice())?,
     })
 }
 
-/// The verdict, where its case has that result and there is none for the opposite.
+/// The verdict, where its case has that result and there is none for the opposite; all else is asked
+/// as well.
 pub fn verdict<P: Predicate<Item>, Item>(
     alloc: Global,
     predicate: &P,
@@ -46,12 +49,11 @@ pub fn verdict<P: Predicate<Item>, Item>(
 ) -> Result<Option<bool>, AllocError>
     requires { P.lawful predicate.now }
 {
-    let verdict = predicate.eval(alloc, item)?;
-    let has_other = predicate.find_case(alloc, !verdict, item)?.is_some();
-    match predicate.find_case(alloc, verdict, item)? {
-        Some(case) if case.root().result() == verdict && !has_other => Ok(Some(verdict)),
-        _ => Ok(None),
-    }
+    let answers = ask(alloc, predicate, item)?;
+    Ok(match answers.cases() {
+        (Some(case), None) if case.root().result() == answers.verdict => Some(answers.verdict),
+        _ => None,
+    })
 }
 
 impl Answers {

@@ -29,7 +29,10 @@ pub use choices::greatest_choice;
 pub use counting::Counting;
 pub use escapes::unescape;
 pub use from_words::{Combinator, FromWords, Word, answer};
-pub use helpers::{describe, has_child, has_parameter, render_verdict, repeated, text};
+pub use helpers::{
+    are_copied, characters, describe, description, differ, explains, is_described, render_verdict,
+    repeated, text,
+};
 pub use level::Level;
 pub use number_leaf::NumberLeaf;
 pub use numbers::{answer_number, number_formula};

@@ -1,8 +1,9 @@
 //! A leaf of the library over numbers.
 ghost use Rattle.predicates_core.specs.LeafLaws.{exactly_text_fits, one_exactly};
-ghost use Rattle.predicates_testing.specs.OneOf.{text_fits_by_type, one_by_type};
+ghost use Rattle.predicates_testing.specs.OneOf.{lawful_by_type, text_fits_by_type, one_by_type};
 
 use crate::at_least::AtLeast;
+use crate::from_words::FromWords;
 use crate::one_of::OneOf;
 use crate::words::NumberWord;
 use predicates::constant::{BooleanPredicate, always, never};
@@ -31,70 +32,41 @@ pub struct NumberLeaf {
     leaf: Leaf,
 }
 
-impl NumberLeaf {
-    fn plain(leaf: Plain) -> NumberLeaf {
-        NumberLeaf {
-            leaf: OneOf::First(leaf),
+fn comparison(alloc: Global, leaf: Comparison) -> Result<Leaf, AllocError> {
+    Ok(OneOf::First(OneOf::second(alloc, leaf)?))
+}
+
+fn order(alloc: Global, leaf: OrdPredicate<i64>) -> Result<Leaf, AllocError> {
+    comparison(alloc, OneOf::second(alloc, leaf)?)
+}
+
+fn ordered(alloc: Global, leaf: Ordered) -> Result<Leaf, AllocError> {
+    OneOf::second(alloc, OneOf::First(leaf))
+}
+
+fn other(alloc: Global, leaf: Other) -> Result<Leaf, AllocError> {
+    OneOf::second(alloc, OneOf::second(alloc, leaf)?)
+}
+
+// The leaf that a word names; none where it names a combinator.
+fn leaf_of_word(alloc: Global, word: NumberWord) -> Result<Option<Leaf>, AllocError> {
+    Ok(Some(match word {
+        NumberWord::Always => OneOf::First(OneOf::First(always())),
+        NumberWord::Never => OneOf::First(OneOf::First(never())),
+        NumberWord::Equal(c) => comparison(alloc, OneOf::First(eq(c)))?,
+        NumberWord::Unequal(c) => comparison(alloc, OneOf::First(ne(c)))?,
+        NumberWord::Less(c) => order(alloc, lt(c))?,
+        NumberWord::AtMost(c) => order(alloc, le(c))?,
+        NumberWord::AtLeast(c) => order(alloc, ge(c))?,
+        NumberWord::Greater(c) => order(alloc, gt(c))?,
+        NumberWord::Called(constant) => other(alloc, OneOf::second(alloc, AtLeast { constant })?)?,
+        NumberWord::Listed(list) => ordered(alloc, OneOf::First(in_iter(alloc, list)?))?,
+        NumberWord::Sorted(list) => {
+            ordered(alloc, OneOf::second(alloc, in_iter(alloc, list)?.sort()?)?)?
         }
-    }
-
-    fn comparison(alloc: Global, leaf: Comparison) -> Result<NumberLeaf, AllocError> {
-        Ok(NumberLeaf::plain(OneOf::Second(Box::new(alloc, leaf)?)))
-    }
-
-    fn equality(alloc: Global, leaf: EqPredicate<i64>) -> Result<NumberLeaf, AllocError> {
-        NumberLeaf::comparison(alloc, OneOf::First(leaf))
-    }
-
-    fn order(alloc: Global, leaf: OrdPredicate<i64>) -> Result<NumberLeaf, AllocError> {
-        NumberLeaf::comparison(alloc, OneOf::Second(Box::new(alloc, leaf)?))
-    }
-
-    fn other_than_plain(alloc: Global, leaf: Asked) -> Result<NumberLeaf, AllocError> {
-        Ok(NumberLeaf {
-            leaf: OneOf::Second(Box::new(alloc, leaf)?),
-        })
-    }
-
-    fn other(alloc: Global, leaf: Other) -> Result<NumberLeaf, AllocError> {
-        NumberLeaf::other_than_plain(alloc, OneOf::Second(Box::new(alloc, leaf)?))
-    }
-
-    /// The leaf that a word names; none where it names a combinator.
-    pub fn of_word(alloc: Global, word: NumberWord) -> Result<Option<NumberLeaf>, AllocError> {
-        Ok(Some(match word {
-            NumberWord::Always => NumberLeaf::plain(OneOf::First(always())),
-            NumberWord::Never => NumberLeaf::plain(OneOf::First(never())),
-            NumberWord::Equal(c) => NumberLeaf::equality(alloc, eq(c))?,
-            NumberWord::Unequal(c) => NumberLeaf::equality(alloc, ne(c))?,
-            NumberWord::Less(c) => NumberLeaf::order(alloc, lt(c))?,
-            NumberWord::AtMost(c) => NumberLeaf::order(alloc, le(c))?,
-            NumberWord::AtLeast(c) => NumberLeaf::order(alloc, ge(c))?,
-            NumberWord::Greater(c) => NumberLeaf::order(alloc, gt(c))?,
-            NumberWord::Called(constant) => {
-                let called = Box::new(alloc, AtLeast { constant })?;
-                NumberLeaf::other(alloc, OneOf::Second(called))?
-            }
-            NumberWord::Listed(list) => {
-                let members = OneOf::First(in_iter(alloc, list)?);
-                NumberLeaf::other_than_plain(alloc, OneOf::First(members))?
-            }
-            NumberWord::Sorted(list) => {
-                let members = Box::new(alloc, in_iter(alloc, list)?.sort()?)?;
-                NumberLeaf::other_than_plain(alloc, OneOf::First(OneOf::Second(members)))?
-            }
-            NumberWord::Hashed(list) => {
-                NumberLeaf::other(alloc, OneOf::First(in_hash(alloc, list)?))?
-            }
-            NumberWord::Named(_)
-            | NumberWord::Not
-            | NumberWord::And
-            | NumberWord::Or
-            | NumberWord::Xor => {
-                return Ok(None);
-            }
-        }))
-    }
+        NumberWord::Hashed(list) => other(alloc, OneOf::First(in_hash(alloc, list)?))?,
+        _ => return Ok(None),
+    }))
 }
 
 impl fmt::Display for NumberLeaf {
@@ -128,30 +100,13 @@ impl Predicate<i64> for NumberLeaf {
 
     ghost text_fits = { λ p v f. text_fits_by_type
         (λ q. ⟦<Plain as Predicate<i64>>⟧.formula q v)
-        (λ q. ⟦<Asked as Predicate<i64>>⟧.formula q v) ⟦<Plain as fmt::Display>⟧.output ⟦<Asked as fmt::Display>⟧.output
-        (text_fits_by_type
-        (λ q. ⟦<BooleanPredicate<i64> as Predicate<i64>>⟧.formula q v)
-        (λ q. ⟦<Comparison as Predicate<i64>>⟧.formula q v) ⟦<BooleanPredicate<i64> as fmt::Display>⟧.output ⟦<Comparison as fmt::Display>⟧.output
+        (λ q. ⟦<Asked as Predicate<i64>>⟧.formula q v) _ _
+        (text_fits_by_type _ _ _ _
         (λ q g h. exactly_text_fits h)
-        (text_fits_by_type
-        (λ q. ⟦<EqPredicate<i64> as Predicate<i64>>⟧.formula q v)
-        (λ q. ⟦<OrdPredicate<i64> as Predicate<i64>>⟧.formula q v) ⟦<EqPredicate<i64> as fmt::Display>⟧.output ⟦<OrdPredicate<i64> as fmt::Display>⟧.output
-        (λ q g h. exactly_text_fits h)
-        (λ q g h. exactly_text_fits h)))
-        (text_fits_by_type
-        (λ q. ⟦<Ordered as Predicate<i64>>⟧.formula q v)
-        (λ q. ⟦<Other as Predicate<i64>>⟧.formula q v) ⟦<Ordered as fmt::Display>⟧.output
-        ⟦<Other as fmt::Display>⟧.output
-        (text_fits_by_type
-        (λ q. ⟦<InPredicate<i64> as Predicate<i64>>⟧.formula q v)
-        (λ q. ⟦<OrdInPredicate<i64> as Predicate<i64>>⟧.formula q v) ⟦<InPredicate<i64> as fmt::Display>⟧.output ⟦<OrdInPredicate<i64> as fmt::Display>⟧.output
-        (λ q g h. exactly_text_fits h)
-        (λ q g h. exactly_text_fits h))
-        (text_fits_by_type
-        (λ q. ⟦<HashableInPredicate<i64> as Predicate<i64>>⟧.formula q v)
-        (λ q. ⟦<AtLeast as Predicate<i64>>⟧.formula q v) ⟦<HashableInPredicate<i64> as fmt::Display>⟧.output ⟦<AtLeast as fmt::Display>⟧.output
-        (λ q g h. exactly_text_fits h)
-        (λ q g h. exactly_text_fits h)))
+        (text_fits_by_type _ _ _ _ (λ q g h. exactly_text_fits h) (λ q g h. exactly_text_fits h)))
+        (text_fits_by_type _ _ _ _
+        (text_fits_by_type _ _ _ _ (λ q g h. exactly_text_fits h) (λ q g h. exactly_text_fits h))
+        (text_fits_by_type _ _ _ _ (λ q g h. exactly_text_fits h) (λ q g h. exactly_text_fits h)))
         p.leaf f };
 
     ghost one_formula = { λ p v f g. one_by_type
@@ -174,5 +129,22 @@ impl Predicate<i64> for NumberLeaf {
         item: &i64,
     ) -> Result<Option<Case>, AllocError> {
         self.leaf.find_case(alloc, expected, item)
+    }
+}
+
+impl FromWords<NumberWord, i64> for NumberLeaf {
+    ghost always_lawful = { λ p. lawful_by_type
+        (lawful_by_type (λ q. tt) (lawful_by_type (λ q. tt) (λ q. tt)))
+        (lawful_by_type (lawful_by_type (λ q. tt) (λ q. tt)) (lawful_by_type (λ q. tt) (λ q. tt)))
+        p.leaf };
+
+    fn from_words(
+        alloc: Global,
+        words: &mut Vec<NumberWord>,
+    ) -> Result<Option<NumberLeaf>, AllocError> {
+        let Some(word) = words.pop() else {
+            return Ok(None);
+        };
+        Ok(leaf_of_word(alloc, word)?.map(|leaf| NumberLeaf { leaf }))
     }
 }

@@ -1,11 +1,9 @@
 //! What the library's predicates over numbers answer, and the formulas that they have.
-ghost use Rattle.predicates_testing.specs.OneOf.{lawful_by_type};
-
 use crate::answers::Answers;
-use crate::from_words::{Combinator, FromWords, Word, answer};
+use crate::from_words::{Combinator, Word, answer};
 use crate::level::Level;
 use crate::number_leaf::NumberLeaf;
-use crate::reference::ReferenceFormula;
+use crate::reference::{ReferenceFormula, combined};
 use crate::words::NumberWord;
 use predicates_core::static_text::StaticText;
 use std::alloc::{AllocError, Global};
@@ -20,23 +18,6 @@ impl Word for NumberWord {
             NumberWord::Xor => Combinator::Xor,
             _ => return None,
         })
-    }
-}
-
-impl FromWords<NumberWord, i64> for NumberLeaf {
-    ghost always_lawful = { λ p. lawful_by_type
-        (lawful_by_type (λ q. tt) (lawful_by_type (λ q. tt) (λ q. tt)))
-        (lawful_by_type (lawful_by_type (λ q. tt) (λ q. tt)) (lawful_by_type (λ q. tt) (λ q. tt)))
-        p.leaf };
-
-    fn from_words(
-        alloc: Global,
-        words: &mut Vec<NumberWord>,
-    ) -> Result<Option<NumberLeaf>, AllocError> {
-        match words.pop() {
-            Some(word) => NumberLeaf::of_word(alloc, word),
-            None => Ok(None),
-        }
     }
 }
 
@@ -90,26 +71,16 @@ fn combine(
     word: &NumberWord,
     stack: &mut Vec<ReferenceFormula>,
 ) -> Result<Option<ReferenceFormula>, AllocError> {
-    let Some(last) = stack.pop() else {
+    let (Some(combinator), Some(last)) = (word.combinator(), stack.pop()) else {
         return Ok(None);
     };
-    let last = Box::new(alloc, last)?;
-    if let NumberWord::Named(_) = word {
-        return Ok(Some(ReferenceFormula::Named(last)));
+    match combinator {
+        Combinator::Not | Combinator::Named(_) => combined(alloc, combinator, last, None),
+        _ => match stack.pop() {
+            Some(left) => combined(alloc, combinator, left, Some(last)),
+            None => Ok(None),
+        },
     }
-    if let NumberWord::Not = word {
-        return Ok(Some(ReferenceFormula::Not(last)));
-    }
-    let Some(left) = stack.pop() else {
-        return Ok(None);
-    };
-    let left = Box::new(alloc, left)?;
-    Ok(match word {
-        NumberWord::And => Some(ReferenceFormula::And(left, last)),
-        NumberWord::Or => Some(ReferenceFormula::Or(left, last)),
-        NumberWord::Xor => Some(ReferenceFormula::Xor(left, last)),
-        _ => None,
-    })
 }
 
 /// The formula that the words mean on a number; none where they are not one predicate.

@@ -14,6 +14,13 @@ pub enum OneOf<A, B> {
     Second(Box<B>),
 }
 
+impl<A, B: Drop> OneOf<A, B> {
+    /// A predicate of the second type.
+    pub fn second(alloc: Global, predicate: B) -> Result<OneOf<A, B>, AllocError> {
+        Ok(OneOf::Second(Box::new(alloc, predicate)?))
+    }
+}
+
 impl<A: fmt::Display, B: fmt::Display> fmt::Display for OneOf<A, B> {
     ghost output = { by_type A.output B.output };
 

@@ -1,5 +1,6 @@
 //! Which leaves explain a formula's truth, found by trying every set of leaves under every
 //! choice of truths.
+use crate::from_words::Combinator;
 use std::alloc::{AllocError, Global};
 
 /// A formula whose leaves are numbered from 0, from left to right.
@@ -76,6 +77,30 @@ impl ReferenceFormula {
             ReferenceFormula::Named(part) => part.value(truths),
         }
     }
+}
+
+/// The formula of a combinator over one part or two; none where it takes not as many.
+pub fn combined(
+    alloc: Global,
+    combinator: Combinator,
+    first: ReferenceFormula,
+    second: Option<ReferenceFormula>,
+) -> Result<Option<ReferenceFormula>, AllocError> {
+    let first = Box::new(alloc, first)?;
+    let Some(second) = second else {
+        return Ok(match combinator {
+            Combinator::Not => Some(ReferenceFormula::Not(first)),
+            Combinator::Named(_) => Some(ReferenceFormula::Named(first)),
+            _ => None,
+        });
+    };
+    let second = Box::new(alloc, second)?;
+    Ok(match combinator {
+        Combinator::And => Some(ReferenceFormula::And(first, second)),
+        Combinator::Or => Some(ReferenceFormula::Or(first, second)),
+        Combinator::Xor => Some(ReferenceFormula::Xor(first, second)),
+        _ => None,
+    })
 }
 
 // The leaf k stands at the bit k.

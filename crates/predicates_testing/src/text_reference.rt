@@ -1,5 +1,7 @@
 //! The formulas that words mean on texts and bytes.
-use crate::reference::ReferenceFormula;
+use crate::from_words::Word;
+use crate::helpers::characters;
+use crate::reference::{ReferenceFormula, combined};
 use crate::text_words::TextWord;
 use std::alloc::{AllocError, Global};
 
@@ -12,14 +14,6 @@ enum SeenItem {
 
 // How deep the words may be nested.
 const ROOM: u32 = 100;
-
-fn characters(alloc: Global, text: &str) -> Result<Vec<char>, AllocError> {
-    let mut characters = Vec::new(alloc);
-    for character in text.chars() {
-        characters.push(character)?;
-    }
-    Ok(characters)
-}
 
 // How many places of the pattern are there where they are taken from the left, and none overlap.
 fn count_places(alloc: Global, pattern: &str, text: &str) -> Result<usize, AllocError> {
@@ -112,44 +106,6 @@ fn seen_by_parts(
     Ok(Some(seen))
 }
 
-// The formula of a word over those of two parts; none where it takes no two.
-fn joined(
-    alloc: Global,
-    word: &TextWord,
-    left: ReferenceFormula,
-    right: ReferenceFormula,
-) -> Result<Option<ReferenceFormula>, AllocError> {
-    let left = Box::new(alloc, left)?;
-    let right = Box::new(alloc, right)?;
-    Ok(match word {
-        TextWord::And => Some(ReferenceFormula::And(left, right)),
-        TextWord::Or => Some(ReferenceFormula::Or(left, right)),
-        TextWord::Xor => Some(ReferenceFormula::Xor(left, right)),
-        _ => None,
-    })
-}
-
-// The formula of a word over that of its part; none where it takes no one part.
-fn above(
-    alloc: Global,
-    word: &TextWord,
-    item: &SeenItem,
-    part: ReferenceFormula,
-) -> Result<Option<ReferenceFormula>, AllocError> {
-    Ok(match (word, item) {
-        (TextWord::Not, _) => Some(ReferenceFormula::Not(Box::new(alloc, part)?)),
-        (TextWord::Named(_), _) => Some(ReferenceFormula::Named(Box::new(alloc, part)?)),
-        (TextWord::FromUtf8, SeenItem::Bytes(bytes)) => {
-            Some(match str::from_utf8(bytes.as_slice()) {
-                Ok(_) => part,
-                Err(_) => ReferenceFormula::Leaf(false),
-            })
-        }
-        (TextWord::Trim | TextWord::Normalize, _) => Some(part),
-        _ => None,
-    })
-}
-
 // The formula of the word over those of its parts; none where they are not as many.
 fn combine(
     alloc: Global,
@@ -158,15 +114,16 @@ fn combine(
     first: Option<ReferenceFormula>,
     second: Option<ReferenceFormula>,
 ) -> Result<Option<ReferenceFormula>, AllocError> {
-    match (first, second) {
-        (Some(left), Some(right)) => joined(alloc, word, left, right),
-        (Some(part), None) => above(alloc, word, item, part),
-        (None, _) => match item {
-            SeenItem::Text(text) => {
-                Ok(leaf_truth(alloc, word, text.as_str())?.map(ReferenceFormula::Leaf))
-            }
-            SeenItem::Bytes(_) => Ok(None),
-        },
+    match (first, word.combinator(), item) {
+        (Some(first), Some(combinator), _) => combined(alloc, combinator, first, second),
+        (Some(_), None, SeenItem::Bytes(bytes)) if str::from_utf8(bytes.as_slice()).is_err() => {
+            Ok(Some(ReferenceFormula::Leaf(false)))
+        }
+        (Some(part), None, _) => Ok(Some(part)),
+        (None, _, SeenItem::Text(text)) => {
+            Ok(leaf_truth(alloc, word, text.as_str())?.map(ReferenceFormula::Leaf))
+        }
+        (None, _, SeenItem::Bytes(_)) => Ok(None),
     }
 }
 

@@ -12,27 +12,6 @@ use crate::text_words::TextWord;
 use predicates::str::{PredicateStrExt, Utf8Predicate};
 use std::alloc::{AllocError, Global};
 
-impl FromWords<TextWord, String> for TextLeaf {
-    ghost always_lawful = { λ p. lawful_by_type
-        (lawful_by_type (λ q. tt) (lawful_by_type (λ q. tt) (λ q. tt)))
-        (lawful_by_type
-        (λ q. tt)
-        (lawful_by_type
-        (lawful_by_type (λ q. tt) (λ q. tt))
-        (lawful_by_type (λ q. tt) (λ q. tt))))
-        p.leaf };
-
-    fn from_words(
-        alloc: Global,
-        words: &mut Vec<TextWord>,
-    ) -> Result<Option<TextLeaf>, AllocError> {
-        match words.pop() {
-            Some(word) => TextLeaf::of_word(alloc, word),
-            None => Ok(None),
-        }
-    }
-}
-
 // The words of the adapters from a text to a text.
 #[derive(Drop)]
 enum Adapter {

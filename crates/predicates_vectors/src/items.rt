@@ -7,16 +7,16 @@ use predicates_testing::{
 };
 use std::alloc::Global;
 
+/// What a predicate answers on an item, and the formula that it has there.
+pub type Asked = Result<(Answers, ReferenceFormula)>;
+
 /// A kind of items.
 pub trait Items {
-    /// What the predicate of the words answers on the item, and the formula that it has there.
-    fn ask(
-        &self,
-        alloc: Global,
-        predicate: &str,
-        item: &str,
-    ) -> Result<(Answers, ReferenceFormula)>;
+    /// What the predicate of the words answers on the item.
+    fn ask(&self, alloc: Global, predicate: &str, item: &str) -> Asked;
 }
+
+const NO_FORMULA: &str = "no formula";
 
 const NO_PREDICATE: &str = "no predicate, or too deep";
 
@@ -24,15 +24,10 @@ const NO_PREDICATE: &str = "no predicate, or too deep";
 pub struct Numbers;
 
 impl Items for Numbers {
-    fn ask(
-        &self,
-        alloc: Global,
-        predicate: &str,
-        item: &str,
-    ) -> Result<(Answers, ReferenceFormula)> {
+    fn ask(&self, alloc: Global, predicate: &str, item: &str) -> Asked {
         let words = read_number_words(alloc, predicate)?.context("an unknown word")?;
         let item = item.parse::<i64>().context("no number")?;
-        let formula = number_formula(alloc, words.as_slice(), item)?.context("no formula")?;
+        let formula = number_formula(alloc, words.as_slice(), item)?.context(NO_FORMULA)?;
         let answers = answer_number(alloc, words, item)?.context(NO_PREDICATE)?;
         Ok((answers, formula))
     }
@@ -46,18 +41,11 @@ fn words(alloc: Global, predicate: &str) -> Result<Vec<TextWord>> {
 pub struct Texts;
 
 impl Items for Texts {
-    fn ask(
-        &self,
-        alloc: Global,
-        predicate: &str,
-        item: &str,
-    ) -> Result<(Answers, ReferenceFormula)> {
+    fn ask(&self, alloc: Global, predicate: &str, item: &str) -> Asked {
         let item = text(alloc, item)?;
-        let formula = text_formula(alloc, words(alloc, predicate)?, item.as_str())?.context(
-            "no formula",
-        )?;
-        let answers = answer_text(alloc, words(alloc, predicate)?, &item)?.context(NO_PREDICATE)?;
-        Ok((answers, formula))
+        let formula = text_formula(alloc, words(alloc, predicate)?, item.as_str())?;
+        let answers = answer_text(alloc, words(alloc, predicate)?, &item)?;
+        Ok((answers.context(NO_PREDICATE)?, formula.context(NO_FORMULA)?))
     }
 }
 
@@ -65,17 +53,10 @@ impl Items for Texts {
 pub struct Bytes;
 
 impl Items for Bytes {
-    fn ask(
-        &self,
-        alloc: Global,
-        predicate: &str,
-        item: &str,
-    ) -> Result<(Answers, ReferenceFormula)> {
+    fn ask(&self, alloc: Global, predicate: &str, item: &str) -> Asked {
         let item = bytes(alloc, item)?;
-        let formula = bytes_formula(alloc, words(alloc, predicate)?, item.as_slice())?.context(
-            "no formula",
-        )?;
-        let answers = answer_bytes(alloc, words(alloc, predicate)?, &item)?.context(NO_PREDICATE)?;
-        Ok((answers, formula))
+        let formula = bytes_formula(alloc, words(alloc, predicate)?, item.as_slice())?;
+        let answers = answer_bytes(alloc, words(alloc, predicate)?, &item)?;
+        Ok((answers.context(NO_PREDICATE)?, formula.context(NO_FORMULA)?))
     }
 }

@@ -1,6 +1,6 @@
 //! Tables of lines and of whole runs over them.
-use crate::cells::{bytes, cells, text};
-use crate::outcome::{Difference, compare, compare_text, compare_truth};
+use crate::cells::{bytes, text};
+use crate::outcome::Outcome;
 use crate::table::Table;
 use anyhow::{Context, Result, anyhow, bail};
 use predicates_explain::{
@@ -13,75 +13,29 @@ use std::alloc::Global;
 pub struct NumberLines;
 
 impl Table for NumberLines {
-    fn replay(&self, alloc: Global, row: &str, wrong: &mut Vec<Difference>) -> Result<()> {
-        let cells = cells(alloc, row)?;
-        let [line, expected] = cells.as_slice() else {
+    fn replay(&self, cells: &[&str], outcome: &mut Outcome) -> Result<()> {
+        let [line, expected] = cells else {
             bail!("not two cells");
         };
-        let line = text(alloc, line)?;
+        let line = text(outcome.alloc, line)?;
         let found = match number(line.as_bytes()) {
-            Some(n) => n.to_string(alloc)?,
-            None => String::from_str(alloc, "none")?,
+            Some(n) => n.to_string(outcome.alloc)?,
+            None => String::from_str(outcome.alloc, "none")?,
         };
-        compare(alloc, wrong, "number", expected, found.as_str())
+        outcome.compare("number", expected, found.as_str())
     }
 }
 
-/// Rows of the words `between LO HI`, the input, the status and what is written.
-pub struct BetweenRuns;
-
-// The bounds of the words `between LO HI`.
-fn bounds(words: &str) -> Result<(i64, i64)> {
-    let bounds = words.strip_prefix("between ").context("another command")?;
-    let (lo, hi) = bounds.split_once(' ').context("one bound alone")?;
+// Whether each line is a number, and what is written between the bounds of the words `LO HI`.
+fn run_bounds(alloc: Global, words: &str, mut input: &[u8]) -> Result<(bool, Vec<u8>)> {
+    let (lo, hi) = words.split_once(' ').context("one bound alone")?;
     let lo = number(lo.as_bytes()).context("no number")?;
     let hi = number(hi.as_bytes()).context("no number")?;
-    Ok((lo, hi))
-}
-
-// Compares a run over the input with the row's last two cells.
-fn compare_between(
-    alloc: Global,
-    wrong: &mut Vec<Difference>,
-    bounds: (i64, i64),
-    input: &[u8],
-    expected: [&str; 2],
-) -> Result<()> {
-    let (lo, hi) = bounds;
-    let mut input = input;
     let mut written = Vec::new(alloc);
-    let all = run_between(alloc, lo, hi, &mut input, &mut written).map_err(|fault| anyhow!(
-        "{fault}"
-    ))?;
-    compare_run(alloc, wrong, expected, all, written)
-}
-
-impl Table for BetweenRuns {
-    fn replay(&self, alloc: Global, row: &str, wrong: &mut Vec<Difference>) -> Result<()> {
-        let cells = cells(alloc, row)?;
-        let [words, input, status, output] = cells.as_slice() else {
-            bail!("not four cells");
-        };
-        let input = bytes(alloc, input)?;
-        let expected = [*status, *output];
-        compare_between(alloc, wrong, bounds(words)?, input.as_slice(), expected)
+    match run_between(alloc, lo, hi, &mut input, &mut written) {
+        Ok(all) => Ok((all, written)),
+        Err(fault) => Err(anyhow!("{fault}")),
     }
-}
-
-// Compares the status and what was written.
-fn compare_run(
-    alloc: Global,
-    wrong: &mut Vec<Difference>,
-    expected: [&str; 2],
-    all: bool,
-    written: Vec<u8>,
-) -> Result<()> {
-    let [status, output] = expected;
-    let written = String::from_utf8(written)
-        .ok()
-        .context("written bytes that are no text")?;
-    compare(alloc, wrong, "output", output, written.as_str())?;
-    compare_text(alloc, wrong, "status", status, if all { "0" } else { "1" })
 }
 
 // The check that the words leave, as the program has it.
@@ -99,34 +53,43 @@ fn read_check(alloc: Global, words: &str) -> Result<TextCheck> {
     Ok(check)
 }
 
-// Compares a run over the input with the row's last two cells.
-fn compare_text_run(
-    alloc: Global,
-    wrong: &mut Vec<Difference>,
-    check: &TextCheck,
-    input: &[u8],
-    expected: [&str; 2],
-) -> Result<()> {
-    let mut input = input;
+// Whether each line is a text, and what is written of the check.
+fn run_check(alloc: Global, check: &TextCheck, mut input: &[u8]) -> Result<(bool, Vec<u8>)> {
     let mut written = Vec::new(alloc);
-    let all = run_text(alloc, check, &mut input, &mut written).map_err(|fault| anyhow!("{fault}"))?;
-    compare_run(alloc, wrong, expected, all, written)
+    match run_text(alloc, check, &mut input, &mut written) {
+        Ok(all) => Ok((all, written)),
+        Err(fault) => Err(anyhow!("{fault}")),
+    }
 }
 
-/// Rows of the words `text TOKEN..`, the input, the status and what is written.
-pub struct TextRuns;
+// The run of the program's words.
+fn run(outcome: &mut Outcome, words: &str, input: &[u8]) -> Result<(bool, Vec<u8>)> {
+    match words.split_once(' ') {
+        Some(("between", bounds)) => run_bounds(outcome.alloc, bounds, input),
+        Some(("text", words)) => {
+            let check = read_check(outcome.alloc, words)?;
+            let is_kept = keeps_text(outcome.alloc, &check)?;
+            outcome.compare_truth("same text under flags", "true", is_kept)?;
+            run_check(outcome.alloc, &check, input)
+        }
+        _ => bail!("another command"),
+    }
+}
 
-impl Table for TextRuns {
-    fn replay(&self, alloc: Global, row: &str, wrong: &mut Vec<Difference>) -> Result<()> {
-        let cells = cells(alloc, row)?;
-        let [words, input, status, output] = cells.as_slice() else {
+/// Rows of the program's words, the input, the status and what is written.
+pub struct Runs;
+
+impl Table for Runs {
+    fn replay(&self, cells: &[&str], outcome: &mut Outcome) -> Result<()> {
+        let [words, input, status, output] = cells else {
             bail!("not four cells");
         };
-        let words = words.strip_prefix("text ").context("another command")?;
-        let check = read_check(alloc, words)?;
-        let is_kept = keeps_text(alloc, &check)?;
-        compare_truth(alloc, wrong, "same text under flags", "true", is_kept)?;
-        let input = bytes(alloc, input)?;
-        compare_text_run(alloc, wrong, &check, input.as_slice(), [*status, *output])
+        let input = bytes(outcome.alloc, input)?;
+        let (all, written) = run(outcome, words, input.as_slice())?;
+        let written = String::from_utf8(written)
+            .ok()
+            .context("written bytes that are no text")?;
+        outcome.compare("output", output, written.as_str())?;
+        outcome.compare_text("status", status, if all { "0" } else { "1" })
     }
 }

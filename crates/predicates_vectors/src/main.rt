@@ -11,7 +11,6 @@ mod outcome;
 mod path_predicates;
 mod printed;
 mod recorded_paths;
-mod shown;
 mod snapshots;
 mod table;
 mod views;
@@ -19,7 +18,7 @@ mod views;
 use answers::{Recorded, Worked};
 use anyhow::{Result, ensure};
 use items::{Bytes, Numbers, Texts};
-use lines::{BetweenRuns, NumberLines, TextRuns};
+use lines::{NumberLines, Runs};
 use memberships::MembershipTable;
 use printed::PrintedTable;
 use recorded_paths::PathTable;
@@ -51,7 +50,7 @@ fn replay_numbers(rt: &HostRuntime) -> Result<bool> {
     }
     all = replay(rt, "memberships", &MembershipTable)? && all;
     all = replay(rt, "number_lines", &NumberLines)? && all;
-    Ok(replay(rt, "explain_between", &BetweenRuns)? && all)
+    Ok(replay(rt, "explain_between", &Runs)? && all)
 }
 
 // The same of those about texts, bytes and paths.
@@ -66,8 +65,8 @@ fn replay_texts(rt: &HostRuntime) -> Result<bool> {
     all = replay(rt, "bytes_nested", &Recorded { items: Bytes })? && all;
     all = replay(rt, "debug_ascii", &DebugForms)? && all;
     all = replay(rt, "printed", &PrintedTable)? && all;
-    all = replay(rt, "explain_text", &TextRuns)? && all;
-    all = replay(rt, "explain_text_xor", &TextRuns)? && all;
+    all = replay(rt, "explain_text", &Runs)? && all;
+    all = replay(rt, "explain_text_xor", &Runs)? && all;
     Ok(replay(rt, "paths", &PathTable)? && all)
 }
 

@@ -1,10 +1,8 @@
 //! The table of members and items.
-use crate::cells::cells;
-use crate::outcome::{Difference, compare_case, compare_number, compare_text, compare_truth};
+use crate::outcome::Outcome;
 use crate::table::Table;
 use anyhow::{Context, Result, bail};
 use predicates::iter::{OrdInPredicate, Steps, in_hash, in_iter};
-use predicates::reflection::Parameter;
 use predicates_testing::{Answers, ask, read_numbers};
 use std::alloc::Global;
 
@@ -81,48 +79,33 @@ impl<'a> Expected<'a> {
     }
 }
 
-// Compares the parameter `values`, whose cell is `long` for a list that is too long to be written.
-fn compare_values(
-    alloc: Global,
-    wrong: &mut Vec<Difference>,
-    parameter: &Parameter,
-    members: &[i64],
-    expected: Expected<'_>,
-) -> Result<()> {
-    let column = expected.column;
-    compare_text(alloc, wrong, column, "values", parameter.name())?;
-    if expected.values != "long" {
-        return compare_text(alloc, wrong, column, expected.values, parameter.value());
-    }
-    let written = text_of_members(alloc, members, expected.brackets)?;
-    compare_text(alloc, wrong, column, written.as_str(), parameter.value())
-}
-
-// Compares the verdict and the one parameter.
+// Compares the verdict, and the members that are shown, whose cell is `long` for a list that is too
+// long to be written.
 fn compare_membership(
-    alloc: Global,
-    wrong: &mut Vec<Difference>,
+    outcome: &mut Outcome,
     answers: &Answers,
     members: &[i64],
     expected: Expected<'_>,
 ) -> Result<()> {
-    compare_truth(
-        alloc,
-        wrong,
-        expected.column,
-        expected.verdict,
-        answers.verdict,
-    )?;
-    let [parameter] = answers.parameters.as_slice() else {
-        bail!("not one parameter");
+    let Expected {
+        column,
+        verdict,
+        values,
+        brackets,
+    } = expected;
+    outcome.compare_truth(column, verdict, answers.verdict)?;
+    let listed = if values == "long" {
+        text_of_members(outcome.alloc, members, brackets)?
+    } else {
+        String::from_str(outcome.alloc, values)?
     };
-    compare_values(alloc, wrong, parameter, members, expected)
+    let lines = format!(in outcome.alloc; "values={listed}\n")?;
+    outcome.compare_text(column, lines.as_str(), answers.description.as_str())
 }
 
 // Compares what the search answers, and that it makes no more comparisons than the row allows.
 fn compare_search(
-    alloc: Global,
-    wrong: &mut Vec<Difference>,
+    outcome: &mut Outcome,
     sorted: &OrdInPredicate<i64>,
     item: i64,
     verdict: &str,
@@ -130,58 +113,56 @@ fn compare_search(
 ) -> Result<()> {
     let mut steps = Steps::new();
     let found = sorted.search_counted(&item, &mut steps);
-    compare_truth(alloc, wrong, "searched", verdict, found)?;
+    outcome.compare_truth("searched", verdict, found)?;
     if steps.count() > most.parse::<usize>().context("no number")? {
-        compare_number(alloc, wrong, "most_comparisons", most, steps.count())?;
+        outcome.compare_number("most_comparisons", most, steps.count())?;
     }
     Ok(())
 }
 
 // The list, its case, and that there is none for the opposite.
 fn replay_listed(
-    alloc: Global,
-    wrong: &mut Vec<Difference>,
+    outcome: &mut Outcome,
     members: &Vec<i64>,
     item: i64,
     expected: Expected<'_>,
     case: &str,
 ) -> Result<()> {
+    let alloc = outcome.alloc;
     let answers = ask(alloc, &in_iter(alloc, members.clone()?)?, &item)?;
-    compare_membership(alloc, wrong, &answers, members.as_slice(), expected)?;
+    compare_membership(outcome, &answers, members.as_slice(), expected)?;
     let (of_verdict, opposite) = answers.cases();
-    compare_case(alloc, wrong, "case_in_iter", case, of_verdict)?;
-    compare_case(alloc, wrong, "the other case", "none", opposite)
+    outcome.compare_case("case_in_iter", case, of_verdict)?;
+    outcome.compare_case("the other case", "none", opposite)
 }
 
 // The sorted list, and its search.
 fn replay_sorted(
-    alloc: Global,
-    wrong: &mut Vec<Difference>,
+    outcome: &mut Outcome,
     members: &Vec<i64>,
     item: i64,
     expected: Expected<'_>,
     most: &str,
 ) -> Result<()> {
-    let sorted = in_iter(alloc, members.clone()?)?.sort()?;
-    let answers = ask(alloc, &sorted, &item)?;
-    compare_membership(alloc, wrong, &answers, members.as_slice(), expected)?;
-    compare_search(alloc, wrong, &sorted, item, expected.verdict, most)
+    let sorted = in_iter(outcome.alloc, members.clone()?)?.sort()?;
+    let answers = ask(outcome.alloc, &sorted, &item)?;
+    compare_membership(outcome, &answers, members.as_slice(), expected)?;
+    compare_search(outcome, &sorted, item, expected.verdict, most)
 }
 
 fn replay_hashed(
-    alloc: Global,
-    wrong: &mut Vec<Difference>,
+    outcome: &mut Outcome,
     members: &Vec<i64>,
     item: i64,
     expected: Expected<'_>,
 ) -> Result<()> {
+    let alloc = outcome.alloc;
     let answers = ask(alloc, &in_hash(alloc, members.clone()?)?, &item)?;
-    compare_membership(alloc, wrong, &answers, members.as_slice(), expected)
+    compare_membership(outcome, &answers, members.as_slice(), expected)
 }
 
 impl Table for MembershipTable {
-    fn replay(&self, alloc: Global, row: &str, wrong: &mut Vec<Difference>) -> Result<()> {
-        let cells = cells(alloc, row)?;
+    fn replay(&self, cells: &[&str], outcome: &mut Outcome) -> Result<()> {
         let [
             members,
             item,
@@ -193,17 +174,17 @@ impl Table for MembershipTable {
             hashed_values,
             case,
             most,
-        ] = cells.as_slice()
+        ] = cells
         else {
             bail!("not ten cells");
         };
         let item = item.parse::<i64>().context("no number")?;
-        let members = read_members(alloc, members)?;
+        let members = read_members(outcome.alloc, members)?;
         let expected = Expected::new("in_iter", listed, listed_values, OF_LIST);
-        replay_listed(alloc, wrong, &members, item, expected, case)?;
+        replay_listed(outcome, &members, item, expected, case)?;
         let expected = Expected::new("sorted", sorted, sorted_values, OF_LIST);
-        replay_sorted(alloc, wrong, &members, item, expected, most)?;
+        replay_sorted(outcome, &members, item, expected, most)?;
         let expected = Expected::new("in_hash", hashed, hashed_values, OF_SET);
-        replay_hashed(alloc, wrong, &members, item, expected)
+        replay_hashed(outcome, &members, item, expected)
     }
 }

@@ -3,15 +3,12 @@ use anyhow::{Context, Result, anyhow};
 use predicates::boolean::PredicateBooleanExt;
 use predicates::ord::eq;
 use predicates::path::{
-    BinaryFilePredicate, FileType, FileTypePredicate, PathFault, PredicateFileContentExt, Snapshot,
-    eq_file, exists, is_dir, is_file, is_symlink, missing,
+    BinaryFilePredicate, FileTypePredicate, PredicateFileContentExt, Snapshot, eq_file, exists,
+    is_dir, is_file, is_symlink, missing,
 };
 use predicates::str::{PredicateStrExt, is_empty};
 use predicates_testing::{Answers, ask};
 use std::alloc::Global;
-
-/// The kind at a path, or the fault where nothing is there.
-pub type Kind = Result<FileType, PathFault>;
 
 // The predicate of kinds that the words name; none where they name none. `from_path` is made of the
 // item itself.

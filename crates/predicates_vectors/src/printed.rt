@@ -1,7 +1,5 @@
 //! The table of printed texts and descriptions.
-use crate::cells::cells;
-use crate::outcome::{Difference, compare};
-use crate::shown::shown_description;
+use crate::outcome::Outcome;
 use crate::table::Table;
 use anyhow::{Context, Result, bail};
 use predicates_testing::{
@@ -29,15 +27,12 @@ fn answer(alloc: Global, predicate: &str) -> Result<Option<Answers>, AllocError>
 }
 
 impl Table for PrintedTable {
-    fn replay(&self, alloc: Global, row: &str, wrong: &mut Vec<Difference>) -> Result<()> {
-        let cells = cells(alloc, row)?;
-        let [predicate, printed, description] = cells.as_slice() else {
+    fn replay(&self, cells: &[&str], outcome: &mut Outcome) -> Result<()> {
+        let [predicate, printed, description] = cells else {
             bail!("not three cells");
         };
-        let answers = answer(alloc, predicate)?.context("no predicate, or too deep")?;
-        compare(alloc, wrong, "text", printed, answers.text.as_str())?;
-        let parameters = answers.parameters.as_slice();
-        let found = shown_description(alloc, parameters, answers.children.as_slice())?;
-        compare(alloc, wrong, "description", description, found.as_str())
+        let answers = answer(outcome.alloc, predicate)?.context("no predicate, or too deep")?;
+        outcome.compare("text", printed, answers.text.as_str())?;
+        outcome.compare("description", description, answers.description.as_str())
     }
 }

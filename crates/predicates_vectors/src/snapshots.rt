@@ -1,7 +1,7 @@
 //! Snapshots of any parts.
 use crate::cells::{bytes, text};
-use crate::items::Items;
-use crate::path_predicates::{Kind, answer, same_as};
+use crate::items::{Asked, Items};
+use crate::path_predicates::{answer, same_as};
 use anyhow::{Context, Result};
 use predicates::path::{BinaryFilePredicate, FileType, PathFault, Snapshot};
 use predicates_testing::{Answers, ReferenceFormula, ask, bytes_formula, read_text_words};
@@ -21,7 +21,7 @@ fn read_fault(word: &str) -> Option<PathFault> {
     })
 }
 
-fn read_kind(word: &str) -> Option<Kind> {
+fn read_kind(word: &str) -> Option<Result<FileType, PathFault>> {
     Some(match word {
         "file" => Ok(FileType::File),
         "dir" => Ok(FileType::Dir),
@@ -31,7 +31,8 @@ fn read_kind(word: &str) -> Option<Kind> {
     })
 }
 
-fn read_snapshot(alloc: Global, parts: &str) -> Result<Snapshot> {
+/// The snapshot at the path of the three parts.
+pub fn read_snapshot(alloc: Global, path: &str, parts: &str) -> Result<Snapshot> {
     let (plain, rest) = parts.split_once(' ').context("one part alone")?;
     let (followed, content) = rest.split_once(' ').context("two parts alone")?;
     let plain = read_kind(plain).context("an unknown kind")?;
@@ -40,7 +41,7 @@ fn read_snapshot(alloc: Global, parts: &str) -> Result<Snapshot> {
         Some(fault) => Err(fault),
         None => Ok(bytes(alloc, content)?),
     };
-    let path = String::from_str(alloc, "p")?;
+    let path = String::from_str(alloc, path)?;
     Ok(Snapshot::from_parts(path, plain, followed, content))
 }
 
@@ -81,19 +82,14 @@ fn formula(
 }
 
 impl Items for Paths {
-    fn ask(
-        &self,
-        alloc: Global,
-        predicate: &str,
-        item: &str,
-    ) -> Result<(Answers, ReferenceFormula)> {
-        let same = same_as(read_snapshot(alloc, "file file 61")?)?;
+    fn ask(&self, alloc: Global, predicate: &str, item: &str) -> Asked {
+        let same = same_as(read_snapshot(alloc, "p", "file file 61")?)?;
         if let Some(answers) = answer_content(alloc, predicate, item, same)? {
             let leaf = ReferenceFormula::Leaf(answers.verdict);
             return Ok((answers, leaf));
         }
-        let same = same_as(read_snapshot(alloc, "file file 61")?)?;
-        let item = read_snapshot(alloc, item)?;
+        let same = same_as(read_snapshot(alloc, "p", "file file 61")?)?;
+        let item = read_snapshot(alloc, "p", item)?;
         let answers = answer(alloc, predicate, &item, same)?.context("an unknown predicate")?;
         let formula = formula(alloc, predicate, &item, answers.verdict)?;
         Ok((answers, formula))

@@ -1,13 +1,13 @@
 //! One table of recorded answers.
-use crate::outcome::Difference;
+use crate::cells::cells;
+use crate::outcome::Outcome;
 use anyhow::{Context, Result};
-use std::alloc::Global;
 use std::fs;
 
 /// A table's kind: what its rows ask, and what is compared.
 pub trait Table {
-    /// Adds each cell of the row that differs from what comes.
-    fn replay(&self, alloc: Global, row: &str, wrong: &mut Vec<Difference>) -> Result<()>;
+    /// Adds each of the row's cells that differs from what comes.
+    fn replay(&self, cells: &[&str], outcome: &mut Outcome) -> Result<()>;
 }
 
 /// Whether a table has rows and each of them is right. It prints how many there are and how many
@@ -23,14 +23,18 @@ pub fn replay<T: Table>(rt: &HostRuntime, name: &str, table: &T) -> Result<bool>
     for row in text.strip_suffix('\n').unwrap_or(text).split('\n').skip(1) {
         rows = rows.saturating_add(1);
         let line = rows.saturating_add(1);
-        let mut wrong: Vec<Difference> = Vec::new(alloc);
+        let cells = cells(alloc, row)?;
+        let mut outcome = Outcome {
+            alloc,
+            wrong: Vec::new(alloc),
+        };
         table
-            .replay(alloc, row, &mut wrong)
+            .replay(cells.as_slice(), &mut outcome)
             .context(format_args!("{path}, line {line}"))?;
-        if !wrong.is_empty() {
+        if !outcome.wrong.is_empty() {
             wrong_rows = wrong_rows.saturating_add(1);
         }
-        for difference in &wrong {
+        for difference in &outcome.wrong {
             let column = difference.column;
             let expected = difference.expected.as_str();
             let found = difference.found.as_str();

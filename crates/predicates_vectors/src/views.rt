@@ -1,6 +1,6 @@
 //! Tables of texts, and of what is made of them.
-use crate::cells::{bytes, cells, text};
-use crate::outcome::{Difference, compare, compare_number, compare_truth};
+use crate::cells::{bytes, text};
+use crate::outcome::Outcome;
 use crate::table::Table;
 use anyhow::{Context, Result, bail};
 use predicates::Predicate;
@@ -8,7 +8,7 @@ use predicates::constant::always;
 use predicates::ord::eq;
 use predicates::str::count::count;
 use predicates::str::{PredicateStrExt, contains, ends_with, lines_even, starts_with, trimmed};
-use predicates_testing::greatest_choice;
+use predicates_testing::{characters, greatest_choice};
 use std::alloc::{AllocError, Global};
 
 // The text of which a cell holds the bytes as hexadecimal digits.
@@ -16,30 +16,6 @@ fn text_of_digits(alloc: Global, cell: &str) -> Result<String> {
     String::from_utf8(bytes(alloc, cell)?)
         .ok()
         .context("bytes that are no text")
-}
-
-// Compares whether the predicate holds of the text.
-fn compare_verdict<P: Predicate<String> + Drop>(
-    alloc: Global,
-    wrong: &mut Vec<Difference>,
-    column: &'static str,
-    cell: &str,
-    predicate: P,
-    item: &String,
-) -> Result<()>
-    requires { P.lawful predicate }
-{
-    let found = predicate.eval(alloc, item)?;
-    compare_truth(alloc, wrong, column, cell, found)
-}
-
-// The characters of a text.
-fn characters(alloc: Global, text: &str) -> Result<Vec<char>, AllocError> {
-    let mut characters = Vec::new(alloc);
-    for character in text.chars() {
-        characters.push(character)?;
-    }
-    Ok(characters)
 }
 
 /// Rows of a pattern, a text, three verdicts and how often the pattern stands in the text.
@@ -50,73 +26,65 @@ const SHORT: usize = 7;
 
 // The three tests of parts, with their cells.
 fn compare_parts(
-    alloc: Global,
-    wrong: &mut Vec<Difference>,
+    outcome: &mut Outcome,
     pattern: &String,
     item: &String,
     cells: [&str; 3],
 ) -> Result<()> {
     let [starts, ends, contained] = cells;
-    let predicate = starts_with(pattern.clone()?);
-    compare_verdict(alloc, wrong, "starts", starts, predicate, item)?;
-    let predicate = ends_with(pattern.clone()?);
-    compare_verdict(alloc, wrong, "ends", ends, predicate, item)?;
-    let predicate = contains(pattern.clone()?);
-    compare_verdict(alloc, wrong, "contains", contained, predicate, item)
+    let alloc = outcome.alloc;
+    let found = starts_with(pattern.clone()?).eval(alloc, item)?;
+    outcome.compare_truth("starts", starts, found)?;
+    let found = ends_with(pattern.clone()?).eval(alloc, item)?;
+    outcome.compare_truth("ends", ends, found)?;
+    let found = contains(pattern.clone()?).eval(alloc, item)?;
+    outcome.compare_truth("contains", contained, found)
 }
 
 // The count, and what is answered where it is asked for, and for one more.
 fn compare_counts(
-    alloc: Global,
-    wrong: &mut Vec<Difference>,
+    outcome: &mut Outcome,
     pattern: &String,
     item: &String,
     expected: &str,
 ) -> Result<()> {
+    let alloc = outcome.alloc;
     let found = count(item.as_str(), pattern.as_str());
-    compare_number(alloc, wrong, "count", expected, found)?;
+    outcome.compare_number("count", expected, found)?;
     let number = expected.parse::<usize>().context("no number")?;
-    let predicate = contains(pattern.clone()?).count(number);
-    compare_verdict(alloc, wrong, "counted", "true", predicate, item)?;
-    let predicate = contains(pattern.clone()?).count(number.saturating_add(1));
-    compare_verdict(
-        alloc,
-        wrong,
-        "counted as one more",
-        "false",
-        predicate,
-        item,
-    )
+    let exact = contains(pattern.clone()?).count(number).eval(alloc, item)?;
+    outcome.compare_truth("counted", "true", exact)?;
+    let more = contains(pattern.clone()?).count(number.saturating_add(1));
+    let more = more.eval(alloc, item)?;
+    outcome.compare_truth("counted as one more", "false", more)
 }
 
 // The greatest number of disjoint places among all choices, where the item is short.
 fn compare_choices(
-    alloc: Global,
-    wrong: &mut Vec<Difference>,
+    outcome: &mut Outcome,
     pattern: &String,
     item: &String,
     expected: &str,
 ) -> Result<()> {
-    let item = characters(alloc, item.as_str())?;
+    let item = characters(outcome.alloc, item.as_str())?;
     if item.len() > SHORT {
         return Ok(());
     }
-    let pattern = characters(alloc, pattern.as_str())?;
+    let pattern = characters(outcome.alloc, pattern.as_str())?;
     let found = greatest_choice(pattern.as_slice(), item.as_slice());
-    compare_number(alloc, wrong, "greatest choice of places", expected, found)
+    outcome.compare_number("greatest choice of places", expected, found)
 }
 
 impl Table for TextPairs {
-    fn replay(&self, alloc: Global, row: &str, wrong: &mut Vec<Difference>) -> Result<()> {
-        let cells = cells(alloc, row)?;
-        let [pattern, item, starts, ends, contained, expected_count] = cells.as_slice() else {
+    fn replay(&self, cells: &[&str], outcome: &mut Outcome) -> Result<()> {
+        let [pattern, item, starts, ends, contained, expected_count] = cells else {
             bail!("not six cells");
         };
-        let pattern = text(alloc, pattern)?;
-        let item = text(alloc, item)?;
-        compare_parts(alloc, wrong, &pattern, &item, [starts, ends, contained])?;
-        compare_counts(alloc, wrong, &pattern, &item, expected_count)?;
-        compare_choices(alloc, wrong, &pattern, &item, expected_count)
+        let pattern = text(outcome.alloc, pattern)?;
+        let item = text(outcome.alloc, item)?;
+        compare_parts(outcome, &pattern, &item, [starts, ends, contained])?;
+        compare_counts(outcome, &pattern, &item, expected_count)?;
+        compare_choices(outcome, &pattern, &item, expected_count)
     }
 }
 
@@ -124,16 +92,18 @@ impl Table for TextPairs {
 pub struct TrimmedTexts;
 
 impl Table for TrimmedTexts {
-    fn replay(&self, alloc: Global, row: &str, wrong: &mut Vec<Difference>) -> Result<()> {
-        let cells = cells(alloc, row)?;
-        let [item, expected] = cells.as_slice() else {
+    fn replay(&self, cells: &[&str], outcome: &mut Outcome) -> Result<()> {
+        let [item, expected] = cells else {
             bail!("not two cells");
         };
+        let alloc = outcome.alloc;
         let item = text_of_digits(alloc, item)?;
         let found = digits(alloc, trimmed(alloc, item.as_str())?)?;
-        compare(alloc, wrong, "trimmed_hex", expected, found.as_str())?;
-        let predicate = eq(text_of_digits(alloc, expected)?).trim();
-        compare_verdict(alloc, wrong, "equal behind trim", "true", predicate, &item)
+        outcome.compare("trimmed_hex", expected, found.as_str())?;
+        let is_equal = eq(text_of_digits(alloc, expected)?)
+            .trim()
+            .eval(alloc, &item)?;
+        outcome.compare_truth("equal behind trim", "true", is_equal)
     }
 }
 
@@ -141,23 +111,17 @@ impl Table for TrimmedTexts {
 pub struct EvenTexts;
 
 impl Table for EvenTexts {
-    fn replay(&self, alloc: Global, row: &str, wrong: &mut Vec<Difference>) -> Result<()> {
-        let cells = cells(alloc, row)?;
-        let [item, expected] = cells.as_slice() else {
+    fn replay(&self, cells: &[&str], outcome: &mut Outcome) -> Result<()> {
+        let [item, expected] = cells else {
             bail!("not two cells");
         };
+        let alloc = outcome.alloc;
         let item = text_of_digits(alloc, item)?;
         let found = digits(alloc, lines_even(alloc, item.as_str())?)?;
-        compare(alloc, wrong, "even_hex", expected, found.as_str())?;
-        let predicate = eq(text_of_digits(alloc, expected)?).normalize();
-        compare_verdict(
-            alloc,
-            wrong,
-            "equal behind normalize",
-            "true",
-            predicate,
-            &item,
-        )
+        outcome.compare("even_hex", expected, found.as_str())?;
+        let even = eq(text_of_digits(alloc, expected)?).normalize();
+        let is_equal = even.eval(alloc, &item)?;
+        outcome.compare_truth("equal behind normalize", "true", is_equal)
     }
 }
 
@@ -165,14 +129,13 @@ impl Table for EvenTexts {
 pub struct ValidBytes;
 
 impl Table for ValidBytes {
-    fn replay(&self, alloc: Global, row: &str, wrong: &mut Vec<Difference>) -> Result<()> {
-        let cells = cells(alloc, row)?;
-        let [item, expected] = cells.as_slice() else {
+    fn replay(&self, cells: &[&str], outcome: &mut Outcome) -> Result<()> {
+        let [item, expected] = cells else {
             bail!("not two cells");
         };
-        let item = bytes(alloc, item)?;
-        let found = always::<String>().from_utf8().eval(alloc, &item)?;
-        compare_truth(alloc, wrong, "valid", expected, found)
+        let item = bytes(outcome.alloc, item)?;
+        let found = always::<String>().from_utf8().eval(outcome.alloc, &item)?;
+        outcome.compare_truth("valid", expected, found)
     }
 }
 
@@ -180,17 +143,17 @@ impl Table for ValidBytes {
 pub struct DebugForms;
 
 impl Table for DebugForms {
-    fn replay(&self, alloc: Global, row: &str, wrong: &mut Vec<Difference>) -> Result<()> {
-        let cells = cells(alloc, row)?;
-        let [item, expected] = cells.as_slice() else {
+    fn replay(&self, cells: &[&str], outcome: &mut Outcome) -> Result<()> {
+        let [item, expected] = cells else {
             bail!("not two cells");
         };
-        let printed = eq(text_of_digits(alloc, item)?).to_string(alloc)?;
+        let item = text_of_digits(outcome.alloc, item)?;
+        let printed = eq(item).to_string(outcome.alloc)?;
         let found = printed
             .as_str()
             .strip_prefix("var == ")
             .context("another comparison")?;
-        compare(alloc, wrong, "debug", expected, found)
+        outcome.compare("debug", expected, found)
     }
 }
 

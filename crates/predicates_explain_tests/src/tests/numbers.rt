@@ -1,12 +1,13 @@
 //! What no contract says: that calls succeed, and where faults come from.
-use super::streams::{Broken, ByteByByte, Closed, Narrow, Unflushed};
+use super::streams::{ByteByByte, Narrow, Unflushed};
 use predicates::boolean::PredicateBooleanExt;
 use predicates::ord::{ge, le, lt};
 use predicates_explain::{RunFault, explain_one, explain_total, number, run_between};
 use std::alloc::Global;
 use std::test::Fail;
 
-const SEVEN: &str =
+/// The block of 7 between 5 and 10.
+pub const SEVEN: &str =
     "7: true\n(var >= 5 && var <= 10) = true\n  left: var >= 5 = true\n    - var: 7\n  right: var <= 10 = true\n    - var: 7\n";
 
 const ELEVEN: &str =
@@ -90,29 +91,6 @@ fn no_text(rt: HostRuntime) {
     assert!(rt; answers(rt.alloc(), (1, 1), b"7\n\xff7\n1", false, expected));
 }
 
-#[test]
-fn faults(rt: HostRuntime) -> Result<(), Fail> {
-    let mut output = Vec::new(rt.alloc());
-    let mut reader = Broken {
-        bytes: "7\n1".as_bytes(),
-    };
-    let answer = run_between(rt.alloc(), 5, 10, &mut reader, &mut output);
-    assert_eq!(rt; answer, Err(RunFault::Input));
-    // What was read whole is answered, once.
-    assert_eq!(rt; output.as_slice(), SEVEN.as_bytes());
-    let mut reader = "7\n".as_bytes();
-    let answer = run_between(rt.alloc(), 5, 10, &mut reader, &mut Closed);
-    assert_eq!(rt; answer, Err(RunFault::Output));
-    let mut reader = "7\n".as_bytes();
-    let answer = run_between(rt.alloc(), 5, 10, &mut reader, &mut Unflushed);
-    assert_eq!(rt; answer, Err(RunFault::Output));
-    assert_eq!(rt;
-        RunFault::Output.to_string(rt.alloc())?.as_str(),
-        "output fault"
-    );
-    Ok(())
-}
-
 // The writer passes on what it keeps back, also where a line was bad or none was read.
 #[test]
 fn flushed_at_each_end(rt: HostRuntime) -> Result<(), Fail> {
@@ -126,6 +104,8 @@ fn flushed_at_each_end(rt: HostRuntime) -> Result<(), Fail> {
 
 #[test]
 fn flags_change_no_fault(rt: HostRuntime) -> Result<(), Fail> {
+    let shown = RunFault::Output.to_string(rt.alloc())?;
+    assert_eq!(rt; shown.as_str(), "output fault");
     for fault in [RunFault::NoMemory, RunFault::Input, RunFault::Output] {
         let plain = format!(in rt.alloc(); "{fault} {fault} {fault}")?;
         let flagged = format!(in rt.alloc(); "{fault:#} {fault:40} {fault:.3}")?;
@@ -170,30 +150,6 @@ fn bounds(rt: HostRuntime) {
         let holds = answers(rt.alloc(), (lo, hi), input.as_bytes(), true, want);
         assert!(rt; holds, "at {input:?}");
     }
-}
-
-// Writes the blocks of two lines, and says whether memory was refused.
-fn is_refused(alloc: Global) -> Result<bool, Fail> {
-    let Ok(mut output) = Vec::with_capacity(alloc, 256) else {
-        return Ok(true);
-    };
-    let mut reader = "7\n11\n".as_bytes();
-    match run_between(alloc, 5, 10, &mut reader, &mut output) {
-        Err(RunFault::NoMemory) => Ok(true),
-        Ok(true) if output.starts_with(SEVEN.as_bytes()) && output.ends_with(ELEVEN.as_bytes()) => {
-            Ok(false)
-        }
-        _ => Err("another answer".into()),
-    }
-}
-
-// Whichever request for memory is refused, the answer is that, or right, and so is the next one.
-#[test]
-fn refused_memory(rt: HostRuntime) -> Result<(), Fail> {
-    if is_refused(rt.alloc())? {
-        assert!(rt; !is_refused(rt.alloc())?);
-    }
-    Ok(())
 }
 
 #[test]

@@ -33,37 +33,6 @@ impl BufRead for ByteByByte<'_> {
     }
 }
 
-// A reader that fails where its bytes end.
-#[derive(Drop)]
-pub struct Broken<'a> {
-    pub bytes: &'a [u8],
-}
-
-impl Read for Broken<'_> {
-    fn read(&mut self, buf: &mut [u8]) -> io::Result<usize> {
-        if self.bytes.is_empty() {
-            return Err(Error::from(ErrorKind::BrokenPipe));
-        }
-        self.bytes.read(buf)
-    }
-}
-
-impl BufRead for Broken<'_> {
-    fn fill_buf(&mut self) -> io::Result<&[u8]> {
-        let all = self.bytes;
-        if all.is_empty() {
-            return Err(Error::from(ErrorKind::BrokenPipe));
-        }
-        Ok(all)
-    }
-
-    fn consume(&mut self, amount: usize) {
-        let all = self.bytes;
-        let taken = amount.min(all.len());
-        self.bytes = &all[taken..];
-    }
-}
-
 // A writer that takes one byte at a time.
 #[derive(Drop)]
 pub struct Narrow {
@@ -77,20 +46,6 @@ impl Write for Narrow {
         let most = buf.len().min(1);
         self.got.extend_from_slice(&buf[..most])?;
         Ok(most)
-    }
-
-    fn flush(&mut self) -> io::Result<()> {
-        Ok(())
-    }
-}
-
-// A writer that fails at each write.
-#[derive(Clone, Copy)]
-pub struct Closed;
-
-impl Write for Closed {
-    fn write(&mut self, _buf: &[u8]) -> io::Result<usize> {
-        Err(Error::from(ErrorKind::BrokenPipe))
     }
 
     fn flush(&mut self) -> io::Result<()> {

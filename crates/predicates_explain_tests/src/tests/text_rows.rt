@@ -1,6 +1,7 @@
+use super::read_check;
 use predicates::BoxPredicate;
 use predicates::prelude::*;
-use predicates_explain::{TextCheck, apply_word, read_word, run_text};
+use predicates_explain::run_text;
 use std::alloc::Global;
 use std::test::Fail;
 
@@ -82,27 +83,6 @@ line 3: true
     ),
 ];
 
-// Puts the check that the token names on the stack.
-fn apply(alloc: Global, stack: &mut Vec<TextCheck>, token: &str) -> Result<(), Fail> {
-    let word = read_word(alloc, token)?.ok_or("a token of no word")?;
-    if apply_word(alloc, stack, word).is_err() {
-        return Err("a word that was refused".into());
-    }
-    Ok(())
-}
-
-// The check of the tokens, alone on its stack.
-fn apply_all(alloc: Global, tokens: &[&str]) -> Result<Vec<TextCheck>, Fail> {
-    let mut stack = Vec::new(alloc);
-    for token in tokens {
-        apply(alloc, &mut stack, token)?;
-    }
-    if stack.len() != 1 {
-        return Err("not one check".into());
-    }
-    Ok(stack)
-}
-
 // Whether the check of the tokens answers so.
 fn answers(
     alloc: Global,
@@ -111,10 +91,9 @@ fn answers(
     expected: &str,
     all: bool,
 ) -> Result<bool, Fail> {
-    let stack = apply_all(alloc, tokens)?;
-    let check = stack.first().ok_or("no check")?;
+    let check = read_check(alloc, tokens)?;
     let mut output = Vec::new(alloc);
-    let answer = run_text(alloc, check, &mut input, &mut output);
+    let answer = run_text(alloc, &check, &mut input, &mut output);
     Ok(answer == Ok(all) && output.as_slice() == expected.as_bytes())
 }
 

@@ -105,21 +105,26 @@ const KINDS: [(ErrorKind, PathFault); 5] = [
     (ErrorKind::Uncategorized, Other),
 ];
 
-fn one_file(rt: &HostRuntime) -> Result<OneFile, AllocError> {
-    Ok(OneFile {
+// What `symlink_metadata`, `metadata` and `open_file` answer; the last opens what stands at the path.
+type Calls = (
+    Result<(), ErrorKind>,
+    Result<(), ErrorKind>,
+    Result<&'static str, ErrorKind>,
+);
+
+// Whether the snapshot at `p` has these parts where the calls answer so, and how often each is made.
+fn takes(rt: &HostRuntime, calls: Calls, parts: Parts<'_>) -> Result<(bool, [u8; 3]), AllocError> {
+    let (plain, followed, opened) = calls;
+    let files = OneFile {
         rt: rt.clone()?,
-        plain: Ok(()),
-        followed: Ok(()),
-        opened: Ok("/dev/null"),
+        plain,
+        followed,
+        opened,
         plain_count: Cell::new(0),
         followed_count: Cell::new(0),
         opened_count: Cell::new(0),
-    })
-}
-
-// Whether the snapshot at `p` has these parts, and how often each call was made.
-fn takes(files: &OneFile, parts: Parts<'_>) -> Result<(bool, [u8; 3]), AllocError> {
-    let taken = Snapshot::take(files, files.alloc(), "p")?;
+    };
+    let taken = Snapshot::take(&files, files.alloc(), "p")?;
     let counts = [
         files.plain_count.get(),
         files.followed_count.get(),
@@ -128,50 +133,27 @@ fn takes(files: &OneFile, parts: Parts<'_>) -> Result<(bool, [u8; 3]), AllocErro
     Ok((taken.path() == "p" && has_parts(&taken, parts), counts))
 }
 
-// The same where `symlink_metadata` fails.
-fn plain_fails(
-    rt: &HostRuntime,
-    kind: ErrorKind,
-    parts: Parts<'_>,
-) -> Result<(bool, [u8; 3]), AllocError> {
-    let mut files = one_file(rt)?;
-    files.plain = Err(kind);
-    takes(&files, parts)
-}
-
-// The same where `metadata` fails.
-fn followed_fails(
-    rt: &HostRuntime,
-    kind: ErrorKind,
-    parts: Parts<'_>,
-) -> Result<(bool, [u8; 3]), AllocError> {
-    let mut files = one_file(rt)?;
-    files.followed = Err(kind);
-    takes(&files, parts)
-}
-
-// The same where `open_file` fails, or opens what stands at the path.
-fn opened_fails(
-    rt: &HostRuntime,
-    opened: Result<&'static str, ErrorKind>,
-    parts: Parts<'_>,
-) -> Result<(bool, [u8; 3]), AllocError> {
-    let mut files = one_file(rt)?;
-    files.opened = opened;
-    takes(&files, parts)
-}
+const EMPTY: &str = "/dev/null";
 
 #[test]
 fn each_call_is_made_once(rt: HostRuntime) -> Result<(), Fail> {
     let file = Ok(FileType::File);
-    let all = opened_fails(&rt, Ok("/dev/null"), (file, file, Ok(b"")))?;
+    let all = takes(&rt, (Ok(()), Ok(()), Ok(EMPTY)), (file, file, Ok(b"")))?;
     assert_eq!(rt; all, (true, [1, 1, 1]));
     for (kind, fault) in KINDS {
-        let first = plain_fails(&rt, kind, (Err(fault), file, Ok(b"")))?;
+        let first = takes(
+            &rt,
+            (Err(kind), Ok(()), Ok(EMPTY)),
+            (Err(fault), file, Ok(b"")),
+        )?;
         assert_eq!(rt; first, (true, [1, 1, 1]), "{kind:?}");
-        let second = followed_fails(&rt, kind, (file, Err(fault), Err(fault)))?;
+        let second = takes(
+            &rt,
+            (Ok(()), Err(kind), Ok(EMPTY)),
+            (file, Err(fault), Err(fault)),
+        )?;
         assert_eq!(rt; second, (true, [1, 1, 0]), "{kind:?}");
-        let third = opened_fails(&rt, Err(kind), (file, file, Err(fault)))?;
+        let third = takes(&rt, (Ok(()), Ok(()), Err(kind)), (file, file, Err(fault)))?;
         assert_eq!(rt; third, (true, [1, 1, 1]), "{kind:?}");
     }
     Ok(())
@@ -181,7 +163,7 @@ fn each_call_is_made_once(rt: HostRuntime) -> Result<(), Fail> {
 #[test]
 fn a_read_that_fails(rt: HostRuntime) -> Result<(), Fail> {
     let file = Ok(FileType::File);
-    let read = opened_fails(&rt, Ok("/"), (file, file, Err(Other)))?;
+    let read = takes(&rt, (Ok(()), Ok(()), Ok("/")), (file, file, Err(Other)))?;
     assert_eq!(rt; read, (true, [1, 1, 1]));
     Ok(())
 }
@@ -190,9 +172,9 @@ fn a_read_that_fails(rt: HostRuntime) -> Result<(), Fail> {
 #[test]
 fn want_of_memory(rt: HostRuntime) -> Result<(), Fail> {
     let nothing = (Err(Other), Err(Other), Err(Other));
-    let kind = ErrorKind::OutOfMemory;
-    assert!(rt; plain_fails(&rt, kind, nothing).is_err());
-    assert!(rt; followed_fails(&rt, kind, nothing).is_err());
-    assert!(rt; opened_fails(&rt, Err(kind), nothing).is_err());
+    let refused = ErrorKind::OutOfMemory;
+    assert!(rt; takes(&rt, (Err(refused), Ok(()), Ok(EMPTY)), nothing).is_err());
+    assert!(rt; takes(&rt, (Ok(()), Err(refused), Ok(EMPTY)), nothing).is_err());
+    assert!(rt; takes(&rt, (Ok(()), Ok(()), Err(refused)), nothing).is_err());
     Ok(())
 }

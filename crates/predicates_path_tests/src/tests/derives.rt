@@ -6,26 +6,9 @@ use predicates::str::PredicateStrExt;
 use predicates_path::FileType::{File, Symlink};
 use predicates_path::PathFault::{NotRegular, PermissionDenied};
 use predicates_path::{PredicateFileContentExt, exists, is_file, missing};
-use predicates_testing::describe;
+use predicates_testing::{are_copied, differ, is_described};
 use std::alloc::{AllocError, Global};
-use std::fmt;
 use std::test::Fail;
-
-// Whether two values differ, and each is equal to itself.
-fn differ<T: fmt::Debug + Eq>(alloc: Global, left: &T, right: &T) -> Result<bool, AllocError> {
-    let shown = format!(in alloc; "{left:?}{right:?}")?;
-    Ok(left == left && right == right && left != right && !shown.is_empty())
-}
-
-// The same of values that are copied.
-fn are_copied<T: fmt::Debug + Copy + Eq>(
-    alloc: Global,
-    left: T,
-    right: T,
-) -> Result<bool, AllocError> {
-    let copied = left;
-    Ok(copied == left && left.clone()? == copied && differ(alloc, &copied, &right)?)
-}
 
 #[test]
 fn copied(rt: HostRuntime) -> Result<(), Fail> {
@@ -79,9 +62,8 @@ fn parts(rt: HostRuntime) -> Result<(), Fail> {
 
 #[test]
 fn description_of_a_content(rt: HostRuntime) -> Result<(), Fail> {
-    let alloc = rt.alloc();
-    let mut out = String::new(alloc);
-    describe(alloc, &mut out, &same_bytes(alloc, b"a")?.from_file_path())?;
-    assert_eq!(rt; out.as_str(), "var is p\n  predicate: var is p\n");
+    let content = same_bytes(rt.alloc(), b"a")?.from_file_path();
+    let lines = "var is p\npredicate: var is p\n  content=[97]\n";
+    assert!(rt; is_described(rt.alloc(), &content, lines)?);
     Ok(())
 }

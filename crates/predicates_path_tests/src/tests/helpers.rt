@@ -5,7 +5,7 @@ use predicates_path::PathFault::NotFound;
 use predicates_path::{
     BinaryFilePredicate, FileType, PathFault, Snapshot, StrFilePredicate, eq_file,
 };
-use predicates_testing::{render_verdict, text};
+use predicates_testing::{explains, text};
 use std::alloc::{AllocError, Global};
 use std::test::Fail;
 
@@ -40,21 +40,6 @@ pub fn nothing_at(alloc: Global, path: &str) -> Result<Snapshot, AllocError> {
     Ok(Snapshot::from_parts(text(alloc, path)?, Err(NotFound), Err(NotFound), gone))
 }
 
-/// Whether the predicate answers the verdict, and has a case of it alone, which prints this.
-pub fn explains<P: Predicate<Item>, Item>(
-    alloc: Global,
-    predicate: &P,
-    item: &Item,
-    verdict: bool,
-    lines: &str,
-) -> Result<bool, AllocError>
-    requires { P.lawful predicate.now }
-{
-    let mut out = String::new(alloc);
-    render_verdict(alloc, &mut out, predicate, item)?;
-    Ok(out.as_str() == lines && predicate.eval(alloc, item)? == verdict)
-}
-
 /// Whether it answers whether the item is the text, with a case of one line.
 pub fn explains_equality<P: Predicate<Item>, Item>(
     alloc: Global,
@@ -66,7 +51,7 @@ pub fn explains_equality<P: Predicate<Item>, Item>(
     requires { P.lawful predicate.now }
 {
     let lines = format!(in alloc; "var is {text} = {verdict}\n")?;
-    explains(alloc, predicate, item, verdict, lines.as_str())
+    explains(alloc, predicate, item, lines.as_str())
 }
 
 /// The comparison with a file of these bytes.

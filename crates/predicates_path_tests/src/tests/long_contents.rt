@@ -1,23 +1,18 @@
 //! A long content, handed on as a whole, or refused where its last character is cut.
-use super::helpers::{explains, file};
+use super::helpers::file;
 use predicates::boolean::PredicateBooleanExt;
 use predicates::str::{PredicateStrExt, is_empty};
 use predicates_path::PredicateFileContentExt;
-use predicates_testing::repeated;
+use predicates_testing::{explains, repeated};
 use std::alloc::{AllocError, Global};
 use std::test::Fail;
 
 const LENGTH: u32 = 69_999;
 
-// Whether nested predicates have this verdict on the content, with these lines.
-fn is_explained(
-    alloc: Global,
-    content: &[u8],
-    verdict: bool,
-    lines: &str,
-) -> Result<bool, AllocError> {
+// Whether nested predicates have these lines on the content.
+fn is_explained(alloc: Global, content: &[u8], lines: &str) -> Result<bool, AllocError> {
     let some = is_empty().not().normalize().from_utf8().from_file_path();
-    explains(alloc, &some, &file(alloc, content)?, verdict, lines)
+    explains(alloc, &some, &file(alloc, content)?, lines)
 }
 
 fn is_handed_on(alloc: Global) -> Result<bool, AllocError> {
@@ -33,7 +28,7 @@ fn is_handed_on(alloc: Global) -> Result<bool, AllocError> {
     - var: {even}
 "
     )?;
-    is_explained(alloc, long.as_bytes(), true, lines.as_str())
+    is_explained(alloc, long.as_bytes(), lines.as_str())
 }
 
 fn is_refused(alloc: Global) -> Result<bool, AllocError> {
@@ -46,7 +41,7 @@ fn is_refused(alloc: Global) -> Result<bool, AllocError> {
   - error: Invalid UTF-8 string
   - var: p
 ";
-    is_explained(alloc, cut, false, lines)
+    is_explained(alloc, cut, lines)
 }
 
 #[test]

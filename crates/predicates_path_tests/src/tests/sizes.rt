@@ -1,15 +1,15 @@
 //! Paths and contents of 0, 1, 300 and 70 000 bytes, under both verdicts.
-use super::helpers::{explains, explains_equality, file_at, nothing_at, same_bytes};
+use super::helpers::{explains_equality, file_at, nothing_at, same_bytes};
 use predicates_core::Predicate;
 use predicates_path::{PredicateFileContentExt, Snapshot, eq_file, exists};
-use predicates_testing::{has_parameter, repeated};
+use predicates_testing::{explains, is_described, repeated};
 use std::alloc::{AllocError, Global};
 use std::test::Fail;
 
 fn explains_existence(alloc: Global, item: &Snapshot, verdict: bool) -> Result<bool, AllocError> {
     let path = item.path();
     let lines = format!(in alloc; "exists(var) = {verdict}\n  - var: {path}\n")?;
-    explains(alloc, &exists(), item, verdict, lines.as_str())
+    explains(alloc, &exists(), item, lines.as_str())
 }
 
 // Whether the content is handed on to the comparison with an empty file, or its fault is shown.
@@ -22,7 +22,7 @@ fn explains_content(
     let none = same_bytes(alloc, b"")?.from_file_path();
     let path = item.path();
     let lines = format!(in alloc; "var is p = {verdict}\n  - var: {path}\n{more}")?;
-    Ok(explains(alloc, &none, item, verdict, lines.as_str())?)
+    Ok(explains(alloc, &none, item, lines.as_str())?)
 }
 
 // A path and a content that are this text, and a path that is it, where nothing stands.
@@ -70,9 +70,11 @@ fn equals_file<P: Predicate<Snapshot>>(
 fn equals_files(alloc: Global, text: &str, listed: &str) -> Result<bool, Fail> {
     let bytes = eq_file(file_at(alloc, text)?)?;
     let holds = equals_file(alloc, &bytes, text)?;
-    let is_listed = has_parameter(alloc, &bytes, ("content", listed))?;
+    let lines = format!(in alloc; "var is {text}\ncontent={listed}\n")?;
+    let is_listed = is_described(alloc, &bytes, lines.as_str())?;
     let texts = bytes.utf8().ok_or("no text")?;
-    let is_shown = has_parameter(alloc, &texts, ("content", text))?;
+    let lines = format!(in alloc; "var is {text}\ncontent={text}\n")?;
+    let is_shown = is_described(alloc, &texts, lines.as_str())?;
     Ok(holds && is_listed && is_shown && equals_file(alloc, &texts, text)?)
 }
 

@@ -4,6 +4,7 @@ use predicates::str::RegexPredicate;
 use predicates_core::reflection::{Case, Child, Parameter, render};
 use predicates_explain::{TextCheck, Word};
 use predicates_path::Snapshot;
+use predicates_testing::description;
 use std::alloc::{AllocError, Global};
 use std::str;
 
@@ -23,35 +24,6 @@ pub enum Answer {
     Run(bool, Vec<u8>),
     /// An error that stands for something else than want of memory.
     OtherFault,
-}
-
-// Writes a line with a name and a text.
-fn add_line(lines: &mut String, start: &str, name: &str, text: &str) -> Result<(), AllocError> {
-    lines.push_str(start)?;
-    lines.push_str(name)?;
-    lines.push_str(": ")?;
-    lines.push_str(text)?;
-    lines.push('\n')
-}
-
-// A line for each child and, indented, one for each of its parts.
-fn render_children(alloc: Global, children: &[Child]) -> Result<String, AllocError> {
-    let mut lines = String::new(alloc);
-    for child in children {
-        add_line(&mut lines, "", child.name(), child.text())?;
-        for part in child.children() {
-            add_line(&mut lines, "  ", part.name(), part.text())?;
-        }
-    }
-    Ok(lines)
-}
-
-fn render_parameters(alloc: Global, parameters: &[Parameter]) -> Result<String, AllocError> {
-    let mut lines = String::new(alloc);
-    for parameter in parameters {
-        add_line(&mut lines, "", parameter.name(), parameter.value())?;
-    }
-    Ok(lines)
 }
 
 // A line for each check.
@@ -95,8 +67,8 @@ pub fn rendered(alloc: Global, answer: &Answer) -> Result<String, AllocError> {
         Answer::Text(text) => String::from_str(alloc, text.as_str()),
         Answer::Case(None) => String::from_str(alloc, "none"),
         Answer::Case(Some(case)) => render(alloc, case),
-        Answer::Parameters(parameters) => render_parameters(alloc, parameters.as_slice()),
-        Answer::Children(children) => render_children(alloc, children.as_slice()),
+        Answer::Parameters(parameters) => description(alloc, parameters.as_slice(), &[]),
+        Answer::Children(children) => description(alloc, &[], children.as_slice()),
         Answer::Pattern(pattern) => render_pattern(alloc, pattern),
         Answer::Snapshot(snapshot) => render_snapshot(alloc, snapshot),
         Answer::Word(word) => format!(in alloc; "{word:?}"),

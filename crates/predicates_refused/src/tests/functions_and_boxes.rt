@@ -9,7 +9,8 @@ use predicates::str::{contains, is_empty};
 use predicates_testing::text;
 use std::test::Fail;
 
-fn is_big(number: &u8) -> bool
+/// Whether the number is 5 or more.
+pub fn is_big(number: &u8) -> bool
     ensures { result ≡ nat_le 5 number.now }
 {
     5 <= *number
@@ -29,7 +30,7 @@ fn a_box_over_a_leaf(rt: HostRuntime) -> Result<(), Fail> {
     let counted = contains(text(alloc, "a")?).count(2);
     let boxed = BoxPredicate::new(alloc, Box::new(alloc, counted)?)?;
     let lines = "var.contains(a) = true\n  - var: aa\n  - actual count: 2\n";
-    let row = leaf("a box", true, lines).with_parameters("count: 2\n");
+    let row = leaf("a box", true, lines).with_parameters("count=2\n");
     sweep_calls(&rt, &boxed, &text(alloc, "aa")?, row)
 }
 

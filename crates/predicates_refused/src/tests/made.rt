@@ -1,6 +1,5 @@
 //! What makes predicates without memory.
-ghost use Rattle.std.specs.Prelude.{◌≡◌, nat_le};
-
+use super::functions_and_boxes::is_big;
 use super::paths::{dangling, file};
 use super::sweep::{Without, refusing};
 use predicates::boolean::{
@@ -60,12 +59,6 @@ fn constants_and_comparisons(rt: HostRuntime) -> Result<(), Fail> {
     holds(&rt, refusing(alloc, "gt"), &gt(5i64), &6)?;
     holds(&rt, refusing(alloc, "eq"), &eq(5i64), &5)?;
     holds(&rt, refusing(alloc, "ne"), &ne(5i64), &4)
-}
-
-fn is_big(number: &u8) -> bool
-    ensures { result ≡ nat_le 5 number.now }
-{
-    5 <= *number
 }
 
 #[test]

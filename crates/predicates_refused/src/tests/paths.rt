@@ -49,15 +49,15 @@ fn kinds(rt: HostRuntime) -> Result<(), Fail> {
     let alloc = rt.alloc();
     let link = file(alloc, FileType::Symlink, Ok(b"a"))?;
     let lines = "var is file = false\n  - actual filetype: symlink\n";
-    let row = leaf("is_file", false, lines).with_parameters("follow: false\n");
+    let row = leaf("is_file", false, lines).with_parameters("follow=false\n");
     sweep_calls(&rt, &is_file(), &link, row)?;
     let lines = "var is file = true\n  - actual filetype: file\n";
-    let row = leaf("follow_links", true, lines).with_parameters("follow: true\n");
+    let row = leaf("follow_links", true, lines).with_parameters("follow=true\n");
     sweep_calls(&rt, &is_file().follow_links(true), &link, row)?;
-    let row = leaf("from_path", true, lines).with_parameters("follow: true\n");
+    let row = leaf("from_path", true, lines).with_parameters("follow=true\n");
     sweep_calls(&rt, &FileTypePredicate::from_path(&link)?, &link, row)?;
     let lines = "var is symlink = false\n  - error: not found\n";
-    let row = leaf("is_symlink", false, lines).with_parameters("follow: true\n");
+    let row = leaf("is_symlink", false, lines).with_parameters("follow=true\n");
     sweep_calls(
         &rt,
         &is_symlink().follow_links(true),
@@ -71,11 +71,11 @@ fn equal_bytes(rt: HostRuntime) -> Result<(), Fail> {
     let alloc = rt.alloc();
     let bytes = eq_file(file(alloc, FileType::File, Ok(b"a"))?)?;
     let other = file(alloc, FileType::File, Ok(b"b"))?;
-    let row = leaf("eq_file", false, "var is p = false\n").with_parameters("content: [97]\n");
+    let row = leaf("eq_file", false, "var is p = false\n").with_parameters("content=[97]\n");
     sweep_calls(&rt, &bytes, &other, row)?;
     let same = Vec::from_slice(alloc, b"a")?;
     let row = leaf("eq_file of bytes", true, "var is p = true\n");
-    sweep_calls(&rt, &bytes, &same, row.with_parameters("content: [97]\n"))
+    sweep_calls(&rt, &bytes, &same, row.with_parameters("content=[97]\n"))
 }
 
 #[test]
@@ -85,14 +85,14 @@ fn equal_texts(rt: HostRuntime) -> Result<(), Fail> {
         .utf8()
         .ok_or("no text")?;
     let other = file(alloc, FileType::File, Ok(b"b"))?;
-    let row = leaf("utf8", false, "var is p = false\n").with_parameters("content: a\n");
+    let row = leaf("utf8", false, "var is p = false\n").with_parameters("content=a\n");
     sweep_calls(&rt, &texts, &other, row)?;
     let row = leaf("utf8 of a text", false, "var is p = false\n");
     sweep_calls(
         &rt,
         &texts,
         &text(alloc, "")?,
-        row.with_parameters("content: a\n"),
+        row.with_parameters("content=a\n"),
     )
 }
 

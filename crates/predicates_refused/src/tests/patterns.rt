@@ -28,7 +28,7 @@ fn matches(rt: HostRuntime) -> Result<(), Fail> {
     sweep_calls(&rt, &words, &item, found("is_match", lines))?;
     let lines =
         "var.is_match(T[a-z]*) = true\n  - var: One Two Three Two One\n  - actual count: 3\n";
-    let counted = found("a counted is_match", lines).with_parameters("count: 3\n");
+    let counted = found("a counted is_match", lines).with_parameters("count=3\n");
     sweep_calls(&rt, &words.count(3), &item, counted)
 }
 

@@ -1,12 +1,10 @@
-//! What reads, evaluates and rewrites without memory.
+//! What reads and evaluates without memory.
 use super::paths::file;
 use super::sweep::refusing;
 use predicates::boolean::PredicateBooleanExt;
 use predicates::constant::always;
 use predicates::iter::{Steps, in_iter};
-use predicates::name::PredicateNameExt;
 use predicates::ord::{ge, le, lt};
-use predicates::{laws, semantics};
 use predicates_core::reflection::{Case, CaseChild, Child, Parameter, Product};
 use predicates_core::{Predicate, default_find_case};
 use predicates_explain::number;
@@ -120,39 +118,5 @@ fn views_of_cases(rt: HostRuntime) -> Result<(), Fail> {
     }
     // Once `left` and once `right`.
     right = right && root.children().count() == 1 && names == 9;
-    begun.end(&rt, right)
-}
-
-#[test]
-fn laws_of_predicates(rt: HostRuntime) -> Result<(), Fail> {
-    let begun = refusing(rt.alloc(), "the laws");
-    laws::double_negation(&lt(3i64), &9);
-    laws::named(&lt(3i64), &9, "small");
-    laws::de_morgan(&lt(3i64), &lt(5), &9);
-    laws::exclusive_or(&lt(3i64), &lt(5), &4);
-    laws::same_function(&lt(3i64), &lt(3).not().not(), &4);
-    laws::first_reasons();
-    laws::one_case(&lt(3i64), &9);
-    laws::exactly_one(&lt(3i64), &9);
-    laws::complements(&5i64, &9);
-    laws::memberships(&[3i64, 1, 3], &9);
-    let right = lt(3i64).eval(rt.alloc(), &9) == Ok(false);
-    begun.end(&rt, right)
-}
-
-#[test]
-fn semantics_of_predicates(rt: HostRuntime) -> Result<(), Fail> {
-    let list = in_iter(rt.alloc(), [3i64, 1, 3])?;
-    let begun = refusing(rt.alloc(), "the semantics");
-    semantics::and(&ge(5i64).and(le(10)), &7);
-    semantics::or(&ge(5i64).or(le(10)), &7);
-    semantics::xor(&ge(5i64).xor(le(10)), &7);
-    semantics::not(&lt(3i64).not(), &7);
-    semantics::named(&lt(3i64).name("small"), &7);
-    semantics::constant(&always(), &7i64);
-    semantics::equality(&5i64, &7);
-    semantics::order(&5i64, &7);
-    semantics::listed(&list, &7);
-    let right = list.eval(rt.alloc(), &3) == Ok(true);
     begun.end(&rt, right)
 }

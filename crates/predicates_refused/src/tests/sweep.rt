@@ -95,6 +95,41 @@ fn run<R: Abort + AllocGlobal, C: Call>(
     Ok(Outcome { refused, answered })
 }
 
+// How many requests the call makes, how many were refused, and how often it went on without.
+#[derive(Clone, Copy)]
+struct Counts {
+    requests: u64,
+    refusals: u64,
+    went_on: u64,
+}
+
+// Makes the call with each of its requests refused in turn, alone or with all after it.
+fn refuse_each<R: Abort + AllocGlobal, C: Call>(
+    rt: &R,
+    name: &str,
+    call: &C,
+    expected: &str,
+    alone: bool,
+    mut counts: Counts,
+) -> Result<Counts, Fail>
+    requires { C.ready call.now }
+{
+    for nth in 1..MOST {
+        let made = run(rt, name, call, expected, nth, alone)?;
+        if !made.refused {
+            break;
+        }
+        assert!(rt;
+            is_right(rt.alloc(), call, expected)?,
+            "{name}: another answer after refusal {nth}, with ample memory"
+        );
+        counts.requests = counts.requests.max(u64::from(nth));
+        counts.refusals = counts.refusals.saturating_add(1);
+        counts.went_on = counts.went_on.saturating_add(u64::from(made.answered));
+    }
+    Ok(counts)
+}
+
 /// Makes the call again and again: its first request is refused, then its second, and so on until
 /// none is; once alone, and once with all after it.
 ///
@@ -109,29 +144,35 @@ pub fn sweep<R: Abort + AllocGlobal + Print, C: Call>(
 ) -> Result<(), Fail>
     requires { C.ready call.now }
 {
-    let alloc = rt.alloc();
-    assert!(rt; is_right(alloc, call, expected)?, "{name}: another answer");
-    if !allocator::listens(alloc) {
+    assert!(rt;
+        is_right(rt.alloc(), call, expected)?,
+        "{name}: another answer"
+    );
+    if !allocator::listens(rt.alloc()) {
         return Ok(());
     }
-    let mut requests = 0u64;
-    let mut refusals = 0u64;
-    let mut went_on = 0u64;
-    for alone in [true, false] {
-        for nth in 1..MOST {
-            let made = run(rt, name, call, expected, nth, alone)?;
-            if !made.refused {
-                break;
-            }
-            assert!(rt;
-                is_right(alloc, call, expected)?,
-                "{name}: another answer after refusal {nth}, with ample memory"
-            );
-            requests = requests.max(u64::from(nth));
-            refusals = refusals.saturating_add(1);
-            went_on = went_on.saturating_add(u64::from(made.answered));
-        }
-    }
+    let none = Counts {
+        requests: 0,
+        refusals: 0,
+        went_on: 0,
+    };
+    let counts = refuse_each(rt, name, call, expected, true, none)?;
+    let counts = refuse_each(rt, name, call, expected, false, counts)?;
+    report(rt, name, counts, memory)
+}
+
+// Prints the counts, which are as the call promises.
+fn report<R: Abort + AllocGlobal + Print>(
+    rt: &R,
+    name: &str,
+    counts: Counts,
+    memory: Memory,
+) -> Result<(), Fail> {
+    let Counts {
+        requests,
+        refusals,
+        went_on,
+    } = counts;
     println!(rt;
         "{name}: {requests} requests, {refusals} refusals, {went_on} times it went on, 0 blocks left"
     )?;

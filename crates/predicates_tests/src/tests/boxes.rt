@@ -1,8 +1,7 @@
-use super::{explains, is_described};
 use predicates::prelude::*;
 use predicates::static_text::StaticText;
 use predicates::{BoxPredicate, TextPredicate};
-use predicates_testing::{render_verdict, repeated, text};
+use predicates_testing::{explains, is_described, render_verdict, repeated, text};
 use std::alloc::{AllocError, Global};
 use std::test::Fail;
 
@@ -50,7 +49,13 @@ any = true
   any: true = true
 "
     );
-    assert!(rt; is_described(rt.alloc(), &any(rt.alloc())?, "any\n  any: true\n")?);
+    assert!(rt;
+        is_described(
+            rt.alloc(),
+            &any(rt.alloc())?,
+            "any\nany: true\n  value=true\n"
+        )?
+    );
     Ok(())
 }
 
@@ -60,8 +65,8 @@ fn is_constant_boxed(alloc: Global) -> Result<bool, AllocError> {
     let boxed = BoxPredicate::new(alloc, made)?;
     let shown = format!(in alloc; "{boxed:?}")?;
     Ok(
-        explains(alloc, &boxed, &text(alloc, "b")?, true, "true = true\n")?
-            && is_described(alloc, &boxed, "true\n  - value: true\n")?
+        explains(alloc, &boxed, &text(alloc, "b")?, "true = true\n")?
+            && is_described(alloc, &boxed, "true\nvalue=true\n")?
             && shown.as_str() == "BoxPredicate",
     )
 }
@@ -76,7 +81,7 @@ fn a_constant_in_a_box(rt: HostRuntime) -> Result<(), Fail> {
 fn is_under_others(alloc: Global, lines: &str, described: &str) -> Result<bool, AllocError> {
     let blank = is_empty(alloc)?.trim().name("blank");
     let either = blank.or(contains_a(alloc)?);
-    let is_explained = explains(alloc, &either, &text(alloc, "  ")?, true, lines)?;
+    let is_explained = explains(alloc, &either, &text(alloc, "  ")?, lines)?;
     Ok(is_explained && is_described(alloc, &either, described)?)
 }
 
@@ -89,9 +94,10 @@ fn a_box_under_others(rt: HostRuntime) -> Result<(), Fail> {
       - var: \n";
     let described = "\
 (blank || var.contains(a))
-  left: blank
-    blank: var.is_empty()
-  right: var.contains(a)
+left: blank
+  blank: var.is_empty()
+    predicate: var.is_empty()
+right: var.contains(a)
 ";
     assert!(rt; is_under_others(rt.alloc(), lines, described)?);
     Ok(())
@@ -104,7 +110,7 @@ fn is_xor_boxed(alloc: Global, item: &str, lines: &str) -> Result<bool, AllocErr
         .trim()
         .name(StaticText::new("either"));
     let boxed = BoxPredicate::new(alloc, Box::new(alloc, either)?)?;
-    explains(alloc, &boxed, &text(alloc, item)?, true, lines)
+    explains(alloc, &boxed, &text(alloc, item)?, lines)
 }
 
 #[test]
@@ -124,14 +130,14 @@ either = true
 // Whether a comparison alone has the lines of its case on `4`.
 fn explains_alone(alloc: Global, lines: &str) -> Result<bool, AllocError> {
     let alone = predicate::gt(text(alloc, "5")?);
-    explains(alloc, &alone, &text(alloc, "4")?, false, lines)
+    explains(alloc, &alone, &text(alloc, "4")?, lines)
 }
 
 // Whether it has them in a box.
 fn explains_boxed(alloc: Global, lines: &str) -> Result<bool, AllocError> {
     let alone = predicate::gt(text(alloc, "5")?);
     let boxed = BoxPredicate::new(alloc, Box::new(alloc, alone)?)?;
-    explains(alloc, &boxed, &text(alloc, "4")?, false, lines)
+    explains(alloc, &boxed, &text(alloc, "4")?, lines)
 }
 
 #[test]
@@ -151,8 +157,8 @@ fn explains_letters(alloc: Global, length: u32) -> Result<bool, AllocError> {
     let equal = format!(in alloc; "{label} = true\n  - var: \"{letters}\"\n")?;
     let other = format!(in alloc; "{label} = false\n  - var: \"b\"\n")?;
     Ok(
-        explains(alloc, &boxed, &letters, true, equal.as_str())?
-            && explains(alloc, &boxed, &text(alloc, "b")?, false, other.as_str())?,
+        explains(alloc, &boxed, &letters, equal.as_str())?
+            && explains(alloc, &boxed, &text(alloc, "b")?, other.as_str())?,
     )
 }
 

@@ -1,10 +1,10 @@
 //! What no clause says of cases: that the calls answer with ample memory, and how a case prints.
 use predicates_core::node::{
-    binary_node, binary_node_of, joined, joined_by_left, joined_by_right, leaf_node, negated,
-    printed, showing, showing_item, showing_text, unary_node,
+    binary_node, binary_node_of, leaf_node, printed, showing, showing_item, showing_text,
+    unary_node,
 };
 use predicates_core::reflection::{Case, Child, Parameter, Product, render, render_onto};
-use predicates_testing::{repeated, text};
+use predicates_testing::{description, repeated, text};
 use std::alloc::{AllocError, Global};
 use std::fmt::Write;
 use std::test::Fail;
@@ -81,34 +81,6 @@ fn parts_that_were_found(rt: HostRuntime) -> Result<(), Fail> {
     Ok(())
 }
 
-// The root's text.
-fn text_of_root(alloc: Global, case: Result<Case, AllocError>) -> Result<String, AllocError> {
-    let case = case?;
-    text(alloc, case.root().predicate().unwrap_or("no text"))
-}
-
-fn not_a_and_b(alloc: Global) -> Result<Case, AllocError> {
-    let left = negated(alloc, true, leaf_node(alloc, text(alloc, "a")?, false))?;
-    joined(alloc, " && ", true, left, leaf(alloc, "b")?)
-}
-
-fn seven_and_not(alloc: Global) -> Result<Case, AllocError> {
-    let first = joined_by_left(alloc, " || ", true, not_a_and_b(alloc)?, &"c")?;
-    joined_by_right(alloc, " && ", false, &7, negated(alloc, false, first)?)
-}
-
-#[test]
-fn texts_of_the_parts(rt: HostRuntime) -> Result<(), Fail> {
-    let alloc = rt.alloc();
-    assert_eq!(rt;
-        text_of_root(alloc, seven_and_not(alloc))?.as_str(),
-        "(7 && (! (((! a) && b) || c)))"
-    );
-    let bare = negated(alloc, true, Case::new(alloc, None, false));
-    assert_eq!(rt; text_of_root(alloc, bare)?.as_str(), "(! )");
-    Ok(())
-}
-
 fn without_texts(alloc: Global) -> Result<Case, AllocError> {
     let shown = showing(Case::new(alloc, None, true), "var", text(alloc, "")?)?;
     let parent = Case::new(alloc, Some(text(alloc, "")?), false);
@@ -126,39 +98,19 @@ fn a_case_without_a_text(rt: HostRuntime) -> Result<(), Fail> {
     Ok(())
 }
 
-// A child with the text, a parameter of the value, and these children.
-fn child(alloc: Global, words: &str, children: Vec<Child>) -> Result<Child, AllocError> {
+// A list of one child with the text, a parameter of the value, and these children.
+fn only_child(alloc: Global, words: &str, below: Vec<Child>) -> Result<Vec<Child>, AllocError> {
     let mut parameters = Vec::new(alloc);
     parameters.push(Parameter::new("value", text(alloc, words)?))?;
-    Ok(Child::new("part", text(alloc, words)?, parameters, children))
-}
-
-fn nested_child(alloc: Global, outer: &str, inner: &str) -> Result<Child, AllocError> {
     let mut children = Vec::new(alloc);
-    children.push(child(alloc, inner, Vec::new(alloc))?)?;
-    child(alloc, outer, children)
+    children.push(Child::new("part", text(alloc, words)?, parameters, below))?;
+    Ok(children)
 }
 
-// The name, the text and the parameters of a child, without its own children.
-fn describe_child(alloc: Global, child: &Child) -> Result<String, AllocError> {
-    let (name, words) = (child.name(), child.text());
-    let mut described = format!(in alloc; "{name}: {words}")?;
-    for parameter in child.parameters() {
-        let (name, value) = (parameter.name(), parameter.value());
-        described = format!(in alloc; "{described}, {name} {value}")?;
-    }
-    Ok(described)
-}
-
-// The same, and that of each of its children.
-fn describe_nested(alloc: Global, child: Result<Child, AllocError>) -> Result<String, AllocError> {
-    let child = child?;
-    let mut described = describe_child(alloc, &child)?;
-    for part in child.children() {
-        let part = describe_child(alloc, part)?;
-        described = format!(in alloc; "{described} over {part}")?;
-    }
-    Ok(described)
+// The lines of such a child over another one.
+fn lines_of_nested(alloc: Global, words: &str) -> Result<String, AllocError> {
+    let inner = only_child(alloc, "b", Vec::new(alloc))?;
+    description(alloc, &[], only_child(alloc, words, inner)?.as_slice())
 }
 
 // A case of the text, which shows it and, as an item, once more.
@@ -188,12 +140,9 @@ fn texts_of_any_length(rt: HostRuntime) -> Result<(), Fail> {
         );
         let after = format!(in alloc; "{words}{lines}")?;
         assert!(rt; lines_after(alloc, &words)? == after, "{length}");
-        let one = format!(in alloc; "part: {words}, value {words}")?;
-        let nested = nested_child(alloc, words.as_str(), "b");
-        assert!(rt;
-            describe_nested(alloc, nested)? == format!(in alloc; "{one} over part: b, value b")?,
-            "{length}"
-        );
+        let outer = format!(in alloc; "part: {words}\n  value={words}\n")?;
+        let nested = format!(in alloc; "{outer}  part: b\n    value=b\n")?;
+        assert!(rt; lines_of_nested(alloc, &words)? == nested, "{length}");
     }
     Ok(())
 }

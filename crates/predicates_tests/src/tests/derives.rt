@@ -6,7 +6,7 @@ use predicates::name::PredicateNameExt;
 use predicates::ord::{EqPredicate, eq, ge, lt, ne};
 use predicates::static_text::StaticText;
 use predicates::{BoxPredicate, Predicate};
-use predicates_testing::text;
+use predicates_testing::{are_copied, differ, text};
 use std::alloc::{AllocError, Global};
 use std::fmt;
 use std::test::Fail;
@@ -19,28 +19,6 @@ struct Bare;
 fn is_shown<P: fmt::Debug>(alloc: Global, predicate: &P) -> Result<bool, AllocError> {
     let is_plain = !format!(in alloc; "{predicate:?}")?.is_empty();
     Ok(is_plain && !format!(in alloc; "{predicate:#?}")?.is_empty())
-}
-
-// Whether two values differ, each is equal to itself, and both are shown.
-fn differ<P: fmt::Debug + Eq>(alloc: Global, left: &P, right: &P) -> Result<bool, AllocError> {
-    Ok(
-        left == left
-            && right == right
-            && left != right
-            && is_shown(alloc, left)?
-            && is_shown(alloc, right)?,
-    )
-}
-
-// Whether the copy and the clone equal the value, which differs from the other.
-fn are_copied<P: fmt::Debug + Copy + Eq>(
-    alloc: Global,
-    predicate: P,
-    other: P,
-) -> Result<bool, AllocError> {
-    let copy = predicate;
-    let clone = predicate.clone()?;
-    Ok(copy == predicate && clone == predicate && differ(alloc, &copy, &other)?)
 }
 
 #[test]

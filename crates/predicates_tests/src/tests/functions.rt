@@ -1,10 +1,10 @@
 ghost use Rattle.std.specs.Prelude.{◌≡◌, ◌≤◌, ◌&&◌, nat_le};
 
-use super::{explains, prints};
 use predicates::boolean::PredicateBooleanExt;
 use predicates::function::function;
 use predicates::ord::le;
 use predicates_core::Predicate;
+use predicates_testing::{explains, is_described};
 use std::alloc::{AllocError, Global};
 use std::test::Fail;
 
@@ -17,22 +17,16 @@ fn is_digit(byte: &u8) -> bool
 // Whether a closure over the bound prints itself, alone and with a name.
 fn prints_closure(alloc: Global, bound: i32) -> Result<bool, AllocError> {
     let big = function(move |x: &i32| *x >= bound);
-    let is_printed = prints(alloc, &big, "fn(var)")?;
-    Ok(is_printed && prints(alloc, &big.fn_name("big"), "big(var)")?)
+    let is_printed = is_described(alloc, &big, "fn(var)\n")?;
+    Ok(is_printed && is_described(alloc, &big.fn_name("big"), "big(var)\n")?)
 }
 
 // Whether such a closure under a comparison is explained with the lines.
-fn explains_closure(
-    alloc: Global,
-    bound: i32,
-    item: i32,
-    verdict: bool,
-    lines: &str,
-) -> Result<bool, AllocError> {
+fn explains_closure(alloc: Global, bound: i32, item: i32, lines: &str) -> Result<bool, AllocError> {
     let middle = function(move |x: &i32| *x >= bound)
         .fn_name("big")
         .and(le(10i32));
-    explains(alloc, &middle, &item, verdict, lines)
+    explains(alloc, &middle, &item, lines)
 }
 
 #[test]
@@ -40,14 +34,14 @@ fn a_closure(rt: HostRuntime) -> Result<(), Fail> {
     let alloc = rt.alloc();
     assert!(rt; prints_closure(alloc, 5)?);
     let lines = "(big(var) && var <= 10) = false\n  left: big(var) = false\n";
-    assert!(rt; explains_closure(alloc, 5, 3, false, lines)?);
+    assert!(rt; explains_closure(alloc, 5, 3, lines)?);
     let lines = "\
 (big(var) && var <= 10) = true
   left: big(var) = true
   right: var <= 10 = true
     - var: 7
 ";
-    assert!(rt; explains_closure(alloc, 5, 7, true, lines)?);
+    assert!(rt; explains_closure(alloc, 5, 7, lines)?);
     Ok(())
 }
 
@@ -56,7 +50,7 @@ fn a_named_function(rt: HostRuntime) -> Result<(), Fail> {
     let digit = function(is_digit).fn_name("is_digit");
     assert!(rt; digit.eval(rt.alloc(), &b'7')?);
     assert!(rt; !digit.eval(rt.alloc(), &b'x')?);
-    assert!(rt; prints(rt.alloc(), &digit, "is_digit(var)")?);
+    assert!(rt; is_described(rt.alloc(), &digit, "is_digit(var)\n")?);
     Ok(())
 }
 
@@ -67,6 +61,6 @@ fn a_closure_that_captures_references(rt: HostRuntime) -> Result<(), Fail> {
         .fn_name("inside")
         .not();
     let lines = "(! inside(var)) = false\n  predicate: inside(var) = true\n";
-    assert!(rt; explains(rt.alloc(), &outside, &7, false, lines)?);
+    assert!(rt; explains(rt.alloc(), &outside, &7, lines)?);
     Ok(())
 }

@@ -4,11 +4,10 @@ ghost use Rattle.predicates_item.specs.In.{members_of};
 ghost use Rattle.predicates_item.specs.HashableIn as HashableIn;
 ghost use Rattle.predicates_item.specs.Members.{first_of_equals};
 
-use super::is_described;
 use predicates::iter::{HashableInPredicate, InPredicate, in_hash, in_iter};
 use predicates_core::Predicate;
 use predicates_core::reflection::PredicateReflection;
-use predicates_testing::verdict;
+use predicates_testing::{is_described, verdict};
 use std::alloc::{AllocError, Global};
 use std::test::Fail;
 
@@ -29,14 +28,14 @@ fn first_of_vec(alloc: Global, members: Vec<i64>) -> Result<HashableInPredicate<
 
 fn is_list_described(alloc: Global) -> Result<bool, AllocError> {
     let listed = of_vec(alloc, vec![in alloc; 3i64, 1, 3]?)?;
-    let is_listed = is_described(alloc, &listed, "var in values\n  - values: [3, 1, 3]\n")?;
+    let is_listed = is_described(alloc, &listed, "var in values\nvalues=[3, 1, 3]\n")?;
     let sorted = listed.sort()?;
-    Ok(is_listed && is_described(alloc, &sorted, "var in values\n  - values: [1, 3, 3]\n")?)
+    Ok(is_listed && is_described(alloc, &sorted, "var in values\nvalues=[1, 3, 3]\n")?)
 }
 
 fn is_set_described(alloc: Global) -> Result<bool, AllocError> {
     let hashed = first_of_vec(alloc, vec![in alloc; 3i64, 1, 3]?)?;
-    is_described(alloc, &hashed, "var in values\n  - values: {3, 1}\n")
+    is_described(alloc, &hashed, "var in values\nvalues={3, 1}\n")
 }
 
 #[test]

@@ -1,7 +1,7 @@
 ghost use Rattle.std.specs.Prelude.{◌≡◌};
 
-use super::{explains, is_described};
 use predicates::prelude::*;
+use predicates_testing::{explains, is_described};
 use std::alloc::{AllocError, Global};
 use std::test::Fail;
 
@@ -25,11 +25,10 @@ fn seat_of(guest: &Guest) -> &Option<u32>
     &guest.seat
 }
 
-// Whether a policy over all three fields explains the verdict on the guest by the lines.
+// Whether a policy over all three fields explains its verdict on the guest by the lines.
 fn explains_guest(
     alloc: Global,
     guest: (&str, u32, Option<u32>),
-    verdict: bool,
     lines: &str,
 ) -> Result<bool, AllocError> {
     let adult = predicate::ge(18u32).of("age", |guest: &Guest| guest.age);
@@ -38,13 +37,12 @@ fn explains_guest(
     let (name, age, seat) = guest;
     let name = String::from_str(alloc, name)?;
     let guest = Guest { name, age, seat };
-    explains(alloc, &adult.and(known).and(seated), &guest, verdict, lines)
+    explains(alloc, &adult.and(known).and(seated), &guest, lines)
 }
 
-const GUESTS: [((&str, u32, Option<u32>), bool, &str); 4] = [
+const GUESTS: [((&str, u32, Option<u32>), &str); 4] = [
     (
         ("Ada", 36, Some(7)),
-        true,
         "\
 ((age && name) && seat) = true
   left: (age && name) = true
@@ -61,7 +59,6 @@ const GUESTS: [((&str, u32, Option<u32>), bool, &str); 4] = [
     ),
     (
         ("Ada", 17, Some(7)),
-        false,
         "\
 ((age && name) && seat) = false
   left: (age && name) = false
@@ -72,7 +69,6 @@ const GUESTS: [((&str, u32, Option<u32>), bool, &str); 4] = [
     ),
     (
         ("Bob", 36, Some(7)),
-        false,
         "\
 ((age && name) && seat) = false
   left: (age && name) = false
@@ -83,7 +79,6 @@ const GUESTS: [((&str, u32, Option<u32>), bool, &str); 4] = [
     ),
     (
         ("Ada", 36, None),
-        false,
         "\
 ((age && name) && seat) = false
   right: seat = false
@@ -95,17 +90,14 @@ const GUESTS: [((&str, u32, Option<u32>), bool, &str); 4] = [
 
 #[test]
 fn policy_over_three_fields(rt: HostRuntime) -> Result<(), Fail> {
-    for (guest, verdict, lines) in GUESTS {
-        assert!(rt;
-            explains_guest(rt.alloc(), guest, verdict, lines)?,
-            "{lines}"
-        );
+    for (guest, lines) in GUESTS {
+        assert!(rt; explains_guest(rt.alloc(), guest, lines)?, "{lines}");
     }
     Ok(())
 }
 
-// Whether a predicate of one field explains the verdict on the age by the lines.
-fn explains_age(alloc: Global, age: u32, verdict: bool, lines: &str) -> Result<bool, AllocError> {
+// Whether a predicate of one field explains its verdict on the age by the lines.
+fn explains_age(alloc: Global, age: u32, lines: &str) -> Result<bool, AllocError> {
     let adult = predicate::ge(18u32).of("age", |guest: &Guest| guest.age);
     let guest = Guest {
         name: String::new(alloc),
@@ -113,17 +105,17 @@ fn explains_age(alloc: Global, age: u32, verdict: bool, lines: &str) -> Result<b
         seat: None,
     };
     Ok(
-        is_described(alloc, &adult, "age\n  age: var >= 18\n")?
-            && explains(alloc, &adult, &guest, verdict, lines)?,
+        is_described(alloc, &adult, "age\nage: var >= 18\n")?
+            && explains(alloc, &adult, &guest, lines)?,
     )
 }
 
 #[test]
 fn one_field(rt: HostRuntime) -> Result<(), Fail> {
     let lines = "age = false\n  age: var >= 18 = false\n    - var: 17\n";
-    assert!(rt; explains_age(rt.alloc(), 17, false, lines)?);
+    assert!(rt; explains_age(rt.alloc(), 17, lines)?);
     let lines = "age = true\n  age: var >= 18 = true\n    - var: 18\n";
-    assert!(rt; explains_age(rt.alloc(), 18, true, lines)?);
+    assert!(rt; explains_age(rt.alloc(), 18, lines)?);
     Ok(())
 }
 
@@ -132,12 +124,12 @@ fn value_or_none(rt: HostRuntime) -> Result<(), Fail> {
     let alloc = rt.alloc();
     let some = predicate::ge(18u32).of_some();
     assert!(rt; some == some.clone()?);
-    assert!(rt; is_described(alloc, &some, "var >= 18\n  predicate: var >= 18\n")?);
+    assert!(rt; is_described(alloc, &some, "var >= 18\npredicate: var >= 18\n")?);
     let lines = "var >= 18 = false\n  - var: 17\n";
-    assert!(rt; explains(alloc, &some, &Some(17), false, lines)?);
+    assert!(rt; explains(alloc, &some, &Some(17), lines)?);
     let lines = "var >= 18 = true\n  - var: 18\n";
-    assert!(rt; explains(alloc, &some, &Some(18), true, lines)?);
+    assert!(rt; explains(alloc, &some, &Some(18), lines)?);
     let lines = "var >= 18 = false\n  - error: no value\n";
-    assert!(rt; explains(alloc, &some, &None, false, lines)?);
+    assert!(rt; explains(alloc, &some, &None, lines)?);
     Ok(())
 }

@@ -1,9 +1,8 @@
 //! Each name of the prelude, and what the traits in it add.
-use super::{is_described, prints};
 use predicates::path::{FileType, PathFault, Snapshot};
 use predicates::prelude::*;
 use predicates::reflection::PredicateReflection;
-use predicates_testing::text;
+use predicates_testing::{is_described, text};
 use std::alloc::{AllocError, Global};
 use std::test::Fail;
 
@@ -13,7 +12,7 @@ fn print<P: PredicateReflection + Drop>(
     predicate: P,
     text: &str,
 ) -> Result<bool, AllocError> {
-    prints(alloc, &predicate, text)
+    Ok(predicate.to_string(alloc)?.as_str() == text)
 }
 
 fn print_numbers(alloc: Global) -> Result<bool, AllocError> {
@@ -57,8 +56,8 @@ fn describe_members(alloc: Global) -> Result<bool, AllocError> {
     let listed = predicate::in_iter(alloc, [3i64, 3])?;
     let hashed = predicate::in_hash(alloc, [3i64, 3])?;
     Ok(
-        is_described(alloc, &listed, "var in values\n  - values: [3, 3]\n")?
-            && is_described(alloc, &hashed, "var in values\n  - values: {3}\n")?,
+        is_described(alloc, &listed, "var in values\nvalues=[3, 3]\n")?
+            && is_described(alloc, &hashed, "var in values\nvalues={3}\n")?,
     )
 }
 

@@ -42,7 +42,7 @@ var.is_match(T[a-z]*) = true
   - var: one
   - actual count: 0
 var.is_match(T[a-z]*)
-  - count: 3
+count=3
 "
     );
     Ok(())

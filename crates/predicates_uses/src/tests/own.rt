@@ -85,15 +85,7 @@ fn append_eithers(alloc: Global, out: &mut String) -> Result<(), AllocError> {
     append_row(alloc, out, &either.name("answer"))
 }
 
-#[test]
-fn under_not_and_under_a_name(rt: HostRuntime) -> Result<(), Fail> {
-    let alloc = rt.alloc();
-    let mut out = String::new(alloc);
-    append_leaves(alloc, &mut out)?;
-    append_eithers(alloc, &mut out)?;
-    assert_eq!(rt;
-        out.as_str(),
-        "\
+const UNDER_NOT_AND_A_NAME: &str = "\
 (! var.is_the_answer()); predicate: var.is_the_answer()
 (! var.is_the_answer()) = false
   predicate: var.is_the_answer() = true
@@ -130,8 +122,15 @@ answer = false
       - var: 41
     right: var < 10 = false
       - var: 41
-"
-    );
+";
+
+#[test]
+fn under_not_and_under_a_name(rt: HostRuntime) -> Result<(), Fail> {
+    let alloc = rt.alloc();
+    let mut out = String::new(alloc);
+    append_leaves(alloc, &mut out)?;
+    append_eithers(alloc, &mut out)?;
+    assert_eq!(rt; out.as_str(), UNDER_NOT_AND_A_NAME);
     Ok(())
 }
 

@@ -1,5 +1,5 @@
 use super::split_words;
-use crate::tests::streams::{Closed, FailingReader, FailingWriter};
+use crate::tests::streams::{FailingReader, FailingWriter};
 use predicates_explain::{End, explain_words};
 use std::alloc::{AllocError, Global};
 use std::io::ErrorKind;
@@ -88,7 +88,11 @@ fn no_place_for_messages(rt: HostRuntime) -> Result<(), Fail> {
     let words = split_words(alloc, b"text|and")?;
     let mut reader = b"1".as_slice();
     let mut written = Vec::new(alloc);
-    let ended = explain_words(alloc, &words, &mut reader, &mut written, &mut Closed);
+    let mut closed = FailingWriter {
+        calls: 0,
+        kind: ErrorKind::BrokenPipe,
+    };
+    let ended = explain_words(alloc, &words, &mut reader, &mut written, &mut closed);
     assert_eq!(rt; ended, (End::Usage, false));
     assert_eq!(rt; written.len(), 0);
     Ok(())

@@ -224,10 +224,11 @@ fn count_lines(alloc: Global, words: &[&[u8]]) -> (u8, usize, bool) {
     (status, lines, written.starts_with(b"line 1: true\n"))
 }
 
-// Every word is read, however many there are.
+// Every word is read, however many there are; so many checks stand on the stack before they are
+// joined.
 #[test]
 fn many_words(rt: HostRuntime) -> Result<(), Fail> {
-    for count in [1usize, 8, 9, 150] {
+    for count in [1usize, 8, 9, 300] {
         let mut words = Vec::new(rt.alloc());
         words.push(b"explain".as_slice())?;
         words.push(b"text")?;

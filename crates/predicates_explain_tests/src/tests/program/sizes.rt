@@ -1,12 +1,10 @@
 //! Large and empty operands.
 use super::split_words;
+use crate::tests::numbers::SEVEN;
 use predicates::ord::ge;
 use predicates_explain::{explain_one, explain_total, explain_words};
 use std::alloc::Global;
 use std::test::Fail;
-
-const SEVEN: &str =
-    "7: true\n(var >= 5 && var <= 10) = true\n  left: var >= 5 = true\n    - var: 7\n  right: var <= 10 = true\n    - var: 7\n";
 
 // What is written for the input, where every line is an item.
 fn answer(alloc: Global, line: &[u8], input: &[u8]) -> Result<Vec<u8>, Fail> {
@@ -191,20 +189,6 @@ fn labels(rt: HostRuntime) -> Result<(), Fail> {
     for size in [0usize, 1, 255, 256, 300, 70_000] {
         assert!(rt; is_labelled(rt.alloc(), size)?, "at {size}");
     }
-    Ok(())
-}
-
-// 300 checks stand on the stack before they are joined.
-#[test]
-fn many_words(rt: HostRuntime) -> Result<(), Fail> {
-    let alloc = rt.alloc();
-    let mut line = Vec::new(alloc);
-    line.extend_from_slice(b"text")?;
-    line.extend_from_slice(&repeat(alloc, "|empty", 300)?)?;
-    line.extend_from_slice(&repeat(alloc, "|or", 299)?)?;
-    let written = answer(alloc, &line, b"\n")?;
-    assert!(rt; written.starts_with(b"line 1: true\n(var.is_empty() || (var.is_empty() || ("));
-    assert!(rt; written.ends_with(b") = true\n  left: var.is_empty() = true\n    - var: \n"));
     Ok(())
 }
 

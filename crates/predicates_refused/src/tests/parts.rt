@@ -1,0 +1,63 @@
+//! Predicates of parts of an item.
+ghost use Rattle.std.specs.Prelude.{◌≡◌};
+
+use super::predicate_calls::{over, sweep_calls};
+use predicates::ord::ge;
+use predicates::part::PredicatePartExt;
+use std::test::Fail;
+
+#[derive(Drop)]
+struct Guest {
+    age: u32,
+    seat: Option<u32>,
+}
+
+fn age_of(guest: &Guest) -> &u32
+    ensures { result.now ≡ guest.now.age }
+{
+    &guest.age
+}
+
+fn seat_of(guest: &Guest) -> &Option<u32>
+    ensures { result.now ≡ guest.now.seat }
+{
+    &guest.seat
+}
+
+#[test]
+fn fields(rt: HostRuntime) -> Result<(), Fail> {
+    let (age, seat) = (17, None);
+    let guest = Guest { age, seat };
+    let lines = "age = false\n  age: var >= 18 = false\n    - var: 17\n";
+    let children = "age: var >= 18\n";
+    let adult = ge(18u32).of("age", |guest: &Guest| guest.age);
+    sweep_calls(&rt, &adult, &guest, over("of", false, lines, children))?;
+    let adult = ge(18u32).of_ref("age", age_of);
+    sweep_calls(&rt, &adult, &guest, over("of_ref", false, lines, children))
+}
+
+#[test]
+fn value_or_none(rt: HostRuntime) -> Result<(), Fail> {
+    let some = ge(18u32).of_some();
+    let children = "predicate: var >= 18\n";
+    let lines = "var >= 18 = true\n  - var: 18\n";
+    let row = over("of_some on a value", true, lines, children);
+    sweep_calls(&rt, &some, &Some(18), row)?;
+    let lines = "var >= 18 = false\n  - error: no value\n";
+    let row = over("of_some on none", false, lines, children);
+    sweep_calls(&rt, &some, &None, row)
+}
+
+#[test]
+fn value_or_none_in_a_field(rt: HostRuntime) -> Result<(), Fail> {
+    let seated = ge(18u32).of_some().of_ref("seat", seat_of);
+    let children = "seat: var >= 18\n  predicate: var >= 18\n";
+    let (age, seat) = (17, Some(18));
+    let lines = "seat = true\n  seat: var >= 18 = true\n    - var: 18\n";
+    let row = over("of_some in of_ref, on a value", true, lines, children);
+    sweep_calls(&rt, &seated, &Guest { age, seat }, row)?;
+    let (age, seat) = (17, None);
+    let lines = "seat = false\n  seat: var >= 18 = false\n    - error: no value\n";
+    let row = over("of_some in of_ref, on none", false, lines, children);
+    sweep_calls(&rt, &seated, &Guest { age, seat }, row)
+}
