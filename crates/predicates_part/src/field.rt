@@ -15,10 +15,10 @@ ghost use Rattle.predicates_core.proofs.CombinedLemmas.{named_text_fits, one_nam
 ghost use Rattle.predicates_part.specs.Field.{HasOnePart, IsOfPart, IsInfallibleOnPart};
 ghost use Rattle.predicates_part.specs.Field.{one_of_part, owned, borrowed};
 
-use predicates_core::{Predicate, Total};
 use predicates_core::as_static_str::AsStaticStr;
 use predicates_core::node::{printed, unary_node};
 use predicates_core::reflection::{Case, Child, Parameter, PredicateReflection, describe};
+use predicates_core::{Predicate, Total};
 use std::alloc::{AllocError, Global};
 use std::fmt;
 use std::marker::PhantomData;
@@ -183,7 +183,6 @@ impl<P: Predicate<U>, F: Field<T, U>, T, U, N: AsStaticStr> Predicate<T>
         self.inner.eval(alloc, self.function.get(item))
     }
 
-    #[tactic(auto, using(crate::proofs::Parts::parts))]
     fn find_case(
         &self,
         alloc: Global,

@@ -1,6 +1,8 @@
 ghost use Rattle.std.specs.Prelude.{◌≡◌};
 
 use super::{explains, is_described};
+use predicates::Total;
+use predicates::part::Field;
 use predicates::prelude::*;
 use std::alloc::{AllocError, Global};
 use std::test::Fail;
@@ -25,6 +27,63 @@ fn seat_of(guest: &Guest) -> &Option<u32>
     &guest.seat
 }
 
+#[derive(Drop)]
+struct Age;
+
+impl Field<Guest, u32> for Age {
+    ghost part_of = { λ field guest. guest.age };
+
+    fn get<'a>(&self, guest: &'a Guest) -> &'a u32 {
+        &guest.age
+    }
+}
+
+#[derive(Drop)]
+struct Name;
+
+impl Field<Guest, String> for Name {
+    ghost part_of = { λ field guest. guest.name };
+
+    fn get<'a>(&self, guest: &'a Guest) -> &'a String {
+        &guest.name
+    }
+}
+
+#[derive(Drop)]
+struct Seat;
+
+impl Field<Guest, Option<u32>> for Seat {
+    ghost part_of = { λ field guest. guest.seat };
+
+    fn get<'a>(&self, guest: &'a Guest) -> &'a Option<u32> {
+        &guest.seat
+    }
+}
+
+// As `explains`, of a policy that has a formula on each guest.
+fn explains_total<P: Total<Guest>>(
+    alloc: Global,
+    policy: &P,
+    guest: &Guest,
+    verdict: bool,
+    lines: &str,
+) -> Result<bool, AllocError> {
+    explains(alloc, policy, guest, verdict, lines)
+}
+
+// Whether the policy of `explains_guest`, made of fields, explains the verdict by the lines.
+fn fields_explain(
+    alloc: Global,
+    guest: &Guest,
+    verdict: bool,
+    lines: &str,
+) -> Result<bool, AllocError> {
+    let adult = predicate::ge(18u32).of_field("age", Age);
+    let known = predicate::str::starts_with(String::from_str(alloc, "A")?).of_field("name", Name);
+    let seated = predicate::le(40u32).of_some().of_field("seat", Seat);
+    explains_total(alloc, &adult.and(known).and(seated), guest, verdict, lines)
+}
+
 // Whether a policy over all three fields explains the verdict on the guest by the lines.
 fn explains_guest(
     alloc: Global,
@@ -38,7 +97,10 @@ fn explains_guest(
     let (name, age, seat) = guest;
     let name = String::from_str(alloc, name)?;
     let guest = Guest { name, age, seat };
-    explains(alloc, &adult.and(known).and(seated), &guest, verdict, lines)
+    Ok(
+        explains(alloc, &adult.and(known).and(seated), &guest, verdict, lines)?
+            && fields_explain(alloc, &guest, verdict, lines)?,
+    )
 }
 
 const GUESTS: [((&str, u32, Option<u32>), bool, &str); 4] = [
