@@ -1,20 +1,24 @@
-//! Predicates of a part that a stored function gives of the item.
+//! Predicates of a part that a stored function or a field gives of the item.
 //!
 //! ```
 //! let adult = predicate::ge(18).of("age", |person: &Person| person.age);
 //! let named = predicate::eq(name).of_ref("name", name_of);
+//! let seated = predicate::le(40).of_field("seat", Seat);
 //! ```
-ghost use Rattle.std.specs.Prelude.{[], Some};
+ghost use Rattle.std.specs.Prelude.{◌≡◌, [], Some, IfOk};
+ghost use Rattle.predicates_core.specs.Label.{plain};
+ghost use Rattle.predicates_core.specs.Formula.{Named};
+ghost use Rattle.predicates_core.specs.Shows.{IsAnswer};
 ghost use Rattle.predicates_core.specs.Parts.{part};
 ghost use Rattle.predicates_core.specs.Combined.{IsNamed};
-ghost use Rattle.predicates_core.proofs.CombinedLemmas.{named_text_fits, one_named};
+ghost use Rattle.predicates_core.proofs.CombinedLemmas.{named_text_fits, one_named, has_named};
 ghost use Rattle.predicates_part.specs.Field.{HasOnePart, IsOfPart, IsInfallibleOnPart};
 ghost use Rattle.predicates_part.specs.Field.{one_of_part, owned, borrowed};
 
-use predicates_core::Predicate;
 use predicates_core::as_static_str::AsStaticStr;
 use predicates_core::node::{printed, unary_node};
 use predicates_core::reflection::{Case, Child, Parameter, PredicateReflection, describe};
+use predicates_core::{Predicate, Total};
 use std::alloc::{AllocError, Global};
 use std::fmt;
 use std::marker::PhantomData;
@@ -25,14 +29,48 @@ pub struct ByValue;
 /// The function borrows the part from the item.
 pub struct ByReference;
 
+/// The part is that of a `Field`.
+pub struct ByField;
+
+/// A part of an item, named by a unit struct of the caller's.
+pub trait Field<T, U> {
+    // The part that an item has.
+    ghost part_of: { Self → T → U };
+
+    /// Borrows the part from the item.
+    fn get<'a>(&self, item: &'a T) -> &'a U
+        ensures { result.now ≡ part_of self.now item.now };
+}
+
 /// Holds of an item where its inner predicate holds of the part that the function gives, and prints
-/// the part's name. Made by `PredicatePartExt::of` and `PredicatePartExt::of_ref`.
+/// the part's name. Made by `of`, `of_ref` and `of_field` of `PredicatePartExt`.
 #[derive(Drop)]
 pub struct FieldPredicate<P, F, T, U, N = &'static str, Access = ByValue> {
     pub(crate) inner: P,
     pub(crate) function: F,
     pub(crate) name: N,
     pub(crate) types: PhantomData<(T, U, Access)>,
+}
+
+impl<P: Predicate<U>, F, T, U, N: AsStaticStr, Access> FieldPredicate<P, F, T, U, N, Access> {
+    // What `find_case` is to answer of an item with this part.
+    #[tactic(auto, using(crate::proofs::Parts::parts))]
+    fn case_of_part(
+        &self,
+        alloc: Global,
+        expected: bool,
+        part: &U,
+    ) -> Result<Option<Case>, AllocError>
+        requires { P.lawful self.now.inner }
+        ensures { IfOk result
+            (IsAnswer (IsNamed (N.bytes self.now.name) (P.formula self.now.inner part.now)) expected) }
+    {
+        let Some(case) = self.inner.find_case(alloc, expected, part)? else {
+            return Ok(None);
+        };
+        let text = printed(alloc, self)?;
+        Ok(Some(unary_node(alloc, text, expected, self.name.text(), case)?))
+    }
 }
 
 impl<P: fmt::Display, F, T, U, N: AsStaticStr, Access> fmt::Display
@@ -92,11 +130,7 @@ impl<P: Predicate<U>, F: Fn(&T) -> U, T, U: Drop, N: AsStaticStr> Predicate<T>
         item: &T,
     ) -> Result<Option<Case>, AllocError> {
         let part = (self.function)(item);
-        let Some(case) = self.inner.find_case(alloc, expected, &part)? else {
-            return Ok(None);
-        };
-        let text = printed(alloc, self)?;
-        Ok(Some(unary_node(alloc, text, expected, self.name.text(), case)?))
+        self.case_of_part(alloc, expected, &part)
     }
 }
 
@@ -117,8 +151,7 @@ impl<P: Predicate<U>, F: Fn(&T) -> &U, T, U, N: AsStaticStr> Predicate<T>
 
     #[tactic(auto, using(crate::proofs::Parts::parts))]
     fn eval(&self, alloc: Global, item: &T) -> Result<bool, AllocError> {
-        let part = (self.function)(item);
-        self.inner.eval(alloc, part)
+        self.inner.eval(alloc, (self.function)(item))
     }
 
     #[tactic(auto, using(crate::proofs::Parts::parts))]
@@ -128,11 +161,46 @@ impl<P: Predicate<U>, F: Fn(&T) -> &U, T, U, N: AsStaticStr> Predicate<T>
         expected: bool,
         item: &T,
     ) -> Result<Option<Case>, AllocError> {
-        let part = (self.function)(item);
-        let Some(found) = self.inner.find_case(alloc, expected, part)? else {
-            return Ok(None);
-        };
-        let text = printed(alloc, self)?;
-        Ok(Some(unary_node(alloc, text, expected, self.name.text(), found)?))
+        self.case_of_part(alloc, expected, (self.function)(item))
     }
+}
+
+impl<P: Predicate<U>, F: Field<T, U>, T, U, N: AsStaticStr> Predicate<T>
+    for FieldPredicate<P, F, T, U, N, ByField> {
+    ghost lawful = { λ p. P.lawful p.inner };
+
+    ghost formula = { λ p v. IsNamed (N.bytes p.name) (P.formula p.inner (F.part_of p.function v)) };
+
+    ghost infallible = { λ p v. P.infallible p.inner (F.part_of p.function v) };
+
+    ghost text_fits = { λ p v f. named_text_fits };
+
+    ghost one_formula = { λ p v f g lawful. one_named (λ x y.
+        P.one_formula p.inner (F.part_of p.function v) x y lawful) };
+
+    #[tactic(auto, using(crate::proofs::Parts::parts))]
+    fn eval(&self, alloc: Global, item: &T) -> Result<bool, AllocError> {
+        self.inner.eval(alloc, self.function.get(item))
+    }
+
+    fn find_case(
+        &self,
+        alloc: Global,
+        expected: bool,
+        item: &T,
+    ) -> Result<Option<Case>, AllocError> {
+        self.case_of_part(alloc, expected, self.function.get(item))
+    }
+}
+
+impl<P: Total<U>, F: Field<T, U>, T, U, N: AsStaticStr> Total<T>
+    for FieldPredicate<P, F, T, U, N, ByField> {
+    ghost formula_of = { λ p v. Named
+        (plain (Some (N.bytes p.name)))
+        (N.bytes p.name)
+        (P.formula_of p.inner (F.part_of p.function v)) };
+
+    ghost always_lawful = { λ p. P.always_lawful p.inner };
+
+    ghost has_formula = { λ p v. has_named (P.has_formula p.inner (F.part_of p.function v)) };
 }

@@ -14,15 +14,15 @@
 #![tactic(auto)]
 
 ghost use Rattle.std.specs.Prelude.{◌≡◌};
-ghost use Rattle.predicates_part.specs.Field as Field;
 ghost use Rattle.predicates_part.specs.Field.{HasOnePart, owned, borrowed};
+ghost use Rattle.predicates_part.specs.Field.{inner_of, function_of, name_of};
 ghost use Rattle.predicates_part.specs.Optional as Optional;
 
 mod field;
 mod optional;
 pub mod semantics;
 
-pub use field::{ByReference, ByValue, FieldPredicate};
+pub use field::{ByField, ByReference, ByValue, Field, FieldPredicate};
 pub use optional::SomePredicate;
 use predicates_core::Predicate;
 use predicates_core::as_static_str::AsStaticStr;
@@ -44,9 +44,9 @@ pub trait PredicatePartExt<U>: Predicate<U> {
         Self: Sized,
         requires callable { F.IsAlwaysCallable function }
         requires one_part { HasOnePart F.Fn owned function }
-        ensures inner { Field.inner_of result ≡ self }
-        ensures function { Field.function_of result ≡ function }
-        ensures name { Field.name_of result ≡ name };
+        ensures inner { inner_of result ≡ self }
+        ensures function { function_of result ≡ function }
+        ensures name { name_of result ≡ name };
 
     /// As `of`, of a part that the function borrows from the item. The function is a named one with
     /// an `ensures`, as `fn name_of(person: &Person) -> &String`, and no closure.
@@ -59,9 +59,21 @@ pub trait PredicatePartExt<U>: Predicate<U> {
         Self: Sized,
         requires callable { F.IsAlwaysCallable function }
         requires one_part { HasOnePart F.Fn borrowed function }
-        ensures inner { Field.inner_of result ≡ self }
-        ensures function { Field.function_of result ≡ function }
-        ensures name { Field.name_of result ≡ name };
+        ensures inner { inner_of result ≡ self }
+        ensures function { function_of result ≡ function }
+        ensures name { name_of result ≡ name };
+
+    /// As `of`, of a field. There is no condition, and where this one is `Total` so is the result.
+    fn of_field<F: Field<T, U>, T, N: AsStaticStr>(
+        self,
+        name: N,
+        field: F,
+    ) -> FieldPredicate<Self, F, T, U, N, ByField>
+    where
+        Self: Sized,
+        ensures inner { inner_of result ≡ self }
+        ensures function { function_of result ≡ field }
+        ensures name { name_of result ≡ name };
 
     /// The predicate of an `Option` that holds of `Some` where this one holds of its value, and
     /// does not hold of `None`. It takes no memory of its own, and prints what this one prints.
@@ -93,6 +105,19 @@ impl<P: Predicate<U>, U> PredicatePartExt<U> for P {
         FieldPredicate {
             inner: self,
             function,
+            name,
+            types: PhantomData,
+        }
+    }
+
+    fn of_field<F: Field<T, U>, T, N: AsStaticStr>(
+        self,
+        name: N,
+        field: F,
+    ) -> FieldPredicate<Self, F, T, U, N, ByField> {
+        FieldPredicate {
+            inner: self,
+            function: field,
             name,
             types: PhantomData,
         }

@@ -13,7 +13,7 @@ ghost use Rattle.predicates_part.specs.Field.{owned, borrowed, inner_of, functio
 ghost use Rattle.predicates_part.specs.Optional as Optional;
 ghost use Rattle.predicates_part.specs.Optional.{IsOfSome};
 
-use crate::{ByReference, ByValue, FieldPredicate, SomePredicate};
+use crate::{ByField, ByReference, ByValue, Field, FieldPredicate, SomePredicate};
 use predicates_core::Predicate;
 use predicates_core::as_static_str::AsStaticStr;
 use predicates_core::reflection::PredicateReflection;
@@ -52,6 +52,22 @@ pub fn of_ref<P: Predicate<U>, F: Fn(&T) -> &U, T, U, N: AsStaticStr>(
         field.now item.now
         ↔ IsInfallibleOnPart F.Fn borrowed (function_of field.now)
         (P.infallible (inner_of field.now)) item.now }
+{}
+
+/// As `of`, on the part that the field has, with no condition of the field.
+pub fn of_field<P: Predicate<U>, F: Field<T, U>, T, U, N: AsStaticStr>(
+    field: &FieldPredicate<P, F, T, U, N, ByField>,
+    item: &T,
+)
+    ensures formula { (f : Formula)
+        → ⟦<FieldPredicate<P, F, T, U, N, ByField> as Predicate<T>>⟧.formula field.now item.now f
+        ↔ IsNamed (N.bytes (name_of field.now)) (P.formula (inner_of field.now)
+        (F.part_of (function_of field.now) item.now)) f }
+    ensures lawful { ⟦<FieldPredicate<P, F, T, U, N, ByField> as Predicate<T>>⟧.lawful field.now
+        ↔ P.lawful (inner_of field.now) }
+    ensures infallible { ⟦<FieldPredicate<P, F, T, U, N, ByField> as Predicate<T>>⟧.infallible
+        field.now item.now
+        ↔ P.infallible (inner_of field.now) (F.part_of (function_of field.now) item.now) }
 {}
 
 /// The part stands under its name, and there are no parameters.

@@ -1,5 +1,7 @@
 ghost use Rattle.std.specs.Prelude.{◌≡◌};
 
+use predicates::Total;
+use predicates::part::Field;
 use predicates::prelude::*;
 use predicates_testing::{explains, is_described};
 use std::alloc::{AllocError, Global};
@@ -25,6 +27,61 @@ fn seat_of(guest: &Guest) -> &Option<u32>
     &guest.seat
 }
 
+#[derive(Drop)]
+struct Age;
+
+impl Field<Guest, u32> for Age {
+    ghost part_of = { λ field guest. guest.age };
+
+    fn get<'a>(&self, guest: &'a Guest) -> &'a u32 {
+        &guest.age
+    }
+}
+
+#[derive(Drop)]
+struct Name;
+
+impl Field<Guest, String> for Name {
+    ghost part_of = { λ field guest. guest.name };
+
+    fn get<'a>(&self, guest: &'a Guest) -> &'a String {
+        &guest.name
+    }
+}
+
+#[derive(Drop)]
+struct Seat;
+
+impl Field<Guest, Option<u32>> for Seat {
+    ghost part_of = { λ field guest. guest.seat };
+
+    fn get<'a>(&self, guest: &'a Guest) -> &'a Option<u32> {
+        &guest.seat
+    }
+}
+
+// As `explains`, of a policy that has a formula on each guest.
+fn explains_total<P: Total<Guest>>(
+    alloc: Global,
+    policy: &P,
+    guest: &Guest,
+    lines: &str,
+) -> Result<bool, AllocError> {
+    explains(alloc, policy, guest, lines)
+}
+
+// Whether the policy of `explains_guest`, made of fields, explains its verdict by the lines.
+fn fields_explain(
+    alloc: Global,
+    guest: &Guest,
+    lines: &str,
+) -> Result<bool, AllocError> {
+    let adult = predicate::ge(18u32).of_field("age", Age);
+    let known = predicate::str::starts_with(String::from_str(alloc, "A")?).of_field("name", Name);
+    let seated = predicate::le(40u32).of_some().of_field("seat", Seat);
+    explains_total(alloc, &adult.and(known).and(seated), guest, lines)
+}
+
 // Whether a policy over all three fields explains its verdict on the guest by the lines.
 fn explains_guest(
     alloc: Global,
@@ -37,7 +94,10 @@ fn explains_guest(
     let (name, age, seat) = guest;
     let name = String::from_str(alloc, name)?;
     let guest = Guest { name, age, seat };
-    explains(alloc, &adult.and(known).and(seated), &guest, lines)
+    Ok(
+        explains(alloc, &adult.and(known).and(seated), &guest, lines)?
+            && fields_explain(alloc, &guest, lines)?,
+    )
 }
 
 const GUESTS: [((&str, u32, Option<u32>), &str); 4] = [
