@@ -71,11 +71,7 @@ fn explains_total<P: Total<Guest>>(
 }
 
 // Whether the policy of `explains_guest`, made of fields, explains its verdict by the lines.
-fn fields_explain(
-    alloc: Global,
-    guest: &Guest,
-    lines: &str,
-) -> Result<bool, AllocError> {
+fn fields_explain(alloc: Global, guest: &Guest, lines: &str) -> Result<bool, AllocError> {
     let adult = predicate::ge(18u32).of_field("age", Age);
     let known = predicate::str::starts_with(String::from_str(alloc, "A")?).of_field("name", Name);
     let seated = predicate::le(40u32).of_some().of_field("seat", Seat);
