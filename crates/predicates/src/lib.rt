@@ -22,8 +22,8 @@
 //! Of any item: `always`, `never`; `eq`, `ne`, `lt`, `le`, `ge`, `gt`; `in_iter`, `in_hash` and
 //! `InPredicate::sort`; `function` over a function or a closure.
 //!
-//! Over other predicates: `and`, `or`, `xor`, `not`, and `name`; `of` and `of_ref` over a predicate
-//! of a part of the item, and `of_some`, which makes of a predicate one of an `Option`.
+//! Over other predicates: `and`, `or`, `xor`, `not`, and `name`; `of`, `of_ref` and `of_field` over
+//! one of a part of the item, and `of_some`, which makes of a predicate one of an `Option`.
 //!
 //! Of texts: `str::is_empty`, `str::starts_with`, `str::ends_with`, `str::contains` and its
 //! `count`, `str::is_match` and its `count`; `trim` and `normalize` over a predicate of texts, and

@@ -21,7 +21,7 @@ pub use predicates_item::semantics::{
     constant, equality, equality_reflection, hashed, listed, order, order_reflection, sorted,
     stored_function,
 };
-pub use predicates_part::semantics::{description, of, of_ref, of_some};
+pub use predicates_part::semantics::{description, of, of_field, of_ref, of_some};
 pub use predicates_path::semantics::{existence, file_bytes, file_content, file_text, file_type};
 pub use predicates_text::semantics::{
     contains, count, ends_with, from_utf8, is_empty, is_match, match_count, normalize, starts_with,

@@ -11,7 +11,7 @@ use predicates::function::function;
 use predicates::iter::{in_hash, in_iter};
 use predicates::name::PredicateNameExt;
 use predicates::ord::{eq, ge, le, lt};
-use predicates::part::PredicatePartExt;
+use predicates::part::{Field, PredicatePartExt};
 use predicates::{BoxPredicate, laws, semantics};
 use predicates_core::Predicate;
 use predicates_explain::semantics::{leaves_of_words, parts_of_checks};
@@ -113,6 +113,17 @@ fn itself(number: &u32) -> &u32
     number
 }
 
+#[derive(Drop)]
+struct Itself;
+
+impl Field<u32, u32> for Itself {
+    ghost part_of = { λ field number. number };
+
+    fn get<'a>(&self, number: &'a u32) -> &'a u32 {
+        number
+    }
+}
+
 #[test]
 fn semantics_of_parts(rt: HostRuntime) -> Result<(), Fail> {
     let begun = refusing(rt.alloc(), "the semantics of parts");
@@ -120,6 +131,7 @@ fn semantics_of_parts(rt: HostRuntime) -> Result<(), Fail> {
     semantics::of(&owned, &17);
     semantics::description(&owned);
     semantics::of_ref(&ge(18u32).of_ref("age", itself), &17);
+    semantics::of_field(&ge(18u32).of_field("age", Itself), &17);
     semantics::of_some(&ge(18u32).of_some(), &Some(17));
     let right = owned.eval(rt.alloc(), &17) == Ok(false);
     begun.end(&rt, right)

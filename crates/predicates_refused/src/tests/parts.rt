@@ -3,7 +3,7 @@ ghost use Rattle.std.specs.Prelude.{◌≡◌};
 
 use super::predicate_calls::{over, sweep_calls};
 use predicates::ord::ge;
-use predicates::part::PredicatePartExt;
+use predicates::part::{Field, PredicatePartExt};
 use std::test::Fail;
 
 #[derive(Drop)]
@@ -24,6 +24,17 @@ fn seat_of(guest: &Guest) -> &Option<u32>
     &guest.seat
 }
 
+#[derive(Drop)]
+struct Age;
+
+impl Field<Guest, u32> for Age {
+    ghost part_of = { λ field guest. guest.age };
+
+    fn get<'a>(&self, guest: &'a Guest) -> &'a u32 {
+        &guest.age
+    }
+}
+
 #[test]
 fn fields(rt: HostRuntime) -> Result<(), Fail> {
     let (age, seat) = (17, None);
@@ -33,7 +44,14 @@ fn fields(rt: HostRuntime) -> Result<(), Fail> {
     let adult = ge(18u32).of("age", |guest: &Guest| guest.age);
     sweep_calls(&rt, &adult, &guest, over("of", false, lines, children))?;
     let adult = ge(18u32).of_ref("age", age_of);
-    sweep_calls(&rt, &adult, &guest, over("of_ref", false, lines, children))
+    sweep_calls(&rt, &adult, &guest, over("of_ref", false, lines, children))?;
+    let adult = ge(18u32).of_field("age", Age);
+    sweep_calls(
+        &rt,
+        &adult,
+        &guest,
+        over("of_field", false, lines, children),
+    )
 }
 
 #[test]
