@@ -6,7 +6,7 @@ use Rattle.predicates_item.specs.HashableIn.{members_of}
 use Rattle.predicates_item.specs.Members.{first_of_equals}
 use Rattle.predicates_item.specs.declared.iter.hashed.HashableInPredicate.{HashableInPredicate}
 use Rattle.predicates_item.proofs.GivenItems.{kept_from_gives}
-use Rattle.predicates_tested.proofs.tests.memberships.first_of_vec.Goals as goal
+use Rattle.predicates_tests.proofs.tests.memberships.first_of_vec.Goals as goal
 
 pub returns : goal.returns
 returns c =

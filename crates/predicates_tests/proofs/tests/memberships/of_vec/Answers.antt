@@ -4,7 +4,7 @@ use Rattle.std.proofs.lemmas.Result.{IfOk-weaker}
 use Rattle.predicates_item.specs.In.{members_of}
 use Rattle.predicates_item.specs.declared.iter.listed.InPredicate.{InPredicate}
 use Rattle.predicates_item.proofs.GivenItems.{items_from_gives}
-use Rattle.predicates_tested.proofs.tests.memberships.of_vec.Goals as goal
+use Rattle.predicates_tests.proofs.tests.memberships.of_vec.Goals as goal
 
 pub returns : goal.returns
 returns c =
