@@ -114,9 +114,9 @@ fn itself(number: &u32) -> &u32
 }
 
 #[derive(Drop)]
-struct Itself;
+struct Number;
 
-impl Field<u32, u32> for Itself {
+impl Field<u32, u32> for Number {
     ghost part_of = { λ field number. number };
 
     fn get<'a>(&self, number: &'a u32) -> &'a u32 {
@@ -131,7 +131,7 @@ fn semantics_of_parts(rt: HostRuntime) -> Result<(), Fail> {
     semantics::of(&owned, &17);
     semantics::description(&owned);
     semantics::of_ref(&ge(18u32).of_ref("age", itself), &17);
-    semantics::of_field(&ge(18u32).of_field("age", Itself), &17);
+    semantics::of_field(&ge(18u32).of_field("age", Number), &17);
     semantics::of_some(&ge(18u32).of_some(), &Some(17));
     let right = owned.eval(rt.alloc(), &17) == Ok(false);
     begun.end(&rt, right)
