@@ -7,7 +7,7 @@ use predicates::name::PredicateNameExt;
 use predicates::ord::{eq, le};
 use predicates::path::PredicateFileContentExt;
 use predicates::str::{PredicateStrExt, is_empty, is_match};
-use predicates::{BoxPredicate, TextPredicate};
+use predicates::{BoxPredicate, StaticText, TextPredicate};
 use predicates_testing::{Counting, print_in_combinators, print_under_flags, text};
 use std::alloc::{AllocError, Global};
 use std::cell::Cell;
@@ -76,7 +76,8 @@ fn boxes(rt: HostRuntime) -> Result<(), Fail> {
         Box::new(alloc, eq(text(alloc, "a b")?).not())?,
     )?;
     print_boxed(alloc, &mut out, Box::new(alloc, is_empty().trim())?)?;
-    print_boxed(alloc, &mut out, Box::new(alloc, is_empty().name("small"))?)?;
+    let small = is_empty().name(StaticText::new("small"));
+    print_boxed(alloc, &mut out, Box::new(alloc, small)?)?;
     let pattern = is_match(alloc, text(alloc, "a+ b*")?)?;
     print_boxed(alloc, &mut out, Box::new(alloc, pattern.count(2))?)?;
     assert_eq!(rt;

@@ -57,10 +57,8 @@ fn a_named_function(rt: HostRuntime) -> Result<(), Fail> {
 #[test]
 fn a_closure_that_captures_references(rt: HostRuntime) -> Result<(), Fail> {
     let (low, high) = (3, 9);
-    let outside = function(|x: &i32| *x >= low && *x <= high)
-        .fn_name("inside")
-        .not();
-    let lines = "(! inside(var)) = false\n  predicate: inside(var) = true\n";
+    let outside = function(|x: &i32| *x >= low && *x <= high).not();
+    let lines = "(! fn(var)) = false\n  predicate: fn(var) = true\n";
     assert!(rt; explains(rt.alloc(), &outside, &7, lines)?);
     Ok(())
 }
