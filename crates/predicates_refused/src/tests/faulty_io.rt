@@ -3,7 +3,7 @@ use super::runs::{NUMBERS, SEVEN};
 use super::stacked::stacked;
 use super::streams::{Narrow, Slow};
 use predicates_explain::{RunFault, TextCheck, run_between, run_text};
-use std::alloc::Global;
+use std::alloc::{AllocError, Global};
 use std::io::ErrorKind;
 use std::process::Abort;
 use std::test::Fail;
@@ -172,25 +172,25 @@ const PREFIXES: [(&[u8], &str, &str); 6] = [
     (b"7\n1\r\n", SEVEN, ONE),
 ];
 
+// Whether the run over the input ends well and writes both texts.
+fn writes_both(alloc: Global, input: &[u8], first: &str, second: &str) -> Result<bool, AllocError> {
+    let whole = format!(in alloc; "{first}{second}")?;
+    Ok(writes_whole(alloc, input, whole.as_bytes()))
+}
+
+fn writes_whole(alloc: Global, input: &[u8], whole: &[u8]) -> bool {
+    let run = Run {
+        check: None,
+        input,
+        whole,
+    };
+    ends_after(alloc, run, whole.len(), ErrorKind::BrokenPipe, Ok(true))
+}
+
 #[test]
 fn prefixes(rt: HostRuntime) -> Result<(), Fail> {
     for (input, first, second) in PREFIXES {
-        let whole = format!(in rt.alloc(); "{first}{second}")?;
-        let run = Run {
-            check: None,
-            input,
-            whole: whole.as_str().as_bytes(),
-        };
-        assert!(rt;
-            ends_after(
-                rt.alloc(),
-                run,
-                whole.len(),
-                ErrorKind::BrokenPipe,
-                Ok(true)
-            ),
-            "{input:?}"
-        );
+        assert!(rt; writes_both(rt.alloc(), input, first, second)?, "{input:?}");
     }
     Ok(())
 }
