@@ -178,7 +178,7 @@ fn writes_both(alloc: Global, input: &[u8], first: &str, second: &str) -> Result
     Ok(writes_whole(alloc, input, whole.as_bytes()))
 }
 
-fn writes_whole(alloc: Global, input: &[u8], whole: &[u8]) -> bool {
+fn writes_whole<'a>(alloc: Global, input: &'a [u8], whole: &'a [u8]) -> bool {
     let run = Run {
         check: None,
         input,
