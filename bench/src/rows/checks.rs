@@ -60,7 +60,7 @@ fn print_full(only: &str, levels: u8, text: &str, kind: &str) {
         format!("and/or tree of {} leaves, {kind}, enum", 1 << levels),
         text,
         &|question, rounds| port::full(levels, copied(text), question, rounds),
-        &|| Check::full(black_box(levels), levels % 2 == 0),
+        &|| Check::full(black_box(levels), true),
     );
 }
 
