@@ -1,3 +1,4 @@
+mod derives;
 mod numbers;
 mod program;
 mod streams;
