@@ -14,6 +14,8 @@ unsafe extern "C" {
         question: u8,
         rounds: usize,
     ) -> usize;
+    fn bench_function(ages: *const i64, len: usize, question: u8, rounds: usize) -> usize;
+    fn bench_part(ages: *const i64, len: usize, question: u8, rounds: usize) -> usize;
     fn bench_nots(depth: usize, t: *const u8, tlen: usize, copies: usize, question: u8, rounds: usize) -> usize;
     fn bench_row(leaves: usize, t: *const u8, tlen: usize, copies: usize, question: u8, rounds: usize) -> usize;
     fn bench_xors(
@@ -84,6 +86,14 @@ pub const GE_LE: (u8, u8) = (2, 1);
 pub fn chosen(lo: i64, hi: i64, items: &[i64], question: Question, rounds: usize) -> usize {
     let (first, second) = GE_LE;
     unsafe { bench_chosen(first, lo, second, hi, items.as_ptr(), items.len(), question.number(), rounds) }
+}
+
+pub fn function(ages: &[i64], question: Question, rounds: usize) -> usize {
+    unsafe { bench_function(ages.as_ptr(), ages.len(), question.number(), rounds) }
+}
+
+pub fn part(ages: &[i64], question: Question, rounds: usize) -> usize {
+    unsafe { bench_part(ages.as_ptr(), ages.len(), question.number(), rounds) }
 }
 
 /// How the members of a membership are held.

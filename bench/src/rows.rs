@@ -46,11 +46,11 @@ impl Row<'_> {
     }
 }
 
-/// Prints what has nothing beside it.
-pub fn print_alone(name: &str, port: &dyn Fn(Question, usize) -> usize) {
+/// Prints what has nothing beside it. A round has so many items.
+pub fn print_alone(name: &str, items: usize, port: &dyn Fn(Question, usize) -> usize) {
     let times: Vec<String> = Question::ALL
         .into_iter()
-        .map(|question| time(crate::clock::alone(&|rounds| port(question, rounds))))
+        .map(|question| time(crate::clock::alone(&|rounds| port(question, rounds)) / items as f64))
         .collect();
     println!("| {name} | {} |", times.join(" | "));
 }

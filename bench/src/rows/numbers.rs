@@ -1,6 +1,6 @@
-//! Checks of numbers, put together by type.
+//! Checks of numbers, put together by type, and of structs.
 
-use super::Row;
+use super::{print_alone, Row};
 use crate::port;
 use crate::question::ask;
 use oracle::explain::Naming::Address;
@@ -44,7 +44,35 @@ fn print_between(only: &str, items: &[i64]) {
     }
 }
 
+struct Person {
+    age: i64,
+}
+
+fn print_parts(only: &str, ages: &[i64]) {
+    let name = "`function` of a struct";
+    if name.contains(only) {
+        Row {
+            name: name.to_string(),
+            target: 1.1,
+            naming: (Address, Address),
+            items: ages.len(),
+            port: &|question, rounds| port::function(ages, question, rounds),
+            original: &|question, naming, rounds| {
+                let people: Vec<Person> = ages.iter().map(|&age| Person { age }).collect();
+                let adult = predicate::function(|person: &Person| person.age >= 18);
+                ask::<_, Person, _>(&adult, &people, question, naming, rounds)
+            },
+        }
+        .print();
+    }
+    let name = "`ge(18).of(\"age\", ..)` of a struct, no original";
+    if name.contains(only) {
+        print_alone(name, ages.len(), &|question, rounds| port::part(ages, question, rounds));
+    }
+}
+
 pub fn print(only: &str) {
     let items: Vec<i64> = (0..1024).map(|at: i64| at * 7919 % 41 - 12).collect();
     print_between(only, &items);
+    print_parts(only, &items);
 }

@@ -122,7 +122,7 @@ fn print_patterns(only: &str) {
     if count.1.contains(only) {
         let text = copied(text.as_bytes(), 1);
         assert_eq!(port::matches("T[a-z]*", count.0, text, Question::Verdict, 1), 1, "the count of the pattern");
-        print_alone(count.1, &|question, rounds| port::matches("T[a-z]*", count.0, text, question, rounds));
+        print_alone(count.1, 1, &|question, rounds| port::matches("T[a-z]*", count.0, text, question, rounds));
     }
 }
 

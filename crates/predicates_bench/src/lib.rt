@@ -6,4 +6,5 @@ mod asked;
 mod checks;
 mod comparisons;
 mod members;
+mod parts;
 mod texts;

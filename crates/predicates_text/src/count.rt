@@ -4,12 +4,11 @@
 //! assert_eq!(rt; count("aa", "aaaa"), 2);
 //! ```
 ghost use Rattle.std.specs.Str.{chars};
-ghost use Rattle.std.specs.Prelude.{◌≡◌, ◌≢◌, ◌+◌, [], length, filter, nat_eq, IfSome, MatchOption};
+ghost use Rattle.std.specs.Prelude.{◌≡◌, ◌≢◌, ◌+◌, [], length, filter, nat_eq, MatchOption};
 ghost use Rattle.predicates_text.specs.Count.{IsCountOf, IsPastFirst, IsNowhere, count_of};
 
-use crate::search::LONG;
+use crate::search::{LONG, find};
 use memchr::arch::all::is_prefix;
-use memchr::memmem::Finder;
 
 /// The greatest number of occurrences of the pattern in the text of which no two overlap.
 ///
@@ -29,15 +28,9 @@ pub fn count(text: &str, pattern: &str) -> usize
             return count_byte(*byte, text);
         }
     }
-    // In a long text the search is prepared once, for all occurrences.
-    let finder = if text.len() < LONG {
-        None
-    } else {
-        Some(Finder::new(pattern.as_bytes()))
-    };
     let mut count = 0;
     let mut rest = text;
-    while let Some(after) = after_first_match(rest, pattern, &finder) {
+    while let Some(after) = after_first_match(rest, pattern) {
         count += 1;
         rest = after;
     }
@@ -57,14 +50,9 @@ fn count_byte(byte: u8, text: &str) -> usize
     count
 }
 
-// What follows the first occurrence of the pattern, if there is one. The finder is the pattern's.
-fn after_first_match<'a>(
-    text: &'a str,
-    pattern: &str,
-    finder: &Option<Finder<'_>>,
-) -> Option<&'a str>
-    requires some { pattern.now ≢ [] }
-    requires prepared { IfSome finder.now (λ f. f ≡ pattern.now) }
+// What follows the first occurrence of the pattern, if there is one.
+fn after_first_match<'a>(text: &'a str, pattern: &str) -> Option<&'a str>
+    requires { pattern.now ≢ [] }
     ensures { MatchOption result (IsNowhere pattern.now text.now)
         (λ rest. IsPastFirst pattern.now text.now rest.now) }
 {
@@ -73,10 +61,10 @@ fn after_first_match<'a>(
     if is_prefix(bytes, wanted) {
         return Some(&text[pattern.len()..]);
     }
-    let Some(finder) = finder else {
+    if text.len() < LONG {
         let (_, rest) = text.split_once(pattern)?;
         return Some(rest);
-    };
-    let place = finder.find(bytes)?;
+    }
+    let place = find(bytes, wanted)?;
     Some(&text[place + pattern.len()..])
 }

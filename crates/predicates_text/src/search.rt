@@ -53,7 +53,7 @@ pub fn contains(text: &str, pattern: &str) -> bool
 
 // The first occurrence of the pattern. A search for the two of its bytes that are rarest in texts is
 // made in half the time of one for the whole, and mostly decides.
-fn find(text: &[u8], pattern: &[u8]) -> Option<usize>
+pub(crate) fn find(text: &[u8], pattern: &[u8]) -> Option<usize>
     ensures { FindsNeedle text.now pattern.now 0 result }
 {
     if let Some(pair) = packedpair::Finder::new(pattern) {
