@@ -69,7 +69,7 @@ fn print_xors(only: &str, xors: usize, on_the_right: bool) {
     let side = if on_the_right { "right" } else { "left" };
     let name = format!("chain of {xors} `xor` on the {side}, enum, the port alone");
     if name.contains(only) {
-        print_alone(&name, &|question, rounds| port::xors(xors, on_the_right, copied("ab"), question, rounds));
+        print_alone(&name, COPIES, &|question, rounds| port::xors(xors, on_the_right, copied("ab"), question, rounds));
     }
 }
 

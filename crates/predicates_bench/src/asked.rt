@@ -97,7 +97,7 @@ fn line_bytes<P: Predicate<Item>, Item>(
         for (item, &expected) in items.iter().zip(expected) {
             text.clear();
             if let Some(case) = predicate.find_case(alloc, expected, item)? {
-                render_onto(alloc, &mut text, &case)?;
+                render_onto(&mut text, &case)?;
             }
             written = written.wrapping_add(text.len());
         }

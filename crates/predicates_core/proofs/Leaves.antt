@@ -1,7 +1,7 @@
 -- Leaves, and the cases that explain them.
 use Rattle.std.proofs.Common.{◌≡◌, ℕ, Bool, List, [], ◌∷◌, Some, refl, sym, ap, ◌∙◌, subst}
-use Rattle.predicates_core.specs.Label.{Label, Entry, plain, showing, showing_both, with_last, Fits, FitsEntry}
-use Rattle.predicates_core.specs.Formula.{Formula, Leaf, truth, text_of, HasTruth, with_product}
+use Rattle.predicates_core.specs.Label.{Label, Entry, plain, showing, showing_both, with_last, Fits}
+use Rattle.predicates_core.specs.Formula.{Formula, Leaf, truth, HasTruth, with_product}
 use Rattle.predicates_core.specs.Tree.{Tree}
 use Rattle.predicates_core.specs.Describe.{CaseNode}
 use Rattle.predicates_core.specs.Shows.{Shows, Explains, IsCaseOf, IsNode}

@@ -1,7 +1,7 @@
 -- Lemmas on lists of entries in preorder.
 use Rattle.std.proofs.Common.{◌≡◌, ◌+◌, ◌-◌, ◌≤◌, ℕ, zero, suc, List, [], ◌∷◌, ◌++◌, refl, ap, sym, ◌∙◌, arith, length, take, drop, length-take, length-drop, length-append, append_assoc}
 use Rattle.std.proofs.lemmas.List.{take-append-le, drop-append-le, take_all, drop_all}
-use Rattle.predicates_core.specs.Tree.{Forest, Tree, empty, branch, named_trees, add_last}
+use Rattle.predicates_core.specs.Tree.{Forest, Tree, empty, branch, named_trees, add_last, node_count}
 use Rattle.predicates_core.specs.Describe.{CaseNode}
 use Rattle.predicates_core.specs.CaseFields.{node_of, trees_of, trees, AreSized, IsPreorder}
 use Rattle.predicates_core.specs.declared.reflection.case.Entry.{Entry}
@@ -178,6 +178,17 @@ length-trees_of-le : (k : ℕ) (es : List Entry) → length (named_trees (trees_
 length-trees_of-le zero es = omega arith
 length-trees_of-le (suc k) [] = omega arith
 length-trees_of-le (suc k) (e ∷ es) = omega (arith, length-trees_of-le k (drop (e.size - 1) es), length-drop (e.size - 1) es)
+
+count-trees_of-le : (k : ℕ) (es : List Entry) → node_count (trees_of k es) ≤ length es
+count-trees_of-le zero es = omega arith
+count-trees_of-le (suc k) [] = omega arith
+count-trees_of-le (suc k) (e ∷ es) =
+    let n = e.size - 1 in
+    omega (arith, count-trees_of-le k (take n es), count-trees_of-le k (drop n es), length-take n es, length-drop n es)
+
+-- there are no more nodes than entries
+pub count-trees-le : (es : List Entry) → node_count (trees es) ≤ length es
+count-trees-le es = count-trees_of-le (length es) es
 
 -- there are no more trees than entries
 pub length-trees-le : (es : List Entry) → length (named_trees (trees es)) ≤ length es

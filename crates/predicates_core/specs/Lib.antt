@@ -16,6 +16,5 @@ pub mod CaseFields
 pub mod ChildDepth
 pub mod Lines
 pub mod CaseViews
-pub mod IndentedLines
 pub mod Ownership
 pub mod Custom

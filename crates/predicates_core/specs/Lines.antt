@@ -2,7 +2,7 @@
 use Rattle.std.specs.Prelude.{ℕ, ◌+◌, ◌*◌, List, [], ◌++◌, unwrap_or, if◌then◌else◌, codes}
 use Rattle.std.specs.Prelude.{replicate, flat_map}
 use Rattle.predicates_core.specs.Tree.{Forest, Tree, empty, branch}
-use Rattle.predicates_core.specs.Describe.{CaseNode, NamedBytes}
+use Rattle.predicates_core.specs.Describe.{CaseNode, NamedBytes, NamedCase}
 
 -- two spaces for each depth
 abbrev pub indented : ℕ → List ℕ
@@ -29,6 +29,16 @@ abbrev pub forest_lines : ℕ → Forest CaseNode → List ℕ
 forest_lines depth empty = []
 forest_lines depth (branch name node below next) = node_lines depth (name ++ codes ": ") node ++
     forest_lines (depth + 1) below ++ forest_lines depth next
+
+-- what follows the name of a tree that stands at a depth: the end of its root's line, the lines of
+-- the root's products, and those of the trees under it
+abbrev pub tree_lines : ℕ → Tree CaseNode → List ℕ
+tree_lines depth t = (verdict t.root ++ flat_map (product_line (indented (depth + 1)))
+    t.root.products) ++ forest_lines (depth + 1) t.children
+
+-- the lines of a child that stands at a depth
+abbrev pub child_lines : ℕ → NamedCase → List ℕ
+child_lines depth c = (indented depth ++ c.0 ++ codes ": ") ++ tree_lines depth c.1
 
 -- the lines of a case
 abbrev pub lines : Tree CaseNode → List ℕ

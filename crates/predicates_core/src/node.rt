@@ -28,6 +28,7 @@ pub fn printed<T: fmt::Display>(alloc: Global, value: &T) -> Result<String, Allo
 }
 
 /// A node alone, without products. It takes no memory.
+#[inline(always)] // a call would copy the case
 pub fn leaf_node(alloc: Global, text: String, outcome: bool) -> Case
     ensures { IsNode (Some (string_bytes text)) outcome [] result }
 {
@@ -77,17 +78,16 @@ pub fn binary_node_of(
     ensures { IfOk result
         (IsNode (Some (string_bytes text)) outcome (found_parts left right)) }
 {
-    let mut case = leaf_node(alloc, text, outcome);
-    if let Some(left) = left {
-        case = case.add_child("left", left)?;
+    match (left, right) {
+        (Some(left), Some(right)) => binary_node(alloc, text, outcome, left, right),
+        (Some(left), None) => unary_node(alloc, text, outcome, "left", left),
+        (None, Some(right)) => unary_node(alloc, text, outcome, "right", right),
+        (None, None) => Ok(leaf_node(alloc, text, outcome)),
     }
-    if let Some(right) = right {
-        case = case.add_child("right", right)?;
-    }
-    Ok(case)
 }
 
 /// The case with a value more under the name, the last of its root's products; the value is kept.
+#[inline(always)] // a call would copy the case
 pub fn showing(case: Case, name: &'static str, value: String) -> Result<Case, AllocError>
     ensures { IfOk result (IsShowing name.entry.now (Some (string_bytes value)) case) }
 {
@@ -95,6 +95,7 @@ pub fn showing(case: Case, name: &'static str, value: String) -> Result<Case, Al
 }
 
 /// The case with a text more under the name, the last of its root's products; the text is copied.
+#[inline(always)] // a call would copy the case
 pub fn showing_text(
     alloc: Global,
     case: Case,

@@ -22,12 +22,12 @@ pub(crate) fn complete_block<P: Predicate<Item>, Item>(
     // A check that joins others is evaluated by `find_case`, so a case for `true` is asked first.
     if let Some(case) = predicate.find_case(alloc, true, item)? {
         text.push_str(": true\n")?;
-        return render_onto(alloc, text, &case);
+        return render_onto(text, &case);
     }
     text.push_str(": false\n")?;
     // There is a case, unless the predicate has no formula on the item.
     if let Some(case) = predicate.find_case(alloc, false, item)? {
-        render_onto(alloc, text, &case)?;
+        render_onto(text, &case)?;
     }
     Ok(())
 }

@@ -180,12 +180,9 @@ impl Predicate<String> for TextCheck {
                 inner.eval(alloc, lines_even_view(alloc, item, &mut copy)?)
             }
             TextCheck::Not(inner) => Ok(!inner.eval(alloc, item)?),
-            TextCheck::And(left, right) => {
-                Ok(left.eval(alloc, item)? && right.eval(alloc, item)?)
-            }
-            TextCheck::Or(left, right) => {
-                Ok(left.eval(alloc, item)? || right.eval(alloc, item)?)
-            }
+            TextCheck::And(left, _) if !left.eval(alloc, item)? => Ok(false),
+            TextCheck::Or(left, _) if left.eval(alloc, item)? => Ok(true),
+            TextCheck::And(_, right) | TextCheck::Or(_, right) => right.eval(alloc, item),
             TextCheck::Xor(left, right) => {
                 Ok(left.eval(alloc, item)? != right.eval(alloc, item)?)
             }

@@ -43,7 +43,7 @@ pub fn render_verdict<P: Predicate<Item>, Item>(
         out.push_str("a case for the opposite\n")?;
     }
     match predicate.find_case(alloc, verdict, item)? {
-        Some(case) if case.root().result() == verdict => render_onto(alloc, out, &case),
+        Some(case) if case.root().result() == verdict => render_onto(out, &case),
         _ => out.push_str("no case for the verdict\n"),
     }
 }

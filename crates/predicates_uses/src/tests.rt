@@ -30,7 +30,7 @@ fn append_case<P: Predicate<Item>, Item>(
         out.push_str("both\n")?;
     }
     match predicate.find_case(alloc, verdict, item)? {
-        Some(case) if case.root().result() == verdict => render_onto(alloc, out, &case),
+        Some(case) if case.root().result() == verdict => render_onto(out, &case),
         _ => out.push_str("none\n"),
     }
 }

@@ -7,7 +7,7 @@
 //! ```
 ghost use Rattle.std.specs.Prelude.{◌≡◌, ◌<◌, ◌^◌, length, IfOk, option_copied, string_bytes};
 ghost use Rattle.std.specs.Prelude.{option_map};
-ghost use Rattle.predicates_core.specs.Tree.{named_trees};
+ghost use Rattle.predicates_core.specs.Tree.{named_trees, node_count};
 ghost use Rattle.predicates_core.specs.Describe.{leaf, with_product, with_child};
 
 use crate::reflection::Product;
@@ -75,6 +75,7 @@ impl Case {
 
     /// The case with a product more, which is the last of its root. Where memory is refused, the
     /// case and the product are dropped.
+    #[inline(always)] // a call would copy the case
     pub fn add_product(mut self, product: Product) -> Result<Case, AllocError>
         ensures { IfOk result (λ c. c ≡ with_product self product) }
     {
@@ -114,7 +115,8 @@ impl Case {
 
     /// A view of the root. Views copy nothing and take no memory.
     pub fn root(&self) -> CaseView<'_>
-        ensures { result ≡ self.now }
+        ensures value { result ≡ self.now }
+        ensures countable { node_count self.now.children < 2 ^ 64 }
     {
         CaseView {
             node: &self.root,

@@ -1,7 +1,7 @@
 //! The text of a case.
-ghost use Rattle.std.specs.Prelude.{◌≡◌, ◌++◌, OnOk, IfOk, string_bytes};
-ghost use Rattle.predicates_core.specs.Lines.{verdict, product_line, lines};
-ghost use Rattle.predicates_core.specs.IndentedLines.{deeper, tree_lines};
+ghost use Rattle.std.specs.Prelude.{◌≡◌, ◌+◌, ◌++◌, ◌<◌, ◌^◌, OnOk, IfOk, codes, string_bytes};
+ghost use Rattle.predicates_core.specs.Tree.{node_count};
+ghost use Rattle.predicates_core.specs.Lines.{indented, verdict, product_line, tree_lines, lines};
 
 use crate::reflection::{Case, CaseChild, CaseView, Product};
 use std::alloc::{AllocError, Global};
@@ -19,13 +19,23 @@ fn write_verdict(out: &mut String, case: &CaseView<'_>) -> Result<(), AllocError
     })
 }
 
-// Writes the line of a product, which stands two spaces deeper than its node.
-fn write_product(out: &mut String, indent: &str, product: &Product) -> Result<(), AllocError>
+// Writes two spaces for each depth.
+fn write_indent(out: &mut String, depth: usize) -> Result<(), AllocError>
+    ensures { OnOk result (string_bytes out.new ≡ string_bytes out.old ++ indented depth) }
+{
+    for _ in 0..depth {
+        out.push_str("  ")?;
+    }
+    Ok(())
+}
+
+// Writes the line of a product of a node at the depth, two spaces deeper.
+fn write_product(out: &mut String, depth: usize, product: &Product) -> Result<(), AllocError>
     ensures { OnOk result
-        (string_bytes out.new ≡ string_bytes out.old ++ product_line (deeper indent.now)
+        (string_bytes out.new ≡ string_bytes out.old ++ product_line (indented depth ++ codes "  ")
         product.now) }
 {
-    out.push_str(indent)?;
+    write_indent(out, depth)?;
     out.push_str("  - ")?;
     out.push_str(product.name())?;
     out.push_str(": ")?;
@@ -33,37 +43,31 @@ fn write_product(out: &mut String, indent: &str, product: &Product) -> Result<()
     out.push_str("\n")
 }
 
-// Writes a case whose line stands at the indent, from its text on. The indent comes back as it was.
-fn write_case(out: &mut String, indent: &mut String, case: &CaseView<'_>) -> Result<(), AllocError>
-    ensures lines { OnOk result
-        (string_bytes out.new ≡ string_bytes out.old ++ tree_lines (string_bytes indent.old)
-        case.now) }
-    ensures indent { OnOk result (string_bytes indent.new ≡ string_bytes indent.old) }
+// Writes a case whose line stands at the depth, from its text on.
+fn write_case(out: &mut String, depth: usize, case: &CaseView<'_>) -> Result<(), AllocError>
+    requires { depth + node_count case.now.children < 2 ^ 64 }
+    ensures { OnOk result
+        (string_bytes out.new ≡ string_bytes out.old ++ tree_lines depth case.now) }
 {
     write_verdict(out, case)?;
     for product in case.products() {
-        write_product(out, indent.as_str(), product)?;
+        write_product(out, depth, product)?;
     }
     for CaseChild { name, case } in case.children() {
-        let above = indent.len();
-        indent.push_str("  ")?;
-        out.push_str(indent.as_str())?;
+        write_indent(out, depth + 1)?;
         out.push_str(name)?;
         out.push_str(": ")?;
-        write_case(out, indent, &case)?;
-        indent.truncate(above);
+        write_case(out, depth + 1, &case)?;
     }
     Ok(())
 }
 
-/// Writes the lines of a case after what the text holds. It is refused where memory is, and some of
-/// the lines may then stand there.
-pub fn render_onto(alloc: Global, out: &mut String, case: &Case) -> Result<(), AllocError>
+/// Writes the lines of a case after what the text holds. It takes memory where the text has no room
+/// for them, and is refused where that is; some of the lines may then stand there.
+pub fn render_onto(out: &mut String, case: &Case) -> Result<(), AllocError>
     ensures { OnOk result (string_bytes out.new ≡ string_bytes out.old ++ lines case.now) }
 {
-    let mut indent = String::new(alloc);
-    write_case(out, &mut indent, &case.root())?;
-    Ok(())
+    write_case(out, 0, &case.root())
 }
 
 // About as many bytes as the lines of the node itself take.
@@ -87,6 +91,6 @@ pub fn render(alloc: Global, case: &Case) -> Result<String, AllocError>
     ensures { IfOk result (λ text. string_bytes text ≡ lines case.now) }
 {
     let mut out = String::with_capacity(alloc, room(&case.root()))?;
-    render_onto(alloc, &mut out, case)?;
+    render_onto(&mut out, case)?;
     Ok(out)
 }

@@ -100,7 +100,7 @@ impl Call for Rendering {
     fn call(&self, alloc: Global, operand: (String, Case)) -> Result<Answer, AllocError> {
         let (mut lines, case) = operand;
         if self.appends {
-            render_onto(alloc, &mut lines, &case)?;
+            render_onto(&mut lines, &case)?;
             return Ok(Answer::Text(lines));
         }
         Ok(Answer::Text(render(alloc, &case)?))

@@ -123,7 +123,7 @@ fn shown_twice(alloc: Global, words: &String) -> Result<Case, AllocError> {
 fn lines_after(alloc: Global, words: &String) -> Result<String, AllocError> {
     let case = shown_twice(alloc, words)?;
     let mut lines = words.clone()?;
-    render_onto(alloc, &mut lines, &case)?;
+    render_onto(&mut lines, &case)?;
     Ok(lines)
 }
 

@@ -7,16 +7,26 @@ use Rattle.predicates_core.proofs.Forests.{node_count-child}
 use Rattle.predicates_core.proofs.Lines.{lines_of_all, tree_lines-written}
 use Rattle.predicates_core.proofs.reflection.text.+write_case.Goals as goal
 
+pub overflow_add-depth : goal.overflow_add-depth
+overflow_add-depth t c =
+    let ys : List NamedCase = map named_case c.loop-name.yielded in
+    omega (
+      arith,
+      c.requires,
+      node_count-child c.args.case.now.children ys (c.in-Some.field-0.name.now, c.in-Some.field-0.case) c.next.new.self
+          (c.loop-name.invariant.2 ∙ ap (λ r. ys ++ r) c.in-Some.ensures.steps),
+    )
+
 pub write_case-requires : goal.write_case-requires
 write_case-requires t c =
     let ys : List NamedCase = map named_case c.loop-name.yielded in
     let fewer : node_count c.in-Some.field-0.case.children < node_count c.args.case.now.children =
     node_count-child c.args.case.now.children ys (c.in-Some.field-0.name.now, c.in-Some.field-0.case) c.next.new.self
     (c.loop-name.invariant.2 ∙ ap (λ r. ys ++ r) c.in-Some.ensures.steps) in
-    search rules
+    (search rules, omega (arith, fewer, c.requires))
 
-pub returns-clause-lines : goal.returns-clause-lines
-returns-clause-lines t c =
+pub returns : goal.returns
+returns t c =
     let ys : List NamedCase = map named_case c.loop-name.yielded in
     let items = c.products-product-items.result.now in
     let all : take c.loop-product.product-index items ≡ items = take_all _ items (omega arith) in
