@@ -4,11 +4,13 @@
 //! assert_eq!(rt; count("aa", "aaaa"), 2);
 //! ```
 ghost use Rattle.std.specs.Str.{chars};
-ghost use Rattle.std.specs.Prelude.{◌≡◌, ◌≢◌, ◌+◌, [], length, filter, nat_eq, MatchOption};
+ghost use Rattle.std.specs.Prelude.{◌≡◌, ◌≢◌, ◌+◌, [], length, filter, nat_eq, IfSome, MatchOption};
+ghost use Rattle.memchr.specs.Pairs.{IsPairFinderOf};
 ghost use Rattle.predicates_text.specs.Count.{IsCountOf, IsPastFirst, IsNowhere, count_of};
 
 use crate::search::{LONG, find};
 use memchr::arch::all::is_prefix;
+use memchr::arch::all::packedpair::Finder;
 
 /// The greatest number of occurrences of the pattern in the text of which no two overlap.
 ///
@@ -28,9 +30,15 @@ pub fn count(text: &str, pattern: &str) -> usize
             return count_byte(*byte, text);
         }
     }
+    // In a long text the search is prepared once, for all occurrences.
+    let pair = if text.len() < LONG {
+        None
+    } else {
+        Finder::new(pattern.as_bytes())
+    };
     let mut count = 0;
     let mut rest = text;
-    while let Some(after) = after_first_match(rest, pattern) {
+    while let Some(after) = after_first_match(rest, pattern, pair) {
         count += 1;
         rest = after;
     }
@@ -51,8 +59,9 @@ fn count_byte(byte: u8, text: &str) -> usize
 }
 
 // What follows the first occurrence of the pattern, if there is one.
-fn after_first_match<'a>(text: &'a str, pattern: &str) -> Option<&'a str>
-    requires { pattern.now ≢ [] }
+fn after_first_match<'a>(text: &'a str, pattern: &str, pair: Option<Finder>) -> Option<&'a str>
+    requires some { pattern.now ≢ [] }
+    requires prepared { IfSome pair (λ p. IsPairFinderOf p pattern.now) }
     ensures { MatchOption result (IsNowhere pattern.now text.now)
         (λ rest. IsPastFirst pattern.now text.now rest.now) }
 {
@@ -61,10 +70,10 @@ fn after_first_match<'a>(text: &'a str, pattern: &str) -> Option<&'a str>
     if is_prefix(bytes, wanted) {
         return Some(&text[pattern.len()..]);
     }
-    if text.len() < LONG {
+    let Some(pair) = pair else {
         let (_, rest) = text.split_once(pattern)?;
         return Some(rest);
-    }
-    let place = find(bytes, wanted)?;
+    };
+    let place = find(bytes, wanted, pair)?;
     Some(&text[place + pattern.len()..])
 }
