@@ -1,13 +1,14 @@
 -- Two searches answer whether one text stands in another: std's for a text, and memchr's for bytes.
-use Rattle.std.proofs.Common.{◌≡◌, ◌↔◌, List, ◌++◌, ℕ, ◌+◌, ◌≤◌, ◌<◌, Bool, IsTrue, Option, None, Some, length, get_or, take, drop, refl, sym, ◌∙◌, ap, subst, ⊎_elim, arith, length-append}
+use Rattle.std.proofs.Common.{◌≡◌, ◌↔◌, List, ◌++◌, ℕ, ◌+◌, ◌-◌, ◌≤◌, ◌<◌, Bool, IsTrue, Option, None, Some, true, length, get_or, take, drop, refl, sym, ◌∙◌, ap, subst, ⊎_elim, arith, length-append}
 use Rattle.std.specs.Bool.{MatchBool}
 use Rattle.std.specs.Option.{is_some}
 use Rattle.std.specs.Str.{chars, IsUtf8, IsCharBoundary}
 use Rattle.std.specs.Str.Pattern.{HasMatch, HasTextAt, FindsText, LacksTextAt}
 use Rattle.std.proofs.lemmas.Bool.{cases_lt}
 use Rattle.std.proofs.lemmas.Str.{IsUtf8-drop, IsCharBoundary-start, IsCharBoundary-from_take, IsCharBoundary-from_rest}
-use Rattle.std.proofs.lemmas.List.{length-drop, length-take-le, get_or-take, get_or-drop, get_or_append_left, drop-drop, take-append-drop, ext_get_or}
-use Rattle.memchr.specs.Find.{OccursAt, FindsNeedle}
+use Rattle.std.proofs.lemmas.List.{take_all, length-drop, length-take-le, get_or-take, get_or-drop, get_or_append_left, drop-drop, take-append-drop, ext_get_or}
+use Rattle.std.proofs.lemmas.Bool.Decides.{nat_tests}
+use Rattle.memchr.specs.Find.{OccursAt, FindsNeedle, IsFirstByte, is_byte}
 use Rattle.predicates_text.specs.Places.{IsPartOf, is_part}
 use Rattle.predicates_text.proofs.Found.{contains_chars, contains_bytes}
 use Rattle.predicates_text.specs.PlaceLaws.{part_decides, same_test}
@@ -58,6 +59,45 @@ stands p t k up ut here at =
       ends = refl;
       after = IsCharBoundary-from_rest t k (length p) (omega (arith, at.fits)) end;
     }
+
+-- where the pattern stands its byte at s stands so much later
+byte_stands : (p t : List ℕ) (s k : ℕ) → s < length p → OccursAt t p k → (k < length (drop s t)) × (is_byte (get_or p s 0) (get_or (drop s t) k 0) ≡ true)
+byte_stands p t s k inside at =
+    let later : s + k ≡ k + s = omega arith in
+    let same : get_or (drop s t) k 0 ≡ get_or p s 0 = get_or-drop s t k 0 ∙ ap (λ n. get_or t n 0) later ∙ at.reads s inside in
+    (omega (arith, length-drop s t, at.fits, inside), grind (arith, nat_tests, same))
+
+-- the slice of what is left from a place on
+abbrev left_from : ℕ → List ℕ → List ℕ
+left_from s t = take (length t - s) (drop s t)
+
+left_is : (s : ℕ) (t : List ℕ) → left_from s t ≡ drop s t
+left_is s t = take_all (length t - s) (drop s t) (omega (arith, length-drop s t))
+
+first_left : (p t : List ℕ) (s : ℕ) (r : Option ℕ) → IsFirstByte (is_byte (get_or p s 0)) (left_from s t) r → IsFirstByte (is_byte (get_or p s 0)) (drop s t) r
+first_left p t s r = subst (λ l. IsFirstByte (is_byte (get_or p s 0)) l r) (left_is s t)
+
+-- without that byte it stands nowhere
+pub lacks_byte : (p t : List ℕ) (s : ℕ) → s < length p → IsFirstByte (is_byte (get_or p s 0)) (left_from s t) None → FindsNeedle t p 0 None
+lacks_byte p t s inside none = λ k low high at.
+    let stands = byte_stands p t s k inside at in first_left p t s None none k low stands.0 stands.1
+
+-- where that byte is seen first the pattern has its first place, if it stands there
+pub first_by_byte : (p t : List ℕ) (s k : ℕ) → s < length p → IsFirstByte (is_byte (get_or p s 0)) (left_from s t) (Some k) → OccursAt (left_from k t) p 0 → FindsNeedle t p 0 (Some k)
+first_by_byte p t s k inside seen begun_here =
+    let first = first_left p t s (Some k) seen in
+    let at : OccursAt (drop k t) p 0 = subst (λ l. OccursAt l p 0) (left_is k t) begun_here in
+    let within : k ≤ length t = omega (arith, first.0.high, length-drop s t) in (
+      record {
+        low = omega arith;
+        high = omega (arith, within);
+        before = λ i low lt earlier. first.0.before i low lt (byte_stands p t s i inside earlier).1;
+      },
+      record {
+        fits = omega (arith, within, at.fits, length-drop k t);
+        reads = λ j lt. let same : 0 + j ≡ j = omega arith in sym (get_or-drop k t j 0) ∙ ap (λ n. get_or (drop k t) n 0) (sym same) ∙ at.reads j lt;
+      },
+    )
 
 -- where a search for the bytes of a text finds them, a search for the text does
 pub found_text : (p t : List ℕ) (k : ℕ) → IsUtf8 p → IsUtf8 t → FindsNeedle t p 0 (Some k) → FindsText p t (Some (k, k + length p))

@@ -5,12 +5,14 @@
 //! ```
 ghost use Rattle.std.specs.Str.{chars};
 ghost use Rattle.std.specs.Prelude.{◌≡◌, ◌≢◌, ◌+◌, [], length, filter, nat_eq, IfSome, MatchOption};
-ghost use Rattle.memchr.specs.Pairs.{IsPairFinderOf};
+ghost use Rattle.memchr.specs.Find.{FindsNeedle};
 ghost use Rattle.predicates_text.specs.Count.{IsCountOf, IsPastFirst, IsNowhere, count_of};
 
-use crate::search::{LONG, find};
+use crate::search::LONG;
 use memchr::arch::all::is_prefix;
-use memchr::arch::all::packedpair::Finder;
+use memchr::arch::all::packedpair::Pair;
+use memchr::memchr;
+use memchr::memmem::Finder;
 
 /// The greatest number of occurrences of the pattern in the text of which no two overlap.
 ///
@@ -30,15 +32,15 @@ pub fn count(text: &str, pattern: &str) -> usize
             return count_byte(*byte, text);
         }
     }
-    // In a long text the search is prepared once, for all occurrences.
-    let pair = if text.len() < LONG {
+    // In a long text the searcher is made once, for all occurrences.
+    let search = if text.len() < LONG {
         None
     } else {
-        Finder::new(pattern.as_bytes())
+        Some(Searcher::new(pattern.as_bytes()))
     };
     let mut count = 0;
     let mut rest = text;
-    while let Some(after) = after_first_match(rest, pattern, pair) {
+    while let Some(after) = after_first_match(rest, pattern, &search) {
         count += 1;
         rest = after;
     }
@@ -58,10 +60,14 @@ fn count_byte(byte: u8, text: &str) -> usize
     count
 }
 
-// What follows the first occurrence of the pattern, if there is one.
-fn after_first_match<'a>(text: &'a str, pattern: &str, pair: Option<Finder>) -> Option<&'a str>
+// What follows the first occurrence of the pattern, if there is one. The searcher is the pattern's.
+fn after_first_match<'a>(
+    text: &'a str,
+    pattern: &str,
+    search: &Option<Searcher<'_>>,
+) -> Option<&'a str>
     requires some { pattern.now ≢ [] }
-    requires prepared { IfSome pair (λ p. IsPairFinderOf p pattern.now) }
+    requires prepared { IfSome search.now (λ s. s.finder ≡ pattern.now) }
     ensures { MatchOption result (IsNowhere pattern.now text.now)
         (λ rest. IsPastFirst pattern.now text.now rest.now) }
 {
@@ -70,10 +76,46 @@ fn after_first_match<'a>(text: &'a str, pattern: &str, pair: Option<Finder>) -> 
     if is_prefix(bytes, wanted) {
         return Some(&text[pattern.len()..]);
     }
-    let Some(pair) = pair else {
+    let Some(search) = search else {
         let (_, rest) = text.split_once(pattern)?;
         return Some(rest);
     };
-    let place = find(bytes, wanted, pair)?;
+    let place = search.find(bytes, wanted)?;
     Some(&text[place + pattern.len()..])
+}
+
+// A search for one pattern, with the position in it of a byte that is rare in texts.
+#[derive(Drop)]
+struct Searcher<'p> {
+    finder: Finder<'p>,
+    rare_byte: usize,
+}
+
+impl<'p> Searcher<'p> {
+    fn new(pattern: &'p [u8]) -> Searcher<'p>
+        ensures { result.finder ≡ pattern.now }
+    {
+        let rare_byte = match Pair::new(pattern) {
+            Some(pair) => pair.index1() as usize,
+            None => 0,
+        };
+        Searcher {
+            finder: Finder::new(pattern),
+            rare_byte,
+        }
+    }
+
+    // The first occurrence of the pattern, mostly where that byte first occurs.
+    fn find(&self, text: &[u8], pattern: &[u8]) -> Option<usize>
+        requires { self.now.finder ≡ pattern.now }
+        ensures { FindsNeedle text.now pattern.now 0 result }
+    {
+        if self.rare_byte < pattern.len() && pattern.len() <= text.len() {
+            let place = memchr(pattern[self.rare_byte], &text[self.rare_byte..])?;
+            if is_prefix(&text[place..], pattern) {
+                return Some(place);
+            }
+        }
+        self.finder.find(text)
+    }
 }

@@ -6,12 +6,10 @@
 ghost use Rattle.std.specs.Prelude.{◌≡◌, ◌↔◌, [], IsTrue};
 ghost use Rattle.std.specs.Str.{chars};
 ghost use Rattle.memchr.specs.Find.{FindsNeedle};
-ghost use Rattle.memchr.specs.Pairs.{IsPairFinderOf};
 ghost use Rattle.predicates_text.specs.Places.{IsFrontOf, IsBackOf, IsPartOf, is_empty, is_front};
 ghost use Rattle.predicates_text.specs.Places.{is_back, is_part};
 
-use memchr::arch::all::is_prefix;
-use memchr::arch::all::packedpair::Finder;
+use memchr::arch::all::{is_prefix, packedpair};
 use memchr::memmem;
 
 // In texts of at least this many bytes, a search that is prepared first takes less time.
@@ -50,22 +48,19 @@ pub fn contains(text: &str, pattern: &str) -> bool
     if text.len() < LONG {
         return text.contains(pattern);
     }
-    let (bytes, wanted) = (text.as_bytes(), pattern.as_bytes());
-    if let Some(pair) = Finder::new(wanted) {
-        return find(bytes, wanted, pair).is_some();
-    }
-    memmem::find(bytes, wanted).is_some()
+    find(text.as_bytes(), pattern.as_bytes()).is_some()
 }
 
-// The first occurrence of the pattern. A search for the pair of its bytes that are rarest in texts is
+// The first occurrence of the pattern. A search for the two of its bytes that are rarest in texts is
 // made in half the time of one for the whole, and mostly decides.
-pub(crate) fn find(text: &[u8], pattern: &[u8], pair: Finder) -> Option<usize>
-    requires { IsPairFinderOf pair pattern.now }
+fn find(text: &[u8], pattern: &[u8]) -> Option<usize>
     ensures { FindsNeedle text.now pattern.now 0 result }
 {
-    let place = pair.find_prefilter(text)?;
-    if is_prefix(&text[place..], pattern) {
-        return Some(place);
+    if let Some(pair) = packedpair::Finder::new(pattern) {
+        let place = pair.find_prefilter(text)?;
+        if is_prefix(&text[place..], pattern) {
+            return Some(place);
+        }
     }
     memmem::find(text, pattern)
 }

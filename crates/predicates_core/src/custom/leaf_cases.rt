@@ -25,7 +25,21 @@ pub fn bare_case<P: fmt::Display>(
     if holds != expected {
         return Ok(None);
     }
-    Ok(Some(leaf_node(alloc, printed(alloc, leaf)?, expected)))
+    made_bare_case(alloc, leaf, holds)
+}
+
+// The case that there is, in a function of its own, so that an answer without one needs no frame.
+#[inline(never)]
+#[tactic(auto, using(crate::proofs::Leaves::leaves))]
+fn made_bare_case<P: fmt::Display>(
+    alloc: Global,
+    leaf: &P,
+    holds: bool,
+) -> Result<Option<Case>, AllocError>
+    ensures { IfOk result
+        (IsAnswer (IsExactly (Leaf (plain (P.output leaf.now)) holds)) holds) }
+{
+    Ok(Some(leaf_node(alloc, printed(alloc, leaf)?, holds)))
 }
 
 /// The same of a leaf that shows the item's debug form as its product `var`.
@@ -44,6 +58,22 @@ pub fn showing_case<P: fmt::Display, Item: fmt::Debug>(
     if holds != expected {
         return Ok(None);
     }
-    let case = leaf_node(alloc, printed(alloc, leaf)?, expected);
+    made_showing_case(alloc, leaf, holds, item)
+}
+
+// As `made_bare_case`.
+#[inline(never)]
+#[tactic(auto, using(crate::proofs::Leaves::leaves))]
+fn made_showing_case<P: fmt::Display, Item: fmt::Debug>(
+    alloc: Global,
+    leaf: &P,
+    holds: bool,
+    item: &Item,
+) -> Result<Option<Case>, AllocError>
+    ensures { IfOk result (IsAnswer (IsExactly
+        (Leaf (showing (P.output leaf.now) (codes "var") (Item.debug_output item.now)) holds))
+        holds) }
+{
+    let case = leaf_node(alloc, printed(alloc, leaf)?, holds);
     Ok(Some(showing_item(alloc, case, item)?))
 }
