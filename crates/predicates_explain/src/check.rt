@@ -162,29 +162,40 @@ impl Predicate<String> for TextCheck {
 
     ghost one_formula = { λ c v f g lawful. one_check c (string_bytes v) f g };
 
+    // A loop over the part whose answer is that of the whole, or its opposite.
     #[tactic(auto, using(predicates_core::proofs::CombinedLemmas::combined))]
     fn eval(&self, alloc: Global, item: &String) -> Result<bool, AllocError> {
-        match self {
-            TextCheck::Empty(leaf) => leaf.eval(alloc, item),
-            TextCheck::Equals(leaf) => leaf.eval(alloc, item),
-            TextCheck::Starts(leaf) => leaf.eval(alloc, item),
-            TextCheck::Ends(leaf) => leaf.eval(alloc, item),
-            TextCheck::Contains(leaf) => leaf.eval(alloc, item),
-            TextCheck::Matches(leaf) => leaf.eval(alloc, item),
-            TextCheck::Trim(inner) => {
-                let mut copy = String::new(alloc);
-                inner.eval(alloc, trimmed_view(alloc, item, &mut copy)?)
-            }
-            TextCheck::Normalize(inner) => {
-                let mut copy = String::new(alloc);
-                inner.eval(alloc, lines_even_view(alloc, item, &mut copy)?)
-            }
-            TextCheck::Not(inner) => Ok(!inner.eval(alloc, item)?),
-            TextCheck::And(left, _) if !left.eval(alloc, item)? => Ok(false),
-            TextCheck::Or(left, _) if left.eval(alloc, item)? => Ok(true),
-            TextCheck::And(_, right) | TextCheck::Or(_, right) => right.eval(alloc, item),
-            TextCheck::Xor(left, right) => {
-                Ok(left.eval(alloc, item)? != right.eval(alloc, item)?)
+        let mut check = self;
+        let mut wanted = true;
+        loop {
+            match check {
+                TextCheck::Empty(leaf) => return Ok(leaf.eval(alloc, item)? == wanted),
+                TextCheck::Equals(leaf) => return Ok(leaf.eval(alloc, item)? == wanted),
+                TextCheck::Starts(leaf) => return Ok(leaf.eval(alloc, item)? == wanted),
+                TextCheck::Ends(leaf) => return Ok(leaf.eval(alloc, item)? == wanted),
+                TextCheck::Contains(leaf) => return Ok(leaf.eval(alloc, item)? == wanted),
+                TextCheck::Matches(leaf) => return Ok(leaf.eval(alloc, item)? == wanted),
+                TextCheck::Trim(inner) => {
+                    let mut copy = String::new(alloc);
+                    return Ok(inner.eval(alloc, trimmed_view(alloc, item, &mut copy)?)? == wanted);
+                }
+                TextCheck::Normalize(inner) => {
+                    let mut copy = String::new(alloc);
+                    return Ok(
+                        inner.eval(alloc, lines_even_view(alloc, item, &mut copy)?)? == wanted,
+                    );
+                }
+                TextCheck::Not(inner) => {
+                    wanted = !wanted;
+                    check = inner;
+                }
+                TextCheck::And(left, _) if !left.eval(alloc, item)? => return Ok(!wanted),
+                TextCheck::Or(left, _) if left.eval(alloc, item)? => return Ok(wanted),
+                TextCheck::And(_, right) | TextCheck::Or(_, right) => check = right,
+                TextCheck::Xor(left, right) => {
+                    wanted = left.eval(alloc, item)? != wanted;
+                    check = right;
+                }
             }
         }
     }
