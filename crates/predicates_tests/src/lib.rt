@@ -1,4 +1,4 @@
-//! Tests of what `predicates` gives, by calls as a caller writes them.
+//! Tests of what `predicates` gives, by calls as a caller writes them, and of `predicates_uses`.
 #![tactic(auto)]
 
 #[cfg(test)]

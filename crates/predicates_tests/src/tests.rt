@@ -15,3 +15,4 @@ mod prelude;
 mod short_formulas;
 mod static_text;
 mod text_memberships;
+mod uses;

@@ -28,6 +28,3 @@ pub use sifted::{Rejection, Sifted, sift};
 pub use sifted_by::sift_by;
 pub use tested::FortyTwo;
 pub use tree::{Expectation, Failure, check_tree, expect};
-
-#[cfg(test)]
-mod tests;

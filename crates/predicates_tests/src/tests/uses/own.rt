@@ -1,13 +1,13 @@
 //! Custom predicates: a leaf, combinators and an adapter.
-use super::{append_case, explains};
-use crate::{Either, FortyTwo, IsTheAnswer, LastFirst, OfLength, is_known};
+use super::has_lines;
 use predicates::custom::{and_case, bare_case, leaf, not_case, xor_case};
 use predicates::prelude::*;
-use predicates::reflection::{Case, PredicateReflection, render};
+use predicates_testing::{describe, explains, is_described, render_verdict};
+use predicates_uses::{Either, FortyTwo, IsTheAnswer, LastFirst, OfLength, is_known};
 use std::alloc::{AllocError, Global};
 use std::test::Fail;
 
-// Writes the text, the children, and the case of the verdict on 42 and on 41.
+// Writes the description, and the case of the verdict on 42 and on 41.
 fn append_row<P: Predicate<u32>>(
     alloc: Global,
     out: &mut String,
@@ -15,25 +15,9 @@ fn append_row<P: Predicate<u32>>(
 ) -> Result<(), AllocError>
     requires { P.lawful predicate.now }
 {
-    out.push_str(predicate.to_string(alloc)?.as_str())?;
-    for child in predicate.children(alloc)? {
-        out.push_str("; ")?;
-        out.push_str(child.name())?;
-        out.push_str(": ")?;
-        out.push_str(child.text())?;
-    }
-    out.push_str("\n")?;
-    append_case(alloc, out, predicate, &42)?;
-    append_case(alloc, out, predicate, &41)
-}
-
-// How many parameters and children there are.
-fn sizes_of<P: PredicateReflection>(
-    alloc: Global,
-    predicate: &P,
-) -> Result<(usize, usize), AllocError> {
-    let parameters = predicate.parameters(alloc)?.len();
-    Ok((parameters, predicate.children(alloc)?.len()))
+    describe(alloc, out, predicate)?;
+    render_verdict(alloc, out, predicate, &42)?;
+    render_verdict(alloc, out, predicate, &41)
 }
 
 #[test]
@@ -48,7 +32,7 @@ fn a_leaf_of_the_callers_own(rt: HostRuntime) -> Result<(), Fail> {
     assert!(rt; explains(alloc, &either, &41, lines)?);
     let lines = "var.is_the_answer() = false\n  - var: 41\n";
     assert!(rt; explains(alloc, &IsTheAnswer, &41, lines)?);
-    assert_eq!(rt; sizes_of(alloc, &IsTheAnswer)?, (0, 0));
+    assert!(rt; is_described(alloc, &IsTheAnswer, "var.is_the_answer()\n")?);
     Ok(())
 }
 
@@ -70,7 +54,13 @@ either(var.is_the_answer(), var in values) = false
     - var: 40
 ";
     assert!(rt; explains(alloc, &either, &40, lines)?);
-    assert_eq!(rt; sizes_of(alloc, &either)?.0, 0);
+    let lines = "\
+either(var.is_the_answer(), var in values)
+left: var.is_the_answer()
+right: var in values
+  values=[41, 43]
+";
+    assert!(rt; is_described(alloc, &either, lines)?);
     Ok(())
 }
 
@@ -86,21 +76,26 @@ fn append_eithers(alloc: Global, out: &mut String) -> Result<(), AllocError> {
 }
 
 const UNDER_NOT_AND_A_NAME: &str = "\
-(! var.is_the_answer()); predicate: var.is_the_answer()
+(! var.is_the_answer())
+predicate: var.is_the_answer()
 (! var.is_the_answer()) = false
   predicate: var.is_the_answer() = true
     - var: 42
 (! var.is_the_answer()) = true
   predicate: var.is_the_answer() = false
     - var: 41
-answer; answer: var.is_the_answer()
+answer
+answer: var.is_the_answer()
 answer = true
   answer: var.is_the_answer() = true
     - var: 42
 answer = false
   answer: var.is_the_answer() = false
     - var: 41
-(! either(var.is_the_answer(), var < 10)); predicate: either(var.is_the_answer(), var < 10)
+(! either(var.is_the_answer(), var < 10))
+predicate: either(var.is_the_answer(), var < 10)
+  left: var.is_the_answer()
+  right: var < 10
 (! either(var.is_the_answer(), var < 10)) = false
   predicate: either(var.is_the_answer(), var < 10) = true
     left: var.is_the_answer() = true
@@ -111,7 +106,10 @@ answer = false
       - var: 41
     right: var < 10 = false
       - var: 41
-answer; answer: either(var.is_the_answer(), var < 10)
+answer
+answer: either(var.is_the_answer(), var < 10)
+  left: var.is_the_answer()
+  right: var < 10
 answer = true
   answer: either(var.is_the_answer(), var < 10) = true
     left: var.is_the_answer() = true
@@ -152,7 +150,10 @@ var.is_the_answer() = true
   - var: 42
 var.is_the_answer() = false
   - var: 41
-answer; answer: (var.is_the_answer() || var > 41)
+answer
+answer: (var.is_the_answer() || var > 41)
+  left: var.is_the_answer()
+  right: var > 41
 answer = true
   answer: (var.is_the_answer() || var > 41) = true
     left: var.is_the_answer() = true
@@ -165,7 +166,6 @@ answer = false
       - var: 41
 "
     );
-    assert_eq!(rt; sizes_of(alloc, &leaf(FortyTwo))?.0, 0);
     Ok(())
 }
 
@@ -187,7 +187,9 @@ fn a_combinator_that_evaluates_its_right_part_first(rt: HostRuntime) -> Result<(
     assert_eq!(rt;
         out.as_str(),
         "\
-either(var.is_the_answer(), var > 41); left: var.is_the_answer(); right: var > 41
+either(var.is_the_answer(), var > 41)
+left: var.is_the_answer()
+right: var > 41
 either(var.is_the_answer(), var > 41) = true
   left: var.is_the_answer() = true
     - var: 42
@@ -196,7 +198,9 @@ either(var.is_the_answer(), var > 41) = false
     - var: 41
   right: var > 41 = false
     - var: 41
-either(var.is_the_answer(), var < 42); left: var.is_the_answer(); right: var < 42
+either(var.is_the_answer(), var < 42)
+left: var.is_the_answer()
+right: var < 42
 either(var.is_the_answer(), var < 42) = true
   left: var.is_the_answer() = true
     - var: 42
@@ -230,23 +234,11 @@ fn an_adapter_of_the_callers_own(rt: HostRuntime) -> Result<(), Fail> {
     for (item, length, expected) in [("", 0, true), ("abc", 3, true), ("äbc", 4, false)] {
         assert!(rt; is_short(alloc, item, length, expected)?, "{item}");
     }
-    assert_eq!(rt;
-        sizes_of(alloc, &OfLength::new(predicate::always::<usize>()))?,
-        (1, 0)
-    );
-    assert_eq!(rt;
-        sizes_of(alloc, &OfLength::new(IsTheAnswer.name("n")))?,
-        (0, 1)
-    );
+    let constant = OfLength::new(predicate::always::<usize>());
+    assert!(rt; is_described(alloc, &constant, "true\nvalue=true\n")?);
+    let named = OfLength::new(IsTheAnswer.name("n"));
+    assert!(rt; is_described(alloc, &named, "n\nn: var.is_the_answer()\n")?);
     Ok(())
-}
-
-// Whether the case has the lines.
-fn has_lines(alloc: Global, found: Option<Case>, lines: &str) -> Result<bool, AllocError> {
-    match found {
-        Some(case) => Ok(render(alloc, &case)?.as_str() == lines),
-        None => Ok(false),
-    }
 }
 
 // By `and` and by `xor`.

@@ -1,20 +1,15 @@
 //! The callers, with ample memory.
-use super::text;
-use crate::{
-    Around, IsTheAnswer, PolicyFault, Sifted, Unmet, case_json, find_plain_case, is_copy,
-    no_script, read_policy, require, sift, sift_by,
-};
+use super::{file, has_lines};
 use predicates::path::{FileType, PathFault, Snapshot};
 use predicates::prelude::*;
 use predicates::reflection::{Case, Product, render};
+use predicates_testing::text;
+use predicates_uses::{
+    Around, IsTheAnswer, PolicyFault, Sifted, Unmet, case_json, find_plain_case, is_copy,
+    no_script, read_policy, require, sift, sift_by,
+};
 use std::alloc::{AllocError, Global};
 use std::test::Fail;
-
-fn file(alloc: Global, path: &str, content: &[u8]) -> Result<Snapshot, AllocError> {
-    let (path, content) = (text(alloc, path)?, Vec::from_slice(alloc, content)?);
-    let kind = Ok(FileType::File);
-    Ok(Snapshot::from_parts(path, kind, kind, Ok(content)))
-}
 
 fn words(alloc: Global, tokens: &[&str]) -> Result<Vec<String>, AllocError> {
     let mut words = Vec::new(alloc);
@@ -103,10 +98,7 @@ fn sifts_by_a_function(rt: HostRuntime) -> Result<(), Fail> {
 
 // Whether these lines explain why the file is no script.
 fn is_refused(alloc: Global, file: &Snapshot, lines: &str) -> Result<bool, AllocError> {
-    match no_script(alloc, file)? {
-        Some(case) => Ok(render(alloc, &case)?.as_str() == lines),
-        None => Ok(false),
-    }
+    has_lines(alloc, no_script(alloc, file)?, lines)
 }
 
 // A link to what was followed so.
@@ -260,10 +252,8 @@ fn is_plain(alloc: Global, around: Around, item: i32, verdict: bool) -> Result<b
     let small = predicate::lt(3);
     let lines = format!(in alloc; "var < 3 = {verdict}\n  - var: {item}\n")?;
     let is_alone = find_plain_case(alloc, &small, around, !verdict, &item)?.is_none();
-    match find_plain_case(alloc, &small, around, verdict, &item)? {
-        Some(case) => Ok(is_alone && render(alloc, &case)? == lines),
-        None => Ok(false),
-    }
+    let found = find_plain_case(alloc, &small, around, verdict, &item)?;
+    Ok(has_lines(alloc, found, lines.as_str())? && is_alone)
 }
 
 #[test]

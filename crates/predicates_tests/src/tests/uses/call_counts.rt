@@ -1,7 +1,7 @@
 //! How often a part is evaluated, which no contract says.
-use crate::{Either, LastFirst};
 use predicates::custom::{Test, TestPredicate, leaf};
 use predicates::prelude::*;
+use predicates_uses::{Either, LastFirst};
 use std::alloc::{AllocError, Global};
 use std::cell::Cell;
 use std::fmt;

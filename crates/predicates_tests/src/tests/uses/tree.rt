@@ -1,7 +1,7 @@
 // A small tree of files, made in a temporary folder.
-use crate::{Expectation, Failure, check_tree, expect};
 use predicates::path::{FileType, PathFault, Snapshot};
 use predicates::prelude::*;
+use predicates_uses::{Expectation, Failure, check_tree, expect};
 use std::alloc::{AllocError, Global};
 use std::os::unix::fs::symlink;
 use std::test::Fail;

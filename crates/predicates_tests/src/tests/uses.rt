@@ -1,0 +1,28 @@
+//! Of `predicates_uses`, what no clause says: that the calls answer with ample memory, and how cases
+//! print; the cases of the guide as well.
+mod call_counts;
+mod callers;
+mod guide;
+mod own;
+mod reason;
+mod tree;
+
+use predicates::path::{FileType, Snapshot};
+use predicates::reflection::{Case, render};
+use predicates_testing::text;
+use std::alloc::{AllocError, Global};
+
+// A regular file with this path and content.
+fn file(alloc: Global, path: &str, content: &[u8]) -> Result<Snapshot, AllocError> {
+    let content = Vec::from_slice(alloc, content)?;
+    let kind = Ok(FileType::File);
+    Ok(Snapshot::from_parts(text(alloc, path)?, kind, kind, Ok(content)))
+}
+
+// Whether there is a case, with these lines.
+fn has_lines(alloc: Global, found: Option<Case>, lines: &str) -> Result<bool, AllocError> {
+    match found {
+        Some(case) => Ok(render(alloc, &case)?.as_str() == lines),
+        None => Ok(false),
+    }
+}
