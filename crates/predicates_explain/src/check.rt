@@ -1,5 +1,7 @@
 //! A check of texts, made of words.
 ghost use Rattle.std.specs.Prelude.{[], string_bytes};
+ghost use Rattle.std.specs.Fmt.{DisplaysOnOk};
+ghost use Rattle.predicates_core.specs.Combined.{infix_text};
 ghost use Rattle.predicates_core.specs.Tree.{empty};
 ghost use Rattle.predicates_explain.specs.Checks.{check_text, check_formula, HasFormula};
 ghost use Rattle.predicates_explain.specs.Checks.{IsInfallibleCheck};
@@ -67,6 +69,26 @@ impl TextCheck {
     }
 }
 
+impl TextCheck {
+    // Two checks in parentheses, with the operator between them.
+    #[cycle(text)]
+    fn fmt_joined<W: fmt::Write>(
+        left: &TextCheck,
+        operator: &str,
+        right: &TextCheck,
+        f: &mut fmt::Formatter<W>,
+    ) -> fmt::Result
+        ensures { DisplaysOnOk W.write_str_gives f.old result
+            (infix_text operator.now (check_text left.now) (check_text right.now)) f.new }
+    {
+        write!(f, "(")?;
+        fmt::Display::fmt(left, f)?;
+        write!(f, "{operator}")?;
+        fmt::Display::fmt(right, f)?;
+        write!(f, ")")
+    }
+}
+
 // A loop, so that a deep check does not run out of stack: it rotates left parts to the right until
 // there are none. It takes no memory.
 impl Drop for TextCheck {
@@ -100,6 +122,7 @@ impl Drop for TextCheck {
 impl fmt::Display for TextCheck {
     ghost output = { λ c. check_text c };
 
+    #[cycle(text)]
     fn fmt<W: fmt::Write>(&self, f: &mut fmt::Formatter<W>) -> fmt::Result {
         match self {
             TextCheck::Empty(leaf) => leaf.fmt(f),
@@ -114,27 +137,9 @@ impl fmt::Display for TextCheck {
                 (**inner).fmt(f)?;
                 write!(f, ")")
             }
-            TextCheck::And(left, right) => {
-                write!(f, "(")?;
-                (**left).fmt(f)?;
-                write!(f, " && ")?;
-                (**right).fmt(f)?;
-                write!(f, ")")
-            }
-            TextCheck::Or(left, right) => {
-                write!(f, "(")?;
-                (**left).fmt(f)?;
-                write!(f, " || ")?;
-                (**right).fmt(f)?;
-                write!(f, ")")
-            }
-            TextCheck::Xor(left, right) => {
-                write!(f, "(")?;
-                (**left).fmt(f)?;
-                write!(f, " ^ ")?;
-                (**right).fmt(f)?;
-                write!(f, ")")
-            }
+            TextCheck::And(left, right) => TextCheck::fmt_joined(left, " && ", right, f),
+            TextCheck::Or(left, right) => TextCheck::fmt_joined(left, " || ", right, f),
+            TextCheck::Xor(left, right) => TextCheck::fmt_joined(left, " ^ ", right, f),
         }
     }
 }
