@@ -2,7 +2,7 @@
 use Rattle.std.specs.Prelude.{◌≡◌, ℕ, Bool, true, cond, List, None, Some, string_bytes, bytes_eq}
 use Rattle.predicates_core.specs.Text.{Text}
 use Rattle.predicates_core.specs.Label.{Label, Entry, Fits}
-use Rattle.predicates_core.specs.Formula.{Formula, Leaf, And, Or, Xor, Not, Named, text_of}
+use Rattle.predicates_core.specs.Formula.{Formula, Leaf, Join, Not, Named, text_of}
 
 -- the label with its text left open
 abbrev pub opened_label : Label → Label
@@ -11,9 +11,7 @@ opened_label label = record { text = None; products = label.products }
 -- the formula with its root's text left open
 abbrev pub opened : Formula → Formula
 opened (Leaf label own) = Leaf (opened_label label) own
-opened (And label l r) = And (opened_label label) l r
-opened (Or label l r) = Or (opened_label label) l r
-opened (Xor label l r) = Xor (opened_label label) l r
+opened (Join op label name f rest) = Join op (opened_label label) name f rest
 opened (Not label f) = Not (opened_label label) f
 opened (Named label name f) = Named (opened_label label) name f
 

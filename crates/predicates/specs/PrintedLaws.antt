@@ -3,14 +3,12 @@ use Rattle.std.specs.Prelude.{◌≡◌, refl, ℕ, Bool, true, false, cond, Lis
 use Rattle.std.proofs.Common.{sym, ap, ◌∙◌}
 use Rattle.std.proofs.lemmas.Slice.Eq.{bytes_eq-Decides}
 use Rattle.predicates_core.specs.Label.{Entry, FitsEntry}
-use Rattle.predicates_core.specs.Formula.{Formula, Leaf, And, Or, Xor, Not, Named, text_of}
+use Rattle.predicates_core.specs.Formula.{Formula, Leaf, Join, Not, Named, text_of}
 use Rattle.predicates.specs.Printed.{opened, fits, as_printed, IsPrintedAs}
 
 text-opened : (f : Formula) → text_of (opened f) ≡ None
 text-opened (Leaf label own) = refl
-text-opened (And label l r) = refl
-text-opened (Or label l r) = refl
-text-opened (Xor label l r) = refl
+text-opened (Join op label name f rest) = refl
 text-opened (Not label f) = refl
 text-opened (Named label name f) = refl
 

@@ -1,1 +1,1 @@
-pub mod Names
+mod Listing

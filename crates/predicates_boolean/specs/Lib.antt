@@ -1,5 +1,4 @@
-pub mod And
-pub mod Or
-pub mod Xor
+pub mod Join
 pub mod Not
 pub mod Name
+pub mod Rules

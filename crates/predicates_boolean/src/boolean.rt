@@ -7,21 +7,18 @@
 //!
 //! Making one takes no memory. `eval` takes none where those of the parts take none.
 ghost use Rattle.std.specs.Prelude.{◌≡◌};
-ghost use Rattle.predicates_boolean.specs.And as And;
-ghost use Rattle.predicates_boolean.specs.Or as Or;
-ghost use Rattle.predicates_boolean.specs.Xor as Xor;
+ghost use Rattle.predicates_boolean.specs.Join.{left_of, right_of};
 ghost use Rattle.predicates_boolean.specs.Not.{inner_of};
 
-mod and;
+mod join;
 mod not;
-mod or;
-mod xor;
 
-pub use and::AndPredicate;
+pub use join::{
+    AndOperator, AndPredicate, JoinOperator, JoinPredicate, OrOperator, OrPredicate, XorOperator,
+    XorPredicate,
+};
 pub use not::NotPredicate;
-pub use or::OrPredicate;
 use predicates_core::Predicate;
-pub use xor::XorPredicate;
 
 /// Combines any predicates over one item type.
 pub trait PredicateBooleanExt<Item>: Predicate<Item> {
@@ -29,22 +26,22 @@ pub trait PredicateBooleanExt<Item>: Predicate<Item> {
     fn and<B: Predicate<Item>>(self, other: B) -> AndPredicate<Self, B, Item>
     where
         Self: Sized,
-        ensures left { And.left_of result ≡ self }
-        ensures right { And.right_of result ≡ other };
+        ensures left { left_of result ≡ self }
+        ensures right { right_of result ≡ other };
 
     /// `self` or `other` holds; `other` is evaluated only where `self` does not hold.
     fn or<B: Predicate<Item>>(self, other: B) -> OrPredicate<Self, B, Item>
     where
         Self: Sized,
-        ensures left { Or.left_of result ≡ self }
-        ensures right { Or.right_of result ≡ other };
+        ensures left { left_of result ≡ self }
+        ensures right { right_of result ≡ other };
 
     /// Exactly one of `self` and `other` holds; both are evaluated.
     fn xor<B: Predicate<Item>>(self, other: B) -> XorPredicate<Self, B, Item>
     where
         Self: Sized,
-        ensures left { Xor.left_of result ≡ self }
-        ensures right { Xor.right_of result ≡ other };
+        ensures left { left_of result ≡ self }
+        ensures right { right_of result ≡ other };
 
     /// `self` does not hold.
     fn not(self) -> NotPredicate<Self, Item>

@@ -1,4 +1,4 @@
-//! Predicates over other predicates: and, or, xor, not and names.
+//! Predicates over other predicates: and, or, xor, not, names and lists of rules.
 //!
 //! ```
 //! let outside = predicate::ge(5).and(predicate::le(10)).not().name("outside");
@@ -11,4 +11,5 @@
 
 pub mod boolean;
 pub mod name;
+pub mod rules;
 pub mod semantics;

@@ -2,107 +2,74 @@
 //!
 //! ```
 //! // From here on a proof knows the formulas of `both` on `item`, and when it takes no memory.
-//! semantics::and(&both, &item);
+//! semantics::join(&both, &item);
 //! ```
 //!
 //! Each clause holds for every predicate of the type and every item. The clauses state the
 //! predicate's formulas, what `eval` requires, when `eval` takes no memory, and the predicate's
 //! parameters and children.
-ghost use Rattle.std.specs.Prelude.{◌≡◌, ◌↔◌, [], codes};
-ghost use Rattle.predicates_core.specs.Combined.{infix_text, not_text, IsAnd, IsOr, IsXor, IsNot};
+ghost use Rattle.std.specs.Prelude.{◌≡◌, ◌↔◌, [], codes, map};
+ghost use Rattle.std.specs.List.{AllByRecursion};
+ghost use Rattle.predicates_core.specs.Combined.{infix_text, not_text, sign, IsPair, IsNot};
 ghost use Rattle.predicates_core.specs.Combined.{IsNamed};
 ghost use Rattle.predicates_core.specs.Formula.{Formula};
-ghost use Rattle.predicates_core.specs.Parts.{part, two_parts};
-ghost use Rattle.predicates_boolean.specs.And as And;
+ghost use Rattle.predicates_core.specs.Parts.{part, part_of_each, two_parts};
+ghost use Rattle.predicates_core.specs.Several.{IsOfMembers, listed_text};
+ghost use Rattle.predicates_boolean.specs.Join.{left_of, right_of};
 ghost use Rattle.predicates_boolean.specs.Name as Name;
 ghost use Rattle.predicates_boolean.specs.Not as Not;
-ghost use Rattle.predicates_boolean.specs.Or as Or;
-ghost use Rattle.predicates_boolean.specs.Xor as Xor;
+ghost use Rattle.predicates_boolean.specs.Rules.{rules_of, word};
 
-use crate::boolean::{AndPredicate, NotPredicate, OrPredicate, XorPredicate};
+use crate::boolean::{JoinOperator, JoinPredicate, NotPredicate};
+use crate::rules::RulesPredicate;
 use crate::name::NamePredicate;
 use predicates_core::Predicate;
 use predicates_core::as_static_str::AsStaticStr;
+use predicates_core::custom::Quantifier;
 use predicates_core::reflection::PredicateReflection;
 
-/// Its formulas are `And` over a formula of each part.
-pub fn and<A: Predicate<Item>, B: Predicate<Item>, Item>(
-    both: &AndPredicate<A, B, Item>,
+/// Its formulas are `Join` by the operator over a formula of each part.
+pub fn join<O: JoinOperator, A: Predicate<Item>, B: Predicate<Item>, Item>(
+    both: &JoinPredicate<O, A, B, Item>,
     item: &Item,
 )
     ensures formula { (f : Formula)
-        → ⟦<AndPredicate<A, B, Item> as Predicate<Item>>⟧.formula both.now item.now f
-        ↔ IsAnd
-        (infix_text (codes " && ")
-        (A.output (And.left_of both.now)) (B.output (And.right_of both.now)))
-        (A.formula (And.left_of both.now) item.now)
-        (B.formula (And.right_of both.now) item.now)
+        → ⟦<JoinPredicate<O, A, B, Item> as Predicate<Item>>⟧.formula both.now item.now f
+        ↔ IsPair O.joins_by
+        (infix_text (sign O.joins_by) (A.output (left_of both.now)) (B.output (right_of both.now)))
+        (A.formula (left_of both.now) item.now)
+        (B.formula (right_of both.now) item.now)
         f }
-    ensures lawful { ⟦<AndPredicate<A, B, Item> as Predicate<Item>>⟧.lawful both.now
-        ↔ A.lawful (And.left_of both.now) × B.lawful (And.right_of both.now) }
-    ensures infallible { ⟦<AndPredicate<A, B, Item> as Predicate<Item>>⟧.infallible both.now item.now
-        ↔ A.infallible (And.left_of both.now) item.now × B.infallible (And.right_of both.now) item.now }
-    ensures values { ⟦<AndPredicate<A, B, Item> as PredicateReflection>⟧.parameters_of both.now
+    ensures lawful { ⟦<JoinPredicate<O, A, B, Item> as Predicate<Item>>⟧.lawful both.now
+        ↔ A.lawful (left_of both.now) × B.lawful (right_of both.now) }
+    ensures infallible { ⟦<JoinPredicate<O, A, B, Item> as Predicate<Item>>⟧.infallible
+        both.now item.now
+        ↔ A.infallible (left_of both.now) item.now × B.infallible (right_of both.now) item.now }
+    ensures values { ⟦<JoinPredicate<O, A, B, Item> as PredicateReflection>⟧.parameters_of both.now
         ≡ [] }
-    ensures parts { ⟦<AndPredicate<A, B, Item> as PredicateReflection>⟧.children_of both.now
+    ensures parts { ⟦<JoinPredicate<O, A, B, Item> as PredicateReflection>⟧.children_of both.now
         ≡ two_parts
-        (codes "left") (A.output (And.left_of both.now))
-        (A.parameters_of (And.left_of both.now)) (A.children_of (And.left_of both.now))
-        (codes "right") (B.output (And.right_of both.now))
-        (B.parameters_of (And.right_of both.now)) (B.children_of (And.right_of both.now)) }
+        (codes "left") (A.output (left_of both.now))
+        (A.parameters_of (left_of both.now)) (A.children_of (left_of both.now))
+        (codes "right") (B.output (right_of both.now))
+        (B.parameters_of (right_of both.now)) (B.children_of (right_of both.now)) }
 {}
 
-/// Its formulas are `Or` over a formula of each part.
-pub fn or<A: Predicate<Item>, B: Predicate<Item>, Item>(
-    either: &OrPredicate<A, B, Item>,
-    item: &Item,
-)
+/// Its formulas are a join over a formula of each rule, in order, under the name `rule`; without rules
+/// it is one leaf.
+pub fn rules<Q: Quantifier, P: Predicate<Item>, Item>(rules: &RulesPredicate<Q, P>, item: &Item)
     ensures formula { (f : Formula)
-        → ⟦<OrPredicate<A, B, Item> as Predicate<Item>>⟧.formula either.now item.now f
-        ↔ IsOr
-        (infix_text (codes " || ")
-        (A.output (Or.left_of either.now)) (B.output (Or.right_of either.now)))
-        (A.formula (Or.left_of either.now) item.now)
-        (B.formula (Or.right_of either.now) item.now)
-        f }
-    ensures lawful { ⟦<OrPredicate<A, B, Item> as Predicate<Item>>⟧.lawful either.now
-        ↔ A.lawful (Or.left_of either.now) × B.lawful (Or.right_of either.now) }
-    ensures infallible { ⟦<OrPredicate<A, B, Item> as Predicate<Item>>⟧.infallible either.now item.now
-        ↔ A.infallible (Or.left_of either.now) item.now × B.infallible (Or.right_of either.now) item.now }
-    ensures values { ⟦<OrPredicate<A, B, Item> as PredicateReflection>⟧.parameters_of either.now
-        ≡ [] }
-    ensures parts { ⟦<OrPredicate<A, B, Item> as PredicateReflection>⟧.children_of either.now
-        ≡ two_parts
-        (codes "left") (A.output (Or.left_of either.now))
-        (A.parameters_of (Or.left_of either.now)) (A.children_of (Or.left_of either.now))
-        (codes "right") (B.output (Or.right_of either.now))
-        (B.parameters_of (Or.right_of either.now)) (B.children_of (Or.right_of either.now)) }
-{}
-
-/// Its formulas are `Xor` over a formula of each part.
-pub fn xor<A: Predicate<Item>, B: Predicate<Item>, Item>(
-    either: &XorPredicate<A, B, Item>,
-    item: &Item,
-)
-    ensures formula { (f : Formula)
-        → ⟦<XorPredicate<A, B, Item> as Predicate<Item>>⟧.formula either.now item.now f
-        ↔ IsXor
-        (infix_text (codes " ^ ") (A.output (Xor.left_of either.now))
-        (B.output (Xor.right_of either.now)))
-        (A.formula (Xor.left_of either.now) item.now)
-        (B.formula (Xor.right_of either.now) item.now)
-        f }
-    ensures lawful { ⟦<XorPredicate<A, B, Item> as Predicate<Item>>⟧.lawful either.now
-        ↔ A.lawful (Xor.left_of either.now) × B.lawful (Xor.right_of either.now) }
-    ensures infallible { ⟦<XorPredicate<A, B, Item> as Predicate<Item>>⟧.infallible either.now item.now
-        ↔ A.infallible (Xor.left_of either.now) item.now × B.infallible (Xor.right_of either.now) item.now }
-    ensures values { ⟦<XorPredicate<A, B, Item> as PredicateReflection>⟧.parameters_of either.now ≡ [] }
-    ensures parts { ⟦<XorPredicate<A, B, Item> as PredicateReflection>⟧.children_of either.now
-        ≡ two_parts
-        (codes "left") (A.output (Xor.left_of either.now))
-        (A.parameters_of (Xor.left_of either.now)) (A.children_of (Xor.left_of either.now))
-        (codes "right") (B.output (Xor.right_of either.now))
-        (B.parameters_of (Xor.right_of either.now)) (B.children_of (Xor.right_of either.now)) }
+        → ⟦<RulesPredicate<Q, P> as Predicate<Item>>⟧.formula rules.now item.now f
+        ↔ IsOfMembers Q.one_suffices
+        (listed_text (word Q.one_suffices) (map P.output (rules_of rules.now)))
+        (codes "rule") (λ p. P.formula p item.now) (rules_of rules.now) f }
+    ensures lawful { ⟦<RulesPredicate<Q, P> as Predicate<Item>>⟧.lawful rules.now
+        ↔ AllByRecursion P.lawful (rules_of rules.now) }
+    ensures infallible { ⟦<RulesPredicate<Q, P> as Predicate<Item>>⟧.infallible rules.now item.now
+        ↔ AllByRecursion (λ p. P.infallible p item.now) (rules_of rules.now) }
+    ensures values { ⟦<RulesPredicate<Q, P> as PredicateReflection>⟧.parameters_of rules.now ≡ [] }
+    ensures parts { ⟦<RulesPredicate<Q, P> as PredicateReflection>⟧.children_of rules.now
+        ≡ part_of_each (codes "rule") P.output P.parameters_of P.children_of (rules_of rules.now) }
 {}
 
 /// Its formulas are `Not` over a formula of its part.

@@ -1,7 +1,7 @@
 -- One product more at the root: the truth and the first reason stay, and the case has the product too.
 use Rattle.std.proofs.Common.{◌≡◌, refl, sym, ap, ◌∙◌, ℕ, Bool, List, [], ◌∷◌, ◌++◌, Option}
 use Rattle.predicates_core.specs.Label.{Label, Entry, Product, Fits, FitsEntry, FitsProducts}
-use Rattle.predicates_core.specs.Formula.{Formula, Leaf, And, Or, Xor, Not, Named, text_of, truth, HasTruth, with_product}
+use Rattle.predicates_core.specs.Formula.{Formula, Leaf, Join, Not, Named, text_of, truth, value, actual, HasTruth, with_product}
 use Rattle.predicates_core.specs.Shows.{FitsNode, Shows, Explains, IsCaseOf}
 use Rattle.predicates_core.specs.Tree.{Tree}
 use Rattle.predicates_core.specs.Describe as describe
@@ -26,11 +26,9 @@ root_with_product label b b' c p bytes e fits h = record {
 }
 
 shows_with_product : (f : Formula) (c : Tree CaseNode) (S : List ℕ) (p : Product) (bytes : List ℕ) → Fits p.value bytes → Shows f c S → Shows (with_product f p) (describe.with_product c (p.name, bytes)) S
-unfolding Shows with_product
+unfolding Shows with_product truth value actual
 shows_with_product (Leaf label t) c S p bytes fits h = (root_with_product label _ _ c p bytes refl fits h.0, h.1, h.2)
-shows_with_product (And label l r) c S p bytes fits h = (root_with_product label _ _ c p bytes (with_product_truth (And label l r) p) fits h.0, h.1)
-shows_with_product (Or label l r) c S p bytes fits h = (root_with_product label _ _ c p bytes (with_product_truth (Or label l r) p) fits h.0, h.1)
-shows_with_product (Xor label l r) c S p bytes fits h = (root_with_product label _ _ c p bytes (with_product_truth (Xor label l r) p) fits h.0, h.1)
+shows_with_product (Join op label fs) c S p bytes fits h = (root_with_product label _ _ c p bytes (with_product_truth (Join op label fs) p) fits h.0, h.1)
 shows_with_product (Not label f) c S p bytes fits h = (root_with_product label _ _ c p bytes (with_product_truth (Not label f) p) fits h.0, h.1)
 shows_with_product (Named label name f) c S p bytes fits h = (root_with_product label _ _ c p bytes (with_product_truth (Named label name f) p) fits h.0, h.1)
 
@@ -45,9 +43,7 @@ explains_with_product f c p bytes fits x = record {
 text-with_product : (f : Formula) (p : Product) → text_of (with_product f p) ≡ text_of f
 unfolding with_product
 text-with_product (Leaf label t) p = refl
-text-with_product (And label l r) p = refl
-text-with_product (Or label l r) p = refl
-text-with_product (Xor label l r) p = refl
+text-with_product (Join op label fs) p = refl
 text-with_product (Not label f) p = refl
 text-with_product (Named label name f) p = refl
 

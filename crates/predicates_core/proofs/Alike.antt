@@ -2,7 +2,8 @@
 use Rattle.std.proofs.Common.{◌≡◌, ℕ, List, Bool, true, false, refl, ap, ◌∙◌}
 use Rattle.std.specs.Prelude.{not, ◌&&◌, ◌||◌}
 use Rattle.predicates_core.specs.Label.{Label}
-use Rattle.predicates_core.specs.Formula.{Formula, And, Or, Xor, Not, Named, differ, size, value, actual, truth}
+use Rattle.predicates_core.specs.declared.custom.join.Operator.TheVariants.{And, Or, Xor}
+use Rattle.predicates_core.specs.Formula.{Formula, pair, Not, Named, differ, size, value, actual, truth}
 use Rattle.predicates_core.specs.Alike.{AreAlike, AreSameFunction}
 use Rattle.predicates_core.proofs.Values.{not-not, truth-Not, truth-Named}
 use Rattle.predicates_core.proofs.FirstReasonOf.{SameReasons, same_symmetric, same_first, same_function_reasons, same_function_truth, not_reasons, named_reasons, first-Not}
@@ -32,14 +33,14 @@ not_or true b = refl
 not_or false b = refl
 
 -- the opposite of both parts is one of their opposites
-pub negated_and : (a b c d e : Label) (f g : Formula) → AreAlike (Not a (And b f g)) (Or c (Not d f) (Not e g))
+pub negated_and : (a b c d e : Label) (f g : Formula) → AreAlike (Not a (pair And b f g)) (pair Or c (Not d f) (Not e g))
 unfolding size value actual
-negated_and a b c d e f g = same_function (Not a (And b f g)) (Or c (Not d f) (Not e g)) (record { leaves = refl; values = λ w h. not_and (value f _) (value g _) })
+negated_and a b c d e f g = same_function (Not a (pair And b f g)) (pair Or c (Not d f) (Not e g)) (record { leaves = refl; values = λ w h. not_and (value f _) (value g _) })
 
 -- the opposite of one of the parts is both of their opposites
-pub negated_or : (a b c d e : Label) (f g : Formula) → AreAlike (Not a (Or b f g)) (And c (Not d f) (Not e g))
+pub negated_or : (a b c d e : Label) (f g : Formula) → AreAlike (Not a (pair Or b f g)) (pair And c (Not d f) (Not e g))
 unfolding size value actual
-negated_or a b c d e f g = same_function (Not a (Or b f g)) (And c (Not d f) (Not e g)) (record { leaves = refl; values = λ w h. not_or (value f _) (value g _) })
+negated_or a b c d e f g = same_function (Not a (pair Or b f g)) (pair And c (Not d f) (Not e g)) (record { leaves = refl; values = λ w h. not_or (value f _) (value g _) })
 
 not_differ : (a b : Bool) → not (differ a b) ≡ differ (not a) b
 not_differ true true = refl
@@ -48,6 +49,6 @@ not_differ false true = refl
 not_differ false false = refl
 
 -- the parts do not differ where the opposite of the left one differs from the right one
-pub negated_xor : (a b c d : Label) (f g : Formula) → AreAlike (Not a (Xor b f g)) (Xor c (Not d f) g)
+pub negated_xor : (a b c d : Label) (f g : Formula) → AreAlike (Not a (pair Xor b f g)) (pair Xor c (Not d f) g)
 unfolding size value actual
-negated_xor a b c d f g = same_function (Not a (Xor b f g)) (Xor c (Not d f) g) (record { leaves = refl; values = λ w h. not_differ (value f _) (value g _) })
+negated_xor a b c d f g = same_function (Not a (pair Xor b f g)) (pair Xor c (Not d f) g) (record { leaves = refl; values = λ w h. not_differ (value f _) (value g _) })

@@ -213,3 +213,20 @@ module _ {op : Bool → Bool → Bool} {f l r : Formula} (j : Joins op f l r) (a
     where
       widen : (L R R' : List ℕ) → L ≡ [] → IsReason r R' → Decide op l r L R'
       widen L R R' e h = rw e (right_suffices h)
+
+-- which of the parts the first reason is made of
+pub data Share (op : Bool → Bool → Bool) (a b : Bool) : Type 0 where
+  by_both : BothCount op a b → Share op a b
+  by_left : LeftDecides op a b → Share op a b
+  by_right : RightDecides op a b → Share op a b
+
+abbrev pub leaves_of : {op : Bool → Bool → Bool} {a b : Bool} → Share op a b → ℕ → List ℕ → List ℕ → List ℕ
+leaves_of (by_both c) n S T = S ++ shifted n T
+leaves_of (by_left c) n S T = S
+leaves_of (by_right c) n S T = shifted n T
+
+module _ {op : Bool → Bool → Bool} {f l r : Formula} (j : Joins op f l r) where
+  pub join_first : (share : Share op (truth l) (truth r)) (S T : List ℕ) → IsFirstReason l S → IsFirstReason r T → IsFirstReason f (leaves_of share (size l) S T)
+  join_first (by_both c) S T hl hr = both_first j c S T hl hr
+  join_first (by_left c) S T hl hr = left_first j c S hl
+  join_first (by_right c) S T hl hr = right_first j c T hr

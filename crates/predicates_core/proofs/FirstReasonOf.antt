@@ -2,11 +2,12 @@
 use Rattle.std.proofs.Common.{◌≡◌, ℕ, suc, zero, List, [], ◌∷◌, ◌++◌, Bool, true, false, length, refl, sym, ap, ◌∙◌, arith, length-append}
 use Rattle.std.specs.Prelude.{not, ◌&&◌, ◌||◌}
 use Rattle.predicates_core.specs.Label.{Label, Product}
-use Rattle.predicates_core.specs.Formula.{Formula, Leaf, And, Or, Xor, Not, Named, differ, size, IsValuation, value, actual, truth, with_product}
+use Rattle.predicates_core.specs.declared.custom.join.Operator.{Operator}
+use Rattle.predicates_core.specs.declared.custom.join.Operator.TheVariants.{And, Or, Xor}
+use Rattle.predicates_core.specs.Formula.{Formula, one, Leaf, Join, Not, Named, apply, differ, size, IsValuation, value, actual, truth, with_product}
 use Rattle.predicates_core.specs.Reason.{AreIncreasing, AreEqualAt, IsReason, IsMinimalReason, IsFirstReason}
-use Rattle.predicates_core.proofs.Numbers.{shifted}
-use Rattle.predicates_core.proofs.Joins.{and_joins, or_joins, xor_joins, length-actual}
-use Rattle.predicates_core.proofs.FirstOfJoins.{BothCount, LeftDecides, RightDecides, both_first, left_first, right_first}
+use Rattle.predicates_core.proofs.Joins.{length-actual}
+use Rattle.predicates_core.proofs.FirstOfJoins.{BothCount, LeftDecides, RightDecides, Share, by_both, by_left, by_right}
 
 -- two formulas with the same reasons have the same first reason
 pub record SameReasons (f g : Formula) : Type 0 where
@@ -72,6 +73,17 @@ named_reasons label name f = record {
   back = λ S h. record { numbers = h.numbers; decides = h.decides };
 }
 
+-- a join of one part has the reasons of that part
+pub one_reasons : (op : Operator) (label : Label) (name : List ℕ) (f : Formula) → SameReasons f (Join op label (one name f))
+unfolding size value actual truth
+one_reasons op label name f = record {
+  there = λ S h. record { numbers = h.numbers; decides = h.decides };
+  back = λ S h. record { numbers = h.numbers; decides = h.decides };
+}
+
+pub first-one : (op : Operator) (label : Label) (name : List ℕ) (f : Formula) (S : List ℕ) → IsFirstReason f S → IsFirstReason (Join op label (one name f)) S
+first-one op label name f = same_first (one_reasons op label name f)
+
 pub first-Not : (label : Label) (f : Formula) (S : List ℕ) → IsFirstReason f S → IsFirstReason (Not label f) S
 first-Not label f = same_first (not_reasons label f)
 
@@ -81,18 +93,14 @@ first-Named label name f = same_first (named_reasons label name f)
 pub with_product_actual : (f : Formula) (p : Product) → actual (with_product f p) ≡ actual f
 unfolding actual with_product
 with_product_actual (Leaf label t) p = refl
-with_product_actual (And label l r) p = refl
-with_product_actual (Or label l r) p = refl
-with_product_actual (Xor label l r) p = refl
+with_product_actual (Join op label fs) p = refl
 with_product_actual (Not label f) p = refl
 with_product_actual (Named label name f) p = refl
 
 pub with_product_value : (f : Formula) (p : Product) (w : List Bool) → value (with_product f p) w ≡ value f w
 unfolding value with_product
 with_product_value (Leaf label t) p w = refl
-with_product_value (And label l r) p w = refl
-with_product_value (Or label l r) p w = refl
-with_product_value (Xor label l r) p w = refl
+with_product_value (Join op label fs) p w = refl
 with_product_value (Not label f) p w = refl
 with_product_value (Named label name f) p w = refl
 
@@ -129,26 +137,26 @@ first-Leaf label t = record {
   before_others = λ other m apart. absurd (apart (leaf_alone label t other m.reason));
 }
 
-and_both : BothCount ◌&&◌ true true
+pub and_both : BothCount ◌&&◌ true true
 and_both = record { left = elim [ true ↦ λ e. e | false ↦ λ e. e ]; right = λ y e. e }
 
-and_left : LeftDecides ◌&&◌ false false
+pub and_left : LeftDecides ◌&&◌ false false
 and_left = record { decides = λ y. refl; free = true; counts = elim [ true ↦ λ e. e | false ↦ λ e. e ]; settles = elim [ true ↦ refl | false ↦ refl ] }
 
-and_right : RightDecides ◌&&◌ true false
+pub and_right : RightDecides ◌&&◌ true false
 and_right = record { decides = elim [ true ↦ refl | false ↦ refl ]; counts = λ y e. e }
 
-or_both : BothCount ◌||◌ false false
+pub or_both : BothCount ◌||◌ false false
 or_both = record { left = elim [ true ↦ λ e. e | false ↦ λ e. e ]; right = λ y e. e }
 
-or_left : LeftDecides ◌||◌ true true
+pub or_left : LeftDecides ◌||◌ true true
 or_left = record { decides = λ y. refl; free = false; counts = elim [ true ↦ λ e. e | false ↦ λ e. e ]; settles = elim [ true ↦ refl | false ↦ refl ] }
 
-or_right : RightDecides ◌||◌ false true
+pub or_right : RightDecides ◌||◌ false true
 or_right = record { decides = elim [ true ↦ refl | false ↦ refl ]; counts = λ y e. e }
 
 -- where the left part decides, the right part's truth does not count
-left_whatever : {op : Bool → Bool → Bool} {a b c : Bool} → LeftDecides op a b → LeftDecides op a c
+pub left_whatever : {op : Bool → Bool → Bool} {a b c : Bool} → LeftDecides op a b → LeftDecides op a c
 left_whatever {op} {a} {b} {c} h = record {
   decides = λ y. h.decides y ∙ sym (h.decides c);
   free = h.free;
@@ -156,30 +164,19 @@ left_whatever {op} {a} {b} {c} h = record {
   settles = λ x. h.settles x ∙ sym (h.decides c);
 }
 
-pub first-And_both : (label : Label) (l r : Formula) (S T : List ℕ) → truth l ≡ true → truth r ≡ true → IsFirstReason l S → IsFirstReason r T → IsFirstReason (And label l r) (S ++ shifted (size l) T)
-first-And_both label l r S T tl tr hl hr = both_first (and_joins label l r) (rw (tl, tr) and_both) S T hl hr
-
-pub first-And_left : (label : Label) (l r : Formula) (S : List ℕ) → truth l ≡ false → IsFirstReason l S → IsFirstReason (And label l r) S
-first-And_left label l r S tl hl = left_first (and_joins label l r) (rw tl (left_whatever and_left)) S hl
-
-pub first-And_right : (label : Label) (l r : Formula) (T : List ℕ) → truth l ≡ true → truth r ≡ false → IsFirstReason r T → IsFirstReason (And label l r) (shifted (size l) T)
-first-And_right label l r T tl tr hr = right_first (and_joins label l r) (rw (tl, tr) and_right) T hr
-
-pub first-Or_both : (label : Label) (l r : Formula) (S T : List ℕ) → truth l ≡ false → truth r ≡ false → IsFirstReason l S → IsFirstReason r T → IsFirstReason (Or label l r) (S ++ shifted (size l) T)
-first-Or_both label l r S T tl tr hl hr = both_first (or_joins label l r) (rw (tl, tr) or_both) S T hl hr
-
-pub first-Or_left : (label : Label) (l r : Formula) (S : List ℕ) → truth l ≡ true → IsFirstReason l S → IsFirstReason (Or label l r) S
-first-Or_left label l r S tl hl = left_first (or_joins label l r) (rw tl (left_whatever or_left)) S hl
-
-pub first-Or_right : (label : Label) (l r : Formula) (T : List ℕ) → truth l ≡ false → truth r ≡ true → IsFirstReason r T → IsFirstReason (Or label l r) (shifted (size l) T)
-first-Or_right label l r T tl tr hr = right_first (or_joins label l r) (rw (tl, tr) or_right) T hr
-
 -- each part's truth counts, whatever the other one is
-xor_both : (a b : Bool) → BothCount differ a b
+pub xor_both : (a b : Bool) → BothCount differ a b
 xor_both true true = record { left = elim [ true ↦ λ e. refl | false ↦ λ e. sym e ]; right = λ y. not_injective y true }
 xor_both true false = record { left = elim [ true ↦ λ e. refl | false ↦ λ e. e ]; right = λ y. not_injective y false }
 xor_both false true = record { left = elim [ true ↦ λ e. sym e | false ↦ λ e. refl ]; right = λ y e. e }
 xor_both false false = record { left = elim [ true ↦ λ e. e | false ↦ λ e. refl ]; right = λ y e. e }
 
-pub first-Xor : (label : Label) (l r : Formula) (S T : List ℕ) → IsFirstReason l S → IsFirstReason r T → IsFirstReason (Xor label l r) (S ++ shifted (size l) T)
-first-Xor label l r S T hl hr = both_first (xor_joins label l r) (xor_both (truth l) (truth r)) S T hl hr
+-- the parts that count, by their truths
+pub share_of : (op : Operator) (a b : Bool) → Share (apply op) a b
+share_of And true true = by_both and_both
+share_of And true false = by_right and_right
+share_of And false b = by_left (left_whatever and_left)
+share_of Or false false = by_both or_both
+share_of Or false true = by_right or_right
+share_of Or true b = by_left (left_whatever or_left)
+share_of Xor a b = by_both (xor_both a b)

@@ -1,21 +1,25 @@
 -- Formulas that join two parts: their leaves, their values and their reasons are made of the parts'.
 use Rattle.std.proofs.Common.{◌≡◌, ℕ, ◌+◌, List, [], ◌∷◌, ◌++◌, Bool, length, take, drop, refl, ap, sym, subst, ◌∙◌, arith, length-append, length-drop}
-use Rattle.std.specs.Prelude.{◌&&◌, ◌||◌}
 use Rattle.std.proofs.lemmas.List.{take-append-drop, length-take-le, take_at, drop_at}
 use Rattle.predicates_core.specs.Label.{Label}
-use Rattle.predicates_core.specs.Formula.{Formula, Leaf, And, Or, Xor, Not, Named, differ, size, IsValuation, value, actual, truth}
+use Rattle.predicates_core.specs.declared.custom.join.Operator.{Operator}
+use Rattle.predicates_core.specs.Formula.{Formula, Formulas, one, more, Leaf, Join, Not, Named, apply, pair, size, size_of_parts, IsValuation, value, actual, actual_of_parts, truth}
 use Rattle.predicates_core.specs.Reason.{AreIncreasing, AreEqualAt, IsReason, IsMinimalReason}
 use Rattle.predicates_core.proofs.Numbers.{shifted, increasing_joined, increasing_without, split, equal_at_both, equal_at_first, equal_at_second, equal_at_left, left_equal_at, equal_at_right, right_equal_at}
 
 -- each leaf has a truth
-pub length-actual : (f : Formula) → length (actual f) ≡ size f
-unfolding actual size
-length-actual (Leaf label t) = refl
-length-actual (And label l r) = omega (arith, length-append (actual l) (actual r), length-actual l, length-actual r)
-length-actual (Or label l r) = omega (arith, length-append (actual l) (actual r), length-actual l, length-actual r)
-length-actual (Xor label l r) = omega (arith, length-append (actual l) (actual r), length-actual l, length-actual r)
-length-actual (Not label f) = length-actual f
-length-actual (Named label name f) = length-actual f
+mutual
+  unfolding actual size
+
+  pub length-actual : (f : Formula) → length (actual f) ≡ size f
+  length-actual (Leaf label t) = refl
+  length-actual (Join op label fs) = length-actual_of_parts fs
+  length-actual (Not label f) = length-actual f
+  length-actual (Named label name f) = length-actual f
+
+  length-actual_of_parts : (fs : Formulas) → length (actual_of_parts fs) ≡ size_of_parts fs
+  length-actual_of_parts (one name f) = length-actual f
+  length-actual_of_parts (more name f fs) = omega (arith, length-append (actual f) (actual_of_parts fs), length-actual f, length-actual_of_parts fs)
 
 -- the formula joins two parts: its leaves are theirs, and its value is made of their values
 pub record Joins (op : Bool → Bool → Bool) (f l r : Formula) : Type 0 where
@@ -23,17 +27,14 @@ pub record Joins (op : Bool → Bool → Bool) (f l r : Formula) : Type 0 where
   pub actuals : actual f ≡ actual l ++ actual r
   pub values : (w : List Bool) → value f w ≡ op (value l (take (size l) w)) (value r (drop (size l) w))
 
-pub and_joins : (label : Label) (l r : Formula) → Joins ◌&&◌ (And label l r) l r
+-- the first part of a join, and the join of the others
+pub joins : (op : Operator) (label : Label) (name : List ℕ) (f : Formula) (fs : Formulas) → Joins (apply op) (Join op label (more name f fs)) f (Join op label fs)
 unfolding size actual value
-and_joins label l r = record { sizes = refl; actuals = refl; values = λ w. refl }
+joins op label name f fs = record { sizes = refl; actuals = refl; values = λ w. refl }
 
-pub or_joins : (label : Label) (l r : Formula) → Joins ◌||◌ (Or label l r) l r
+pub pair_joins : (op : Operator) (label : Label) (l r : Formula) → Joins (apply op) (pair op label l r) l r
 unfolding size actual value
-or_joins label l r = record { sizes = refl; actuals = refl; values = λ w. refl }
-
-pub xor_joins : (label : Label) (l r : Formula) → Joins differ (Xor label l r) l r
-unfolding size actual value
-xor_joins label l r = record { sizes = refl; actuals = refl; values = λ w. refl }
+pair_joins op label l r = record { sizes = refl; actuals = refl; values = λ w. refl }
 
 pub joined_value : {op : Bool → Bool → Bool} {f l r : Formula} → Joins op f l r → (v w : List Bool) → IsValuation l v → value f (v ++ w) ≡ op (value l v) (value r w)
 joined_value {op} {f} {l} {r} j v w e = j.values (v ++ w) ∙ cc (take_at v w (size l) e, drop_at v w (size l) e)

@@ -16,4 +16,7 @@ pub mod StaticReads
 pub mod Existence
 pub mod Alike
 pub mod OneCase
-pub mod ShortCircuit
+pub mod OneChild
+pub mod Asked
+pub mod Several
+pub mod EachPart

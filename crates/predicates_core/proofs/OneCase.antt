@@ -5,9 +5,9 @@ use Rattle.std.specs.List.{AllByRecursion}
 use Rattle.predicates_core.specs.Tree.{Tree, Forest, branch, empty}
 use Rattle.predicates_core.specs.Describe.{CaseNode, NamedBytes}
 use Rattle.predicates_core.specs.Label.{Label, Product, Entry, Fits, FitsProducts}
-use Rattle.predicates_core.specs.Formula.{Formula, Leaf, And, Or, Xor, Not, Named, size}
-use Rattle.predicates_core.specs.Shows.{FitsNode, ShowsPart, ShowsBoth, Shows, Explains, left_share, right_share}
-use Rattle.predicates_core.specs.Alike.{IsStated, HasStatedLabels}
+use Rattle.predicates_core.specs.Formula.{Formula, Formulas, one, more, Leaf, Join, Not, Named, size}
+use Rattle.predicates_core.specs.Shows.{FitsNode, ShowsPart, Shows, ShowsParts, Explains, left_share, right_share}
+use Rattle.predicates_core.specs.Alike.{IsStated, HasStatedLabels, HaveStatedLabels}
 use Rattle.predicates_core.proofs.FirstReason.{first_unique}
 
 one_value : (entry : Entry) (x y : List ℕ) → IsSome entry → Fits entry x → Fits entry y → x ≡ y
@@ -45,31 +45,29 @@ one_part showing name (k ∷ S) x y after_x after_y once e hx hy =
     let first : hx.0 ≡ hy.0 = once (k ∷ S) hx.0 hy.0 hx.2 hy.2 in
     hx.1 ∙ (λ i. branch name (first i).root (first i).children (e i)) ∙ sym hy.1
 
-one_pair : (left right : Tree CaseNode → List ℕ → Type 0) (n : ℕ) (S : List ℕ) (x y : Forest CaseNode) → IsShownOnce left → IsShownOnce right
-    → ShowsBoth left right n x S → ShowsBoth left right n y S → x ≡ y
-one_pair left right n S x y of_left of_right hx hy =
-    let rests : hx.0 ≡ hy.0 = one_part right (codes "right") (right_share n S) hx.0 hy.0 empty empty of_right refl hx.2 hy.2 in
-    one_part left (codes "left") (left_share n S) x y hx.0 hy.0 of_left rests hx.1 hy.1
-
 one_tree : (label : Label) (b : Bool) (c d : Tree CaseNode) → IsStated label → FitsNode label b c.root → FitsNode label b d.root → c.children ≡ d.children → c ≡ d
 one_tree label b c d stated hc hd children =
     let roots : c.root ≡ d.root = one_node label b c.root d.root stated hc hd in
     λ i. record { root = roots i; children = children i }
 
 -- two cases that show the formula cut down to the same leaves are equal
-one_shown : (f : Formula) → HasStatedLabels f → IsShownOnce (Shows f)
-unfolding Shows HasStatedLabels
-one_shown (Leaf label own) stated S c d hc hd = one_tree label _ c d stated hc.0 hd.0 (hc.1 ∙ sym hd.1)
-one_shown (And label l r) stated S c d hc hd =
-    one_tree label _ c d stated.0 hc.0 hd.0 (one_pair (Shows l) (Shows r) (size l) S c.children d.children (one_shown l stated.1) (one_shown r stated.2) hc.1 hd.1)
-one_shown (Or label l r) stated S c d hc hd =
-    one_tree label _ c d stated.0 hc.0 hd.0 (one_pair (Shows l) (Shows r) (size l) S c.children d.children (one_shown l stated.1) (one_shown r stated.2) hc.1 hd.1)
-one_shown (Xor label l r) stated S c d hc hd =
-    one_tree label _ c d stated.0 hc.0 hd.0 (one_pair (Shows l) (Shows r) (size l) S c.children d.children (one_shown l stated.1) (one_shown r stated.2) hc.1 hd.1)
-one_shown (Not label f) stated S c d hc hd =
-    one_tree label _ c d stated.0 hc.0 hd.0 (one_part (Shows f) (codes "predicate") S c.children d.children empty empty (one_shown f stated.1) refl hc.1 hd.1)
-one_shown (Named label name f) stated S c d hc hd =
-    one_tree label _ c d stated.0 hc.0 hd.0 (one_part (Shows f) name S c.children d.children empty empty (one_shown f stated.1) refl hc.1 hd.1)
+mutual
+  unfolding Shows HasStatedLabels
+
+  one_shown : (f : Formula) → HasStatedLabels f → IsShownOnce (Shows f)
+  one_shown (Leaf label own) stated S c d hc hd = one_tree label _ c d stated hc.0 hd.0 (hc.1 ∙ sym hd.1)
+  one_shown (Join op label fs) stated S c d hc hd =
+      one_tree label _ c d stated.0 hc.0 hd.0 (one_list_of_parts fs stated.1 S c.children d.children hc.1 hd.1)
+  one_shown (Not label f) stated S c d hc hd =
+      one_tree label _ c d stated.0 hc.0 hd.0 (one_part (Shows f) (codes "predicate") S c.children d.children empty empty (one_shown f stated.1) refl hc.1 hd.1)
+  one_shown (Named label name f) stated S c d hc hd =
+      one_tree label _ c d stated.0 hc.0 hd.0 (one_part (Shows f) name S c.children d.children empty empty (one_shown f stated.1) refl hc.1 hd.1)
+
+  one_list_of_parts : (fs : Formulas) → HaveStatedLabels fs → (S : List ℕ) (x y : Forest CaseNode) → ShowsParts fs x S → ShowsParts fs y S → x ≡ y
+  one_list_of_parts (one name f) stated S x y hx hy = one_part (Shows f) name S x y empty empty (one_shown f stated) refl hx hy
+  one_list_of_parts (more name f fs) stated S x y hx hy =
+      let rests : hx.0 ≡ hy.0 = one_list_of_parts fs stated.1 (right_share (size f) S) hx.0 hy.0 hx.2 hy.2 in
+      one_part (Shows f) name (left_share (size f) S) x y hx.0 hy.0 (one_shown f stated.0) rests hx.1 hy.1
 
 -- two cases that explain the formula are equal
 pub one_case : (f : Formula) (c d : Tree CaseNode) → HasStatedLabels f → Explains f c → Explains f d → c ≡ d

@@ -1,12 +1,12 @@
--- How the children of a case show two parts, or one.
-use Rattle.std.proofs.Common.{◌≡◌, ℕ, suc, ◌+◌, ◌-◌, ◌<◌, true, false, List, [], ◌∷◌, ◌++◌, codes, refl, sym, ap, ◌∙◌, arith, append-nil}
+-- How the children of a case show a first part and others, or one part.
+use Rattle.std.proofs.Common.{◌≡◌, ℕ, suc, ◌+◌, ◌-◌, ◌<◌, true, false, List, [], ◌∷◌, ◌++◌, refl, sym, ap, ◌∙◌, subst, arith, append-nil}
 use Rattle.std.specs.Prelude.{nat_lt, nat_le}
 use Rattle.std.proofs.lemmas.Bool.Decides.{nat_tests}
 use Rattle.predicates_core.specs.Formula.{Formula, size}
 use Rattle.predicates_core.specs.Reason.{AreIncreasing, IsFirstReason}
 use Rattle.predicates_core.specs.Tree.{Tree, Forest, empty, branch}
 use Rattle.predicates_core.specs.Describe.{CaseNode}
-use Rattle.predicates_core.specs.Shows.{left_share, right_share, ShowsPart, ShowsBoth}
+use Rattle.predicates_core.specs.Shows.{left_share, right_share, ShowsPart}
 use Rattle.predicates_core.proofs.Numbers.{shifted}
 use Rattle.predicates_core.proofs.FirstReason.{first_not_empty}
 
@@ -44,6 +44,13 @@ unfolding right_share AreIncreasing
 right_share-joined low n [] R h = right_share-shifted n R
 right_share-joined low n (k ∷ L) R h = rw (below_is_not_right n k h.1) (right_share-joined (suc k) n L R h.2)
 
+-- leaves of the first part alone
+pub left_share-alone : (n : ℕ) (L : List ℕ) → AreIncreasing 0 n L → left_share n L ≡ L
+left_share-alone n L within = ap (left_share n) (sym (append-nil L)) ∙ left_share-joined 0 n L [] within
+
+pub right_share-alone : (n : ℕ) (L : List ℕ) → AreIncreasing 0 n L → right_share n L ≡ []
+right_share-alone n L within = ap (right_share n) (sym (append-nil L)) ∙ right_share-joined 0 n L [] within
+
 abbrev pub IsNonempty : List ℕ → Type 0
 IsNonempty [] = ⊥
 IsNonempty (k ∷ ks) = Unit {0}
@@ -63,23 +70,22 @@ module _ (showing : Tree CaseNode → List ℕ → Type 0) (name : List ℕ) (re
   shows_part [] c some h = absurd some
   shows_part (k ∷ ks) c some h = (c, refl, h)
 
-module _ (left right : Tree CaseNode → List ℕ → Type 0) (n : ℕ) where
-  -- both parts have a share
-  pub shows_both : (ks ms : List ℕ) (c d : Tree CaseNode) → AreIncreasing 0 n ks → IsNonempty ks → IsNonempty ms → left c ks → right d ms
-      → ShowsBoth left right n (branch (codes "left") c.root c.children (branch (codes "right") d.root d.children empty)) (ks ++ shifted n ms)
-  shows_both ks ms c d within some_left some_right h g =
-      rw (left_share-joined 0 n ks ms within, right_share-joined 0 n ks ms within) (branch (codes "right") d.root d.children empty, shows_part left (codes "left") _ ks c some_left h, shows_part right (codes "right") empty ms d some_right g)
+-- a first part under a name, which has the first n leaves, and the others
+module _ (first : Tree CaseNode → List ℕ → Type 0) (name : List ℕ) (others : Forest CaseNode → List ℕ → Type 0) (n : ℕ) where
+  abbrev ShowsAll : Forest CaseNode → List ℕ → Type 0
+  ShowsAll children s = (rest : Forest CaseNode) × ShowsPart first name (left_share n s) children rest × others rest (right_share n s)
 
-  -- the left part alone has one
-  pub shows_left : (ks : List ℕ) (c : Tree CaseNode) → AreIncreasing 0 n ks → IsNonempty ks → left c ks
-      → ShowsBoth left right n (branch (codes "left") c.root c.children empty) ks
-  shows_left ks c within some h =
-      let e : left_share n ks ≡ ks = ap (left_share n) (sym (append-nil ks)) ∙ left_share-joined 0 n ks [] within in
-      let f : right_share n ks ≡ [] = ap (right_share n) (sym (append-nil ks)) ∙ right_share-joined 0 n ks [] within in
-      rw (e, f) (empty, shows_part left (codes "left") empty ks c some h, refl)
+  -- the first part has a share, and so may others
+  pub shows_both : (ks ms : List ℕ) (c : Tree CaseNode) (rest : Forest CaseNode) → AreIncreasing 0 n ks → IsNonempty ks → first c ks → others rest ms
+      → ShowsAll (branch name c.root c.children rest) (ks ++ shifted n ms)
+  shows_both ks ms c rest within some h g =
+      rw (left_share-joined 0 n ks ms within, right_share-joined 0 n ks ms within) (rest, shows_part first name rest ks c some h, g)
 
-  -- the right part alone has one
-  pub shows_right : (ms : List ℕ) (d : Tree CaseNode) → IsNonempty ms → right d ms
-      → ShowsBoth left right n (branch (codes "right") d.root d.children empty) (shifted n ms)
-  shows_right ms d some h =
-      rw (left_share-shifted n ms, right_share-shifted n ms) (branch (codes "right") d.root d.children empty, refl, shows_part right (codes "right") empty ms d some h)
+  -- the first part alone has one
+  pub shows_left : (ks : List ℕ) (c : Tree CaseNode) → AreIncreasing 0 n ks → IsNonempty ks → first c ks → others empty []
+      → ShowsAll (branch name c.root c.children empty) ks
+  shows_left ks c within some h none = subst (ShowsAll (branch name c.root c.children empty)) (append-nil ks) (shows_both ks [] c empty within some h none)
+
+  -- others alone have one
+  pub shows_right : (ms : List ℕ) (rest : Forest CaseNode) → others rest ms → ShowsAll rest (shifted n ms)
+  shows_right ms rest g = rw (left_share-shifted n ms, right_share-shifted n ms) (rest, refl, g)

@@ -1,41 +1,65 @@
 -- Values of formulas: the truth of each kind, and that a formula takes both values.
-use Rattle.std.proofs.Common.{◌≡◌, ℕ, List, [], ◌∷◌, ◌++◌, Bool, true, false, refl, ap, ◌∙◌, arith, length-append}
+use Rattle.std.proofs.Common.{◌≡◌, ℕ, List, [], ◌∷◌, ◌++◌, Bool, true, false, refl, length, ap, ◌∙◌, arith, length-append}
 use Rattle.std.specs.Prelude.{not, ◌&&◌, ◌||◌}
 use mathlib.Core.Bool.{beq}
 use Rattle.predicates_core.specs.Label.{Label}
-use Rattle.predicates_core.specs.Formula.{Formula, Leaf, And, Or, Xor, Not, Named, differ, size, IsValuation, value, actual, truth}
-use Rattle.predicates_core.proofs.Joins.{and_joins, or_joins, xor_joins, joined_value, joined_truth}
+use Rattle.predicates_core.specs.declared.custom.join.Operator.{Operator}
+use Rattle.predicates_core.specs.declared.custom.join.Operator.TheVariants.{And, Or, Xor}
+use Rattle.predicates_core.specs.Formula.{Formula, Formulas, one, more, Leaf, Join, Not, Named, apply, pair, size, size_of_parts, IsValuation, value, value_of_parts, actual, truth}
+use Rattle.predicates_core.proofs.Joins.{joins, pair_joins, joined_value, joined_truth}
+
+-- the truth beside which a part's truth is that of the whole
+abbrev beside : Operator → Bool → Bool
+beside And b = b
+beside Or b = b
+beside Xor b = false
+
+apply_beside : (op : Operator) (b : Bool) → apply op b (beside op b) ≡ b
+apply_beside And true = refl
+apply_beside And false = refl
+apply_beside Or true = refl
+apply_beside Or false = refl
+apply_beside Xor true = refl
+apply_beside Xor false = refl
 
 -- a valuation under which the formula has the value
-pub reaching : Formula → Bool → List Bool
-reaching (Leaf label t) b = b ∷ []
-reaching (And label l r) b = reaching l b ++ reaching r b
-reaching (Or label l r) b = reaching l b ++ reaching r b
-reaching (Xor label l r) b = reaching l b ++ reaching r false
-reaching (Not label f) b = reaching f (not b)
-reaching (Named label name f) b = reaching f b
+mutual
+  pub reaching : Formula → Bool → List Bool
+  reaching (Leaf label t) b = b ∷ []
+  reaching (Join op label fs) b = reaching_by_parts op fs b
+  reaching (Not label f) b = reaching f (not b)
+  reaching (Named label name f) b = reaching f b
 
-pub length-reaching : (f : Formula) (b : Bool) → IsValuation f (reaching f b)
-unfolding reaching size
-length-reaching (Leaf label t) b = refl
-length-reaching (And label l r) b = omega (arith, length-append (reaching l b) (reaching r b), length-reaching l b, length-reaching r b)
-length-reaching (Or label l r) b = omega (arith, length-append (reaching l b) (reaching r b), length-reaching l b, length-reaching r b)
-length-reaching (Xor label l r) b = omega (arith, length-append (reaching l b) (reaching r false), length-reaching l b, length-reaching r false)
-length-reaching (Not label f) b = length-reaching f (not b)
-length-reaching (Named label name f) b = length-reaching f b
+  reaching_by_parts : Operator → Formulas → Bool → List Bool
+  reaching_by_parts op (one name f) b = reaching f b
+  reaching_by_parts op (more name f fs) b = reaching f b ++ reaching_by_parts op fs (beside op b)
+
+mutual
+  unfolding reaching size
+
+  pub length-reaching : (f : Formula) (b : Bool) → IsValuation f (reaching f b)
+  length-reaching (Leaf label t) b = refl
+  length-reaching (Join op label fs) b = length-reaching_by_parts op fs b
+  length-reaching (Not label f) b = length-reaching f (not b)
+  length-reaching (Named label name f) b = length-reaching f b
+
+  length-reaching_by_parts : (op : Operator) (fs : Formulas) (b : Bool) → length (reaching_by_parts op fs b) ≡ size_of_parts fs
+  length-reaching_by_parts op (one name f) b = length-reaching f b
+  length-reaching_by_parts op (more name f fs) b = omega (arith, length-append (reaching f b) (reaching_by_parts op fs (beside op b)), length-reaching f b, length-reaching_by_parts op fs (beside op b))
 
 pub truth-Leaf : (label : Label) (t : Bool) → truth (Leaf label t) ≡ t
 unfolding truth value actual
 truth-Leaf label t = refl
 
-pub truth-And : (label : Label) (l r : Formula) → truth (And label l r) ≡ truth l && truth r
-truth-And label l r = joined_truth (and_joins label l r)
+pub truth-one : (op : Operator) (label : Label) (name : List ℕ) (f : Formula) → truth (Join op label (one name f)) ≡ truth f
+unfolding truth value actual
+truth-one op label name f = refl
 
-pub truth-Or : (label : Label) (l r : Formula) → truth (Or label l r) ≡ truth l || truth r
-truth-Or label l r = joined_truth (or_joins label l r)
+pub truth-more : (op : Operator) (label : Label) (name : List ℕ) (f : Formula) (fs : Formulas) → truth (Join op label (more name f fs)) ≡ apply op (truth f) (truth (Join op label fs))
+truth-more op label name f fs = joined_truth (joins op label name f fs)
 
-pub truth-Xor : (label : Label) (l r : Formula) → truth (Xor label l r) ≡ differ (truth l) (truth r)
-truth-Xor label l r = joined_truth (xor_joins label l r)
+pub truth-pair : (op : Operator) (label : Label) (l r : Formula) → truth (pair op label l r) ≡ apply op (truth l) (truth r)
+truth-pair op label l r = joined_truth (pair_joins op label l r)
 
 pub truth-Not : (label : Label) (f : Formula) → truth (Not label f) ≡ not (truth f)
 unfolding truth value actual
@@ -49,26 +73,18 @@ pub not-not : (b : Bool) → not (not b) ≡ b
 not-not true = refl
 not-not false = refl
 
-and_same : (b : Bool) → (b && b) ≡ b
-and_same true = refl
-and_same false = refl
+mutual
+  unfolding reaching value
 
-or_same : (b : Bool) → (b || b) ≡ b
-or_same true = refl
-or_same false = refl
+  pub value-reaching : (f : Formula) (b : Bool) → value f (reaching f b) ≡ b
+  value-reaching (Leaf label t) b = refl
+  value-reaching (Join op label fs) b = value-reaching_by_parts op label fs b
+  value-reaching (Not label f) b = ap not (value-reaching f (not b)) ∙ not-not b
+  value-reaching (Named label name f) b = value-reaching f b
 
-differ_false : (b : Bool) → differ b false ≡ b
-differ_false true = refl
-differ_false false = refl
-
-pub value-reaching : (f : Formula) (b : Bool) → value f (reaching f b) ≡ b
-unfolding reaching value
-value-reaching (Leaf label t) b = refl
-value-reaching (And label l r) b = joined_value (and_joins label l r) (reaching l b) (reaching r b) (length-reaching l b) ∙ cc (value-reaching l b, value-reaching r b, and_same b)
-value-reaching (Or label l r) b = joined_value (or_joins label l r) (reaching l b) (reaching r b) (length-reaching l b) ∙ cc (value-reaching l b, value-reaching r b, or_same b)
-value-reaching (Xor label l r) b = joined_value (xor_joins label l r) (reaching l b) (reaching r false) (length-reaching l b) ∙ cc (value-reaching l b, value-reaching r false, differ_false b)
-value-reaching (Not label f) b = ap not (value-reaching f (not b)) ∙ not-not b
-value-reaching (Named label name f) b = value-reaching f b
+  value-reaching_by_parts : (op : Operator) (label : Label) (fs : Formulas) (b : Bool) → value (Join op label fs) (reaching_by_parts op fs b) ≡ b
+  value-reaching_by_parts op label (one name f) b = value-reaching f b
+  value-reaching_by_parts op label (more name f fs) b = joined_value (joins op label name f fs) (reaching f b) (reaching_by_parts op fs (beside op b)) (length-reaching f b) ∙ cc (value-reaching f b, value-reaching_by_parts op label fs (beside op b), apply_beside op b)
 
 -- what a comparison of two truths says
 pub same_truths : (a b : Bool) → beq a b ≡ true → a ≡ b

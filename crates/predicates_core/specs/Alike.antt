@@ -2,8 +2,8 @@
 use Rattle.std.specs.Prelude.{◌≡◌, ◌↔◌, ℕ, Bool, List, IsSome}
 use Rattle.std.specs.List.{AllByRecursion}
 use Rattle.predicates_core.specs.Label.{Label}
-use Rattle.predicates_core.specs.Formula.{Formula, Leaf, And, Or, Xor, Not, Named, IsValuation}
-use Rattle.predicates_core.specs.Formula.{value, actual, truth}
+use Rattle.predicates_core.specs.Formula.{Formula, Leaf, Join, Not, Named, Formulas, one, more}
+use Rattle.predicates_core.specs.Formula.{IsValuation, value, actual, truth}
 use Rattle.predicates_core.specs.Reason.{IsFirstReason}
 
 -- the two formulas have the same truth and the same first reason
@@ -22,10 +22,13 @@ pub record IsStated (label : Label) : Type 0 where
   pub products : AllByRecursion (λ p. IsSome p.value) label.products
 
 -- no label of the formula leaves an entry open
-unfoldable pub HasStatedLabels : Formula → Type 0
-HasStatedLabels (Leaf label truth) = IsStated label
-HasStatedLabels (And label l r) = IsStated label × HasStatedLabels l × HasStatedLabels r
-HasStatedLabels (Or label l r) = IsStated label × HasStatedLabels l × HasStatedLabels r
-HasStatedLabels (Xor label l r) = IsStated label × HasStatedLabels l × HasStatedLabels r
-HasStatedLabels (Not label f) = IsStated label × HasStatedLabels f
-HasStatedLabels (Named label name f) = IsStated label × HasStatedLabels f
+unfoldable mutual
+  pub HasStatedLabels : Formula → Type 0
+  HasStatedLabels (Leaf label truth) = IsStated label
+  HasStatedLabels (Join op label fs) = IsStated label × HaveStatedLabels fs
+  HasStatedLabels (Not label f) = IsStated label × HasStatedLabels f
+  HasStatedLabels (Named label name f) = IsStated label × HasStatedLabels f
+
+  pub HaveStatedLabels : Formulas → Type 0
+  HaveStatedLabels (one name f) = HasStatedLabels f
+  HaveStatedLabels (more name f fs) = HasStatedLabels f × HaveStatedLabels fs

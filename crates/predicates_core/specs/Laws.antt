@@ -1,7 +1,13 @@
 -- Laws of formulas and of their first reasons.
-use Rattle.std.specs.Prelude.{◌≡◌, ℕ, List}
-use Rattle.predicates_core.specs.Formula.{Formula}
+use Rattle.std.specs.Prelude.{◌≡◌, ◌≢◌, ℕ, List, [], Bool, cond, Option, Some, None}
+use mathlib.Core.Bool.{beq}
+use Rattle.predicates_core.specs.Describe.{CaseNode}
+use Rattle.predicates_core.specs.Formula.{Formula, Formulas, one, more, Join, truth}
+use Rattle.predicates_core.specs.Label.{Label}
 use Rattle.predicates_core.specs.Reason.{IsFirstReason}
+use Rattle.predicates_core.specs.Several.{decided_by}
+use Rattle.predicates_core.specs.Shows.{Explains}
+use Rattle.predicates_core.specs.Tree.{Tree, empty, branch}
 
 -- there is a first reason, and there is no other
 abbrev pub HasOneFirstReason : Formula → Type 0
@@ -10,3 +16,27 @@ HasOneFirstReason f = (leaves : List ℕ) × IsFirstReason f leaves
 
 abbrev pub FirstReasons : Type 0
 FirstReasons = (f : Formula) → HasOneFirstReason f
+
+-- no first reason is empty, so a case shows a leaf at least
+abbrev pub NoneIsEmpty : Type 0
+NoneIsEmpty = (f : Formula) (leaves : List ℕ) → IsFirstReason f leaves → leaves ≢ []
+
+-- the first part with the truth, if there is one, and its name
+abbrev pub first_with : Bool → Formulas → Option (List ℕ × Formula)
+first_with b (one name f) = cond (beq (truth f) b) (Some (name, f)) None
+first_with b (more name f fs) = cond (beq (truth f) b) (Some (name, f)) (first_with b fs)
+
+-- the only child of the case is that of the first part with the truth, and explains it
+pub record ShowsFirstAlone (b : Bool) (fs : Formulas) (t : Tree CaseNode) : Type 0 where
+  pub name : List ℕ
+  pub part : Formula
+  pub case : Tree CaseNode
+  pub is_first : first_with b fs ≡ Some (name, part)
+  pub alone : t.children ≡ branch name case.root case.children empty
+  pub explained : Explains part case
+
+-- where one part decides, the case has the first that does as its only child
+abbrev pub OneChild : Type 0
+OneChild = (decides : Bool) (label : Label) (fs : Formulas) (t : Tree CaseNode)
+    → truth (Join (decided_by decides) label fs) ≡ decides
+    → Explains (Join (decided_by decides) label fs) t → ShowsFirstAlone decides fs t

@@ -3,12 +3,14 @@ pub mod Describe
 pub mod Label
 pub mod Formula
 pub mod Reason
-pub mod Laws
 pub mod Shows
 pub mod Combined
+pub mod Asked
 pub mod Alike
 pub mod Leaves
 pub mod LeafLaws
+pub mod Several
+pub mod Laws
 pub mod Added
 pub mod Parts
 pub mod Text

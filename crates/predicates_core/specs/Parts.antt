@@ -1,5 +1,5 @@
 -- What a predicate tells of its parts, apart from any item.
-use Rattle.std.specs.Prelude.{◌≡◌, ℕ, List}
+use Rattle.std.specs.Prelude.{◌≡◌, ℕ, List, [], ◌∷◌}
 use Rattle.predicates_core.specs.Label.{Entry, Product, Fits, FitsProducts}
 use Rattle.predicates_core.specs.Tree.{Forest, empty, branch}
 use Rattle.predicates_core.specs.Describe.{ChildNode, NamedChild}
@@ -35,3 +35,11 @@ pub record IsPart (name : List ℕ) (text : Entry) (parameters : List Product) (
   pub printed : Fits text c.1.root.text
   pub given : FitsProducts parameters c.1.root.parameters
   pub parts : FitsParts below c.1.children
+
+-- a part for each member, in order, under one name
+abbrev pub part_of_each : {U : Type 0} → List ℕ → (U → Entry) → (U → List Product)
+    → (U → Forest Part) → List U → Forest Part
+part_of_each name text parameters below [] = empty
+part_of_each name text parameters below (u ∷ us) =
+    branch name (record { text = text u; parameters = parameters u }) (below u)
+    (part_of_each name text parameters below us)

@@ -2,8 +2,8 @@
 use Rattle.std.specs.Prelude.{◌≡◌, ℕ, ◌-◌, Bool, not, List, [], ◌∷◌, map, filter, Option, Some}
 use Rattle.std.specs.Prelude.{None, MatchOption, codes, nat_lt, nat_le}
 use Rattle.predicates_core.specs.Label.{Label, Entry, FitsText, FitsProducts}
-use Rattle.predicates_core.specs.Formula.{Formula, Leaf, And, Or, Xor, Not, Named, size, truth}
-use Rattle.predicates_core.specs.Formula.{HasTruth}
+use Rattle.predicates_core.specs.Formula.{Formula, Leaf, Join, Not, Named, Formulas, one, more}
+use Rattle.predicates_core.specs.Formula.{size, truth, HasTruth}
 use Rattle.predicates_core.specs.Reason.{IsFirstReason}
 use Rattle.predicates_core.specs.Tree.{Tree, Forest, empty, branch, forest}
 use Rattle.predicates_core.specs.Describe.{CaseNode, NamedCase}
@@ -14,11 +14,11 @@ pub record FitsNode (label : Label) (b : Bool) (node : CaseNode) : Type 0 where
   pub result : node.result ≡ b
   pub products : FitsProducts label.products node.products
 
--- the share of the left one of two parts, which has the first n leaves
+-- the share of the first part, which has the first n leaves
 unfoldable pub left_share : ℕ → List ℕ → List ℕ
 left_share n leaves = filter (λ k. nat_lt k n) leaves
 
--- the share of the right one, numbered from 0
+-- the share of the other parts, numbered from 0
 unfoldable pub right_share : ℕ → List ℕ → List ℕ
 right_share n leaves = map (λ k. k - n) (filter (λ k. nat_le n k) leaves)
 
@@ -29,25 +29,23 @@ ShowsPart showing name [] children rest = children ≡ rest
 ShowsPart showing name (k ∷ ks) children rest = (c : Tree CaseNode)
     × (children ≡ branch name c.root c.children rest) × showing c (k ∷ ks)
 
-abbrev pub ShowsBoth : (Tree CaseNode → List ℕ → Type 0) → (Tree CaseNode → List ℕ → Type 0) → ℕ
-    → Forest CaseNode → List ℕ → Type 0
-ShowsBoth left right n children s = (rest : Forest CaseNode)
-    × ShowsPart left (codes "left") (left_share n s) children rest
-    × ShowsPart right (codes "right") (right_share n s) rest empty
-
 -- the tree is the formula cut down to the leaves
-unfoldable pub Shows : Formula → Tree CaseNode → List ℕ → Type 0
-Shows (Leaf label own) t s = FitsNode label own t.root × (t.children ≡ empty) × (s ≡ 0 ∷ [])
-Shows (And label l r) t s = FitsNode label (truth (And label l r)) t.root
-    × ShowsBoth (Shows l) (Shows r) (size l) t.children s
-Shows (Or label l r) t s = FitsNode label (truth (Or label l r)) t.root
-    × ShowsBoth (Shows l) (Shows r) (size l) t.children s
-Shows (Xor label l r) t s = FitsNode label (truth (Xor label l r)) t.root
-    × ShowsBoth (Shows l) (Shows r) (size l) t.children s
-Shows (Not label f) t s = FitsNode label (truth (Not label f)) t.root
-    × ShowsPart (Shows f) (codes "predicate") s t.children empty
-Shows (Named label name f) t s = FitsNode label (truth (Named label name f)) t.root
-    × ShowsPart (Shows f) name s t.children empty
+unfoldable mutual
+  pub Shows : Formula → Tree CaseNode → List ℕ → Type 0
+  Shows (Leaf label own) t s = FitsNode label own t.root × (t.children ≡ empty) × (s ≡ 0 ∷ [])
+  Shows (Join op label fs) t s = FitsNode label (truth (Join op label fs)) t.root
+      × ShowsParts fs t.children s
+  Shows (Not label f) t s = FitsNode label (truth (Not label f)) t.root
+      × ShowsPart (Shows f) (codes "predicate") s t.children empty
+  Shows (Named label name f) t s = FitsNode label (truth (Named label name f)) t.root
+      × ShowsPart (Shows f) name s t.children empty
+
+  -- the children are, in order, the parts with a share, each cut down to it
+  pub ShowsParts : Formulas → Forest CaseNode → List ℕ → Type 0
+  ShowsParts (one name f) children s = ShowsPart (Shows f) name s children empty
+  ShowsParts (more name f fs) children s = (rest : Forest CaseNode)
+      × ShowsPart (Shows f) name (left_share (size f) s) children rest
+      × ShowsParts fs rest (right_share (size f) s)
 
 -- the case shows the formula cut down to its first reason
 pub record Explains (f : Formula) (t : Tree CaseNode) : Type 0 where

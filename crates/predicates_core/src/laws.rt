@@ -1,13 +1,20 @@
-//! Laws of formulas, as contracts of calls that do nothing.
+//! Laws of formulas and of their cases, as contracts of calls that do nothing.
 //!
 //! ```
 //! // From here on a proof knows that each formula has exactly one first reason.
 //! laws::first_reasons();
 //! ```
-ghost use Rattle.predicates_core.specs.Laws.{FirstReasons};
+ghost use Rattle.predicates_core.specs.Laws.{FirstReasons, NoneIsEmpty, OneChild};
 
-/// Each formula has exactly one first reason, so a case that is cut down to it is never without
-/// one.
+/// Each formula has exactly one first reason, which has a leaf at least. So a case that is cut down to
+/// it is never without one.
 pub fn first_reasons()
-    ensures { FirstReasons }
+    ensures one { FirstReasons }
+    ensures some { NoneIsEmpty }
+{}
+
+/// Where one part decides a join, the case has exactly one child: that of the first part that does.
+/// So a false `and` and a true `or` of any number of parts show one part.
+pub fn one_child()
+    ensures { OneChild }
 {}

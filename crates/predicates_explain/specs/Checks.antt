@@ -1,9 +1,9 @@
 -- What a check of texts prints, and its formula on a text, by the word that it stands for.
-use Rattle.std.specs.Prelude.{ℕ, List, codes}
+use Rattle.std.specs.Prelude.{ℕ, List}
 use Rattle.predicates_core.specs.Label.{Entry, plain}
-use Rattle.predicates_core.specs.Formula.{Formula, And, Or, Xor, Not}
+use Rattle.predicates_core.specs.Formula.{Formula, pair, Not}
 use Rattle.predicates_core.specs.Leaves.{IsExactly}
-use Rattle.predicates_core.specs.Combined.{infix_text, not_text, IsAnd, IsOr, IsXor, IsNot}
+use Rattle.predicates_core.specs.Combined.{infix_text, not_text, sign, IsPair, IsNot}
 use Rattle.predicates_text.specs.Patterns.{starts_pattern, ends_pattern, contains_pattern}
 use Rattle.predicates_text.specs.Leaves.{empty_text, empty_formula, starts_text, starts_formula}
 use Rattle.predicates_text.specs.Leaves.{ends_text, ends_formula, contains_text, contains_formula}
@@ -14,8 +14,7 @@ use Rattle.predicates_item.specs.TextEquality.{text_equality_text, text_equality
 use Rattle.predicates_explain.specs.declared.check.TextCheck.{TextCheck, Empty, Equals, Starts}
 use Rattle.predicates_explain.specs.declared.check.TextCheck.{Ends, Contains, Matches, Trim'}
 use Rattle.predicates_explain.specs.declared.check.TextCheck.{Normalize', Not' as NotCheck}
-use Rattle.predicates_explain.specs.declared.check.TextCheck.{And' as AndCheck, Or' as OrCheck}
-use Rattle.predicates_explain.specs.declared.check.TextCheck.{Xor' as XorCheck}
+use Rattle.predicates_explain.specs.declared.check.TextCheck.{Join'}
 
 -- the printed text
 abbrev pub check_text : TextCheck → Entry
@@ -28,10 +27,7 @@ check_text (Matches p) = match_text (regex_text p)
 check_text (Trim' _ inner) = check_text inner
 check_text (Normalize' _ inner) = check_text inner
 check_text (NotCheck _ inner) = not_text (check_text inner)
-check_text (AndCheck _ left _ right) = infix_text (codes " && ") (check_text left)
-    (check_text right)
-check_text (OrCheck _ left _ right) = infix_text (codes " || ") (check_text left) (check_text right)
-check_text (XorCheck _ left _ right) = infix_text (codes " ^ ") (check_text left) (check_text right)
+check_text (Join' op _ left _ right) = infix_text (sign op) (check_text left) (check_text right)
 
 -- the formula on a text with the bytes
 abbrev pub HasFormula : TextCheck → List ℕ → Formula → Type 0
@@ -44,14 +40,8 @@ HasFormula (Matches p) bytes = IsExactly (match_formula (regex_text p) (regex_me
 HasFormula (Trim' _ inner) bytes = HasFormula inner (trimmed_bytes bytes)
 HasFormula (Normalize' _ inner) bytes = HasFormula inner (even_bytes bytes)
 HasFormula (NotCheck _ inner) bytes = IsNot (not_text (check_text inner)) (HasFormula inner bytes)
-HasFormula (AndCheck _ left _ right) bytes =
-    IsAnd (infix_text (codes " && ") (check_text left) (check_text right)) (HasFormula left bytes)
-    (HasFormula right bytes)
-HasFormula (OrCheck _ left _ right) bytes =
-    IsOr (infix_text (codes " || ") (check_text left) (check_text right)) (HasFormula left bytes)
-    (HasFormula right bytes)
-HasFormula (XorCheck _ left _ right) bytes =
-    IsXor (infix_text (codes " ^ ") (check_text left) (check_text right)) (HasFormula left bytes)
+HasFormula (Join' op _ left _ right) bytes =
+    IsPair op (infix_text (sign op) (check_text left) (check_text right)) (HasFormula left bytes)
     (HasFormula right bytes)
 
 -- the one such formula
@@ -66,14 +56,8 @@ check_formula (Trim' _ inner) bytes = check_formula inner (trimmed_bytes bytes)
 check_formula (Normalize' _ inner) bytes = check_formula inner (even_bytes bytes)
 check_formula (NotCheck _ inner) bytes = Not (plain (not_text (check_text inner)))
     (check_formula inner bytes)
-check_formula (AndCheck _ left _ right) bytes =
-    And (plain (infix_text (codes " && ") (check_text left) (check_text right)))
-    (check_formula left bytes) (check_formula right bytes)
-check_formula (OrCheck _ left _ right) bytes =
-    Or (plain (infix_text (codes " || ") (check_text left) (check_text right)))
-    (check_formula left bytes) (check_formula right bytes)
-check_formula (XorCheck _ left _ right) bytes =
-    Xor (plain (infix_text (codes " ^ ") (check_text left) (check_text right)))
+check_formula (Join' op _ left _ right) bytes =
+    pair op (plain (infix_text (sign op) (check_text left) (check_text right)))
     (check_formula left bytes) (check_formula right bytes)
 
 -- `eval` takes no memory
@@ -87,6 +71,4 @@ IsInfallibleCheck (Matches p) = ⊥
 IsInfallibleCheck (Trim' _ inner) = ⊥
 IsInfallibleCheck (Normalize' _ inner) = ⊥
 IsInfallibleCheck (NotCheck _ inner) = IsInfallibleCheck inner
-IsInfallibleCheck (AndCheck _ left _ right) = IsInfallibleCheck left × IsInfallibleCheck right
-IsInfallibleCheck (OrCheck _ left _ right) = IsInfallibleCheck left × IsInfallibleCheck right
-IsInfallibleCheck (XorCheck _ left _ right) = IsInfallibleCheck left × IsInfallibleCheck right
+IsInfallibleCheck (Join' op _ left _ right) = IsInfallibleCheck left × IsInfallibleCheck right

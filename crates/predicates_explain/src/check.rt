@@ -11,6 +11,7 @@ ghost use Rattle.predicates_explain.specs.Weight.{IsLeafCheck};
 mod find;
 mod rotate;
 
+use predicates::custom::Operator;
 use predicates::ord::EqPredicate;
 use predicates::reflection::{Case, Child, Parameter, PredicateReflection};
 use predicates::str::{
@@ -44,12 +45,8 @@ pub enum TextCheck {
     Normalize(Box<TextCheck>),
     /// The check does not hold.
     Not(Box<TextCheck>),
-    /// Both checks hold; the right one is asked only where the left one holds.
-    And(Box<TextCheck>, Box<TextCheck>),
-    /// One or both checks hold; the right one is asked only where the left one does not hold.
-    Or(Box<TextCheck>, Box<TextCheck>),
-    /// Exactly one check holds; both are asked.
-    Xor(Box<TextCheck>, Box<TextCheck>),
+    /// The operator joins what the checks hold; the right one is asked only where it counts.
+    Join(Operator, Box<TextCheck>, Box<TextCheck>),
 }
 
 impl TextCheck {
@@ -98,11 +95,9 @@ impl Drop for TextCheck {
                 TextCheck::Trim(inner) | TextCheck::Normalize(inner) | TextCheck::Not(inner) => {
                     self = Box::into_inner(inner);
                 }
-                TextCheck::And(mut left, mut right)
-                | TextCheck::Or(mut left, mut right)
-                | TextCheck::Xor(mut left, mut right) => {
+                TextCheck::Join(operator, mut left, mut right) => {
                     if rotate_left(&mut left, &mut right) {
-                        self = TextCheck::And(right, left);
+                        self = TextCheck::Join(operator, right, left);
                     } else {
                         Box::into_inner(left).drop_leaf();
                         self = Box::into_inner(right);
@@ -137,9 +132,9 @@ impl fmt::Display for TextCheck {
                 (**inner).fmt(f)?;
                 write!(f, ")")
             }
-            TextCheck::And(left, right) => TextCheck::fmt_joined(left, " && ", right, f),
-            TextCheck::Or(left, right) => TextCheck::fmt_joined(left, " || ", right, f),
-            TextCheck::Xor(left, right) => TextCheck::fmt_joined(left, " ^ ", right, f),
+            TextCheck::Join(operator, left, right) => {
+                TextCheck::fmt_joined(left, operator.sign(), right, f)
+            }
         }
     }
 }
@@ -194,18 +189,18 @@ impl Predicate<String> for TextCheck {
                     wanted = !wanted;
                     check = inner;
                 }
-                TextCheck::And(left, _) if !left.eval(alloc, item)? => return Ok(!wanted),
-                TextCheck::Or(left, _) if left.eval(alloc, item)? => return Ok(wanted),
-                TextCheck::And(_, right) | TextCheck::Or(_, right) => check = right,
-                TextCheck::Xor(left, right) => {
-                    wanted = left.eval(alloc, item)? != wanted;
+                TextCheck::Join(operator, left, right) => {
+                    let left_holds = left.eval(alloc, item)?;
+                    if !operator.asks(left_holds) {
+                        return Ok(left_holds == wanted);
+                    }
+                    wanted = operator.apply(left_holds, false) != wanted;
                     check = right;
                 }
             }
         }
     }
 
-    /// A check that joins two others is evaluated first, so that no case of a part is made in vain.
     #[cycle(find)]
     fn find_case(
         &self,
@@ -229,10 +224,9 @@ impl Predicate<String> for TextCheck {
                 inner.find_case(alloc, expected, lines_even_view(alloc, item, &mut copy)?)
             }
             TextCheck::Not(inner) => self.find_not(alloc, inner, expected, item),
-            _ if self.eval(alloc, item)? != expected => Ok(None),
-            TextCheck::And(left, right) => self.find_and(alloc, left, right, expected, item),
-            TextCheck::Or(left, right) => self.find_or(alloc, left, right, expected, item),
-            TextCheck::Xor(left, right) => self.find_xor(alloc, left, right, expected, item),
+            TextCheck::Join(operator, left, right) => {
+                self.find_join(alloc, *operator, left, right, expected, item)
+            }
         }
     }
 }

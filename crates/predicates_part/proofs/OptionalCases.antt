@@ -1,5 +1,6 @@
 -- Verdicts and cases of a predicate of a value that may be absent, from those of the inner predicate.
-use Rattle.std.proofs.Common.{◌≡◌, sym, Bool, false, Option, Some, None}
+use Rattle.std.proofs.Common.{◌≡◌, ℕ, List, refl, sym, Bool, false, Option, Some, None}
+use denote.Ref.{Bor}
 use Rattle.predicates_core.specs.Label.{Entry}
 use Rattle.predicates_core.specs.Formula.{Formula, HasTruth}
 use Rattle.predicates_core.specs.Shows.{IsCaseOf}
@@ -7,19 +8,19 @@ use Rattle.predicates_core.specs.Tree.{Tree}
 use Rattle.predicates_core.specs.Describe.{CaseNode}
 use Rattle.predicates_core.specs.Leaves.{IsExactly}
 use Rattle.predicates_core.proofs.Leaves.{HasTruth-exactly}
-use Rattle.predicates_part.specs.Optional.{IsOfSome, none_leaf}
+use Rattle.predicates_part.specs.Optional.{IsOfPresent, absent_leaf, lent}
 
-module _ {U : Type 0} {text : Entry} {has : U → Formula → Type 0} {held : Option U} where
-  pub HasTruth-some : {b : Bool} {u : U} → held ≡ Some u → HasTruth (has u) b → HasTruth (IsOfSome text has held) b
+module _ {U : Type 0} {text : Entry} {reason : List ℕ} {has : U → Formula → Type 0} {held : Option U} where
+  pub HasTruth-some : {b : Bool} {u : U} → held ≡ Some u → HasTruth (has u) b → HasTruth (IsOfPresent text reason has held) b
   HasTruth-some {b} {u} e h = record { at = λ f x. h.at f (x.of_some u e) }
 
-  pub IsCaseOf-some : {b : Bool} {u : U} {t : Tree CaseNode} → held ≡ Some u → IsCaseOf (has u) b t → IsCaseOf (IsOfSome text has held) b t
+  pub IsCaseOf-some : {b : Bool} {u : U} {t : Tree CaseNode} → held ≡ Some u → IsCaseOf (has u) b t → IsCaseOf (IsOfPresent text reason has held) b t
   IsCaseOf-some {b} {u} e h = record { truth = HasTruth-some e h.truth; explains = λ f x. h.explains f (x.of_some u e) }
 
-  pub HasTruth-none : {b : Bool} → held ≡ None → b ≡ false → HasTruth (IsOfSome text has held) b
+  pub HasTruth-none : {b : Bool} → held ≡ None → b ≡ false → HasTruth (IsOfPresent text reason has held) b
   HasTruth-none {b} e isnt = record { at = λ f x. (HasTruth-exactly (sym isnt)).at f (x.of_none e) }
 
-  pub IsCaseOf-none : {b : Bool} {t : Tree CaseNode} → held ≡ None → b ≡ false → IsCaseOf (IsExactly (none_leaf text)) false t → IsCaseOf (IsOfSome text has held) b t
+  pub IsCaseOf-none : {b : Bool} {t : Tree CaseNode} → held ≡ None → b ≡ false → IsCaseOf (IsExactly (absent_leaf text reason)) false t → IsCaseOf (IsOfPresent text reason has held) b t
   IsCaseOf-none {b} e isnt h = record { truth = HasTruth-none e isnt; explains = λ f x. h.explains f (x.of_none e) }
 
 pub ruleset optional_cases = (HasTruth-some, IsCaseOf-some, HasTruth-none, IsCaseOf-none)

@@ -1,5 +1,5 @@
 -- What a predicate answers of the one part is the truth of the whole, and its case explains it.
-use Rattle.std.proofs.Common.{◌≡◌, ℕ, Bool, List, [], ◌∷◌, Option, None, Some, Result, Ok, Err, IfOk, refl, subst}
+use Rattle.std.proofs.Common.{◌≡◌, ℕ, Bool, List, [], ◌∷◌, Option, None, Some, Result, Ok, Err, IfOk, refl, ap, subst}
 use Rattle.std.proofs.lemmas.Fn.{says_at}
 use Rattle.std.specs.Fn.{Shared}
 use denote.Ref.{Bor}
@@ -7,20 +7,12 @@ use Rattle.predicates_core.specs.Formula.{Formula, HasTruth}
 use Rattle.predicates_core.specs.Describe.{CaseNode}
 use Rattle.predicates_core.specs.Tree.{Tree}
 use Rattle.predicates_core.specs.Shows.{IsNode, IsCaseOf, IsAnswer}
-use Rattle.predicates_core.specs.Label.{Fits}
 use Rattle.predicates_core.specs.Combined.{IsNamed}
-use Rattle.predicates_core.proofs.CombinedLemmas.{HasTruth-named, IsCaseOf-named}
+use Rattle.predicates_core.proofs.CombinedLemmas.{HasTruth-named, IsCaseOf-under}
+use Rattle.predicates_core.specs.Label.{Entry, Fits}
+use Rattle.predicates_core.specs.Leaves.{IsExactly}
 use Rattle.predicates_part.specs.Field.{HasOnePart, IsOfPart}
-
--- a node over the part's case, which stands under the name
-pub IsCaseOf-under : {part : Formula → Type 0} {b : Bool} {c t : Tree CaseNode} {name under bytes : List ℕ} → IsNode (Some bytes) b ((under, c) ∷ []) t → under ≡ name → Fits (Some name) bytes → IsCaseOf part b c → IsCaseOf (IsNamed name part) b t
-IsCaseOf-under {b = b} {c = c} {t = t} {bytes = bytes} written is = IsCaseOf-named (subst (λ n. IsNode (Some bytes) b ((n, c) ∷ []) t) is written)
-
--- an answer about some formulas is one about fewer of them
-pub answer_of_fewer : {A B : Formula → Type 0} {E : Type 0} (b : Bool) (r : Result (Option (Tree CaseNode)) E) → ((f : Formula) → B f → A f) → IfOk r (IsAnswer A b) → IfOk r (IsAnswer B b)
-answer_of_fewer b (Ok None) fewer h = record { at = λ f k. h.at f (fewer f k) }
-answer_of_fewer b (Ok (Some c)) fewer h = record { truth = record { at = λ f k. h.truth.at f (fewer f k) }; explains = λ f k. h.explains f (fewer f k) }
-answer_of_fewer b (Err e) fewer h = tt
+use Rattle.predicates_part.specs.Optional.{IsOfPresent, absent_leaf, lent}
 
 module _ {F T R U : Type 0} {calls : Shared F (Bor T × Unit {0}) R} {read : R → U} {function : F} {item : Bor T} {r : R} {has : U → Formula → Type 0} {name : List ℕ} where
   pub on_part : HasOnePart calls read function → calls.post function (item, tt) r → (f : Formula) → IsNamed name (IsOfPart calls read function has item.now) f → IsNamed name (has (read r)) f
@@ -32,5 +24,38 @@ module _ {F T R U : Type 0} {calls : Shared F (Bor T × Unit {0}) R} {read : R �
 
   pub HasTruth-field : {b : Bool} → HasOnePart calls read function → calls.post function (item, tt) r → HasTruth (IsNamed name (has (read r))) b → HasTruth (IsNamed name (IsOfPart calls read function has item.now)) b
   HasTruth-field one given h = record { at = λ f k. h.at f (on_part one given f k) }
+
+-- an answer about some formulas is one about fewer of them
+module _ {A B : Formula → Type 0} {b : Bool} (fewer : (f : Formula) → B f → A f) where
+  pub truth_of_fewer : HasTruth A b → HasTruth B b
+  truth_of_fewer h = record { at = λ f k. h.at f (fewer f k) }
+
+  pub case_of_fewer : {t : Tree CaseNode} → IsCaseOf A b t → IsCaseOf B b t
+  case_of_fewer h = record { truth = truth_of_fewer h.truth; explains = λ f k. h.explains f (fewer f k) }
+
+pub answer_of_fewer : {A B : Formula → Type 0} {E : Type 0} (b : Bool) (r : Result (Option (Tree CaseNode)) E) → ((f : Formula) → B f → A f) → IfOk r (IsAnswer A b) → IfOk r (IsAnswer B b)
+answer_of_fewer b (Ok None) fewer h = truth_of_fewer fewer h
+answer_of_fewer b (Ok (Some c)) fewer h = case_of_fewer fewer h
+answer_of_fewer b (Err e) fewer h = tt
+
+pub case_with : {F : Formula → Type 0} {a b : Bool} {t : Tree CaseNode} → a ≡ b → IsCaseOf F a t → IsCaseOf F b t
+case_with {F} {t = t} e = subst (λ z. IsCaseOf F z t) e
+
+-- a node over the part's case, where memory sufficed for one
+pub case_over : {part : Formula → Type 0} {b : Bool} {c : Tree CaseNode} {name under bytes : List ℕ} {E : Type 0} (r : Result (Tree CaseNode) E) → IfOk r (IsNode (Some bytes) b ((under, c) ∷ [])) → under ≡ name → Fits (Some name) bytes → IsCaseOf part b c → IfOk r (IsCaseOf (IsNamed name part) b)
+case_over (Ok t) written is fits h = IsCaseOf-under written is fits h
+case_over (Err e) written is fits h = tt
+
+-- a part that the item may lack
+module _ {F T U : Type 0} {calls : Shared F (Bor T × Unit {0}) (Option (Bor U))} {function : F} {item : Bor T} {r : Option (Bor U)} {text : Entry} {reason : List ℕ} {has : U → Formula → Type 0} {name : List ℕ} where
+  pub on_present : {u : Bor U} → HasOnePart calls lent function → calls.post function (item, tt) r → r ≡ Some u → (f : Formula) → IsNamed name (IsOfPart calls lent function (IsOfPresent text reason has) item.now) f → IsNamed name (has u.now) f
+  on_present {u} one given is f h =
+      let k = on_part {read = lent} one given f h in
+      record { inner = k.inner; of_part = k.of_part.of_some u.now (ap lent is); is = k.is }
+
+  pub on_absent : HasOnePart calls lent function → calls.post function (item, tt) r → r ≡ None → (f : Formula) → IsNamed name (IsOfPart calls lent function (IsOfPresent text reason has) item.now) f → IsNamed name (IsExactly (absent_leaf text reason)) f
+  on_absent one given is f h =
+      let k = on_part {read = lent} one given f h in
+      record { inner = k.inner; of_part = k.of_part.of_none (ap lent is); is = k.is }
 
 pub ruleset parts = (HasTruth-named, HasTruth-field)

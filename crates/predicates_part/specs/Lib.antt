@@ -1,2 +1,4 @@
 pub mod Field
 pub mod Optional
+pub mod Members
+pub mod Length

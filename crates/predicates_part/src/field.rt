@@ -4,17 +4,21 @@
 //! let adult = predicate::ge(18).of("age", |person: &Person| person.age);
 //! let named = predicate::eq(name).of_ref("name", name_of);
 //! let seated = predicate::le(40).of_field("seat", Seat);
+//! let first = predicate::ge(1).of_some_ref("first", first_of);
 //! ```
-ghost use Rattle.std.specs.Prelude.{◌≡◌, [], Some, IfOk};
+ghost use Rattle.std.specs.Prelude.{◌≡◌, [], Some, IfOk, IfSome, codes, false};
 ghost use Rattle.predicates_core.specs.Label.{plain};
 ghost use Rattle.predicates_core.specs.Formula.{Named};
-ghost use Rattle.predicates_core.specs.Shows.{IsAnswer};
+ghost use Rattle.predicates_core.specs.Leaves.{IsExactly};
+ghost use Rattle.predicates_core.specs.Shows.{IsAnswer, IsCaseOf};
 ghost use Rattle.predicates_core.specs.Parts.{part};
 ghost use Rattle.predicates_core.specs.Combined.{IsNamed};
 ghost use Rattle.predicates_core.proofs.CombinedLemmas.{named_text_fits, one_named, has_named};
 ghost use Rattle.predicates_part.specs.Field.{HasOnePart, IsOfPart, IsInfallibleOnPart};
 ghost use Rattle.predicates_part.specs.Field.{one_of_part, owned, borrowed};
+ghost use Rattle.predicates_part.specs.Optional.{IsOfPresent, absent_leaf, lent, one_present};
 
+use crate::variant::absent_case;
 use predicates_core::as_static_str::AsStaticStr;
 use predicates_core::node::{printed, unary_node};
 use predicates_core::reflection::{Case, Child, Parameter, PredicateReflection, describe};
@@ -32,6 +36,9 @@ pub struct ByReference;
 /// The part is that of a `Field`.
 pub struct ByField;
 
+/// The function borrows the part from the item, if the item has one.
+pub struct ByOption;
+
 /// A part of an item, named by a unit struct of the caller's.
 pub trait Field<T, U> {
     // The part that an item has.
@@ -43,7 +50,7 @@ pub trait Field<T, U> {
 }
 
 /// Holds of an item where its inner predicate holds of the part that the function gives, and prints
-/// the part's name. Made by `of`, `of_ref` and `of_field` of `PredicatePartExt`.
+/// the part's name. Made by `of`, `of_ref`, `of_some_ref` and `of_field` of `PredicatePartExt`.
 #[derive(Drop)]
 pub struct FieldPredicate<P, F, T, U, N = &'static str, Access = ByValue> {
     pub(crate) inner: P,
@@ -70,6 +77,16 @@ impl<P: Predicate<U>, F, T, U, N: AsStaticStr, Access> FieldPredicate<P, F, T, U
         };
         let text = printed(alloc, self)?;
         Ok(Some(unary_node(alloc, text, expected, self.name.text(), case)?))
+    }
+
+    // The case of an item that has no part.
+    fn case_without_part(&self, alloc: Global) -> Result<Case, AllocError>
+        ensures { IfOk result (IsCaseOf (IsNamed (N.bytes self.now.name)
+            (IsExactly (absent_leaf (P.output self.now.inner) (codes "no value")))) false) }
+    {
+        let case = absent_case(alloc, &self.inner, "no value")?;
+        let text = printed(alloc, self)?;
+        unary_node(alloc, text, false, self.name.text(), case)
     }
 }
 
@@ -162,6 +179,44 @@ impl<P: Predicate<U>, F: Fn(&T) -> &U, T, U, N: AsStaticStr> Predicate<T>
         item: &T,
     ) -> Result<Option<Case>, AllocError> {
         self.case_of_part(alloc, expected, (self.function)(item))
+    }
+}
+
+impl<P: Predicate<U>, F: Fn(&T) -> Option<&U>, T, U, N: AsStaticStr> Predicate<T>
+    for FieldPredicate<P, F, T, U, N, ByOption> {
+    ghost lawful = { λ p. P.lawful p.inner × F.IsAlwaysCallable p.function
+        × HasOnePart F.Fn lent p.function };
+
+    ghost formula = { λ p v. IsNamed (N.bytes p.name) (IsOfPart F.Fn lent p.function
+        (IsOfPresent (P.output p.inner) (codes "no value") (P.formula p.inner)) v) };
+
+    ghost infallible = { λ p v. IsInfallibleOnPart F.Fn lent p.function
+        (λ held. IfSome held (P.infallible p.inner)) v };
+
+    ghost text_fits = { λ p v f. named_text_fits };
+
+    ghost one_formula = { λ p v f g lawful. one_named (λ x y. one_of_part lawful.2
+        (λ held k l. one_present held (λ u m n. P.one_formula p.inner u m n lawful.0))) };
+
+    #[tactic(auto, using(crate::proofs::Parts::parts))]
+    fn eval(&self, alloc: Global, item: &T) -> Result<bool, AllocError> {
+        match (self.function)(item) {
+            Some(part) => self.inner.eval(alloc, part),
+            None => Ok(false),
+        }
+    }
+
+    fn find_case(
+        &self,
+        alloc: Global,
+        expected: bool,
+        item: &T,
+    ) -> Result<Option<Case>, AllocError> {
+        match (self.function)(item) {
+            Some(part) => self.case_of_part(alloc, expected, part),
+            None if expected => Ok(None),
+            None => Ok(Some(self.case_without_part(alloc)?)),
+        }
     }
 }
 

@@ -16,14 +16,24 @@
 ghost use Rattle.std.specs.Prelude.{◌≡◌};
 ghost use Rattle.predicates_part.specs.Field.{HasOnePart, owned, borrowed};
 ghost use Rattle.predicates_part.specs.Field.{inner_of, function_of, name_of};
+ghost use Rattle.predicates_part.specs.Length as Length;
+ghost use Rattle.predicates_part.specs.Members as Members;
 ghost use Rattle.predicates_part.specs.Optional as Optional;
+ghost use Rattle.predicates_part.specs.Optional.{lent};
 
 mod field;
-mod optional;
+mod length;
+mod members;
 pub mod semantics;
+mod variant;
 
-pub use field::{ByField, ByReference, ByValue, Field, FieldPredicate};
-pub use optional::SomePredicate;
+pub use field::{ByField, ByOption, ByReference, ByValue, Field, FieldPredicate};
+pub use length::{Length, LengthPredicate};
+pub use members::{AnyPredicate, EachPredicate, MembersPredicate};
+pub use variant::{
+    ErrPredicate, ErrVariant, OkPredicate, OkVariant, SomePredicate, SomeVariant, Variant,
+    VariantPredicate,
+};
 use predicates_core::Predicate;
 use predicates_core::as_static_str::AsStaticStr;
 use std::marker::PhantomData;
@@ -63,6 +73,22 @@ pub trait PredicatePartExt<U>: Predicate<U> {
         ensures function { function_of result ≡ function }
         ensures name { name_of result ≡ name };
 
+    /// As `of_ref`, of a part that an item may lack, as the value under a key of a map, the first
+    /// member of a list or an enum's variant. Where there is none, this one does not hold; the case
+    /// then shows one false leaf under the name, with the product `error`.
+    fn of_some_ref<F: Fn(&T) -> Option<&U>, T, N: AsStaticStr>(
+        self,
+        name: N,
+        function: F,
+    ) -> FieldPredicate<Self, F, T, U, N, ByOption>
+    where
+        Self: Sized,
+        requires callable { F.IsAlwaysCallable function }
+        requires one_part { HasOnePart F.Fn lent function }
+        ensures inner { inner_of result ≡ self }
+        ensures function { function_of result ≡ function }
+        ensures name { name_of result ≡ name };
+
     /// As `of`, of a field. There is no condition, and where this one is `Total` so is the result.
     fn of_field<F: Field<T, U>, T, N: AsStaticStr>(
         self,
@@ -81,6 +107,48 @@ pub trait PredicatePartExt<U>: Predicate<U> {
     where
         Self: Sized,
         ensures inner { Optional.inner_of result ≡ self };
+
+    /// The predicate of a `Result` that holds of `Ok` where this one holds of its value, and does
+    /// not hold of `Err`. It takes no memory of its own, and prints what this one prints.
+    fn of_ok(self) -> OkPredicate<Self>
+    where
+        Self: Sized,
+        ensures inner { Optional.inner_of result ≡ self };
+
+    /// The predicate of a `Result` that holds of `Err` where this one holds of its error, and does
+    /// not hold of `Ok`. It takes no memory of its own, and prints what this one prints.
+    fn of_err(self) -> ErrPredicate<Self>
+    where
+        Self: Sized,
+        ensures inner { Optional.inner_of result ≡ self };
+
+    /// The predicate of a list that holds where this one holds of each member. It prints
+    /// `each(..)`, and takes no memory of its own.
+    ///
+    /// `eval` asks no member behind the first of which this one does not hold. The case of a list
+    /// that holds has a node for each member, so it takes memory in proportion to the list.
+    fn of_each(self) -> EachPredicate<Self>
+    where
+        Self: Sized,
+        ensures inner { Members.inner_of result ≡ self };
+
+    /// The predicate of a list that holds where this one holds of a member. It prints `any(..)`,
+    /// and takes no memory of its own.
+    ///
+    /// `eval` asks no member behind the first of which this one holds. The case of a list that does
+    /// not hold has a node for each member, so it takes memory in proportion to the list.
+    fn of_any(self) -> AnyPredicate<Self>
+    where
+        Self: Sized,
+        ensures inner { Members.inner_of result ≡ self };
+
+    /// The predicate of a list or a text that holds where this one, a predicate of `usize`, holds of
+    /// its length: the number of members, or of bytes. It prints `len`, and takes no memory of its
+    /// own.
+    fn of_len(self) -> LengthPredicate<Self>
+    where
+        Self: Predicate<usize> + Sized,
+        ensures inner { Length.inner_of result ≡ self };
 }
 
 impl<P: Predicate<U>, U> PredicatePartExt<U> for P {
@@ -110,6 +178,19 @@ impl<P: Predicate<U>, U> PredicatePartExt<U> for P {
         }
     }
 
+    fn of_some_ref<F: Fn(&T) -> Option<&U>, T, N: AsStaticStr>(
+        self,
+        name: N,
+        function: F,
+    ) -> FieldPredicate<Self, F, T, U, N, ByOption> {
+        FieldPredicate {
+            inner: self,
+            function,
+            name,
+            types: PhantomData,
+        }
+    }
+
     fn of_field<F: Field<T, U>, T, N: AsStaticStr>(
         self,
         name: N,
@@ -124,6 +205,26 @@ impl<P: Predicate<U>, U> PredicatePartExt<U> for P {
     }
 
     fn of_some(self) -> SomePredicate<Self> {
-        SomePredicate { inner: self }
+        VariantPredicate::new(self)
+    }
+
+    fn of_ok(self) -> OkPredicate<Self> {
+        VariantPredicate::new(self)
+    }
+
+    fn of_err(self) -> ErrPredicate<Self> {
+        VariantPredicate::new(self)
+    }
+
+    fn of_each(self) -> EachPredicate<Self> {
+        MembersPredicate::new(self)
+    }
+
+    fn of_any(self) -> AnyPredicate<Self> {
+        MembersPredicate::new(self)
+    }
+
+    fn of_len(self) -> LengthPredicate<Self> {
+        LengthPredicate::new(self)
     }
 }

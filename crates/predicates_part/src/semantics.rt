@@ -5,17 +5,26 @@
 //! semantics::of(&adult, &person);
 //! ```
 ghost use Rattle.std.specs.Prelude.{◌≡◌, ◌↔◌, [], codes, IfSome};
+ghost use Rattle.std.specs.List.{AllByRecursion};
 ghost use Rattle.predicates_core.specs.Combined.{IsNamed};
 ghost use Rattle.predicates_core.specs.Formula.{Formula};
 ghost use Rattle.predicates_core.specs.Parts.{part};
+ghost use Rattle.predicates_core.specs.Several.{IsOfMembers};
 ghost use Rattle.predicates_part.specs.Field.{HasOnePart, IsOfPart, IsInfallibleOnPart};
 ghost use Rattle.predicates_part.specs.Field.{owned, borrowed, inner_of, function_of, name_of};
+ghost use Rattle.predicates_part.specs.Length as Length;
+ghost use Rattle.predicates_part.specs.Members as Members;
+ghost use Rattle.predicates_part.specs.Members.{applied_text, word};
 ghost use Rattle.predicates_part.specs.Optional as Optional;
-ghost use Rattle.predicates_part.specs.Optional.{IsOfSome};
+ghost use Rattle.predicates_part.specs.Optional.{IsOfPresent, lent};
 
-use crate::{ByField, ByReference, ByValue, Field, FieldPredicate, SomePredicate};
+use crate::{
+    ByField, ByOption, ByReference, ByValue, Field, FieldPredicate, Length, LengthPredicate,
+    MembersPredicate, Variant, VariantPredicate,
+};
 use predicates_core::Predicate;
 use predicates_core::as_static_str::AsStaticStr;
+use predicates_core::custom::Quantifier;
 use predicates_core::reflection::PredicateReflection;
 
 /// Its formulas are `Named` over a formula of the inner predicate on the part.
@@ -54,6 +63,26 @@ pub fn of_ref<P: Predicate<U>, F: Fn(&T) -> &U, T, U, N: AsStaticStr>(
         (P.infallible (inner_of field.now)) item.now }
 {}
 
+/// As `of_ref`, on the part that there is; where there is none, its formula is one false leaf under
+/// the name.
+pub fn of_some_ref<P: Predicate<U>, F: Fn(&T) -> Option<&U>, T, U, N: AsStaticStr>(
+    field: &FieldPredicate<P, F, T, U, N, ByOption>,
+    item: &T,
+)
+    ensures formula { (f : Formula)
+        → ⟦<FieldPredicate<P, F, T, U, N, ByOption> as Predicate<T>>⟧.formula field.now item.now f
+        ↔ IsNamed (N.bytes (name_of field.now)) (IsOfPart F.Fn lent (function_of field.now)
+        (IsOfPresent (P.output (inner_of field.now)) (codes "no value")
+        (P.formula (inner_of field.now))) item.now) f }
+    ensures lawful { ⟦<FieldPredicate<P, F, T, U, N, ByOption> as Predicate<T>>⟧.lawful field.now
+        ↔ P.lawful (inner_of field.now) × F.IsAlwaysCallable (function_of field.now)
+        × HasOnePart F.Fn lent (function_of field.now) }
+    ensures infallible { ⟦<FieldPredicate<P, F, T, U, N, ByOption> as Predicate<T>>⟧.infallible
+        field.now item.now
+        ↔ IsInfallibleOnPart F.Fn lent (function_of field.now)
+        (λ held. IfSome held (P.infallible (inner_of field.now))) item.now }
+{}
+
 /// As `of`, on the part that the field has, with no condition of the field.
 pub fn of_field<P: Predicate<U>, F: Field<T, U>, T, U, N: AsStaticStr>(
     field: &FieldPredicate<P, F, T, U, N, ByField>,
@@ -81,20 +110,66 @@ pub fn description<P: PredicateReflection, F, T, U, N: AsStaticStr, Access>(
         (P.parameters_of (inner_of field.now)) (P.children_of (inner_of field.now)) }
 {}
 
-/// On `Some` its formulas are those of the inner predicate on the value, and on `None` it is one
-/// false leaf.
-pub fn of_some<P: Predicate<U>, U>(some: &SomePredicate<P>, item: &Option<U>)
+/// On an item of the variant its formulas are those of the inner predicate on the value, and on
+/// another it is one false leaf.
+pub fn variant<V: Variant<T>, P: Predicate<V::Value>, T>(
+    predicate: &VariantPredicate<V, P>,
+    item: &T,
+)
     ensures formula { (f : Formula)
-        → ⟦<SomePredicate<P> as Predicate<Option<U>>>⟧.formula some.now item.now f
-        ↔ IsOfSome (P.output (Optional.inner_of some.now))
-        (P.formula (Optional.inner_of some.now)) item.now f }
-    ensures lawful { ⟦<SomePredicate<P> as Predicate<Option<U>>>⟧.lawful some.now
-        ↔ P.lawful (Optional.inner_of some.now) }
-    ensures infallible { ⟦<SomePredicate<P> as Predicate<Option<U>>>⟧.infallible some.now item.now
-        ↔ IfSome item.now (P.infallible (Optional.inner_of some.now)) }
-    ensures values { ⟦<SomePredicate<P> as PredicateReflection>⟧.parameters_of some.now ≡ [] }
-    ensures parts { ⟦<SomePredicate<P> as PredicateReflection>⟧.children_of some.now
-        ≡ part (codes "predicate") (P.output (Optional.inner_of some.now))
-        (P.parameters_of (Optional.inner_of some.now))
-        (P.children_of (Optional.inner_of some.now)) }
+        → ⟦<VariantPredicate<V, P> as Predicate<T>>⟧.formula predicate.now item.now f
+        ↔ IsOfPresent (P.output (Optional.inner_of predicate.now)) V.absent
+        (P.formula (Optional.inner_of predicate.now)) (V.value_of item.now) f }
+    ensures lawful { ⟦<VariantPredicate<V, P> as Predicate<T>>⟧.lawful predicate.now
+        ↔ P.lawful (Optional.inner_of predicate.now) }
+    ensures infallible { ⟦<VariantPredicate<V, P> as Predicate<T>>⟧.infallible predicate.now item.now
+        ↔ IfSome (V.value_of item.now) (P.infallible (Optional.inner_of predicate.now)) }
+    ensures values { ⟦<VariantPredicate<V, P> as PredicateReflection>⟧.parameters_of predicate.now
+        ≡ [] }
+    ensures parts { ⟦<VariantPredicate<V, P> as PredicateReflection>⟧.children_of predicate.now
+        ≡ part (codes "predicate") (P.output (Optional.inner_of predicate.now))
+        (P.parameters_of (Optional.inner_of predicate.now))
+        (P.children_of (Optional.inner_of predicate.now)) }
+{}
+
+/// On a list with members its formulas are a join over a formula of the inner predicate on each, in
+/// order, under the name `item`; on one without it is one leaf.
+pub fn members<Q: Quantifier, P: Predicate<U>, U>(
+    members: &MembersPredicate<Q, P>,
+    item: &Vec<U>,
+)
+    ensures formula { (f : Formula)
+        → ⟦<MembersPredicate<Q, P> as Predicate<Vec<U>>>⟧.formula members.now item.now f
+        ↔ IsOfMembers Q.one_suffices
+        (applied_text (word Q.one_suffices) (P.output (Members.inner_of members.now)))
+        (codes "item") (P.formula (Members.inner_of members.now)) item.now.items f }
+    ensures lawful { ⟦<MembersPredicate<Q, P> as Predicate<Vec<U>>>⟧.lawful members.now
+        ↔ P.lawful (Members.inner_of members.now) }
+    ensures infallible { ⟦<MembersPredicate<Q, P> as Predicate<Vec<U>>>⟧.infallible
+        members.now item.now
+        ↔ AllByRecursion (P.infallible (Members.inner_of members.now)) item.now.items }
+    ensures values { ⟦<MembersPredicate<Q, P> as PredicateReflection>⟧.parameters_of members.now
+        ≡ [] }
+    ensures parts { ⟦<MembersPredicate<Q, P> as PredicateReflection>⟧.children_of members.now
+        ≡ part (codes "item") (P.output (Members.inner_of members.now))
+        (P.parameters_of (Members.inner_of members.now))
+        (P.children_of (Members.inner_of members.now)) }
+{}
+
+/// Its formulas are `Named` over a formula of the inner predicate on the length.
+pub fn length<P: Predicate<usize>, T: Length>(predicate: &LengthPredicate<P>, item: &T)
+    ensures formula { (f : Formula)
+        → ⟦<LengthPredicate<P> as Predicate<T>>⟧.formula predicate.now item.now f
+        ↔ IsNamed (codes "len")
+        (P.formula (Length.inner_of predicate.now) (T.length_of item.now)) f }
+    ensures lawful { ⟦<LengthPredicate<P> as Predicate<T>>⟧.lawful predicate.now
+        ↔ P.lawful (Length.inner_of predicate.now) }
+    ensures infallible { ⟦<LengthPredicate<P> as Predicate<T>>⟧.infallible predicate.now item.now
+        ↔ P.infallible (Length.inner_of predicate.now) (T.length_of item.now) }
+    ensures values { ⟦<LengthPredicate<P> as PredicateReflection>⟧.parameters_of predicate.now
+        ≡ [] }
+    ensures parts { ⟦<LengthPredicate<P> as PredicateReflection>⟧.children_of predicate.now
+        ≡ part (codes "len") (P.output (Length.inner_of predicate.now))
+        (P.parameters_of (Length.inner_of predicate.now))
+        (P.children_of (Length.inner_of predicate.now)) }
 {}

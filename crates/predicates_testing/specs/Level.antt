@@ -6,14 +6,13 @@ use Rattle.predicates_core.specs.Combined.{infix_text, not_text, IsAnd, IsOr, Is
 use Rattle.predicates_core.proofs.CombinedLemmas.{and_text_fits, or_text_fits, xor_text_fits}
 use Rattle.predicates_core.proofs.CombinedLemmas.{not_text_fits, named_text_fits, one_and, one_or}
 use Rattle.predicates_core.proofs.CombinedLemmas.{one_xor, one_not, one_named}
-use Rattle.predicates_boolean.specs.declared.boolean.and.AndPredicate.{AndPredicate}
-use Rattle.predicates_boolean.specs.declared.boolean.or.OrPredicate.{OrPredicate}
-use Rattle.predicates_boolean.specs.declared.boolean.xor.XorPredicate.{XorPredicate}
+use Rattle.predicates_boolean.specs.declared.boolean.binary.BinaryPredicate.{BinaryPredicate}
+use Rattle.predicates_boolean.specs.declared.boolean.binary.And.{And}
+use Rattle.predicates_boolean.specs.declared.boolean.binary.Or.{Or}
+use Rattle.predicates_boolean.specs.declared.boolean.binary.Xor.{Xor}
 use Rattle.predicates_boolean.specs.declared.boolean.not.NotPredicate.{NotPredicate}
 use Rattle.predicates_boolean.specs.declared.name.NamePredicate.{NamePredicate}
-use Rattle.predicates_boolean.specs.And as And
-use Rattle.predicates_boolean.specs.Or as Or
-use Rattle.predicates_boolean.specs.Xor as Xor
+use Rattle.predicates_boolean.specs.Binary.{left_of, right_of}
 use Rattle.predicates_boolean.specs.Not as Not
 use Rattle.predicates_boolean.specs.Name as Name
 use Rattle.predicates_testing.specs.declared.one_of.OneOf.{OneOf}
@@ -29,10 +28,10 @@ module _ (P Item : Type 0) where
   OneCombined = OneOf (NotPredicate P Item) (NamePredicate P Item (List ℕ))
 
   abbrev pub ChoiceCombined : Type 0
-  ChoiceCombined = OneOf (OrPredicate P P Item) (XorPredicate P P Item)
+  ChoiceCombined = OneOf (BinaryPredicate Or P P Item) (BinaryPredicate Xor P P Item)
 
   abbrev pub OfLevel : Type 0
-  OfLevel = OneOf P (OneOf OneCombined (OneOf (AndPredicate P P Item) ChoiceCombined))
+  OfLevel = OneOf P (OneOf OneCombined (OneOf (BinaryPredicate And P P Item) ChoiceCombined))
 
 module _ {P Item : Type 0} where
   -- a fact of each part
@@ -42,10 +41,10 @@ module _ {P Item : Type 0} where
       (fact_by_type
       (fact_by_type (λ q. fact (Not.inner_of q)) (λ q. fact (Name.inner_of q)))
       (fact_by_type
-      (λ q. fact (And.left_of q) × fact (And.right_of q))
+      (λ q. fact (left_of q) × fact (right_of q))
       (fact_by_type
-      (λ q. fact (Or.left_of q) × fact (Or.right_of q))
-      (λ q. fact (Xor.left_of q) × fact (Xor.right_of q)))))
+      (λ q. fact (left_of q) × fact (right_of q))
+      (λ q. fact (left_of q) × fact (right_of q)))))
 
   -- what holds of all predicates of the level below holds of the parts
   pub all_parts : {fact : P → Type 0} → ((p : P) → fact p) → (p : OfLevel P Item) → of_parts fact p
@@ -54,10 +53,10 @@ module _ {P Item : Type 0} where
       (lawful_by_type
       (lawful_by_type (λ q. all (Not.inner_of q)) (λ q. all (Name.inner_of q)))
       (lawful_by_type
-      (λ q. (all (And.left_of q), all (And.right_of q)))
+      (λ q. (all (left_of q), all (right_of q)))
       (lawful_by_type
-      (λ q. (all (Or.left_of q), all (Or.right_of q)))
-      (λ q. (all (Xor.left_of q), all (Xor.right_of q))))))
+      (λ q. (all (left_of q), all (right_of q)))
+      (λ q. (all (left_of q), all (right_of q))))))
 
   module _ (output : P → Option (List ℕ)) where
     -- what is printed
@@ -67,10 +66,10 @@ module _ {P Item : Type 0} where
         (by_type
         (by_type (λ q. not_text (output (Not.inner_of q))) (λ q. Some (Name.name_of q)))
         (by_type
-        (λ q. infix_of output (codes " && ") (And.left_of q) (And.right_of q))
+        (λ q. infix_of output (codes " && ") (left_of q) (right_of q))
         (by_type
-        (λ q. infix_of output (codes " || ") (Or.left_of q) (Or.right_of q))
-        (λ q. infix_of output (codes " ^ ") (Xor.left_of q) (Xor.right_of q)))))
+        (λ q. infix_of output (codes " || ") (left_of q) (right_of q))
+        (λ q. infix_of output (codes " ^ ") (left_of q) (right_of q)))))
 
     module _ (formula : P → Formula → Type 0) where
       abbrev is_not : NotPredicate P Item → Formula → Type 0
@@ -79,17 +78,17 @@ module _ {P Item : Type 0} where
       abbrev is_named : NamePredicate P Item (List ℕ) → Formula → Type 0
       is_named q = IsNamed (Name.name_of q) (formula (Name.inner_of q))
 
-      abbrev is_and : AndPredicate P P Item → Formula → Type 0
-      is_and q = IsAnd (infix_of output (codes " && ") (And.left_of q) (And.right_of q))
-          (formula (And.left_of q)) (formula (And.right_of q))
+      abbrev is_and : BinaryPredicate And P P Item → Formula → Type 0
+      is_and q = IsAnd (infix_of output (codes " && ") (left_of q) (right_of q))
+          (formula (left_of q)) (formula (right_of q))
 
-      abbrev is_or : OrPredicate P P Item → Formula → Type 0
-      is_or q = IsOr (infix_of output (codes " || ") (Or.left_of q) (Or.right_of q))
-          (formula (Or.left_of q)) (formula (Or.right_of q))
+      abbrev is_or : BinaryPredicate Or P P Item → Formula → Type 0
+      is_or q = IsOr (infix_of output (codes " || ") (left_of q) (right_of q))
+          (formula (left_of q)) (formula (right_of q))
 
-      abbrev is_xor : XorPredicate P P Item → Formula → Type 0
-      is_xor q = IsXor (infix_of output (codes " ^ ") (Xor.left_of q) (Xor.right_of q))
-          (formula (Xor.left_of q)) (formula (Xor.right_of q))
+      abbrev is_xor : BinaryPredicate Xor P P Item → Formula → Type 0
+      is_xor q = IsXor (infix_of output (codes " ^ ") (left_of q) (right_of q))
+          (formula (left_of q)) (formula (right_of q))
 
       -- the formula of a predicate of the level
       abbrev pub level_formula : OfLevel P Item → Formula → Type 0
@@ -126,10 +125,10 @@ module _ {P Item : Type 0} where
           (λ q f g lawful. one_not (λ x y. below (Not.inner_of q) x y lawful))
           (λ q f g lawful. one_named (λ x y. below (Name.inner_of q) x y lawful)))
           (one_by_type
-          (λ q f g lawful. one_and (λ x y. below (And.left_of q) x y lawful.0)
-          (λ x y. below (And.right_of q) x y lawful.1))
+          (λ q f g lawful. one_and (λ x y. below (left_of q) x y lawful.0)
+          (λ x y. below (right_of q) x y lawful.1))
           (one_by_type
-          (λ q f g lawful. one_or (λ x y. below (Or.left_of q) x y lawful.0)
-          (λ x y. below (Or.right_of q) x y lawful.1))
-          (λ q f g lawful. one_xor (λ x y. below (Xor.left_of q) x y lawful.0)
-          (λ x y. below (Xor.right_of q) x y lawful.1)))))
+          (λ q f g lawful. one_or (λ x y. below (left_of q) x y lawful.0)
+          (λ x y. below (right_of q) x y lawful.1))
+          (λ q f g lawful. one_xor (λ x y. below (left_of q) x y lawful.0)
+          (λ x y. below (right_of q) x y lawful.1)))))

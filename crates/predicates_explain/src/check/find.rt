@@ -1,11 +1,13 @@
 //! The case of a check over others, as the predicates of the library make it of their parts.
 ghost use Rattle.std.specs.Prelude.{IfOk, string_bytes};
-ghost use Rattle.predicates_core.specs.Combined.{IsAnd, IsNot, IsOr, IsXor};
+ghost use Rattle.predicates_core.specs.Combined.{IsNot, IsPair};
+ghost use Rattle.predicates_core.specs.Asked.{IsCaseIf, IsTruthIf};
 ghost use Rattle.predicates_core.specs.Shows.{IsAnswer};
 ghost use Rattle.predicates_explain.specs.Checks.{check_text, HasFormula};
 
 use crate::check::TextCheck;
 use predicates::Predicate;
+use predicates::custom::{Operator};
 use predicates::node::{binary_node_of, printed, unary_node};
 use predicates::reflection::Case;
 use std::alloc::{AllocError, Global};
@@ -32,91 +34,62 @@ impl TextCheck {
         Ok(Some(unary_node(alloc, text, expected, "predicate", part)?))
     }
 
-    // Both checks.
-    #[inline(never)]
-    #[cycle(find)]
-    #[tactic(auto, using(predicates_core::proofs::CombinedLemmas::combined))]
-    pub(crate) fn find_and(
-        &self,
-        alloc: Global,
-        left: &TextCheck,
-        right: &TextCheck,
-        expected: bool,
-        item: &String,
-    ) -> Result<Option<Case>, AllocError>
-        ensures { IfOk result (IsAnswer (IsAnd (check_text self.now)
-            (HasFormula left.now (string_bytes item.now))
-            (HasFormula right.now (string_bytes item.now))) expected) }
+    // The truth of the check, where it is asked for.
+    fn holds_if(&self, alloc: Global, asked: bool, item: &String) -> Result<bool, AllocError>
+        ensures { IfOk result (IsTruthIf asked (HasFormula self.now (string_bytes item.now))) }
     {
-        let first = left.find_case(alloc, expected, item)?;
-        let left_holds = first.is_some() == expected;
-        let second = if left_holds {
-            right.find_case(alloc, expected, item)?
+        if asked {
+            self.eval(alloc, item)
         } else {
-            None
-        };
-        let holds = left_holds && second.is_some() == expected;
-        if holds != expected {
-            return Ok(None);
+            Ok(false)
         }
-        let text = printed(alloc, self)?;
-        Ok(Some(binary_node_of(alloc, text, expected, first, second)?))
     }
 
-    // One or both checks.
+    // The case of the check, where it is asked for.
     #[inline(never)]
     #[cycle(find)]
-    #[tactic(auto, using(predicates_core::proofs::CombinedLemmas::combined))]
-    pub(crate) fn find_or(
+    fn find_if(
         &self,
         alloc: Global,
-        left: &TextCheck,
-        right: &TextCheck,
-        expected: bool,
+        asked: bool,
+        holds: bool,
         item: &String,
     ) -> Result<Option<Case>, AllocError>
-        ensures { IfOk result (IsAnswer (IsOr (check_text self.now)
-            (HasFormula left.now (string_bytes item.now))
-            (HasFormula right.now (string_bytes item.now))) expected) }
+        ensures { IfOk result
+            (IsCaseIf asked (HasFormula self.now (string_bytes item.now)) holds) }
     {
-        let first = left.find_case(alloc, expected, item)?;
-        let left_holds = first.is_some() == expected;
-        let second = if left_holds {
-            None
+        if asked {
+            self.find_case(alloc, holds, item)
         } else {
-            right.find_case(alloc, expected, item)?
-        };
-        let holds = left_holds || second.is_some() == expected;
-        if holds != expected {
-            return Ok(None);
+            Ok(None)
         }
-        let text = printed(alloc, self)?;
-        Ok(Some(binary_node_of(alloc, text, expected, first, second)?))
     }
 
-    // Exactly one check, where each part is asked for its own truth.
+    // As `join_case`.
     #[inline(never)]
     #[cycle(find)]
-    #[tactic(auto, using(predicates_core::proofs::CombinedLemmas::combined))]
-    pub(crate) fn find_xor(
+    pub(crate) fn find_join(
         &self,
         alloc: Global,
+        operator: Operator,
         left: &TextCheck,
         right: &TextCheck,
         expected: bool,
         item: &String,
     ) -> Result<Option<Case>, AllocError>
-        ensures { IfOk result (IsAnswer (IsXor (check_text self.now)
+        ensures { IfOk result (IsAnswer (IsPair operator (check_text self.now)
             (HasFormula left.now (string_bytes item.now))
             (HasFormula right.now (string_bytes item.now))) expected) }
     {
         let left_holds = left.eval(alloc, item)?;
-        let right_holds = right.eval(alloc, item)?;
-        if (left_holds != right_holds) != expected {
+        let asks = operator.asks(left_holds);
+        let right_holds = right.holds_if(alloc, asks, item)?;
+        if operator.apply(left_holds, right_holds) != expected {
             return Ok(None);
         }
-        let first = left.find_case(alloc, left_holds, item)?;
-        let second = right.find_case(alloc, right_holds, item)?;
+        let keeps = operator.keeps(left_holds, right_holds);
+        let first = left.find_if(alloc, keeps, left_holds, item)?;
+        let second = right.find_if(alloc, asks, right_holds, item)?;
         let text = printed(alloc, self)?;
         Ok(Some(binary_node_of(alloc, text, expected, first, second)?))
     }

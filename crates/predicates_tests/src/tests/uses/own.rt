@@ -1,6 +1,6 @@
 //! Custom predicates: a leaf, combinators and an adapter.
 use super::has_lines;
-use predicates::custom::{and_case, bare_case, leaf, not_case, xor_case};
+use predicates::custom::{Operator, bare_case, join_case, leaf, not_case};
 use predicates::prelude::*;
 use predicates_testing::{describe, explains, is_described, render_verdict};
 use predicates_uses::{Either, FortyTwo, IsTheAnswer, LastFirst, OfLength, is_known};
@@ -244,9 +244,9 @@ fn an_adapter_of_the_callers_own(rt: HostRuntime) -> Result<(), Fail> {
 // By `and` and by `xor`.
 fn has_cases_of_two(alloc: Global, both: &str, one: &str) -> Result<(bool, bool), AllocError> {
     let (low, small) = (predicate::lt(3), predicate::lt(5));
-    let found = and_case(alloc, &IsTheAnswer, &low, &small, false, &4)?;
+    let found = join_case(alloc, Operator::And, &IsTheAnswer, &low, &small, false, &4)?;
     let is_both = has_lines(alloc, found, both)?;
-    let found = xor_case(alloc, &IsTheAnswer, &low, &small, true, &4)?;
+    let found = join_case(alloc, Operator::Xor, &IsTheAnswer, &low, &small, true, &4)?;
     Ok((is_both, has_lines(alloc, found, one)?))
 }
 

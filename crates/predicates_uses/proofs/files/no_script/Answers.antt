@@ -1,6 +1,6 @@
 use Rattle.std.proofs.Common.{◌≡◌, true, Some, codes, rules, ap, ◌∙◌}
 use Rattle.std.proofs.lemmas.Result.{IfOk-weaker}
-use Rattle.predicates_boolean.specs.And as And
+use Rattle.predicates_boolean.specs.Binary as Binary
 use Rattle.predicates_boolean.specs.Name as Name
 use Rattle.predicates_path.specs.Content.{part_of}
 use Rattle.predicates_path.specs.Kind.{tested_kind, follows, kind_predicate_text}
@@ -15,8 +15,8 @@ use Rattle.predicates_uses.proofs.files.no_script.Goals as goal
 pub returns : goal.returns
 returns c =
     let both = Name.inner_of c.name-script.result in
-    let kind = And.left_of both in
-    let mark = starts_pattern (utf8_part (part_of (And.right_of both))) in
+    let kind = Binary.left_of both in
+    let mark = starts_pattern (utf8_part (part_of (Binary.right_of both))) in
     let is_kind : tested_kind kind ≡ File = search rules in
     let follow : follows kind ≡ true = search rules in
     let is_mark : mark ≡ codes "#!" = search rules in

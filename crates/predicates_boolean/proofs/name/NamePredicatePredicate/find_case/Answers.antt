@@ -1,5 +1,5 @@
 use Rattle.std.proofs.Common.{rules}
-use Rattle.predicates_boolean.proofs.Names.{IsCaseOf-under}
+use Rattle.predicates_core.proofs.CombinedLemmas.{IsCaseOf-under}
 use Rattle.predicates_boolean.proofs.name.NamePredicatePredicate.find_case.Goals as goal
 
 pub returns : goal.returns

@@ -1,16 +1,11 @@
-use Rattle.std.proofs.Common.{rules, ◌≡◌, ◌∙◌, Bool, true, false, not, refl, ap, subst, arith}
+use Rattle.std.proofs.Common.{rules, ◌≡◌, ◌∙◌, Bool, true, false, not, refl, sym, ap, subst, arith}
 use mathlib.Core.Bool.{beq}
-use Rattle.predicates_core.specs.Formula.{differ, HasTruth}
-use Rattle.predicates_core.proofs.CombinedLemmas.{HasTruth-and_by_left, HasTruth-or_by_left, HasTruth-not, HasTruth-xor}
+use Rattle.predicates_core.specs.Formula.{apply, HasTruth}
+use Rattle.predicates_core.specs.Asked.{asks}
+use Rattle.predicates_core.specs.declared.custom.join.Operator.{Operator}
+use Rattle.predicates_core.specs.declared.custom.join.Operator.TheVariants.{And as Both, Or as Either, Xor as Unlike}
+use Rattle.predicates_core.proofs.CombinedLemmas.{HasTruth-not, HasTruth-pair}
 use Rattle.predicates_explain.proofs.check.TextCheckPredicateString.+eval.Goals as goal
-
-on_false : (w : Bool) → beq false w ≡ not w
-on_false true = refl
-on_false false = refl
-
-on_true : (w : Bool) → beq true w ≡ w
-on_true true = refl
-on_true false = refl
 
 -- `!b == w` and `b == !w`
 across : (b w : Bool) → beq (not b) w ≡ beq b (not w)
@@ -19,32 +14,35 @@ across true false = refl
 across false true = refl
 across false false = refl
 
-over : (a b w : Bool) → beq (differ a b) w ≡ beq b (not (beq a w))
-over true true true = refl
-over true true false = refl
-over true false true = refl
-over true false false = refl
-over false true true = refl
-over false true false = refl
-over false false true = refl
-over false false false = refl
+-- where the right part counts, the whole has its truth or the opposite
+over : (op : Operator) (a b w : Bool) → asks op a ≡ true → beq (apply op a b) w ≡ beq b (not (beq (apply op a false) w))
+over Both true b true asked = refl
+over Both true b false asked = refl
+over Both false b w asked = absurd (cc)
+over Either false b true asked = refl
+over Either false b false asked = refl
+over Either true b w asked = absurd (cc)
+over Unlike true true true asked = refl
+over Unlike true true false asked = refl
+over Unlike true false true asked = refl
+over Unlike true false false asked = refl
+over Unlike false b true asked = refl
+over Unlike false b false asked = refl
 
-pub loop-check-preserved-in-Not-1 : goal.loop-check-preserved-in-Not-1
-loop-check-preserved-in-Not-1 t c = (
+pub loop-check-preserved-in-Not : goal.loop-check-preserved-in-Not
+loop-check-preserved-in-Not t c = (
   λ b of_part. subst (HasTruth _) (across b c.loop-check.wanted) (c.loop-check.invariant.0 (not b) (rw c.in-Not.is (HasTruth-not (rw c.deref-check.ensures at of_part) refl))),
   search rules,
   search (rules, arith),
 )
 
-pub loop-check-preserved-in-Xor-1 : goal.loop-check-preserved-in-Xor-1
-loop-check-preserved-in-Xor-1 t c = (
-  λ b of_part. subst (HasTruth _) (over c.in_ok-wanted-in-Xor.field-0 b c.loop-check.wanted) (c.loop-check.invariant.0 (differ c.in_ok-wanted-in-Xor.field-0 b) (rw c.in-Xor.is (HasTruth-xor (rw c.deref-in-Xor.ensures at c.in_ok-wanted-in-Xor.ensures.truth) (rw c.deref-check-in-Xor.ensures at of_part) refl))),
-  search rules,
-  search (rules, arith),
-)
-
-pub returns-in-And-clause-truth : goal.returns-in-And-clause-truth
-returns-in-And-clause-truth t c = subst (HasTruth _) (ap (λ a. beq a c.loop-check.wanted) c.if-not-branch.true ∙ on_false c.loop-check.wanted) (c.loop-check.invariant.0 _ (search (rules, HasTruth-and_by_left)))
-
-pub returns-in-Or-clause-truth : goal.returns-in-Or-clause-truth
-returns-in-Or-clause-truth t c = subst (HasTruth _) (ap (λ a. beq a c.loop-check.wanted) c.if-branch.true ∙ on_true c.loop-check.wanted) (c.loop-check.invariant.0 _ (search (rules, HasTruth-or_by_left)))
+pub loop-check-preserved : goal.loop-check-preserved
+loop-check-preserved t c =
+    let op = c.in-Join.operator in
+    let a = c.in_ok-left_holds-in-Join.left_holds in
+    let asked : asks op a ≡ true = search rules in
+    (
+      λ b of_part. subst (HasTruth _) (over op a b c.loop-check.wanted asked ∙ ap (λ z. beq b (not (beq z c.loop-check.wanted))) (sym c.apply.ensures)) (c.loop-check.invariant.0 (apply op a b) (rw c.in-Join.is (HasTruth-pair op (rw c.deref-in-Join.ensures at c.in_ok-left_holds-in-Join.ensures.truth) (rw c.deref-check-in-Join.ensures at of_part)))),
+      search rules,
+      search (rules, arith),
+    )

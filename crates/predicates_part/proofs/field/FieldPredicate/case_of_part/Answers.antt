@@ -1,5 +1,5 @@
 use Rattle.std.proofs.Common.{rules}
-use Rattle.predicates_part.proofs.Parts.{IsCaseOf-under}
+use Rattle.predicates_core.proofs.CombinedLemmas.{IsCaseOf-under}
 use Rattle.predicates_part.proofs.field.FieldPredicate.case_of_part.Goals as goal
 
 pub returns : goal.returns

@@ -1,0 +1,163 @@
+//! Predicates that are made of a list of predicates of one type.
+//!
+//! ```
+//! let mut rules = Vec::new(alloc);
+//! rules.push(predicate::ge(5))?;
+//! rules.push(predicate::le(10))?;
+//! let between = all_of(rules);
+//! ```
+//!
+//! Rules of several types stand in a `BoxPredicate` or in an enum of the caller's.
+ghost use Rattle.std.specs.Prelude.{◌≡◌, [], codes, map};
+ghost use Rattle.std.specs.Fmt.{DisplaysOnOk};
+ghost use Rattle.std.specs.List.{AllByRecursion};
+ghost use Rattle.predicates_core.specs.Parts.{part_of_each};
+ghost use Rattle.predicates_core.specs.Several.{IsOfMembers, members_formula, listed_text};
+ghost use Rattle.predicates_core.specs.Several.{further_texts};
+ghost use Rattle.predicates_core.proofs.Several.{members_text_fits, one_by_members, has_members};
+ghost use Rattle.predicates_core.proofs.Several.{each_holds, each_weaker};
+ghost use Rattle.predicates_boolean.specs.Rules.{rules_of, word};
+
+use predicates_core::custom::{AtLeastOne, Every, Quantifier, each_child, parts_case, parts_hold};
+use predicates_core::reflection::{Case, Child, Parameter, PredicateReflection};
+use predicates_core::{Content, Predicate, ReadsContent, Total};
+use std::alloc::{AllocError, Global};
+use std::fmt;
+use std::marker::PhantomData;
+
+/// Holds where each of its rules does, or where one does. Made by `all_of` and `any_of`.
+#[derive(Debug, PartialEq, Eq, Drop)]
+pub struct RulesPredicate<Q, P> {
+    rules: Vec<P>,
+    quantifier: PhantomData<Q>,
+}
+
+/// Holds where each of its rules does. Made by `all_of`.
+pub type AllOfPredicate<P> = RulesPredicate<Every, P>;
+
+/// Holds where one of its rules does. Made by `any_of`.
+pub type AnyOfPredicate<P> = RulesPredicate<AtLeastOne, P>;
+
+/// Each of the rules holds; no rule is evaluated behind the first that does not. It prints
+/// `all_of(..)`, and without rules it holds. Making it takes no memory.
+pub fn all_of<P>(rules: Vec<P>) -> AllOfPredicate<P>
+    ensures { rules_of result ≡ rules.items }
+{
+    RulesPredicate {
+        rules,
+        quantifier: PhantomData,
+    }
+}
+
+/// One of the rules holds; no rule is evaluated behind the first that does. It prints `any_of(..)`,
+/// and without rules it does not hold. Making it takes no memory.
+pub fn any_of<P>(rules: Vec<P>) -> AnyOfPredicate<P>
+    ensures { rules_of result ≡ rules.items }
+{
+    RulesPredicate {
+        rules,
+        quantifier: PhantomData,
+    }
+}
+
+// What is printed before the list.
+fn word_of(one_suffices: bool) -> &'static str
+    ensures { result.now ≡ word one_suffices }
+{
+    if one_suffices { "any_of" } else { "all_of" }
+}
+
+// Writes each of the rules behind a comma.
+fn write_further<P: fmt::Display, W: fmt::Write>(
+    f: &mut fmt::Formatter<W>,
+    rules: &[P],
+) -> fmt::Result
+    ensures { DisplaysOnOk W.write_str_gives f.old result
+        (further_texts (map P.output rules.now)) f.new }
+{
+    for rule in rules {
+        write!(f, ", {rule}")?;
+    }
+    Ok(())
+}
+
+impl<Q: Quantifier, P: fmt::Display> fmt::Display for RulesPredicate<Q, P> {
+    ghost output = { λ p. listed_text (word Q.one_suffices) (map P.output (rules_of p)) };
+
+    fn fmt<W: fmt::Write>(&self, f: &mut fmt::Formatter<W>) -> fmt::Result {
+        let word = word_of(Q::one_suffices());
+        let Some((first, rest)) = self.rules.as_slice().split_first() else {
+            return write!(f, "{word}()");
+        };
+        write!(f, "{word}({first}")?;
+        write_further(f, rest)?;
+        f.write_str(")")
+    }
+}
+
+impl<Q: Quantifier, P: PredicateReflection> PredicateReflection for RulesPredicate<Q, P> {
+    ghost parameters_of = { λ p. [] };
+
+    ghost children_of = { λ p. part_of_each
+        (codes "rule") P.output P.parameters_of P.children_of (rules_of p) };
+
+    fn parameters(&self, alloc: Global) -> Result<Vec<Parameter>, AllocError> {
+        Ok(Vec::new(alloc))
+    }
+
+    fn children(&self, alloc: Global) -> Result<Vec<Child>, AllocError> {
+        each_child(alloc, "rule", self.rules.as_slice())
+    }
+}
+
+impl<Q: Quantifier, P: Predicate<Item>, Item> Predicate<Item> for RulesPredicate<Q, P> {
+    ghost lawful = { λ p. AllByRecursion P.lawful (rules_of p) };
+
+    ghost formula = { λ p v. IsOfMembers Q.one_suffices
+        (listed_text (word Q.one_suffices) (map P.output (rules_of p)))
+        (codes "rule") (λ q. P.formula q v) (rules_of p) };
+
+    ghost infallible = { λ p v. AllByRecursion (λ q. P.infallible q v) (rules_of p) };
+
+    ghost text_fits = { λ p v f. members_text_fits (rules_of p) };
+
+    ghost one_formula = { λ p v f g lawful. one_by_members (rules_of p)
+        (each_weaker P.lawful _ (rules_of p) (λ q of_q x y. P.one_formula q v x y of_q) lawful) };
+
+    fn eval(&self, alloc: Global, item: &Item) -> Result<bool, AllocError> {
+        parts_hold(alloc, self.rules.as_slice(), Q::one_suffices(), item)
+    }
+
+    fn find_case(
+        &self,
+        alloc: Global,
+        expected: bool,
+        item: &Item,
+    ) -> Result<Option<Case>, AllocError> {
+        let rules = self.rules.as_slice();
+        parts_case(alloc, self, rules, "rule", Q::one_suffices(), expected, item)
+    }
+}
+
+impl<Q: Quantifier, P: Total<Item>, Item> Total<Item> for RulesPredicate<Q, P> {
+    ghost formula_of = { λ p v. members_formula Q.one_suffices
+        (listed_text (word Q.one_suffices) (map P.output (rules_of p))) (codes "rule")
+        (λ q. P.formula_of q v) (rules_of p) };
+
+    ghost always_lawful = { λ p. each_holds (rules_of p) P.always_lawful };
+
+    ghost has_formula = { λ p v. has_members (λ q. P.formula_of q v) (rules_of p)
+        (λ q. P.has_formula q v) };
+}
+
+impl<Q: Quantifier, P: ReadsContent<Item>, Item: Content> ReadsContent<Item>
+    for RulesPredicate<Q, P> {
+    ghost content_formula = { λ p bytes. members_formula Q.one_suffices
+        (listed_text (word Q.one_suffices) (map P.output (rules_of p))) (codes "rule")
+        (λ q. P.content_formula q bytes) (rules_of p) };
+
+    ghost always_lawful = { λ p. each_holds (rules_of p) P.always_lawful };
+
+    ghost has_formula = { λ p v. has_members (λ q. P.content_formula q (Item.content v)) (rules_of p)
+        (λ q. P.has_formula q v) };
+}

@@ -1,0 +1,129 @@
+//! Verdicts and cases of several predicates of one item, each of which is asked here.
+ghost use Rattle.std.specs.Prelude.{◌≡◌, ◌≢◌, ℕ, [], List, not, IfOk, IsOk};
+ghost use Rattle.std.specs.List.{AllByRecursion};
+ghost use Rattle.predicates_core.specs.Formula.{HasTruth};
+ghost use Rattle.predicates_core.specs.Label.{Entry};
+ghost use Rattle.predicates_core.specs.Parts.{FitsParts, part_of_each};
+ghost use Rattle.predicates_core.specs.Several.{IsOfMembers};
+ghost use Rattle.predicates_core.specs.Shows.{IsAnswer};
+ghost use Rattle.predicates_core.specs.Tree.{forest};
+
+use crate::Predicate;
+use crate::custom::members::no_member;
+use crate::node::{leaf_node, printed, showing, unary_node};
+use crate::reflection::{Case, Child, PredicateReflection, describe};
+use std::alloc::{AllocError, Global};
+use std::fmt;
+
+/// Whether a predicate holds that is decided by one part with the truth `decides`. It asks no
+/// further.
+pub fn parts_hold<P: Predicate<Item>, Item>(
+    alloc: Global,
+    parts: &[P],
+    decides: bool,
+    item: &Item,
+) -> Result<bool, AllocError>
+    requires { AllByRecursion P.lawful parts.now }
+    ensures truth { IfOk result (λ held. (text : Entry) (name : List ℕ)
+        → HasTruth (IsOfMembers decides text name (λ p. P.formula p item.now) parts.now) held) }
+    ensures infallible { AllByRecursion (λ p. P.infallible p item.now) parts.now → IsOk result }
+{
+    for part in parts {
+        if part.eval(alloc, item)? == decides {
+            return Ok(decides);
+        }
+    }
+    Ok(!decides)
+}
+
+/// What `find_case` of such a predicate is to answer. Its node shows each part under the name, or
+/// the first that decides, with its number as the product `index`.
+pub fn parts_case<W: fmt::Display, P: Predicate<Item>, Item>(
+    alloc: Global,
+    whole: &W,
+    parts: &[P],
+    name: &'static str,
+    decides: bool,
+    expected: bool,
+    item: &Item,
+) -> Result<Option<Case>, AllocError>
+    requires { AllByRecursion P.lawful parts.now }
+    ensures { IfOk result (IsAnswer (IsOfMembers decides (W.output whole.now) name.entry.now
+        (λ p. P.formula p item.now) parts.now) expected) }
+{
+    if expected == decides {
+        return first_part(alloc, whole, parts, name, decides, item);
+    }
+    if parts.is_empty() {
+        return Ok(Some(no_member(alloc, whole, expected)?));
+    }
+    if parts_hold(alloc, parts, decides, item)? == decides {
+        return Ok(None);
+    }
+    every_part(alloc, whole, parts, name, decides, item)
+}
+
+// The case of the first part that decides.
+fn first_part<W: fmt::Display, P: Predicate<Item>, Item>(
+    alloc: Global,
+    whole: &W,
+    parts: &[P],
+    name: &'static str,
+    decides: bool,
+    item: &Item,
+) -> Result<Option<Case>, AllocError>
+    requires { AllByRecursion P.lawful parts.now }
+    ensures { IfOk result (IsAnswer (IsOfMembers decides (W.output whole.now) name.entry.now
+        (λ p. P.formula p item.now) parts.now) decides) }
+{
+    for (index, part) in parts.iter().enumerate() {
+        if let Some(case) = part.find_case(alloc, decides, item)? {
+            let text = printed(alloc, whole)?;
+            let node = unary_node(alloc, text, decides, name, case)?;
+            return Ok(Some(showing(node, "index", format!(in alloc; "{index}")?)?));
+        }
+    }
+    Ok(None)
+}
+
+// The case of all parts.
+fn every_part<W: fmt::Display, P: Predicate<Item>, Item>(
+    alloc: Global,
+    whole: &W,
+    parts: &[P],
+    name: &'static str,
+    decides: bool,
+    item: &Item,
+) -> Result<Option<Case>, AllocError>
+    requires lawful { AllByRecursion P.lawful parts.now }
+    requires some { parts.now ≢ [] }
+    ensures { IfOk result (IsAnswer (IsOfMembers decides (W.output whole.now) name.entry.now
+        (λ p. P.formula p item.now) parts.now) (not decides)) }
+{
+    let mut node = leaf_node(alloc, printed(alloc, whole)?, !decides);
+    for part in parts {
+        let Some(case) = part.find_case(alloc, !decides, item)? else {
+            return Ok(None);
+        };
+        node = node.add_child(name, case)?;
+    }
+    Ok(Some(node))
+}
+
+/// The descriptions of several parts under one name, for `children`.
+pub fn each_child<P: PredicateReflection>(
+    alloc: Global,
+    name: &'static str,
+    parts: &[P],
+) -> Result<Vec<Child>, AllocError>
+    ensures fits { IfOk result (λ children. FitsParts
+        (part_of_each name.entry.now P.output P.parameters_of P.children_of parts.now)
+        (forest children.items)) }
+    ensures none { parts.now ≡ [] → IsOk result }
+{
+    let mut children = Vec::new(alloc);
+    for part in parts {
+        children.push(describe(alloc, name, part)?)?;
+    }
+    Ok(children)
+}

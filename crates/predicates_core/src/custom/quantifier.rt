@@ -1,0 +1,36 @@
+//! Whether each of several has to hold, or one, as a type.
+ghost use Rattle.std.specs.Prelude.{◌≡◌, Bool, true, false};
+
+/// How many of several have to hold.
+pub trait Quantifier {
+    // One that holds suffices; otherwise each has to.
+    ghost one_suffices: { Bool };
+
+    /// Whether one that holds suffices; otherwise each has to.
+    fn one_suffices() -> bool
+        ensures { result ≡ one_suffices };
+}
+
+/// Each of them.
+#[derive(Debug, Clone, Copy, PartialEq, Eq)]
+pub struct Every;
+
+impl Quantifier for Every {
+    ghost one_suffices = { false };
+
+    fn one_suffices() -> bool {
+        false
+    }
+}
+
+/// At least one of them.
+#[derive(Debug, Clone, Copy, PartialEq, Eq)]
+pub struct AtLeastOne;
+
+impl Quantifier for AtLeastOne {
+    ghost one_suffices = { true };
+
+    fn one_suffices() -> bool {
+        true
+    }
+}

@@ -1,0 +1,119 @@
+//! Predicates of the members of a list.
+//!
+//! ```
+//! let adults = predicate::ge(18).of_each();
+//! ```
+ghost use Rattle.std.specs.Prelude.{◌≡◌, [], codes};
+ghost use Rattle.std.specs.List.{AllByRecursion};
+ghost use Rattle.predicates_core.specs.Parts.{part};
+ghost use Rattle.predicates_core.specs.Several.{IsOfMembers, members_formula};
+ghost use Rattle.predicates_core.proofs.Several.{members_text_fits, one_members, has_members};
+ghost use Rattle.predicates_part.specs.Members.{applied_text, inner_of, word};
+
+use predicates_core::custom::{AtLeastOne, Every, Quantifier, members_case, members_hold};
+use predicates_core::reflection::{Case, Child, Parameter, PredicateReflection, describe};
+use predicates_core::{Predicate, Total};
+use std::alloc::{AllocError, Global};
+use std::fmt;
+use std::marker::PhantomData;
+
+/// Holds of a list where its inner predicate holds of each member, or of one. Made by `of_each` and
+/// `of_any` of `PredicatePartExt`.
+#[derive(Debug, Clone, Copy, PartialEq, Eq, Drop)]
+pub struct MembersPredicate<Q, P> {
+    inner: P,
+    quantifier: PhantomData<Q>,
+}
+
+/// Holds of a list where its inner predicate holds of each member.
+pub type EachPredicate<P> = MembersPredicate<Every, P>;
+
+/// Holds of a list where its inner predicate holds of a member.
+pub type AnyPredicate<P> = MembersPredicate<AtLeastOne, P>;
+
+impl<Q, P> MembersPredicate<Q, P> {
+    /// The predicate of the members of a list.
+    pub fn new(inner: P) -> MembersPredicate<Q, P>
+        ensures { inner_of result ≡ inner }
+    {
+        MembersPredicate {
+            inner,
+            quantifier: PhantomData,
+        }
+    }
+}
+
+// What is printed before the inner predicate.
+fn word_of(one_suffices: bool) -> &'static str
+    ensures { result.now ≡ word one_suffices }
+{
+    if one_suffices { "any" } else { "each" }
+}
+
+impl<Q: Quantifier, P: fmt::Display> fmt::Display for MembersPredicate<Q, P> {
+    ghost output = { λ p. applied_text (word Q.one_suffices) (P.output (inner_of p)) };
+
+    fn fmt<W: fmt::Write>(&self, f: &mut fmt::Formatter<W>) -> fmt::Result {
+        let word = word_of(Q::one_suffices());
+        let inner = &self.inner;
+        write!(f, "{word}({inner})")
+    }
+}
+
+impl<Q: Quantifier, P: PredicateReflection> PredicateReflection for MembersPredicate<Q, P> {
+    ghost parameters_of = { λ p. [] };
+
+    ghost children_of = { λ p. part
+        (codes "item") (P.output (inner_of p)) (P.parameters_of (inner_of p))
+        (P.children_of (inner_of p)) };
+
+    fn parameters(&self, alloc: Global) -> Result<Vec<Parameter>, AllocError> {
+        Ok(Vec::new(alloc))
+    }
+
+    fn children(&self, alloc: Global) -> Result<Vec<Child>, AllocError> {
+        let mut children = Vec::new(alloc);
+        children.push(describe(alloc, "item", &self.inner)?)?;
+        Ok(children)
+    }
+}
+
+impl<Q: Quantifier, P: Predicate<U>, U> Predicate<Vec<U>> for MembersPredicate<Q, P> {
+    ghost lawful = { λ p. P.lawful (inner_of p) };
+
+    ghost formula = { λ p v. IsOfMembers Q.one_suffices
+        (applied_text (word Q.one_suffices) (P.output (inner_of p)))
+        (codes "item") (P.formula (inner_of p)) v.items };
+
+    ghost infallible = { λ p v. AllByRecursion (P.infallible (inner_of p)) v.items };
+
+    ghost text_fits = { λ p v f. members_text_fits v.items };
+
+    ghost one_formula = { λ p v f g lawful. one_members v.items
+        (λ u x y. P.one_formula (inner_of p) u x y lawful) };
+
+    fn eval(&self, alloc: Global, item: &Vec<U>) -> Result<bool, AllocError> {
+        members_hold(alloc, &self.inner, Q::one_suffices(), item.as_slice())
+    }
+
+    fn find_case(
+        &self,
+        alloc: Global,
+        expected: bool,
+        item: &Vec<U>,
+    ) -> Result<Option<Case>, AllocError> {
+        let members = item.as_slice();
+        members_case(alloc, self, &self.inner, "item", Q::one_suffices(), expected, members)
+    }
+}
+
+impl<Q: Quantifier, P: Total<U>, U> Total<Vec<U>> for MembersPredicate<Q, P> {
+    ghost formula_of = { λ p v. members_formula Q.one_suffices
+        (applied_text (word Q.one_suffices) (P.output (inner_of p))) (codes "item")
+        (P.formula_of (inner_of p)) v.items };
+
+    ghost always_lawful = { λ p. P.always_lawful (inner_of p) };
+
+    ghost has_formula = { λ p v. has_members (P.formula_of (inner_of p)) v.items
+        (P.has_formula (inner_of p)) };
+}

@@ -1,0 +1,219 @@
+//! Predicates of a value that may be absent: of `Some`, of `Ok` and of `Err`.
+//!
+//! ```
+//! let adult = predicate::ge(18).of_some();
+//! let refused = predicate::eq(403).of_err();
+//! ```
+ghost use Rattle.std.specs.Prelude.{◌≡◌, ℕ, [], List, Option, Some, None, codes, false, IfOk, IfSome};
+ghost use Rattle.predicates_core.specs.Leaves.{IsExactly};
+ghost use Rattle.predicates_core.specs.Parts.{part};
+ghost use Rattle.predicates_core.specs.Shows.{IsCaseOf};
+ghost use Rattle.predicates_part.specs.Optional.{IsOfPresent, inner_of, absent_leaf, lent};
+ghost use Rattle.predicates_part.specs.Optional.{value_of_ok, value_of_err};
+ghost use Rattle.predicates_part.specs.Optional.{present_text_fits, one_present};
+ghost use Rattle.predicates_part.specs.Optional.{present_formula, has_present};
+
+use predicates_core::node::{leaf_node, printed, showing_text};
+use predicates_core::reflection::{Case, Child, Parameter, PredicateReflection, describe};
+use predicates_core::{Predicate, Total};
+use std::alloc::{AllocError, Global};
+use std::fmt;
+use std::marker::PhantomData;
+
+/// A variant of an item that holds a value, as a type.
+pub trait Variant<T> {
+    /// What the variant holds.
+    type Value;
+
+    // The value, where the item is of the variant.
+    ghost value_of: { T → Option Self.Value };
+
+    // What is said where it is not.
+    ghost absent: { List ℕ };
+
+    /// The value, where the item is of the variant.
+    fn value(item: &T) -> Option<&Self::Value>
+        ensures { lent result ≡ value_of item.now };
+
+    /// What is said where the item is not of the variant.
+    fn absent() -> &'static str
+        ensures { result.now ≡ absent };
+}
+
+/// `Some` of an `Option`.
+#[derive(Debug, Clone, Copy, PartialEq, Eq)]
+pub struct SomeVariant;
+
+impl<U> Variant<Option<U>> for SomeVariant {
+    type Value = U;
+
+    ghost value_of = { λ option. option };
+
+    ghost absent = { codes "no value" };
+
+    fn value(item: &Option<U>) -> Option<&U> {
+        item.as_ref()
+    }
+
+    fn absent() -> &'static str {
+        "no value"
+    }
+}
+
+/// `Ok` of a `Result`.
+#[derive(Debug, Clone, Copy, PartialEq, Eq)]
+pub struct OkVariant;
+
+impl<U, E> Variant<Result<U, E>> for OkVariant {
+    type Value = U;
+
+    ghost value_of = { value_of_ok };
+
+    ghost absent = { codes "is Err" };
+
+    fn value(item: &Result<U, E>) -> Option<&U> {
+        item.as_ref().ok()
+    }
+
+    fn absent() -> &'static str {
+        "is Err"
+    }
+}
+
+/// `Err` of a `Result`.
+#[derive(Debug, Clone, Copy, PartialEq, Eq)]
+pub struct ErrVariant;
+
+impl<U, E> Variant<Result<U, E>> for ErrVariant {
+    type Value = E;
+
+    ghost value_of = { value_of_err };
+
+    ghost absent = { codes "is Ok" };
+
+    fn value(item: &Result<U, E>) -> Option<&E> {
+        item.as_ref().err()
+    }
+
+    fn absent() -> &'static str {
+        "is Ok"
+    }
+}
+
+/// Holds of an item where the item is of the variant and its inner predicate holds of the value.
+/// Made by `of_some`, `of_ok` and `of_err` of `PredicatePartExt`.
+#[derive(Debug, Clone, Copy, PartialEq, Eq, Drop)]
+pub struct VariantPredicate<V, P> {
+    inner: P,
+    variant: PhantomData<V>,
+}
+
+/// Holds of `Some` where its inner predicate holds of the value, and not of `None`.
+pub type SomePredicate<P> = VariantPredicate<SomeVariant, P>;
+
+/// Holds of `Ok` where its inner predicate holds of the value, and not of `Err`.
+pub type OkPredicate<P> = VariantPredicate<OkVariant, P>;
+
+/// Holds of `Err` where its inner predicate holds of the error, and not of `Ok`.
+pub type ErrPredicate<P> = VariantPredicate<ErrVariant, P>;
+
+impl<V, P> VariantPredicate<V, P> {
+    /// The predicate of the value that the variant holds.
+    pub fn new(inner: P) -> VariantPredicate<V, P>
+        ensures { inner_of result ≡ inner }
+    {
+        VariantPredicate {
+            inner,
+            variant: PhantomData,
+        }
+    }
+}
+
+/// The case of a value that is absent: a false leaf with the text of the predicate that would be
+/// asked about it, and with what is said in its place as the product `error`.
+pub(crate) fn absent_case<P: fmt::Display>(
+    alloc: Global,
+    predicate: &P,
+    reason: &'static str,
+) -> Result<Case, AllocError>
+    ensures { IfOk result (IsCaseOf
+        (IsExactly (absent_leaf (P.output predicate.now) reason.now)) false) }
+{
+    let node = leaf_node(alloc, printed(alloc, predicate)?, false);
+    Ok(showing_text(alloc, node, "error", reason)?)
+}
+
+impl<V, P: fmt::Display> fmt::Display for VariantPredicate<V, P> {
+    ghost output = { λ p. P.output (inner_of p) };
+
+    fn fmt<W: fmt::Write>(&self, f: &mut fmt::Formatter<W>) -> fmt::Result {
+        let inner = &self.inner;
+        write!(f, "{inner}")
+    }
+}
+
+impl<V, P: PredicateReflection> PredicateReflection for VariantPredicate<V, P> {
+    ghost parameters_of = { λ p. [] };
+
+    ghost children_of = { λ p. part
+        (codes "predicate") (P.output (inner_of p)) (P.parameters_of (inner_of p))
+        (P.children_of (inner_of p)) };
+
+    fn parameters(&self, alloc: Global) -> Result<Vec<Parameter>, AllocError> {
+        Ok(Vec::new(alloc))
+    }
+
+    fn children(&self, alloc: Global) -> Result<Vec<Child>, AllocError> {
+        let mut children = Vec::new(alloc);
+        children.push(describe(alloc, "predicate", &self.inner)?)?;
+        Ok(children)
+    }
+}
+
+impl<V: Variant<T>, P: Predicate<V::Value>, T> Predicate<T> for VariantPredicate<V, P> {
+    ghost lawful = { λ p. P.lawful (inner_of p) };
+
+    ghost formula = { λ p v. IsOfPresent (P.output (inner_of p)) V.absent (P.formula (inner_of p))
+        (V.value_of v) };
+
+    ghost infallible = { λ p v. IfSome (V.value_of v) (P.infallible (inner_of p)) };
+
+    ghost text_fits = { λ p v f. present_text_fits (V.value_of v)
+        (λ u. P.text_fits (inner_of p) u) };
+
+    ghost one_formula = { λ p v f g lawful. one_present (V.value_of v)
+        (λ u x y. P.one_formula (inner_of p) u x y lawful) };
+
+    #[tactic(auto, using(crate::proofs::OptionalCases::optional_cases))]
+    fn eval(&self, alloc: Global, item: &T) -> Result<bool, AllocError> {
+        match V::value(item) {
+            Some(value) => self.inner.eval(alloc, value),
+            None => Ok(false),
+        }
+    }
+
+    #[tactic(auto, using(crate::proofs::OptionalCases::optional_cases))]
+    fn find_case(
+        &self,
+        alloc: Global,
+        expected: bool,
+        item: &T,
+    ) -> Result<Option<Case>, AllocError> {
+        match V::value(item) {
+            Some(value) => self.inner.find_case(alloc, expected, value),
+            None if expected => Ok(None),
+            None => Ok(Some(absent_case(alloc, &self.inner, V::absent())?)),
+        }
+    }
+}
+
+impl<V: Variant<T>, P: Total<V::Value>, T> Total<T> for VariantPredicate<V, P> {
+    ghost formula_of = { λ p v. present_formula (P.output (inner_of p)) V.absent
+        (P.formula_of (inner_of p)) (V.value_of v) };
+
+    ghost always_lawful = { λ p. P.always_lawful (inner_of p) };
+
+    ghost has_formula = { λ p v. has_present (P.output (inner_of p)) V.absent
+        (P.formula (inner_of p)) (P.formula_of (inner_of p)) (V.value_of v)
+        (P.has_formula (inner_of p)) };
+}
