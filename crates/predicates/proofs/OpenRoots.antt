@@ -4,7 +4,7 @@ use Rattle.std.specs.Prelude.{not, IfOk, string_bytes}
 use Rattle.std.proofs.lemmas.Slice.Eq.{bytes_eq-Decides}
 use Rattle.predicates_core.specs.Label.{Label, Entry, Fits}
 use Rattle.predicates_core.specs.Formula.{Formula, Leaf, Join, Not, Named, text_of, value, actual, truth, HasTruth}
-use Rattle.predicates_core.specs.Shows.{FitsNode, Shows, ShowsParts, Explains, IsCaseOf, IsAnswer}
+use Rattle.predicates_core.specs.Shows.{FitsNode, Shows, Explains, IsCaseOf, IsAnswer}
 use Rattle.predicates_core.specs.Tree.{Tree}
 use Rattle.predicates_core.specs.Describe.{CaseNode}
 use Rattle.predicates_core.specs.Leaves.{IsExactly}
@@ -26,14 +26,14 @@ as_printed-fits bytes f h = rw (test-from_fits (text_of f) bytes h) refl
 value-opened : (f : Formula) (w : List Bool) → value f w ≡ value (opened f) w
 unfolding value
 value-opened (Leaf label own) w = refl
-value-opened (Join op label name f rest) w = refl
+value-opened (Join op label fs) w = refl
 value-opened (Not label f) w = refl
 value-opened (Named label name f) w = refl
 
 actual-opened : (f : Formula) → actual f ≡ actual (opened f)
 unfolding actual
 actual-opened (Leaf label own) = refl
-actual-opened (Join op label name f rest) = refl
+actual-opened (Join op label fs) = refl
 actual-opened (Not label f) = refl
 actual-opened (Named label name f) = refl
 
@@ -44,9 +44,9 @@ node-opened : (label : Label) (b c : Bool) (node : CaseNode) → b ≡ c → Fit
 node-opened label b c node e n = record { text = (n.text.0, n.text.1, tt); result = n.result ∙ e; products = n.products }
 
 shows-opened : (f : Formula) (t : Tree CaseNode) (leaves : List ℕ) → Shows f t leaves → Shows (opened f) t leaves
-unfolding Shows ShowsParts
-shows-opened (Leaf label own) t leaves h = (node-opened label _ _ t.root (truth-opened (Leaf label own)) h.0, h.1)
-shows-opened (Join op label name f rest) t leaves h = (node-opened label _ _ t.root (truth-opened (Join op label name f rest)) h.0, h.1)
+unfolding Shows
+shows-opened (Leaf label own) t leaves h = (node-opened label _ _ t.root refl h.0, h.1, h.2)
+shows-opened (Join op label fs) t leaves h = (node-opened label _ _ t.root (truth-opened (Join op label fs)) h.0, h.1)
 shows-opened (Not label f) t leaves h = (node-opened label _ _ t.root (truth-opened (Not label f)) h.0, h.1)
 shows-opened (Named label name f) t leaves h = (node-opened label _ _ t.root (truth-opened (Named label name f)) h.0, h.1)
 

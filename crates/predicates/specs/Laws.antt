@@ -1,11 +1,12 @@
 -- What the laws of predicates speak of.
 use Rattle.std.specs.Prelude.{◌≡◌, ℕ, true, false, not, List, Option, Some, is_some}
 use Rattle.predicates_core.specs.Label.{Entry, plain}
-use Rattle.predicates_core.specs.Formula.{Formula, And, Or, Xor, Not, Named, truth}
+use Rattle.predicates_core.specs.declared.custom.join.Operator.{Operator}
+use Rattle.predicates_core.specs.Formula.{Formula, pair, Not, Named, truth}
 use Rattle.predicates_core.specs.Tree.{Tree}
 use Rattle.predicates_core.specs.Describe.{CaseNode}
 use Rattle.predicates_core.specs.Shows.{Explains, IsAnswer}
-use Rattle.predicates_core.specs.Combined.{not_text, infix_text}
+use Rattle.predicates_core.specs.Combined.{not_text, infix_text, sign}
 
 -- the opposite of a formula, under the text that its predicate prints
 abbrev pub opposite : Entry → Formula → Formula
@@ -19,15 +20,9 @@ twice_opposite printed f = opposite (not_text printed) (opposite printed f)
 abbrev pub under_name : List ℕ → Formula → Formula
 under_name name f = Named (plain (Some name)) name f
 
--- both formulas, at least one, or just one of them, with the operator between their texts
-abbrev pub both_of : List ℕ → Entry → Entry → Formula → Formula → Formula
-both_of operator a b f g = And (plain (infix_text operator a b)) f g
-
-abbrev pub one_of : List ℕ → Entry → Entry → Formula → Formula → Formula
-one_of operator a b f g = Or (plain (infix_text operator a b)) f g
-
-abbrev pub exactly_one_of : List ℕ → Entry → Entry → Formula → Formula → Formula
-exactly_one_of operator a b f g = Xor (plain (infix_text operator a b)) f g
+-- two formulas joined by the operator, with its sign between their texts
+abbrev pub joined : Operator → Entry → Entry → Formula → Formula → Formula
+joined op a b f g = pair op (plain (infix_text (sign op) a b)) f g
 
 -- each formula of F has the opposite truth of each of G
 pub record AreOpposite (F G : Formula → Type 0) : Type 0 where

@@ -11,7 +11,7 @@ opened_label label = record { text = None; products = label.products }
 -- the formula with its root's text left open
 abbrev pub opened : Formula → Formula
 opened (Leaf label own) = Leaf (opened_label label) own
-opened (Join op label name f rest) = Join op (opened_label label) name f rest
+opened (Join op label fs) = Join op (opened_label label) fs
 opened (Not label f) = Not (opened_label label) f
 opened (Named label name f) = Named (opened_label label) name f
 

@@ -8,7 +8,7 @@ use Rattle.predicates.specs.Printed.{opened, fits, as_printed, IsPrintedAs}
 
 text-opened : (f : Formula) → text_of (opened f) ≡ None
 text-opened (Leaf label own) = refl
-text-opened (Join op label name f rest) = refl
+text-opened (Join op label fs) = refl
 text-opened (Not label f) = refl
 text-opened (Named label name f) = refl
 

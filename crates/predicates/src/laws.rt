@@ -7,8 +7,8 @@
 
 mod rewriting;
 
-pub use predicates_core::laws::first_reasons;
+pub use predicates_core::laws::{first_reasons, one_child};
 pub use rewriting::{
-    complements, de_morgan, double_negation, exactly_one, exclusive_or, memberships, named,
-    one_case, same_function,
+    complements, de_morgan, double_negation, exclusive_or, memberships, named, one_case,
+    one_verdict, same_function,
 };

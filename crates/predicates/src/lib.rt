@@ -22,8 +22,9 @@
 //! Of any item: `always`, `never`; `eq`, `ne`, `lt`, `le`, `ge`, `gt`; `in_iter`, `in_hash` and
 //! `InPredicate::sort`; `function` over a function or a closure.
 //!
-//! Over other predicates: `and`, `or`, `xor`, `not`, and `name`; `of`, `of_ref` and `of_field` over
-//! one of a part of the item, and `of_some`, which makes of a predicate one of an `Option`.
+//! Over other predicates: `and`, `or`, `xor`, `not`, and `name`; `all_of` and `any_of` over a list of
+//! them. Of parts of an item: `of`, `of_ref`, `of_some_ref` and `of_field`; `of_some`, `of_ok` and
+//! `of_err` of what an `Option` or a `Result` holds; `of_each`, `of_any` and `of_len` of a list.
 //!
 //! Of texts: `str::is_empty`, `str::starts_with`, `str::ends_with`, `str::contains` and its
 //! `count`, `str::is_match` and its `count`; `trim` and `normalize` over a predicate of texts, and
@@ -48,7 +49,7 @@ pub mod prelude;
 pub mod semantics;
 
 pub use boxed::{BoxPredicate, TextPredicate};
-pub use predicates_boolean::{boolean, name};
+pub use predicates_boolean::{boolean, name, rules};
 pub use predicates_core::{
     Content, Predicate, ReadsContent, Total, as_static_str, custom, default_find_case, node,
     reflection, static_text,

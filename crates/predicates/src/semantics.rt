@@ -2,7 +2,7 @@
 //!
 //! ```
 //! // From here on a proof knows the formulas of `both` on `item`, and when it takes no memory.
-//! semantics::and(&both, &item);
+//! semantics::join(&both, &item);
 //! ```
 //!
 //! Each clause holds for every predicate of the type and every item. The clauses state the
@@ -14,14 +14,16 @@ ghost use Rattle.predicates.specs.Boxed.{held_by, kept_text};
 ghost use Rattle.predicates.specs.Printed.{IsPrintedAs};
 
 use crate::boxed::{BoxPredicate, TextPredicate};
-pub use predicates_boolean::semantics::{and, named, not, or, xor};
+pub use predicates_boolean::semantics::{join, named, not, rules};
 use predicates_core::reflection::PredicateReflection;
 use predicates_core::{Predicate, ReadsContent};
 pub use predicates_item::semantics::{
     constant, equality, equality_reflection, hashed, listed, order, order_reflection, sorted,
     stored_function,
 };
-pub use predicates_part::semantics::{description, of, of_field, of_ref, of_some};
+pub use predicates_part::semantics::{
+    description, length, members, of, of_field, of_ref, of_some_ref, variant,
+};
 pub use predicates_path::semantics::{existence, file_bytes, file_content, file_text, file_type};
 pub use predicates_text::semantics::{
     contains, count, ends_with, from_utf8, is_empty, is_match, match_count, normalize, starts_with,

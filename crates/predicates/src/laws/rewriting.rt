@@ -5,16 +5,17 @@
 //! // From here on a proof knows that the name changes neither the verdict nor the leaves.
 //! laws::named(&check, &item, "policy");
 //! ```
-ghost use Rattle.std.specs.Prelude.{◌≡◌, List, codes};
+ghost use Rattle.std.specs.Prelude.{◌≡◌, List};
 ghost use Rattle.std.specs.List.Sorted.{IsPermutation};
+ghost use Rattle.predicates_core.specs.declared.custom.join.Operator.TheVariants.{And, Or, Xor};
 ghost use Rattle.predicates_core.specs.Formula.{Formula};
-ghost use Rattle.predicates_core.specs.Combined.{infix_text, not_text};
+ghost use Rattle.predicates_core.specs.Combined.{infix_text, not_text, sign};
 ghost use Rattle.predicates_core.specs.Alike.{AreAlike, AreSameFunction, HasStatedLabels};
 ghost use Rattle.predicates_item.specs.Makers.{equal_to, unequal_to, less_than, at_most, at_least};
 ghost use Rattle.predicates_item.specs.Makers.{greater_than};
 ghost use Rattle.predicates_item.specs.Members.{has_equal, first_of_equals};
-ghost use Rattle.predicates.specs.Laws.{opposite, twice_opposite, under_name, both_of, one_of};
-ghost use Rattle.predicates.specs.Laws.{exactly_one_of, AreOpposite, HasAtMostOneCase, HasOneAnswer};
+ghost use Rattle.predicates.specs.Laws.{opposite, twice_opposite, under_name, joined};
+ghost use Rattle.predicates.specs.Laws.{AreOpposite, HasAtMostOneCase, HasOneAnswer};
 
 use predicates_core::Predicate;
 use predicates_item::ord::{EqPredicate, OrdPredicate};
@@ -49,15 +50,15 @@ pub fn same_function<P: Predicate<Item>, Q: Predicate<Item>, Item>(
 pub fn de_morgan<P: Predicate<Item>, Q: Predicate<Item>, Item>(left: &P, right: &Q, item: &Item)
     ensures not_both { (f g : Formula) → P.formula left.now item.now f → Q.formula right.now item.now g
         → AreAlike
-        (opposite (infix_text (codes " && ") (P.output left.now) (Q.output right.now))
-        (both_of (codes " && ") (P.output left.now) (Q.output right.now) f g))
-        (one_of (codes " || ") (not_text (P.output left.now)) (not_text (Q.output right.now))
+        (opposite (infix_text (sign And) (P.output left.now) (Q.output right.now))
+        (joined And (P.output left.now) (Q.output right.now) f g))
+        (joined Or (not_text (P.output left.now)) (not_text (Q.output right.now))
         (opposite (P.output left.now) f) (opposite (Q.output right.now) g)) }
     ensures not_either { (f g : Formula) → P.formula left.now item.now f → Q.formula right.now item.now g
         → AreAlike
-        (opposite (infix_text (codes " || ") (P.output left.now) (Q.output right.now))
-        (one_of (codes " || ") (P.output left.now) (Q.output right.now) f g))
-        (both_of (codes " && ") (not_text (P.output left.now)) (not_text (Q.output right.now))
+        (opposite (infix_text (sign Or) (P.output left.now) (Q.output right.now))
+        (joined Or (P.output left.now) (Q.output right.now) f g))
+        (joined And (not_text (P.output left.now)) (not_text (Q.output right.now))
         (opposite (P.output left.now) f) (opposite (Q.output right.now) g)) }
 {}
 
@@ -65,9 +66,9 @@ pub fn de_morgan<P: Predicate<Item>, Q: Predicate<Item>, Item>(left: &P, right: 
 pub fn exclusive_or<P: Predicate<Item>, Q: Predicate<Item>, Item>(left: &P, right: &Q, item: &Item)
     ensures { (f g : Formula) → P.formula left.now item.now f → Q.formula right.now item.now g
         → AreAlike
-        (opposite (infix_text (codes " ^ ") (P.output left.now) (Q.output right.now))
-        (exactly_one_of (codes " ^ ") (P.output left.now) (Q.output right.now) f g))
-        (exactly_one_of (codes " ^ ") (not_text (P.output left.now)) (Q.output right.now)
+        (opposite (infix_text (sign Xor) (P.output left.now) (Q.output right.now))
+        (joined Xor (P.output left.now) (Q.output right.now) f g))
+        (joined Xor (not_text (P.output left.now)) (Q.output right.now)
         (opposite (P.output left.now) f) g) }
 {}
 
@@ -80,7 +81,7 @@ pub fn one_case<P: Predicate<Item>, Item>(predicate: &P, item: &Item)
 
 /// Of the two questions for a case, that for a true and that for a false verdict, one finds a case
 /// and the other finds none.
-pub fn exactly_one<P: Predicate<Item>, Item>(predicate: &P, item: &Item)
+pub fn one_verdict<P: Predicate<Item>, Item>(predicate: &P, item: &Item)
     ensures { (f : Formula) → P.formula predicate.now item.now f
         → HasOneAnswer (P.formula predicate.now item.now) }
 {}
