@@ -18,5 +18,6 @@ pub mod Alike
 pub mod OneCase
 pub mod OneChild
 pub mod Asked
+pub mod Fewer
 pub mod Several
 pub mod EachPart

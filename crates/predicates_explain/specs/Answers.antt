@@ -4,8 +4,9 @@ use Rattle.std.specs.Fmt.{signed_decimal}
 use Rattle.std.specs.Io.BufRead.{strip_last}
 use Rattle.std.specs.Ordering.{int_cmp, is_ge, is_le}
 use Rattle.predicates_core.specs.Label.{plain, showing}
-use Rattle.predicates_core.specs.Formula.{Formula, Leaf, And}
-use Rattle.predicates_core.specs.Combined.{infix_text}
+use Rattle.predicates_core.specs.declared.custom.join.Operator.TheVariants.{And}
+use Rattle.predicates_core.specs.Formula.{Formula, Leaf, pair}
+use Rattle.predicates_core.specs.Combined.{infix_text, sign}
 use Rattle.predicates_item.specs.Comparison.{comparison_text}
 use Rattle.predicates_explain.specs.Blocks.{IsBlock}
 use Rattle.predicates_explain.specs.Number.{Reads}
@@ -42,6 +43,6 @@ comparison symbol constant n holds =
 -- the formula of `ge(lo).and(le(hi))` on n
 abbrev pub between_formula : ℤ → ℤ → ℤ → Formula
 between_formula lo hi n =
-    And (plain (infix_text (codes " && ") (number_text (codes ">=") lo) (number_text (codes "<=") hi)))
+    pair And (plain (infix_text (sign And) (number_text (codes ">=") lo) (number_text (codes "<=") hi)))
     (comparison (codes ">=") lo n (is_ge (int_cmp n lo)))
     (comparison (codes "<=") hi n (is_le (int_cmp n hi)))

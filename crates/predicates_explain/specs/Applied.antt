@@ -14,10 +14,7 @@ use Rattle.predicates_explain.specs.declared.check.TextCheck.{Starts as StartsCh
 use Rattle.predicates_explain.specs.declared.check.TextCheck.{Ends as EndsCheck}
 use Rattle.predicates_explain.specs.declared.check.TextCheck.{Contains as ContainsCheck}
 use Rattle.predicates_explain.specs.declared.check.TextCheck.{Matches as MatchesCheck, Trim'}
-use Rattle.predicates_explain.specs.declared.check.TextCheck.{Normalize', Not', Join'}
-use Rattle.predicates_core.specs.declared.custom.join.Operator.TheVariants.{And as Both}
-use Rattle.predicates_core.specs.declared.custom.join.Operator.TheVariants.{Or as Either}
-use Rattle.predicates_core.specs.declared.custom.join.Operator.TheVariants.{Xor as Unlike}
+use Rattle.predicates_explain.specs.declared.check.TextCheck.{Normalize', Not', And', Or', Xor'}
 
 -- how many checks a word takes
 abbrev pub operand_count : Word → ℕ
@@ -45,9 +42,9 @@ IsCheckOf (Matches text) [] (MatchesCheck p) = (regex_text p ≡ string_bytes te
 IsCheckOf Trim (operand ∷ []) (Trim' _ inner) = inner ≡ operand
 IsCheckOf Normalize (operand ∷ []) (Normalize' _ inner) = inner ≡ operand
 IsCheckOf Not (operand ∷ []) (Not' _ inner) = inner ≡ operand
-IsCheckOf And (left ∷ right ∷ []) (Join' op _ l _ r) = (op ≡ Both) × (l ≡ left) × (r ≡ right)
-IsCheckOf Or (left ∷ right ∷ []) (Join' op _ l _ r) = (op ≡ Either) × (l ≡ left) × (r ≡ right)
-IsCheckOf Xor (left ∷ right ∷ []) (Join' op _ l _ r) = (op ≡ Unlike) × (l ≡ left) × (r ≡ right)
+IsCheckOf And (left ∷ right ∷ []) (And' _ l _ r) = (l ≡ left) × (r ≡ right)
+IsCheckOf Or (left ∷ right ∷ []) (Or' _ l _ r) = (l ≡ left) × (r ≡ right)
+IsCheckOf Xor (left ∷ right ∷ []) (Xor' _ l _ r) = (l ≡ left) × (r ≡ right)
 IsCheckOf _ _ _ = ⊥
 
 -- the check is that of the word over the last of the old stack, and the others are left

@@ -1,6 +1,8 @@
 -- What a check of texts prints, and its formula on a text, by the word that it stands for.
 use Rattle.std.specs.Prelude.{ℕ, List}
 use Rattle.predicates_core.specs.Label.{Entry, plain}
+use Rattle.predicates_core.specs.declared.custom.join.Operator.{Operator}
+use Rattle.predicates_core.specs.declared.custom.join.Operator.TheVariants.{And, Or, Xor}
 use Rattle.predicates_core.specs.Formula.{Formula, pair, Not}
 use Rattle.predicates_core.specs.Leaves.{IsExactly}
 use Rattle.predicates_core.specs.Combined.{infix_text, not_text, sign, IsPair, IsNot}
@@ -14,7 +16,14 @@ use Rattle.predicates_item.specs.TextEquality.{text_equality_text, text_equality
 use Rattle.predicates_explain.specs.declared.check.TextCheck.{TextCheck, Empty, Equals, Starts}
 use Rattle.predicates_explain.specs.declared.check.TextCheck.{Ends, Contains, Matches, Trim'}
 use Rattle.predicates_explain.specs.declared.check.TextCheck.{Normalize', Not' as NotCheck}
-use Rattle.predicates_explain.specs.declared.check.TextCheck.{Join'}
+use Rattle.predicates_explain.specs.declared.check.TextCheck.{And' as AndCheck, Or' as OrCheck}
+use Rattle.predicates_explain.specs.declared.check.TextCheck.{Xor' as XorCheck}
+
+-- the operator of a check that joins two
+abbrev pub operator_of : TextCheck → Operator
+operator_of (AndCheck _ left _ right) = And
+operator_of (OrCheck _ left _ right) = Or
+operator_of _ = Xor
 
 -- the printed text
 abbrev pub check_text : TextCheck → Entry
@@ -27,7 +36,10 @@ check_text (Matches p) = match_text (regex_text p)
 check_text (Trim' _ inner) = check_text inner
 check_text (Normalize' _ inner) = check_text inner
 check_text (NotCheck _ inner) = not_text (check_text inner)
-check_text (Join' op _ left _ right) = infix_text (sign op) (check_text left) (check_text right)
+check_text (AndCheck _ left _ right) = infix_text (sign And) (check_text left)
+    (check_text right)
+check_text (OrCheck _ left _ right) = infix_text (sign Or) (check_text left) (check_text right)
+check_text (XorCheck _ left _ right) = infix_text (sign Xor) (check_text left) (check_text right)
 
 -- the formula on a text with the bytes
 abbrev pub HasFormula : TextCheck → List ℕ → Formula → Type 0
@@ -40,8 +52,14 @@ HasFormula (Matches p) bytes = IsExactly (match_formula (regex_text p) (regex_me
 HasFormula (Trim' _ inner) bytes = HasFormula inner (trimmed_bytes bytes)
 HasFormula (Normalize' _ inner) bytes = HasFormula inner (even_bytes bytes)
 HasFormula (NotCheck _ inner) bytes = IsNot (not_text (check_text inner)) (HasFormula inner bytes)
-HasFormula (Join' op _ left _ right) bytes =
-    IsPair op (infix_text (sign op) (check_text left) (check_text right)) (HasFormula left bytes)
+HasFormula (AndCheck _ left _ right) bytes =
+    IsPair And (infix_text (sign And) (check_text left) (check_text right)) (HasFormula left bytes)
+    (HasFormula right bytes)
+HasFormula (OrCheck _ left _ right) bytes =
+    IsPair Or (infix_text (sign Or) (check_text left) (check_text right)) (HasFormula left bytes)
+    (HasFormula right bytes)
+HasFormula (XorCheck _ left _ right) bytes =
+    IsPair Xor (infix_text (sign Xor) (check_text left) (check_text right)) (HasFormula left bytes)
     (HasFormula right bytes)
 
 -- the one such formula
@@ -56,8 +74,14 @@ check_formula (Trim' _ inner) bytes = check_formula inner (trimmed_bytes bytes)
 check_formula (Normalize' _ inner) bytes = check_formula inner (even_bytes bytes)
 check_formula (NotCheck _ inner) bytes = Not (plain (not_text (check_text inner)))
     (check_formula inner bytes)
-check_formula (Join' op _ left _ right) bytes =
-    pair op (plain (infix_text (sign op) (check_text left) (check_text right)))
+check_formula (AndCheck _ left _ right) bytes =
+    pair And (plain (infix_text (sign And) (check_text left) (check_text right)))
+    (check_formula left bytes) (check_formula right bytes)
+check_formula (OrCheck _ left _ right) bytes =
+    pair Or (plain (infix_text (sign Or) (check_text left) (check_text right)))
+    (check_formula left bytes) (check_formula right bytes)
+check_formula (XorCheck _ left _ right) bytes =
+    pair Xor (plain (infix_text (sign Xor) (check_text left) (check_text right)))
     (check_formula left bytes) (check_formula right bytes)
 
 -- `eval` takes no memory
@@ -71,4 +95,6 @@ IsInfallibleCheck (Matches p) = ⊥
 IsInfallibleCheck (Trim' _ inner) = ⊥
 IsInfallibleCheck (Normalize' _ inner) = ⊥
 IsInfallibleCheck (NotCheck _ inner) = IsInfallibleCheck inner
-IsInfallibleCheck (Join' op _ left _ right) = IsInfallibleCheck left × IsInfallibleCheck right
+IsInfallibleCheck (AndCheck _ left _ right) = IsInfallibleCheck left × IsInfallibleCheck right
+IsInfallibleCheck (OrCheck _ left _ right) = IsInfallibleCheck left × IsInfallibleCheck right
+IsInfallibleCheck (XorCheck _ left _ right) = IsInfallibleCheck left × IsInfallibleCheck right

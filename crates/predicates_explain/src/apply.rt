@@ -6,7 +6,6 @@ ghost use Rattle.predicates_explain.specs.Applied.{operand_count, IsMade, IsAppl
 use crate::check::TextCheck;
 use crate::word::Word;
 use crate::word_fault::WordFault;
-use predicates::custom::Operator;
 use predicates::ord::eq;
 use predicates::str::{contains, ends_with, is_empty, is_match, starts_with};
 use std::alloc::Global;
@@ -65,15 +64,15 @@ fn make_check(alloc: Global, stack: &mut Vec<TextCheck>, word: Word) -> Result<T
         Word::Not => Ok(TextCheck::Not(take_one(alloc, stack)?)),
         Word::And => {
             let (left, right) = take_two(alloc, stack)?;
-            Ok(TextCheck::Join(Operator::And, left, right))
+            Ok(TextCheck::And(left, right))
         }
         Word::Or => {
             let (left, right) = take_two(alloc, stack)?;
-            Ok(TextCheck::Join(Operator::Or, left, right))
+            Ok(TextCheck::Or(left, right))
         }
         Word::Xor => {
             let (left, right) = take_two(alloc, stack)?;
-            Ok(TextCheck::Join(Operator::Xor, left, right))
+            Ok(TextCheck::Xor(left, right))
         }
     }
 }

@@ -2,9 +2,9 @@
 ghost use Rattle.std.specs.Prelude.{◌≡◌, ℤ, IfOk, OnOk, string_bytes};
 ghost use Rattle.std.specs.Fmt.{signed_decimal};
 ghost use Rattle.std.specs.Io.BufRead.{strip_last};
-ghost use Rattle.predicates_boolean.specs.Binary.{left_of, right_of};
-ghost use Rattle.predicates_boolean.specs.declared.boolean.binary.BinaryPredicate.{BinaryPredicate};
-ghost use Rattle.predicates_boolean.specs.declared.boolean.binary.And.{And};
+ghost use Rattle.predicates_boolean.specs.Join.{left_of, right_of};
+ghost use Rattle.predicates_boolean.specs.declared.boolean.join.JoinPredicate.{JoinPredicate};
+ghost use Rattle.predicates_boolean.specs.declared.boolean.join.AndOperator.{AndOperator};
 ghost use Rattle.predicates_item.specs.Makers.{at_least, at_most};
 ghost use Rattle.predicates_item.specs.declared.ord.order.OrdPredicate.{OrdPredicate};
 ghost use Rattle.predicates_explain.specs.Answers.{between_formula, no_number, IsNumber};
@@ -98,7 +98,7 @@ pub fn run_between<R: BufRead, W: Write>(
     ensures run { IfOk result (HasRun (IsNumberAnswer (between_formula lo hi)) IsNumber
         (R.remaining input.old) (R.remaining input.new)
         (W.contents output.old) (W.contents output.new)) }
-    ensures formula { (both : BinaryPredicate And (OrdPredicate ℤ) (OrdPredicate ℤ) ℤ) (n : ℤ)
+    ensures formula { (both : JoinPredicate AndOperator (OrdPredicate ℤ) (OrdPredicate ℤ) ℤ) (n : ℤ)
         → left_of both ≡ at_least lo → right_of both ≡ at_most hi
         → ⟦<AndPredicate<OrdPredicate<i64>, OrdPredicate<i64>, i64> as Total<i64>>⟧.formula_of both n
         ≡ between_formula lo hi n }

@@ -1,10 +1,10 @@
 //! A check of texts, made of words.
-ghost use Rattle.std.specs.Prelude.{[], string_bytes};
+ghost use Rattle.std.specs.Prelude.{◌≡◌, [], string_bytes};
 ghost use Rattle.std.specs.Fmt.{DisplaysOnOk};
 ghost use Rattle.predicates_core.specs.Combined.{infix_text};
 ghost use Rattle.predicates_core.specs.Tree.{empty};
 ghost use Rattle.predicates_explain.specs.Checks.{check_text, check_formula, HasFormula};
-ghost use Rattle.predicates_explain.specs.Checks.{IsInfallibleCheck};
+ghost use Rattle.predicates_explain.specs.Checks.{IsInfallibleCheck, operator_of};
 ghost use Rattle.predicates_explain.specs.CheckLaws.{check_text_fits, one_check, has_check_formula};
 ghost use Rattle.predicates_explain.specs.Weight.{IsLeafCheck};
 
@@ -45,11 +45,26 @@ pub enum TextCheck {
     Normalize(Box<TextCheck>),
     /// The check does not hold.
     Not(Box<TextCheck>),
-    /// The operator joins what the checks hold; the right one is asked only where it counts.
-    Join(Operator, Box<TextCheck>, Box<TextCheck>),
+    /// Both checks hold; the right one is asked only where the left one holds.
+    And(Box<TextCheck>, Box<TextCheck>),
+    /// One or both checks hold; the right one is asked only where the left one does not hold.
+    Or(Box<TextCheck>, Box<TextCheck>),
+    /// Exactly one check holds; both are asked.
+    Xor(Box<TextCheck>, Box<TextCheck>),
 }
 
 impl TextCheck {
+    // The operator of a check that joins two.
+    fn operator(&self) -> Operator
+        ensures { result ≡ operator_of self.now }
+    {
+        match self {
+            TextCheck::And(_, _) => Operator::And,
+            TextCheck::Or(_, _) => Operator::Or,
+            _ => Operator::Xor,
+        }
+    }
+
     // Drops a check without parts.
     fn drop_leaf(self)
         requires { IsLeafCheck self }
@@ -64,9 +79,7 @@ impl TextCheck {
             _ => unreachable!(),
         }
     }
-}
 
-impl TextCheck {
     // Two checks in parentheses, with the operator between them.
     #[cycle(text)]
     fn fmt_joined<W: fmt::Write>(
@@ -95,9 +108,11 @@ impl Drop for TextCheck {
                 TextCheck::Trim(inner) | TextCheck::Normalize(inner) | TextCheck::Not(inner) => {
                     self = Box::into_inner(inner);
                 }
-                TextCheck::Join(operator, mut left, mut right) => {
+                TextCheck::And(mut left, mut right)
+                | TextCheck::Or(mut left, mut right)
+                | TextCheck::Xor(mut left, mut right) => {
                     if rotate_left(&mut left, &mut right) {
-                        self = TextCheck::Join(operator, right, left);
+                        self = TextCheck::And(right, left); // whichever it was, it is dropped
                     } else {
                         Box::into_inner(left).drop_leaf();
                         self = Box::into_inner(right);
@@ -132,8 +147,10 @@ impl fmt::Display for TextCheck {
                 (**inner).fmt(f)?;
                 write!(f, ")")
             }
-            TextCheck::Join(operator, left, right) => {
-                TextCheck::fmt_joined(left, operator.sign(), right, f)
+            TextCheck::And(left, right)
+            | TextCheck::Or(left, right)
+            | TextCheck::Xor(left, right) => {
+                TextCheck::fmt_joined(left, self.operator().sign(), right, f)
             }
         }
     }
@@ -189,7 +206,10 @@ impl Predicate<String> for TextCheck {
                     wanted = !wanted;
                     check = inner;
                 }
-                TextCheck::Join(operator, left, right) => {
+                TextCheck::And(left, right)
+                | TextCheck::Or(left, right)
+                | TextCheck::Xor(left, right) => {
+                    let operator = check.operator();
                     let left_holds = left.eval(alloc, item)?;
                     if !operator.asks(left_holds) {
                         return Ok(left_holds == wanted);
@@ -224,8 +244,10 @@ impl Predicate<String> for TextCheck {
                 inner.find_case(alloc, expected, lines_even_view(alloc, item, &mut copy)?)
             }
             TextCheck::Not(inner) => self.find_not(alloc, inner, expected, item),
-            TextCheck::Join(operator, left, right) => {
-                self.find_join(alloc, *operator, left, right, expected, item)
+            TextCheck::And(left, right)
+            | TextCheck::Or(left, right)
+            | TextCheck::Xor(left, right) => {
+                self.find_join(alloc, self.operator(), left, right, expected, item)
             }
         }
     }

@@ -11,6 +11,7 @@ use Rattle.predicates_core.specs.Combined.{IsNamed}
 use Rattle.predicates_core.proofs.CombinedLemmas.{HasTruth-named, IsCaseOf-under}
 use Rattle.predicates_core.specs.Label.{Entry, Fits}
 use Rattle.predicates_core.specs.Leaves.{IsExactly}
+use Rattle.predicates_core.proofs.Fewer.{truth_of_fewer, case_of_fewer, answer_of_fewer, case_with}
 use Rattle.predicates_part.specs.Field.{HasOnePart, IsOfPart}
 use Rattle.predicates_part.specs.Optional.{IsOfPresent, absent_leaf, lent}
 
@@ -24,22 +25,6 @@ module _ {F T R U : Type 0} {calls : Shared F (Bor T × Unit {0}) R} {read : R �
 
   pub HasTruth-field : {b : Bool} → HasOnePart calls read function → calls.post function (item, tt) r → HasTruth (IsNamed name (has (read r))) b → HasTruth (IsNamed name (IsOfPart calls read function has item.now)) b
   HasTruth-field one given h = record { at = λ f k. h.at f (on_part one given f k) }
-
--- an answer about some formulas is one about fewer of them
-module _ {A B : Formula → Type 0} {b : Bool} (fewer : (f : Formula) → B f → A f) where
-  pub truth_of_fewer : HasTruth A b → HasTruth B b
-  truth_of_fewer h = record { at = λ f k. h.at f (fewer f k) }
-
-  pub case_of_fewer : {t : Tree CaseNode} → IsCaseOf A b t → IsCaseOf B b t
-  case_of_fewer h = record { truth = truth_of_fewer h.truth; explains = λ f k. h.explains f (fewer f k) }
-
-pub answer_of_fewer : {A B : Formula → Type 0} {E : Type 0} (b : Bool) (r : Result (Option (Tree CaseNode)) E) → ((f : Formula) → B f → A f) → IfOk r (IsAnswer A b) → IfOk r (IsAnswer B b)
-answer_of_fewer b (Ok None) fewer h = truth_of_fewer fewer h
-answer_of_fewer b (Ok (Some c)) fewer h = case_of_fewer fewer h
-answer_of_fewer b (Err e) fewer h = tt
-
-pub case_with : {F : Formula → Type 0} {a b : Bool} {t : Tree CaseNode} → a ≡ b → IsCaseOf F a t → IsCaseOf F b t
-case_with {F} {t = t} e = subst (λ z. IsCaseOf F z t) e
 
 -- a node over the part's case, where memory sufficed for one
 pub case_over : {part : Formula → Type 0} {b : Bool} {c : Tree CaseNode} {name under bytes : List ℕ} {E : Type 0} (r : Result (Tree CaseNode) E) → IfOk r (IsNode (Some bytes) b ((under, c) ∷ [])) → under ≡ name → Fits (Some name) bytes → IsCaseOf part b c → IfOk r (IsCaseOf (IsNamed name part) b)

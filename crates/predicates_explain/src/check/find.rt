@@ -7,7 +7,7 @@ ghost use Rattle.predicates_explain.specs.Checks.{check_text, HasFormula};
 
 use crate::check::TextCheck;
 use predicates::Predicate;
-use predicates::custom::{Operator};
+use predicates::custom::Operator;
 use predicates::node::{binary_node_of, printed, unary_node};
 use predicates::reflection::Case;
 use std::alloc::{AllocError, Global};

@@ -27,7 +27,9 @@ pub(crate) fn rotate_left(left: &mut TextCheck, right: &mut Box<TextCheck>) -> b
         TextCheck::Trim(inner) => mem::swap(inner, right),
         TextCheck::Normalize(inner) => mem::swap(inner, right),
         TextCheck::Not(inner) => mem::swap(inner, right),
-        TextCheck::Join(_, first, second) => rotate(first, second, right),
+        TextCheck::And(first, second) => rotate(first, second, right),
+        TextCheck::Or(first, second) => rotate(first, second, right),
+        TextCheck::Xor(first, second) => rotate(first, second, right),
         _ => return false,
     }
     true

@@ -1,10 +1,14 @@
-use Rattle.std.proofs.Common.{rules, ◌≡◌, ◌∙◌, Bool, true, false, not, refl, sym, ap, subst, arith}
+use Rattle.std.proofs.Common.{rules, ◌≡◌, ◌∙◌, ◌⊎◌, inl, inr, ℕ, ◌+◌, ◌*◌, List, Bool, true, false, not, string_bytes, refl, sym, ap, subst, arith}
 use mathlib.Core.Bool.{beq}
-use Rattle.predicates_core.specs.Formula.{apply, HasTruth}
+use Rattle.predicates_core.specs.Formula.{Formula, apply, HasTruth}
 use Rattle.predicates_core.specs.Asked.{asks}
 use Rattle.predicates_core.specs.declared.custom.join.Operator.{Operator}
-use Rattle.predicates_core.specs.declared.custom.join.Operator.TheVariants.{And as Both, Or as Either, Xor as Unlike}
-use Rattle.predicates_core.proofs.CombinedLemmas.{HasTruth-not, HasTruth-pair}
+use Rattle.predicates_core.specs.declared.custom.join.Operator.TheVariants.{And, Or, Xor}
+use Rattle.predicates_core.specs.Combined.{IsPair}
+use Rattle.predicates_core.proofs.Fewer.{truth_of_fewer}
+use Rattle.predicates_core.proofs.CombinedLemmas.{HasTruth-not, HasTruth-pair, HasTruth-left}
+use Rattle.predicates_explain.specs.Checks.{check_text, operator_of, HasFormula, IsInfallibleCheck}
+use Rattle.predicates_explain.specs.Weight.{weight}
 use Rattle.predicates_explain.proofs.check.TextCheckPredicateString.+eval.Goals as goal
 
 -- `!b == w` and `b == !w`
@@ -16,21 +20,35 @@ across false false = refl
 
 -- where the right part counts, the whole has its truth or the opposite
 over : (op : Operator) (a b w : Bool) → asks op a ≡ true → beq (apply op a b) w ≡ beq b (not (beq (apply op a false) w))
-over Both true b true asked = refl
-over Both true b false asked = refl
-over Both false b w asked = absurd (cc)
-over Either false b true asked = refl
-over Either false b false asked = refl
-over Either true b w asked = absurd (cc)
-over Unlike true true true asked = refl
-over Unlike true true false asked = refl
-over Unlike true false true asked = refl
-over Unlike true false false asked = refl
-over Unlike false b true asked = refl
-over Unlike false b false asked = refl
+over And true b true asked = refl
+over And true b false asked = refl
+over And false b w asked = absurd (cc)
+over Or false b true asked = refl
+over Or false b false asked = refl
+over Or true b w asked = absurd (cc)
+over Xor true true true asked = refl
+over Xor true true false asked = refl
+over Xor true false true asked = refl
+over Xor true false false asked = refl
+over Xor false b true asked = refl
+over Xor false b false asked = refl
 
-pub loop-check-preserved-in-Not : goal.loop-check-preserved-in-Not
-loop-check-preserved-in-Not t c = (
+-- where it does not count, the whole has the truth of the left part
+settled : (op : Operator) (a y : Bool) → asks op a ≡ false → apply op a y ≡ a
+settled And false y ends = refl
+settled And true y ends = absurd (cc)
+settled Or true y ends = refl
+settled Or false y ends = absurd (cc)
+settled Xor a y ends = absurd (cc)
+
+-- what follows from each of three
+of_three : {A B C D : Type 0} → A ⊎ (B ⊎ C) → (A → D) → (B → D) → (C → D) → D
+of_three (inl a) of_a of_b of_c = of_a a
+of_three (inr (inl b)) of_a of_b of_c = of_b b
+of_three (inr (inr c)) of_a of_b of_c = of_c c
+
+pub loop-check-preserved-in-Not-1 : goal.loop-check-preserved-in-Not-1
+loop-check-preserved-in-Not-1 t c = (
   λ b of_part. subst (HasTruth _) (across b c.loop-check.wanted) (c.loop-check.invariant.0 (not b) (rw c.in-Not.is (HasTruth-not (rw c.deref-check.ensures at of_part) refl))),
   search rules,
   search (rules, arith),
@@ -38,11 +56,30 @@ loop-check-preserved-in-Not t c = (
 
 pub loop-check-preserved : goal.loop-check-preserved
 loop-check-preserved t c =
-    let op = c.in-Join.operator in
-    let a = c.in_ok-left_holds-in-Join.left_holds in
+    let op = c.operator-operator.result in
+    let a = c.in_ok-left_holds-in-And.left_holds in
     let asked : asks op a ≡ true = search rules in
+    let bytes = string_bytes c.args.item.now in
+    let left = c.in-And.left.value in
+    let right = c.in-And.right.value in
+    let check = c.loop-check.check.now in
+    let whole : (f : Formula) → HasFormula check bytes f → IsPair (operator_of check) (check_text check) (HasFormula left bytes) (HasFormula right bytes) f = of_three c.in-And.is (λ e f h. rw e (rw e at h)) (λ e f h. rw e (rw e at h)) (λ e f h. rw e (rw e at h)) in
+    let weighs : weight check ≡ 2 * weight left + weight right + 1 = of_three c.in-And.is (λ e. rw e refl) (λ e. rw e refl) (λ e. rw e refl) in
+    let infallible : IsInfallibleCheck check → IsInfallibleCheck right = of_three c.in-And.is (λ e h. (rw e at h).1) (λ e h. (rw e at h).1) (λ e h. (rw e at h).1) in
     (
-      λ b of_part. subst (HasTruth _) (over op a b c.loop-check.wanted asked ∙ ap (λ z. beq b (not (beq z c.loop-check.wanted))) (sym c.apply.ensures)) (c.loop-check.invariant.0 (apply op a b) (rw c.in-Join.is (HasTruth-pair op (rw c.deref-in-Join.ensures at c.in_ok-left_holds-in-Join.ensures.truth) (rw c.deref-check-in-Join.ensures at of_part)))),
-      search rules,
-      search (rules, arith),
+      λ b of_part. subst (HasTruth _) (over op a b c.loop-check.wanted asked ∙ ap (λ z. beq b (not (beq z c.loop-check.wanted))) (sym c.apply.ensures)) (c.loop-check.invariant.0 (apply op a b) (truth_of_fewer whole (rw (← c.operator-operator.ensures) (HasTruth-pair op (rw c.deref-in-And.ensures at c.in_ok-left_holds-in-And.ensures.truth) (rw c.deref-check-in-And.ensures at of_part))))),
+      λ h. rw c.deref-check-in-And.ensures (infallible (c.loop-check.invariant.1 h)),
+      rw c.deref-check-in-And.ensures (omega (arith, weighs, c.loop-check.invariant.2)),
     )
+
+pub returns-then-not-asks-clause-truth : goal.returns-then-not-asks-clause-truth
+returns-then-not-asks-clause-truth t c =
+    let op = c.operator-operator.result in
+    let a = c.in_ok-left_holds-in-And.left_holds in
+    let ends : asks op a ≡ false = search rules in
+    let bytes = string_bytes c.args.item.now in
+    let left = c.in-And.left.value in
+    let right = c.in-And.right.value in
+    let check = c.loop-check.check.now in
+    let whole : (f : Formula) → HasFormula check bytes f → IsPair (operator_of check) (check_text check) (HasFormula left bytes) (HasFormula right bytes) f = of_three c.in-And.is (λ e f h. rw e (rw e at h)) (λ e f h. rw e (rw e at h)) (λ e f h. rw e (rw e at h)) in
+    c.loop-check.invariant.0 a (truth_of_fewer whole (rw (← c.operator-operator.ensures) (HasTruth-left op (rw c.deref-in-And.ensures at c.in_ok-left_holds-in-And.ensures.truth) refl (λ y. settled op a y ends))))

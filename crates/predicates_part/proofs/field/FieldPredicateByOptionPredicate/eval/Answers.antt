@@ -1,7 +1,8 @@
 use Rattle.std.proofs.Common.{refl}
 use Rattle.predicates_core.proofs.CombinedLemmas.{HasTruth-named}
 use Rattle.predicates_core.proofs.Leaves.{HasTruth-exactly}
-use Rattle.predicates_part.proofs.Parts.{on_absent, truth_of_fewer}
+use Rattle.predicates_core.proofs.Fewer.{truth_of_fewer}
+use Rattle.predicates_part.proofs.Parts.{on_absent}
 use Rattle.predicates_part.proofs.field.FieldPredicateByOptionPredicate.eval.Goals as goal
 
 pub returns-in-None-clause-truth : goal.returns-in-None-clause-truth

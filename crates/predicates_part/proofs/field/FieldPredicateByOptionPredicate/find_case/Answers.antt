@@ -2,7 +2,8 @@ use Rattle.std.proofs.Common.{ap, sym}
 use Rattle.std.specs.Prelude.{not}
 use Rattle.predicates_core.proofs.CombinedLemmas.{HasTruth-named}
 use Rattle.predicates_core.proofs.Leaves.{HasTruth-exactly}
-use Rattle.predicates_part.proofs.Parts.{on_present, on_absent, truth_of_fewer, case_of_fewer, answer_of_fewer, case_with}
+use Rattle.predicates_core.proofs.Fewer.{truth_of_fewer, case_of_fewer, answer_of_fewer, case_with}
+use Rattle.predicates_part.proofs.Parts.{on_present, on_absent}
 use Rattle.predicates_part.proofs.field.FieldPredicateByOptionPredicate.find_case.Goals as goal
 
 pub returns-in-Some : goal.returns-in-Some

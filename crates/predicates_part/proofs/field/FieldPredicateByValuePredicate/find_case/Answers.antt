@@ -1,5 +1,6 @@
 use Rattle.predicates_part.specs.Field.{owned}
-use Rattle.predicates_part.proofs.Parts.{on_part, answer_of_fewer}
+use Rattle.predicates_core.proofs.Fewer.{answer_of_fewer}
+use Rattle.predicates_part.proofs.Parts.{on_part}
 use Rattle.predicates_part.proofs.field.FieldPredicateByValuePredicate.find_case.Goals as goal
 
 pub returns : goal.returns

@@ -1,0 +1,21 @@
+-- What is answered of some formulas is answered of fewer of them.
+use Rattle.std.proofs.Common.{◌≡◌, Bool, Option, Some, None, Result, Ok, Err, IfOk, subst}
+use Rattle.predicates_core.specs.Describe.{CaseNode}
+use Rattle.predicates_core.specs.Formula.{Formula, HasTruth}
+use Rattle.predicates_core.specs.Shows.{IsCaseOf, IsAnswer}
+use Rattle.predicates_core.specs.Tree.{Tree}
+
+module _ {A B : Formula → Type 0} {b : Bool} (fewer : (f : Formula) → B f → A f) where
+  pub truth_of_fewer : HasTruth A b → HasTruth B b
+  truth_of_fewer h = record { at = λ f k. h.at f (fewer f k) }
+
+  pub case_of_fewer : {t : Tree CaseNode} → IsCaseOf A b t → IsCaseOf B b t
+  case_of_fewer h = record { truth = truth_of_fewer h.truth; explains = λ f k. h.explains f (fewer f k) }
+
+pub answer_of_fewer : {A B : Formula → Type 0} {E : Type 0} (b : Bool) (r : Result (Option (Tree CaseNode)) E) → ((f : Formula) → B f → A f) → IfOk r (IsAnswer A b) → IfOk r (IsAnswer B b)
+answer_of_fewer b (Ok None) fewer h = truth_of_fewer fewer h
+answer_of_fewer b (Ok (Some c)) fewer h = case_of_fewer fewer h
+answer_of_fewer b (Err e) fewer h = tt
+
+pub case_with : {F : Formula → Type 0} {a b : Bool} {t : Tree CaseNode} → a ≡ b → IsCaseOf F a t → IsCaseOf F b t
+case_with {F} {t = t} e = subst (λ z. IsCaseOf F z t) e
