@@ -36,6 +36,12 @@
 //! Of your own: `custom::leaf` over a test of an item; the rest of `custom` makes the cases and
 //! descriptions of other custom predicates.
 //!
+//! # Checking
+//!
+//! `check::require` makes an error of a predicate that does not hold, `check::failures` says which of
+//! many rules do not, `check::sift` keeps the items of which one holds, and `check::check_all` says
+//! which of many expectations are not met. Each gives the case that explains why.
+//!
 //! # Memory
 //!
 //! A call that may take memory takes the allocator and returns a `Result`. `eval` and `find_case`
@@ -50,6 +56,7 @@ pub mod semantics;
 
 pub use boxed::{BoxPredicate, TextPredicate};
 pub use predicates_boolean::{boolean, name, rules};
+pub use predicates_check as check;
 pub use predicates_core::{
     Content, Predicate, ReadsContent, Total, as_static_str, custom, default_find_case, node,
     reflection, static_text,

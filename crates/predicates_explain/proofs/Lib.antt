@@ -1,6 +1,7 @@
 pub mod BlockLemmas
 pub mod CommandLine
 pub mod Ending
+pub mod Filtering
 pub mod Numerals
 pub mod PartsOfChecks
 pub mod Progress

@@ -5,6 +5,7 @@ pub mod CheckLaws
 pub mod Checks
 pub mod CommandLine
 pub mod Ends
+pub mod Filtered
 pub mod Meaning
 pub mod Number
 pub mod RunFault

@@ -39,7 +39,7 @@ pub(crate) trait AnswerLine {
 }
 
 // The fault of a read or a write that failed: want of memory, or the one that is given.
-fn classify_error(error: &io::Error, fault: RunFault) -> RunFault
+pub(crate) fn classify_error(error: &io::Error, fault: RunFault) -> RunFault
     ensures memory { error_kind error.now ≡ ErrorKind.OutOfMemory → result ≡ NoMemory }
     ensures other { error_kind error.now ≢ ErrorKind.OutOfMemory → result ≡ fault }
 {
@@ -88,7 +88,7 @@ fn write_text<W: Write>(output: &mut W, text: &str) -> Result<(), RunFault>
 }
 
 // Passes on to the system what the writer keeps back.
-fn flush<W: Write>(output: &mut W) -> Result<(), RunFault>
+pub(crate) fn flush<W: Write>(output: &mut W) -> Result<(), RunFault>
     ensures { OnOk result (Keeps (W.contents output.old) (W.contents output.new)) }
 {
     output

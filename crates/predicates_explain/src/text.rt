@@ -36,7 +36,7 @@ fn write_no_text(text: &mut String, number: u64) -> Result<(), AllocError>
 }
 
 // Puts the line in place of what the item held.
-fn set_item(item: &mut String, line: &str) -> Result<(), AllocError>
+pub(crate) fn set_item(item: &mut String, line: &str) -> Result<(), AllocError>
     ensures { OnOk result (string_bytes item.new ≡ line.now) }
 {
     item.clear();

@@ -1,6 +1,7 @@
 mod boxes;
 mod case_children;
 mod cases;
+mod check;
 mod counted;
 mod counting_member;
 mod derives;

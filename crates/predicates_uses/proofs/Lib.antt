@@ -1,7 +1,4 @@
-pub mod Sifting
 pub mod Scripts
-pub mod Trees
-pub mod SiftingBy
 pub mod BothEvaluated
 pub mod Applying
 pub mod Written

@@ -1,12 +1,9 @@
 pub mod Answer
 pub mod Either
-pub mod Unmet
-pub mod Sifted
 pub mod Applied
 pub mod Json
 pub mod PolicyFault
 pub mod Plainly
 pub mod Length
 pub mod Last
-pub mod Tree
 pub mod Script

@@ -5,7 +5,6 @@ mod callers;
 mod guide;
 mod own;
 mod reason;
-mod tree;
 
 use predicates::path::{FileType, Snapshot};
 use predicates::reflection::{Case, render};

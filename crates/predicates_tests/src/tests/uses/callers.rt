@@ -2,11 +2,10 @@
 use super::{file, has_lines};
 use predicates::path::{FileType, PathFault, Snapshot};
 use predicates::prelude::*;
-use predicates::reflection::{Case, Product, render};
+use predicates::reflection::{Case, Product};
 use predicates_testing::text;
 use predicates_uses::{
-    Around, IsTheAnswer, PolicyFault, Sifted, Unmet, case_json, find_plain_case, is_copy,
-    no_script, read_policy, require, sift, sift_by,
+    Around, PolicyFault, case_json, find_plain_case, is_copy, no_script, read_policy,
 };
 use std::alloc::{AllocError, Global};
 use std::test::Fail;
@@ -31,69 +30,6 @@ fn outcome<P: Predicate<Item>, Item>(
         Ok(()) => text(alloc, "met"),
         Err(unmet) => unmet.to_string(alloc),
     }
-}
-
-// Whether that is the outcome.
-fn ends_in<P: Predicate<Item>, Item>(
-    alloc: Global,
-    predicate: &P,
-    item: &Item,
-    lines: &str,
-) -> Result<bool, AllocError>
-    requires { P.lawful predicate.now }
-{
-    Ok(outcome(alloc, predicate, item)?.as_str() == lines)
-}
-
-#[test]
-fn requirements(rt: HostRuntime) -> Result<(), Fail> {
-    let alloc = rt.alloc();
-    let between = predicate::ge(5).and(predicate::le(10));
-    assert!(rt; ends_in(alloc, &between, &7, "met")?);
-    let lines = "(var >= 5 && var <= 10) = false\n  right: var <= 10 = false\n    - var: 11\n";
-    assert!(rt; ends_in(alloc, &between, &11, lines)?);
-    let lines = "var.is_the_answer() = false\n  - var: 41\n";
-    assert!(rt; ends_in(alloc, &IsTheAnswer, &41, lines)?);
-    let refused = Unmet::NoMemory.to_string(alloc)?;
-    assert_eq!(rt; refused.as_str(), "no memory");
-    Ok(())
-}
-
-// Whether 7 and 5 were kept and these two rejected, the second of them with these lines.
-fn keeps(
-    alloc: Global,
-    sifted: &Sifted<i32>,
-    others: [i32; 2],
-    lines: &str,
-) -> Result<bool, AllocError> {
-    match sifted.rejected.as_slice() {
-        [first, second] => {
-            let are_right = sifted.kept.as_slice() == [7, 5].as_slice()
-                && [first.item, second.item] == others;
-            Ok(are_right && render(alloc, &second.reason)?.as_str() == lines)
-        }
-        _ => Ok(false),
-    }
-}
-
-#[test]
-fn sifts(rt: HostRuntime) -> Result<(), Fail> {
-    let alloc = rt.alloc();
-    let between = predicate::ge(5).and(predicate::le(10));
-    let sifted = sift(alloc, &between, vec![in alloc; 4, 7, 11, 5]?)?;
-    let lines = "(var >= 5 && var <= 10) = false\n  right: var <= 10 = false\n    - var: 11\n";
-    assert!(rt; keeps(alloc, &sifted, [4, 11], lines)?);
-    Ok(())
-}
-
-#[test]
-fn sifts_by_a_function(rt: HostRuntime) -> Result<(), Fail> {
-    let alloc = rt.alloc();
-    let bound = 5;
-    let big = predicate::function(move |x: &i32| *x >= bound).fn_name("big");
-    let sifted = sift_by(alloc, &big, vec![in alloc; 4, 7, 3, 5]?)?;
-    assert!(rt; keeps(alloc, &sifted, [4, 3], "big(var) = false\n")?);
-    Ok(())
 }
 
 // Whether these lines explain why the file is no script.

@@ -1,7 +1,8 @@
 // A small tree of files, made in a temporary folder.
-use predicates::path::{FileType, PathFault, Snapshot};
+use super::render_failures;
+use predicates::check::Expectation;
+use predicates::path::{FileType, PathFault};
 use predicates::prelude::*;
-use predicates_uses::{Expectation, Failure, check_tree, expect};
 use std::alloc::{AllocError, Global};
 use std::os::unix::fs::symlink;
 use std::test::Fail;
@@ -12,7 +13,7 @@ fn new_folder(rt: &HostRuntime) -> io::Result<String> {
     let parent = env::temp_dir(rt)?;
     let parent = parent.as_path().as_str();
     for number in 0..10_000u32 {
-        let folder = format!(in rt.alloc(); "{parent}/predicates_uses_{number}")?;
+        let folder = format!(in rt.alloc(); "{parent}/predicates_check_{number}")?;
         match fs::create_dir(rt, folder.as_str()) {
             Ok(()) => return Ok(folder),
             Err(error) if error.kind() == io::ErrorKind::AlreadyExists => {}
@@ -31,20 +32,17 @@ fn fill(rt: &HostRuntime, folder: &str) -> io::Result<()> {
     symlink(rt, "nothing", format!(in alloc; "{folder}/lost")?)
 }
 
-// The lines of the failures, with each path from the folder on.
-fn render_failures(
-    alloc: Global,
+// What stands at the name now, expected to be so; its label is the name.
+fn expect_at<P: Drop>(
+    rt: &HostRuntime,
     folder: &str,
-    failures: &[Failure],
-) -> Result<String, AllocError> {
-    let mut out = String::new(alloc);
-    for Failure { path, lines } in failures {
-        let name = path.as_str().strip_prefix(folder).unwrap_or("elsewhere");
-        out.push_str(name)?;
-        out.push_str(": ")?;
-        out.push_str(lines.as_str())?;
-    }
-    Ok(out)
+    name: &str,
+    check: P,
+) -> Result<Expectation<Snapshot, P>, AllocError> {
+    let alloc = rt.alloc();
+    let path = format!(in alloc; "{folder}/{name}")?;
+    let found = Snapshot::take(rt, alloc, path.as_str())?;
+    expect(alloc, name, found, check)
 }
 
 const NAMES: [&str; 6] = ["run", "notes", "folder", "link", "lost", "gone"];
@@ -53,25 +51,19 @@ fn kinds(rt: &HostRuntime, folder: &str) -> Result<String, AllocError> {
     let alloc = rt.alloc();
     let mut expected = Vec::new(alloc);
     for name in NAMES {
-        let path = format!(in alloc; "{folder}/{name}")?;
         let file = predicate::path::is_file().follow_links(true);
-        expected.push(expect(rt, path.as_str(), file)?)?;
+        expected.push(expect_at(rt, folder, name, file)?)?;
     }
-    render_failures(
-        alloc,
-        folder,
-        check_tree(alloc, expected.as_slice())?.as_slice(),
-    )
+    render_failures(alloc, check_all(alloc, expected.as_slice())?.as_slice())
 }
 
 fn contents(rt: &HostRuntime, folder: &str) -> Result<String, AllocError> {
     let alloc = rt.alloc();
     let mut expected = Vec::new(alloc);
     for name in NAMES {
-        let path = format!(in alloc; "{folder}/{name}")?;
         let mark = predicate::str::starts_with(String::from_str(alloc, "#!")?);
         let script = mark.from_utf8().from_file_path();
-        expected.push(expect(rt, path.as_str(), script)?)?;
+        expected.push(expect_at(rt, folder, name, script)?)?;
     }
     // A file that the tester may not read.
     let kept = Snapshot::from_parts(
@@ -81,15 +73,9 @@ fn contents(rt: &HostRuntime, folder: &str) -> Result<String, AllocError> {
         Err(PathFault::PermissionDenied),
     );
     let mark = predicate::str::starts_with(String::from_str(alloc, "#!")?);
-    expected.push(Expectation {
-        found: kept,
-        check: mark.from_utf8().from_file_path(),
-    })?;
-    render_failures(
-        alloc,
-        folder,
-        check_tree(alloc, expected.as_slice())?.as_slice(),
-    )
+    let script = mark.from_utf8().from_file_path();
+    expected.push(expect(alloc, "kept", kept, script)?)?;
+    render_failures(alloc, check_all(alloc, expected.as_slice())?.as_slice())
 }
 
 // The folder, which is removed by now, and the failures of its kinds and of its contents.
@@ -108,30 +94,30 @@ fn checks_a_tree(rt: HostRuntime) -> Result<(), Fail> {
     assert_eq!(rt;
         kinds.as_str(),
         "\
-/folder: var is file = false
+folder: var is file = false
   - actual filetype: dir
-/lost: var is file = false
+lost: var is file = false
   - error: not found
-/gone: var is file = false
+gone: var is file = false
   - error: not found
 "
     );
     let expected = format!(in rt.alloc();
         "\
-/notes: var.starts_with(\"#!\") = false
+notes: var.starts_with(\"#!\") = false
   - var: echo
   - var as str: echo
   - var: {folder}/notes
-/folder: var.starts_with(\"#!\") = false
+folder: var.starts_with(\"#!\") = false
   - var: {folder}/folder
   - error: not a regular file
-/lost: var.starts_with(\"#!\") = false
+lost: var.starts_with(\"#!\") = false
   - var: {folder}/lost
   - error: not found
-/gone: var.starts_with(\"#!\") = false
+gone: var.starts_with(\"#!\") = false
   - var: {folder}/gone
   - error: not found
-/kept: var.starts_with(\"#!\") = false
+kept: var.starts_with(\"#!\") = false
   - var: {folder}/kept
   - error: permission denied
 "

@@ -1,0 +1,20 @@
+use Rattle.std.proofs.Common.{rules, arith, sym, subst, get_or}
+use Rattle.std.proofs.lemmas.List.{take_more}
+use Rattle.predicates_check.specs.Told.{HasFailures}
+use Rattle.predicates_check.specs.Expected.{expected, IsFailure}
+use Rattle.predicates_check.proofs.Telling.{failures_held, failures_more}
+use Rattle.predicates_check.proofs.expectation.check_all.Goals as goal
+use Rattle.predicates_check.proofs.expectation.check_all.Goals.{in-Some+in_ok-label+in_ok-push, in_default}
+
+pub loop-expectation-preserved : goal.loop-expectation-preserved
+loop-expectation-preserved g c =
+    let all = c.args.expectations.now in
+    let place = c.loop-expectation.expectation-index in
+    let e = c.expectation-item.result in
+    let F = expected g.P.Predicate.formula in
+    let R = IsFailure g.P.Predicate.formula in
+    subst (λ es. HasFailures F R es c.match-branch-2.failures.items) (sym (take_more all place e (omega arith)))
+    (elim c.match-branch-2.branch [
+      | in-Some+in_ok-label+in_ok-push w ↦ search (rules, failures_more F R (get_or all place e) (record { label = w.in_ok-label.label; reason = w.in-Some.reason }) c.loop-expectation.invariant)
+      | in_default w ↦ search (rules, failures_held F R (get_or all place e) c.loop-expectation.invariant)
+    ])

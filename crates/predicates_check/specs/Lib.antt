@@ -1,0 +1,4 @@
+pub mod Expected
+pub mod Sifted
+pub mod Told
+pub mod Unmet

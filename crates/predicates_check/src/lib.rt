@@ -1,0 +1,28 @@
+//! What tests, filters and policies call: requirements, filters and reports that say why.
+//!
+//! ```
+//! require(alloc, &ge(5).and(le(10)), &11)?;
+//! ```
+//!
+//! The error prints the lines of the case:
+//!
+//! ```text
+//! (var >= 5 && var <= 10) = false
+//!   right: var <= 10 = false
+//!     - var: 11
+//! ```
+//!
+//! A user of predicates names the crate `predicates`, which re-exports this one as `check`.
+#![tactic(auto)]
+
+mod expectation;
+mod requirement;
+mod rules;
+mod sifted;
+mod unmet;
+
+pub use expectation::{Expectation, Failure, check_all, expect};
+pub use requirement::{require, require_as};
+pub use rules::failures;
+pub use sifted::{Rejection, Sifted, sift};
+pub use unmet::Unmet;

@@ -1,0 +1,76 @@
+//! Assertions whose error says why.
+ghost use Rattle.std.specs.Prelude.{◌≡◌, true, false, [], ◌++◌, codes, IfErr, IfOk, IsOk, OnOk};
+ghost use Rattle.predicates_core.specs.Formula.{Formula, HasTruth, truth};
+ghost use Rattle.predicates_core.specs.Shows.{IsAnswer};
+ghost use Rattle.predicates_check.specs.Unmet.{TellsWhy};
+
+use crate::Unmet;
+use predicates_core::Predicate;
+use predicates_core::reflection::{Case, render, render_onto};
+use std::alloc::{AllocError, Global};
+
+// The case where the predicate does not hold. Where it holds, `eval` alone is asked.
+fn find_reason<P: Predicate<Item>, Item>(
+    alloc: Global,
+    predicate: &P,
+    item: &Item,
+) -> Result<Option<Case>, AllocError>
+    requires { P.lawful predicate.now }
+    ensures answer { IfOk result (IsAnswer (P.formula predicate.now item.now) false) }
+    ensures infallible { P.infallible predicate.now item.now → (f : Formula)
+        → P.formula predicate.now item.now f → truth f ≡ true → IsOk result }
+{
+    if predicate.eval(alloc, item)? {
+        return Ok(None);
+    }
+    predicate.find_case(alloc, false, item)
+}
+
+/// Asks that the predicate holds of the item. Where it does not, the error has the lines of its
+/// case.
+///
+/// Where it holds, this takes what `eval` takes; else memory for the case and its lines.
+///
+/// ```
+/// let between = predicate::ge(5).and(predicate::le(10));
+/// require(alloc, &between, &7)?;
+/// ```
+pub fn require<P: Predicate<Item>, Item>(
+    alloc: Global,
+    predicate: &P,
+    item: &Item,
+) -> Result<(), Unmet>
+    requires { P.lawful predicate.now }
+    ensures met { OnOk result (HasTruth (P.formula predicate.now item.now) true) }
+    ensures unmet { IfErr result (TellsWhy [] (P.formula predicate.now item.now)) }
+    ensures infallible { P.infallible predicate.now item.now → (f : Formula)
+        → P.formula predicate.now item.now f → truth f ≡ true → IsOk result }
+{
+    match find_reason(alloc, predicate, item)? {
+        None => Ok(()),
+        Some(case) => Err(Unmet::Fails(render(alloc, &case)?)),
+    }
+}
+
+/// As `require`, with a label before the lines: `request 17: ` and then the lines of the case.
+pub fn require_as<P: Predicate<Item>, Item>(
+    alloc: Global,
+    label: &str,
+    predicate: &P,
+    item: &Item,
+) -> Result<(), Unmet>
+    requires { P.lawful predicate.now }
+    ensures met { OnOk result (HasTruth (P.formula predicate.now item.now) true) }
+    ensures unmet { IfErr result
+        (TellsWhy (label.now ++ codes ": ") (P.formula predicate.now item.now)) }
+    ensures infallible { P.infallible predicate.now item.now → (f : Formula)
+        → P.formula predicate.now item.now f → truth f ≡ true → IsOk result }
+{
+    let Some(case) = find_reason(alloc, predicate, item)? else {
+        return Ok(());
+    };
+    let mut lines = String::from_str(alloc, label)?;
+    lines.push_str(": ")?;
+    render_onto(&mut lines, &case)?;
+    Err(Unmet::Fails(lines))
+}

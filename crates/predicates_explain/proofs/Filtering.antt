@@ -1,0 +1,111 @@
+-- How far a filter has come in its input.
+use Rattle.std.proofs.Common.{◌≡◌, ℕ, ◌+◌, ◌<◌, ◌≤◌, Bool, true, false, not, List, [], ◌∷◌, ◌++◌, length, Option, Some, refl, sym, ◌∙◌, ap, arith, append_assoc, append-nil, length-append, if◌then◌else◌, ◌==◌, map}
+use Rattle.std.specs.Prelude.{All, filter, flat_map, is_none}
+use Rattle.std.specs.Io.BufRead.{take_through, drop_through}
+use Rattle.std.specs.Io.KnownBytes.{Appends}
+use Rattle.std.proofs.KnownBytes.{Appends-nil, Appends-trans}
+use Rattle.std.proofs.lemmas.List.{map-append}
+use Rattle.std.proofs.lemmas.Grind.{flat_map-append}
+use Rattle.std.proofs.lemmas.List.Filters.{length-filter_both}
+use Rattle.std.proofs.lemmas.List.Elements.{All-nil, All-push, filter-append}
+use Rattle.predicates_core.specs.Text.{Text}
+use Rattle.predicates_core.specs.Formula.{Formula}
+use Rattle.predicates_explain.specs.Runs.{onto_first}
+use Rattle.predicates_explain.specs.Filtered.{ended_lines, is_wanted, Judged, IsVerdict}
+use Rattle.predicates_explain.specs.declared.filter.Filtered.{Filtered}
+
+ended-one : (byte : ℕ) (b : Bool) → (byte == 10) ≡ b
+    → ended_lines (byte ∷ []) ≡ take_through 10 (byte ∷ []) ∷ ended_lines (drop_through 10 (byte ∷ []))
+ended-one byte true e = simp e
+ended-one byte false e = simp e
+
+ended-more : (byte next : ℕ) (bytes : List ℕ) (b : Bool) → (byte == 10) ≡ b
+    → ended_lines (next ∷ bytes) ≡ take_through 10 (next ∷ bytes) ∷ ended_lines (drop_through 10 (next ∷ bytes))
+    → ended_lines (byte ∷ next ∷ bytes) ≡ take_through 10 (byte ∷ next ∷ bytes) ∷ ended_lines (drop_through 10 (byte ∷ next ∷ bytes))
+ended-more byte next bytes true e step = simp e
+ended-more byte next bytes false e step = simp e (ap (onto_first byte) step)
+
+ended-through : (byte : ℕ) (bytes : List ℕ)
+    → ended_lines (byte ∷ bytes) ≡ take_through 10 (byte ∷ bytes) ∷ ended_lines (drop_through 10 (byte ∷ bytes))
+ended-through byte [] = ended-one byte (byte == 10) refl
+ended-through byte (next ∷ bytes) = ended-more byte next bytes (byte == 10) refl (ended-through next bytes)
+
+-- what `read_until` took is the first line with its line feed
+pub ended_from_taken : (bytes taken : List ℕ) → taken ≡ take_through 10 bytes → 0 < length taken
+    → ended_lines bytes ≡ taken ∷ ended_lines (drop_through 10 bytes)
+ended_from_taken [] taken e some = absurd (omega (arith, ap length e))
+ended_from_taken (byte ∷ bytes) taken e some = rw e (ended-through byte bytes)
+
+-- the lines that are taken have their verdicts, and those that are wanted are written
+pub record HasPassed (has : Text → Formula → Type 0) (wanted : Bool)
+    (reader_before reader_now writer_before writer_now : Option (List ℕ)) (count : ℕ) (counts : Filtered) : Type 0 where
+  pub lines : List Judged
+  pub left : (bytes : List ℕ) → reader_before ≡ Some bytes
+      → (left : List ℕ) × (reader_now ≡ Some left) × (ended_lines bytes ≡ map (λ (l : Judged). l.0) lines ++ ended_lines left)
+  pub counted : length lines ≡ count
+  pub verdicts : All (λ (l : Judged). IsVerdict has l.0 l.1) lines
+  pub appends : Appends writer_before writer_now (flat_map (λ (l : Judged). l.0) (filter (λ (l : Judged). is_wanted wanted l.1) lines))
+  pub written : counts.written ≡ length (filter (λ (l : Judged). is_wanted wanted l.1) lines)
+  pub not_utf8 : counts.not_utf8 ≡ length (filter (λ (l : Judged). is_none l.1) lines)
+
+-- one more line counts where it passes the test
+filter-more : (p : Judged → Bool) (lines : List Judged) (l : Judged) (b : Bool) → p l ≡ b
+    → length (filter p (lines ++ l ∷ [])) ≡ length (filter p lines) + (if b then 1 else 0)
+filter-more p lines l true e = ap length (filter-append p lines (l ∷ [])) ∙ length-append (filter p lines) (filter p (l ∷ [])) ∙ (rw e refl)
+filter-more p lines l false e = ap length (filter-append p lines (l ∷ [])) ∙ length-append (filter p lines) (filter p (l ∷ [])) ∙ (rw e refl)
+
+flat-more : (p : Judged → Bool) (lines : List Judged) (l : Judged) (b : Bool) → p l ≡ b
+    → flat_map (λ (l : Judged). l.0) (filter p (lines ++ l ∷ [])) ≡ flat_map (λ (l : Judged). l.0) (filter p lines) ++ (if b then l.0 else [])
+flat-more p lines l true e =
+    ap (flat_map (λ (l : Judged). l.0)) (filter-append p lines (l ∷ [])) ∙ flat_map-append (λ (l : Judged). l.0) (filter p lines) (filter p (l ∷ []))
+    ∙ ap (λ xs. flat_map (λ (l : Judged). l.0) (filter p lines) ++ xs) (rw e (append-nil l.0))
+flat-more p lines l false e =
+    ap (flat_map (λ (l : Judged). l.0)) (filter-append p lines (l ∷ [])) ∙ flat_map-append (λ (l : Judged). l.0) (filter p lines) (filter p (l ∷ []))
+    ∙ ap (λ xs. flat_map (λ (l : Judged). l.0) (filter p lines) ++ xs) (rw e refl)
+
+module _ (has : Text → Formula → Type 0) (wanted : Bool) where
+  pub has_passed_none : (reader writer : Option (List ℕ)) → HasPassed has wanted reader reader writer writer 0 (record { written = 0; not_utf8 = 0 })
+  has_passed_none reader writer = record {
+    lines = [];
+    left = λ bytes known. (bytes, known, refl);
+    counted = refl;
+    verdicts = All-nil (λ (l : Judged). IsVerdict has l.0 l.1);
+    appends = Appends-nil writer;
+    written = refl;
+    not_utf8 = refl;
+  }
+
+  -- one more line is taken and judged
+  pub has_passed_more : (r0 r1 r2 w0 w1 w2 : Option (List ℕ)) (count : ℕ) (before after : Filtered) (line : List ℕ) (verdict : Option Bool)
+      → HasPassed has wanted r0 r1 w0 w1 count before
+      → ((bytes : List ℕ) → r1 ≡ Some bytes → (left : List ℕ) × (r2 ≡ Some left) × (ended_lines bytes ≡ line ∷ ended_lines left))
+      → IsVerdict has line verdict → Appends w1 w2 (if is_wanted wanted verdict then line else [])
+      → after.written ≡ before.written + (if is_wanted wanted verdict then 1 else 0)
+      → after.not_utf8 ≡ before.not_utf8 + (if is_none verdict then 1 else 0)
+      → HasPassed has wanted r0 r2 w0 w2 (count + 1) after
+  has_passed_more r0 r1 r2 w0 w1 w2 count before after line verdict h next judged appends written not_utf8 =
+      let l : Judged = (line, verdict) in
+      let p : Judged → Bool = λ l. is_wanted wanted l.1 in
+      let q : Judged → Bool = λ l. is_none l.1 in
+      record {
+        lines = h.lines ++ l ∷ [];
+        left = λ bytes known. let so_far = h.left bytes known in let n = next so_far.0 so_far.1 in (
+          n.0,
+          n.1,
+          so_far.2 ∙ ap (λ others. map (λ (l : Judged). l.0) h.lines ++ others) n.2
+              ∙ sym (append_assoc (map (λ (l : Judged). l.0) h.lines) (line ∷ []) (ended_lines n.0))
+              ∙ ap (λ xs. xs ++ ended_lines n.0) (sym (map-append (λ (l : Judged). l.0) h.lines (l ∷ []))),
+        );
+        counted = omega (arith, h.counted, length-append h.lines (l ∷ []));
+        verdicts = All-push (λ (l : Judged). IsVerdict has l.0 l.1) h.lines l h.verdicts judged;
+        appends = rw (flat-more p h.lines l (is_wanted wanted verdict) refl) (Appends-trans _ _ _ _ _ h.appends appends);
+        written = written ∙ ap (λ n. n + (if is_wanted wanted verdict then 1 else 0)) h.written ∙ sym (filter-more p h.lines l (is_wanted wanted verdict) refl);
+        not_utf8 = not_utf8 ∙ ap (λ n. n + (if is_none verdict then 1 else 0)) h.not_utf8 ∙ sym (filter-more q h.lines l (is_none verdict) refl);
+      }
+
+  -- no more lines are counted than are taken
+  pub written_within : {r0 r1 w0 w1 : Option (List ℕ)} {count : ℕ} {counts : Filtered} → HasPassed has wanted r0 r1 w0 w1 count counts → counts.written ≤ count
+  written_within h = omega (arith, h.written, h.counted, length-filter_both (λ (l : Judged). is_wanted wanted l.1) (λ (l : Judged). not (is_wanted wanted l.1)) (λ _. refl) h.lines)
+
+  pub not_utf8_within : {r0 r1 w0 w1 : Option (List ℕ)} {count : ℕ} {counts : Filtered} → HasPassed has wanted r0 r1 w0 w1 count counts → counts.not_utf8 ≤ count
+  not_utf8_within h = omega (arith, h.not_utf8, h.counted, length-filter_both (λ (l : Judged). is_none l.1) (λ (l : Judged). not (is_none l.1)) (λ _. refl) h.lines)

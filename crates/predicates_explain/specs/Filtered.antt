@@ -1,0 +1,47 @@
+-- Which lines of an input a filter writes.
+use Rattle.std.specs.Prelude.{◌≡◌, ℕ, ◌==◌, Bool, true, false, not, List, [], ◌∷◌, Option, Some, None}
+use Rattle.std.specs.Prelude.{All, map, filter, flat_map, length, string_bytes, is_none, if◌then◌else◌}
+use Rattle.std.specs.Option.{ForSome}
+use Rattle.std.specs.Str.{IsUtf8}
+use Rattle.std.specs.Io.BufRead.{strip_last}
+use Rattle.std.specs.Io.KnownBytes.{Appends}
+use Rattle.predicates_core.specs.Text.{Text}
+use Rattle.predicates_core.specs.Formula.{Formula, HasTruth}
+use Rattle.predicates_explain.specs.Runs.{onto_first}
+use Rattle.predicates_explain.specs.declared.filter.Filtered.{Filtered}
+
+-- the lines of an input, each with the line feed that ends it; the last may have none
+abbrev pub ended_lines : List ℕ → List (List ℕ)
+ended_lines [] = []
+ended_lines (byte ∷ bytes) = if byte == 10 then (byte ∷ []) ∷ ended_lines bytes else onto_first byte
+    (ended_lines bytes)
+
+-- the truth that each formula has on a text with the line's bytes before its line feed; none where
+-- those are no text
+abbrev pub IsVerdict : (Text → Formula → Type 0) → List ℕ → Option Bool → Type 0
+IsVerdict has line (Some verdict) = (item : Text) × (string_bytes item ≡ strip_last 10 line)
+    × HasTruth (has item) verdict
+IsVerdict has line None = ¬ (IsUtf8 (strip_last 10 line))
+
+abbrev pub is_wanted : Bool → Option Bool → Bool
+is_wanted true (Some verdict) = verdict
+is_wanted false (Some verdict) = not verdict
+is_wanted wanted None = false
+
+-- a line, and the verdict on it
+abbrev pub Judged : Type 0
+Judged = List ℕ × Option Bool
+
+-- each line of the input has its verdict; what is written is the lines of which that is the wanted
+-- one, in order and byte for byte; and the counts are of these, and of the lines without a verdict
+pub record HasFiltered (has : Text → Formula → Type 0) (wanted : Bool)
+    (reader_before reader_after writer_before writer_after : Option (List ℕ)) (counts : Filtered) :
+    Type 0 where
+  pub lines : List Judged
+  pub whole : ForSome reader_before
+      (λ bytes. (map (λ l. l.0) lines ≡ ended_lines bytes) × (reader_after ≡ Some []))
+  pub verdicts : All (λ l. IsVerdict has l.0 l.1) lines
+  pub appends : Appends writer_before writer_after
+      (flat_map (λ l. l.0) (filter (λ l. is_wanted wanted l.1) lines))
+  pub written : counts.written ≡ length (filter (λ l. is_wanted wanted l.1) lines)
+  pub not_utf8 : counts.not_utf8 ≡ length (filter (λ l. is_none l.1) lines)

@@ -1,0 +1,154 @@
+//! The calls of `check`, with ample memory: how their errors print, and what they report.
+mod tree;
+
+use predicates::check::{Failure, Sifted, Unmet};
+use predicates::prelude::*;
+use predicates::reflection::{Case, render_onto};
+use predicates_testing::text;
+use std::alloc::{AllocError, Global};
+use std::test::Fail;
+
+const ELEVEN: &str =
+    "(var >= 5 && var <= 10) = false\n  right: var <= 10 = false\n    - var: 11\n";
+
+// Whether the requirement was met, or its error has this text, as `Display` and as `Debug`.
+fn ends_in(alloc: Global, ended: Result<(), Unmet>, expected: &str) -> Result<bool, AllocError> {
+    match ended {
+        Ok(()) => Ok(expected == "met"),
+        Err(unmet) => {
+            let shown = unmet.to_string(alloc)?;
+            let debugged = format!(in alloc; "{unmet:?}")?;
+            Ok(shown.as_str() == expected && debugged.as_str() == expected)
+        }
+    }
+}
+
+// 7 and 11, with and without a label.
+fn requires_between(alloc: Global) -> Result<[bool; 4], AllocError> {
+    let between = predicate::ge(5).and(predicate::le(10));
+    let labelled = format!(in alloc; "request 17: {ELEVEN}")?;
+    Ok([
+        ends_in(alloc, require(alloc, &between, &7), "met")?,
+        ends_in(alloc, require(alloc, &between, &11), ELEVEN)?,
+        ends_in(alloc, require_as(alloc, "request 17", &between, &7), "met")?,
+        ends_in(
+            alloc,
+            require_as(alloc, "request 17", &between, &11),
+            labelled.as_str(),
+        )?,
+    ])
+}
+
+#[test]
+fn requirements(rt: HostRuntime) -> Result<(), Fail> {
+    let alloc = rt.alloc();
+    assert_eq!(rt; requires_between(alloc)?, [true; 4]);
+    assert!(rt; ends_in(alloc, Err(Unmet::NoMemory), "no memory")?);
+    let bound = 5;
+    let big = predicate::function(move |x: &i32| *x >= bound).fn_name("big");
+    assert!(rt; ends_in(alloc, require(alloc, &big, &4), "big(var) = false\n")?);
+    Ok(())
+}
+
+// The lines of the cases, one after the other.
+fn render_cases(alloc: Global, cases: &[Case]) -> Result<String, AllocError> {
+    let mut lines = String::new(alloc);
+    for case in cases {
+        render_onto(&mut lines, case)?;
+    }
+    Ok(lines)
+}
+
+// The second and the third of three numbers are too large for 7.
+fn failures_of_numbers(alloc: Global) -> Result<String, AllocError> {
+    let rules = [predicate::ge(5), predicate::ge(10), predicate::gt(7)];
+    render_cases(alloc, failures(alloc, &rules, &7)?.as_slice())
+}
+
+// The same by stored functions.
+fn failures_of_functions(alloc: Global) -> Result<String, AllocError> {
+    let mut rules = Vec::new(alloc);
+    for bound in [5, 10, 8] {
+        rules.push(predicate::function(move |x: &i32| *x >= bound))?;
+    }
+    render_cases(alloc, failures(alloc, rules.as_slice(), &7)?.as_slice())
+}
+
+#[test]
+fn all_failures(rt: HostRuntime) -> Result<(), Fail> {
+    let numbers = failures_of_numbers(rt.alloc())?;
+    assert_eq!(rt;
+        numbers.as_str(),
+        "var >= 10 = false\n  - var: 7\nvar > 7 = false\n  - var: 7\n"
+    );
+    let functions = failures_of_functions(rt.alloc())?;
+    assert_eq!(rt; functions.as_str(), "fn(var) = false\nfn(var) = false\n");
+    Ok(())
+}
+
+// Whether 7 and 5 were kept and these two rejected, the second of them with these lines.
+fn keeps(
+    alloc: Global,
+    sifted: &Sifted<i32>,
+    others: [i32; 2],
+    lines: &str,
+) -> Result<bool, AllocError> {
+    match sifted.rejected.as_slice() {
+        [first, second] => {
+            let are_right = sifted.kept.as_slice() == [7, 5].as_slice()
+                && [first.item, second.item] == others;
+            Ok(are_right && render(alloc, &second.reason)?.as_str() == lines)
+        }
+        _ => Ok(false),
+    }
+}
+
+#[test]
+fn sifts(rt: HostRuntime) -> Result<(), Fail> {
+    let alloc = rt.alloc();
+    let between = predicate::ge(5).and(predicate::le(10));
+    let sifted = sift(alloc, &between, vec![in alloc; 4, 7, 11, 5]?)?;
+    assert!(rt; keeps(alloc, &sifted, [4, 11], ELEVEN)?);
+    Ok(())
+}
+
+#[test]
+fn sifts_by_a_function(rt: HostRuntime) -> Result<(), Fail> {
+    let alloc = rt.alloc();
+    let bound = 5;
+    let big = predicate::function(move |x: &i32| *x >= bound).fn_name("big");
+    let sifted = sift(alloc, &big, vec![in alloc; 4, 7, 3, 5]?)?;
+    assert!(rt; keeps(alloc, &sifted, [4, 3], "big(var) = false\n")?);
+    Ok(())
+}
+
+// The label of each failure and the lines of its case.
+fn render_failures(alloc: Global, failures: &[Failure]) -> Result<String, AllocError> {
+    let mut out = String::new(alloc);
+    for Failure { label, reason } in failures {
+        out.push_str(label.as_str())?;
+        out.push_str(": ")?;
+        render_onto(&mut out, reason)?;
+    }
+    Ok(out)
+}
+
+fn failures_of_names(alloc: Global) -> Result<String, AllocError> {
+    let mut expected = Vec::new(alloc);
+    for (label, name) in [("first", "Ada"), ("second", "Bob"), ("third", "")] {
+        let starts = predicate::str::starts_with(text(alloc, "A")?);
+        expected.push(expect(alloc, label, text(alloc, name)?, starts)?)?;
+    }
+    let failures = check_all(alloc, expected.as_slice())?;
+    render_failures(alloc, failures.as_slice())
+}
+
+#[test]
+fn expectations(rt: HostRuntime) -> Result<(), Fail> {
+    let failures = failures_of_names(rt.alloc())?;
+    assert_eq!(rt;
+        failures.as_str(),
+        "second: var.starts_with(\"A\") = false\n  - var: Bob\nthird: var.starts_with(\"A\") = false\n  - var: \n"
+    );
+    Ok(())
+}

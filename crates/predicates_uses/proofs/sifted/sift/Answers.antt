@@ -1,9 +1,0 @@
-use Rattle.std.proofs.Common.{rules, false}
-use Rattle.predicates_core.specs.Shows.{IsCaseOf}
-use Rattle.predicates_uses.proofs.Sifting.{sifted_rejected}
-use Rattle.predicates_uses.proofs.sifted.sift.Goals as goal
-
-pub loop-item-preserved : goal.loop-item-preserved
-loop-item-preserved g c =
-    let why : IsCaseOf (g.P.Predicate.formula c.args.predicate.now c.in-Some.item) false c.in-Some-2.reason = search rules in
-    sifted_rejected (g.P.Total.formula_of c.args.predicate.now) c.loop-item.invariant why (search rules) (search rules)
