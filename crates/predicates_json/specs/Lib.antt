@@ -1,1 +1,2 @@
 pub mod CaseData
+pub mod At
