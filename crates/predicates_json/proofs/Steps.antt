@@ -1,5 +1,5 @@
 -- A pointer over values, a part at a time.
-use Rattle.std.proofs.Common.{◌≡◌, ◌≢◌, ℕ, suc, ◌<◌, List, [], ◌∷◌, ◌++◌, length, get_or, Option, None, Some, option_and_then, refl, sym, ap, ◌∙◌, arith, append_assoc, append-nil, ne_eqb, rules}
+use Rattle.std.proofs.Common.{◌≡◌, ◌≢◌, ℕ, suc, ◌<◌, List, [], ◌∷◌, ◌++◌, length, None, Some, option_and_then, refl, sym, ap, ◌∙◌, arith, append_assoc, append-nil, ne_eqb, rules}
 use Rattle.std.specs.Prelude.{cond, bytes_eq, slice_get, String, Vec, string_bytes}
 use Rattle.std.specs.BTreeMap.{BTreeMap}
 use Rattle.std.specs.Global.{Global}

@@ -3,7 +3,7 @@
 //! `Value::pointer` of `serde_json` finds the same; its contract gives the data of what it finds,
 //! and this one the value itself, of which a predicate has its formula.
 ghost use Rattle.std.specs.Prelude.{◌≡◌, ◌∷◌, ◌<◌, [], length, option_map, string_bytes, bytes_eq};
-ghost use Rattle.std.specs.Prelude.{MatchOption, slice_index, not, ◌||◌, ◌==◌};
+ghost use Rattle.std.specs.Prelude.{MatchOption, slice_get, slice_index, not, ◌||◌, ◌==◌};
 ghost use Rattle.std.specs.Map.{lookup};
 ghost use Rattle.serde_json.specs.Find.{unescape, index_of};
 ghost use Rattle.predicates_json.specs.At.{at_pointer, step as one_step};
@@ -31,9 +31,20 @@ fn step<'v>(value: &'v Value, part: &str) -> Option<&'v Value>
     ensures { option_map (λ v. v.now) result ≡ one_step part.now value.now }
 {
     match value {
-        Value::Array(items) => items.as_slice().get(place(part)?),
+        Value::Array(items) => item(items, place(part)?),
         Value::Object(members) => member(members, part),
         _ => None,
+    }
+}
+
+#[tactic(auto, using(std::proofs::lemmas::Option::gets))]
+fn item(items: &Vec<Value>, place: usize) -> Option<&Value>
+    ensures { option_map (λ v. v.now) result ≡ slice_get items.now.items place }
+{
+    if place < items.len() {
+        Some(&items[place])
+    } else {
+        None
     }
 }
 

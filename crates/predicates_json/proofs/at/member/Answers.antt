@@ -1,7 +1,6 @@
-use Rattle.std.proofs.Common.{◌≡◌, string_bytes, bytes_eq, sym, ap, ◌∙◌, arith, rules, true≢false}
+use Rattle.std.proofs.Common.{string_bytes, bytes_eq, sym, ap, ◌∙◌, arith, true≢false}
 use Rattle.std.specs.Map.{lookup}
 use Rattle.std.proofs.lemmas.Str.Pattern.{contains_char}
-use Rattle.serde_json.specs.Find.{unescape}
 use Rattle.serde_json.proofs.Paths.{unescape_plain}
 use Rattle.predicates_json.proofs.Steps.{lookup-by_order}
 use Rattle.predicates_json.proofs.at.member.Goals as goal
