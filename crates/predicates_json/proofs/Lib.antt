@@ -1,3 +1,4 @@
 pub mod Written
 pub mod Escapes
 pub mod Steps
+pub mod HeldCases

@@ -3,5 +3,8 @@
 
 mod at;
 mod case;
+mod error_case;
+mod kind;
 
 pub use case::case_json;
+pub use kind::{JsonKind, KindPredicate};
