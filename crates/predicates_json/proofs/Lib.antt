@@ -2,3 +2,4 @@ pub mod Written
 pub mod Escapes
 pub mod Steps
 pub mod HeldCases
+pub mod PointerCases
