@@ -3,3 +3,4 @@ pub mod Escapes
 pub mod Steps
 pub mod HeldCases
 pub mod PointerCases
+pub mod NullCases

@@ -6,3 +6,6 @@ pub mod KindParts
 pub mod NumberParts
 pub mod Pointer
 pub mod PointerLaws
+pub mod Null
+pub mod NullLaws
+pub mod Presence

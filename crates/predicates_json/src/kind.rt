@@ -94,8 +94,20 @@ pub(crate) fn kind(value: &Value) -> &'static str
 /// another value. Made by `of_string`, `of_bool`, `of_array` and `of_object` of `PredicateJsonExt`.
 #[derive(Debug, Clone, Copy, PartialEq, Eq, Drop)]
 pub struct KindPredicate<P, U> {
-    pub(crate) inner: P,
-    pub(crate) kind: PhantomData<U>,
+    inner: P,
+    kind: PhantomData<U>,
+}
+
+impl<P, U> KindPredicate<P, U> {
+    // The predicate of the kind over this one.
+    pub(crate) fn new(inner: P) -> KindPredicate<P, U>
+        ensures { inner_of result ≡ inner }
+    {
+        KindPredicate {
+            inner,
+            kind: PhantomData,
+        }
+    }
 }
 
 impl<P: fmt::Display, U> fmt::Display for KindPredicate<P, U> {
