@@ -4,3 +4,4 @@ pub mod Steps
 pub mod HeldCases
 pub mod PointerCases
 pub mod NullCases
+pub mod Pointed

@@ -5,14 +5,27 @@
 ghost use Rattle.std.specs.Prelude.{◌≡◌, ◌∷◌, ◌<◌, [], length, option_map, string_bytes, bytes_eq};
 ghost use Rattle.std.specs.Prelude.{MatchOption, slice_get, slice_index, not, ◌||◌, ◌==◌};
 ghost use Rattle.std.specs.Map.{lookup};
-ghost use Rattle.serde_json.specs.Find.{unescape, index_of};
+ghost use Rattle.serde_json.specs.Find.{unescape, index_of, pointer as points_to};
+ghost use Rattle.serde_json.specs.View.{view};
 ghost use Rattle.predicates_json.specs.At.{at_pointer, step as one_step};
 
 use fast_float::Numeral;
 use serde_json::{Map, Value};
 
-/// What the pointer leads to within the value, if anything. It takes no memory.
-pub(crate) fn at<'v>(value: &'v Value, pointer: &str) -> Option<&'v Value>
+/// What stands within the value at the JSON Pointer, if anything. It takes no memory.
+///
+/// ```
+/// let first = value_at(&order, "/lines/0");
+/// ```
+#[tactic(auto, using(crate::proofs::Pointed::pointed))]
+pub fn value_at<'v>(value: &'v Value, pointer: &str) -> Option<&'v Value>
+    ensures found { option_map (λ v. v.now) result ≡ at_pointer pointer.now value.now }
+    ensures data { option_map (λ v. view v.now) result ≡ points_to pointer.now (view value.now) }
+{
+    at(value, pointer)
+}
+
+fn at<'v>(value: &'v Value, pointer: &str) -> Option<&'v Value>
     ensures { option_map (λ v. v.now) result ≡ at_pointer pointer.now value.now }
 {
     if pointer.is_empty() {

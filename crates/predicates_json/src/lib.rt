@@ -40,6 +40,7 @@ mod number;
 mod pointer;
 mod presence;
 
+pub use at::value_at;
 pub use case::case_json;
 pub use kind::{JsonKind, KindPredicate};
 pub use null::{NullPredicate, is_null};

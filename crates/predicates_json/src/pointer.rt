@@ -13,7 +13,7 @@ ghost use Rattle.predicates_json.specs.Pointer.{IsAt, at_formula, no_value_text}
 ghost use Rattle.predicates_json.specs.Pointer.{inner_of, pointer_of};
 ghost use Rattle.predicates_json.specs.PointerLaws.{at_text_fits, one_at, has_at};
 
-use crate::at::at;
+use crate::at::value_at;
 use crate::error_case::error_case;
 use predicates_core::node::{printed, unary_node};
 use predicates_core::reflection::{Case, Child, Parameter, PredicateReflection, describe};
@@ -112,7 +112,7 @@ impl<P: Predicate<Value>, N: JsonPointer> PointerPredicate<P, N> {
             (P.formula (inner_of self.now)) (at_pointer (N.bytes (pointer_of self.now)) item.now))
             expected) }
     {
-        match at(item, self.pointer.text()) {
+        match value_at(item, self.pointer.text()) {
             Some(value) => self.inner.find_case(alloc, expected, value),
             None if expected => Ok(None),
             None => Ok(Some(error_case(alloc, &self.inner, "no value")?)),
@@ -137,7 +137,7 @@ impl<P: Predicate<Value>, N: JsonPointer> Predicate<Value> for PointerPredicate<
 
     #[tactic(auto, using(crate::proofs::PointerCases::pointers, crate::proofs::HeldCases::held_cases))]
     fn eval(&self, alloc: Global, item: &Value) -> Result<bool, AllocError> {
-        match at(item, self.pointer.text()) {
+        match value_at(item, self.pointer.text()) {
             Some(value) => self.inner.eval(alloc, value),
             None => Ok(false),
         }

@@ -10,7 +10,7 @@ ghost use Rattle.predicates_json.specs.Presence.{presence_text, presence_truth, 
 ghost use Rattle.predicates_json.specs.Presence.{asks_presence, asked_pointer};
 
 use crate::JsonPointer;
-use crate::at::at;
+use crate::at::value_at;
 use predicates_core::custom::bare_case;
 use predicates_core::reflection::{Case, Child, Parameter, PredicateReflection};
 use predicates_core::{Predicate, Total};
@@ -60,7 +60,7 @@ impl<N: JsonPointer> PointerPresencePredicate<N> {
         ensures { result ≡ presence_truth (asks_presence self.now)
             (at_pointer (N.bytes (asked_pointer self.now)) value.now) }
     {
-        at(value, self.pointer.text()).is_some() == self.present
+        value_at(value, self.pointer.text()).is_some() == self.present
     }
 }
 
