@@ -75,7 +75,6 @@ at_pointer-data (x ∷ rest) v = first (x == 47) _ _ (walk-data [] rest v)
     first true p d h = h
     first false p d h = refl
 
-
 -- the same of a reference to it
 pub found-data : (r : Option (Bor Value)) (pointer : List ℕ) (v : Value) → option_map (λ x. x.now) r ≡ at_pointer pointer v → option_map (λ x. view x.now) r ≡ find.pointer pointer (view v)
 found-data r pointer v e = view_of_ref r ∙ ap (option_map view) e ∙ at_pointer-data pointer v
