@@ -4,4 +4,3 @@ pub mod Trees
 pub mod SiftingBy
 pub mod BothEvaluated
 pub mod Applying
-pub mod Written

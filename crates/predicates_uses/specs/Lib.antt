@@ -3,7 +3,6 @@ pub mod Either
 pub mod Unmet
 pub mod Sifted
 pub mod Applied
-pub mod Json
 pub mod PolicyFault
 pub mod Plainly
 pub mod Length
