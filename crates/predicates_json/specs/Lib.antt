@@ -6,6 +6,7 @@ pub mod KindParts
 pub mod NumberParts
 pub mod Pointer
 pub mod PointerLaws
+pub mod PointerText
 pub mod Null
 pub mod NullLaws
 pub mod Presence

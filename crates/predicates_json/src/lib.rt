@@ -45,7 +45,7 @@ pub use case::case_json;
 pub use kind::{JsonKind, KindPredicate};
 pub use null::{NullPredicate, is_null};
 pub use number::{JsonNumber, NumberPredicate};
-pub use pointer::{JsonPointer, PointerPredicate};
+pub use pointer::{JsonPointer, PointerPredicate, is_pointer};
 use predicates_core::Predicate;
 pub use presence::{PointerPresencePredicate, has_pointer, lacks_pointer};
 use serde_json::{Map, Value};

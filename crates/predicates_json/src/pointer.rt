@@ -3,7 +3,7 @@
 //! ```
 //! let adult = predicate::ge(18i64).of_number().of_pointer("/age");
 //! ```
-ghost use Rattle.std.specs.Prelude.{◌≡◌, ℕ, List, [], codes, Some, IfOk, IfSome, string_bytes};
+ghost use Rattle.std.specs.Prelude.{◌≡◌, ℕ, List, [], codes, false, Some, IfOk, IfSome, string_bytes};
 ghost use Rattle.predicates_core.specs.Parts.{part};
 ghost use Rattle.predicates_core.specs.Shows.{IsAnswer};
 ghost use Rattle.predicates_json.specs.At.{at_pointer};
@@ -11,6 +11,7 @@ ghost use Rattle.predicates_json.specs.Held.{IsOfHeld, held_text_fits, one_held,
 ghost use Rattle.predicates_json.specs.Held.{has_held};
 ghost use Rattle.predicates_json.specs.Pointer.{IsAt, at_formula, no_value_text};
 ghost use Rattle.predicates_json.specs.Pointer.{inner_of, pointer_of};
+ghost use Rattle.predicates_json.specs.PointerText.{is_pointer_text, has_whole_escapes as whole_escapes};
 ghost use Rattle.predicates_json.specs.PointerLaws.{at_text_fits, one_at, has_at};
 
 use crate::at::value_at;
@@ -168,4 +169,33 @@ impl<P: Total<Value>, N: JsonPointer> Total<Value> for PointerPredicate<P, N> {
     ghost has_formula = { λ p v. has_at (has_held (P.output (inner_of p)) no_value_text
         (P.formula (inner_of p)) (P.formula_of (inner_of p))
         (at_pointer (N.bytes (pointer_of p)) v) (P.has_formula (inner_of p))) };
+}
+
+/// Whether the text is a JSON Pointer: empty, or begun with `/`, and with a `0` or a `1` behind each
+/// `~`. `of_pointer` takes any text, so one that was read at run time is tested by this first.
+///
+/// ```
+/// let wrong = !is_pointer("age");
+/// ```
+pub fn is_pointer(text: &str) -> bool
+    ensures { result ≡ is_pointer_text text.now }
+{
+    match text.as_bytes().split_first() {
+        Some((first, rest)) => *first == b'/' && has_whole_escapes(rest),
+        None => true,
+    }
+}
+
+// Whether a `0` or a `1` stands behind each `~`.
+fn has_whole_escapes(bytes: &[u8]) -> bool
+    ensures { result ≡ whole_escapes false bytes.now }
+{
+    let mut behind_tilde = false;
+    for byte in bytes {
+        if behind_tilde && *byte != b'0' && *byte != b'1' {
+            return false;
+        }
+        behind_tilde = *byte == b'~';
+    }
+    !behind_tilde
 }
