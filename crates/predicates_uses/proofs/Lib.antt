@@ -1,4 +1,3 @@
 pub mod Scripts
 pub mod BothEvaluated
 pub mod Applying
-pub mod Written

@@ -1,7 +1,6 @@
 pub mod Answer
 pub mod Either
 pub mod Applied
-pub mod Json
 pub mod PolicyFault
 pub mod Plainly
 pub mod Length

@@ -4,7 +4,6 @@
 mod answer;
 mod either;
 mod files;
-mod json;
 mod last;
 mod length;
 mod plainly;
@@ -14,7 +13,6 @@ mod tested;
 pub use answer::IsTheAnswer;
 pub use either::{Either, alternatives};
 pub use files::{is_copy, no_script};
-pub use json::case_json;
 pub use last::{LastFirst, is_known};
 pub use length::OfLength;
 pub use plainly::{Around, find_plain_case};

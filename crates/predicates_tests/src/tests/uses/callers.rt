@@ -2,10 +2,9 @@
 use super::{file, has_lines};
 use predicates::path::{FileType, PathFault, Snapshot};
 use predicates::prelude::*;
-use predicates::reflection::{Case, Product};
 use predicates_testing::text;
 use predicates_uses::{
-    Around, PolicyFault, case_json, find_plain_case, is_copy, no_script, read_policy,
+    Around, PolicyFault, find_plain_case, is_copy, no_script, read_policy,
 };
 use std::alloc::{AllocError, Global};
 use std::test::Fail;
@@ -199,31 +198,5 @@ fn plain_cases(rt: HostRuntime) -> Result<(), Fail> {
             assert!(rt; is_plain(rt.alloc(), around, item, verdict)?, "{item}");
         }
     }
-    Ok(())
-}
-
-fn json(alloc: Global, case: &Case) -> Result<String, AllocError> {
-    case_json(alloc, &case.root())?.to_string(alloc)
-}
-
-// A node without a text, with two products, over a leaf and a node with a child of its own.
-fn json_of_four(alloc: Global) -> Result<String, AllocError> {
-    let inner = Case::new(alloc, Some(text(alloc, "r")?), true);
-    let right = Case::new(alloc, Some(text(alloc, "(! r)")?), false).add_child("predicate", inner)?;
-    let case = Case::new(alloc, None, true)
-        .add_product(Product::new("a", text(alloc, "\"")?))?
-        .add_product(Product::new("b", text(alloc, "")?))?
-        .add_child("left", Case::new(alloc, Some(text(alloc, "l")?), true))?
-        .add_child("right", right)?;
-    json(alloc, &case)
-}
-
-#[test]
-fn writes_json(rt: HostRuntime) -> Result<(), Fail> {
-    let written = json_of_four(rt.alloc())?;
-    assert_eq!(rt;
-        written.as_str(),
-        "{\"children\":[{\"case\":{\"children\":[],\"products\":[],\"result\":true,\"text\":\"l\"},\"name\":\"left\"},{\"case\":{\"children\":[{\"case\":{\"children\":[],\"products\":[],\"result\":true,\"text\":\"r\"},\"name\":\"predicate\"}],\"products\":[],\"result\":false,\"text\":\"(! r)\"},\"name\":\"right\"}],\"products\":[{\"name\":\"a\",\"value\":\"\\\"\"},{\"name\":\"b\",\"value\":\"\"}],\"result\":true,\"text\":null}"
-    );
     Ok(())
 }

@@ -5,9 +5,9 @@ use Rattle.predicates_core.specs.CaseViews.{named_case}
 use Rattle.predicates_core.specs.Tree.{node_count, named_trees}
 use Rattle.predicates_core.specs.Describe.{NamedCase}
 use Rattle.predicates_core.proofs.Forests.{node_count-child}
-use Rattle.predicates_uses.specs.Json.{forest_data, node_data}
-use Rattle.predicates_uses.proofs.Written.{named_data, forest_data-named}
-use Rattle.predicates_uses.proofs.json.+case_json.Goals as goal
+use Rattle.predicates_json.specs.CaseData.{forest_data, node_data}
+use Rattle.predicates_json.proofs.Written.{named_data, forest_data-named}
+use Rattle.predicates_json.proofs.case.+case_json.Goals as goal
 
 pub case_json-requires : goal.case_json-requires
 case_json-requires t c =

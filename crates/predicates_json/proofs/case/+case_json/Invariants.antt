@@ -2,8 +2,8 @@ use Rattle.std.proofs.Common.{◌≡◌, ◌++◌, map}
 use Rattle.serde_json.specs.View.{view}
 use Rattle.predicates_core.specs.CaseViews.{named_case}
 use Rattle.predicates_core.specs.Tree.{named_trees, node_count}
-use Rattle.predicates_uses.proofs.Written.{named_data}
-use Rattle.predicates_uses.proofs.json.+case_json.Given as goal
+use Rattle.predicates_json.proofs.Written.{named_data}
+use Rattle.predicates_json.proofs.case.+case_json.Given as goal
 
 abbrev pub decreases-case_json : goal.decreases-case_json
 decreases-case_json l = node_count l.case.now.children

@@ -4,7 +4,7 @@ use Rattle.serde_json.specs.Data.{Data, item}
 use Rattle.serde_json.specs.View.{items_of}
 use Rattle.predicates_core.specs.Tree.{Forest, empty, branch, named_trees}
 use Rattle.predicates_core.specs.Describe.{CaseNode, NamedCase}
-use Rattle.predicates_uses.specs.Json.{child_data, case_data, forest_data}
+use Rattle.predicates_json.specs.CaseData.{child_data, case_data, forest_data}
 
 abbrev pub named_data : NamedCase → Data
 named_data c = child_data c.0 (case_data c.1)

@@ -1,10 +1,10 @@
 //! Cases as JSON.
 ghost use Rattle.std.specs.Prelude.{◌≡◌, IfOk};
 ghost use Rattle.serde_json.specs.View.{view, items_view};
-ghost use Rattle.predicates_uses.specs.Json.{product_data, products_data, child_data, node_data};
-ghost use Rattle.predicates_uses.specs.Json.{case_data};
+ghost use Rattle.predicates_json.specs.CaseData.{product_data, products_data, child_data, node_data};
+ghost use Rattle.predicates_json.specs.CaseData.{case_data};
 
-use predicates::reflection::{CaseChild, CaseView, Product};
+use predicates_core::reflection::{CaseChild, CaseView, Product};
 use serde_json::{Map, Value, json, put};
 use std::alloc::{AllocError, Global};
 

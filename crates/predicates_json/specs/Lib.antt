@@ -1,0 +1,12 @@
+pub mod CaseData
+pub mod At
+pub mod Held
+pub mod Kinds
+pub mod KindParts
+pub mod NumberParts
+pub mod Pointer
+pub mod PointerLaws
+pub mod PointerText
+pub mod Null
+pub mod NullLaws
+pub mod Presence

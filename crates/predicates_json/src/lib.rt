@@ -1,0 +1,171 @@
+//! Predicates of JSON values, and cases as JSON.
+//!
+//! ```
+//! let adult = predicate::ge(18i64).of_number().of_pointer("/age");
+//! ```
+//!
+//! Its case on `{"age": 17}` shows what stands at the pointer, and on `{"age": "17"}` why it can't
+//! be asked about:
+//!
+//! ```text
+//! /age = false
+//!   value: var >= 18 = false
+//!     - var: 17
+//! /age = false
+//!   value: var >= 18 = false
+//!     - error: is a string
+//! ```
+#![tactic(auto)]
+
+ghost use Rattle.std.specs.Prelude.{◌≡◌, ◌↔◌, option_and_then};
+ghost use Rattle.predicates_core.specs.Formula.{Formula};
+ghost use Rattle.serde_json.specs.Find.{as_number};
+ghost use Rattle.serde_json.specs.View.{view};
+ghost use Rattle.serde_json.specs.declared.value.Value.{Value as JsonValue};
+ghost use Rattle.predicates_json.specs.At.{at_pointer};
+ghost use Rattle.predicates_json.specs.Held.{IsOfHeld};
+ghost use Rattle.predicates_json.specs.Kinds.{kind_text, no_number_text};
+ghost use Rattle.predicates_json.specs.Kinds.{held_bool, held_string, held_array, held_object};
+ghost use Rattle.predicates_json.specs.KindParts as Kind;
+ghost use Rattle.predicates_json.specs.NumberParts as Numbers;
+ghost use Rattle.predicates_json.specs.Pointer as Pointer;
+ghost use Rattle.predicates_json.specs.Pointer.{IsAt, no_value_text};
+
+mod at;
+mod case;
+mod error_case;
+mod kind;
+mod null;
+mod number;
+mod pointer;
+mod presence;
+
+pub use at::value_at;
+pub use case::case_json;
+pub use kind::{JsonKind, KindPredicate};
+pub use null::{NullPredicate, is_null};
+pub use number::{JsonNumber, NumberPredicate};
+pub use pointer::{JsonPointer, PointerPredicate, is_pointer};
+use predicates_core::Predicate;
+pub use presence::{PointerPresencePredicate, has_pointer, lacks_pointer};
+use serde_json::{Map, Value};
+use std::marker::PhantomData;
+
+/// Makes a predicate of JSON values from one of what they hold, or of what stands within them.
+pub trait PredicateJsonExt: Sized {
+    /// The predicate that holds of a value where this one holds of what stands at the pointer, and
+    /// not where nothing stands there. It prints the pointer. Making it takes no memory, and its
+    /// `eval` takes what this one's does.
+    fn of_pointer<N: JsonPointer>(self, pointer: N) -> PointerPredicate<Self, N>
+    where
+        Self: Predicate<Value>,
+        ensures inner { Pointer.inner_of result ≡ self }
+        ensures pointer { Pointer.pointer_of result ≡ pointer }
+        ensures formula { (v : JsonValue) (f : Formula)
+            → ⟦<PointerPredicate<Self, N> as Predicate<Value>>⟧.formula result v f
+            ↔ IsAt (N.bytes pointer) (IsOfHeld (Self.output self) no_value_text
+            (Self.formula self) (at_pointer (N.bytes pointer) v)) f };
+
+    /// The predicate that holds of a JSON text where this one holds of it, and not of a value of
+    /// another kind. It prints what this one prints, takes no memory to make, and its `eval` takes
+    /// what this one's does; so do the four below.
+    fn of_string(self) -> KindPredicate<Self, String>
+    where
+        Self: Predicate<String>,
+        ensures inner { Kind.inner_of result ≡ self }
+        ensures formula { (v : JsonValue) (f : Formula)
+            → ⟦<KindPredicate<Self, String> as Predicate<Value>>⟧.formula result v f
+            ↔ IsOfHeld (Self.output self) (kind_text (view v)) (Self.formula self)
+            (held_string v) f };
+
+    /// The same of a JSON truth.
+    fn of_bool(self) -> KindPredicate<Self, bool>
+    where
+        Self: Predicate<bool>,
+        ensures inner { Kind.inner_of result ≡ self }
+        ensures formula { (v : JsonValue) (f : Formula)
+            → ⟦<KindPredicate<Self, bool> as Predicate<Value>>⟧.formula result v f
+            ↔ IsOfHeld (Self.output self) (kind_text (view v)) (Self.formula self)
+            (held_bool v) f };
+
+    /// The same of the items of a JSON array.
+    fn of_array(self) -> KindPredicate<Self, Vec<Value>>
+    where
+        Self: Predicate<Vec<Value>>,
+        ensures inner { Kind.inner_of result ≡ self }
+        ensures formula { (v : JsonValue) (f : Formula)
+            → ⟦<KindPredicate<Self, Vec<Value>> as Predicate<Value>>⟧.formula result v f
+            ↔ IsOfHeld (Self.output self) (kind_text (view v)) (Self.formula self)
+            (held_array v) f };
+
+    /// The same of the members of a JSON object.
+    fn of_object(self) -> KindPredicate<Self, Map<String, Value>>
+    where
+        Self: Predicate<Map<String, Value>>,
+        ensures inner { Kind.inner_of result ≡ self }
+        ensures formula { (v : JsonValue) (f : Formula)
+            → ⟦<KindPredicate<Self, Map<String, Value>> as Predicate<Value>>⟧.formula result v f
+            ↔ IsOfHeld (Self.output self) (kind_text (view v)) (Self.formula self)
+            (held_object v) f };
+
+    /// The same of a JSON integer, read as an `i64` or a `u64`. A number that the type has not is
+    /// of another kind: a float, even `5.0`, one that is too large, or a negative one for `u64`.
+    fn of_number<N: JsonNumber>(self) -> NumberPredicate<Self, N>
+    where
+        Self: Predicate<N>,
+        ensures inner { Numbers.inner_of result ≡ self }
+        ensures formula { (v : JsonValue) (f : Formula)
+            → ⟦<NumberPredicate<Self, N> as Predicate<Value>>⟧.formula result v f
+            ↔ IsOfHeld (Self.output self) (no_number_text N.misfit_text (view v))
+            (Self.formula self) (option_and_then N.number_as (as_number (view v))) f };
+}
+
+impl<P> PredicateJsonExt for P {
+    fn of_pointer<N: JsonPointer>(self, pointer: N) -> PointerPredicate<P, N>
+    where
+        P: Predicate<Value>,
+    {
+        PointerPredicate {
+            inner: self,
+            pointer,
+        }
+    }
+
+    fn of_string(self) -> KindPredicate<P, String>
+    where
+        P: Predicate<String>,
+    {
+        KindPredicate::new(self)
+    }
+
+    fn of_bool(self) -> KindPredicate<P, bool>
+    where
+        P: Predicate<bool>,
+    {
+        KindPredicate::new(self)
+    }
+
+    fn of_array(self) -> KindPredicate<P, Vec<Value>>
+    where
+        P: Predicate<Vec<Value>>,
+    {
+        KindPredicate::new(self)
+    }
+
+    fn of_object(self) -> KindPredicate<P, Map<String, Value>>
+    where
+        P: Predicate<Map<String, Value>>,
+    {
+        KindPredicate::new(self)
+    }
+
+    fn of_number<N: JsonNumber>(self) -> NumberPredicate<P, N>
+    where
+        P: Predicate<N>,
+    {
+        NumberPredicate {
+            inner: self,
+            number: PhantomData,
+        }
+    }
+}

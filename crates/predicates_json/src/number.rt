@@ -1,0 +1,183 @@
+//! Predicates of the integer that a value holds.
+//!
+//! ```
+//! let adult = predicate::ge(18i64).of_number();
+//! ```
+ghost use Rattle.std.specs.Prelude.{◌≡◌, [], List, codes, IfSome, Option, option_and_then, ℕ};
+ghost use Rattle.predicates_core.specs.Parts.{part};
+ghost use Rattle.serde_json.specs.Data.{Num};
+ghost use Rattle.serde_json.specs.Find.{as_i64, as_u64, as_number};
+ghost use Rattle.serde_json.specs.View.{view, number_view};
+ghost use Rattle.predicates_json.specs.Kinds.{no_i64_text, no_u64_text, no_number_text};
+ghost use Rattle.predicates_json.specs.Held.{IsOfHeld, held_text_fits, one_held, held_formula};
+ghost use Rattle.predicates_json.specs.Held.{has_held};
+ghost use Rattle.predicates_json.specs.NumberParts.{inner_of};
+
+use crate::error_case::error_case;
+use crate::kind::kind;
+use predicates_core::reflection::{Case, Child, Parameter, PredicateReflection, describe};
+use predicates_core::{Predicate, Total};
+use serde_json::{Number, Value};
+use std::alloc::{AllocError, Global};
+use std::fmt;
+use std::marker::PhantomData;
+
+/// A type of integers that a JSON number may be read as: `i64` or `u64`.
+pub trait JsonNumber: Sized + Copy + Drop {
+    // The number, if the type has it.
+    ghost number_as: { Num → Option Self };
+
+    // What is said of a number that the type has not.
+    ghost misfit_text: { Num → List ℕ };
+
+    /// The number, if the type has it. It takes no memory.
+    fn from_number(number: &Number) -> Option<Self>
+        ensures { result ≡ number_as (number_view number.now) };
+
+    /// What is said of a number that the type has not, as `is a float`.
+    fn misfit(number: &Number) -> &'static str
+        ensures { result.now ≡ misfit_text (number_view number.now) };
+}
+
+impl JsonNumber for i64 {
+    ghost number_as = { as_i64 };
+
+    ghost misfit_text = { no_i64_text };
+
+    fn from_number(number: &Number) -> Option<i64> {
+        number.as_i64()
+    }
+
+    fn misfit(number: &Number) -> &'static str {
+        if number.is_f64() {
+            "is a float"
+        } else {
+            "is too large for i64"
+        }
+    }
+}
+
+impl JsonNumber for u64 {
+    ghost number_as = { as_u64 };
+
+    ghost misfit_text = { no_u64_text };
+
+    fn from_number(number: &Number) -> Option<u64> {
+        number.as_u64()
+    }
+
+    fn misfit(number: &Number) -> &'static str {
+        if number.is_f64() {
+            "is a float"
+        } else {
+            "is negative"
+        }
+    }
+}
+
+// What is said of a value that is no number of the type.
+fn no_number<N: JsonNumber>(value: &Value) -> &'static str
+    ensures { result.now ≡ no_number_text N.misfit_text (view value.now) }
+{
+    match value {
+        Value::Number(number) => N::misfit(number),
+        other => kind(other),
+    }
+}
+
+// The number that the value holds, if it is one of the type.
+fn number_of<N: JsonNumber>(value: &Value) -> Option<N>
+    ensures { result ≡ option_and_then N.number_as (as_number (view value.now)) }
+{
+    match value.as_number() {
+        Some(number) => N::from_number(number),
+        None => None,
+    }
+}
+
+/// Holds of a number of the type where its inner predicate holds of it, and not of another value.
+/// A number with a point or an exponent is a float, even `5.0`, and no `i64`. Made by `of_number` of
+/// `PredicateJsonExt`.
+#[derive(Debug, Clone, Copy, PartialEq, Eq, Drop)]
+pub struct NumberPredicate<P, N> {
+    pub(crate) inner: P,
+    pub(crate) number: PhantomData<N>,
+}
+
+impl<P: fmt::Display, N> fmt::Display for NumberPredicate<P, N> {
+    ghost output = { λ p. P.output (inner_of p) };
+
+    fn fmt<W: fmt::Write>(&self, f: &mut fmt::Formatter<W>) -> fmt::Result {
+        let inner = &self.inner;
+        write!(f, "{inner}")
+    }
+}
+
+impl<P: PredicateReflection, N> PredicateReflection for NumberPredicate<P, N> {
+    ghost parameters_of = { λ p. [] };
+
+    ghost children_of = { λ p. part
+        (codes "predicate") (P.output (inner_of p)) (P.parameters_of (inner_of p))
+        (P.children_of (inner_of p)) };
+
+    fn parameters(&self, alloc: Global) -> Result<Vec<Parameter>, AllocError> {
+        Ok(Vec::new(alloc))
+    }
+
+    fn children(&self, alloc: Global) -> Result<Vec<Child>, AllocError> {
+        let mut children = Vec::new(alloc);
+        children.push(describe(alloc, "predicate", &self.inner)?)?;
+        Ok(children)
+    }
+}
+
+impl<P: Predicate<N>, N: JsonNumber> Predicate<Value> for NumberPredicate<P, N> {
+    ghost lawful = { λ p. P.lawful (inner_of p) };
+
+    ghost formula = { λ p v. IsOfHeld (P.output (inner_of p)) (no_number_text N.misfit_text (view v))
+        (P.formula (inner_of p)) (option_and_then N.number_as (as_number (view v))) };
+
+    ghost infallible = { λ p v. IfSome (option_and_then N.number_as (as_number (view v)))
+        (P.infallible (inner_of p)) };
+
+    ghost text_fits = { λ p v f. held_text_fits
+        (option_and_then N.number_as (as_number (view v))) (λ u. P.text_fits (inner_of p) u) };
+
+    ghost one_formula = { λ p v f g lawful. one_held
+        (option_and_then N.number_as (as_number (view v)))
+        (λ u x y. P.one_formula (inner_of p) u x y lawful) };
+
+    #[tactic(auto, using(crate::proofs::HeldCases::held_cases))]
+    fn eval(&self, alloc: Global, item: &Value) -> Result<bool, AllocError> {
+        match number_of::<N>(item) {
+            Some(number) => self.inner.eval(alloc, &number),
+            None => Ok(false),
+        }
+    }
+
+    #[tactic(auto, using(crate::proofs::HeldCases::held_cases))]
+    fn find_case(
+        &self,
+        alloc: Global,
+        expected: bool,
+        item: &Value,
+    ) -> Result<Option<Case>, AllocError> {
+        match number_of::<N>(item) {
+            Some(number) => self.inner.find_case(alloc, expected, &number),
+            None if expected => Ok(None),
+            None => Ok(Some(error_case(alloc, &self.inner, no_number::<N>(item))?)),
+        }
+    }
+}
+
+impl<P: Total<N>, N: JsonNumber> Total<Value> for NumberPredicate<P, N> {
+    ghost formula_of = { λ p v. held_formula (P.output (inner_of p))
+        (no_number_text N.misfit_text (view v)) (P.formula_of (inner_of p))
+        (option_and_then N.number_as (as_number (view v))) };
+
+    ghost always_lawful = { λ p. P.always_lawful (inner_of p) };
+
+    ghost has_formula = { λ p v. has_held (P.output (inner_of p))
+        (no_number_text N.misfit_text (view v)) (P.formula (inner_of p)) (P.formula_of (inner_of p))
+        (option_and_then N.number_as (as_number (view v))) (P.has_formula (inner_of p)) };
+}

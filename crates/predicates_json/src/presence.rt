@@ -1,0 +1,126 @@
+//! Whether anything stands at a JSON Pointer.
+ghost use Rattle.std.specs.Prelude.{◌≡◌, ◌↔◌, refl, true, false, [], Some};
+ghost use Rattle.predicates_core.specs.Tree.{empty};
+ghost use Rattle.predicates_core.specs.Formula.{Formula};
+ghost use Rattle.predicates_core.specs.Leaves.{IsExactly};
+ghost use Rattle.predicates_core.specs.LeafLaws.{exactly_text_fits, one_exactly};
+ghost use Rattle.serde_json.specs.declared.value.Value.{Value as JsonValue};
+ghost use Rattle.predicates_json.specs.At.{at_pointer};
+ghost use Rattle.predicates_json.specs.Presence.{presence_text, presence_truth, presence_formula};
+ghost use Rattle.predicates_json.specs.Presence.{asks_presence, asked_pointer};
+
+use crate::JsonPointer;
+use crate::at::value_at;
+use predicates_core::custom::bare_case;
+use predicates_core::reflection::{Case, Child, Parameter, PredicateReflection};
+use predicates_core::{Predicate, Total};
+use serde_json::Value;
+use std::alloc::{AllocError, Global};
+use std::fmt;
+
+/// Whether anything stands at a pointer, null too. Made by `has_pointer` and `lacks_pointer`.
+#[derive(Debug, Clone, Copy, PartialEq, Eq, Drop)]
+pub struct PointerPresencePredicate<N = &'static str> {
+    pointer: N,
+    present: bool,
+}
+
+/// Holds where something stands at the pointer, null too. It takes no memory, and neither does its
+/// `eval`.
+pub fn has_pointer<N: JsonPointer>(pointer: N) -> PointerPresencePredicate<N>
+    ensures pointer { asked_pointer result ≡ pointer }
+    ensures presence { asks_presence result ≡ true }
+    ensures formula { (v : JsonValue) (f : Formula)
+        → ⟦<PointerPresencePredicate<N> as Predicate<Value>>⟧.formula result v f
+        ↔ IsExactly (presence_formula true (N.bytes pointer) v) f }
+{
+    PointerPresencePredicate {
+        pointer,
+        present: true,
+    }
+}
+
+/// Holds where nothing stands at the pointer. It takes no memory, and neither does its `eval`.
+pub fn lacks_pointer<N: JsonPointer>(pointer: N) -> PointerPresencePredicate<N>
+    ensures pointer { asked_pointer result ≡ pointer }
+    ensures presence { asks_presence result ≡ false }
+    ensures formula { (v : JsonValue) (f : Formula)
+        → ⟦<PointerPresencePredicate<N> as Predicate<Value>>⟧.formula result v f
+        ↔ IsExactly (presence_formula false (N.bytes pointer) v) f }
+{
+    PointerPresencePredicate {
+        pointer,
+        present: false,
+    }
+}
+
+impl<N: JsonPointer> PointerPresencePredicate<N> {
+    // Whether it holds of the value.
+    fn holds(&self, value: &Value) -> bool
+        ensures { result ≡ presence_truth (asks_presence self.now)
+            (at_pointer (N.bytes (asked_pointer self.now)) value.now) }
+    {
+        value_at(value, self.pointer.text()).is_some() == self.present
+    }
+}
+
+impl<N: JsonPointer> fmt::Display for PointerPresencePredicate<N> {
+    ghost output = { λ p. Some (presence_text (asks_presence p) (N.bytes (asked_pointer p))) };
+
+    fn fmt<W: fmt::Write>(&self, f: &mut fmt::Formatter<W>) -> fmt::Result {
+        let pointer = self.pointer.text();
+        if self.present {
+            write!(f, "exists({pointer})")
+        } else {
+            write!(f, "missing({pointer})")
+        }
+    }
+}
+
+impl<N: JsonPointer> PredicateReflection for PointerPresencePredicate<N> {
+    ghost parameters_of = { λ p. [] };
+
+    ghost children_of = { λ p. empty };
+
+    fn parameters(&self, alloc: Global) -> Result<Vec<Parameter>, AllocError> {
+        Ok(Vec::new(alloc))
+    }
+
+    fn children(&self, alloc: Global) -> Result<Vec<Child>, AllocError> {
+        Ok(Vec::new(alloc))
+    }
+}
+
+impl<N: JsonPointer> Predicate<Value> for PointerPresencePredicate<N> {
+    ghost formula = { λ p v. IsExactly
+        (presence_formula (asks_presence p) (N.bytes (asked_pointer p)) v) };
+
+    ghost infallible = { λ p v. Unit {0} };
+
+    ghost text_fits = { λ p v f. exactly_text_fits };
+
+    ghost one_formula = { λ p v f g lawful. one_exactly };
+
+    #[tactic(auto, using(predicates_core::proofs::Leaves::leaves))]
+    fn eval(&self, _alloc: Global, item: &Value) -> Result<bool, AllocError> {
+        Ok(self.holds(item))
+    }
+
+    fn find_case(
+        &self,
+        alloc: Global,
+        expected: bool,
+        item: &Value,
+    ) -> Result<Option<Case>, AllocError> {
+        bare_case(alloc, self, self.holds(item), expected)
+    }
+}
+
+impl<N: JsonPointer> Total<Value> for PointerPresencePredicate<N> {
+    ghost formula_of = { λ p v.
+        presence_formula (asks_presence p) (N.bytes (asked_pointer p)) v };
+
+    ghost always_lawful = { λ p. tt };
+
+    ghost has_formula = { λ p v. record { is = refl } };
+}

@@ -1,0 +1,5 @@
+//! Tests of what `predicates_json` gives, by calls as a caller writes them.
+#![tactic(auto)]
+
+#[cfg(test)]
+mod tests;

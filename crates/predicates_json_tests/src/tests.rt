@@ -1,0 +1,5 @@
+mod case;
+mod helpers;
+mod joined;
+mod kinds;
+mod pointers;

@@ -1,0 +1,112 @@
+//! The examples of RFC 6901, and pointers that lead nowhere.
+use super::helpers::explains_json;
+use predicates::prelude::*;
+use predicates_json::{PredicateJsonExt, has_pointer, lacks_pointer, value_at};
+use predicates_testing::text;
+use serde_json::{Error, Value};
+use std::alloc::Global;
+use std::test::Fail;
+
+const DOCUMENT: &str = "{\"foo\":[\"bar\",\"baz\"],\"\":0,\"a/b\":1,\"c%d\":2,\"e^f\":3,\"g|h\":4,\
+\"i\\\\j\":5,\"k\\\"l\":6,\" \":7,\"m~n\":8,\"~1\":9,\"o~\":10}";
+
+// A pointer, and what stands there, or nothing.
+const PLACES: [(&str, &str); 27] = [
+    ("/foo", "[\"bar\",\"baz\"]"),
+    ("/foo/0", "\"bar\""),
+    ("/foo/1", "\"baz\""),
+    ("/", "0"),
+    ("/a~1b", "1"),
+    ("/c%d", "2"),
+    ("/e^f", "3"),
+    ("/g|h", "4"),
+    ("/i\\j", "5"),
+    ("/k\"l", "6"),
+    ("/ ", "7"),
+    ("/m~0n", "8"),
+    ("/~01", "9"),
+    ("/m~n", "8"),
+    ("/o~", "10"),
+    ("/o~0", "10"),
+    ("/foo/2", ""),
+    ("/foo/00", ""),
+    ("/foo/01", ""),
+    ("/foo/+1", ""),
+    ("/foo/-", ""),
+    ("/foo/", ""),
+    ("/foo/0/0", ""),
+    ("/a/b", ""),
+    ("/~1", ""),
+    ("foo", ""),
+    ("/foo/18446744073709551616", ""),
+];
+
+// Whether that stands there, and whether presence answers so.
+fn stands(alloc: Global, place: (&str, &str)) -> Result<bool, Error> {
+    let (pointer, expected) = place;
+    let document = Value::from_str(alloc, DOCUMENT)?;
+    let present = has_pointer(text(alloc, pointer)?).eval(alloc, &document)?;
+    let absent = lacks_pointer(text(alloc, pointer)?).eval(alloc, &document)?;
+    match value_at(&document, pointer) {
+        Some(found) => {
+            let written = found.to_string(alloc)?;
+            Ok(written.as_str() == expected && present && !absent)
+        }
+        None => Ok(expected.is_empty() && !present && absent),
+    }
+}
+
+#[test]
+fn places(rt: HostRuntime) -> Result<(), Fail> {
+    for place in PLACES {
+        assert!(rt; stands(rt.alloc(), place)?);
+    }
+    Ok(())
+}
+
+#[test]
+fn the_whole_value(rt: HostRuntime) -> Result<(), Fail> {
+    let alloc = rt.alloc();
+    let document = Value::from_str(alloc, DOCUMENT)?;
+    let found = value_at(&document, "").is_some_and(|whole| *whole == document);
+    assert!(rt; found);
+    Ok(())
+}
+
+// A pointer to the age, what is said of it, and the JSON text.
+const AGES: [(&str, &str, &str); 4] = [
+    ("{\"age\":17}", "/age", "- var: 17"),
+    ("{\"age\":\"17\"}", "/age", "- error: is a string"),
+    ("{\"name\":\"Ann\"}", "/age", "- error: no value"),
+    ("[{\"age\":3}]", "/0/age", "- var: 3"),
+];
+
+// Whether the row is told of a pointer that was read at run time.
+fn tells_age(alloc: Global, row: (&str, &str, &str)) -> Result<bool, Error> {
+    let (json, pointer, said) = row;
+    let adult = predicate::ge(18i64)
+        .of_number()
+        .of_pointer(text(alloc, pointer)?);
+    let lines = format!(in alloc; "{pointer} = false\n  value: var >= 18 = false\n    {said}\n")?;
+    explains_json(alloc, &adult, json, lines.as_str())
+}
+
+#[test]
+fn ages(rt: HostRuntime) -> Result<(), Fail> {
+    for row in AGES {
+        assert!(rt; tells_age(rt.alloc(), row)?);
+    }
+    Ok(())
+}
+
+#[test]
+fn presence(rt: HostRuntime) -> Result<(), Fail> {
+    let alloc = rt.alloc();
+    let seated = has_pointer("/seat");
+    assert!(rt; explains_json(alloc, &seated, "{\"seat\":null}", "exists(/seat) = true\n")?);
+    assert!(rt; explains_json(alloc, &seated, "{}", "exists(/seat) = false\n")?);
+    let free = lacks_pointer(StaticText::new("/seat"));
+    assert!(rt; explains_json(alloc, &free, "{}", "missing(/seat) = true\n")?);
+    assert!(rt; explains_json(alloc, &free, "{\"seat\":13}", "missing(/seat) = false\n")?);
+    Ok(())
+}
