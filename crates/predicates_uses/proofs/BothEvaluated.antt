@@ -1,29 +1,43 @@
 -- The truth of either part, where both were evaluated.
-use Rattle.std.proofs.Common.{◌≡◌, ℕ, Bool, true, false, List, Option, Less, Equal, Greater, Result, Ok, Err, IfOk, IsOk, refl, sym, subst, ap, ◌∙◌}
-use Rattle.std.specs.Prelude.{◌||◌, ◌==◌, cond, nat_lt}
+use Rattle.std.proofs.Common.{◌≡◌, ℕ, Bool, true, false, List, [], ◌∷◌, codes, Option, Some, Less, Equal, Greater, Result, Ok, Err, IfOk, IsOk, refl, sym, subst, ap, ◌∙◌}
+use Rattle.std.specs.Prelude.{◌||◌, ◌==◌, not, cond, nat_lt}
 use Rattle.std.specs.Ordering.{is_lt, nat_cmp}
-use Rattle.predicates_core.specs.Formula.{Formula, HasTruth, Leaf, Or}
-use Rattle.predicates_core.specs.Label.{Label, plain}
+use Rattle.predicates_core.specs.declared.custom.join.Operator.TheVariants.{Or}
+use Rattle.predicates_core.specs.Formula.{Formula, HasTruth, Leaf, pair}
+use Rattle.predicates_core.specs.Tree.{Tree}
+use Rattle.predicates_core.specs.Describe.{CaseNode}
+use Rattle.predicates_core.specs.Shows.{IsNode, IsCaseOf}
+use Rattle.predicates_core.specs.Label.{Label, plain, Fits}
 use Rattle.predicates_core.specs.Leaves.{IsExactly}
-use Rattle.predicates_core.specs.Combined.{IsOr}
-use Rattle.predicates_core.proofs.Values.{truth-Leaf, truth-Or}
-use Rattle.predicates_core.proofs.CombinedLemmas.{HasTruth-or_by_left, HasTruth-or_by_right}
+use Rattle.predicates_core.specs.Combined.{IsPair}
+use Rattle.predicates_core.proofs.Values.{truth-Leaf, truth-pair}
+use Rattle.predicates_core.proofs.FirstReasonOf.{or_both, or_left, or_right}
+use Rattle.predicates_core.proofs.CombinedLemmas.{HasTruth-pair, HasTruth-left, case_of_both, case_of_left, case_of_right}
 
 module _ {text : Option (List ℕ)} {left right : Formula → Type 0} where
-  of_both : (a b : Bool) → HasTruth left a → HasTruth right b → HasTruth (IsOr text left right) (a || b)
-  of_both true b of_l of_r = HasTruth-or_by_left of_l refl
-  of_both false b of_l of_r = HasTruth-or_by_right of_l refl of_r
+  pub HasTruth-or_both : {a b e : Bool} → HasTruth left a → HasTruth right b → e ≡ (a || b) → HasTruth (IsPair Or text left right) e
+  HasTruth-or_both of_l of_r e = subst (HasTruth (IsPair Or text left right)) (sym e) (HasTruth-pair Or of_l of_r)
 
-  pub HasTruth-or_both : {a b e : Bool} → HasTruth left a → HasTruth right b → e ≡ (a || b) → HasTruth (IsOr text left right) e
-  HasTruth-or_both {a} {b} of_l of_r e = subst (HasTruth (IsOr text left right)) (sym e) (of_both a b of_l of_r)
+  pub HasTruth-or_neither : {a : Bool} → HasTruth left a → a ≡ true → HasTruth (IsPair Or text left right) a
+  HasTruth-or_neither of_l e = HasTruth-left Or of_l e (λ y. sym e)
+
+module _ {text : Option (List ℕ)} {left right : Formula → Type 0} {b : Bool} {t : Tree CaseNode} {bytes : List ℕ} where
+  pub IsCaseOf-or_both : {c d : Tree CaseNode} → IsNode (Some bytes) b ((codes "left", c) ∷ (codes "right", d) ∷ []) t → Fits text bytes → IsCaseOf left b c → IsCaseOf right b d → b ≡ false → IsCaseOf (IsPair Or text left right) b t
+  IsCaseOf-or_both written fits x y e = case_of_both Or (rw e or_both) written fits x y (rw e refl)
+
+  pub IsCaseOf-or_left : {c : Tree CaseNode} → IsNode (Some bytes) b ((codes "left", c) ∷ []) t → Fits text bytes → IsCaseOf left b c → b ≡ true → IsCaseOf (IsPair Or text left right) b t
+  IsCaseOf-or_left written fits x e = case_of_left Or {y = true} (rw e or_left) written fits x (rw e refl)
+
+  pub IsCaseOf-or_right : {d : Tree CaseNode} → IsNode (Some bytes) b ((codes "right", d) ∷ []) t → Fits text bytes → HasTruth left (not b) → IsCaseOf right b d → b ≡ true → IsCaseOf (IsPair Or text left right) b t
+  IsCaseOf-or_right written fits x y e = case_of_right Or (rw e or_right) written fits x y (rw e refl)
 
 -- what is answered of two leaves, where no memory is requested
-truth_of_either : {text : Option (List ℕ)} {left right : Label} {a b e : Bool} → HasTruth (IsOr text (IsExactly (Leaf left a)) (IsExactly (Leaf right b))) e → e ≡ (a || b)
+truth_of_either : {text : Option (List ℕ)} {left right : Label} {a b e : Bool} → HasTruth (IsPair Or text (IsExactly (Leaf left a)) (IsExactly (Leaf right b))) e → e ≡ (a || b)
 truth_of_either {text} {left} {right} {a} {b} h =
-    sym (h.at (Or (plain text) (Leaf left a) (Leaf right b)) (record { left_formula = Leaf left a; right_formula = Leaf right b; of_left = record { is = refl }; of_right = record { is = refl }; is = refl }))
-    ∙ truth-Or (plain text) (Leaf left a) (Leaf right b) ∙ (λ i. truth-Leaf left a i || truth-Leaf right b i)
+    sym (h.at (pair Or (plain text) (Leaf left a) (Leaf right b)) (record { left_formula = Leaf left a; right_formula = Leaf right b; of_left = record { is = refl }; of_right = record { is = refl }; is = refl }))
+    ∙ truth-pair Or (plain text) (Leaf left a) (Leaf right b) ∙ (λ i. truth-Leaf left a i || truth-Leaf right b i)
 
-pub either_truth : (text : Option (List ℕ)) (left right : Label) (a b : Bool) {E : Type 0} (r : Result Bool E) → IsOk r → IfOk r (HasTruth (IsOr text (IsExactly (Leaf left a)) (IsExactly (Leaf right b)))) → r ≡ Ok (a || b)
+pub either_truth : (text : Option (List ℕ)) (left right : Label) (a b : Bool) {E : Type 0} (r : Result Bool E) → IsOk r → IfOk r (HasTruth (IsPair Or text (IsExactly (Leaf left a)) (IsExactly (Leaf right b)))) → r ≡ Ok (a || b)
 either_truth text left right a b (Ok e) ok h = ap Ok (truth_of_either h)
 either_truth text left right a b (Err e) ok h = absurd (cc)
 
@@ -35,4 +49,4 @@ less_of_choice false false = refl
 pub less_is : (a b : ℕ) → is_lt (nat_cmp a b) ≡ nat_lt a b
 less_is a b = less_of_choice (nat_lt a b) (a == b)
 
-pub ruleset both_evaluated = (HasTruth-or_both)
+pub ruleset both_evaluated = (HasTruth-or_both, HasTruth-or_neither)

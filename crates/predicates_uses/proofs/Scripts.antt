@@ -3,14 +3,15 @@ use Rattle.std.proofs.Common.{◌≡◌, ℕ, Bool, true, false, List, Option, S
 use Rattle.std.specs.Prelude.{◌&&◌, Result, Ok, Err, MatchOption, if◌then◌else◌}
 use Rattle.std.specs.Str.{chars, is_utf8}
 use Rattle.predicates_core.specs.Label.{Entry, plain}
-use Rattle.predicates_core.specs.Formula.{Formula, And, Named, truth, HasTruth}
-use Rattle.predicates_core.specs.Combined.{IsAnd, IsNamed}
+use Rattle.predicates_core.specs.declared.custom.join.Operator.TheVariants.{And}
+use Rattle.predicates_core.specs.Formula.{Formula, pair, Named, truth, HasTruth}
+use Rattle.predicates_core.specs.Combined.{IsPair, IsNamed}
 use Rattle.predicates_core.specs.Tree.{Tree}
 use Rattle.predicates_core.specs.Describe.{CaseNode}
 use Rattle.predicates_core.specs.Shows.{IsAnswer}
-use Rattle.predicates_core.proofs.Values.{truth-Leaf, truth-And, truth-Named}
+use Rattle.predicates_core.proofs.Values.{truth-Leaf, truth-pair, truth-Named}
 use Rattle.predicates_core.proofs.FirstReasonOf.{with_product_truth}
-use Rattle.predicates_core.proofs.CombinedLemmas.{has_and, has_named}
+use Rattle.predicates_core.proofs.CombinedLemmas.{has_pair, has_named}
 use Rattle.predicates_text.specs.Places.{is_front}
 use Rattle.predicates_text.specs.ViewFormulas.{decoded, undecoded, decoded_formula}
 use Rattle.predicates_text.specs.Leaves.{starts_formula}
@@ -46,12 +47,12 @@ content_truth text mark path (Ok bytes) = with_product_truth (decoded_formula (s
 content_truth text mark path (Err fault) = truth-Leaf _ _
 
 module _ (name : List ℕ) (text : Entry) (K C : Formula → Type 0) where
-  pub named_truth : (k r : Formula) (a b c : Bool) → K k → C r → truth k ≡ a → truth r ≡ b → HasTruth (IsNamed name (IsAnd text K C)) c → (a && b) ≡ c
+  pub named_truth : (k r : Formula) (a b c : Bool) → K k → C r → truth k ≡ a → truth r ≡ b → HasTruth (IsNamed name (IsPair And text K C)) c → (a && b) ≡ c
   named_truth k r a b c of_k of_r is_a is_b h =
-      sym (λ i. is_a i && is_b i) ∙ sym (truth-And (plain text) k r) ∙ sym (truth-Named (plain (Some name)) name (And (plain text) k r))
-      ∙ h.at (Named (plain (Some name)) name (And (plain text) k r)) (has_named (has_and of_k of_r))
+      sym (λ i. is_a i && is_b i) ∙ sym (truth-pair And (plain text) k r) ∙ sym (truth-Named (plain (Some name)) name (pair And (plain text) k r))
+      ∙ h.at (Named (plain (Some name)) name (pair And (plain text) k r)) (has_named (has_pair of_k of_r))
 
-  pub answered : (k r : Formula) (a b : Bool) (found : Option (Tree CaseNode)) → K k → C r → truth k ≡ a → truth r ≡ b → IsAnswer (IsNamed name (IsAnd text K C)) false found
+  pub answered : (k r : Formula) (a b : Bool) (found : Option (Tree CaseNode)) → K k → C r → truth k ≡ a → truth r ≡ b → IsAnswer (IsNamed name (IsPair And text K C)) false found
       → MatchOption found ((a && b) ≡ true) (λ case. (a && b) ≡ false)
   answered k r a b None of_k of_r is_a is_b h = named_truth k r a b true of_k of_r is_a is_b h
   answered k r a b (Some case) of_k of_r is_a is_b h = named_truth k r a b false of_k of_r is_a is_b h.truth
@@ -59,7 +60,7 @@ module _ (name : List ℕ) (text : Entry) (K C : Formula → Type 0) where
 -- the test of the kind and that of the content, under whatever they print
 pub script_told : (name : List ℕ) (text : Entry) (kind : FileTypePredicate) (mark : List ℕ) (s : Snapshot) (found : Option (Tree CaseNode))
     → tested_kind kind ≡ File → follows kind ≡ true → mark ≡ codes "#!"
-    → IsAnswer (IsNamed name (IsAnd text (IsExactly (kind_formula kind s))
+    → IsAnswer (IsNamed name (IsPair And text (IsExactly (kind_formula kind s))
     (IsOfContent (starts_text mark) (λ v. IsDecoded (starts_text mark) (λ t. IsStartsLeaf mark (string_bytes t)) v.items) (path_of s) (held_of s)))) false found
     → IsNoScript s found
 script_told name text kind mark s found is_kind follow is_mark h =

@@ -3,6 +3,5 @@ pub mod Either
 pub mod Applied
 pub mod PolicyFault
 pub mod Plainly
-pub mod Length
 pub mod Last
 pub mod Script

@@ -1,11 +1,11 @@
-//! A leaf of the caller's own.
+//! A leaf of the caller's own, written out.
 ghost use Rattle.std.specs.Prelude.{refl, []};
 ghost use Rattle.predicates_core.specs.Tree.{empty};
 ghost use Rattle.predicates_core.specs.Leaves.{IsExactly};
 ghost use Rattle.predicates_core.specs.LeafLaws.{exactly_text_fits, one_exactly};
 ghost use Rattle.predicates_uses.specs.Answer.{answer_text, answer_formula};
 
-use predicates::custom::showing_case;
+use predicates::node::{leaf_node, printed, showing_item};
 use predicates::reflection::{Case, Child, Parameter, PredicateReflection};
 use predicates::{Predicate, Total};
 use std::alloc::{AllocError, Global};
@@ -51,13 +51,18 @@ impl Predicate<u32> for IsTheAnswer {
         Ok(*item == 42)
     }
 
+    #[tactic(auto, using(predicates_core::proofs::Leaves::leaves))]
     fn find_case(
         &self,
         alloc: Global,
         expected: bool,
         item: &u32,
     ) -> Result<Option<Case>, AllocError> {
-        showing_case(alloc, self, *item == 42, expected, item)
+        if (*item == 42) != expected {
+            return Ok(None);
+        }
+        let case = leaf_node(alloc, printed(alloc, self)?, expected);
+        Ok(Some(showing_item(alloc, case, item)?))
     }
 }
 

@@ -1,10 +1,11 @@
 //! A custom combinator that evaluates its right part first.
 ghost use Rattle.std.specs.Prelude.{◌≡◌, ◌==◌, ◌||◌, [], Ok, codes, nat_lt};
 ghost use Rattle.predicates_core.specs.Label.{plain};
-ghost use Rattle.predicates_core.specs.Formula.{Or};
+ghost use Rattle.predicates_core.specs.declared.custom.join.Operator.TheVariants.{Or};
+ghost use Rattle.predicates_core.specs.Formula.{pair};
 ghost use Rattle.predicates_core.specs.Parts.{two_parts};
-ghost use Rattle.predicates_core.specs.Combined.{IsOr};
-ghost use Rattle.predicates_core.proofs.CombinedLemmas.{or_text_fits, one_or, has_or};
+ghost use Rattle.predicates_core.specs.Combined.{IsPair};
+ghost use Rattle.predicates_core.proofs.CombinedLemmas.{pair_text_fits, one_pair, has_pair};
 ghost use Rattle.predicates_uses.specs.Either.{either_text};
 ghost use Rattle.predicates_uses.specs.Last.{left_of, right_of};
 
@@ -67,16 +68,16 @@ impl<P: PredicateReflection, Q: PredicateReflection> PredicateReflection for Las
 impl<P: Predicate<Item>, Q: Predicate<Item>, Item> Predicate<Item> for LastFirst<P, Q> {
     ghost lawful = { λ p. P.lawful (left_of p) × Q.lawful (right_of p) };
 
-    ghost formula = { λ p v. IsOr
+    ghost formula = { λ p v. IsPair Or
         (either_text (P.output (left_of p)) (Q.output (right_of p)))
         (P.formula (left_of p) v)
         (Q.formula (right_of p) v) };
 
     ghost infallible = { λ p v. P.infallible (left_of p) v × Q.infallible (right_of p) v };
 
-    ghost text_fits = { λ p v f. or_text_fits };
+    ghost text_fits = { λ p v f. pair_text_fits };
 
-    ghost one_formula = { λ p v f g lawful. one_or
+    ghost one_formula = { λ p v f g lawful. one_pair
         (λ x y. P.one_formula (left_of p) v x y lawful.0)
         (λ x y. Q.one_formula (right_of p) v x y lawful.1) };
 
@@ -87,7 +88,7 @@ impl<P: Predicate<Item>, Q: Predicate<Item>, Item> Predicate<Item> for LastFirst
         Ok(left || right)
     }
 
-    #[tactic(auto, using(predicates_core::proofs::CombinedLemmas::combined))]
+    #[tactic(auto, using(crate::proofs::BothEvaluated::both_evaluated))]
     fn find_case(
         &self,
         alloc: Global,
@@ -120,14 +121,14 @@ impl<P: Predicate<Item>, Q: Predicate<Item>, Item> Predicate<Item> for LastFirst
 }
 
 impl<P: Total<Item>, Q: Total<Item>, Item> Total<Item> for LastFirst<P, Q> {
-    ghost formula_of = { λ p v. Or
+    ghost formula_of = { λ p v. pair Or
         (plain (either_text (P.output (left_of p)) (Q.output (right_of p))))
         (P.formula_of (left_of p) v)
         (Q.formula_of (right_of p) v) };
 
     ghost always_lawful = { λ p. (P.always_lawful (left_of p), Q.always_lawful (right_of p)) };
 
-    ghost has_formula = { λ p v. has_or
+    ghost has_formula = { λ p v. has_pair
         (P.has_formula (left_of p) v)
         (Q.has_formula (right_of p) v) };
 }

@@ -5,16 +5,14 @@ mod answer;
 mod either;
 mod files;
 mod last;
-mod length;
 mod plainly;
 mod policy;
 mod tested;
 
 pub use answer::IsTheAnswer;
-pub use either::{Either, alternatives};
+pub use either::Either;
 pub use files::{is_copy, no_script};
 pub use last::{LastFirst, is_known};
-pub use length::OfLength;
 pub use plainly::{Around, find_plain_case};
 pub use policy::{PolicyFault, read_policy};
 pub use tested::FortyTwo;

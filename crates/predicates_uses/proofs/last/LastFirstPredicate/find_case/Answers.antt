@@ -1,5 +1,5 @@
 use Rattle.std.proofs.Common.{rules}
-use Rattle.predicates_core.proofs.CombinedLemmas.{IsCaseOf-or_both, IsCaseOf-or_left, IsCaseOf-or_right}
+use Rattle.predicates_uses.proofs.BothEvaluated.{IsCaseOf-or_both, IsCaseOf-or_left, IsCaseOf-or_right}
 use Rattle.predicates_uses.proofs.last.LastFirstPredicate.find_case.Goals as goal
 
 pub returns-in_ok-unary_node-in-None-2 : goal.returns-in_ok-unary_node-in-None-2
