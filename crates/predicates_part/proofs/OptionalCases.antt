@@ -8,7 +8,7 @@ use Rattle.predicates_core.specs.Tree.{Tree}
 use Rattle.predicates_core.specs.Describe.{CaseNode}
 use Rattle.predicates_core.specs.Leaves.{IsExactly}
 use Rattle.predicates_core.proofs.Leaves.{HasTruth-exactly}
-use Rattle.predicates_part.specs.Optional.{IsOfPresent, absent_leaf, lent}
+use Rattle.predicates_part.specs.Optional.{IsOfPresent, absent_leaf}
 
 module _ {U : Type 0} {text : Entry} {reason : List ℕ} {has : U → Formula → Type 0} {held : Option U} where
   pub HasTruth-some : {b : Bool} {u : U} → held ≡ Some u → HasTruth (has u) b → HasTruth (IsOfPresent text reason has held) b

@@ -1,5 +1,5 @@
 -- What a predicate answers of the one part is the truth of the whole, and its case explains it.
-use Rattle.std.proofs.Common.{◌≡◌, ℕ, Bool, List, [], ◌∷◌, Option, None, Some, Result, Ok, Err, IfOk, refl, ap, subst}
+use Rattle.std.proofs.Common.{◌≡◌, ℕ, Bool, List, [], ◌∷◌, Option, None, Some, Result, Ok, Err, IfOk, option_copied, refl, ap, subst}
 use Rattle.std.proofs.lemmas.Fn.{says_at}
 use Rattle.std.specs.Fn.{Shared}
 use denote.Ref.{Bor}
@@ -13,7 +13,7 @@ use Rattle.predicates_core.specs.Label.{Entry, Fits}
 use Rattle.predicates_core.specs.Leaves.{IsExactly}
 use Rattle.predicates_core.proofs.Fewer.{truth_of_fewer, case_of_fewer, answer_of_fewer, case_with}
 use Rattle.predicates_part.specs.Field.{HasOnePart, IsOfPart}
-use Rattle.predicates_part.specs.Optional.{IsOfPresent, absent_leaf, lent}
+use Rattle.predicates_part.specs.Optional.{IsOfPresent, absent_leaf}
 
 module _ {F T R U : Type 0} {calls : Shared F (Bor T × Unit {0}) R} {read : R → U} {function : F} {item : Bor T} {r : R} {has : U → Formula → Type 0} {name : List ℕ} where
   pub on_part : HasOnePart calls read function → calls.post function (item, tt) r → (f : Formula) → IsNamed name (IsOfPart calls read function has item.now) f → IsNamed name (has (read r)) f
@@ -33,14 +33,14 @@ case_over (Err e) written is fits h = tt
 
 -- a part that the item may lack
 module _ {F T U : Type 0} {calls : Shared F (Bor T × Unit {0}) (Option (Bor U))} {function : F} {item : Bor T} {r : Option (Bor U)} {text : Entry} {reason : List ℕ} {has : U → Formula → Type 0} {name : List ℕ} where
-  pub on_present : {u : Bor U} → HasOnePart calls lent function → calls.post function (item, tt) r → r ≡ Some u → (f : Formula) → IsNamed name (IsOfPart calls lent function (IsOfPresent text reason has) item.now) f → IsNamed name (has u.now) f
+  pub on_present : {u : Bor U} → HasOnePart calls option_copied function → calls.post function (item, tt) r → r ≡ Some u → (f : Formula) → IsNamed name (IsOfPart calls option_copied function (IsOfPresent text reason has) item.now) f → IsNamed name (has u.now) f
   on_present {u} one given is f h =
-      let k = on_part {read = lent} one given f h in
-      record { inner = k.inner; of_part = k.of_part.of_some u.now (ap lent is); is = k.is }
+      let k = on_part {read = option_copied} one given f h in
+      record { inner = k.inner; of_part = k.of_part.of_some u.now (ap option_copied is); is = k.is }
 
-  pub on_absent : HasOnePart calls lent function → calls.post function (item, tt) r → r ≡ None → (f : Formula) → IsNamed name (IsOfPart calls lent function (IsOfPresent text reason has) item.now) f → IsNamed name (IsExactly (absent_leaf text reason)) f
+  pub on_absent : HasOnePart calls option_copied function → calls.post function (item, tt) r → r ≡ None → (f : Formula) → IsNamed name (IsOfPart calls option_copied function (IsOfPresent text reason has) item.now) f → IsNamed name (IsExactly (absent_leaf text reason)) f
   on_absent one given is f h =
-      let k = on_part {read = lent} one given f h in
-      record { inner = k.inner; of_part = k.of_part.of_none (ap lent is); is = k.is }
+      let k = on_part {read = option_copied} one given f h in
+      record { inner = k.inner; of_part = k.of_part.of_none (ap option_copied is); is = k.is }
 
 pub ruleset parts = (HasTruth-named, HasTruth-field)

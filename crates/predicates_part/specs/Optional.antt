@@ -2,7 +2,6 @@
 use Rattle.std.specs.Prelude.{◌≡◌, refl, ℕ, List, false, Option, Some, None, codes}
 use Rattle.std.specs.Prelude.{Result, Ok, Err}
 use Rattle.std.proofs.Common.{subst}
-use denote.Ref.{Bor}
 use Rattle.predicates_core.specs.Label.{Entry, FitsEntry, showing}
 use Rattle.predicates_core.specs.Formula.{Formula, Leaf, text_of}
 use Rattle.predicates_core.specs.Leaves.{IsExactly}
@@ -11,11 +10,6 @@ use Rattle.predicates_part.specs.declared.variant.VariantPredicate.{VariantPredi
 
 abbrev pub inner_of : {V P : Type 0} → VariantPredicate V P → P
 inner_of p = p.inner
-
--- the value behind a reference that may be absent
-abbrev pub lent : {U : Type 0} → Option (Bor U) → Option U
-lent None = None
-lent (Some r) = Some r.now
 
 abbrev pub value_of_ok : {U E : Type 0} → Result U E → Option U
 value_of_ok (Ok u) = Some u

@@ -6,7 +6,7 @@
 //! let seated = predicate::le(40).of_field("seat", Seat);
 //! let first = predicate::ge(1).of_some_ref("first", first_of);
 //! ```
-ghost use Rattle.std.specs.Prelude.{◌≡◌, [], Some, IfOk, IfSome, codes, false};
+ghost use Rattle.std.specs.Prelude.{◌≡◌, [], Some, IfOk, IfSome, codes, false, option_copied};
 ghost use Rattle.predicates_core.specs.Label.{plain};
 ghost use Rattle.predicates_core.specs.Formula.{Named};
 ghost use Rattle.predicates_core.specs.Leaves.{IsExactly};
@@ -16,7 +16,7 @@ ghost use Rattle.predicates_core.specs.Combined.{IsNamed};
 ghost use Rattle.predicates_core.proofs.CombinedLemmas.{named_text_fits, one_named, has_named};
 ghost use Rattle.predicates_part.specs.Field.{HasOnePart, IsOfPart, IsInfallibleOnPart};
 ghost use Rattle.predicates_part.specs.Field.{one_of_part, owned, borrowed};
-ghost use Rattle.predicates_part.specs.Optional.{IsOfPresent, absent_leaf, lent, one_present};
+ghost use Rattle.predicates_part.specs.Optional.{IsOfPresent, absent_leaf, one_present};
 
 use crate::variant::absent_case;
 use predicates_core::as_static_str::AsStaticStr;
@@ -185,12 +185,12 @@ impl<P: Predicate<U>, F: Fn(&T) -> &U, T, U, N: AsStaticStr> Predicate<T>
 impl<P: Predicate<U>, F: Fn(&T) -> Option<&U>, T, U, N: AsStaticStr> Predicate<T>
     for FieldPredicate<P, F, T, U, N, ByOption> {
     ghost lawful = { λ p. P.lawful p.inner × F.IsAlwaysCallable p.function
-        × HasOnePart F.Fn lent p.function };
+        × HasOnePart F.Fn option_copied p.function };
 
-    ghost formula = { λ p v. IsNamed (N.bytes p.name) (IsOfPart F.Fn lent p.function
+    ghost formula = { λ p v. IsNamed (N.bytes p.name) (IsOfPart F.Fn option_copied p.function
         (IsOfPresent (P.output p.inner) (codes "no value") (P.formula p.inner)) v) };
 
-    ghost infallible = { λ p v. IsInfallibleOnPart F.Fn lent p.function
+    ghost infallible = { λ p v. IsInfallibleOnPart F.Fn option_copied p.function
         (λ held. IfSome held (P.infallible p.inner)) v };
 
     ghost text_fits = { λ p v f. named_text_fits };

@@ -13,13 +13,12 @@
 //! ```
 #![tactic(auto)]
 
-ghost use Rattle.std.specs.Prelude.{◌≡◌};
+ghost use Rattle.std.specs.Prelude.{◌≡◌, option_copied};
 ghost use Rattle.predicates_part.specs.Field.{HasOnePart, owned, borrowed};
 ghost use Rattle.predicates_part.specs.Field.{inner_of, function_of, name_of};
 ghost use Rattle.predicates_part.specs.Length as Length;
 ghost use Rattle.predicates_part.specs.Members as Members;
 ghost use Rattle.predicates_part.specs.Optional as Optional;
-ghost use Rattle.predicates_part.specs.Optional.{lent};
 
 mod field;
 mod length;
@@ -84,7 +83,7 @@ pub trait PredicatePartExt<U>: Predicate<U> {
     where
         Self: Sized,
         requires callable { F.IsAlwaysCallable function }
-        requires one_part { HasOnePart F.Fn lent function }
+        requires one_part { HasOnePart F.Fn option_copied function }
         ensures inner { inner_of result ≡ self }
         ensures function { function_of result ≡ function }
         ensures name { name_of result ≡ name };

@@ -4,7 +4,7 @@
 //! // From here on a proof knows the formulas of `adult` on `person`.
 //! semantics::of(&adult, &person);
 //! ```
-ghost use Rattle.std.specs.Prelude.{◌≡◌, ◌↔◌, [], codes, IfSome};
+ghost use Rattle.std.specs.Prelude.{◌≡◌, ◌↔◌, [], codes, IfSome, option_copied};
 ghost use Rattle.std.specs.List.{AllByRecursion};
 ghost use Rattle.predicates_core.specs.Combined.{IsNamed};
 ghost use Rattle.predicates_core.specs.Formula.{Formula};
@@ -16,7 +16,7 @@ ghost use Rattle.predicates_part.specs.Length as Length;
 ghost use Rattle.predicates_part.specs.Members as Members;
 ghost use Rattle.predicates_part.specs.Members.{applied_text, word};
 ghost use Rattle.predicates_part.specs.Optional as Optional;
-ghost use Rattle.predicates_part.specs.Optional.{IsOfPresent, lent};
+ghost use Rattle.predicates_part.specs.Optional.{IsOfPresent};
 
 use crate::{
     ByField, ByOption, ByReference, ByValue, Field, FieldPredicate, Length, LengthPredicate,
@@ -71,15 +71,15 @@ pub fn of_some_ref<P: Predicate<U>, F: Fn(&T) -> Option<&U>, T, U, N: AsStaticSt
 )
     ensures formula { (f : Formula)
         → ⟦<FieldPredicate<P, F, T, U, N, ByOption> as Predicate<T>>⟧.formula field.now item.now f
-        ↔ IsNamed (N.bytes (name_of field.now)) (IsOfPart F.Fn lent (function_of field.now)
+        ↔ IsNamed (N.bytes (name_of field.now)) (IsOfPart F.Fn option_copied (function_of field.now)
         (IsOfPresent (P.output (inner_of field.now)) (codes "no value")
         (P.formula (inner_of field.now))) item.now) f }
     ensures lawful { ⟦<FieldPredicate<P, F, T, U, N, ByOption> as Predicate<T>>⟧.lawful field.now
         ↔ P.lawful (inner_of field.now) × F.IsAlwaysCallable (function_of field.now)
-        × HasOnePart F.Fn lent (function_of field.now) }
+        × HasOnePart F.Fn option_copied (function_of field.now) }
     ensures infallible { ⟦<FieldPredicate<P, F, T, U, N, ByOption> as Predicate<T>>⟧.infallible
         field.now item.now
-        ↔ IsInfallibleOnPart F.Fn lent (function_of field.now)
+        ↔ IsInfallibleOnPart F.Fn option_copied (function_of field.now)
         (λ held. IfSome held (P.infallible (inner_of field.now))) item.now }
 {}
 

@@ -4,11 +4,11 @@
 //! let adult = predicate::ge(18).of_some();
 //! let refused = predicate::eq(403).of_err();
 //! ```
-ghost use Rattle.std.specs.Prelude.{◌≡◌, ℕ, [], List, Option, Some, None, codes, false, IfOk, IfSome};
+ghost use Rattle.std.specs.Prelude.{◌≡◌, ℕ, [], List, Option, Some, None, codes, false, IfOk, IfSome, option_copied};
 ghost use Rattle.predicates_core.specs.Leaves.{IsExactly};
 ghost use Rattle.predicates_core.specs.Parts.{part};
 ghost use Rattle.predicates_core.specs.Shows.{IsCaseOf};
-ghost use Rattle.predicates_part.specs.Optional.{IsOfPresent, inner_of, absent_leaf, lent};
+ghost use Rattle.predicates_part.specs.Optional.{IsOfPresent, inner_of, absent_leaf};
 ghost use Rattle.predicates_part.specs.Optional.{value_of_ok, value_of_err};
 ghost use Rattle.predicates_part.specs.Optional.{present_text_fits, one_present};
 ghost use Rattle.predicates_part.specs.Optional.{present_formula, has_present};
@@ -33,7 +33,7 @@ pub trait Variant<T> {
 
     /// The value, where the item is of the variant.
     fn value(item: &T) -> Option<&Self::Value>
-        ensures { lent result ≡ value_of item.now };
+        ensures { option_copied result ≡ value_of item.now };
 
     /// What is said where the item is not of the variant.
     fn absent() -> &'static str

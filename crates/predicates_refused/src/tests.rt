@@ -12,7 +12,7 @@ mod readers;
 mod reflected;
 mod rows;
 mod runs;
-mod semantics;
+mod laws;
 mod stacked;
 mod streams;
 mod sweep;

@@ -9,6 +9,7 @@ mod flags;
 mod functions;
 mod functions_of_fields;
 mod laws;
+mod lists;
 mod memberships;
 mod names;
 mod part;

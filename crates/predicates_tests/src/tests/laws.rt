@@ -64,8 +64,9 @@ fn equal_functions(rt: HostRuntime) -> Result<(), Fail> {
     laws::de_morgan(&lt(3i64), &lt(5i64), &9);
     laws::exclusive_or(&lt(3i64), &lt(5i64), &4);
     laws::first_reasons();
+    laws::one_child();
     laws::one_case(&both, &4);
-    laws::exactly_one(&both, &4);
+    laws::one_verdict(&both, &4);
     laws::same_function(&both.not(), &lt(3i64).not().or(lt(5i64).not()), &4);
     assert_eq!(rt; verdict(rt.alloc(), &both, &4)?, Some(false));
     Ok(())

@@ -69,7 +69,8 @@ fn counts_of_own(alloc: Global) -> Result<[(u32, u32, u32); 3], AllocError> {
 fn the_right_part_counts_where_the_left_decides_nothing(rt: HostRuntime) -> Result<(), Fail> {
     let [first, second, last_first] = counts_of_own(rt.alloc())?;
     assert_eq!(rt; first, (0, 0, 0));
-    assert_eq!(rt; second, (1, 1, 1));
+    // As the library's combinators, it evaluates before it makes a case.
+    assert_eq!(rt; second, (1, 2, 1));
     assert_eq!(rt; last_first, (1, 1, 1));
     Ok(())
 }

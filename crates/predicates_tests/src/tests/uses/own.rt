@@ -3,7 +3,7 @@ use super::has_lines;
 use predicates::custom::{Operator, bare_case, join_case, leaf, not_case};
 use predicates::prelude::*;
 use predicates_testing::{describe, explains, is_described, render_verdict};
-use predicates_uses::{Either, FortyTwo, IsTheAnswer, LastFirst, OfLength, is_known};
+use predicates_uses::{Either, FortyTwo, IsTheAnswer, LastFirst, is_known};
 use std::alloc::{AllocError, Global};
 use std::test::Fail;
 
@@ -217,27 +217,6 @@ fn known_numbers(rt: HostRuntime) -> Result<(), Fail> {
     for (number, expected) in [(0, true), (9, true), (10, false), (41, false), (42, true)] {
         assert_eq!(rt; is_known(rt.alloc(), &number)?, expected, "{number}");
     }
-    Ok(())
-}
-
-// Whether a text of so many bytes is short or not, and what explains it shows the length.
-fn is_short(alloc: Global, item: &str, length: usize, expected: bool) -> Result<bool, AllocError> {
-    let short = OfLength::new(predicate::le(3));
-    let item = String::from_str(alloc, item)?;
-    let lines = format!(in alloc; "var <= 3 = {expected}\n  - var: {length}\n")?;
-    explains(alloc, &short, &item, lines.as_str())
-}
-
-#[test]
-fn an_adapter_of_the_callers_own(rt: HostRuntime) -> Result<(), Fail> {
-    let alloc = rt.alloc();
-    for (item, length, expected) in [("", 0, true), ("abc", 3, true), ("äbc", 4, false)] {
-        assert!(rt; is_short(alloc, item, length, expected)?, "{item}");
-    }
-    let constant = OfLength::new(predicate::always::<usize>());
-    assert!(rt; is_described(alloc, &constant, "true\nvalue=true\n")?);
-    let named = OfLength::new(IsTheAnswer.name("n"));
-    assert!(rt; is_described(alloc, &named, "n\nn: var.is_the_answer()\n")?);
     Ok(())
 }
 
