@@ -27,7 +27,10 @@ fn row(alloc: Global, leaves: usize) -> Result<Box<TextCheck>, AllocError> {
         check = Box::new(alloc, TextCheck::Join(Operator::And, check, leaf(alloc)?))?;
     }
     let last = TextCheck::Ends(ends_with(String::from_str(alloc, "b")?));
-    Ok(Box::new(alloc, TextCheck::Join(Operator::And, check, Box::new(alloc, last)?))?)
+    Ok(Box::new(
+        alloc,
+        TextCheck::Join(Operator::And, check, Box::new(alloc, last)?),
+    )?)
 }
 
 // So many `xor` over leaves; the checks made so far stand on the right or on the left.

@@ -135,7 +135,15 @@ impl<Q: Quantifier, P: Predicate<Item>, Item> Predicate<Item> for RulesPredicate
         item: &Item,
     ) -> Result<Option<Case>, AllocError> {
         let rules = self.rules.as_slice();
-        parts_case(alloc, self, rules, "rule", Q::one_suffices(), expected, item)
+        parts_case(
+            alloc,
+            self,
+            rules,
+            "rule",
+            Q::one_suffices(),
+            expected,
+            item,
+        )
     }
 }
 

@@ -21,8 +21,8 @@ ghost use Rattle.predicates_boolean.specs.Not as Not;
 ghost use Rattle.predicates_boolean.specs.Rules.{rules_of, word};
 
 use crate::boolean::{JoinOperator, JoinPredicate, NotPredicate};
-use crate::rules::RulesPredicate;
 use crate::name::NamePredicate;
+use crate::rules::RulesPredicate;
 use predicates_core::Predicate;
 use predicates_core::as_static_str::AsStaticStr;
 use predicates_core::custom::Quantifier;

@@ -79,23 +79,29 @@ two l r = more (codes "left") l (one (codes "right") r)
 module _ (op : Operator) (label : Label) (l r : Formula) where
   both_below : {c d : Tree CaseNode} (x : Explains l c) (y : Explains r d) → BothCount (apply op) (truth l) (truth r) → IsShownBelow op label (two l r) ((codes "left", c) ∷ (codes "right", d) ∷ [])
   unfolding Shows
-  both_below {c} {d} x y counts =
-      (_, both_first (pair_joins op label l r) counts x.leaves y.leaves x.first y.first,
-      shows_both (Shows l) (codes "left") (ShowsParts (one (codes "right") r)) (size l) x.leaves y.leaves c (branch (codes "right") d.root d.children empty) (numbers_of l x.leaves x.first) (not_empty l x.leaves x.first) x.shown
-      (shows_part (Shows r) (codes "right") empty y.leaves d (not_empty r y.leaves y.first) y.shown))
+  both_below {c} {d} x y counts = (
+    _,
+    both_first (pair_joins op label l r) counts x.leaves y.leaves x.first y.first,
+    shows_both (Shows l) (codes "left") (ShowsParts (one (codes "right") r)) (size l) x.leaves y.leaves c (branch (codes "right") d.root d.children empty) (numbers_of l x.leaves x.first) (not_empty l x.leaves x.first) x.shown
+        (shows_part (Shows r) (codes "right") empty y.leaves d (not_empty r y.leaves y.first) y.shown),
+  )
 
   left_below : {c : Tree CaseNode} (x : Explains l c) → LeftDecides (apply op) (truth l) (truth r) → IsShownBelow op label (two l r) ((codes "left", c) ∷ [])
   unfolding Shows
-  left_below {c} x counts =
-      (_, left_first (pair_joins op label l r) counts x.leaves x.first,
-      shows_left (Shows l) (codes "left") (ShowsParts (one (codes "right") r)) (size l) x.leaves c (numbers_of l x.leaves x.first) (not_empty l x.leaves x.first) x.shown refl)
+  left_below {c} x counts = (
+    _,
+    left_first (pair_joins op label l r) counts x.leaves x.first,
+    shows_left (Shows l) (codes "left") (ShowsParts (one (codes "right") r)) (size l) x.leaves c (numbers_of l x.leaves x.first) (not_empty l x.leaves x.first) x.shown refl,
+  )
 
   right_below : {d : Tree CaseNode} (y : Explains r d) → RightDecides (apply op) (truth l) (truth r) → IsShownBelow op label (two l r) ((codes "right", d) ∷ [])
   unfolding Shows
-  right_below {d} y counts =
-      (_, right_first (pair_joins op label l r) counts y.leaves y.first,
-      shows_right (Shows l) (codes "left") (ShowsParts (one (codes "right") r)) (size l) y.leaves (branch (codes "right") d.root d.children empty)
-      (shows_part (Shows r) (codes "right") empty y.leaves d (not_empty r y.leaves y.first) y.shown))
+  right_below {d} y counts = (
+    _,
+    right_first (pair_joins op label l r) counts y.leaves y.first,
+    shows_right (Shows l) (codes "left") (ShowsParts (one (codes "right") r)) (size l) y.leaves (branch (codes "right") d.root d.children empty)
+        (shows_part (Shows r) (codes "right") empty y.leaves d (not_empty r y.leaves y.first) y.shown),
+  )
 
 -- the node fits and its children show the parts
 explains_join : (op : Operator) (fs : Formulas) (b : Bool) (t : Tree CaseNode) (text : Entry) (cases : List NamedCase) → truth (Join op (plain text) fs) ≡ b → IsNode text b cases t → IsShownBelow op (plain text) fs cases → Explains (Join op (plain text) fs) t

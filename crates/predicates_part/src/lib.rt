@@ -29,13 +29,13 @@ mod variant;
 pub use field::{ByField, ByOption, ByReference, ByValue, Field, FieldPredicate};
 pub use length::{Length, LengthPredicate};
 pub use members::{AnyPredicate, EachPredicate, MembersPredicate};
+use predicates_core::Predicate;
+use predicates_core::as_static_str::AsStaticStr;
+use std::marker::PhantomData;
 pub use variant::{
     ErrPredicate, ErrVariant, OkPredicate, OkVariant, SomePredicate, SomeVariant, Variant,
     VariantPredicate,
 };
-use predicates_core::Predicate;
-use predicates_core::as_static_str::AsStaticStr;
-use std::marker::PhantomData;
 
 /// Makes a predicate of parts one of the items that have them.
 pub trait PredicatePartExt<U>: Predicate<U> {

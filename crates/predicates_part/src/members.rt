@@ -103,7 +103,15 @@ impl<Q: Quantifier, P: Predicate<U>, U> Predicate<Vec<U>> for MembersPredicate<Q
         item: &Vec<U>,
     ) -> Result<Option<Case>, AllocError> {
         let members = item.as_slice();
-        members_case(alloc, self, &self.inner, "item", Q::one_suffices(), expected, members)
+        members_case(
+            alloc,
+            self,
+            &self.inner,
+            "item",
+            Q::one_suffices(),
+            expected,
+            members,
+        )
     }
 }
 

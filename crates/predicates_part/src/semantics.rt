@@ -134,10 +134,7 @@ pub fn variant<V: Variant<T>, P: Predicate<V::Value>, T>(
 
 /// On a list with members its formulas are a join over a formula of the inner predicate on each, in
 /// order, under the name `item`; on one without it is one leaf.
-pub fn members<Q: Quantifier, P: Predicate<U>, U>(
-    members: &MembersPredicate<Q, P>,
-    item: &Vec<U>,
-)
+pub fn members<Q: Quantifier, P: Predicate<U>, U>(members: &MembersPredicate<Q, P>, item: &Vec<U>)
     ensures formula { (f : Formula)
         → ⟦<MembersPredicate<Q, P> as Predicate<Vec<U>>>⟧.formula members.now item.now f
         ↔ IsOfMembers Q.one_suffices

@@ -85,7 +85,15 @@ impl<P: Predicate<Item>, Q: Predicate<Item>, Item> Predicate<Item> for Either<P,
         expected: bool,
         item: &Item,
     ) -> Result<Option<Case>, AllocError> {
-        join_case(alloc, Operator::Or, self, &self.left, &self.right, expected, item)
+        join_case(
+            alloc,
+            Operator::Or,
+            self,
+            &self.left,
+            &self.right,
+            expected,
+            item,
+        )
     }
 }
 

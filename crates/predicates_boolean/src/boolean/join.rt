@@ -167,8 +167,9 @@ impl<O: JoinOperator, M1: Total<Item>, M2: Total<Item>, Item> Total<Item>
     ghost has_formula = { λ p v. has_pair (M1.has_formula p.a v) (M2.has_formula p.b v) };
 }
 
-impl<O: JoinOperator, M1: ReadsContent<Item>, M2: ReadsContent<Item>, Item: Content>
-    ReadsContent<Item> for JoinPredicate<O, M1, M2, Item> {
+impl<O: JoinOperator, M1: ReadsContent<Item>, M2: ReadsContent<Item>, Item: Content> ReadsContent<
+    Item,
+> for JoinPredicate<O, M1, M2, Item> {
     ghost content_formula = { λ p bytes. pair O.joins_by
         (plain (infix_text (sign O.joins_by) (M1.output p.a) (M2.output p.b)))
         (M1.content_formula p.a bytes)

@@ -9,7 +9,11 @@ use std::test::Fail;
 
 // The lines of the verdict's case on the list, for `each` and for `any`.
 const MEMBERS: [(&[u32], &str, &str); 5] = [
-    (&[], "each(var >= 18) = true\n  - len: 0\n", "any(var >= 18) = false\n  - len: 0\n"),
+    (
+        &[],
+        "each(var >= 18) = true\n  - len: 0\n",
+        "any(var >= 18) = false\n  - len: 0\n",
+    ),
     (
         &[17],
         "\
@@ -101,7 +105,9 @@ fn numbers_below(alloc: Global, count: u32) -> Result<Vec<u32>, AllocError> {
 // The children of the case that holds of each number, and the verdict where the last one does not.
 fn ask_a_thousand(alloc: Global) -> Result<(usize, bool, bool), AllocError> {
     let numbers = numbers_below(alloc, 1_000)?;
-    let all = predicate::lt(1_000u32).of_each().find_case(alloc, true, &numbers)?;
+    let all = predicate::lt(1_000u32)
+        .of_each()
+        .find_case(alloc, true, &numbers)?;
     let shown = match &all {
         Some(case) => case.root().children().count(),
         None => 0,
@@ -114,7 +120,11 @@ each(var < 999) = false
     - var: 999
 ";
     let is_last = explains(alloc, &last, &numbers, lines)?;
-    Ok((shown, is_last, predicate::ge(999u32).of_any().eval(alloc, &numbers)?))
+    Ok((
+        shown,
+        is_last,
+        predicate::ge(999u32).of_any().eval(alloc, &numbers)?,
+    ))
 }
 
 #[test]
@@ -129,7 +139,12 @@ fn explains_lists(alloc: Global, lists: [&[u32]; 2], lines: &str) -> Result<bool
     for members in lists {
         list.push(Vec::from_slice(alloc, members)?)?;
     }
-    explains(alloc, &predicate::ge(18u32).of_any().of_each(), &list, lines)
+    explains(
+        alloc,
+        &predicate::ge(18u32).of_any().of_each(),
+        &list,
+        lines,
+    )
 }
 
 // Whether it is explained under a combinator and under a name.
@@ -214,7 +229,10 @@ any_of(var >= 2) = false
     - var: 1
 ";
     assert!(rt; explains_rules(alloc, &[2], 1, all, any)?);
-    let (all, any) = ("all_of() = true\n  - len: 0\n", "any_of() = false\n  - len: 0\n");
+    let (all, any) = (
+        "all_of() = true\n  - len: 0\n",
+        "any_of() = false\n  - len: 0\n",
+    );
     assert!(rt; explains_rules(alloc, &[], 1, all, any)?);
     Ok(())
 }
@@ -264,7 +282,12 @@ fn first_of(list: &Vec<u32>) -> Option<&u32>
 
 fn explains_first(alloc: Global, members: &[u32], lines: &str) -> Result<bool, AllocError> {
     let list = Vec::from_slice(alloc, members)?;
-    explains(alloc, &predicate::ge(18u32).of_some_ref("first", first_of), &list, lines)
+    explains(
+        alloc,
+        &predicate::ge(18u32).of_some_ref("first", first_of),
+        &list,
+        lines,
+    )
 }
 
 #[test]
@@ -325,7 +348,10 @@ fn explains_length(
     lines: &str,
 ) -> Result<bool, AllocError> {
     let short = predicate::le(3).of_len();
-    let (item, list) = (String::from_str(alloc, item)?, Vec::from_slice(alloc, members)?);
+    let (item, list) = (
+        String::from_str(alloc, item)?,
+        Vec::from_slice(alloc, members)?,
+    );
     Ok(explains(alloc, &short, &item, lines)? && explains(alloc, &short, &list, lines)?)
 }
 
@@ -344,7 +370,11 @@ fn lengths(rt: HostRuntime) -> Result<(), Fail> {
 // Adds the leaves that a case of `lt(3).or(lt(5))` keeps, the first of which has the number.
 fn add_kept(kept: &mut Vec<usize>, case: &CaseView<'_>, first: usize) -> Result<(), AllocError> {
     for CaseChild { name, .. } in case.children() {
-        kept.push(if name == "left" { first } else { first.saturating_add(1) })?;
+        kept.push(if name == "left" {
+            first
+        } else {
+            first.saturating_add(1)
+        })?;
     }
     Ok(())
 }
@@ -438,7 +468,10 @@ fn explains_by_first_reasons(alloc: Global, number: u32, length: u32) -> Result<
 fn first_reasons_of_all_lists_of_at_most_four_members(rt: HostRuntime) -> Result<(), Fail> {
     for (length, lists) in [(1u32, 3u32), (2, 9), (3, 27), (4, 81)] {
         for number in 0..lists {
-            assert!(rt; explains_by_first_reasons(rt.alloc(), number, length)?, "{number} of {length}");
+            assert!(rt;
+                explains_by_first_reasons(rt.alloc(), number, length)?,
+                "{number} of {length}"
+            );
         }
     }
     Ok(())

@@ -3,9 +3,7 @@ use super::{file, has_lines};
 use predicates::path::{FileType, PathFault, Snapshot};
 use predicates::prelude::*;
 use predicates_testing::text;
-use predicates_uses::{
-    Around, PolicyFault, find_plain_case, is_copy, no_script, read_policy,
-};
+use predicates_uses::{Around, PolicyFault, find_plain_case, is_copy, no_script, read_policy};
 use std::alloc::{AllocError, Global};
 use std::test::Fail;
 

@@ -65,8 +65,7 @@ loop-check-preserved t c =
     let check = c.loop-check.check.now in
     let whole : (f : Formula) → HasFormula check bytes f → IsPair (operator_of check) (check_text check) (HasFormula left bytes) (HasFormula right bytes) f = of_three c.in-And.is (λ e f h. rw e (rw e at h)) (λ e f h. rw e (rw e at h)) (λ e f h. rw e (rw e at h)) in
     let weighs : weight check ≡ 2 * weight left + weight right + 1 = of_three c.in-And.is (λ e. rw e refl) (λ e. rw e refl) (λ e. rw e refl) in
-    let infallible : IsInfallibleCheck check → IsInfallibleCheck right = of_three c.in-And.is (λ e h. (rw e at h).1) (λ e h. (rw e at h).1) (λ e h. (rw e at h).1) in
-    (
+    let infallible : IsInfallibleCheck check → IsInfallibleCheck right = of_three c.in-And.is (λ e h. (rw e at h).1) (λ e h. (rw e at h).1) (λ e h. (rw e at h).1) in (
       λ b of_part. subst (HasTruth _) (over op a b c.loop-check.wanted asked ∙ ap (λ z. beq b (not (beq z c.loop-check.wanted))) (sym c.apply.ensures)) (c.loop-check.invariant.0 (apply op a b) (truth_of_fewer whole (rw (← c.operator-operator.ensures) (HasTruth-pair op (rw c.deref-in-And.ensures at c.in_ok-left_holds-in-And.ensures.truth) (rw c.deref-check-in-And.ensures at of_part))))),
       λ h. rw c.deref-check-in-And.ensures (infallible (c.loop-check.invariant.1 h)),
       rw c.deref-check-in-And.ensures (omega (arith, weighs, c.loop-check.invariant.2)),
