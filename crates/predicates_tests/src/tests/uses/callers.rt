@@ -5,8 +5,8 @@ use predicates::prelude::*;
 use predicates::reflection::render;
 use predicates_testing::text;
 use predicates_uses::{
-    Around, IsTheAnswer, PolicyFault, Sifted, Unmet, find_plain_case, is_copy,
-    no_script, read_policy, require, sift, sift_by,
+    Around, IsTheAnswer, PolicyFault, Sifted, Unmet, find_plain_case, is_copy, no_script,
+    read_policy, require, sift, sift_by,
 };
 use std::alloc::{AllocError, Global};
 use std::test::Fail;
