@@ -28,6 +28,10 @@ no_u64_text (unsigned n) = codes "is negative"
 no_u64_text (negative z) = codes "is negative"
 no_u64_text (float x) = codes "is a float"
 
+-- what would be said of a number that is no `f64`; there is none
+abbrev pub no_f64_text : Num → List ℕ
+no_f64_text n = codes "is no f64"
+
 -- what is said of a value that is no number of the type
 abbrev pub no_number_text : (Num → List ℕ) → Data → List ℕ
 no_number_text misfit null = kind_text null

@@ -108,8 +108,8 @@ pub trait PredicateJsonExt: Sized {
             ↔ IsOfHeld (Self.output self) (kind_text (view v)) (Self.formula self)
             (held_object v) f };
 
-    /// The same of a JSON integer, read as an `i64` or a `u64`. A number that the type has not is
-    /// of another kind: a float, even `5.0`, one that is too large, or a negative one for `u64`.
+    /// The same of a JSON number, read as an `i64`, a `u64` or an `f64`. A number that the type has
+    /// not is of another kind: for the first two a float, even `5.0`, or one that is out of range.
     fn of_number<N: JsonNumber>(self) -> NumberPredicate<Self, N>
     where
         Self: Predicate<N>,

@@ -3,12 +3,13 @@
 //! ```
 //! let adult = predicate::ge(18i64).of_number();
 //! ```
-ghost use Rattle.std.specs.Prelude.{◌≡◌, [], List, codes, IfSome, Option, option_and_then, ℕ};
+ghost use Rattle.std.specs.Prelude.{◌≡◌, [], List, codes, Some, IfSome, Option, option_and_then, ℕ};
 ghost use Rattle.predicates_core.specs.Parts.{part};
 ghost use Rattle.serde_json.specs.Data.{Num};
-ghost use Rattle.serde_json.specs.Find.{as_i64, as_u64, as_number};
+ghost use Rattle.serde_json.specs.Find.{as_i64, as_u64, as_number, to_float};
 ghost use Rattle.serde_json.specs.View.{view, number_view};
-ghost use Rattle.predicates_json.specs.Kinds.{no_i64_text, no_u64_text, no_number_text};
+ghost use Rattle.predicates_json.specs.Kinds.{no_i64_text, no_u64_text, no_f64_text};
+ghost use Rattle.predicates_json.specs.Kinds.{no_number_text};
 ghost use Rattle.predicates_json.specs.Held.{IsOfHeld, held_text_fits, one_held, held_formula};
 ghost use Rattle.predicates_json.specs.Held.{has_held};
 ghost use Rattle.predicates_json.specs.NumberParts.{inner_of};
@@ -22,7 +23,8 @@ use std::alloc::{AllocError, Global};
 use std::fmt;
 use std::marker::PhantomData;
 
-/// A type of integers that a JSON number may be read as: `i64` or `u64`.
+/// A type that a JSON number may be read as: `i64`, `u64`, or `f64`, which has each number, an
+/// integer as the float that is nearest.
 pub trait JsonNumber: Sized + Copy + Drop {
     // The number, if the type has it.
     ghost number_as: { Num → Option Self };
@@ -75,6 +77,20 @@ impl JsonNumber for u64 {
     }
 }
 
+impl JsonNumber for f64 {
+    ghost number_as = { λ n. Some (to_float n) };
+
+    ghost misfit_text = { no_f64_text };
+
+    fn from_number(number: &Number) -> Option<f64> {
+        number.as_f64()
+    }
+
+    fn misfit(_number: &Number) -> &'static str {
+        "is no f64"
+    }
+}
+
 // What is said of a value that is no number of the type.
 fn no_number<N: JsonNumber>(value: &Value) -> &'static str
     ensures { result.now ≡ no_number_text N.misfit_text (view value.now) }
@@ -96,8 +112,8 @@ fn number_of<N: JsonNumber>(value: &Value) -> Option<N>
 }
 
 /// Holds of a number of the type where its inner predicate holds of it, and not of another value.
-/// A number with a point or an exponent is a float, even `5.0`, and no `i64`. Made by `of_number` of
-/// `PredicateJsonExt`.
+/// A number with a point or an exponent is a float, even `5.0`, and no `i64` or `u64`. Made by
+/// `of_number` of `PredicateJsonExt`.
 #[derive(Debug, Clone, Copy, PartialEq, Eq, Drop)]
 pub struct NumberPredicate<P, N> {
     pub(crate) inner: P,

@@ -49,6 +49,26 @@ fn unsigned_numbers(rt: HostRuntime) -> Result<(), Fail> {
     Ok(())
 }
 
+const FLOATS: [Row; 5] = [
+    ("0.5", true, ""),
+    ("1", true, ""),
+    ("18446744073709551615", true, ""),
+    ("-1e-3", false, ""),
+    ("\"0.5\"", false, "error: is a string"),
+];
+
+#[test]
+fn floats(rt: HostRuntime) -> Result<(), Fail> {
+    let alloc = rt.alloc();
+    let half = predicate::function(|number: &f64| *number >= 0.5)
+        .fn_name("half")
+        .of_number();
+    for row in FLOATS {
+        assert!(rt; is_leaf(alloc, &half, "half(var)", row)?);
+    }
+    Ok(())
+}
+
 const TEXTS: [Row; 4] = [
     ("\"Ann\"", true, "var: Ann"),
     ("\"\\u0042ob\"", false, "var: Bob"),

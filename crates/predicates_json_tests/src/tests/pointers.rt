@@ -1,7 +1,7 @@
 //! The examples of RFC 6901, and pointers that lead nowhere.
 use super::helpers::explains_json;
 use predicates::prelude::*;
-use predicates_json::{PredicateJsonExt, has_pointer, lacks_pointer, value_at};
+use predicates_json::{PredicateJsonExt, has_pointer, is_pointer, lacks_pointer, value_at};
 use predicates_testing::text;
 use serde_json::{Error, Value};
 use std::alloc::Global;
@@ -108,5 +108,26 @@ fn presence(rt: HostRuntime) -> Result<(), Fail> {
     let free = lacks_pointer(StaticText::new("/seat"));
     assert!(rt; explains_json(alloc, &free, "{}", "missing(/seat) = true\n")?);
     assert!(rt; explains_json(alloc, &free, "{\"seat\":13}", "missing(/seat) = false\n")?);
+    Ok(())
+}
+
+const TEXTS: [(&str, bool); 10] = [
+    ("", true),
+    ("/", true),
+    ("/a~1b", true),
+    ("/m~0n/~01", true),
+    ("/ä/0", true),
+    ("age", false),
+    ("a/b", false),
+    ("/m~n", false),
+    ("/o~", false),
+    ("/~2", false),
+];
+
+#[test]
+fn texts_of_pointers(rt: HostRuntime) -> Result<(), Fail> {
+    for (text, expected) in TEXTS {
+        assert_eq!(rt; is_pointer(text), expected);
+    }
     Ok(())
 }
