@@ -8,8 +8,7 @@ use predicates_testing::text;
 use std::alloc::{AllocError, Global};
 use std::test::Fail;
 
-const ELEVEN: &str =
-    "(var >= 5 && var <= 10) = false\n  right: var <= 10 = false\n    - var: 11\n";
+const ELEVEN: &str = "(var >= 5 && var <= 10) = false\n  right: var <= 10 = false\n    - var: 11\n";
 
 // Whether the requirement was met, or its error has this text, as `Display` and as `Debug`.
 fn ends_in(alloc: Global, ended: Result<(), Unmet>, expected: &str) -> Result<bool, AllocError> {
