@@ -4,7 +4,7 @@ use super::stacked::stacked;
 use super::sweep::Memory::{Never, Taken};
 use super::sweep::{Call, sweep};
 use predicates::boolean::PredicateBooleanExt;
-use predicates::check::{Unmet, check_all, expect, failures, require, require_as, sift};
+use predicates::check::{Unmet, add_failure, check_all, expect, failures, require, require_as, sift};
 use predicates::ord::{ge, le};
 use predicates_core::reflection::render_onto;
 use predicates_explain::{RunFault, TextCheck, filter_lines};
@@ -76,7 +76,9 @@ enum Failing {
 
 fn failing_rules(alloc: Global, out: &mut String) -> Result<(), AllocError> {
     let rules = [ge(5i64), ge(10), ge(20)];
-    for case in &failures(alloc, &rules, &7)? {
+    let mut cases = failures(alloc, &rules, &7)?;
+    add_failure(alloc, &mut cases, &le(5i64), &7)?;
+    for case in &cases {
         render_onto(out, case)?;
     }
     Ok(())
@@ -124,7 +126,7 @@ const FAILING: [(&str, Failing, &str); 3] = [
     (
         "failures",
         Failing::Rules,
-        "var >= 10 = false\n  - var: 7\nvar >= 20 = false\n  - var: 7\n",
+        "var >= 10 = false\n  - var: 7\nvar >= 20 = false\n  - var: 7\nvar <= 5 = false\n  - var: 7\n",
     ),
     (
         "sift",
