@@ -1,5 +1,5 @@
 -- Things that are told apart by the truths of their formulas.
-use Rattle.std.specs.Prelude.{◌≡◌, Bool, false, not, List, [], ◌∷◌, map, filter, All}
+use Rattle.std.specs.Prelude.{◌≡◌, Bool, true, false, not, List, [], ◌∷◌, ◌++◌, map, filter, All}
 use Rattle.predicates_core.specs.Formula.{Formula, HasTruth}
 use Rattle.predicates_core.specs.Tree.{Tree}
 use Rattle.predicates_core.specs.Describe.{CaseNode}
@@ -39,3 +39,9 @@ about formula item rule = formula rule item
 -- a case that explains why the thing does not hold
 abbrev pub Explains : {A : Type 0} → (A → Formula → Type 0) → A → Tree CaseNode → Type 0
 Explains F thing case = IsCaseOf (F thing) false case
+
+-- what one rule adds to some cases: nothing where its formulas are true, and a case that explains
+-- it where they are false
+pub data IsAdded (F : Formula → Type 0) (old new : List (Tree CaseNode)) : Type 0 where
+  none : HasTruth F true → new ≡ old → IsAdded F old new
+  one : (case : Tree CaseNode) → IsCaseOf F false case → new ≡ old ++ case ∷ [] → IsAdded F old new

@@ -23,6 +23,6 @@ mod unmet;
 
 pub use expectation::{Expectation, Failure, check_all, expect};
 pub use requirement::{require, require_as};
-pub use rules::failures;
+pub use rules::{add_failure, failures};
 pub use sifted::{Rejection, Sifted, sift};
 pub use unmet::Unmet;

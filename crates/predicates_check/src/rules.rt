@@ -1,10 +1,37 @@
 //! All rules that do not hold of an item.
-ghost use Rattle.std.specs.Prelude.{IfOk};
-ghost use Rattle.predicates_check.specs.Told.{HasFailures, Explains, about};
+ghost use Rattle.std.specs.Prelude.{◌≡◌, IfOk, OnErr, OnOk};
+ghost use Rattle.predicates_check.specs.Told.{HasFailures, Explains, IsAdded, about};
 
 use predicates_core::Predicate;
 use predicates_core::reflection::Case;
 use std::alloc::{AllocError, Global};
+
+/// Adds the case of the rule where it does not hold of the item, and nothing where it holds: for
+/// rules of several types, one call for each.
+///
+/// It takes memory for the case. Where that is refused, the cases are as before.
+///
+/// ```
+/// let mut cases = Vec::new(alloc);
+/// add_failure(alloc, &mut cases, &adult, &guest)?;
+/// add_failure(alloc, &mut cases, &known, &guest)?;
+/// ```
+pub fn add_failure<P: Predicate<Item>, Item>(
+    alloc: Global,
+    cases: &mut Vec<Case>,
+    rule: &P,
+    item: &Item,
+) -> Result<(), AllocError>
+    requires { P.lawful rule.now }
+    ensures added { OnOk result
+        (IsAdded (P.formula rule.now item.now) cases.old.items cases.new.items) }
+    ensures refused { OnErr result (cases.new.items ≡ cases.old.items) }
+{
+    match rule.find_case(alloc, false, item)? {
+        None => Ok(()),
+        Some(case) => Ok(cases.push(case)?),
+    }
+}
 
 /// One case for each rule that does not hold of the item, in their order: all failures, where the
 /// case of `and` shows the first reason alone. It takes memory for the cases.

@@ -41,10 +41,7 @@ impl fmt::Debug for Unmet {
     ghost debug_output = { λ unmet. Some (unmet_text unmet) };
 
     fn fmt<W: fmt::Write>(&self, f: &mut fmt::Formatter<W>) -> fmt::Result {
-        match self {
-            Unmet::Fails(lines) => write!(f, "{lines}"),
-            Unmet::NoMemory => write!(f, "no memory"),
-        }
+        write!(f, "{self}")
     }
 }
 

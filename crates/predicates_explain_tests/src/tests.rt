@@ -1,4 +1,5 @@
 mod derives;
+mod filters;
 mod numbers;
 mod program;
 mod streams;

@@ -11,6 +11,7 @@ mod patterns;
 mod predicate_calls;
 mod readers;
 mod reflected;
+mod requirements;
 mod rows;
 mod runs;
 mod stacked;

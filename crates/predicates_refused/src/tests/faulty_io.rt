@@ -1,8 +1,9 @@
-//! The two worked runs, byte by byte: with a fault at each byte that is read or written, and cut short.
+//! The two worked runs and a filter, byte by byte: with a fault at each byte that is read or written,
+//! and cut short.
 use super::runs::{NUMBERS, SEVEN};
 use super::stacked::stacked;
 use super::streams::{Narrow, Slow};
-use predicates_explain::{RunFault, TextCheck, run_between, run_text};
+use predicates_explain::{RunFault, TextCheck, filter_lines, run_between, run_text};
 use std::alloc::{AllocError, Global};
 use std::io::ErrorKind;
 use std::process::Abort;
@@ -11,10 +12,12 @@ use std::test::Fail;
 const BLANK: &str =
     "line 1: true\n(var.is_empty() || var.contains(a)) = true\n  left: var.is_empty() = true\n    - var: \n";
 
-// A run over numbers between 5 and 10, or over texts by the check.
+// A run over numbers between 5 and 10, or over texts by the check; or, with the wanted verdict, a
+// filter by it.
 #[derive(Clone, Copy)]
 struct Run<'a> {
     check: Option<&'a TextCheck>,
+    wanted: Option<bool>,
     input: &'a [u8],
     whole: &'a [u8],
 }
@@ -26,9 +29,13 @@ impl Run<'_> {
         reader: &mut Slow<'_>,
         writer: &mut Narrow,
     ) -> Result<bool, RunFault> {
-        match self.check {
-            Some(check) => run_text(alloc, check, reader, writer),
-            None => run_between(alloc, 5, 10, reader, writer),
+        match (self.check, self.wanted) {
+            (Some(check), Some(wanted)) => {
+                let counts = filter_lines(alloc, check, wanted, reader, writer)?;
+                Ok(counts.not_utf8 == 0)
+            }
+            (Some(check), None) => run_text(alloc, check, reader, writer),
+            (None, _) => run_between(alloc, 5, 10, reader, writer),
         }
     }
 }
@@ -138,6 +145,7 @@ fn reads<R: Abort + AllocGlobal>(
 fn numbers(rt: HostRuntime) -> Result<(), Fail> {
     let run = Run {
         check: None,
+        wanted: None,
         input: b"7\n11\n4\n",
         whole: NUMBERS.as_bytes(),
     };
@@ -151,11 +159,26 @@ fn texts(rt: HostRuntime) -> Result<(), Fail> {
     let stack = stacked(rt.alloc(), &["empty", "trim", "contains=a", "or"])?;
     let run = Run {
         check: stack.first(),
+        wanted: None,
         input: b"  \n",
         whole: BLANK.as_bytes(),
     };
     writes(&rt, run)?;
     reads(&rt, run, &[(3, BLANK.len())])
+}
+
+// Of three lines, the last without its line feed, the first and the last hold an `a`.
+#[test]
+fn filters(rt: HostRuntime) -> Result<(), Fail> {
+    let stack = stacked(rt.alloc(), &["contains=a"])?;
+    let run = Run {
+        check: stack.first(),
+        wanted: Some(true),
+        input: b"ab\nb\r\na",
+        whole: b"ab\na",
+    };
+    writes(&rt, run)?;
+    reads(&rt, run, &[(3, 3)])
 }
 
 // The block of 1 between 5 and 10.
@@ -181,6 +204,7 @@ fn writes_both(alloc: Global, input: &[u8], first: &str, second: &str) -> Result
 fn writes_whole<'a>(alloc: Global, input: &'a [u8], whole: &'a [u8]) -> bool {
     let run = Run {
         check: None,
+        wanted: None,
         input,
         whole,
     };

@@ -73,6 +73,16 @@ fn failures_of_functions(alloc: Global) -> Result<String, AllocError> {
     render_cases(alloc, failures(alloc, rules.as_slice(), &7)?.as_slice())
 }
 
+// Of rules of several types, one after the other.
+fn failures_of_several_types(alloc: Global) -> Result<String, AllocError> {
+    let mut cases = Vec::new(alloc);
+    add_failure(alloc, &mut cases, &predicate::ge(10), &7)?;
+    add_failure(alloc, &mut cases, &predicate::always(), &7)?;
+    let small = predicate::function(|x: &i32| *x < 5).fn_name("small");
+    add_failure(alloc, &mut cases, &small, &7)?;
+    render_cases(alloc, cases.as_slice())
+}
+
 #[test]
 fn all_failures(rt: HostRuntime) -> Result<(), Fail> {
     let numbers = failures_of_numbers(rt.alloc())?;
@@ -82,6 +92,11 @@ fn all_failures(rt: HostRuntime) -> Result<(), Fail> {
     );
     let functions = failures_of_functions(rt.alloc())?;
     assert_eq!(rt; functions.as_str(), "fn(var) = false\nfn(var) = false\n");
+    let several = failures_of_several_types(rt.alloc())?;
+    assert_eq!(rt;
+        several.as_str(),
+        "var >= 10 = false\n  - var: 7\nsmall(var) = false\n"
+    );
     Ok(())
 }
 
