@@ -6,6 +6,7 @@ mod either;
 mod files;
 mod last;
 mod plainly;
+mod order;
 mod policy;
 mod tested;
 
@@ -14,5 +15,6 @@ pub use either::Either;
 pub use files::{is_copy, no_script};
 pub use last::{LastFirst, is_known};
 pub use plainly::{Around, find_plain_case};
+pub use order::{Line, Order, Policy, allow_order};
 pub use policy::{PolicyFault, read_policy};
 pub use tested::FortyTwo;
