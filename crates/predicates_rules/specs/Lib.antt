@@ -1,0 +1,5 @@
+pub mod Trees
+pub mod Grammar
+pub mod Answers
+pub mod Reading
+pub mod Levels

@@ -1,0 +1,30 @@
+//! The tokens of a rule.
+
+use crate::condition::{Comparison, Relation, State};
+use crate::expression::{Connective, Quantifier};
+use crate::literal::Literal;
+
+#[derive(Drop)]
+pub enum Kind {
+    Join(Connective),
+    Not,
+    Quantifier(Quantifier),
+    Open,
+    Close,
+    OpenList,
+    CloseList,
+    Comma,
+    Path(String),
+    Comparison(Comparison),
+    Relation(Relation),
+    In,
+    State(State),
+    Literal(Literal),
+}
+
+/// A token, and the column that it begins at.
+#[derive(Drop)]
+pub struct Token {
+    pub kind: Kind,
+    pub column: usize,
+}
