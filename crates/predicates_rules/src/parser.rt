@@ -392,3 +392,26 @@ fn all(alloc: Global, tokens: &[Token]) -> Result<Expression, ReadError>
     }
     Ok(expression)
 }
+
+/// Reads an expression from all of the tokens.
+pub fn parse(alloc: Global, tokens: &[Token]) -> Result<Expression, ReadError>
+    // What is read is spelled so.
+    ensures found { IfOk result (λ e. IsSpelled MAX_DEPTH (signs tokens.now) (tree_of e)) }
+    // What is spelled so is read, unless memory runs out.
+    ensures only { (e : Tree) → IsSpelled MAX_DEPTH (signs tokens.now) e
+        → Gives tree_of result (Ok e) }
+    // Where it is refused for another reason than its depth, it is spelled by nothing, however
+    // deep.
+    ensures never { IfErr result (λ e. IsSyntax e → (n : ℕ) (t : Tree)
+        → IsSpelled n (signs tokens.now) t → ⊥) }
+    // Which fault it is, and how many tokens are left there.
+    ensures exact { Gives tree_of result (all_of MAX_DEPTH (signs tokens.now)) }
+{
+    all(alloc, tokens)
+}
+
+/// Tokens spell one expression at most, however deep it may nest.
+pub fn one_meaning()
+    ensures { (n m : ℕ) (ts : List Sign) (e f : Tree)
+        → IsSpelled n ts e → IsSpelled m ts f → e ≡ f }
+{}

@@ -27,3 +27,11 @@ decreases-in_parentheses l = 16 * l.depth + 1
 
 abbrev pub decreases-over_items : goal.decreases-over_items
 decreases-over_items l = 16 * l.depth + 2
+
+abbrev pub invariant-others-loop-rest : goal.invariant-others-loop-rest
+invariant-others-loop-rest l =
+    Reads l.connective (at_level (below l.depth) (tighter l.connective)) (map tree_of l.parts.items) (signs l.left)
+    (parts_at (length (signs l.tokens)) l.connective (at_level (below l.depth) (tighter l.connective)) (signs l.tokens))
+
+abbrev pub decreases-others-loop-rest : goal.decreases-others-loop-rest
+decreases-others-loop-rest l = length (signs l.left)
