@@ -6,3 +6,5 @@ pub mod Parts
 pub mod Sound
 pub mod Complete
 pub mod Grow
+pub mod Lexed
+pub mod LexLoop

@@ -3,3 +3,5 @@ pub mod Grammar
 pub mod Answers
 pub mod Reading
 pub mod Levels
+pub mod Lexemes
+pub mod Scanning

@@ -4,6 +4,8 @@
 pub mod condition;
 pub mod error;
 pub mod expression;
+pub mod fixed;
+pub mod lexer;
 pub mod literal;
 pub mod parser;
 pub mod rule;
