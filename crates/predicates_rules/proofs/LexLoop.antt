@@ -27,47 +27,46 @@ no_token_at : (b : ℕ) (text : List ℕ) (x : Sign × List ℕ) → class_of b 
 no_token_at b text x c h = no_sign b text x c h
 
 -- what is behind a space
-pub behind_space : (end b : ℕ) (text : List ℕ) (ts : List (Sign × ℕ)) → is_space b ≡ true → IsLexed end (b ∷ text) ts → IsLexed end text ts
-behind_space end b text ts h (over o) = absurd (space_is_not_over b h o)
-behind_space end b text ts h (space s d) = d
-behind_space end b text ts h (token t column word rest c w k d) = absurd (no_token_at b text (t, rest) (space_is_other b h) (token_again (b ∷ text) t word rest c w))
+pub behind_space : (b : ℕ) (text : List ℕ) (ts : List (Sign × ℕ)) → is_space b ≡ true → IsLexed (b ∷ text) ts → IsLexed text ts
+behind_space b text ts h (over o) = absurd (space_is_not_over b h o)
+behind_space b text ts h (space s d) = d
+behind_space b text ts h (token {t = t} {word = word} {rest = rest} c w d) = absurd (no_token_at b text (t, rest) (space_is_other b h) (token_again (b ∷ text) t word rest c w))
 
 -- what begins with a token
-abbrev pub Begins : ℕ → List ℕ → Sign → List ℕ → List (Sign × ℕ) → Type 0
-Begins end text t rest ts = (us : List (Sign × ℕ)) × (ts ≡ (t, end - length text) ∷ us) × IsLexed end rest us
+abbrev pub Begins : List ℕ → Sign → List ℕ → List (Sign × ℕ) → Type 0
+Begins text t rest ts = (us : List (Sign × ℕ)) × (ts ≡ (t, length text) ∷ us) × IsLexed rest us
 
 no_token_over : (text : List ℕ) (x : Sign × List ℕ) → is_over text ≡ true → token_at text ≡ Ok x → ⊥
 no_token_over [] x o h = let s = shorter [] x.0 x.1 h in omega arith
 no_token_over (b ∷ text) x o h = no_token_at b text x (over_is_other b o) h
 
-pub behind_token : (end : ℕ) (text : List ℕ) (ts : List (Sign × ℕ)) (t : Sign) (rest : List ℕ) → token_at text ≡ Ok (t, rest) → IsLexed end text ts → Begins end text t rest ts
-behind_token end text ts t rest h (over o) = absurd (no_token_over text (t, rest) o h)
-behind_token end text ts t rest h (space {b = b} {text = u} s d) = absurd (no_token_at b u (t, rest) (space_is_other b s) h)
-behind_token end text ts t rest h (token {ts = us} t' column word rest' c w k d) =
+pub behind_token : (text : List ℕ) (ts : List (Sign × ℕ)) (t : Sign) (rest : List ℕ) → token_at text ≡ Ok (t, rest) → IsLexed text ts → Begins text t rest ts
+behind_token text ts t rest h (over o) = absurd (no_token_over text (t, rest) o h)
+behind_token text ts t rest h (space {b = b} {text = u} s d) = absurd (no_token_at b u (t, rest) (space_is_other b s) h)
+behind_token text ts t rest h (token {ts = us} {t = t'} {word = word} {rest = rest'} c w d) =
     let again : token_at text ≡ Ok (t', rest') = token_again text t' word rest' c w in
     let same : (t', rest') ≡ (t, rest) = ok_is (t', rest') (t, rest) (sym again ∙ h) in
-    let place : column ≡ end - length text = omega arith in
-    (us, ap (λ (x : (Sign × List ℕ) × ℕ). (x.0.0, x.1) ∷ us) (λ i. (same i, place i)), subst (λ (x : Sign × List ℕ). IsLexed end x.1 us) same d)
+    (us, ap (λ (x : Sign × List ℕ). (x.0, length text) ∷ us) same, subst (λ (x : Sign × List ℕ). IsLexed x.1 us) same d)
 
 -- no token at the front, no space and not the end
-pub no_more : (end : ℕ) (text : List ℕ) (ts : List (Sign × ℕ)) (s : Stop) → is_over text ≡ false → after_space text ≡ None → token_at text ≡ Err s → IsLexed end text ts → ⊥
-no_more end text ts s goes other h (over o) = cc
-no_more end text ts s goes other h (space {b = b} {text = u} p d) = let made : after_space (b ∷ u) ≡ Some u = rw p refl in cc
-no_more end text ts s goes other h (token t column word rest c w k d) =
+pub no_more : (text : List ℕ) (ts : List (Sign × ℕ)) (s : Stop) → is_over text ≡ false → after_space text ≡ None → token_at text ≡ Err s → IsLexed text ts → ⊥
+no_more text ts s goes other h (over o) = cc
+no_more text ts s goes other h (space {b = b} {text = u} p d) = let made : after_space (b ∷ u) ≡ Some u = rw p refl in cc
+no_more text ts s goes other h (token {t = t} {word = word} {rest = rest} c w d) =
     let again : token_at text ≡ Ok (t, rest) = token_again text t word rest c w in
     let both : ◌≡◌ {A = Result (Sign × List ℕ) Stop} (Ok (t, rest)) (Err s) = sym again ∙ h in
     cc
 
 -- a token goes in front
-pub with_token : (end : ℕ) (text : List ℕ) (us : List (Sign × ℕ)) (t : Sign) (rest : List ℕ) → length text ≤ end → token_at text ≡ Ok (t, rest) → IsLexed end rest us → IsLexed end text ((t, end - length text) ∷ us)
-with_token end text us t rest le h d =
+pub with_token : (text : List ℕ) (us : List (Sign × ℕ)) (t : Sign) (rest : List ℕ) → token_at text ≡ Ok (t, rest) → IsLexed rest us → IsLexed text ((t, length text) ∷ us)
+with_token text us t rest h d =
     let f = token_found text t rest h in
-    token t (end - length text) f.0 rest f.1 f.2 (omega arith) d
+    token f.1 f.2 d
 
-nothing_left : (end : ℕ) (text : List ℕ) (ts : List (Sign × ℕ)) → is_over text ≡ true → IsLexed end text ts → ts ≡ []
-nothing_left end text ts e (over o) = refl
-nothing_left end text ts e (space {b = b} s d) = absurd (space_is_not_over b s e)
-nothing_left end text ts e (token t column word rest c w k d) = absurd (no_token_over text (t, rest) e (token_again text t word rest c w))
+nothing_left : (text : List ℕ) (ts : List (Sign × ℕ)) → is_over text ≡ true → IsLexed text ts → ts ≡ []
+nothing_left text ts e (over o) = refl
+nothing_left text ts e (space {b = b} s d) = absurd (space_is_not_over b s e)
+nothing_left text ts e (token {t = t} {word = word} {rest = rest} c w d) = absurd (no_token_over text (t, rest) e (token_again text t word rest c w))
 
 chosen : (b : Bool) (text rest : List ℕ) → cond b (Some text) None ≡ Some rest → (b ≡ true) × (text ≡ rest)
 chosen true text rest e = (refl, cc)
@@ -81,57 +80,48 @@ pub space_shortens : (text rest : List ℕ) → after_space text ≡ Some rest �
 space_shortens text rest e = let p = space_is text rest e in omega (arith, ap length p.1)
 
 -- what was taken so far, and what is left
-pub record Goes (end : ℕ) (text left : List ℕ) (front : List (Sign × ℕ)) : Type 0 where
-  pub within : length left ≤ end
-  pub found : (ts : List (Sign × ℕ)) → IsLexed end left ts → IsLexed end text (front ++ ts)
-  pub only : (ts : List (Sign × ℕ)) → IsLexed end text ts → (us : List (Sign × ℕ)) × (ts ≡ front ++ us) × IsLexed end left us
+pub record Goes (text left : List ℕ) (front : List (Sign × ℕ)) : Type 0 where
+  pub found : (ts : List (Sign × ℕ)) → IsLexed left ts → IsLexed text (front ++ ts)
+  pub only : (ts : List (Sign × ℕ)) → IsLexed text ts → (us : List (Sign × ℕ)) × (ts ≡ front ++ us) × IsLexed left us
 
-pub starts : (end : ℕ) (text : List ℕ) → length text ≤ end → Goes end text text []
-starts end text le = record { within = le; found = λ ts d. d; only = λ ts d. (ts, refl, d) }
+pub starts : (text : List ℕ) → Goes text text []
+starts text = record { found = λ ts d. d; only = λ ts d. (ts, refl, d) }
 
-pub past_space : (end : ℕ) (text left rest : List ℕ) (front : List (Sign × ℕ)) → after_space left ≡ Some rest → Goes end text left front → Goes end text rest front
-past_space end text left rest front h g =
+pub past_space : (text left rest : List ℕ) (front : List (Sign × ℕ)) → after_space left ≡ Some rest → Goes text left front → Goes text rest front
+past_space text left rest front h g =
     let p = space_is left rest h in
-    let shorter = space_shortens left rest h in
-    let w = g.within in
     record {
-      within = omega arith;
-      found = λ ts d. g.found ts (subst (λ (u : List ℕ). IsLexed end u ts) (sym p.1) (space p.2 d));
-      only = λ ts d. let o = g.only ts d in (o.0, o.1, behind_space end p.0 rest o.0 p.2 (subst (λ (u : List ℕ). IsLexed end u o.0) p.1 o.2));
+      found = λ ts d. g.found ts (subst (λ (u : List ℕ). IsLexed u ts) (sym p.1) (space p.2 d));
+      only = λ ts d. let o = g.only ts d in (o.0, o.1, behind_space p.0 rest o.0 p.2 (subst (λ (u : List ℕ). IsLexed u o.0) p.1 o.2));
     }
 
-pub past_token : (end : ℕ) (text left : List ℕ) (front : List (Sign × ℕ)) (t : Sign) (rest : List ℕ) → token_at left ≡ Ok (t, rest) → Goes end text left front → Goes end text rest (front ++ (t, end - length left) ∷ [])
-past_token end text left front t rest h g =
-    let s = shorter left t rest h in
-    let w = g.within in
+pub past_token : (text left : List ℕ) (front : List (Sign × ℕ)) (t : Sign) (rest : List ℕ) → token_at left ≡ Ok (t, rest) → Goes text left front → Goes text rest (front ++ (t, length left) ∷ [])
+past_token text left front t rest h g =
     record {
-      within = omega arith;
-      found = λ ts d. subst (λ (us : List (Sign × ℕ)). IsLexed end text us) (sym (append_assoc front ((t, end - length left) ∷ []) ts)) (g.found ((t, end - length left) ∷ ts) (with_token end left ts t rest g.within h d));
+      found = λ ts d. subst (λ (us : List (Sign × ℕ)). IsLexed text us) (sym (append_assoc front ((t, length left) ∷ []) ts)) (g.found ((t, length left) ∷ ts) (with_token left ts t rest h d));
       only = λ ts d.
           let o = g.only ts d in
-          let b = behind_token end left o.0 t rest h o.2 in
-          (b.0, o.1 ∙ ap (λ (us : List (Sign × ℕ)). front ++ us) b.1 ∙ sym (append_assoc front ((t, end - length left) ∷ []) b.0), b.2);
+          let b = behind_token left o.0 t rest h o.2 in
+          (b.0, o.1 ∙ ap (λ (us : List (Sign × ℕ)). front ++ us) b.1 ∙ sym (append_assoc front ((t, length left) ∷ []) b.0), b.2);
     }
 
-pub all_found : (end : ℕ) (text left : List ℕ) (front : List (Sign × ℕ)) → is_over left ≡ true → Goes end text left front → IsLexed end text front
-all_found end text left front e g = subst (λ (ts : List (Sign × ℕ)). IsLexed end text ts) (append-nil front) (g.found [] (over e))
+pub all_found : (text left : List ℕ) (front : List (Sign × ℕ)) → is_over left ≡ true → Goes text left front → IsLexed text front
+all_found text left front e g = subst (λ (ts : List (Sign × ℕ)). IsLexed text ts) (append-nil front) (g.found [] (over e))
 
-pub only_these : (end : ℕ) (text left : List ℕ) (front ts : List (Sign × ℕ)) → is_over left ≡ true → Goes end text left front → IsLexed end text ts → ts ≡ front
-only_these end text left front ts e g d =
+pub only_these : (text left : List ℕ) (front ts : List (Sign × ℕ)) → is_over left ≡ true → Goes text left front → IsLexed text ts → ts ≡ front
+only_these text left front ts e g d =
     let o = g.only ts d in
-    let n = nothing_left end left o.0 e o.2 in
+    let n = nothing_left left o.0 e o.2 in
     o.1 ∙ ap (λ (us : List (Sign × ℕ)). front ++ us) n ∙ append-nil front
 
-pub cannot : (e : ReadError) (end : ℕ) (text left : List ℕ) (front ts : List (Sign × ℕ)) → is_over left ≡ false → after_space left ≡ None → Fails e (token_at left) → Goes end text left front → IsLexed end text ts → Fails {Y = List (Sign × ℕ)} e (Ok ts)
-cannot errors.Memory end text left front ts goes other h g d = tt
-cannot (errors.Stopped s) end text left front ts goes other h g d = let o = g.only ts d in absurd (no_more end left o.0 s goes other h o.2)
+pub cannot : (e : ReadError) (text left : List ℕ) (front ts : List (Sign × ℕ)) → is_over left ≡ false → after_space left ≡ None → Fails e (token_at left) → Goes text left front → IsLexed text ts → Fails {Y = List (Sign × ℕ)} e (Ok ts)
+cannot errors.Memory text left front ts goes other h g d = tt
+cannot (errors.Stopped s) text left front ts goes other h g d = let o = g.only ts d in absurd (no_more left o.0 s goes other h o.2)
 
 -- a text is tokens in one way at most
-pub one_lexing : (end : ℕ) {text : List ℕ} {ts us : List (Sign × ℕ)} → IsLexed end text ts → IsLexed end text us → ts ≡ us
-one_lexing end {text = text} {us = us} (over o) d = sym (nothing_left end text us o d)
-one_lexing end {us = us} (space {b = b} {text = text} s c) d = one_lexing end c (behind_space end b text us s d)
-one_lexing end {text = text} {us = us} (token {ts = ts} t column word rest c w k e) d =
-    let b = behind_token end text us t rest (token_again text t word rest c w) d in
-    let place : column ≡ end - length text = omega arith in
-    let tail : ts ≡ b.0 = one_lexing end e b.2 in
-    ap (λ (x : ℕ × List (Sign × ℕ)). (t, x.0) ∷ x.1) (λ i. (place i, tail i)) ∙ sym b.1
+pub one_lexing : {text : List ℕ} {ts us : List (Sign × ℕ)} → IsLexed text ts → IsLexed text us → ts ≡ us
+one_lexing {text = text} {us = us} (over o) d = sym (nothing_left text us o d)
+one_lexing {us = us} (space {b = b} {text = text} s c) d = one_lexing c (behind_space b text us s d)
+one_lexing {text = text} {us = us} (token {ts = ts} {t = t} {word = word} {rest = rest} c w e) d =
+    let b = behind_token text us t rest (token_again text t word rest c w) d in
+    ap (λ (vs : List (Sign × ℕ)). (t, length text) ∷ vs) (one_lexing e b.2) ∙ sym b.1

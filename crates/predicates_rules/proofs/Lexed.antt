@@ -11,7 +11,7 @@ use Rattle.serde_json.specs.Read.{read}
 use Rattle.predicates_rules.specs.declared.fixed.Fixed.{Fixed}
 use Rattle.predicates_rules.specs.declared.fixed.Fixed.TheVariants as fixed
 use Rattle.predicates_rules.specs.declared.lexer.Class.{Class}
-use Rattle.predicates_rules.specs.declared.lexer.Class.TheVariants.{Letter, Digit, Symbol, Mark, Slash, Quote, Other}
+use Rattle.predicates_rules.specs.declared.lexer.Class.TheVariants.{Letter, Digit, Symbol, Mark, Slash, Quote, Space, Name, Other}
 use Rattle.predicates_rules.specs.declared.error.Expected.{Expected}
 use Rattle.predicates_rules.specs.declared.error.Expected.TheVariants as expected
 use Rattle.predicates_rules.specs.declared.stop.Stop.{Stop}
@@ -182,7 +182,7 @@ written_by Mark left b bytes t c h = word_is left (b ∷ bytes) t (fixed_at (b �
 written_by Digit left b bytes t c h = literal_is expected.Number left b bytes t (value_at (b ∷ bytes)) (ap begins_literal c) refl h
 written_by Quote left b bytes t c h = literal_is expected.Escapes left b bytes t (value_at (b ∷ bytes)) (ap begins_literal c) refl h
 written_by Slash left b bytes t c h = path_is left b bytes t (is_utf8 (b ∷ bytes)) c refl h
-written_by Other left b bytes t c h = absurd cc
+written_by c left b bytes t d h = absurd cc
 
 written_is : (left : ℕ) (word : List ℕ) (t : Sign) → sign_in (front_class word) left word ≡ Ok t → IsWritten t word
 unfolding sign_in
@@ -225,6 +225,8 @@ len_some Digit text n e = (prefix_len (continues Digit) text, sym (some_is _ n e
 len_some Symbol text n e = (prefix_len (continues Symbol) text, sym (some_is _ n e))
 len_some Mark text n e = (prefix_len (continues Mark) text, sym (some_is _ n e))
 len_some Slash text n e = (prefix_len (continues Slash) text, sym (some_is _ n e))
+len_some Space text n e = (prefix_len (continues Space) text, sym (some_is _ n e))
+len_some Name text n e = (prefix_len (continues Name) text, sym (some_is _ n e))
 len_some Other text n e = (prefix_len (continues Other) text, sym (some_is _ n e))
 
 dropped : (text : List ℕ) (n : ℕ) → length (drop n text) ≤ length text

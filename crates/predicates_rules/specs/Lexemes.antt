@@ -12,7 +12,7 @@ use Rattle.predicates_rules.specs.declared.condition.State.TheVariants as states
 use Rattle.predicates_rules.specs.declared.fixed.Fixed.{Fixed}
 use Rattle.predicates_rules.specs.declared.fixed.Fixed.TheVariants as fixed
 use Rattle.predicates_rules.specs.declared.lexer.Class.{Class}
-use Rattle.predicates_rules.specs.declared.lexer.Class.TheVariants.{Letter, Digit, Symbol, Mark, Slash, Quote, Other}
+use Rattle.predicates_rules.specs.declared.lexer.Class.TheVariants.{Letter, Digit, Symbol, Mark, Slash, Quote, Space, Name, Other}
 use Rattle.predicates_rules.specs.Trees.{Value, Natural, Negative, Text, Boolean, Null, Sign, Join, Not, Quantify, Open, Close, OpenList, CloseList, Comma, Path, Compare, Relate, In, Is, Plain}
 
 -- ---- tokens with a text of their own
@@ -107,16 +107,19 @@ is_mark b = b == 40 || b == 41 || b == 44 || b == 91 || b == 93
 abbrev pub is_space : ℕ → Bool
 is_space b = b == 32 || b == 9 || b == 13
 
--- what the byte begins; a number may begin with a minus
+-- the token that the byte begins; a number may begin with a minus
 abbrev pub class_of : ℕ → Class
 class_of b = if is_letter b then Letter else if is_digit b || b == 45 then Digit else if is_symbol b then Symbol else if is_mark b then Mark else if b == 47 then Slash else if b == 34 then Quote else Other
 
--- Which bytes belong to a token that begins so. A path ends at a space, a mark, an operator and a comment.
+-- Which bytes belong together. A path ends at a space, a mark, an operator and a comment; the name of a rule has
+-- letters, digits, _ - . and bytes beyond ASCII.
 abbrev pub continues : Class → ℕ → Bool
 continues Letter b = is_letter b || is_digit b
 continues Digit b = is_letter b || is_digit b || b == 43 || b == 45 || b == 46
 continues Symbol b = is_symbol b
 continues Slash b = not (is_space b || is_mark b || is_symbol b || b == 35)
+continues Space b = is_space b
+continues Name b = is_letter b || is_digit b || b == 45 || b == 46 || nat_le 128 b
 continues c b = false
 
 -- How many bytes of a text there are up to the quote that closes it, with that quote. A backslash takes the next
@@ -171,9 +174,8 @@ abbrev pub is_over : List ℕ → Bool
 is_over [] = true
 is_over (b ∷ text) = b == 35
 
--- Spaces and tokens up to the end or a comment, each token with its column.
-pub data IsLexed : ℕ → List ℕ → List (Sign × ℕ) → Type 0 where
-  over : {end : ℕ} {text : List ℕ} → is_over text ≡ true → IsLexed end text []
-  space : {end b : ℕ} {text : List ℕ} {ts : List (Sign × ℕ)} → is_space b ≡ true → IsLexed end text ts → IsLexed end (b ∷ text) ts
-  token : {end : ℕ} {text : List ℕ} {ts : List (Sign × ℕ)} (t : Sign) (column : ℕ) (word rest : List ℕ)
-      → cut text ≡ Some (word, rest) → IsWritten t word → column + length text ≡ end → IsLexed end rest ts → IsLexed end text ((t, column) ∷ ts)
+-- Spaces and tokens up to the end or a comment, each token with the number of bytes from it on.
+pub data IsLexed : List ℕ → List (Sign × ℕ) → Type 0 where
+  over : {text : List ℕ} → is_over text ≡ true → IsLexed text []
+  space : {b : ℕ} {text : List ℕ} {ts : List (Sign × ℕ)} → is_space b ≡ true → IsLexed text ts → IsLexed (b ∷ text) ts
+  token : {text : List ℕ} {ts : List (Sign × ℕ)} {t : Sign} {word rest : List ℕ} → cut text ≡ Some (word, rest) → IsWritten t word → IsLexed rest ts → IsLexed text ((t, length text) ∷ ts)

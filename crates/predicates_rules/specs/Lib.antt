@@ -5,3 +5,4 @@ pub mod Reading
 pub mod Levels
 pub mod Lexemes
 pub mod Scanning
+pub mod Rules

@@ -9,7 +9,7 @@ use Rattle.predicates_rules.specs.declared.error.Expected.TheVariants as expecte
 use Rattle.predicates_rules.specs.declared.stop.Stop.{Stop}
 use Rattle.predicates_rules.specs.declared.token.Token.{Token}
 use Rattle.predicates_rules.specs.declared.lexer.Class.{Class}
-use Rattle.predicates_rules.specs.declared.lexer.Class.TheVariants.{Letter, Digit, Symbol, Mark, Slash, Quote, Other}
+use Rattle.predicates_rules.specs.declared.lexer.Class.TheVariants.{Letter, Digit, Symbol, Mark, Slash, Quote, Space, Name, Other}
 use Rattle.predicates_rules.specs.Trees.{Value, Natural, Negative, Text, Boolean, Null, Sign, Path, Plain, sign_of}
 use Rattle.predicates_rules.specs.Answers.{◌>>=◌, stops}
 use Rattle.predicates_rules.specs.Lexemes.{class_of, is_space, fixed_at, sign_of_fixed, cut, pointer}
@@ -54,7 +54,7 @@ sign_in Mark left word = sign_or left (fixed_at word)
 sign_in Digit left word = value_or expected.Number left (value_at word)
 sign_in Quote left word = value_or expected.Escapes left (value_at word)
 sign_in Slash left word = path_or left word (is_utf8 word)
-sign_in Other left word = stops expected.Token left
+sign_in c left word = stops expected.Token left
 
 abbrev pub with_word : ℕ → Option (List ℕ × List ℕ) → Result (Sign × List ℕ) Stop
 with_word left None = stops expected.Quote left
@@ -68,6 +68,6 @@ abbrev pub after_space : List ℕ → Option (List ℕ)
 after_space [] = None
 after_space (b ∷ text) = if is_space b then Some text else None
 
--- a token and its column
+-- a token and how many bytes there are from it on
 abbrev pub placed : Token → Sign × ℕ
-placed t = (sign_of t.kind, t.column)
+placed t = (sign_of t.kind, t.left)

@@ -17,7 +17,7 @@ use serde_json::{Number, Value};
 use std::alloc::Global;
 use std::str::from_utf8;
 
-/// What the first byte of a token says of it.
+/// Bytes that belong together: tokens by their first byte, spaces, and the name of a rule.
 #[derive(Clone, Copy, Debug, PartialEq, Eq)]
 pub enum Class {
     Letter,
@@ -26,6 +26,8 @@ pub enum Class {
     Mark,
     Slash,
     Quote,
+    Space,
+    Name,
     Other,
 }
 
@@ -62,12 +64,14 @@ fn belongs(class: Class, b: u8) -> bool
             Class::Mark | Class::Symbol => false,
             _ => !(is_blank(b) || b == b'#'),
         },
+        Class::Space => is_blank(b),
+        Class::Name => b.is_ascii_alphanumeric() || b == b'_' || b == b'-' || b == b'.' || 128 <= b,
         Class::Mark | Class::Quote | Class::Other => false,
     }
 }
 
-// How many bytes of the text's front belong to a token of the class.
-fn run_len(class: Class, text: &[u8]) -> usize
+/// How many bytes at the front of a text belong together.
+pub fn run_len(class: Class, text: &[u8]) -> usize
     ensures value { result ≡ prefix_len (continues class) text.now }
     ensures within { result ≤ length text.now }
 {
@@ -177,7 +181,8 @@ fn literal(alloc: Global, word: &[u8]) -> Result<Option<Literal>, ReadError>
     }
 }
 
-fn stop(expected: Expected, left: usize) -> ReadError
+/// Something else stands where so many bytes are left.
+pub fn stop(expected: Expected, left: usize) -> ReadError
     ensures { result ≡ ReadError.Stopped (stop_at expected left) }
 {
     ReadError::Stopped(Stop {
@@ -219,7 +224,7 @@ fn token_of(alloc: Global, class: Class, left: usize, word: &[u8]) -> Result<Kin
             Ok(path) => Ok(Kind::Path(pointer_of(alloc, path)?)),
             Err(_) => Err(stop(Expected::Utf8, left)),
         },
-        Class::Other => Err(stop(Expected::Token, left)),
+        Class::Space | Class::Name | Class::Other => Err(stop(Expected::Token, left)),
     }
 }
 
@@ -265,14 +270,12 @@ fn behind_space(text: &[u8]) -> Option<&[u8]>
     is_blank(*first).then_some(rest)
 }
 
-/// Takes a text apart into tokens. The column of a token is counted back from `end`, the column
-/// behind the text.
-pub fn lex(alloc: Global, end: usize, text: &[u8]) -> Result<Vec<Token>, ReadError>
-    requires { length text.now ≤ end }
+/// Takes a text apart into tokens.
+pub fn lex(alloc: Global, text: &[u8]) -> Result<Vec<Token>, ReadError>
     // What is taken apart is spaces and these tokens.
-    ensures found { IfOk result (λ ts. IsLexed end text.now (map placed ts.items)) }
+    ensures found { IfOk result (λ ts. IsLexed text.now (map placed ts.items)) }
     // What is spaces and tokens is taken apart so, unless memory runs out.
-    ensures only { (ts : List (Sign × ℕ)) → IsLexed end text.now ts
+    ensures only { (ts : List (Sign × ℕ)) → IsLexed text.now ts
         → Gives (λ v. map placed v.items) result (Ok ts) }
 {
     let mut tokens = Vec::new(alloc);
@@ -284,8 +287,10 @@ pub fn lex(alloc: Global, end: usize, text: &[u8]) -> Result<Vec<Token>, ReadErr
             }
             None => {
                 let (kind, rest) = token(alloc, left)?;
-                let column = end - left.len();
-                tokens.push(Token { kind, column })?;
+                tokens.push(Token {
+                    kind,
+                    left: left.len(),
+                })?;
                 left = rest;
             }
         }

@@ -22,9 +22,9 @@ pub enum Kind {
     Literal(Literal),
 }
 
-/// A token, and the column that it begins at.
+/// A token, and how many bytes of its line there are from it on.
 #[derive(Drop)]
 pub struct Token {
     pub kind: Kind,
-    pub column: usize,
+    pub left: usize,
 }
