@@ -1,16 +1,16 @@
 -- Taking tokens one after the other, as a loop does.
-use Rattle.std.proofs.Common.{◌≡◌, ℕ, zero, suc, ◌+◌, ◌-◌, ◌<◌, ◌≤◌, Bool, true, false, cond, List, [], ◌∷◌, ◌++◌, length, Option, Some, None, Result, Ok, Err, refl, sym, ap, subst, ◌∙◌, arith, append_assoc}
-use Rattle.std.proofs.lemmas.List.{append-nil}
+use Rattle.std.proofs.Common.{◌≡◌, ℕ, ◌<◌, Bool, true, false, cond, List, [], ◌∷◌, ◌++◌, length, Option, Some, None, Result, Ok, Err, refl, sym, ap, subst, ◌∙◌, arith, append_assoc}
 use Rattle.std.proofs.lemmas.Bool.Decides.{nat_tests}
 use Rattle.predicates_rules.specs.declared.lexer.Class.{Class}
 use Rattle.predicates_rules.specs.declared.lexer.Class.TheVariants.{Other}
 use Rattle.predicates_rules.specs.declared.stop.Stop.{Stop}
 use Rattle.predicates_rules.specs.declared.stop.ReadError.{ReadError}
 use Rattle.predicates_rules.specs.declared.stop.ReadError.TheVariants as errors
-use Rattle.predicates_rules.specs.Answers.{Fails}
-use Rattle.predicates_rules.specs.Trees.{Sign}
+use Rattle.predicates_rules.specs.Answers.{Fails, IsStop}
+use Rattle.predicates_rules.specs.Trees.{Sign, End}
 use Rattle.predicates_rules.specs.Lexemes.{is_space, is_over, class_of, cut, IsWritten, IsLexed, over, space, token}
 use Rattle.predicates_rules.specs.Scanning.{sign_in, token_at, after_space}
+use Rattle.predicates_rules.specs.Faults.{NoToken, no_token_here, behind_space_fault, past_token_fault}
 use Rattle.predicates_rules.proofs.Loop.{ok_is}
 use Rattle.predicates_rules.proofs.Lexed.{token_again, token_found, shorter, no_sign}
 
@@ -63,7 +63,7 @@ with_token text us t rest h d =
     let f = token_found text t rest h in
     token f.1 f.2 d
 
-nothing_left : (text : List ℕ) (ts : List (Sign × ℕ)) → is_over text ≡ true → IsLexed text ts → ts ≡ []
+nothing_left : (text : List ℕ) (ts : List (Sign × ℕ)) → is_over text ≡ true → IsLexed text ts → ts ≡ (End, length text) ∷ []
 nothing_left text ts e (over o) = refl
 nothing_left text ts e (space {b = b} s d) = absurd (space_is_not_over b s e)
 nothing_left text ts e (token {t = t} {word = word} {rest = rest} c w d) = absurd (no_token_over text (t, rest) e (token_again text t word rest c w))
@@ -83,9 +83,10 @@ space_shortens text rest e = let p = space_is text rest e in omega (arith, ap le
 pub record Goes (text left : List ℕ) (front : List (Sign × ℕ)) : Type 0 where
   pub found : (ts : List (Sign × ℕ)) → IsLexed left ts → IsLexed text (front ++ ts)
   pub only : (ts : List (Sign × ℕ)) → IsLexed text ts → (us : List (Sign × ℕ)) × (ts ≡ front ++ us) × IsLexed left us
+  pub stops : (s : Stop) → NoToken left s → NoToken text s
 
 pub starts : (text : List ℕ) → Goes text text []
-starts text = record { found = λ ts d. d; only = λ ts d. (ts, refl, d) }
+starts text = record { found = λ ts d. d; only = λ ts d. (ts, refl, d); stops = λ s d. d }
 
 pub past_space : (text left rest : List ℕ) (front : List (Sign × ℕ)) → after_space left ≡ Some rest → Goes text left front → Goes text rest front
 past_space text left rest front h g =
@@ -93,6 +94,7 @@ past_space text left rest front h g =
     record {
       found = λ ts d. g.found ts (subst (λ (u : List ℕ). IsLexed u ts) (sym p.1) (space p.2 d));
       only = λ ts d. let o = g.only ts d in (o.0, o.1, behind_space p.0 rest o.0 p.2 (subst (λ (u : List ℕ). IsLexed u o.0) p.1 o.2));
+      stops = λ s d. g.stops s (subst (λ (u : List ℕ). NoToken u s) (sym p.1) (behind_space_fault p.2 d));
     }
 
 pub past_token : (text left : List ℕ) (front : List (Sign × ℕ)) (t : Sign) (rest : List ℕ) → token_at left ≡ Ok (t, rest) → Goes text left front → Goes text rest (front ++ (t, length left) ∷ [])
@@ -103,16 +105,17 @@ past_token text left front t rest h g =
           let o = g.only ts d in
           let b = behind_token left o.0 t rest h o.2 in
           (b.0, o.1 ∙ ap (λ (us : List (Sign × ℕ)). front ++ us) b.1 ∙ sym (append_assoc front ((t, length left) ∷ []) b.0), b.2);
+      stops = λ s d. let f = token_found left t rest h in g.stops s (past_token_fault f.1 f.2 d);
     }
 
-pub all_found : (text left : List ℕ) (front : List (Sign × ℕ)) → is_over left ≡ true → Goes text left front → IsLexed text front
-all_found text left front e g = subst (λ (ts : List (Sign × ℕ)). IsLexed text ts) (append-nil front) (g.found [] (over e))
+pub all_found : (text left : List ℕ) (front : List (Sign × ℕ)) → is_over left ≡ true → Goes text left front → IsLexed text (front ++ (End, length left) ∷ [])
+all_found text left front e g = g.found ((End, length left) ∷ []) (over e)
 
-pub only_these : (text left : List ℕ) (front ts : List (Sign × ℕ)) → is_over left ≡ true → Goes text left front → IsLexed text ts → ts ≡ front
+pub only_these : (text left : List ℕ) (front ts : List (Sign × ℕ)) → is_over left ≡ true → Goes text left front → IsLexed text ts → ts ≡ front ++ (End, length left) ∷ []
 only_these text left front ts e g d =
     let o = g.only ts d in
     let n = nothing_left left o.0 e o.2 in
-    o.1 ∙ ap (λ (us : List (Sign × ℕ)). front ++ us) n ∙ append-nil front
+    o.1 ∙ ap (λ (us : List (Sign × ℕ)). front ++ us) n
 
 pub cannot : (e : ReadError) (text left : List ℕ) (front ts : List (Sign × ℕ)) → is_over left ≡ false → after_space left ≡ None → Fails e (token_at left) → Goes text left front → IsLexed text ts → Fails {Y = List (Sign × ℕ)} e (Ok ts)
 cannot errors.Memory text left front ts goes other h g d = tt
@@ -125,3 +128,7 @@ one_lexing {us = us} (space {b = b} {text = text} s c) d = one_lexing c (behind_
 one_lexing {text = text} {us = us} (token {ts = ts} {t = t} {word = word} {rest = rest} c w e) d =
     let b = behind_token text us t rest (token_again text t word rest c w) d in
     ap (λ (vs : List (Sign × ℕ)). (t, length text) ∷ vs) (one_lexing e b.2) ∙ sym b.1
+
+pub stopped : (e : ReadError) (text left : List ℕ) (front : List (Sign × ℕ)) → is_over left ≡ false → after_space left ≡ None → Fails e (token_at left) → Goes text left front → IsStop (NoToken text) e
+stopped errors.Memory text left front goes other h g = tt
+stopped (errors.Stopped s) text left front goes other h g = g.stops s (no_token_here goes other h)

@@ -24,7 +24,7 @@ use Rattle.predicates_rules.proofs.Loop.{ok_is}
 bytes_is : (a b : List ℕ) → bytes_eq a b ≡ true → a ≡ b
 bytes_is a b h = (bytes_eq-Decides a b).0 h
 
-utf8_is_false : (word : List ℕ) → (IsUtf8 word → ⊥) → is_utf8 word ≡ false
+pub utf8_is_false : (word : List ℕ) → (IsUtf8 word → ⊥) → is_utf8 word ≡ false
 utf8_is_false word h = by_test (is_utf8 word) refl
   where
     by_test : (b : Bool) → is_utf8 word ≡ b → b ≡ false

@@ -8,3 +8,5 @@ pub mod Complete
 pub mod Grow
 pub mod Lexed
 pub mod LexLoop
+pub mod Lines
+pub mod Readings

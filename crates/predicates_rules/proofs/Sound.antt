@@ -1,16 +1,17 @@
 -- What is read is spelled so.
-use Rattle.std.proofs.Common.{◌≡◌, ℕ, zero, suc, List, [], ◌∷◌, length, ◌<◌, Option, Some, None, Result, Ok, Err, refl, sym, ap, subst, ◌∙◌}
+use Rattle.std.proofs.Common.{◌≡◌, ℕ, zero, suc, Bool, true, false, cond, List, [], ◌∷◌, length, ◌<◌, Option, Some, None, Result, Ok, Err, refl, sym, ap, subst, ◌∙◌}
 use Rattle.std.specs.Prelude.{IfOk}
 use Rattle.predicates_rules.specs.declared.expression.Connective.{Connective}
 use Rattle.predicates_rules.specs.declared.expression.Connective.TheVariants.{Or, Xor, And}
 use Rattle.predicates_rules.specs.declared.expression.Quantifier.{Quantifier}
 use Rattle.predicates_rules.specs.declared.stop.ReadError.{ReadError}
 use Rattle.predicates_rules.specs.declared.stop.Stop.{Stop}
+use Rattle.predicates_rules.specs.declared.error.Expected.TheVariants as expected
 use Rattle.predicates_rules.specs.declared.expression.Expression.{Expression}
-use Rattle.predicates_rules.specs.Trees.{tree_of, Value, Text, Sign, Join, Not, Quantify, Open, Close, OpenList, CloseList, Comma, Path, Compare, Relate, In, Is, Plain, Test, TheValueIs, Compares, Relates, IsAmong, Tree, At, Denied, Quantified, Joined, Trees, none, more}
+use Rattle.predicates_rules.specs.Trees.{tree_of, Value, Text, Sign, Join, Not, Quantify, Open, Close, OpenList, CloseList, Comma, Path, Compare, Relate, In, Is, Plain, End, Test, TheValueIs, Compares, Relates, IsAmong, Tree, At, Denied, Quantified, Joined, Trees, none, more}
 use Rattle.predicates_rules.specs.Grammar.{Level, By, Single, tighter, Items, last, another, IsTest, word, compare, relate, among_none, among, Spells, test, denied, group, quantified, alone, joined, Follow, no_more, and_more, IsSpelled}
 use Rattle.predicates_rules.specs.Answers.{◌>>=◌, Gives}
-use Rattle.predicates_rules.specs.Reading.{Answer, literal_at, items_at, list_at, after_bracket, text_at, test_at, path_at, after_open, after_close, after_join, with_next, parts_at, join, chain, single, at_level, below, ended, all_of}
+use Rattle.predicates_rules.specs.Reading.{Answer, literal_at, items_at, list_at, after_bracket, text_at, test_at, path_at, after_open, after_close, after_join, with_next, parts_at, join, chain, single, at_level, below, is_end, fails, ended, all_of}
 use Rattle.predicates_rules.specs.Reading as reading
 use Rattle.predicates_rules.proofs.Loop.{ok_is}
 use Rattle.predicates_rules.proofs.Steps.{join_is, bind_ok}
@@ -164,10 +165,19 @@ unfolding below
 right_below zero l ts x e = absurd cc
 right_below (suc n) l ts x e = (n, refl, level_is n (right_below n) l ts x e)
 
-ended_is : (n : ℕ) (ts : List Sign) (e : Tree) (x : Tree × List Sign) → Spells n (By Or) ts x.0 x.1 → ended x ≡ Ok e → Spells n (By Or) ts e []
+end_is : (ts : List Sign) → is_end ts ≡ true → ts ≡ End ∷ []
+end_is (End ∷ []) e = refl
+end_is ts e = absurd cc
+
+ended_by : (b : Bool) (x : Tree × List Sign) (e : Tree) → is_end x.1 ≡ b → cond b (Ok x.0) (fails expected.End x.1) ≡ Ok e → (x.0 ≡ e) × (x.1 ≡ End ∷ [])
+ended_by true x e p h = (ok_is x.0 e h, end_is x.1 p)
+ended_by false x e p h = absurd cc
+
+ended_is : (n : ℕ) (ts : List Sign) (e : Tree) (x : Tree × List Sign) → Spells n (By Or) ts x.0 x.1 → ended x ≡ Ok e → Spells n (By Or) ts e (End ∷ [])
 unfolding ended
-ended_is n ts e (a, []) s h = subst (λ (t : Tree). Spells n (By Or) ts t []) (ok_is a e h) s
-ended_is n ts e (a, t ∷ us) s h = absurd cc
+ended_is n ts e x s h =
+    let p = ended_by (is_end x.1) x e refl h in
+    subst (λ (t : Tree). Spells n (By Or) ts t (End ∷ [])) p.0 (subst (λ (us : List Sign). Spells n (By Or) ts x.0 us) p.1 s)
 
 pub spelled : (n : ℕ) (ts : List Sign) (e : Tree) → all_of n ts ≡ Ok e → IsSpelled n ts e
 unfolding all_of below

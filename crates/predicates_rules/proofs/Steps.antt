@@ -3,7 +3,7 @@ use Rattle.std.proofs.Common.{◌≡◌, Bool, true, false, cond, List, [], ◌�
 use Rattle.predicates_rules.specs.declared.expression.Connective.{Connective}
 use Rattle.predicates_rules.specs.declared.expression.Connective.TheVariants.{Or, Xor, And}
 use Rattle.predicates_rules.specs.declared.stop.Stop.{Stop}
-use Rattle.predicates_rules.specs.Trees.{Sign, Join, Close}
+use Rattle.predicates_rules.specs.Trees.{Sign, Join, Close, End}
 use Rattle.predicates_rules.specs.Grammar.{Level, By, Single, tighter}
 use Rattle.predicates_rules.specs.Answers.{◌>>=◌}
 use Rattle.predicates_rules.specs.Reading.{Answer, same, after_join, chain, at_level}
@@ -44,7 +44,7 @@ stops_at_close (By Or) ts = (refl, refl, refl)
 stops_at_close (By Xor) ts = (refl, refl)
 stops_at_close (By And) ts = refl
 
-pub stops_at_end : (l : Level) → Stops l []
+pub stops_at_end : (l : Level) → Stops l (End ∷ [])
 unfolding after_join
 stops_at_end Single = tt
 stops_at_end (By Or) = (refl, refl, refl)

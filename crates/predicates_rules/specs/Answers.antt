@@ -32,3 +32,8 @@ stops x left = Err (stop_at x left)
 abbrev pub IsSyntax : ReadError → Type 0
 IsSyntax errors.Memory = ⊥
 IsSyntax (errors.Stopped s) = s.reason ≢ reasons.TooDeep
+
+-- why and where something stopped, unless memory ran out
+abbrev pub IsStop : (Stop → Type 0) → ReadError → Type 0
+IsStop p errors.Memory = Unit {0}
+IsStop p (errors.Stopped s) = p s

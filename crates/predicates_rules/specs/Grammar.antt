@@ -6,7 +6,7 @@ use Rattle.predicates_rules.specs.declared.expression.Quantifier.{Quantifier}
 use Rattle.predicates_rules.specs.declared.condition.Comparison.{Comparison}
 use Rattle.predicates_rules.specs.declared.condition.Relation.{Relation}
 use Rattle.predicates_rules.specs.declared.condition.State.{State}
-use Rattle.predicates_rules.specs.Trees.{Value, Text, Sign, Join, Not, Quantify, Open, Close, OpenList, CloseList, Comma, Path, Compare, Relate, In, Is, Plain, Test, TheValueIs, Compares, Relates, IsAmong, Tree, At, Denied, Quantified, Joined, Trees, none, more}
+use Rattle.predicates_rules.specs.Trees.{Value, Text, Sign, Join, Not, Quantify, Open, Close, OpenList, CloseList, Comma, Path, Compare, Relate, In, Is, Plain, End, Test, TheValueIs, Compares, Relates, IsAmong, Tree, At, Denied, Quantified, Joined, Trees, none, more}
 
 -- How tightly an expression holds together: one joined by c or by what binds tighter, or a single one.
 pub data Level : Type 0 where
@@ -64,6 +64,10 @@ mutual
     and_more : {n : ℕ} {c : Connective} {e : Tree} {es : Trees} {ts us rest : List Sign} → Spells n (tighter c) ts e us → Follow n c us es rest
         → Follow n c (Join c ∷ ts) (more e es) rest
 
+-- how deep a rule may nest
+abbrev pub max_depth : ℕ
+max_depth = 100
+
 -- all of the tokens
 abbrev pub IsSpelled : ℕ → List Sign → Tree → Type 0
-IsSpelled n ts e = Spells n (By Or) ts e []
+IsSpelled n ts e = Spells n (By Or) ts e (End ∷ [])

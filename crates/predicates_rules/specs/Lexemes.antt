@@ -13,7 +13,7 @@ use Rattle.predicates_rules.specs.declared.fixed.Fixed.{Fixed}
 use Rattle.predicates_rules.specs.declared.fixed.Fixed.TheVariants as fixed
 use Rattle.predicates_rules.specs.declared.lexer.Class.{Class}
 use Rattle.predicates_rules.specs.declared.lexer.Class.TheVariants.{Letter, Digit, Symbol, Mark, Slash, Quote, Space, Name, Other}
-use Rattle.predicates_rules.specs.Trees.{Value, Natural, Negative, Text, Boolean, Null, Sign, Join, Not, Quantify, Open, Close, OpenList, CloseList, Comma, Path, Compare, Relate, In, Is, Plain}
+use Rattle.predicates_rules.specs.Trees.{Value, Natural, Negative, Text, Boolean, Null, Sign, Join, Not, Quantify, Open, Close, OpenList, CloseList, Comma, Path, Compare, Relate, In, Is, Plain, End}
 
 -- ---- tokens with a text of their own
 
@@ -174,8 +174,8 @@ abbrev pub is_over : List ℕ → Bool
 is_over [] = true
 is_over (b ∷ text) = b == 35
 
--- Spaces and tokens up to the end or a comment, each token with the number of bytes from it on.
+-- Spaces and tokens up to the end or a comment, each with the number of bytes from it on.
 pub data IsLexed : List ℕ → List (Sign × ℕ) → Type 0 where
-  over : {text : List ℕ} → is_over text ≡ true → IsLexed text []
+  over : {text : List ℕ} → is_over text ≡ true → IsLexed text ((End, length text) ∷ [])
   space : {b : ℕ} {text : List ℕ} {ts : List (Sign × ℕ)} → is_space b ≡ true → IsLexed text ts → IsLexed (b ∷ text) ts
   token : {text : List ℕ} {ts : List (Sign × ℕ)} {t : Sign} {word rest : List ℕ} → cut text ≡ Some (word, rest) → IsWritten t word → IsLexed rest ts → IsLexed text ((t, length text) ∷ ts)

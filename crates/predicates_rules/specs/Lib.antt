@@ -6,3 +6,5 @@ pub mod Levels
 pub mod Lexemes
 pub mod Scanning
 pub mod Rules
+pub mod Heading
+pub mod Faults

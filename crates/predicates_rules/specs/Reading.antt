@@ -7,7 +7,7 @@ use Rattle.predicates_rules.specs.declared.error.Expected.{Expected}
 use Rattle.predicates_rules.specs.declared.error.Expected.TheVariants as expected
 use Rattle.predicates_rules.specs.declared.error.Reason.TheVariants.{TooDeep}
 use Rattle.predicates_rules.specs.declared.stop.Stop.{Stop}
-use Rattle.predicates_rules.specs.Trees.{Value, Text, Sign, Join, Not, Quantify, Open, Close, OpenList, CloseList, Comma, Path, Compare, Relate, In, Is, Plain, Test, TheValueIs, Compares, Relates, IsAmong, Tree, At, Denied, Quantified, Joined, Trees, none, more}
+use Rattle.predicates_rules.specs.Trees.{Value, Text, Sign, Join, Not, Quantify, Open, Close, OpenList, CloseList, Comma, Path, Compare, Relate, In, Is, Plain, End, Test, TheValueIs, Compares, Relates, IsAmong, Tree, At, Denied, Quantified, Joined, Trees, none, more}
 use Rattle.predicates_rules.specs.Grammar.{Level, By, Single}
 use Rattle.predicates_rules.specs.Answers.{◌>>=◌, stops}
 
@@ -133,10 +133,13 @@ unfoldable pub below : ℕ → Level → List Sign → Answer
 below zero level ts = Err (record { reason = TooDeep; left = length ts })
 below (suc n) level ts = at_level (below n) level ts
 
+abbrev pub is_end : List Sign → Bool
+is_end (End ∷ []) = true
+is_end ts = false
+
 -- nothing is left
 unfoldable pub ended : Tree × List Sign → Result Tree Stop
-ended (e, []) = Ok e
-ended (e, t ∷ ts) = fails expected.End (t ∷ ts)
+ended x = if is_end x.1 then Ok x.0 else fails expected.End x.1
 
 unfoldable pub all_of : ℕ → List Sign → Result Tree Stop
 all_of n ts = below (suc n) (By Or) ts >>= ended

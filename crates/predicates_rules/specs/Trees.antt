@@ -37,6 +37,8 @@ pub data Sign : Type 0 where
   In : Sign
   Is : (s : State) → Sign
   Plain : (v : Value) → Sign
+  -- behind all others
+  End : Sign
 
 pub data Test : Type 0 where
   TheValueIs : (s : State) → Test
@@ -81,6 +83,7 @@ sign_of (kinds.Relation r) = Relate r
 sign_of kinds.In = In
 sign_of (kinds.State s) = Is s
 sign_of (kinds.Literal v) = Plain (value_of v)
+sign_of kinds.End = End
 
 abbrev pub signs : List Token → List Sign
 signs ts = map (λ t. sign_of t.kind) ts

@@ -1,12 +1,13 @@
 //! Takes an expression's text apart into tokens.
 
-ghost use Rattle.std.specs.Prelude.{◌≡◌, ℕ, ◌+◌, ◌≤◌, List, map, option_map, length, IfOk, IfSome, Ok, Some, None, string_bytes, take, drop, ◌∷◌, [], false, not, ◌&&◌, ◌==◌};
+ghost use Rattle.std.specs.Prelude.{◌≡◌, ℕ, ◌+◌, ◌≤◌, List, map, option_map, length, IfOk, IfErr, IfSome, Ok, Some, None, string_bytes, take, drop, ◌∷◌, [], false, not, ◌&&◌, ◌==◌};
 ghost use Rattle.std.specs.List.{prefix_len};
 ghost use Rattle.serde_json.specs.View.{view, number_view};
 ghost use Rattle.predicates_rules.specs.Trees.{Sign, sign_of, value_of};
 ghost use Rattle.predicates_rules.specs.Lexemes.{class_of, continues, is_space, is_over, text_end, token_len, cut, pointer, IsLexed};
 ghost use Rattle.predicates_rules.specs.Scanning.{number_in, value_in, value_at, front_class, sign_in, token_at, after_space, placed};
-ghost use Rattle.predicates_rules.specs.Answers.{Gives, stop_at};
+ghost use Rattle.predicates_rules.specs.Answers.{Gives, IsStop, stop_at};
+ghost use Rattle.predicates_rules.specs.Faults.{NoToken};
 
 use crate::error::{Expected, Reason};
 use crate::fixed::{fixed_of, kind};
@@ -251,7 +252,8 @@ fn token(alloc: Global, text: &[u8]) -> Result<(Kind, &[u8]), ReadError>
     }
 }
 
-fn is_at_end(text: &[u8]) -> bool
+/// Whether nothing follows but a comment.
+pub fn is_at_end(text: &[u8]) -> bool
     ensures { result ≡ is_over text.now }
 {
     match text {
@@ -277,6 +279,8 @@ pub fn lex(alloc: Global, text: &[u8]) -> Result<Vec<Token>, ReadError>
     // What is spaces and tokens is taken apart so, unless memory runs out.
     ensures only { (ts : List (Sign × ℕ)) → IsLexed text.now ts
         → Gives (λ v. map placed v.items) result (Ok ts) }
+    // Where it stops, and why.
+    ensures fault { IfErr result (IsStop (NoToken text.now)) }
 {
     let mut tokens = Vec::new(alloc);
     let mut left = text;
@@ -295,5 +299,9 @@ pub fn lex(alloc: Global, text: &[u8]) -> Result<Vec<Token>, ReadError>
             }
         }
     }
+    tokens.push(Token {
+        kind: Kind::End,
+        left: left.len(),
+    })?;
     Ok(tokens)
 }

@@ -8,6 +8,7 @@ pub mod fixed;
 pub mod lexer;
 pub mod literal;
 pub mod parser;
+pub mod reader;
 pub mod rule;
 pub mod stop;
 pub mod token;

@@ -6,7 +6,7 @@ ghost use Rattle.predicates_rules.specs.Grammar.{tighter, By, Single, IsSpelled}
 ghost use Rattle.predicates_rules.specs.declared.expression.Connective.TheVariants.{Or};
 ghost use Rattle.predicates_rules.specs.Levels.{level_of};
 ghost use Rattle.predicates_rules.specs.Answers.{Gives, IsSyntax, stop_at};
-ghost use Rattle.predicates_rules.specs.Reading.{literal_at, goes_on_at, items_at, list_at, after_bracket, text_at, test_at, path_at, after_open, after_close, same, after_join, group, quantified, single, parts_at, join, chain, at_level, below, all_of};
+ghost use Rattle.predicates_rules.specs.Reading.{literal_at, goes_on_at, items_at, list_at, after_bracket, text_at, test_at, path_at, after_open, after_close, same, after_join, group, quantified, single, parts_at, join, chain, at_level, below, is_end, all_of};
 
 use crate::condition::Condition;
 use crate::error::{Expected, Reason};
@@ -382,12 +382,24 @@ fn over_items(
     ))
 }
 
+fn is_last(tokens: &[Token]) -> bool
+    ensures { result ≡ is_end (signs tokens.now) }
+{
+    match tokens {
+        [token] => match token.kind {
+            Kind::End => true,
+            _ => false,
+        },
+        _ => false,
+    }
+}
+
 #[tactic(auto, unfolding(crate::specs::Reading::all_of, crate::specs::Reading::ended, crate::specs::Reading::below))]
 fn all(alloc: Global, tokens: &[Token]) -> Result<Expression, ReadError>
     ensures { Gives tree_of result (all_of MAX_DEPTH (signs tokens.now)) }
 {
     let (expression, rest) = at_grip(alloc, Grip::By(Connective::Or), MAX_DEPTH, tokens)?;
-    if !rest.is_empty() {
+    if !is_last(rest) {
         return Err(stop(Expected::End, rest));
     }
     Ok(expression)

@@ -20,6 +20,8 @@ pub enum Kind {
     In,
     State(State),
     Literal(Literal),
+    /// The end of a line or a comment, behind all other tokens.
+    End,
 }
 
 /// A token, and how many bytes of its line there are from it on.
