@@ -10,3 +10,4 @@ pub mod Lexed
 pub mod LexLoop
 pub mod Lines
 pub mod Readings
+pub mod Files

@@ -133,7 +133,7 @@ pub one_saying : (n m : ℕ) (text : List ℕ) (e f : Tree) → Says n text e �
 one_saying n m text e f (ts, c, s) (us, d, t) =
     one_tree n m (map (λ x. x.0) ts) e f s (subst (λ (vs : List (Sign × ℕ)). IsSpelled m (map (λ x. x.0) vs) f) (one_lexing d c) t)
 
-one_line : (n m : ℕ) (line : List ℕ) (o p : Option (List ℕ × Tree)) → IsLine n line o → IsLine m line p → o ≡ p
+pub one_line : (n m : ℕ) (line : List ℕ) (o p : Option (List ℕ × Tree)) → IsLine n line o → IsLine m line p → o ≡ p
 one_line n m line o p (blank c) (blank d) = refl
 one_line n m line o p (blank c) (rule {name = name} {text = text} h s) = absurd (heads_not_blank line name text h c)
 one_line n m line o p (rule {name = name} {text = text} h s) (blank d) = absurd (heads_not_blank line name text h d)
