@@ -4,7 +4,6 @@ use Rattle.predicates_rules.specs.declared.expression.Connective.{Connective}
 use Rattle.predicates_rules.specs.declared.expression.Connective.TheVariants.{Or}
 use Rattle.predicates_rules.specs.Trees.{Value, Sign, Join, Test, Tree, Trees, none, more}
 use Rattle.predicates_rules.specs.Grammar.{Level, By, tighter, Items, last, another, IsTest, word, compare, relate, among_none, among, Spells, test, denied, group, quantified, alone, joined, Follow, no_more, and_more, IsSpelled}
-use Rattle.predicates_rules.specs.Answers.{◌>>=◌}
 use Rattle.predicates_rules.specs.Reading.{Answer, literal_at, items_at, list_at, after_bracket, text_at, test_at, path_at, after_open, after_close, after_join, with_next, parts_at, join, chain, single, at_level, below, ended, all_of}
 use Rattle.predicates_rules.specs.Reading as reading
 use Rattle.predicates_rules.proofs.Lengths.{spells_shortens}

@@ -1,20 +1,17 @@
 -- Reading lines one after the other, as a loop does.
-use Rattle.std.proofs.Common.{◌≡◌, ◌≢◌, ℕ, zero, suc, ◌+◌, ◌<◌, ◌≤◌, Bor, List, [], ◌∷◌, ◌++◌, map, length, get_or, drop, Option, Some, None, option_map, Result, Ok, Err, Vec, Global, refl, sym, ap, subst, ◌∙◌, arith, append_assoc}
-use Rattle.std.specs.Prelude.{IfOk, IfErr}
+use Rattle.std.proofs.Common.{◌≡◌, ℕ, zero, suc, ◌+◌, ◌<◌, ◌≤◌, Bor, List, [], ◌∷◌, ◌++◌, map, length, get_or, drop, Option, Some, None, Result, Ok, Err, refl, sym, ap, subst, ◌∙◌, arith, append_assoc}
 use Rattle.std.proofs.lemmas.List.{append-nil}
 use Rattle.predicates_rules.specs.declared.error.Reason.{Reason}
-use Rattle.predicates_rules.specs.declared.error.Reason.TheVariants.{TooDeep}
 use Rattle.predicates_rules.specs.declared.error.RulesError.{RulesError}
 use Rattle.predicates_rules.specs.declared.error.RulesError.TheVariants.{OutOfMemory, Unreadable}
 use Rattle.predicates_rules.specs.declared.stop.Stop.{Stop}
 use Rattle.predicates_rules.specs.declared.stop.ReadError.{ReadError}
 use Rattle.predicates_rules.specs.declared.stop.ReadError.TheVariants as errors
-use Rattle.predicates_rules.specs.declared.rule.Rule.{Rule}
 use Rattle.predicates_rules.specs.Trees.{Tree}
 use Rattle.predicates_rules.specs.Grammar.{max_depth}
 use Rattle.predicates_rules.specs.Answers.{Fails, IsStop, IsSyntax}
 use Rattle.predicates_rules.specs.Rules.{IsLine, AreRules, no_more, skipped, taken, AreRead}
-use Rattle.predicates_rules.specs.Faults.{IsLineFault, column_at, IsFirstFault, in_this, in_later, IsFaultOf, IsSyntaxError, error_at, IsLineError}
+use Rattle.predicates_rules.specs.Faults.{IsLineFault, IsFirstFault, in_this, in_later, IsFaultOf, IsSyntaxError, error_at, IsLineError}
 use Rattle.predicates_rules.proofs.Lines.{one_line}
 
 -- ---- one line

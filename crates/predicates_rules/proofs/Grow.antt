@@ -8,7 +8,7 @@ use Rattle.predicates_rules.specs.declared.stop.Stop.{Stop}
 use Rattle.predicates_rules.specs.declared.stop.ReadError.{ReadError}
 use Rattle.predicates_rules.specs.declared.stop.ReadError.TheVariants as errors
 use Rattle.predicates_rules.specs.declared.expression.Expression.{Expression}
-use Rattle.predicates_rules.specs.Trees.{tree_of, Sign, Not, Quantify, Open, Path, Tree, At, Denied, Quantified, Joined, Trees, none, more}
+use Rattle.predicates_rules.specs.Trees.{tree_of, Sign, Not, Quantify, Open, Path, Tree, At, Denied, Quantified, Trees, more}
 use Rattle.predicates_rules.specs.Grammar.{Level, By, Single, IsSpelled}
 use Rattle.predicates_rules.specs.Answers.{◌>>=◌, Gives, IsSyntax}
 use Rattle.predicates_rules.specs.Reading.{Answer, test_at, path_at, after_open, after_close, after_join, with_next, parts_at, join, chain, single, at_level, below, ended, all_of}

@@ -1,15 +1,14 @@
 -- Taking tokens one after the other, as a loop does.
-use Rattle.std.proofs.Common.{◌≡◌, ℕ, ◌<◌, Bool, true, false, cond, List, [], ◌∷◌, ◌++◌, length, Option, Some, None, Result, Ok, Err, refl, sym, ap, subst, ◌∙◌, arith, append_assoc}
+use Rattle.std.proofs.Common.{◌≡◌, ℕ, ◌<◌, Bool, true, false, cond, List, [], ◌∷◌, ◌++◌, length, Some, None, Result, Ok, Err, refl, sym, ap, subst, ◌∙◌, arith, append_assoc}
 use Rattle.std.proofs.lemmas.Bool.Decides.{nat_tests}
-use Rattle.predicates_rules.specs.declared.lexer.Class.{Class}
 use Rattle.predicates_rules.specs.declared.lexer.Class.TheVariants.{Other}
 use Rattle.predicates_rules.specs.declared.stop.Stop.{Stop}
 use Rattle.predicates_rules.specs.declared.stop.ReadError.{ReadError}
 use Rattle.predicates_rules.specs.declared.stop.ReadError.TheVariants as errors
 use Rattle.predicates_rules.specs.Answers.{Fails, IsStop}
 use Rattle.predicates_rules.specs.Trees.{Sign, End}
-use Rattle.predicates_rules.specs.Lexemes.{is_space, is_over, class_of, cut, IsWritten, IsLexed, over, space, token}
-use Rattle.predicates_rules.specs.Scanning.{sign_in, token_at, after_space}
+use Rattle.predicates_rules.specs.Lexemes.{is_space, is_over, class_of, IsLexed, over, space, token}
+use Rattle.predicates_rules.specs.Scanning.{token_at, after_space}
 use Rattle.predicates_rules.specs.Faults.{NoToken, no_token_here, behind_space_fault, past_token_fault}
 use Rattle.predicates_rules.proofs.Loop.{ok_is}
 use Rattle.predicates_rules.proofs.Lexed.{token_again, token_found, shorter, no_sign}

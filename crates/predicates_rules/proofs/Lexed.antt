@@ -1,11 +1,10 @@
 -- A token at the front of a text.
-use Rattle.std.proofs.Common.{◌≡◌, ℕ, zero, suc, ◌+◌, ◌-◌, ◌<◌, ◌≤◌, Bool, true, false, cond, List, [], ◌∷◌, ◌++◌, length, get_or, take, drop, Option, Some, None, Result, Ok, Err, refl, sym, ap, subst, ◌∙◌, arith, length-drop, drop-cons}
+use Rattle.std.proofs.Common.{◌≡◌, ℕ, suc, ◌+◌, ◌<◌, ◌≤◌, Bool, true, false, cond, List, [], ◌∷◌, length, get_or, take, drop, Option, Some, None, Result, Ok, Err, refl, sym, ap, subst, ◌∙◌, arith, length-drop, drop-cons}
 use Rattle.std.specs.Prelude.{◌&&◌, not, ◌==◌, option_map, option_and_then}
 use Rattle.std.specs.List.{find, prefix_len}
 use Rattle.std.specs.Str.{IsUtf8, is_utf8, bytes_eq}
 use Rattle.std.proofs.lemmas.Str.{IsUtf8-from_is_utf8, is_utf8-from_IsUtf8}
 use Rattle.std.proofs.lemmas.Slice.Eq.{bytes_eq-Decides}
-use Rattle.std.proofs.lemmas.Option.{cond_some}
 use Rattle.serde_json.specs.Data.{Num, unsigned, negative, float, Data, null, boolean, number, string, array, object}
 use Rattle.serde_json.specs.Read.{read}
 use Rattle.predicates_rules.specs.declared.fixed.Fixed.{Fixed}
@@ -16,8 +15,8 @@ use Rattle.predicates_rules.specs.declared.error.Expected.{Expected}
 use Rattle.predicates_rules.specs.declared.error.Expected.TheVariants as expected
 use Rattle.predicates_rules.specs.declared.stop.Stop.{Stop}
 use Rattle.predicates_rules.specs.Trees.{Value, Natural, Negative, Text, Boolean, Null, Sign, Path, Plain}
-use Rattle.predicates_rules.specs.Answers.{◌>>=◌, stops, stop_at}
-use Rattle.predicates_rules.specs.Lexemes.{text_of, sign_of_fixed, all_fixed, fixed_at, class_of, continues, text_end, class_len, token_len, cut, data_of, begins_literal, pointer, IsWritten, fixed_text, literal, path}
+use Rattle.predicates_rules.specs.Answers.{◌>>=◌, stop_at}
+use Rattle.predicates_rules.specs.Lexemes.{text_of, sign_of_fixed, all_fixed, fixed_at, class_of, continues, text_end, class_len, cut, data_of, begins_literal, pointer, IsWritten, fixed_text, literal, path}
 use Rattle.predicates_rules.specs.Scanning.{number_in, value_in, value_at, sign_or, value_or, path_or, front_class, sign_in, with_word, token_at}
 use Rattle.predicates_rules.proofs.Loop.{ok_is}
 

@@ -1,23 +1,21 @@
 -- Lines of rules.
-use Rattle.std.proofs.Common.{◌≡◌, ℕ, zero, suc, ◌+◌, ◌<◌, ◌≤◌, Bool, true, false, cond, List, [], ◌∷◌, ◌++◌, map, length, take, drop, Option, Some, None, option_map, Result, Ok, Err, refl, sym, ap, subst, ◌∙◌, arith, append_assoc, one-add, length-append}
-use Rattle.std.specs.Prelude.{◌&&◌, ◌==◌, IfOk}
+use Rattle.std.proofs.Common.{◌≡◌, ℕ, zero, suc, ◌+◌, ◌<◌, Bool, true, false, cond, List, [], ◌∷◌, ◌++◌, map, length, take, drop, Option, Some, None, Result, Ok, Err, refl, sym, ap, subst, ◌∙◌, arith, one-add}
+use Rattle.std.specs.Prelude.{◌&&◌, ◌==◌}
 use Rattle.std.specs.List.{prefix_len, list_all}
 use Rattle.std.specs.Str.{IsUtf8, is_utf8}
 use Rattle.std.proofs.lemmas.Str.{is_utf8-from_IsUtf8}
 use Rattle.std.proofs.lemmas.Bool.{eqb-true}
 use Rattle.std.proofs.lemmas.Bool.Decides.{nat_tests}
-use Rattle.std.proofs.lemmas.List.{take_at, drop_at, take-append-drop, append-nil}
-use Rattle.predicates_rules.specs.declared.lexer.Class.TheVariants.{Space, Name}
+use Rattle.std.proofs.lemmas.List.{take_at, drop_at, take-append-drop}
+use Rattle.predicates_rules.specs.declared.lexer.Class.TheVariants.{Name}
 use Rattle.predicates_rules.specs.declared.error.Expected.TheVariants as expected
 use Rattle.predicates_rules.specs.declared.stop.Stop.{Stop}
 use Rattle.predicates_rules.specs.declared.stop.ReadError.{ReadError}
 use Rattle.predicates_rules.specs.declared.stop.ReadError.TheVariants as errors
-use Rattle.predicates_rules.specs.declared.token.Token.{Token}
-use Rattle.predicates_rules.specs.Trees.{Sign, Tree, signs}
+use Rattle.predicates_rules.specs.Trees.{Sign, Tree}
 use Rattle.predicates_rules.specs.Grammar.{IsSpelled}
-use Rattle.predicates_rules.specs.Answers.{◌>>=◌, Gives, Fails, stops}
-use Rattle.predicates_rules.specs.Lexemes.{continues, is_over, IsLexed}
-use Rattle.predicates_rules.specs.Scanning.{placed}
+use Rattle.predicates_rules.specs.Answers.{◌>>=◌, Fails, stops}
+use Rattle.predicates_rules.specs.Lexemes.{continues, is_over}
 use Rattle.predicates_rules.specs.Rules.{Says, after_spaces, Heads, IsLine, blank, rule, AreRules, no_more, skipped, taken}
 use Rattle.predicates_rules.specs.Heading.{after_colon, named, head_at}
 use Rattle.predicates_rules.proofs.Loop.{ok_is}
@@ -86,9 +84,12 @@ named_is (b ∷ line) (suc k) x e h =
     let u = utf8_then (is_utf8 (take (suc k) (b ∷ line))) (length (b ∷ line)) (after_colon (drop (suc k) (b ∷ line)) >>= λ text. Ok (take (suc k) (b ∷ line), text)) x h in
     let c = name_ok (after_colon (drop (suc k) (b ∷ line))) (take (suc k) (b ∷ line)) x u.1 in
     let passes = subst (λ (n : ℕ). list_all (continues Name) (take n (b ∷ line)) ≡ true) (sym e) (run_passes (continues Name) (b ∷ line)) in
-    let some : 0 < length (b ∷ take k line) = omega arith in
-    (subst (λ (w : List ℕ). 0 < length w) c.0 some, subst (λ (w : List ℕ). list_all (continues Name) w ≡ true) c.0 passes, subst (λ (w : List ℕ). is_utf8 w ≡ true) c.0 u.0,
-    sym (take-append-drop (suc k) (b ∷ line)) ∙ ap (λ (w : List ℕ). w ++ drop (suc k) (b ∷ line)) c.0 ∙ ap (λ (w : List ℕ). x.0 ++ w) (colon_is (drop (suc k) (b ∷ line)) x.1 c.1))
+    let some : 0 < length (b ∷ take k line) = omega arith in (
+      subst (λ (w : List ℕ). 0 < length w) c.0 some,
+      subst (λ (w : List ℕ). list_all (continues Name) w ≡ true) c.0 passes,
+      subst (λ (w : List ℕ). is_utf8 w ≡ true) c.0 u.0,
+      sym (take-append-drop (suc k) (b ∷ line)) ∙ ap (λ (w : List ℕ). w ++ drop (suc k) (b ∷ line)) c.0 ∙ ap (λ (w : List ℕ). x.0 ++ w) (colon_is (drop (suc k) (b ∷ line)) x.1 c.1),
+    )
 
 pub head_is : (line name text : List ℕ) → head_at (after_spaces line) ≡ Ok (name, text) → Heads line name text
 unfolding head_at

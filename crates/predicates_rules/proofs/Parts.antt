@@ -4,9 +4,9 @@ use Rattle.predicates_rules.specs.declared.expression.Connective.{Connective}
 use Rattle.predicates_rules.specs.declared.stop.Stop.{Stop}
 use Rattle.predicates_rules.specs.declared.stop.ReadError.{ReadError}
 use Rattle.predicates_rules.specs.declared.stop.ReadError.TheVariants as errors
-use Rattle.predicates_rules.specs.Trees.{Sign, Join, Tree, Trees, none, more, trees_of}
+use Rattle.predicates_rules.specs.Trees.{Sign, Tree, Trees, none, more, trees_of}
 use Rattle.predicates_rules.specs.Answers.{◌>>=◌, Fails}
-use Rattle.predicates_rules.specs.Reading.{Answer, after_join, with_next, parts_at}
+use Rattle.predicates_rules.specs.Reading.{Answer, after_join, parts_at}
 use Rattle.predicates_rules.proofs.Steps.{join_is}
 
 abbrev pub put_front : List Tree → Trees → Trees

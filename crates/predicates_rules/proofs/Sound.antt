@@ -8,7 +8,7 @@ use Rattle.predicates_rules.specs.declared.stop.ReadError.{ReadError}
 use Rattle.predicates_rules.specs.declared.stop.Stop.{Stop}
 use Rattle.predicates_rules.specs.declared.error.Expected.TheVariants as expected
 use Rattle.predicates_rules.specs.declared.expression.Expression.{Expression}
-use Rattle.predicates_rules.specs.Trees.{tree_of, Value, Text, Sign, Join, Not, Quantify, Open, Close, OpenList, CloseList, Comma, Path, Compare, Relate, In, Is, Plain, End, Test, TheValueIs, Compares, Relates, IsAmong, Tree, At, Denied, Quantified, Joined, Trees, none, more}
+use Rattle.predicates_rules.specs.Trees.{tree_of, Value, Text, Sign, Join, Not, Quantify, Open, Close, OpenList, CloseList, Comma, Path, Compare, Relate, In, Is, Plain, End, Test, TheValueIs, Compares, Relates, IsAmong, Tree, At, Denied, Quantified, Trees, none, more}
 use Rattle.predicates_rules.specs.Grammar.{Level, By, Single, tighter, Items, last, another, IsTest, word, compare, relate, among_none, among, Spells, test, denied, group, quantified, alone, joined, Follow, no_more, and_more, IsSpelled}
 use Rattle.predicates_rules.specs.Answers.{◌>>=◌, Gives}
 use Rattle.predicates_rules.specs.Reading.{Answer, literal_at, items_at, list_at, after_bracket, text_at, test_at, path_at, after_open, after_close, after_join, with_next, parts_at, join, chain, single, at_level, below, is_end, fails, ended, all_of}

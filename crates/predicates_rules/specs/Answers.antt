@@ -1,7 +1,6 @@
 -- What a reader found, or why it stopped.
 use Rattle.std.specs.Prelude.{◌≡◌, ◌≢◌, ℕ, Result, Ok, Err}
 use Rattle.predicates_rules.specs.declared.error.Expected.{Expected}
-use Rattle.predicates_rules.specs.declared.error.Reason.{Reason}
 use Rattle.predicates_rules.specs.declared.error.Reason.TheVariants as reasons
 use Rattle.predicates_rules.specs.declared.stop.Stop.{Stop}
 use Rattle.predicates_rules.specs.declared.stop.ReadError.{ReadError}

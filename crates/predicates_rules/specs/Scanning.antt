@@ -1,5 +1,5 @@
 -- Taking one token from the front of a text.
-use Rattle.std.specs.Prelude.{◌≡◌, ℕ, List, [], ◌∷◌, length, Bool, Option, Some, None, option_and_then, if◌then◌else◌, Result, Ok, Err}
+use Rattle.std.specs.Prelude.{ℕ, List, [], ◌∷◌, length, Bool, Option, Some, None, option_and_then, if◌then◌else◌, Result, Ok}
 use Rattle.std.specs.Str.{is_utf8}
 use Rattle.serde_json.specs.Data.{Num, unsigned, negative, float, Data, null, boolean, number, string, array, object}
 use Rattle.serde_json.specs.Read.{read}
@@ -9,7 +9,7 @@ use Rattle.predicates_rules.specs.declared.error.Expected.TheVariants as expecte
 use Rattle.predicates_rules.specs.declared.stop.Stop.{Stop}
 use Rattle.predicates_rules.specs.declared.token.Token.{Token}
 use Rattle.predicates_rules.specs.declared.lexer.Class.{Class}
-use Rattle.predicates_rules.specs.declared.lexer.Class.TheVariants.{Letter, Digit, Symbol, Mark, Slash, Quote, Space, Name, Other}
+use Rattle.predicates_rules.specs.declared.lexer.Class.TheVariants.{Letter, Digit, Symbol, Mark, Slash, Quote, Other}
 use Rattle.predicates_rules.specs.Trees.{Value, Natural, Negative, Text, Boolean, Null, Sign, Path, Plain, sign_of}
 use Rattle.predicates_rules.specs.Answers.{◌>>=◌, stops}
 use Rattle.predicates_rules.specs.Lexemes.{class_of, is_space, fixed_at, sign_of_fixed, cut, pointer}

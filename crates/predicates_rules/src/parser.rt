@@ -311,7 +311,7 @@ fn others(
 ) -> Result<(Vec<Expression>, &[Token]), ReadError>
     ensures { Gives (λ x. (trees_of (map tree_of x.0.items), signs x.1.now)) result
         (parts_at (length (signs tokens.now)) connective
-            (at_level (below depth) (tighter connective)) (signs tokens.now)) }
+        (at_level (below depth) (tighter connective)) (signs tokens.now)) }
 {
     let mut parts = Vec::new(alloc);
     let mut left = tokens;

@@ -6,7 +6,7 @@ use Rattle.predicates_rules.specs.declared.token.Token.{Token}
 use Rattle.predicates_rules.specs.declared.token.Kind.TheVariants.{End}
 use Rattle.predicates_rules.specs.Scanning.{placed}
 use Rattle.predicates_rules.proofs.Lexed.{shorter}
-use Rattle.predicates_rules.proofs.LexLoop.{starts, past_space, past_token, space_shortens, all_found, only_these, cannot, stopped}
+use Rattle.predicates_rules.proofs.LexLoop.{past_space, past_token, all_found, only_these, cannot, stopped}
 use Rattle.predicates_rules.proofs.lexer.lex.Goals as goal
 
 pub loop-alloc-preserved-in-Some : goal.loop-alloc-preserved-in-Some

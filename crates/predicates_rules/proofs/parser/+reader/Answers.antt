@@ -1,12 +1,11 @@
-use Rattle.std.proofs.Common.{◌≡◌, ◌<◌, ◌++◌, ◌∷◌, [], map, length, arith, subst, sym, Ok, Some, List, Result}
+use Rattle.std.proofs.Common.{◌≡◌, ◌++◌, ◌∷◌, [], map, length, arith, subst, sym, Ok}
 use Rattle.std.proofs.lemmas.Result.{err_from_is_err_and}
 use Rattle.std.proofs.lemmas.List.{map_push}
-use Rattle.predicates_rules.specs.declared.stop.Stop.{Stop}
-use Rattle.predicates_rules.specs.Trees.{Tree, Sign, tree_of, signs}
+use Rattle.predicates_rules.specs.Trees.{tree_of, signs}
 use Rattle.predicates_rules.specs.Grammar.{Level, tighter}
 use Rattle.predicates_rules.specs.Levels.{level_of}
 use Rattle.predicates_rules.specs.Answers.{Fails}
-use Rattle.predicates_rules.specs.Reading.{at_level, below, parts_at, after_join}
+use Rattle.predicates_rules.specs.Reading.{at_level, below, parts_at}
 use Rattle.predicates_rules.proofs.Heights.{lower}
 use Rattle.predicates_rules.proofs.Parts.{goes_on, is_done, no_part, join_shortens}
 use Rattle.predicates_rules.proofs.Sound.{level_shortens}

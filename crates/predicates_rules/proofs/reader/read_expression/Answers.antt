@@ -1,11 +1,11 @@
-use Rattle.std.proofs.Common.{subst, List, ◌∙◌, refl, ℕ, Ok}
+use Rattle.std.proofs.Common.{subst, List, ℕ, Ok}
 use Rattle.std.proofs.lemmas.Result.{err_from_is_err_and}
 use Rattle.predicates_rules.specs.declared.token.Token.{Token}
 use Rattle.predicates_rules.specs.Trees.{Tree, signs, tree_of}
 use Rattle.predicates_rules.specs.Grammar.{IsSpelled}
 use Rattle.predicates_rules.specs.Answers.{Gives, Fails, IsSyntax}
 use Rattle.predicates_rules.specs.Reading.{all_of}
-use Rattle.predicates_rules.proofs.Readings.{said, said_only, not_lexed, never_lexed, token_fault, not_said, never_said, expression_fault}
+use Rattle.predicates_rules.proofs.Readings.{said, said_only, token_fault, not_said, never_said, expression_fault}
 use Rattle.predicates_rules.proofs.reader.read_expression.Goals as goal
 
 pub returns-in_err-tokens-clause-fault : goal.returns-in_err-tokens-clause-fault

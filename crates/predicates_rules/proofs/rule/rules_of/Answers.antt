@@ -1,9 +1,7 @@
-use Rattle.std.proofs.Common.{◌≡◌, ◌++◌, ◌∷◌, [], map, subst, Option, Some, None, option_map}
+use Rattle.std.proofs.Common.{◌≡◌, ◌++◌, ◌∷◌, [], map, Some}
 use Rattle.std.proofs.lemmas.Result.{err_from_is_err_and}
 use Rattle.std.proofs.lemmas.List.{map_push}
-use Rattle.predicates_rules.specs.declared.rule.Rule.{Rule}
-use Rattle.predicates_rules.specs.Grammar.{max_depth}
-use Rattle.predicates_rules.specs.Rules.{IsLine, rule_of}
+use Rattle.predicates_rules.specs.Rules.{rule_of}
 use Rattle.predicates_rules.proofs.Files.{one_more, one_blank, cannot_at, never_at, fault_at, found_in, only_in}
 use Rattle.predicates_rules.proofs.rule.rules_of.Goals as goal
 use Rattle.predicates_rules.proofs.rule.rules_of.Goals.{in-Some+in_ok-push, in_default}
@@ -26,11 +24,11 @@ returns-in_err-rule-clause-fault c =
 pub loop-i-preserved : goal.loop-i-preserved
 loop-i-preserved c =
     elim c.match-branch-2.branch [
-      in-Some+in_ok-push w ↦
+      | in-Some+in_ok-push w ↦
           let e : map rule_of w.push.new.self.items ≡ map rule_of c.loop-i.rules.items ++ rule_of w.in-Some.rule ∷ [] = rw w.in_ok-push.ensures.items (map_push rule_of c.loop-i.rules.items w.in-Some.rule) in
           let line = rw w.in-Some.is at c.in_ok-rule.ensures.found in
           rw (w.rules-is, e) (one_more c.args.lines.now c.loop-i.i _ (map rule_of c.loop-i.rules.items) (Some (rule_of w.in-Some.rule)) c.loop-i-test.true line c.loop-i.invariant)
-    | in_default w ↦
+      | in_default w ↦
           let line = rw w.in_default.is at c.in_ok-rule.ensures.found in
           rw w.rules-is (one_blank c.args.lines.now c.loop-i.i _ (map rule_of c.loop-i.rules.items) c.loop-i-test.true line c.loop-i.invariant)
     ]
