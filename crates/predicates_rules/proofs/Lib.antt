@@ -11,3 +11,5 @@ pub mod LexLoop
 pub mod Lines
 pub mod Readings
 pub mod Files
+pub mod Printed
+pub mod Spaced

@@ -8,3 +8,4 @@ pub mod Scanning
 pub mod Rules
 pub mod Heading
 pub mod Faults
+pub mod Printing
