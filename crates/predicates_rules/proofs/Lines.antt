@@ -29,7 +29,7 @@ both_hold : (a b : Bool) → (a && b) ≡ true → (a ≡ true) × (b ≡ true)
 both_hold true b h = (refl, h)
 both_hold false b h = absurd cc
 
-run_is : (p : ℕ → Bool) (word rest : List ℕ) → list_all p word ≡ true → prefix_len p rest ≡ 0 → prefix_len p (word ++ rest) ≡ length word
+pub run_is : (p : ℕ → Bool) (word rest : List ℕ) → list_all p word ≡ true → prefix_len p rest ≡ 0 → prefix_len p (word ++ rest) ≡ length word
 run_is p [] rest h e = e
 run_is p (b ∷ word) rest h e = let q = both_hold (p b) (list_all p word) h in rw (q.0, run_is p word rest q.1 e) (omega arith)
 
