@@ -1,6 +1,7 @@
 -- Taking tokens one after the other, as a loop does.
-use Rattle.std.proofs.Common.{◌≡◌, ℕ, ◌<◌, Bool, true, false, cond, List, [], ◌∷◌, ◌++◌, length, Some, None, Result, Ok, Err, refl, sym, ap, subst, ◌∙◌, arith, append_assoc}
+use Rattle.std.proofs.Common.{◌≡◌, ℕ, ◌<◌, true, false, List, [], ◌∷◌, ◌++◌, length, Some, None, Result, Ok, Err, refl, sym, ap, subst, ◌∙◌, arith, append_assoc}
 use Rattle.std.proofs.lemmas.Bool.Decides.{nat_tests}
+use Rattle.std.proofs.lemmas.Option.{cond_some}
 use Rattle.predicates_rules.specs.declared.lexer.Class.TheVariants.{Other}
 use Rattle.predicates_rules.specs.declared.stop.Stop.{Stop}
 use Rattle.predicates_rules.specs.declared.stop.ReadError.{ReadError}
@@ -67,13 +68,9 @@ nothing_left text ts e (over o) = refl
 nothing_left text ts e (space {b = b} s d) = absurd (space_is_not_over b s e)
 nothing_left text ts e (token {t = t} {word = word} {rest = rest} c w d) = absurd (no_token_over text (t, rest) e (token_again text t word rest c w))
 
-chosen : (b : Bool) (text rest : List ℕ) → cond b (Some text) None ≡ Some rest → (b ≡ true) × (text ≡ rest)
-chosen true text rest e = (refl, cc)
-chosen false text rest e = absurd cc
-
 pub space_is : (text rest : List ℕ) → after_space text ≡ Some rest → (b : ℕ) × (text ≡ b ∷ rest) × (is_space b ≡ true)
 space_is [] rest e = absurd cc
-space_is (b ∷ text) rest e = let p = chosen (is_space b) text rest e in (b, ap (λ (u : List ℕ). b ∷ u) p.1, p.0)
+space_is (b ∷ text) rest e = let p = cond_some (is_space b) text rest e in (b, ap (λ (u : List ℕ). b ∷ u) p.1, p.0)
 
 pub space_shortens : (text rest : List ℕ) → after_space text ≡ Some rest → length rest < length text
 space_shortens text rest e = let p = space_is text rest e in omega (arith, ap length p.1)

@@ -55,7 +55,7 @@ in_data (Text text) = refl
 in_data (Boolean b) = refl
 in_data Null = refl
 
-some_is : {A : Type 0} (x y : A) → ◌≡◌ {A = Option A} (Some x) (Some y) → x ≡ y
+pub some_is : {A : Type 0} (x y : A) → ◌≡◌ {A = Option A} (Some x) (Some y) → x ≡ y
 some_is x y e = cc
 
 of_number : (n : Num) (v : Value) → number_in n ≡ Some v → number n ≡ data_of v

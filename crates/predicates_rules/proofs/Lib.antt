@@ -13,3 +13,4 @@ pub mod Readings
 pub mod Files
 pub mod Printed
 pub mod Spaced
+pub mod Said

@@ -19,7 +19,7 @@ use Rattle.predicates_rules.specs.Lexemes.{continues, is_over}
 use Rattle.predicates_rules.specs.Rules.{Says, after_spaces, Heads, IsLine, blank, rule, AreRules, no_more, skipped, taken}
 use Rattle.predicates_rules.specs.Heading.{after_colon, named, head_at}
 use Rattle.predicates_rules.proofs.Loop.{ok_is}
-use Rattle.predicates_rules.proofs.Lexed.{utf8_is_false}
+use Rattle.predicates_rules.proofs.Lexed.{some_is, utf8_is_false}
 use Rattle.predicates_rules.proofs.Grow.{one_tree}
 use Rattle.predicates_rules.proofs.LexLoop.{one_lexing}
 
@@ -143,9 +143,6 @@ one_line n m line o p (rule {name = name} {text = text} {e = e} h s) (rule {name
     let s' : Says n rest e = subst (λ (x : List ℕ × List ℕ). Says n x.1 e) same s in
     let tree : e ≡ f = one_saying n m rest e f s' t in
     ap (λ (x : List ℕ × List ℕ). Some (x.0, e)) same ∙ ap (λ (y : Tree). Some (other, y)) tree
-
-some_is : {A : Type 0} (x y : A) → ◌≡◌ {A = Option A} (Some x) (Some y) → x ≡ y
-some_is x y e = cc
 
 some_none : {A : Type 0} (x : A) → ◌≡◌ {A = Option A} (Some x) None → ⊥
 some_none x e = cc

@@ -1,6 +1,6 @@
 -- Tokens with a space behind each are taken apart again.
 use Rattle.std.proofs.Common.{◌≡◌, true≢false, ℕ, suc, ◌+◌, ◌<◌, ◌≤◌, ◌^◌, ◌/◌, ◌%◌, pos, negsuc, Bool, true, false, cond, List, [], ◌∷◌, ◌++◌, map, length, Option, Some, None, option_map, refl, sym, ap, subst, ◌∙◌, arith, append_assoc, append-nil, length-append}
-use Rattle.std.specs.Prelude.{◌&&◌, ◌==◌, nat_lt, option_and_then}
+use Rattle.std.specs.Prelude.{◌==◌, nat_lt, option_and_then}
 use Rattle.std.specs.List.{prefix_len, list_all}
 use Rattle.std.specs.Str.{IsUtf8, is_utf8}
 use Rattle.std.specs.Str.Parse.{AllDigits, IsNumeral}
@@ -72,10 +72,6 @@ read_negative : (n : ℕ) → n < 2 ^ 63 → read (signed_decimal (negsuc n)) �
 read_negative n lt = read_number (signed_decimal (negsuc n)) (number (negative (negsuc n))) (IsNumber-signed_decimal (negsuc n) lt) (ap (option_map number) (number_of-negative n lt))
 
 -- ---- the end of a word
-
-both_hold : (a b : Bool) → (a && b) ≡ true → (a ≡ true) × (b ≡ true)
-both_hold true b h = (refl, h)
-both_hold false b h = absurd cc
 
 abbrev is_run : Class → Bool
 is_run Digit = true

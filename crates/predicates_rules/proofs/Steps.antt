@@ -1,5 +1,6 @@
 -- The levels of the reader, and what it looks at behind a phrase.
-use Rattle.std.proofs.Common.{◌≡◌, Bool, true, false, cond, List, [], ◌∷◌, Some, None, Result, Ok, Err, refl}
+use Rattle.std.proofs.Common.{◌≡◌, true, List, [], ◌∷◌, Some, None, Result, Ok, Err, refl}
+use Rattle.std.proofs.lemmas.Option.{cond_some}
 use Rattle.predicates_rules.specs.declared.expression.Connective.{Connective}
 use Rattle.predicates_rules.specs.declared.expression.Connective.TheVariants.{Or, Xor, And}
 use Rattle.predicates_rules.specs.declared.stop.Stop.{Stop}
@@ -63,14 +64,10 @@ same_is Xor Xor e = refl
 same_is And And e = refl
 same_is c d e = absurd cc
 
-chosen : (b : Bool) (ts us : List Sign) → cond b (Some ts) None ≡ Some us → (b ≡ true) × (ts ≡ us)
-chosen true ts us e = (refl, cc)
-chosen false ts us e = absurd cc
-
 pub join_is : (c : Connective) (ts us : List Sign) → after_join c ts ≡ Some us → ts ≡ Join c ∷ us
 unfolding after_join
 join_is c (Join d ∷ ts) us e =
-    let p = chosen (same c d) ts us e in
+    let p = cond_some (same c d) ts us e in
     let q = same_is c d p.0 in
     rw (q, p.1) refl
 join_is c ts us e = absurd cc

@@ -1,5 +1,6 @@
 //! Why rules could not be read.
 
+use crate::expression::MAX_DEPTH;
 use std::error::Error;
 use std::fmt;
 
@@ -76,7 +77,7 @@ impl fmt::Display for Reason {
     fn fmt<W: fmt::Write>(&self, f: &mut fmt::Formatter<W>) -> fmt::Result {
         match self {
             Reason::Expected(expected) => write!(f, "expected {expected}"),
-            Reason::TooDeep => f.write_str("nested more than 100 deep"),
+            Reason::TooDeep => write!(f, "nested more than {MAX_DEPTH} deep"),
         }
     }
 }

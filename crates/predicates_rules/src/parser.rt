@@ -10,14 +10,11 @@ ghost use Rattle.predicates_rules.specs.Reading.{literal_at, goes_on_at, items_a
 
 use crate::condition::Condition;
 use crate::error::{Expected, Reason};
-use crate::expression::{Connective, Expression, Quantifier};
+use crate::expression::{Connective, Expression, MAX_DEPTH, Quantifier};
 use crate::literal::Literal;
 use crate::stop::{ReadError, Stop};
 use crate::token::{Kind, Token};
 use std::alloc::{AllocError, Global};
-
-/// How deep an expression may nest.
-pub const MAX_DEPTH: u32 = 100;
 
 // The error at the front of these tokens.
 fn stop(expected: Expected, tokens: &[Token]) -> ReadError

@@ -1,10 +1,12 @@
 //! The rules of a file.
 
-ghost use Rattle.std.specs.Prelude.{◌≡◌, ◌≢◌, ℕ, ◌+◌, List, Option, IfOk, IfErr, map, option_map, length};
+ghost use Rattle.std.specs.Prelude.{◌≡◌, ◌≢◌, ℕ, ◌+◌, ◌≤◌, List, Option, IfOk, IfErr, map, option_map, length};
 ghost use Rattle.predicates_rules.specs.declared.error.RulesError.TheVariants.{OutOfMemory};
 ghost use Rattle.predicates_rules.specs.Trees.{Tree};
-ghost use Rattle.predicates_rules.specs.Grammar.{max_depth};
-ghost use Rattle.predicates_rules.specs.Rules.{AreRules, AreRulesOf, AreRead, IsLine, lines_of, rule_of};
+ghost use Rattle.predicates_rules.specs.declared.expression.Connective.TheVariants.{Or};
+ghost use Rattle.predicates_rules.specs.Grammar.{By, max_depth};
+ghost use Rattle.predicates_rules.specs.Printing.{IsProper, IsPlain, nesting_at, printed};
+ghost use Rattle.predicates_rules.specs.Rules.{AreRules, AreRulesOf, AreRead, IsLine, Says, lines_of, rule_of};
 ghost use Rattle.predicates_rules.specs.Faults.{IsFaultOf, IsLineError, IsSyntaxError, error_at};
 
 use crate::error::RulesError;
@@ -90,6 +92,11 @@ fn rules_of(alloc: Global, lines: &[&[u8]]) -> Result<Vec<Rule>, RulesError>
 /// has letters, digits, `_`, `-`, `.` and any characters beyond ASCII, and may stand on more than one
 /// line. What nests deeper than 100 is refused as `TooDeep`. Takes memory for the lines, the tokens
 /// of a line and the rules.
+///
+/// ```
+/// let rules = read_rules(alloc, b"adult: /age >= 18 and not /name is_empty")?;
+/// assert!(rt; rules.len() == 1 && rules[0].name.as_str() == "adult");
+/// ```
 pub fn read_rules(alloc: Global, text: &[u8]) -> Result<Vec<Rule>, RulesError>
     // What is read is what the text says.
     ensures found { IfOk result (λ v. AreRulesOf max_depth text.now (map rule_of v.items)) }
@@ -110,4 +117,15 @@ pub fn read_rules(alloc: Global, text: &[u8]) -> Result<Vec<Rule>, RulesError>
 pub fn one_meaning()
     ensures { (n m : ℕ) (text : List ℕ) (rs ss : List (List ℕ × Tree))
         → AreRulesOf n text rs → AreRulesOf m text ss → rs ≡ ss }
+{}
+
+/// An expression is written with no more parentheses than it needs, and its text says it again:
+/// with `only` of `read_rules`, a rule that is written so is read as that rule.
+pub fn written_is_read()
+    // Each join has two parts or more, and paths and literals are such as a rule can write.
+    ensures made { (n : ℕ) (e : Tree) → IsProper e → IsPlain e → nesting_at (By Or) e ≤ n
+        → Says n (printed e) e }
+    // What a text says, however many parentheses that text has.
+    ensures said { (n : ℕ) (text : List ℕ) (e : Tree) → Says n text e → IsPlain e
+        → Says n (printed e) e }
 {}
