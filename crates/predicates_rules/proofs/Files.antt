@@ -1,0 +1,143 @@
+-- Reading lines one after the other, as a loop does.
+use Rattle.std.proofs.Common.{◌≡◌, ℕ, zero, suc, ◌+◌, ◌<◌, ◌≤◌, Bor, List, [], ◌∷◌, ◌++◌, map, length, get_or, drop, Option, Some, None, Result, Ok, Err, refl, sym, ap, subst, ◌∙◌, arith, append_assoc}
+use Rattle.std.proofs.lemmas.List.{append-nil}
+use Rattle.predicates_rules.specs.declared.error.Reason.{Reason}
+use Rattle.predicates_rules.specs.declared.error.RulesError.{RulesError}
+use Rattle.predicates_rules.specs.declared.error.RulesError.TheVariants.{OutOfMemory, Unreadable}
+use Rattle.predicates_rules.specs.declared.stop.Stop.{Stop}
+use Rattle.predicates_rules.specs.declared.stop.ReadError.{ReadError}
+use Rattle.predicates_rules.specs.declared.stop.ReadError.TheVariants as errors
+use Rattle.predicates_rules.specs.Trees.{Tree}
+use Rattle.predicates_rules.specs.Grammar.{max_depth}
+use Rattle.predicates_rules.specs.Answers.{Fails, IsStop, IsSyntax}
+use Rattle.predicates_rules.specs.Rules.{IsLine, AreRules, no_more, skipped, taken, AreRead}
+use Rattle.predicates_rules.specs.Faults.{IsLineFault, IsFirstFault, in_this, in_later, IsFaultOf, IsSyntaxError, error_at, IsLineError}
+use Rattle.predicates_rules.proofs.Lines.{one_line}
+
+-- ---- one line
+
+pub line_error : (number : ℕ) (line : List ℕ) (e : ReadError) → ((o : Option (List ℕ × Tree)) → IsLine max_depth line o → Fails {Y = Option (List ℕ × Tree)} e (Ok o))
+    → (IsSyntax e → (n : ℕ) (o : Option (List ℕ × Tree)) → IsLine n line o → ⊥) → IsStop (IsLineFault line) e → IsLineError number line (error_at number line e)
+line_error number line errors.Memory only never fault = tt
+line_error number line (errors.Stopped s) only never fault = (refl, λ o d. not_ok o (only o d), never, (s, fault, refl, refl))
+  where
+    not_ok : (o : Option (List ℕ × Tree)) → ◌≡◌ {A = Result (Option (List ℕ × Tree)) Stop} (Ok o) (Err s) → ⊥
+    not_ok o h = cc
+
+-- ---- many lines
+
+abbrev pub list_of : Option (List ℕ × Tree) → List (List ℕ × Tree)
+list_of None = []
+list_of (Some r) = r ∷ []
+
+-- what was read so far, and what is left
+pub record Goes (lines left : List (List ℕ)) (k : ℕ) (front : List (List ℕ × Tree)) : Type 0 where
+  pub found : (rs : List (List ℕ × Tree)) → AreRules max_depth left rs → AreRules max_depth lines (front ++ rs)
+  pub only : (n : ℕ) (rs : List (List ℕ × Tree)) → AreRules n lines rs → (us : List (List ℕ × Tree)) × (rs ≡ front ++ us) × AreRules n left us
+  pub fault : (m column : ℕ) (reason : Reason) → IsFirstFault left m column reason → IsFirstFault lines (k + m) column reason
+
+pub starts : (lines : List (List ℕ)) → Goes lines lines 0 []
+starts lines = record {
+  found = λ rs d. d;
+  only = λ n rs d. (rs, refl, d);
+  fault = λ m column reason d. let same : 0 + m ≡ m = omega arith in rw same d;
+}
+
+with_line : {line : List ℕ} {left : List (List ℕ)} {rs : List (List ℕ × Tree)} (r : Option (List ℕ × Tree)) → IsLine max_depth line r → AreRules max_depth left rs → AreRules max_depth (line ∷ left) (list_of r ++ rs)
+with_line None l d = skipped l d
+with_line (Some r) l d = taken l d
+
+behind_line : {n : ℕ} {line : List ℕ} {left : List (List ℕ)} {ss : List (List ℕ × Tree)} (r : Option (List ℕ × Tree)) → IsLine max_depth line r → AreRules n (line ∷ left) ss → (us : List (List ℕ × Tree)) × (ss ≡ list_of r ++ us) × AreRules n left us
+behind_line {n = n} {line = line} {ss = ss} r l (skipped k d) =
+    (ss, ap (λ (o : Option (List ℕ × Tree)). list_of o ++ ss) (one_line n max_depth line None r k l), d)
+behind_line {n = n} {line = line} r l (taken {r = q} {rs = rs} k d) =
+    (rs, ap (λ (o : Option (List ℕ × Tree)). list_of o ++ rs) (one_line n max_depth line (Some q) r k l), d)
+
+pub past_line : (lines : List (List ℕ)) (line : List ℕ) (left : List (List ℕ)) (k : ℕ) (front : List (List ℕ × Tree)) (r : Option (List ℕ × Tree)) → IsLine max_depth line r → Goes lines (line ∷ left) k front → Goes lines left (k + 1) (front ++ list_of r)
+past_line lines line left k front r l g = record {
+  found = λ rs d. subst (λ (us : List (List ℕ × Tree)). AreRules max_depth lines us) (sym (append_assoc front (list_of r) rs)) (g.found (list_of r ++ rs) (with_line r l d));
+  only = λ n rs d.
+      let o = g.only n rs d in
+      let b = behind_line r l o.2 in
+      (b.0, o.1 ∙ ap (λ (us : List (List ℕ × Tree)). front ++ us) b.1 ∙ sym (append_assoc front (list_of r) b.0), b.2);
+  fault = λ m column reason d. let same : k + 1 + m ≡ k + suc m = omega arith in rw same (g.fault (suc m) column reason (in_later r l d));
+}
+
+pub all_found : (lines : List (List ℕ)) (k : ℕ) (front : List (List ℕ × Tree)) → Goes lines [] k front → AreRules max_depth lines front
+all_found lines k front g = subst (λ (us : List (List ℕ × Tree)). AreRules max_depth lines us) (append-nil front) (g.found [] no_more)
+
+nothing_left : {n : ℕ} {rs : List (List ℕ × Tree)} → AreRules n [] rs → rs ≡ []
+nothing_left no_more = refl
+
+pub only_these : (lines : List (List ℕ)) (k : ℕ) (front rs : List (List ℕ × Tree)) → Goes lines [] k front → AreRules max_depth lines rs → front ≡ rs
+only_these lines k front rs g d =
+    let o = g.only max_depth rs d in
+    sym (o.1 ∙ ap (λ (us : List (List ℕ × Tree)). front ++ us) (nothing_left o.2) ∙ append-nil front)
+
+no_line : {n : ℕ} {line : List ℕ} {left : List (List ℕ)} {rs : List (List ℕ × Tree)} → ((o : Option (List ℕ × Tree)) → IsLine n line o → ⊥) → AreRules n (line ∷ left) rs → ⊥
+no_line h (skipped l d) = h None l
+no_line h (taken {r = r} l d) = h (Some r) l
+
+module _ (lines : List (List ℕ)) (line : List ℕ) (left : List (List ℕ)) (k : ℕ) (front : List (List ℕ × Tree)) (g : Goes lines (line ∷ left) k front) where
+  pub cannot : (e : RulesError) → IsLineError (k + 1) line e → (rs : List (List ℕ × Tree)) → AreRules max_depth lines rs → AreRead (Err e) rs
+  cannot OutOfMemory h rs d = tt
+  cannot (Unreadable at column reason) h rs d = no_line h.1 (g.only max_depth rs d).2
+
+  pub never : (e : RulesError) → IsLineError (k + 1) line e → IsSyntaxError e → (n : ℕ) (rs : List (List ℕ × Tree)) → AreRules n lines rs → ⊥
+  never OutOfMemory h x n rs d = absurd x
+  never (Unreadable at column reason) h x n rs d = no_line (h.2 x n) (g.only n rs d).2
+
+  pub first_fault : (e : RulesError) → IsLineError (k + 1) line e → IsFaultOf lines e
+  first_fault OutOfMemory h = tt
+  first_fault (Unreadable at column reason) h =
+      subst (λ (n : ℕ). IsFirstFault lines n column reason) (sym h.0) (g.fault 1 column reason (in_this h.3.0 h.3.1 h.3.2 h.3.3))
+
+-- ---- borrowed lines
+
+abbrev pub texts : List (Bor (List ℕ)) → List (List ℕ)
+texts lines = map (λ (x : Bor (List ℕ)). x.now) lines
+
+next_line : (lines : List (Bor (List ℕ))) (i : ℕ) (d : Bor (List ℕ)) → i < length lines → drop i (texts lines) ≡ (get_or lines i d).now ∷ drop (suc i) (texts lines)
+next_line [] i d lt = absurd (omega arith)
+next_line (l ∷ lines) zero d lt = refl
+next_line (l ∷ lines) (suc i) d lt = next_line lines i d (omega arith)
+
+at_line : (lines : List (Bor (List ℕ))) (i : ℕ) (d : Bor (List ℕ)) (front : List (List ℕ × Tree)) → i < length lines → Goes (texts lines) (drop i (texts lines)) i front
+    → Goes (texts lines) ((get_or lines i d).now ∷ drop (i + 1) (texts lines)) i front
+at_line lines i d front lt g =
+    let one : i + 1 ≡ suc i = omega arith in
+    rw one (subst (λ (left : List (List ℕ)). Goes (texts lines) left i front) (next_line lines i d lt) g)
+
+pub one_more : (lines : List (Bor (List ℕ))) (i : ℕ) (d : Bor (List ℕ)) (front : List (List ℕ × Tree)) (r : Option (List ℕ × Tree)) → i < length lines → IsLine max_depth (get_or lines i d).now r
+    → Goes (texts lines) (drop i (texts lines)) i front → Goes (texts lines) (drop (i + 1) (texts lines)) (i + 1) (front ++ list_of r)
+one_more lines i d front r lt l g = past_line (texts lines) (get_or lines i d).now (drop (i + 1) (texts lines)) i front r l (at_line lines i d front lt g)
+
+pub one_blank : (lines : List (Bor (List ℕ))) (i : ℕ) (d : Bor (List ℕ)) (front : List (List ℕ × Tree)) → i < length lines → IsLine max_depth (get_or lines i d).now None
+    → Goes (texts lines) (drop i (texts lines)) i front → Goes (texts lines) (drop (i + 1) (texts lines)) (i + 1) front
+one_blank lines i d front lt l g = subst (λ (us : List (List ℕ × Tree)). Goes (texts lines) (drop (i + 1) (texts lines)) (i + 1) us) (append-nil front) (one_more lines i d front None lt l g)
+
+module _ (lines : List (Bor (List ℕ))) (i : ℕ) (d : Bor (List ℕ)) (front : List (List ℕ × Tree)) (lt : i < length lines) (g : Goes (texts lines) (drop i (texts lines)) i front) where
+  pub cannot_at : (e : RulesError) → IsLineError (i + 1) (get_or lines i d).now e → (rs : List (List ℕ × Tree)) → AreRules max_depth (texts lines) rs → AreRead (Err e) rs
+  cannot_at = cannot (texts lines) (get_or lines i d).now (drop (i + 1) (texts lines)) i front (at_line lines i d front lt g)
+
+  pub never_at : (e : RulesError) → IsLineError (i + 1) (get_or lines i d).now e → IsSyntaxError e → (n : ℕ) (rs : List (List ℕ × Tree)) → AreRules n (texts lines) rs → ⊥
+  never_at = never (texts lines) (get_or lines i d).now (drop (i + 1) (texts lines)) i front (at_line lines i d front lt g)
+
+  pub fault_at : (e : RulesError) → IsLineError (i + 1) (get_or lines i d).now e → IsFaultOf (texts lines) e
+  fault_at = first_fault (texts lines) (get_or lines i d).now (drop (i + 1) (texts lines)) i front (at_line lines i d front lt g)
+
+none_behind : (lines : List (Bor (List ℕ))) (i : ℕ) → length lines ≤ i → drop i (texts lines) ≡ []
+none_behind [] zero le = refl
+none_behind [] (suc i) le = refl
+none_behind (l ∷ lines) zero le = absurd (omega arith)
+none_behind (l ∷ lines) (suc i) le = none_behind lines i (omega arith)
+
+module _ (lines : List (Bor (List ℕ))) (i : ℕ) (front : List (List ℕ × Tree)) (le : length lines ≤ i) (g : Goes (texts lines) (drop i (texts lines)) i front) where
+  ended : Goes (texts lines) [] i front
+  ended = subst (λ (left : List (List ℕ)). Goes (texts lines) left i front) (none_behind lines i le) g
+
+  pub found_in : AreRules max_depth (texts lines) front
+  found_in = all_found (texts lines) i front ended
+
+  pub only_in : (rs : List (List ℕ × Tree)) → AreRules max_depth (texts lines) rs → front ≡ rs
+  only_in rs d = only_these (texts lines) i front rs ended d

@@ -1,0 +1,116 @@
+-- More depth changes no answer but that it was too little. So each list of tokens spells one expression at most.
+use Rattle.std.proofs.Common.{◌≡◌, ℕ, zero, suc, ◌+◌, List, [], ◌∷◌, length, Option, Some, None, Result, Ok, Err, refl, sym, subst, ◌∙◌, ◌⊎◌, inl, inr, ◌≢◌, arith, add_comm, zero-add}
+use Rattle.std.specs.Prelude.{IfErr}
+use Rattle.predicates_rules.specs.declared.expression.Connective.{Connective}
+use Rattle.predicates_rules.specs.declared.expression.Connective.TheVariants.{Or, Xor, And}
+use Rattle.predicates_rules.specs.declared.error.Reason.TheVariants.{TooDeep}
+use Rattle.predicates_rules.specs.declared.stop.Stop.{Stop}
+use Rattle.predicates_rules.specs.declared.stop.ReadError.{ReadError}
+use Rattle.predicates_rules.specs.declared.stop.ReadError.TheVariants as errors
+use Rattle.predicates_rules.specs.declared.expression.Expression.{Expression}
+use Rattle.predicates_rules.specs.Trees.{tree_of, Sign, Not, Quantify, Open, Path, Tree, At, Denied, Quantified, Trees, more}
+use Rattle.predicates_rules.specs.Grammar.{Level, By, Single, IsSpelled}
+use Rattle.predicates_rules.specs.Answers.{◌>>=◌, Gives, IsSyntax}
+use Rattle.predicates_rules.specs.Reading.{Answer, test_at, path_at, after_open, after_close, after_join, with_next, parts_at, join, chain, single, at_level, below, ended, all_of}
+use Rattle.predicates_rules.specs.Reading as reading
+use Rattle.predicates_rules.proofs.Loop.{ok_is}
+use Rattle.predicates_rules.proofs.Complete.{spelled_again}
+
+-- the same answer, unless the depth was too little
+abbrev Persists : {A : Type 0} → Result A Stop → Result A Stop → Type 0
+Persists (Ok x) s = s ≡ Ok x
+Persists (Err f) s = (f.reason ≡ TooDeep) ⊎ (s ≡ Err f)
+
+persists_same : {A : Type 0} (r : Result A Stop) → Persists r r
+persists_same (Ok x) = refl
+persists_same (Err f) = inr refl
+
+persists_then : {A B : Type 0} (r s : Result A Stop) (f g : A → Result B Stop) → Persists r s → ((x : A) → Persists (f x) (g x)) → Persists (r >>= f) (s >>= g)
+persists_then {A = A} {B = B} (Ok x) s f g p h = subst (λ (t : Result A Stop). Persists (f x) (t >>= g)) (sym p) (h x)
+persists_then (Err e) s f g (inl p) h = inl p
+persists_then (Err e) s f g (inr p) h = inr (rw p refl)
+
+module _ (c : Connective) (f g : List Sign → Answer) (h : (ts : List Sign) → Persists (f ts) (g ts)) where
+  next_persists : (go to : List Sign → Result (Trees × List Sign) Stop) → ((ts : List Sign) → Persists (go ts) (to ts)) → (ts : List Sign) (o : Option (List Sign)) → Persists (with_next f go ts o) (with_next g to ts o)
+  next_persists go to p ts None = refl
+  next_persists go to p ts (Some us) =
+      persists_then (f us) (g us) (λ a. go a.1 >>= λ x. Ok (more a.0 x.0, x.1)) (λ a. to a.1 >>= λ x. Ok (more a.0 x.0, x.1)) (h us)
+      (λ a. persists_then (go a.1) (to a.1) (λ x. Ok (more a.0 x.0, x.1)) (λ x. Ok (more a.0 x.0, x.1)) (p a.1) (λ x. refl))
+
+  parts_persist : (k : ℕ) (ts : List Sign) → Persists (parts_at k c f ts) (parts_at k c g ts)
+  unfolding parts_at
+  parts_persist zero ts = refl
+  parts_persist (suc k) ts = next_persists (parts_at k c f) (parts_at k c g) (parts_persist k) ts (after_join c ts)
+
+  chain_persists : (ts : List Sign) → Persists (chain c f ts) (chain c g ts)
+  unfolding chain
+  chain_persists ts =
+      persists_then (f ts) (g ts) (λ a. parts_at (length a.1) c f a.1 >>= λ x. Ok (join c a.0 x.0, x.1)) (λ a. parts_at (length a.1) c g a.1 >>= λ x. Ok (join c a.0 x.0, x.1)) (h ts)
+      (λ a. persists_then (parts_at (length a.1) c f a.1) (parts_at (length a.1) c g a.1) (λ x. Ok (join c a.0 x.0, x.1)) (λ x. Ok (join c a.0 x.0, x.1)) (parts_persist (length a.1) a.1) (λ x. refl))
+
+module _ (d e : Level → List Sign → Answer) (h : (l : Level) (ts : List Sign) → Persists (d l ts) (e l ts)) where
+  group_persists : (ts : List Sign) → Persists (reading.group d ts) (reading.group e ts)
+  unfolding reading.group
+  group_persists ts = persists_then (d (By Or) ts) (e (By Or) ts) (λ y. after_close y.1 >>= λ rest. Ok (y.0, rest)) (λ y. after_close y.1 >>= λ rest. Ok (y.0, rest)) (h (By Or) ts) (λ y. persists_same (after_close y.1 >>= λ rest. Ok (y.0, rest)))
+
+  single_persists : (ts : List Sign) → Persists (single d ts) (single e ts)
+  unfolding single reading.quantified
+  single_persists (Not ∷ ts) = persists_then (d Single ts) (e Single ts) (λ y. Ok (Denied y.0, y.1)) (λ y. Ok (Denied y.0, y.1)) (h Single ts) (λ y. refl)
+  single_persists (Open ∷ ts) = group_persists ts
+  single_persists (Quantify q ∷ ts) =
+      persists_then (path_at ts) (path_at ts) (λ p. after_open p.1 >>= λ us. reading.group d us >>= λ y. Ok (Quantified q p.0 y.0, y.1)) (λ p. after_open p.1 >>= λ us. reading.group e us >>= λ y. Ok (Quantified q p.0 y.0, y.1)) (persists_same (path_at ts))
+      (λ p. persists_then (after_open p.1) (after_open p.1) (λ us. reading.group d us >>= λ y. Ok (Quantified q p.0 y.0, y.1)) (λ us. reading.group e us >>= λ y. Ok (Quantified q p.0 y.0, y.1)) (persists_same (after_open p.1))
+      (λ us. persists_then (reading.group d us) (reading.group e us) (λ y. Ok (Quantified q p.0 y.0, y.1)) (λ y. Ok (Quantified q p.0 y.0, y.1)) (group_persists us) (λ y. refl)))
+  single_persists (Path path ∷ ts) = persists_same (test_at ts >>= λ x. Ok (At path x.0, x.1))
+  single_persists [] = inr refl
+  single_persists (t ∷ ts) = inr refl
+
+  level_persists : (l : Level) (ts : List Sign) → Persists (at_level d l ts) (at_level e l ts)
+  unfolding at_level
+  level_persists Single ts = single_persists ts
+  level_persists (By And) ts = chain_persists And (single d) (single e) single_persists ts
+  level_persists (By Xor) ts = chain_persists Xor (chain And (single d)) (chain And (single e)) (chain_persists And (single d) (single e) single_persists) ts
+  level_persists (By Or) ts = chain_persists Or (chain Xor (chain And (single d))) (chain Xor (chain And (single e))) (chain_persists Xor (chain And (single d)) (chain And (single e)) (chain_persists And (single d) (single e) single_persists)) ts
+
+below_persists : (n : ℕ) (l : Level) (ts : List Sign) → Persists (below n l ts) (below (suc n) l ts)
+unfolding below
+below_persists zero l ts = inl refl
+below_persists (suc n) l ts = level_persists (below n) (below (suc n)) (below_persists n) l ts
+
+all_persists : (n : ℕ) (ts : List Sign) → Persists (all_of n ts) (all_of (suc n) ts)
+unfolding all_of
+all_persists n ts = persists_then (below (suc n) (By Or) ts) (below (suc (suc n)) (By Or) ts) ended ended (below_persists (suc n) (By Or) ts) (λ x. persists_same (ended x))
+
+-- k more
+ok_stays : (k n : ℕ) (ts : List Sign) (e : Tree) → all_of n ts ≡ Ok e → all_of (k + n) ts ≡ Ok e
+ok_stays zero n ts e h = rw zero-add h
+ok_stays (suc k) n ts e h =
+    let more : all_of (suc (k + n)) ts ≡ Ok e = subst (λ (r : Result Tree Stop). Persists r (all_of (suc (k + n)) ts)) (ok_stays k n ts e h) (all_persists (k + n) ts) in
+    let count : suc k + n ≡ suc (k + n) = omega arith in
+    rw count more
+
+fault_stays : (k n : ℕ) (ts : List Sign) (f : Stop) → f.reason ≢ TooDeep → all_of n ts ≡ Err f → all_of (k + n) ts ≡ Err f
+fault_stays zero n ts f other h = rw zero-add h
+fault_stays (suc k) n ts f other h =
+    let more : (f.reason ≡ TooDeep) ⊎ (all_of (suc (k + n)) ts ≡ Err f) = subst (λ (r : Result Tree Stop). Persists r (all_of (suc (k + n)) ts)) (fault_stays k n ts f other h) (all_persists (k + n) ts) in
+    let count : suc k + n ≡ suc (k + n) = omega arith in
+    rw count (elim more [ inl bad ↦ absurd (other bad) | inr good ↦ good ])
+
+pub one_tree : (n m : ℕ) (ts : List Sign) (e f : Tree) → IsSpelled n ts e → IsSpelled m ts f → e ≡ f
+one_tree n m ts e f p q =
+    let a = ok_stays m n ts e (spelled_again n ts e p) in
+    let b = ok_stays n m ts f (spelled_again m ts f q) in
+    let b' : all_of (m + n) ts ≡ Ok f = subst (λ (k : ℕ). all_of k ts ≡ Ok f) (add_comm n m) b in
+    ok_is e f (sym a ∙ b')
+
+no_tree : (n m : ℕ) (ts : List Sign) (f : Stop) (e : Tree) → f.reason ≢ TooDeep → all_of n ts ≡ Err f → IsSpelled m ts e → ⊥
+no_tree n m ts f e other h q =
+    let a = fault_stays m n ts f other h in
+    let b : all_of (m + n) ts ≡ Ok e = subst (λ (k : ℕ). all_of k ts ≡ Ok e) (add_comm n m) (ok_stays n m ts e (spelled_again m ts e q)) in
+    let c : ◌≡◌ {A = Result Tree Stop} (Err f) (Ok e) = sym a ∙ b in
+    cc
+
+pub none_spelled : (n : ℕ) (ts : List Sign) (r : Result Expression ReadError) → Gives tree_of r (all_of n ts) → IfErr r (λ e. IsSyntax e → (m : ℕ) (t : Tree) → IsSpelled m ts t → ⊥)
+none_spelled n ts (Ok e) given = tt
+none_spelled n ts (Err errors.Memory) given = λ bad. absurd bad
+none_spelled n ts (Err (errors.Stopped f)) given = λ other m t q. no_tree n m ts f t other given q

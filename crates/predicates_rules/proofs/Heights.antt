@@ -1,0 +1,22 @@
+-- Between two depths the reader goes down the levels.
+use Rattle.std.proofs.Common.{◌≡◌, ℕ, ◌+◌, ◌<◌, arith}
+use Rattle.predicates_rules.specs.declared.expression.Connective.{Connective}
+use Rattle.predicates_rules.specs.declared.expression.Connective.TheVariants.{Or, Xor, And}
+use Rattle.predicates_rules.specs.Grammar.{Level, By, Single, tighter}
+
+abbrev pub height : Connective → ℕ
+height And = 5
+height Xor = 8
+height Or = 11
+
+abbrev pub level_height : Level → ℕ
+level_height Single = 4
+level_height (By c) = height c + 2
+
+tighter_is_lower : (c : Connective) → level_height (tighter c) < height c
+tighter_is_lower Or = omega arith
+tighter_is_lower Xor = omega arith
+tighter_is_lower And = omega arith
+
+pub lower : (c : Connective) (l : Level) → l ≡ tighter c → level_height l < height c
+lower c l e = rw e (tighter_is_lower c)

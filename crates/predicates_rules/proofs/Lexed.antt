@@ -1,0 +1,296 @@
+-- A token at the front of a text.
+use Rattle.std.proofs.Common.{◌≡◌, ℕ, suc, ◌+◌, ◌<◌, ◌≤◌, Bool, true, false, cond, List, [], ◌∷◌, length, get_or, take, drop, Option, Some, None, Result, Ok, Err, refl, sym, ap, subst, ◌∙◌, arith, length-drop, drop-cons}
+use Rattle.std.specs.Prelude.{◌&&◌, not, ◌==◌, option_map, option_and_then}
+use Rattle.std.specs.List.{find, prefix_len}
+use Rattle.std.specs.Str.{IsUtf8, is_utf8, bytes_eq}
+use Rattle.std.proofs.lemmas.Str.{IsUtf8-from_is_utf8, is_utf8-from_IsUtf8}
+use Rattle.std.proofs.lemmas.Slice.Eq.{bytes_eq-Decides}
+use Rattle.serde_json.specs.Data.{Num, unsigned, negative, float, Data, null, boolean, number, string, array, object}
+use Rattle.serde_json.specs.Read.{read}
+use Rattle.predicates_rules.specs.declared.fixed.Fixed.{Fixed}
+use Rattle.predicates_rules.specs.declared.fixed.Fixed.TheVariants as fixed
+use Rattle.predicates_rules.specs.declared.lexer.Class.{Class}
+use Rattle.predicates_rules.specs.declared.lexer.Class.TheVariants.{Letter, Digit, Symbol, Mark, Slash, Quote, Space, Name, Other}
+use Rattle.predicates_rules.specs.declared.error.Expected.{Expected}
+use Rattle.predicates_rules.specs.declared.error.Expected.TheVariants as expected
+use Rattle.predicates_rules.specs.declared.stop.Stop.{Stop}
+use Rattle.predicates_rules.specs.Trees.{Value, Natural, Negative, Text, Boolean, Null, Sign, Path, Plain}
+use Rattle.predicates_rules.specs.Answers.{◌>>=◌, stop_at}
+use Rattle.predicates_rules.specs.Lexemes.{text_of, sign_of_fixed, all_fixed, fixed_at, class_of, continues, text_end, class_len, cut, data_of, begins_literal, pointer, IsWritten, fixed_text, literal, path}
+use Rattle.predicates_rules.specs.Scanning.{number_in, value_in, value_at, sign_or, value_or, path_or, front_class, sign_in, with_word, token_at}
+use Rattle.predicates_rules.proofs.Loop.{ok_is}
+
+bytes_is : (a b : List ℕ) → bytes_eq a b ≡ true → a ≡ b
+bytes_is a b h = (bytes_eq-Decides a b).0 h
+
+pub utf8_is_false : (word : List ℕ) → (IsUtf8 word → ⊥) → is_utf8 word ≡ false
+utf8_is_false word h = by_test (is_utf8 word) refl
+  where
+    by_test : (b : Bool) → is_utf8 word ≡ b → b ≡ false
+    by_test true e = absurd (h (IsUtf8-from_is_utf8 word e))
+    by_test false e = refl
+
+-- ---- literals
+
+pub value_no_text : (word : List ℕ) → (IsUtf8 word → ⊥) → value_at word ≡ None
+unfolding value_at
+value_no_text word h = rw (utf8_is_false word h) refl
+
+pub value_read : (word text : List ℕ) (d : Data) (v : Option Value) → IsUtf8 word → text ≡ word → read text ≡ Some d → v ≡ value_in d → value_at word ≡ v
+unfolding value_at
+value_read word text d v u same r e =
+    let r' : read word ≡ Some d = subst (λ (w : List ℕ). read w ≡ Some d) same r in
+    rw (is_utf8-from_IsUtf8 word u, r') (sym e)
+
+pub value_not_read : (word text : List ℕ) → IsUtf8 word → text ≡ word → read text ≡ None → value_at word ≡ None
+unfolding value_at
+value_not_read word text u same r =
+    let r' : read word ≡ None = subst (λ (w : List ℕ). read w ≡ None) same r in
+    rw (is_utf8-from_IsUtf8 word u, r') refl
+
+in_data : (v : Value) → value_in (data_of v) ≡ Some v
+in_data (Natural n) = refl
+in_data (Negative z) = refl
+in_data (Text text) = refl
+in_data (Boolean b) = refl
+in_data Null = refl
+
+pub some_is : {A : Type 0} (x y : A) → ◌≡◌ {A = Option A} (Some x) (Some y) → x ≡ y
+some_is x y e = cc
+
+of_number : (n : Num) (v : Value) → number_in n ≡ Some v → number n ≡ data_of v
+of_number (unsigned n) v e = ap data_of (some_is (Natural n) v e)
+of_number (negative z) v e = ap data_of (some_is (Negative z) v e)
+of_number (float x) v e = absurd cc
+
+of_data : (d : Data) (v : Value) → value_in d ≡ Some v → d ≡ data_of v
+of_data null v e = ap data_of (some_is Null v e)
+of_data (boolean b) v e = ap data_of (some_is (Boolean b) v e)
+of_data (number n) v e = of_number n v e
+of_data (string text) v e = ap data_of (some_is (Text text) v e)
+of_data (array ds) v e = absurd cc
+of_data (object ms) v e = absurd cc
+
+-- what a literal is
+value_found : (word : List ℕ) (v : Value) → is_utf8 word ≡ true → read word ≡ Some (data_of v) → value_at word ≡ Some v
+unfolding value_at
+value_found word v u r = rw (u, r) (in_data v)
+
+then_data : (r : Option Data) (v : Value) → option_and_then value_in r ≡ Some v → r ≡ Some (data_of v)
+then_data (Some d) v e = ap (λ (x : Data). Some x) (of_data d v e)
+then_data None v e = absurd cc
+
+value_by : (b : Bool) (r : Option Data) (v : Value) → cond b (option_and_then value_in r) None ≡ Some v → (b ≡ true) × (r ≡ Some (data_of v))
+value_by true r v e = (refl, then_data r v e)
+value_by false r v e = absurd cc
+
+value_is : (word : List ℕ) (v : Value) → value_at word ≡ Some v → (is_utf8 word ≡ true) × (read word ≡ Some (data_of v))
+unfolding value_at
+value_is word v e = value_by (is_utf8 word) (read word) v e
+
+-- ---- words of one token
+
+pub path_given : (c : Class) (left : ℕ) (word text p : List ℕ) → c ≡ Slash → IsUtf8 word → text ≡ word → ◌≡◌ {A = Result (List ℕ) Stop} (Ok (pointer text)) (Ok p) → sign_in c left word ≡ Ok (Path p)
+unfolding sign_in
+path_given c left word text p s u same e =
+    let e' : pointer word ≡ p = subst (λ (w : List ℕ). pointer w ≡ p) same (ok_is (pointer text) p e) in
+    rw (s, is_utf8-from_IsUtf8 word u, e') refl
+
+pub path_lacking : (c : Class) (left : ℕ) (word : List ℕ) → c ≡ Slash → (IsUtf8 word → ⊥) → sign_in c left word ≡ Err (stop_at expected.Utf8 left)
+unfolding sign_in
+path_lacking c left word s h = rw (s, utf8_is_false word h) refl
+
+fixed_again : (left : ℕ) (f : Fixed) → sign_in (front_class (text_of f)) left (text_of f) ≡ Ok (sign_of_fixed f)
+unfolding sign_in fixed_at
+fixed_again left fixed.Or = refl
+fixed_again left fixed.Xor = refl
+fixed_again left fixed.And = refl
+fixed_again left fixed.Not = refl
+fixed_again left fixed.Each = refl
+fixed_again left fixed.Any = refl
+fixed_again left fixed.StartsWith = refl
+fixed_again left fixed.EndsWith = refl
+fixed_again left fixed.Contains = refl
+fixed_again left fixed.Matches = refl
+fixed_again left fixed.In = refl
+fixed_again left fixed.Exists = refl
+fixed_again left fixed.Missing = refl
+fixed_again left fixed.IsEmpty = refl
+fixed_again left fixed.True = refl
+fixed_again left fixed.False = refl
+fixed_again left fixed.Null = refl
+fixed_again left fixed.Equal = refl
+fixed_again left fixed.Unequal = refl
+fixed_again left fixed.Below = refl
+fixed_again left fixed.AtMost = refl
+fixed_again left fixed.Above = refl
+fixed_again left fixed.AtLeast = refl
+fixed_again left fixed.Open = refl
+fixed_again left fixed.Close = refl
+fixed_again left fixed.OpenList = refl
+fixed_again left fixed.CloseList = refl
+fixed_again left fixed.Comma = refl
+
+literal_in : (c : Class) (left : ℕ) (word : List ℕ) (v : Value) → begins_literal c ≡ true → value_at word ≡ Some v → sign_in c left word ≡ Ok (Plain v)
+unfolding sign_in
+literal_in Digit left word v h e = rw e refl
+literal_in Quote left word v h e = rw e refl
+literal_in c left word v h e = absurd cc
+
+path_in : (c : Class) (left : ℕ) (word : List ℕ) → c ≡ Slash → is_utf8 word ≡ true → sign_in c left word ≡ Ok (Path (pointer word))
+unfolding sign_in
+path_in c left word s u = rw (s, u) refl
+
+written_again : (left : ℕ) {t : Sign} {word : List ℕ} → IsWritten t word → sign_in (front_class word) left word ≡ Ok t
+written_again left (fixed_text f) = fixed_again left f
+written_again left (literal b bytes v h u r) = literal_in (class_of b) left (b ∷ bytes) v h (value_found (b ∷ bytes) v u r)
+written_again left (path b bytes s u) = path_in (class_of b) left (b ∷ bytes) s u
+
+found_now : (p : Fixed → Bool) (g : Fixed) (fs : List Fixed) (f : Fixed) (t : Bool) → p g ≡ t → cond t (Some g) (find p fs) ≡ Some f → (find p fs ≡ Some f → p f ≡ true) → p f ≡ true
+found_now p g fs f true e k h = let same : g ≡ f = cc in subst (λ (x : Fixed). p x ≡ true) same e
+found_now p g fs f false e k h = h k
+
+find_passes : (p : Fixed → Bool) (fs : List Fixed) (f : Fixed) → find p fs ≡ Some f → p f ≡ true
+find_passes p [] f h = absurd cc
+find_passes p (g ∷ fs) f h = found_now p g fs f (p g) refl h (λ k. find_passes p fs f k)
+
+fixed_is : (word : List ℕ) (f : Fixed) → fixed_at word ≡ Some f → text_of f ≡ word
+unfolding fixed_at
+fixed_is word f h = bytes_is (text_of f) word (find_passes (λ g. bytes_eq (text_of g) word) all_fixed f h)
+
+word_is : (left : ℕ) (word : List ℕ) (t : Sign) (o : Option Fixed) → fixed_at word ≡ o → sign_or left o ≡ Ok t → IsWritten t word
+word_is left word t None e h = absurd cc
+word_is left word t (Some f) e h =
+    subst (λ (s : Sign). IsWritten s word) (ok_is (sign_of_fixed f) t h) (subst (λ (w : List ℕ). IsWritten (sign_of_fixed f) w) (fixed_is word f e) (fixed_text f))
+
+literal_is : (x : Expected) (left b : ℕ) (bytes : List ℕ) (t : Sign) (o : Option Value) → begins_literal (class_of b) ≡ true → value_at (b ∷ bytes) ≡ o → value_or x left o ≡ Ok t → IsWritten t (b ∷ bytes)
+literal_is x left b bytes t None c e h = absurd cc
+literal_is x left b bytes t (Some v) c e h =
+    let q = value_is (b ∷ bytes) v e in
+    subst (λ (s : Sign). IsWritten s (b ∷ bytes)) (ok_is (Plain v) t h) (literal b bytes v c q.0 q.1)
+
+path_is : (left b : ℕ) (bytes : List ℕ) (t : Sign) (u : Bool) → class_of b ≡ Slash → is_utf8 (b ∷ bytes) ≡ u → path_or left (b ∷ bytes) u ≡ Ok t → IsWritten t (b ∷ bytes)
+path_is left b bytes t false c e h = absurd cc
+path_is left b bytes t true c e h = subst (λ (s : Sign). IsWritten s (b ∷ bytes)) (ok_is (Path (pointer (b ∷ bytes))) t h) (path b bytes c e)
+
+written_by : (c : Class) (left b : ℕ) (bytes : List ℕ) (t : Sign) → class_of b ≡ c → sign_in c left (b ∷ bytes) ≡ Ok t → IsWritten t (b ∷ bytes)
+unfolding sign_in
+written_by Letter left b bytes t c h = word_is left (b ∷ bytes) t (fixed_at (b ∷ bytes)) refl h
+written_by Symbol left b bytes t c h = word_is left (b ∷ bytes) t (fixed_at (b ∷ bytes)) refl h
+written_by Mark left b bytes t c h = word_is left (b ∷ bytes) t (fixed_at (b ∷ bytes)) refl h
+written_by Digit left b bytes t c h = literal_is expected.Number left b bytes t (value_at (b ∷ bytes)) (ap begins_literal c) refl h
+written_by Quote left b bytes t c h = literal_is expected.Escapes left b bytes t (value_at (b ∷ bytes)) (ap begins_literal c) refl h
+written_by Slash left b bytes t c h = path_is left b bytes t (is_utf8 (b ∷ bytes)) c refl h
+written_by c left b bytes t d h = absurd cc
+
+written_is : (left : ℕ) (word : List ℕ) (t : Sign) → sign_in (front_class word) left word ≡ Ok t → IsWritten t word
+unfolding sign_in
+written_is left [] t h = absurd cc
+written_is left (b ∷ bytes) t h = written_by (class_of b) left b bytes t refl h
+
+-- ---- the front of a text
+
+sign_ok : (r : Result Sign Stop) (rest : List ℕ) (x : Sign × List ℕ) → (r >>= λ t. Ok (t, rest)) ≡ Ok x → (r ≡ Ok x.0) × (rest ≡ x.1)
+sign_ok (Ok t) rest x h = let same : (t, rest) ≡ x = ok_is (t, rest) x h in (ap (λ (y : Sign × List ℕ). Ok y.0) same, ap (λ (y : Sign × List ℕ). y.1) same)
+sign_ok (Err s) rest x h = absurd cc
+
+pub token_again : (text : List ℕ) (t : Sign) (word rest : List ℕ) → cut text ≡ Some (word, rest) → IsWritten t word → token_at text ≡ Ok (t, rest)
+unfolding token_at
+token_again text t word rest c w = rw (c, written_again (length text) w) refl
+
+abbrev pub Found : List ℕ → Sign → List ℕ → Type 0
+Found text t rest = (word : List ℕ) × (cut text ≡ Some (word, rest)) × IsWritten t word
+
+found_by : (text : List ℕ) (t : Sign) (rest : List ℕ) (o : Option (List ℕ × List ℕ)) → cut text ≡ o → with_word (length text) o ≡ Ok (t, rest) → Found text t rest
+found_by text t rest None c h = absurd cc
+found_by text t rest (Some x) c h =
+    let p = sign_ok (sign_in (front_class x.0) (length text) x.0) x.1 (t, rest) h in
+    (x.0, c ∙ ap (λ (us : List ℕ). Some (x.0, us)) p.1, written_is (length text) x.0 t p.0)
+
+pub token_found : (text : List ℕ) (t : Sign) (rest : List ℕ) → token_at text ≡ Ok (t, rest) → Found text t rest
+unfolding token_at
+token_found text t rest h = found_by text t rest (cut text) refl h
+
+-- ---- a token takes bytes
+
+len_by : (o : Option ℕ) (n : ℕ) → option_map suc o ≡ Some n → (m : ℕ) × (n ≡ suc m)
+len_by (Some m) n e = (m, sym (some_is (suc m) n e))
+len_by None n e = absurd cc
+
+len_some : (c : Class) (text : List ℕ) (n : ℕ) → class_len c text ≡ Some n → (m : ℕ) × (n ≡ suc m)
+len_some Quote text n e = len_by (text_end false text) n e
+len_some Letter text n e = (prefix_len (continues Letter) text, sym (some_is _ n e))
+len_some Digit text n e = (prefix_len (continues Digit) text, sym (some_is _ n e))
+len_some Symbol text n e = (prefix_len (continues Symbol) text, sym (some_is _ n e))
+len_some Mark text n e = (prefix_len (continues Mark) text, sym (some_is _ n e))
+len_some Slash text n e = (prefix_len (continues Slash) text, sym (some_is _ n e))
+len_some Space text n e = (prefix_len (continues Space) text, sym (some_is _ n e))
+len_some Name text n e = (prefix_len (continues Name) text, sym (some_is _ n e))
+len_some Other text n e = (prefix_len (continues Other) text, sym (some_is _ n e))
+
+dropped : (text : List ℕ) (n : ℕ) → length (drop n text) ≤ length text
+dropped text n = omega (arith, length-drop n text)
+
+cut_by : (b : ℕ) (text : List ℕ) (o : Option ℕ) (x : List ℕ × List ℕ) → ((n : ℕ) → o ≡ Some n → (m : ℕ) × (n ≡ suc m)) → option_map (λ n. (take n (b ∷ text), drop n (b ∷ text))) o ≡ Some x → length x.1 < length (b ∷ text)
+cut_by b text None x h e = absurd cc
+cut_by b text (Some n) x h e =
+    let m = h n refl in
+    let same : (take n (b ∷ text), drop n (b ∷ text)) ≡ x = some_is (take n (b ∷ text), drop n (b ∷ text)) x e in
+    let d = dropped text m.0 in
+    let rest : drop (suc m.0) (b ∷ text) ≡ x.1 = subst (λ (k : ℕ). drop k (b ∷ text) ≡ x.1) m.1 (ap (λ (y : List ℕ × List ℕ). y.1) same) in
+    omega (arith, ap length rest)
+
+cut_shortens : (b : ℕ) (text : List ℕ) (x : List ℕ × List ℕ) → cut (b ∷ text) ≡ Some x → length x.1 < length (b ∷ text)
+unfolding cut
+cut_shortens b text x e = cut_by b text (class_len (class_of b) text) x (λ n. len_some (class_of b) text n) e
+
+no_token : (t : Sign) (rest : List ℕ) → token_at [] ≡ Ok (t, rest) → ⊥
+unfolding token_at cut sign_in
+no_token t rest h = cc
+
+pub shorter : (text : List ℕ) (t : Sign) (rest : List ℕ) → token_at text ≡ Ok (t, rest) → length rest < length text
+shorter [] t rest h = absurd (no_token t rest h)
+shorter (b ∷ text) t rest h = let f = token_found (b ∷ text) t rest h in cut_shortens b text (f.0, rest) f.1
+
+-- ---- a quote that closes a text
+
+end_step : (text : List ℕ) (i : ℕ) (escaped : Bool) → i < length text
+    → text_end escaped (drop i text) ≡ cond (not escaped && (get_or text i 0 == 34)) (Some 1) (option_map suc (text_end (not escaped && (get_or text i 0 == 92)) (drop (suc i) text)))
+end_step text i escaped lt = ap (text_end escaped) (drop-cons text i 0 lt)
+
+move_on : (i : ℕ) (o : Option ℕ) → option_map (λ n. i + n) (option_map suc o) ≡ option_map (λ n. suc i + n) o
+move_on i (Some n) = ap (λ (k : ℕ). Some k) (omega arith)
+move_on i None = refl
+
+pub end_goes : (text : List ℕ) (i : ℕ) (escaped next : Bool) (total : Option ℕ) → i < length text → (not escaped && (get_or text i 0 == 34)) ≡ false → next ≡ (not escaped && (get_or text i 0 == 92))
+    → option_map (λ n. i + n) (text_end escaped (drop i text)) ≡ total → option_map (λ n. (i + 1) + n) (text_end next (drop (i + 1) text)) ≡ total
+end_goes text i escaped next total lt p q h =
+    let one : i + 1 ≡ suc i = omega arith in
+    let step : text_end escaped (drop i text) ≡ option_map suc (text_end next (drop (suc i) text)) = end_step text i escaped lt ∙ rw (p, q) refl in
+    subst (λ (k : ℕ). option_map (λ n. k + n) (text_end next (drop k text)) ≡ total) (sym one) (sym (move_on i (text_end next (drop (suc i) text))) ∙ ap (option_map (λ n. i + n)) (sym step) ∙ h)
+
+pub end_found : (text : List ℕ) (i : ℕ) (escaped : Bool) (total : Option ℕ) → i < length text → (not escaped && (get_or text i 0 == 34)) ≡ true
+    → option_map (λ n. i + n) (text_end escaped (drop i text)) ≡ total → Some (i + 1) ≡ total
+end_found text i escaped total lt p h =
+    let step : text_end escaped (drop i text) ≡ Some 1 = end_step text i escaped lt ∙ rw p refl in
+    ap (option_map (λ n. i + n)) (sym step) ∙ h
+
+-- ---- a byte that begins no token
+
+len_of_other : (c : Class) (text : List ℕ) → c ≡ Other → class_len c text ≡ Some 1
+len_of_other c text e = rw e (no_run text)
+  where
+    no_run : (text : List ℕ) → class_len Other text ≡ Some 1
+    no_run [] = refl
+    no_run (b ∷ text) = refl
+
+no_sign_in : (c : Class) (left : ℕ) (word rest : List ℕ) (x : Sign × List ℕ) → c ≡ Other → (sign_in c left word >>= λ t. Ok (t, rest)) ≡ Ok x → ⊥
+unfolding sign_in
+no_sign_in c left word rest x e h = let h' : (sign_in Other left word >>= λ t. Ok (t, rest)) ≡ Ok x = subst (λ (k : Class). (sign_in k left word >>= λ t. Ok (t, rest)) ≡ Ok x) e h in cc
+
+pub no_sign : (b : ℕ) (text : List ℕ) (x : Sign × List ℕ) → class_of b ≡ Other → token_at (b ∷ text) ≡ Ok x → ⊥
+unfolding token_at cut
+no_sign b text x c h =
+    let h' : with_word (length (b ∷ text)) (option_map (λ n. (take n (b ∷ text), drop n (b ∷ text))) (Some 1)) ≡ Ok x =
+    subst (λ (o : Option ℕ). with_word (length (b ∷ text)) (option_map (λ n. (take n (b ∷ text), drop n (b ∷ text))) o) ≡ Ok x) (len_of_other (class_of b) text c) h in
+    no_sign_in (class_of b) (length (b ∷ text)) (b ∷ take 0 text) (drop 0 text) x c h'

@@ -1,0 +1,16 @@
+pub mod Heights
+pub mod Loop
+pub mod Steps
+pub mod Lengths
+pub mod Parts
+pub mod Sound
+pub mod Complete
+pub mod Grow
+pub mod Lexed
+pub mod LexLoop
+pub mod Lines
+pub mod Readings
+pub mod Files
+pub mod Printed
+pub mod Spaced
+pub mod Said

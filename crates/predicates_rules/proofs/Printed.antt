@@ -1,0 +1,79 @@
+-- What is printed is spelled so.
+use Rattle.std.proofs.Common.{◌≡◌, ℕ, zero, suc, ◌≤◌, Bool, true, false, cond, List, [], ◌∷◌, ◌++◌, refl, sym, ap, subst, append_assoc, arith}
+use Rattle.predicates_rules.specs.declared.expression.Connective.{Connective}
+use Rattle.predicates_rules.specs.declared.expression.Connective.TheVariants.{Or, Xor, And}
+use Rattle.predicates_rules.specs.Trees.{Value, Sign, Join, Quantify, Open, Close, End, Path, Test, TheValueIs, Compares, Relates, IsAmong, Tree, At, Denied, Quantified, Joined, Trees, none, more}
+use Rattle.predicates_rules.specs.Grammar.{Level, By, Single, tighter, Items, last, another, IsTest, word, compare, relate, among_none, among, Spells, test, denied, group, quantified, alone, joined, Follow, no_more, and_more, IsSpelled}
+use Rattle.predicates_rules.specs.Printing.{items_signs, test_signs, in_parentheses, fits, signs_at, part_signs, follow_signs, nesting_at, parts_nesting, IsSome, IsProper, AreMany, AreProper}
+
+items_spelled : (v : Value) (vs : List Value) (rest : List Sign) → Items (items_signs (v ∷ vs) ++ rest) (v ∷ vs) rest
+items_spelled v [] rest = last
+items_spelled v (w ∷ vs) rest = another (items_spelled w vs rest)
+
+among_spelled : (vs : List Value) (rest : List Sign) → IsTest (test_signs (IsAmong vs) ++ rest) (IsAmong vs) rest
+among_spelled [] rest = among_none
+among_spelled (v ∷ vs) rest = among (items_spelled v vs rest)
+
+test_spelled : (t : Test) (rest : List Sign) → IsTest (test_signs t ++ rest) t rest
+test_spelled (TheValueIs s) rest = word
+test_spelled (Compares o v) rest = compare
+test_spelled (Relates r text) rest = relate
+test_spelled (IsAmong vs) rest = among_spelled vs rest
+
+-- what is single may stand at each level
+single_at : (l : Level) {n : ℕ} {ts : List Sign} {e : Tree} {rest : List Sign} → Spells n Single ts e rest → Spells n l ts e rest
+single_at Single d = d
+single_at (By And) d = alone d
+single_at (By Xor) d = alone (alone d)
+single_at (By Or) d = alone (alone (alone d))
+
+joined_at : (l : Level) (c : Connective) {n : ℕ} {ts : List Sign} {e : Tree} {rest : List Sign} → fits l c ≡ true → Spells n (By c) ts e rest → Spells n l ts e rest
+joined_at (By Or) Or h d = d
+joined_at (By Or) Xor h d = alone d
+joined_at (By Or) And h d = alone (alone d)
+joined_at (By Xor) Xor h d = d
+joined_at (By Xor) And h d = alone d
+joined_at (By And) And h d = d
+joined_at l c h d = absurd cc
+
+closed : (ts rest : List Sign) → in_parentheses ts ++ rest ≡ Open ∷ (ts ++ Close ∷ rest)
+closed ts rest = ap (λ (us : List Sign). Open ∷ us) (append_assoc ts (Close ∷ []) rest)
+
+-- at its own level, or in parentheses
+placed : (b : Bool) (l : Level) (c : Connective) (n depth : ℕ) (e : Tree) (ts rest : List Sign) → fits l c ≡ b → cond b depth (suc depth) ≤ n
+    → ((m : ℕ) (us : List Sign) → depth ≤ m → Spells m (By c) (ts ++ us) e us) → Spells n l (cond b ts (in_parentheses ts) ++ rest) e rest
+placed true l c n depth e ts rest h le d = joined_at l c h (d n rest le)
+placed false l c zero depth e ts rest h le d = absurd (omega arith)
+placed false l c (suc n) depth e ts rest h le d =
+    subst (λ (us : List Sign). Spells (suc n) l us e rest) (sym (closed ts rest)) (single_at l (group (joined_at (By Or) c refl (d n (Close ∷ rest) (omega arith)))))
+
+two_joined : (es : Trees) {n : ℕ} {c : Connective} {e : Tree} {ts us rest : List Sign} → IsSome es → Spells n (tighter c) ts e us → Follow n c us es rest → Spells n (By c) ts (Joined c (more e es)) rest
+two_joined none some d f = absurd some
+two_joined (more g es) some d f = joined d f
+
+mutual
+  pub spelled_at : (e : Tree) (l : Level) (n : ℕ) (rest : List Sign) → IsProper e → nesting_at l e ≤ n → Spells n l (signs_at l e ++ rest) e rest
+  spelled_at (At path t) l n rest p le = single_at l (test (test_spelled t rest))
+  spelled_at (Denied e) l zero rest p le = absurd (omega arith)
+  spelled_at (Denied e) l (suc n) rest p le = single_at l (denied (spelled_at e Single n rest p (omega arith)))
+  spelled_at (Quantified q path e) l zero rest p le = absurd (omega arith)
+  spelled_at (Quantified q path e) l (suc n) rest p le =
+      subst (λ (us : List Sign). Spells (suc n) l (Quantify q ∷ Path path ∷ us) (Quantified q path e) rest) (sym (closed (signs_at (By Or) e) rest))
+      (single_at l (quantified (spelled_at e (By Or) n (Close ∷ rest) p (omega arith))))
+  spelled_at (Joined c es) l n rest p le =
+      placed (fits l c) l c n (parts_nesting c es) (Joined c es) (part_signs c es) rest refl le (λ m us h. many_spelled es c m us p h)
+
+  many_spelled : (es : Trees) (c : Connective) (n : ℕ) (rest : List Sign) → AreMany es → parts_nesting c es ≤ n → Spells n (By c) (part_signs c es ++ rest) (Joined c es) rest
+  many_spelled none c n rest p le = absurd p
+  many_spelled (more e es) c n rest p le =
+      subst (λ (us : List Sign). Spells n (By c) us (Joined c (more e es)) rest) (sym (append_assoc (signs_at (tighter c) e) (follow_signs c es) rest))
+      (two_joined es p.1 (spelled_at e (tighter c) n (follow_signs c es ++ rest) p.0 (omega arith)) (rest_spelled es c n rest p.2 (omega arith)))
+
+  rest_spelled : (es : Trees) (c : Connective) (n : ℕ) (rest : List Sign) → AreProper es → parts_nesting c es ≤ n → Follow n c (follow_signs c es ++ rest) es rest
+  rest_spelled none c n rest p le = no_more
+  rest_spelled (more e es) c n rest p le =
+      subst (λ (us : List Sign). Follow n c (Join c ∷ us) (more e es) rest) (sym (append_assoc (signs_at (tighter c) e) (follow_signs c es) rest))
+      (and_more (spelled_at e (tighter c) n (follow_signs c es ++ rest) p.0 (omega arith)) (rest_spelled es c n rest p.1 (omega arith)))
+
+pub printed : (n : ℕ) (e : Tree) → IsProper e → nesting_at (By Or) e ≤ n → IsSpelled n (signs_at (By Or) e ++ End ∷ []) e
+printed n e p le = spelled_at e (By Or) n (End ∷ []) p le

@@ -1,0 +1,194 @@
+-- What is read is spelled so.
+use Rattle.std.proofs.Common.{◌≡◌, ℕ, zero, suc, Bool, true, false, cond, List, [], ◌∷◌, length, ◌<◌, Option, Some, None, Result, Ok, Err, refl, sym, ap, subst, ◌∙◌}
+use Rattle.std.specs.Prelude.{IfOk}
+use Rattle.predicates_rules.specs.declared.expression.Connective.{Connective}
+use Rattle.predicates_rules.specs.declared.expression.Connective.TheVariants.{Or, Xor, And}
+use Rattle.predicates_rules.specs.declared.expression.Quantifier.{Quantifier}
+use Rattle.predicates_rules.specs.declared.stop.ReadError.{ReadError}
+use Rattle.predicates_rules.specs.declared.stop.Stop.{Stop}
+use Rattle.predicates_rules.specs.declared.error.Expected.TheVariants as expected
+use Rattle.predicates_rules.specs.declared.expression.Expression.{Expression}
+use Rattle.predicates_rules.specs.Trees.{tree_of, Value, Text, Sign, Join, Not, Quantify, Open, Close, OpenList, CloseList, Comma, Path, Compare, Relate, In, Is, Plain, End, Test, TheValueIs, Compares, Relates, IsAmong, Tree, At, Denied, Quantified, Trees, none, more}
+use Rattle.predicates_rules.specs.Grammar.{Level, By, Single, tighter, Items, last, another, IsTest, word, compare, relate, among_none, among, Spells, test, denied, group, quantified, alone, joined, Follow, no_more, and_more, IsSpelled}
+use Rattle.predicates_rules.specs.Answers.{◌>>=◌, Gives}
+use Rattle.predicates_rules.specs.Reading.{Answer, literal_at, items_at, list_at, after_bracket, text_at, test_at, path_at, after_open, after_close, after_join, with_next, parts_at, join, chain, single, at_level, below, is_end, fails, ended, all_of}
+use Rattle.predicates_rules.specs.Reading as reading
+use Rattle.predicates_rules.proofs.Loop.{ok_is}
+use Rattle.predicates_rules.proofs.Steps.{join_is, bind_ok}
+use Rattle.predicates_rules.proofs.Lengths.{spells_shortens}
+
+items_are : (ts : List Sign) (x : List Value × List Sign) → items_at ts ≡ Ok x → Items ts x.0 x.1
+unfolding items_at
+items_are (Plain v ∷ CloseList ∷ ts) x e = subst (λ (y : List Value × List Sign). Items (Plain v ∷ CloseList ∷ ts) y.0 y.1) (ok_is (v ∷ [], ts) x e) last
+items_are (Plain v ∷ Comma ∷ ts) x e =
+    let b = bind_ok (items_at ts) (λ y. Ok (v ∷ y.0, y.1)) x e in
+    subst (λ (y : List Value × List Sign). Items (Plain v ∷ Comma ∷ ts) y.0 y.1) (ok_is (v ∷ b.0.0, b.0.1) x b.2) (another (items_are ts b.0 b.1))
+items_are (Plain v ∷ []) x e = absurd cc
+items_are (Plain v ∷ t ∷ ts) x e = absurd cc
+items_are ts x e = absurd cc
+
+list_is : (ts : List Sign) (x : List Value × List Sign) → list_at ts ≡ Ok x → IsTest (In ∷ OpenList ∷ ts) (IsAmong x.0) x.1
+unfolding list_at
+list_is (CloseList ∷ ts) x e = subst (λ (y : List Value × List Sign). IsTest (In ∷ OpenList ∷ CloseList ∷ ts) (IsAmong y.0) y.1) (ok_is ([], ts) x e) among_none
+list_is (t ∷ ts) x e = among (items_are (t ∷ ts) x e)
+list_is [] x e = among (items_are [] x e)
+
+literal_is : (ts : List Sign) (x : Value × List Sign) → literal_at ts ≡ Ok x → ts ≡ Plain x.0 ∷ x.1
+unfolding literal_at
+literal_is (Plain v ∷ ts) x e = ap (λ (y : Value × List Sign). Plain y.0 ∷ y.1) (ok_is (v, ts) x e)
+literal_is ts x e = absurd cc
+
+text_is : (ts : List Sign) (x : List ℕ × List Sign) → text_at ts ≡ Ok x → ts ≡ Plain (Text x.0) ∷ x.1
+unfolding text_at
+text_is (Plain (Text text) ∷ ts) x e = ap (λ (y : List ℕ × List Sign). Plain (Text y.0) ∷ y.1) (ok_is (text, ts) x e)
+text_is ts x e = absurd cc
+
+bracket_is : (ts us : List Sign) → after_bracket ts ≡ Ok us → ts ≡ OpenList ∷ us
+unfolding after_bracket
+bracket_is (OpenList ∷ ts) us e = ap (λ (y : List Sign). OpenList ∷ y) (ok_is ts us e)
+bracket_is ts us e = absurd cc
+
+test_is : (ts : List Sign) (x : Test × List Sign) → test_at ts ≡ Ok x → IsTest ts x.0 x.1
+unfolding test_at
+test_is (Is s ∷ ts) x e = subst (λ (y : Test × List Sign). IsTest (Is s ∷ ts) y.0 y.1) (ok_is (TheValueIs s, ts) x e) word
+test_is (Compare o ∷ ts) x e =
+    let b = bind_ok (literal_at ts) (λ y. Ok (Compares o y.0, y.1)) x e in
+    let made : IsTest (Compare o ∷ Plain b.0.0 ∷ b.0.1) (Compares o b.0.0) b.0.1 = compare in
+    subst (λ (y : Test × List Sign). IsTest (Compare o ∷ ts) y.0 y.1) (ok_is (Compares o b.0.0, b.0.1) x b.2)
+    (subst (λ (us : List Sign). IsTest (Compare o ∷ us) (Compares o b.0.0) b.0.1) (sym (literal_is ts b.0 b.1)) made)
+test_is (Relate r ∷ ts) x e =
+    let b = bind_ok (text_at ts) (λ y. Ok (Relates r y.0, y.1)) x e in
+    let made : IsTest (Relate r ∷ Plain (Text b.0.0) ∷ b.0.1) (Relates r b.0.0) b.0.1 = relate in
+    subst (λ (y : Test × List Sign). IsTest (Relate r ∷ ts) y.0 y.1) (ok_is (Relates r b.0.0, b.0.1) x b.2)
+    (subst (λ (us : List Sign). IsTest (Relate r ∷ us) (Relates r b.0.0) b.0.1) (sym (text_is ts b.0 b.1)) made)
+test_is (In ∷ ts) x e =
+    let a = bind_ok (after_bracket ts) (λ us. list_at us >>= λ y. Ok (IsAmong y.0, y.1)) x e in
+    let b = bind_ok (list_at a.0) (λ y. Ok (IsAmong y.0, y.1)) x a.2 in
+    subst (λ (y : Test × List Sign). IsTest (In ∷ ts) y.0 y.1) (ok_is (IsAmong b.0.0, b.0.1) x b.2)
+    (subst (λ (us : List Sign). IsTest (In ∷ us) (IsAmong b.0.0) b.0.1) (sym (bracket_is ts a.0 a.1)) (list_is a.0 b.0 b.1))
+test_is ts x e = absurd cc
+
+path_is : (ts : List Sign) (x : List ℕ × List Sign) → path_at ts ≡ Ok x → ts ≡ Path x.0 ∷ x.1
+unfolding path_at
+path_is (Path path ∷ ts) x e = ap (λ (y : List ℕ × List Sign). Path y.0 ∷ y.1) (ok_is (path, ts) x e)
+path_is ts x e = absurd cc
+
+open_is : (ts us : List Sign) → after_open ts ≡ Ok us → ts ≡ Open ∷ us
+unfolding after_open
+open_is (Open ∷ ts) us e = ap (λ (y : List Sign). Open ∷ y) (ok_is ts us e)
+open_is ts us e = absurd cc
+
+close_is : (ts us : List Sign) → after_close ts ≡ Ok us → ts ≡ Close ∷ us
+unfolding after_close
+close_is (Close ∷ ts) us e = ap (λ (y : List Sign). Close ∷ y) (ok_is ts us e)
+close_is ts us e = absurd cc
+
+-- the reader of what is deeper is right
+abbrev pub IsRightBelow : ℕ → Type 0
+IsRightBelow n = (l : Level) (ts : List Sign) (x : Tree × List Sign) → below n l ts ≡ Ok x → (m : ℕ) × (n ≡ suc m) × Spells m l ts x.0 x.1
+
+module _ (n : ℕ) (right : IsRightBelow n) where
+  group_is : (ts : List Sign) (x : Tree × List Sign) → reading.group (below n) ts ≡ Ok x → (m : ℕ) × (n ≡ suc m) × Spells m (By Or) ts x.0 (Close ∷ x.1)
+  unfolding reading.group
+  group_is ts x e =
+      let a = bind_ok (below n (By Or) ts) (λ y. after_close y.1 >>= λ rest. Ok (y.0, rest)) x e in
+      let b = bind_ok (after_close a.0.1) (λ rest. Ok (a.0.0, rest)) x a.2 in
+      let d = right (By Or) ts a.0 a.1 in
+      let inner = subst (λ (us : List Sign). Spells d.0 (By Or) ts a.0.0 us) (close_is a.0.1 b.0 b.1) d.2 in
+      (d.0, d.1, subst (λ (y : Tree × List Sign). Spells d.0 (By Or) ts y.0 (Close ∷ y.1)) (ok_is (a.0.0, b.0) x b.2) inner)
+
+  quantified_is : (q : Quantifier) (ts : List Sign) (x : Tree × List Sign) → reading.quantified (below n) q ts ≡ Ok x → Spells n Single (Quantify q ∷ ts) x.0 x.1
+  unfolding reading.quantified
+  quantified_is q ts x e =
+      let a = bind_ok (path_at ts) (λ p. after_open p.1 >>= λ us. reading.group (below n) us >>= λ y. Ok (Quantified q p.0 y.0, y.1)) x e in
+      let b = bind_ok (after_open a.0.1) (λ us. reading.group (below n) us >>= λ y. Ok (Quantified q a.0.0 y.0, y.1)) x a.2 in
+      let c = bind_ok (reading.group (below n) b.0) (λ y. Ok (Quantified q a.0.0 y.0, y.1)) x b.2 in
+      let d = group_is b.0 c.0 c.1 in
+      let spelled : Spells (suc d.0) Single (Quantify q ∷ Path a.0.0 ∷ Open ∷ b.0) (Quantified q a.0.0 c.0.0) c.0.1 = quantified d.2 in
+      let front : ts ≡ Path a.0.0 ∷ Open ∷ b.0 = path_is ts a.0 a.1 ∙ ap (λ (us : List Sign). Path a.0.0 ∷ us) (open_is a.0.1 b.0 b.1) in
+      let made = subst (λ (y : Tree × List Sign). Spells (suc d.0) Single (Quantify q ∷ Path a.0.0 ∷ Open ∷ b.0) y.0 y.1) (ok_is (Quantified q a.0.0 c.0.0, c.0.1) x c.2) spelled in
+      subst (λ (us : List Sign). Spells n Single (Quantify q ∷ us) x.0 x.1) (sym front) (subst (λ (k : ℕ). Spells k Single (Quantify q ∷ Path a.0.0 ∷ Open ∷ b.0) x.0 x.1) (sym d.1) made)
+
+  single_is : (ts : List Sign) (x : Tree × List Sign) → single (below n) ts ≡ Ok x → Spells n Single ts x.0 x.1
+  unfolding single
+  single_is (Path path ∷ ts) x e =
+      let b = bind_ok (test_at ts) (λ y. Ok (At path y.0, y.1)) x e in
+      subst (λ (y : Tree × List Sign). Spells n Single (Path path ∷ ts) y.0 y.1) (ok_is (At path b.0.0, b.0.1) x b.2) (test (test_is ts b.0 b.1))
+  single_is (Not ∷ ts) x e =
+      let b = bind_ok (below n Single ts) (λ y. Ok (Denied y.0, y.1)) x e in
+      let d = right Single ts b.0 b.1 in
+      let made = subst (λ (y : Tree × List Sign). Spells (suc d.0) Single (Not ∷ ts) y.0 y.1) (ok_is (Denied b.0.0, b.0.1) x b.2) (denied d.2) in
+      subst (λ (k : ℕ). Spells k Single (Not ∷ ts) x.0 x.1) (sym d.1) made
+  single_is (Open ∷ ts) x e = let d = group_is ts x e in subst (λ (k : ℕ). Spells k Single (Open ∷ ts) x.0 x.1) (sym d.1) (group d.2)
+  single_is (Quantify q ∷ ts) x e = quantified_is q ts x e
+  single_is ts x e = absurd cc
+
+  next_is : (c : Connective) (part : List Sign → Answer) (go : List Sign → Result (Trees × List Sign) Stop) → ((ts : List Sign) (x : Tree × List Sign) → part ts ≡ Ok x → Spells n (tighter c) ts x.0 x.1)
+      → ((ts : List Sign) (x : Trees × List Sign) → go ts ≡ Ok x → Follow n c ts x.0 x.1) → (ts : List Sign) (x : Trees × List Sign) (o : Option (List Sign)) → after_join c ts ≡ o → with_next part go ts o ≡ Ok x → Follow n c ts x.0 x.1
+  next_is c part go h k ts x None next e = subst (λ (y : Trees × List Sign). Follow n c ts y.0 y.1) (ok_is (none, ts) x e) no_more
+  next_is c part go h k ts x (Some us) next e =
+      let a = bind_ok (part us) (λ y. go y.1 >>= λ z. Ok (more y.0 z.0, z.1)) x e in
+      let b = bind_ok (go a.0.1) (λ z. Ok (more a.0.0 z.0, z.1)) x a.2 in
+      let made : Follow n c (Join c ∷ us) (more a.0.0 b.0.0) b.0.1 = and_more (h us a.0 a.1) (k a.0.1 b.0 b.1) in
+      subst (λ (y : Trees × List Sign). Follow n c ts y.0 y.1) (ok_is (more a.0.0 b.0.0, b.0.1) x b.2) (subst (λ (vs : List Sign). Follow n c vs (more a.0.0 b.0.0) b.0.1) (sym (join_is c ts us next)) made)
+
+  parts_are : (k : ℕ) (c : Connective) (part : List Sign → Answer) → ((ts : List Sign) (x : Tree × List Sign) → part ts ≡ Ok x → Spells n (tighter c) ts x.0 x.1)
+      → (ts : List Sign) (x : Trees × List Sign) → parts_at k c part ts ≡ Ok x → Follow n c ts x.0 x.1
+  unfolding parts_at
+  parts_are zero c part h ts x e = subst (λ (y : Trees × List Sign). Follow n c ts y.0 y.1) (ok_is (none, ts) x e) no_more
+  parts_are (suc k) c part h ts x e = next_is c part (parts_at k c part) h (parts_are k c part h) ts x (after_join c ts) refl e
+
+  nothing_follows : {c : Connective} {ts rest : List Sign} → Follow n c ts none rest → ts ≡ rest
+  nothing_follows no_more = refl
+
+  join_spelled : (c : Connective) (ts us rest : List Sign) (e : Tree) (es : Trees) → Spells n (tighter c) ts e us → Follow n c us es rest → Spells n (By c) ts (join c e es) rest
+  join_spelled c ts us rest e none d f = alone (subst (λ (vs : List Sign). Spells n (tighter c) ts e vs) (nothing_follows f) d)
+  join_spelled c ts us rest e (more g es) d f = joined d f
+
+  chain_is : (c : Connective) (part : List Sign → Answer) → ((ts : List Sign) (x : Tree × List Sign) → part ts ≡ Ok x → Spells n (tighter c) ts x.0 x.1) → (ts : List Sign) (x : Tree × List Sign) → chain c part ts ≡ Ok x → Spells n (By c) ts x.0 x.1
+  unfolding chain
+  chain_is c part h ts x e =
+      let a = bind_ok (part ts) (λ y. parts_at (length y.1) c part y.1 >>= λ z. Ok (join c y.0 z.0, z.1)) x e in
+      let b = bind_ok (parts_at (length a.0.1) c part a.0.1) (λ z. Ok (join c a.0.0 z.0, z.1)) x a.2 in
+      subst (λ (y : Tree × List Sign). Spells n (By c) ts y.0 y.1) (ok_is (join c a.0.0 b.0.0, b.0.1) x b.2)
+      (join_spelled c ts a.0.1 b.0.1 a.0.0 b.0.0 (h ts a.0 a.1) (parts_are (length a.0.1) c part h a.0.1 b.0 b.1))
+
+  level_is : (l : Level) (ts : List Sign) (x : Tree × List Sign) → at_level (below n) l ts ≡ Ok x → Spells n l ts x.0 x.1
+  unfolding at_level
+  level_is Single ts x e = single_is ts x e
+  level_is (By And) ts x e = chain_is And (single (below n)) single_is ts x e
+  level_is (By Xor) ts x e = chain_is Xor (chain And (single (below n))) (chain_is And (single (below n)) single_is) ts x e
+  level_is (By Or) ts x e = chain_is Or (chain Xor (chain And (single (below n)))) (chain_is Xor (chain And (single (below n))) (chain_is And (single (below n)) single_is)) ts x e
+
+pub right_below : (n : ℕ) → IsRightBelow n
+unfolding below
+right_below zero l ts x e = absurd cc
+right_below (suc n) l ts x e = (n, refl, level_is n (right_below n) l ts x e)
+
+end_is : (ts : List Sign) → is_end ts ≡ true → ts ≡ End ∷ []
+end_is (End ∷ []) e = refl
+end_is ts e = absurd cc
+
+ended_by : (b : Bool) (x : Tree × List Sign) (e : Tree) → is_end x.1 ≡ b → cond b (Ok x.0) (fails expected.End x.1) ≡ Ok e → (x.0 ≡ e) × (x.1 ≡ End ∷ [])
+ended_by true x e p h = (ok_is x.0 e h, end_is x.1 p)
+ended_by false x e p h = absurd cc
+
+ended_is : (n : ℕ) (ts : List Sign) (e : Tree) (x : Tree × List Sign) → Spells n (By Or) ts x.0 x.1 → ended x ≡ Ok e → Spells n (By Or) ts e (End ∷ [])
+unfolding ended
+ended_is n ts e x s h =
+    let p = ended_by (is_end x.1) x e refl h in
+    subst (λ (t : Tree). Spells n (By Or) ts t (End ∷ [])) p.0 (subst (λ (us : List Sign). Spells n (By Or) ts x.0 us) p.1 s)
+
+pub spelled : (n : ℕ) (ts : List Sign) (e : Tree) → all_of n ts ≡ Ok e → IsSpelled n ts e
+unfolding all_of below
+spelled n ts e h =
+    let a = bind_ok (below (suc n) (By Or) ts) ended e h in
+    ended_is n ts e a.0 (level_is n (right_below n) (By Or) ts a.0 a.1) a.2
+
+pub is_spelled : (n : ℕ) (ts : List Sign) (r : Result Expression ReadError) → Gives tree_of r (all_of n ts) → IfOk r (λ e. IsSpelled n ts (tree_of e))
+is_spelled n ts (Ok e) given = spelled n ts (tree_of e) given
+is_spelled n ts (Err e) given = tt
+
+-- a reader of a level takes tokens from the front
+pub level_shortens : (n : ℕ) (l : Level) (ts : List Sign) (x : Tree × List Sign) → at_level (below n) l ts ≡ Ok x → length x.1 < length ts
+level_shortens n l ts x e = spells_shortens (level_is n (right_below n) l ts x e)

@@ -1,0 +1,8 @@
+-- The levels of the code are those of the grammar.
+use Rattle.predicates_rules.specs.declared.parser.Grip.{Grip}
+use Rattle.predicates_rules.specs.declared.parser.Grip.TheVariants as grips
+use Rattle.predicates_rules.specs.Grammar.{Level, By, Single}
+
+abbrev pub level_of : Grip → Level
+level_of (grips.By c) = By c
+level_of grips.Single = Single

@@ -1,0 +1,181 @@
+-- How each token is written.
+use Rattle.std.specs.Prelude.{◌≡◌, ℕ, Bool, true, false, not, ◌&&◌, ◌||◌, ◌==◌, nat_le, List, [], ◌∷◌, length, codes, Option, Some, None, option_map, if◌then◌else◌, take, drop, suc}
+use Rattle.std.specs.List.{find, prefix_len}
+use Rattle.std.specs.Str.{bytes_eq, is_utf8}
+use Rattle.serde_json.specs.Data.{Data, null, boolean, number, string, unsigned, negative}
+use Rattle.serde_json.specs.Read.{read}
+use Rattle.predicates_rules.specs.declared.expression.Connective.TheVariants as connectives
+use Rattle.predicates_rules.specs.declared.expression.Quantifier.TheVariants as quantifiers
+use Rattle.predicates_rules.specs.declared.condition.Comparison.TheVariants as comparisons
+use Rattle.predicates_rules.specs.declared.condition.Relation.TheVariants as relations
+use Rattle.predicates_rules.specs.declared.condition.State.TheVariants as states
+use Rattle.predicates_rules.specs.declared.fixed.Fixed.{Fixed}
+use Rattle.predicates_rules.specs.declared.fixed.Fixed.TheVariants as fixed
+use Rattle.predicates_rules.specs.declared.lexer.Class.{Class}
+use Rattle.predicates_rules.specs.declared.lexer.Class.TheVariants.{Letter, Digit, Symbol, Mark, Slash, Quote, Space, Name, Other}
+use Rattle.predicates_rules.specs.Trees.{Value, Natural, Negative, Text, Boolean, Null, Sign, Join, Not, Quantify, Open, Close, OpenList, CloseList, Comma, Path, Compare, Relate, In, Is, Plain, End}
+
+-- ---- tokens with a text of their own
+
+abbrev pub text_of : Fixed → List ℕ
+text_of fixed.Or = codes "or"
+text_of fixed.Xor = codes "xor"
+text_of fixed.And = codes "and"
+text_of fixed.Not = codes "not"
+text_of fixed.Each = codes "each"
+text_of fixed.Any = codes "any"
+text_of fixed.StartsWith = codes "starts_with"
+text_of fixed.EndsWith = codes "ends_with"
+text_of fixed.Contains = codes "contains"
+text_of fixed.Matches = codes "matches"
+text_of fixed.In = codes "in"
+text_of fixed.Exists = codes "exists"
+text_of fixed.Missing = codes "missing"
+text_of fixed.IsEmpty = codes "is_empty"
+text_of fixed.True = codes "true"
+text_of fixed.False = codes "false"
+text_of fixed.Null = codes "null"
+text_of fixed.Equal = codes "=="
+text_of fixed.Unequal = codes "!="
+text_of fixed.Below = codes "<"
+text_of fixed.AtMost = codes "<="
+text_of fixed.Above = codes ">"
+text_of fixed.AtLeast = codes ">="
+text_of fixed.Open = codes "("
+text_of fixed.Close = codes ")"
+text_of fixed.OpenList = codes "["
+text_of fixed.CloseList = codes "]"
+text_of fixed.Comma = codes ","
+
+abbrev pub sign_of_fixed : Fixed → Sign
+sign_of_fixed fixed.Or = Join connectives.Or
+sign_of_fixed fixed.Xor = Join connectives.Xor
+sign_of_fixed fixed.And = Join connectives.And
+sign_of_fixed fixed.Not = Not
+sign_of_fixed fixed.Each = Quantify quantifiers.Each
+sign_of_fixed fixed.Any = Quantify quantifiers.Any
+sign_of_fixed fixed.StartsWith = Relate relations.StartsWith
+sign_of_fixed fixed.EndsWith = Relate relations.EndsWith
+sign_of_fixed fixed.Contains = Relate relations.Contains
+sign_of_fixed fixed.Matches = Relate relations.Matches
+sign_of_fixed fixed.In = In
+sign_of_fixed fixed.Exists = Is states.Exists
+sign_of_fixed fixed.Missing = Is states.Missing
+sign_of_fixed fixed.IsEmpty = Is states.IsEmpty
+sign_of_fixed fixed.True = Plain (Boolean true)
+sign_of_fixed fixed.False = Plain (Boolean false)
+sign_of_fixed fixed.Null = Plain Null
+sign_of_fixed fixed.Equal = Compare comparisons.Equal
+sign_of_fixed fixed.Unequal = Compare comparisons.Unequal
+sign_of_fixed fixed.Below = Compare comparisons.Below
+sign_of_fixed fixed.AtMost = Compare comparisons.AtMost
+sign_of_fixed fixed.Above = Compare comparisons.Above
+sign_of_fixed fixed.AtLeast = Compare comparisons.AtLeast
+sign_of_fixed fixed.Open = Open
+sign_of_fixed fixed.Close = Close
+sign_of_fixed fixed.OpenList = OpenList
+sign_of_fixed fixed.CloseList = CloseList
+sign_of_fixed fixed.Comma = Comma
+
+abbrev pub all_fixed : List Fixed
+all_fixed = fixed.Or ∷ fixed.Xor ∷ fixed.And ∷ fixed.Not ∷ fixed.Each ∷ fixed.Any ∷ fixed.StartsWith ∷ fixed.EndsWith ∷ fixed.Contains ∷ fixed.Matches ∷ fixed.In ∷ fixed.Exists ∷ fixed.Missing ∷ fixed.IsEmpty ∷ fixed.True ∷ fixed.False ∷ fixed.Null ∷ fixed.Equal ∷ fixed.Unequal ∷ fixed.Below ∷ fixed.AtMost ∷ fixed.Above ∷ fixed.AtLeast ∷ fixed.Open ∷ fixed.Close ∷ fixed.OpenList ∷ fixed.CloseList ∷ fixed.Comma ∷ []
+
+unfoldable pub fixed_at : List ℕ → Option Fixed
+fixed_at word = find (λ f. bytes_eq (text_of f) word) all_fixed
+
+-- ---- bytes
+
+abbrev pub is_between : ℕ → ℕ → ℕ → Bool
+is_between low high b = nat_le low b && nat_le b high
+
+abbrev pub is_digit : ℕ → Bool
+is_digit b = is_between 48 57 b
+
+-- a letter or _
+abbrev pub is_letter : ℕ → Bool
+is_letter b = is_between 97 122 b || is_between 65 90 b || b == 95
+
+-- = ! < >
+abbrev pub is_symbol : ℕ → Bool
+is_symbol b = is_between 60 62 b || b == 33
+
+-- ( ) , [ ]
+abbrev pub is_mark : ℕ → Bool
+is_mark b = b == 40 || b == 41 || b == 44 || b == 91 || b == 93
+
+-- a space, a tab or a carriage return
+abbrev pub is_space : ℕ → Bool
+is_space b = b == 32 || b == 9 || b == 13
+
+-- the token that the byte begins; a number may begin with a minus
+abbrev pub class_of : ℕ → Class
+class_of b = if is_letter b then Letter else if is_digit b || b == 45 then Digit else if is_symbol b then Symbol else if is_mark b then Mark else if b == 47 then Slash else if b == 34 then Quote else Other
+
+-- Which bytes belong together. A path ends at a space, a mark, an operator and a comment; the name of a rule has
+-- letters, digits, _ - . and bytes beyond ASCII.
+abbrev pub continues : Class → ℕ → Bool
+continues Letter b = is_letter b || is_digit b
+continues Digit b = is_letter b || is_digit b || b == 43 || b == 45 || b == 46
+continues Symbol b = is_symbol b
+continues Slash b = not (is_space b || is_mark b || is_symbol b || b == 35)
+continues Space b = is_space b
+continues Name b = is_letter b || is_digit b || b == 45 || b == 46 || nat_le 128 b
+continues c b = false
+
+-- How many bytes of a text there are up to the quote that closes it, with that quote. A backslash takes the next
+-- byte with it.
+abbrev pub text_end : Bool → List ℕ → Option ℕ
+text_end escaped [] = None
+text_end escaped (b ∷ text) = if not escaped && b == 34 then Some 1 else option_map suc (text_end (not escaped && b == 92) text)
+
+abbrev pub class_len : Class → List ℕ → Option ℕ
+class_len Quote text = option_map suc (text_end false text)
+class_len c text = Some (suc (prefix_len (continues c) text))
+
+-- how many bytes the token at the front takes: as many as belong to it; none is known of a text that isn't closed
+abbrev pub token_len : List ℕ → Option ℕ
+token_len [] = Some 0
+token_len (b ∷ text) = class_len (class_of b) text
+
+-- the token at the front, and what is behind it
+unfoldable pub cut : List ℕ → Option (List ℕ × List ℕ)
+cut text = option_map (λ n. (take n text, drop n text)) (token_len text)
+
+-- ---- tokens
+
+-- a literal as JSON has it
+abbrev pub data_of : Value → Data
+data_of (Natural n) = number (unsigned n)
+data_of (Negative z) = number (negative z)
+data_of (Text text) = string text
+data_of (Boolean b) = boolean b
+data_of Null = null
+
+abbrev pub begins_literal : Class → Bool
+begins_literal Digit = true
+begins_literal Quote = true
+begins_literal c = false
+
+-- the record itself is the empty pointer
+abbrev pub pointer : List ℕ → List ℕ
+pointer (b ∷ []) = []
+pointer word = word
+
+-- a token as it is written
+pub data IsWritten : Sign → List ℕ → Type 0 where
+  -- a word, an operator or a mark
+  fixed_text : (f : Fixed) → IsWritten (sign_of_fixed f) (text_of f)
+  -- a number or a text in quotes: what JSON reads there
+  literal : (b : ℕ) (bytes : List ℕ) (v : Value) → begins_literal (class_of b) ≡ true → is_utf8 (b ∷ bytes) ≡ true → read (b ∷ bytes) ≡ Some (data_of v) → IsWritten (Plain v) (b ∷ bytes)
+  path : (b : ℕ) (bytes : List ℕ) → class_of b ≡ Slash → is_utf8 (b ∷ bytes) ≡ true → IsWritten (Path (pointer (b ∷ bytes))) (b ∷ bytes)
+
+-- the end, or a comment
+abbrev pub is_over : List ℕ → Bool
+is_over [] = true
+is_over (b ∷ text) = b == 35
+
+-- Spaces and tokens up to the end or a comment, each with the number of bytes from it on.
+pub data IsLexed : List ℕ → List (Sign × ℕ) → Type 0 where
+  over : {text : List ℕ} → is_over text ≡ true → IsLexed text ((End, length text) ∷ [])
+  space : {b : ℕ} {text : List ℕ} {ts : List (Sign × ℕ)} → is_space b ≡ true → IsLexed text ts → IsLexed (b ∷ text) ts
+  token : {text : List ℕ} {ts : List (Sign × ℕ)} {t : Sign} {word rest : List ℕ} → cut text ≡ Some (word, rest) → IsWritten t word → IsLexed rest ts → IsLexed text ((t, length text) ∷ ts)

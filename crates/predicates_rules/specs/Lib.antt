@@ -1,0 +1,11 @@
+pub mod Trees
+pub mod Grammar
+pub mod Answers
+pub mod Reading
+pub mod Levels
+pub mod Lexemes
+pub mod Scanning
+pub mod Rules
+pub mod Heading
+pub mod Faults
+pub mod Printing

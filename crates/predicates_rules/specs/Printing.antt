@@ -1,0 +1,172 @@
+-- How an expression is written, with no more parentheses than it needs.
+use Rattle.std.specs.Prelude.{◌≡◌, ℕ, suc, ◌<◌, ◌^◌, max, pos, negsuc, Bool, true, false, List, [], ◌∷◌, ◌++◌, if◌then◌else◌}
+use Rattle.std.specs.List.{list_all}
+use Rattle.std.specs.Str.{IsUtf8}
+use Rattle.serde_json.specs.Written.{compact_text}
+use Rattle.predicates_rules.specs.declared.expression.Connective.{Connective}
+use Rattle.predicates_rules.specs.declared.expression.Connective.TheVariants.{Or, Xor, And}
+use Rattle.predicates_rules.specs.declared.expression.Quantifier.TheVariants as quantifiers
+use Rattle.predicates_rules.specs.declared.condition.Comparison.TheVariants as comparisons
+use Rattle.predicates_rules.specs.declared.condition.Relation.TheVariants as relations
+use Rattle.predicates_rules.specs.declared.condition.State.TheVariants as states
+use Rattle.predicates_rules.specs.declared.fixed.Fixed.TheVariants as fixed
+use Rattle.predicates_rules.specs.declared.lexer.Class.TheVariants.{Slash}
+use Rattle.predicates_rules.specs.Trees.{Value, Natural, Negative, Text, Boolean, Null, Sign, Join, Not, Quantify, Open, Close, OpenList, CloseList, Comma, Path, Compare, Relate, In, Is, Plain, End, Test, TheValueIs, Compares, Relates, IsAmong, Tree, At, Denied, Quantified, Joined, Trees, none, more}
+use Rattle.predicates_rules.specs.Grammar.{Level, By, Single, tighter}
+use Rattle.predicates_rules.specs.Lexemes.{continues, text_of, data_of}
+
+-- ---- the tokens of an expression
+
+-- v , .. , v ]
+abbrev pub items_signs : List Value → List Sign
+items_signs [] = CloseList ∷ []
+items_signs (v ∷ []) = Plain v ∷ CloseList ∷ []
+items_signs (v ∷ w ∷ vs) = Plain v ∷ Comma ∷ items_signs (w ∷ vs)
+
+abbrev pub test_signs : Test → List Sign
+test_signs (TheValueIs s) = Is s ∷ []
+test_signs (Compares o v) = Compare o ∷ Plain v ∷ []
+test_signs (Relates r text) = Relate r ∷ Plain (Text text) ∷ []
+test_signs (IsAmong vs) = In ∷ OpenList ∷ items_signs vs
+
+abbrev pub in_parentheses : List Sign → List Sign
+in_parentheses ts = Open ∷ ts ++ Close ∷ []
+
+-- what c joins may stand at a level as it is
+abbrev pub fits : Level → Connective → Bool
+fits Single c = false
+fits (By Or) c = true
+fits (By Xor) Or = false
+fits (By Xor) c = true
+fits (By And) And = true
+fits (By And) c = false
+
+abbrev mutual
+  pub signs_at : Level → Tree → List Sign
+  signs_at l (At path t) = Path path ∷ test_signs t
+  signs_at l (Denied e) = Not ∷ signs_at Single e
+  signs_at l (Quantified q path e) = Quantify q ∷ Path path ∷ in_parentheses (signs_at (By Or) e)
+  signs_at l (Joined c es) = if fits l c then part_signs c es else in_parentheses (part_signs c es)
+
+  -- E c .. c E
+  pub part_signs : Connective → Trees → List Sign
+  part_signs c none = []
+  part_signs c (more e es) = signs_at (tighter c) e ++ follow_signs c es
+
+  -- c E .. c E
+  pub follow_signs : Connective → Trees → List Sign
+  follow_signs c none = []
+  follow_signs c (more e es) = Join c ∷ signs_at (tighter c) e ++ follow_signs c es
+
+-- how deep an expression nests when it is written so
+abbrev mutual
+  pub nesting_at : Level → Tree → ℕ
+  nesting_at l (At path t) = 0
+  nesting_at l (Denied e) = suc (nesting_at Single e)
+  nesting_at l (Quantified q path e) = suc (nesting_at (By Or) e)
+  nesting_at l (Joined c es) = if fits l c then parts_nesting c es else suc (parts_nesting c es)
+
+  pub parts_nesting : Connective → Trees → ℕ
+  parts_nesting c none = 0
+  parts_nesting c (more e es) = max (nesting_at (tighter c) e) (parts_nesting c es)
+
+abbrev pub IsSome : Trees → Type 0
+IsSome none = ⊥
+IsSome (more e es) = Unit {0}
+
+-- each join has two parts or more
+abbrev mutual
+  pub IsProper : Tree → Type 0
+  IsProper (At path t) = Unit {0}
+  IsProper (Denied e) = IsProper e
+  IsProper (Quantified q path e) = IsProper e
+  IsProper (Joined c es) = AreMany es
+
+  pub AreMany : Trees → Type 0
+  AreMany none = ⊥
+  AreMany (more e es) = IsProper e × IsSome es × AreProper es
+
+  pub AreProper : Trees → Type 0
+  AreProper none = Unit {0}
+  AreProper (more e es) = IsProper e × AreProper es
+
+-- ---- their text
+
+abbrev pub path_text : List ℕ → List ℕ
+path_text [] = 47 ∷ []
+path_text (b ∷ bytes) = b ∷ bytes
+
+abbrev pub word_of : Sign → List ℕ
+word_of (Join Or) = text_of fixed.Or
+word_of (Join Xor) = text_of fixed.Xor
+word_of (Join And) = text_of fixed.And
+word_of Not = text_of fixed.Not
+word_of (Quantify quantifiers.Each) = text_of fixed.Each
+word_of (Quantify quantifiers.Any) = text_of fixed.Any
+word_of Open = text_of fixed.Open
+word_of Close = text_of fixed.Close
+word_of OpenList = text_of fixed.OpenList
+word_of CloseList = text_of fixed.CloseList
+word_of Comma = text_of fixed.Comma
+word_of (Path path) = path_text path
+word_of (Compare comparisons.Equal) = text_of fixed.Equal
+word_of (Compare comparisons.Unequal) = text_of fixed.Unequal
+word_of (Compare comparisons.Below) = text_of fixed.Below
+word_of (Compare comparisons.AtMost) = text_of fixed.AtMost
+word_of (Compare comparisons.Above) = text_of fixed.Above
+word_of (Compare comparisons.AtLeast) = text_of fixed.AtLeast
+word_of (Relate relations.StartsWith) = text_of fixed.StartsWith
+word_of (Relate relations.EndsWith) = text_of fixed.EndsWith
+word_of (Relate relations.Contains) = text_of fixed.Contains
+word_of (Relate relations.Matches) = text_of fixed.Matches
+word_of In = text_of fixed.In
+word_of (Is states.Exists) = text_of fixed.Exists
+word_of (Is states.Missing) = text_of fixed.Missing
+word_of (Is states.IsEmpty) = text_of fixed.IsEmpty
+word_of (Plain v) = compact_text (data_of v)
+word_of End = []
+
+-- each token with a space behind it
+abbrev pub spaced : List Sign → List ℕ
+spaced [] = []
+spaced (t ∷ ts) = word_of t ++ 32 ∷ spaced ts
+
+abbrev pub printed : Tree → List ℕ
+printed e = spaced (signs_at (By Or) e)
+
+-- a path that a rule can write: empty, or / and more with no space, mark, operator or #
+abbrev pub IsPath : List ℕ → Type 0
+IsPath [] = Unit {0}
+IsPath (b ∷ []) = ⊥
+IsPath (b ∷ c ∷ bytes) = (b ≡ 47) × (list_all (continues Slash) (c ∷ bytes) ≡ true) × IsUtf8 (b ∷ c ∷ bytes)
+
+-- a literal that Rust holds
+abbrev pub IsValue : Value → Type 0
+IsValue (Natural n) = n < 2 ^ 64
+IsValue (Negative (pos n)) = ⊥
+IsValue (Negative (negsuc n)) = n < 2 ^ 63
+IsValue (Text text) = IsUtf8 text
+IsValue (Boolean b) = Unit {0}
+IsValue Null = Unit {0}
+
+abbrev pub AreValues : List Value → Type 0
+AreValues [] = Unit {0}
+AreValues (v ∷ vs) = IsValue v × AreValues vs
+
+abbrev pub IsPlainTest : Test → Type 0
+IsPlainTest (TheValueIs s) = Unit {0}
+IsPlainTest (Compares o v) = IsValue v
+IsPlainTest (Relates r text) = IsUtf8 text
+IsPlainTest (IsAmong vs) = AreValues vs
+
+-- its paths and literals can be written
+abbrev mutual
+  pub IsPlain : Tree → Type 0
+  IsPlain (At path t) = IsPath path × IsPlainTest t
+  IsPlain (Denied e) = IsPlain e
+  IsPlain (Quantified q path e) = IsPath path × IsPlain e
+  IsPlain (Joined c es) = ArePlain es
+
+  pub ArePlain : Trees → Type 0
+  ArePlain none = Unit {0}
+  ArePlain (more e es) = IsPlain e × ArePlain es

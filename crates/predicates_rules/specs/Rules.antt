@@ -1,0 +1,54 @@
+-- Which text says which rules.
+use Rattle.std.specs.Prelude.{◌≡◌, ℕ, ◌<◌, ◌==◌, true, List, [], ◌∷◌, ◌++◌, map, length, drop, string_bytes, Vec, Option, Some, None, Result, Ok, Err}
+use Rattle.std.specs.declared.alloc.Global.{Global}
+use Rattle.std.specs.List.{prefix_len, list_all, slice_split}
+use Rattle.std.specs.Str.{is_utf8}
+use Rattle.predicates_rules.specs.declared.lexer.Class.TheVariants.{Space, Name}
+use Rattle.predicates_rules.specs.declared.rule.Rule.{Rule}
+use Rattle.predicates_rules.specs.declared.error.RulesError.{RulesError}
+use Rattle.predicates_rules.specs.declared.error.RulesError.TheVariants.{OutOfMemory, Unreadable}
+use Rattle.predicates_rules.specs.Trees.{Sign, Tree, tree_of}
+use Rattle.predicates_rules.specs.Grammar.{IsSpelled}
+use Rattle.predicates_rules.specs.Lexemes.{continues, is_over, IsLexed}
+
+-- the text is spaces and tokens, and the tokens spell the expression, which nests at most n deep
+abbrev pub Says : ℕ → List ℕ → Tree → Type 0
+Says n text e = (ts : List (Sign × ℕ)) × IsLexed text ts × IsSpelled n (map (λ t. t.0) ts) e
+
+abbrev pub after_spaces : List ℕ → List ℕ
+after_spaces line = drop (prefix_len (continues Space) line) line
+
+-- behind spaces the line begins with the name of a rule, a colon and a text
+abbrev pub Heads : List ℕ → List ℕ → List ℕ → Type 0
+Heads line name text = (0 < length name) × (list_all (continues Name) name ≡ true) × (is_utf8 name ≡ true) × (after_spaces line ≡ name ++ 58 ∷ text)
+
+-- a line, and its rule if it has one
+pub data IsLine : ℕ → List ℕ → Option (List ℕ × Tree) → Type 0 where
+  -- spaces and a comment, or less
+  blank : {n : ℕ} {line : List ℕ} → is_over (after_spaces line) ≡ true → IsLine n line None
+  -- NAME: EXPRESSION
+  rule : {n : ℕ} {line name text : List ℕ} {e : Tree} → Heads line name text → Says n text e → IsLine n line (Some (name, e))
+
+-- the rules of lines, in their order
+pub data AreRules : ℕ → List (List ℕ) → List (List ℕ × Tree) → Type 0 where
+  no_more : {n : ℕ} → AreRules n [] []
+  skipped : {n : ℕ} {line : List ℕ} {lines : List (List ℕ)} {rs : List (List ℕ × Tree)} → IsLine n line None → AreRules n lines rs → AreRules n (line ∷ lines) rs
+  taken : {n : ℕ} {line : List ℕ} {r : List ℕ × Tree} {lines : List (List ℕ)} {rs : List (List ℕ × Tree)} → IsLine n line (Some r) → AreRules n lines rs → AreRules n (line ∷ lines) (r ∷ rs)
+
+-- the lines of a text, which line feeds part
+abbrev pub lines_of : List ℕ → List (List ℕ)
+lines_of text = slice_split (λ b. b == 10) text
+
+-- the rules of a text
+abbrev pub AreRulesOf : ℕ → List ℕ → List (List ℕ × Tree) → Type 0
+AreRulesOf n text rs = AreRules n (lines_of text) rs
+
+-- a rule without where it lies in memory
+abbrev pub rule_of : Rule → List ℕ × Tree
+rule_of r = (string_bytes r.name, tree_of r.expression)
+
+-- what was read is these rules, unless memory ran out
+abbrev pub AreRead : Result (Vec Rule Global) RulesError → List (List ℕ × Tree) → Type 0
+AreRead (Ok v) rs = map rule_of v.items ≡ rs
+AreRead (Err OutOfMemory) rs = Unit {0}
+AreRead (Err (Unreadable line column reason)) rs = ⊥

@@ -1,0 +1,73 @@
+-- Taking one token from the front of a text.
+use Rattle.std.specs.Prelude.{ℕ, List, [], ◌∷◌, length, Bool, Option, Some, None, option_and_then, if◌then◌else◌, Result, Ok}
+use Rattle.std.specs.Str.{is_utf8}
+use Rattle.serde_json.specs.Data.{Num, unsigned, negative, float, Data, null, boolean, number, string, array, object}
+use Rattle.serde_json.specs.Read.{read}
+use Rattle.predicates_rules.specs.declared.fixed.Fixed.{Fixed}
+use Rattle.predicates_rules.specs.declared.error.Expected.{Expected}
+use Rattle.predicates_rules.specs.declared.error.Expected.TheVariants as expected
+use Rattle.predicates_rules.specs.declared.stop.Stop.{Stop}
+use Rattle.predicates_rules.specs.declared.token.Token.{Token}
+use Rattle.predicates_rules.specs.declared.lexer.Class.{Class}
+use Rattle.predicates_rules.specs.declared.lexer.Class.TheVariants.{Letter, Digit, Symbol, Mark, Slash, Quote, Other}
+use Rattle.predicates_rules.specs.Trees.{Value, Natural, Negative, Text, Boolean, Null, Sign, Path, Plain, sign_of}
+use Rattle.predicates_rules.specs.Answers.{◌>>=◌, stops}
+use Rattle.predicates_rules.specs.Lexemes.{class_of, is_space, fixed_at, sign_of_fixed, cut, pointer}
+
+-- a number with no fraction
+abbrev pub number_in : Num → Option Value
+number_in (unsigned n) = Some (Natural n)
+number_in (negative z) = Some (Negative z)
+number_in (float x) = None
+
+-- the literal that JSON's data are
+abbrev pub value_in : Data → Option Value
+value_in null = Some Null
+value_in (boolean b) = Some (Boolean b)
+value_in (number n) = number_in n
+value_in (string text) = Some (Text text)
+value_in (array ds) = None
+value_in (object ms) = None
+
+unfoldable pub value_at : List ℕ → Option Value
+value_at word = if is_utf8 word then option_and_then value_in (read word) else None
+
+abbrev pub sign_or : ℕ → Option Fixed → Result Sign Stop
+sign_or left None = stops expected.Token left
+sign_or left (Some f) = Ok (sign_of_fixed f)
+
+abbrev pub value_or : Expected → ℕ → Option Value → Result Sign Stop
+value_or x left None = stops x left
+value_or x left (Some v) = Ok (Plain v)
+
+abbrev pub path_or : ℕ → List ℕ → Bool → Result Sign Stop
+path_or left word utf8 = if utf8 then Ok (Path (pointer word)) else stops expected.Utf8 left
+
+abbrev pub front_class : List ℕ → Class
+front_class [] = Other
+front_class (b ∷ text) = class_of b
+
+unfoldable pub sign_in : Class → ℕ → List ℕ → Result Sign Stop
+sign_in Letter left word = sign_or left (fixed_at word)
+sign_in Symbol left word = sign_or left (fixed_at word)
+sign_in Mark left word = sign_or left (fixed_at word)
+sign_in Digit left word = value_or expected.Number left (value_at word)
+sign_in Quote left word = value_or expected.Escapes left (value_at word)
+sign_in Slash left word = path_or left word (is_utf8 word)
+sign_in c left word = stops expected.Token left
+
+abbrev pub with_word : ℕ → Option (List ℕ × List ℕ) → Result (Sign × List ℕ) Stop
+with_word left None = stops expected.Quote left
+with_word left (Some x) = sign_in (front_class x.0) left x.0 >>= λ t. Ok (t, x.1)
+
+unfoldable pub token_at : List ℕ → Result (Sign × List ℕ) Stop
+token_at text = with_word (length text) (cut text)
+
+-- what is behind a space at the front
+abbrev pub after_space : List ℕ → Option (List ℕ)
+after_space [] = None
+after_space (b ∷ text) = if is_space b then Some text else None
+
+-- a token and how many bytes there are from it on
+abbrev pub placed : Token → Sign × ℕ
+placed t = (sign_of t.kind, t.left)

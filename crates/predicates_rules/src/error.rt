@@ -1,0 +1,110 @@
+//! Why rules could not be read.
+
+use crate::expression::MAX_DEPTH;
+use std::error::Error;
+use std::fmt;
+
+/// What could have stood at a place.
+#[derive(Clone, Copy, Debug, PartialEq, Eq)]
+pub enum Expected {
+    /// The name of a rule.
+    Name,
+    /// The colon behind a rule's name.
+    Colon,
+    /// A path, `not`, `each`, `any` or a parenthesis.
+    Expression,
+    Path,
+    /// An operator, or a word such as `exists`.
+    Condition,
+    Literal,
+    /// A text, as the operator before it takes nothing else.
+    Text,
+    /// The bracket that opens a list.
+    List,
+    /// A comma, or the bracket that closes a list.
+    ListGoesOn,
+    Open,
+    /// The parenthesis that closes, or `or`, `xor` or `and`.
+    Close,
+    /// The end of the line, or `or`, `xor` or `and`.
+    End,
+    /// A word, an operator, a path or a literal.
+    Token,
+    /// A whole number of 64 bits with no zero in front.
+    Number,
+    /// A text with JSON's escapes alone.
+    Escapes,
+    /// The quote that closes a text.
+    Quote,
+    /// Bytes that are UTF-8.
+    Utf8,
+}
+
+impl fmt::Display for Expected {
+    fn fmt<W: fmt::Write>(&self, f: &mut fmt::Formatter<W>) -> fmt::Result {
+        let text = match self {
+            Expected::Name => "the name of a rule",
+            Expected::Colon => "`:` behind the name of a rule",
+            Expected::Expression => "a path, `not`, `each`, `any` or `(`",
+            Expected::Path => "a path",
+            Expected::Condition => "an operator, `exists`, `missing` or `is_empty`",
+            Expected::Literal => "a literal",
+            Expected::Text => "a text in quotes",
+            Expected::List => "`[`",
+            Expected::ListGoesOn => "`,` or `]`",
+            Expected::Open => "`(`",
+            Expected::Close => "`)`, `or`, `xor` or `and`",
+            Expected::End => "the end of the line, `or`, `xor` or `and`",
+            Expected::Token => "a word, an operator, a path or a literal",
+            Expected::Number => "a whole number from -2^63 to 2^64 - 1",
+            Expected::Escapes => "a text as JSON writes it",
+            Expected::Quote => "the quote that ends the text",
+            Expected::Utf8 => "text in UTF-8",
+        };
+        f.write_str(text)
+    }
+}
+
+/// Why a rule was not read.
+#[derive(Clone, Copy, Debug, PartialEq, Eq)]
+pub enum Reason {
+    Expected(Expected),
+    /// It nests deeper than `MAX_DEPTH`.
+    TooDeep,
+}
+
+impl fmt::Display for Reason {
+    fn fmt<W: fmt::Write>(&self, f: &mut fmt::Formatter<W>) -> fmt::Result {
+        match self {
+            Reason::Expected(expected) => write!(f, "expected {expected}"),
+            Reason::TooDeep => write!(f, "nested more than {MAX_DEPTH} deep"),
+        }
+    }
+}
+
+/// Why rules were not read.
+#[derive(Clone, Copy, Debug, PartialEq, Eq)]
+pub enum RulesError {
+    OutOfMemory,
+    /// Where the text stops being rules. Lines and columns count from 1, and a column counts bytes.
+    Unreadable {
+        line: usize,
+        column: usize,
+        reason: Reason,
+    },
+}
+
+impl fmt::Display for RulesError {
+    fn fmt<W: fmt::Write>(&self, f: &mut fmt::Formatter<W>) -> fmt::Result {
+        match self {
+            RulesError::OutOfMemory => f.write_str("out of memory"),
+            RulesError::Unreadable {
+                line,
+                column,
+                reason,
+            } => write!(f, "line {line}, column {column}: {reason}"),
+        }
+    }
+}
+
+impl Error for RulesError {}

@@ -1,0 +1,39 @@
+//! What a rule says of a record.
+
+use crate::condition::Condition;
+
+/// How deep a rule may nest: by parentheses, `not`, `each` and `any`. What is joined in a row is not
+/// nested, so a row may be longer.
+pub const MAX_DEPTH: u32 = 100;
+
+/// What joins expressions, the weakest first.
+#[derive(Clone, Copy, Debug, PartialEq, Eq)]
+pub enum Connective {
+    Or,
+    /// An odd number of the parts hold.
+    Xor,
+    And,
+}
+
+/// How many items of a list have to meet an expression.
+#[derive(Clone, Copy, Debug, PartialEq, Eq)]
+pub enum Quantifier {
+    Each,
+    Any,
+}
+
+/// What a rule says of a record.
+///
+/// A path is a JSON pointer: empty for the record itself, which a rule writes as `/`. Its `~0` and
+/// `~1` stand as they were written. Under `Quantified` paths begin at the item.
+#[derive(Debug, Drop)]
+pub enum Expression {
+    /// What is said of the value at a path.
+    Test(String, Condition),
+    Not(Box<Expression>),
+    /// How many items of the list at a path meet the expression.
+    Quantified(Quantifier, String, Box<Expression>),
+    /// Two parts or more, in the order of the text. What one connective joins in a row is one
+    /// join, so a part is itself joined by the same connective only where parentheses say so.
+    Joined(Connective, Vec<Expression>),
+}

@@ -1,0 +1,160 @@
+//! The tokens whose text is always the same.
+
+ghost use Rattle.std.specs.Prelude.{◌≡◌};
+ghost use Rattle.std.specs.List.{find};
+ghost use Rattle.std.specs.Str.{bytes_eq};
+ghost use Rattle.predicates_rules.specs.Trees.{sign_of};
+ghost use Rattle.predicates_rules.specs.Lexemes.{text_of, sign_of_fixed, fixed_at};
+
+use crate::condition::{Comparison, Relation, State};
+use crate::expression::{Connective, Quantifier};
+use crate::literal::Literal;
+use crate::token::Kind;
+
+#[derive(Clone, Copy, Debug, PartialEq, Eq)]
+pub enum Fixed {
+    Or,
+    Xor,
+    And,
+    Not,
+    Each,
+    Any,
+    StartsWith,
+    EndsWith,
+    Contains,
+    Matches,
+    In,
+    Exists,
+    Missing,
+    IsEmpty,
+    True,
+    False,
+    Null,
+    Equal,
+    Unequal,
+    Below,
+    AtMost,
+    Above,
+    AtLeast,
+    Open,
+    Close,
+    OpenList,
+    CloseList,
+    Comma,
+}
+
+const ALL: [Fixed; 28] = [
+    Fixed::Or,
+    Fixed::Xor,
+    Fixed::And,
+    Fixed::Not,
+    Fixed::Each,
+    Fixed::Any,
+    Fixed::StartsWith,
+    Fixed::EndsWith,
+    Fixed::Contains,
+    Fixed::Matches,
+    Fixed::In,
+    Fixed::Exists,
+    Fixed::Missing,
+    Fixed::IsEmpty,
+    Fixed::True,
+    Fixed::False,
+    Fixed::Null,
+    Fixed::Equal,
+    Fixed::Unequal,
+    Fixed::Below,
+    Fixed::AtMost,
+    Fixed::Above,
+    Fixed::AtLeast,
+    Fixed::Open,
+    Fixed::Close,
+    Fixed::OpenList,
+    Fixed::CloseList,
+    Fixed::Comma,
+];
+
+fn text(fixed: Fixed) -> &'static [u8]
+    ensures { result.now ≡ text_of fixed }
+{
+    match fixed {
+        Fixed::Or => b"or",
+        Fixed::Xor => b"xor",
+        Fixed::And => b"and",
+        Fixed::Not => b"not",
+        Fixed::Each => b"each",
+        Fixed::Any => b"any",
+        Fixed::StartsWith => b"starts_with",
+        Fixed::EndsWith => b"ends_with",
+        Fixed::Contains => b"contains",
+        Fixed::Matches => b"matches",
+        Fixed::In => b"in",
+        Fixed::Exists => b"exists",
+        Fixed::Missing => b"missing",
+        Fixed::IsEmpty => b"is_empty",
+        Fixed::True => b"true",
+        Fixed::False => b"false",
+        Fixed::Null => b"null",
+        Fixed::Equal => b"==",
+        Fixed::Unequal => b"!=",
+        Fixed::Below => b"<",
+        Fixed::AtMost => b"<=",
+        Fixed::Above => b">",
+        Fixed::AtLeast => b">=",
+        Fixed::Open => b"(",
+        Fixed::Close => b")",
+        Fixed::OpenList => b"[",
+        Fixed::CloseList => b"]",
+        Fixed::Comma => b",",
+    }
+}
+
+/// What the token is to a parser.
+pub fn kind(fixed: Fixed) -> Kind
+    ensures { sign_of result ≡ sign_of_fixed fixed }
+{
+    match fixed {
+        Fixed::Or => Kind::Join(Connective::Or),
+        Fixed::Xor => Kind::Join(Connective::Xor),
+        Fixed::And => Kind::Join(Connective::And),
+        Fixed::Not => Kind::Not,
+        Fixed::Each => Kind::Quantifier(Quantifier::Each),
+        Fixed::Any => Kind::Quantifier(Quantifier::Any),
+        Fixed::StartsWith => Kind::Relation(Relation::StartsWith),
+        Fixed::EndsWith => Kind::Relation(Relation::EndsWith),
+        Fixed::Contains => Kind::Relation(Relation::Contains),
+        Fixed::Matches => Kind::Relation(Relation::Matches),
+        Fixed::In => Kind::In,
+        Fixed::Exists => Kind::State(State::Exists),
+        Fixed::Missing => Kind::State(State::Missing),
+        Fixed::IsEmpty => Kind::State(State::IsEmpty),
+        Fixed::True => Kind::Literal(Literal::Boolean(true)),
+        Fixed::False => Kind::Literal(Literal::Boolean(false)),
+        Fixed::Null => Kind::Literal(Literal::Null),
+        Fixed::Equal => Kind::Comparison(Comparison::Equal),
+        Fixed::Unequal => Kind::Comparison(Comparison::Unequal),
+        Fixed::Below => Kind::Comparison(Comparison::Below),
+        Fixed::AtMost => Kind::Comparison(Comparison::AtMost),
+        Fixed::Above => Kind::Comparison(Comparison::Above),
+        Fixed::AtLeast => Kind::Comparison(Comparison::AtLeast),
+        Fixed::Open => Kind::Open,
+        Fixed::Close => Kind::Close,
+        Fixed::OpenList => Kind::OpenList,
+        Fixed::CloseList => Kind::CloseList,
+        Fixed::Comma => Kind::Comma,
+    }
+}
+
+fn among(all: &[Fixed], word: &[u8]) -> Option<Fixed>
+    ensures { result ≡ find (λ f. bytes_eq (text_of f) word.now) all.now }
+{
+    all.iter().copied().find(|fixed| text(*fixed) == word)
+}
+
+/// The token with this text.
+#[tactic(auto, unfolding(crate::specs::Lexemes::fixed_at))]
+pub fn fixed_of(word: &[u8]) -> Option<Fixed>
+    ensures { result ≡ fixed_at word.now }
+{
+    among(&ALL, word)
+}

@@ -1,0 +1,307 @@
+//! Takes an expression's text apart into tokens.
+
+ghost use Rattle.std.specs.Prelude.{◌≡◌, ℕ, ◌+◌, ◌≤◌, List, map, option_map, length, IfOk, IfErr, IfSome, Ok, Some, None, string_bytes, take, drop, ◌∷◌, [], false, not, ◌&&◌, ◌==◌};
+ghost use Rattle.std.specs.List.{prefix_len};
+ghost use Rattle.serde_json.specs.View.{view, number_view};
+ghost use Rattle.predicates_rules.specs.Trees.{Sign, sign_of, value_of};
+ghost use Rattle.predicates_rules.specs.Lexemes.{class_of, continues, is_space, is_over, text_end, token_len, cut, pointer, IsLexed};
+ghost use Rattle.predicates_rules.specs.Scanning.{number_in, value_in, value_at, front_class, sign_in, token_at, after_space, placed};
+ghost use Rattle.predicates_rules.specs.Answers.{Gives, IsStop, stop_at};
+ghost use Rattle.predicates_rules.specs.Faults.{NoToken};
+
+use crate::error::{Expected, Reason};
+use crate::fixed::{fixed_of, kind};
+use crate::literal::Literal;
+use crate::stop::{ReadError, Stop};
+use crate::token::{Kind, Token};
+use serde_json::{Number, Value};
+use std::alloc::Global;
+use std::str::from_utf8;
+
+/// Bytes that belong together: tokens by their first byte, spaces, and the name of a rule.
+#[derive(Clone, Copy, Debug, PartialEq, Eq)]
+pub enum Class {
+    Letter,
+    Digit,
+    Symbol,
+    Mark,
+    Slash,
+    Quote,
+    Space,
+    Name,
+    Other,
+}
+
+fn class_at(b: u8) -> Class
+    ensures { result ≡ class_of b }
+{
+    match b {
+        b'a'..=b'z' | b'A'..=b'Z' | b'_' => Class::Letter,
+        b'0'..=b'9' | b'-' => Class::Digit,
+        b'=' | b'!' | b'<' | b'>' => Class::Symbol,
+        b'(' | b')' | b',' | b'[' | b']' => Class::Mark,
+        b'/' => Class::Slash,
+        b'"' => Class::Quote,
+        _ => Class::Other,
+    }
+}
+
+fn is_blank(b: u8) -> bool
+    ensures { result ≡ is_space b }
+{
+    b == b' ' || b == b'\t' || b == b'\r'
+}
+
+fn belongs(class: Class, b: u8) -> bool
+    ensures { result ≡ continues class b }
+{
+    match class {
+        Class::Letter => b.is_ascii_alphanumeric() || b == b'_',
+        Class::Digit => {
+            b.is_ascii_alphanumeric() || b == b'_' || b == b'+' || b == b'-' || b == b'.'
+        }
+        Class::Symbol => b'<' <= b && b <= b'>' || b == b'!',
+        Class::Slash => match class_at(b) {
+            Class::Mark | Class::Symbol => false,
+            _ => !(is_blank(b) || b == b'#'),
+        },
+        Class::Space => is_blank(b),
+        Class::Name => b.is_ascii_alphanumeric() || b == b'_' || b == b'-' || b == b'.' || 128 <= b,
+        Class::Mark | Class::Quote | Class::Other => false,
+    }
+}
+
+/// How many bytes at the front of a text belong together.
+pub fn run_len(class: Class, text: &[u8]) -> usize
+    ensures value { result ≡ prefix_len (continues class) text.now }
+    ensures within { result ≤ length text.now }
+{
+    for (i, b) in text.iter().enumerate() {
+        if !belongs(class, *b) {
+            return i;
+        }
+    }
+    text.len()
+}
+
+fn closes(escaped: bool, b: u8) -> bool
+    ensures { result ≡ (not escaped && b == 34) }
+{
+    !escaped && b == b'"'
+}
+
+fn escapes(escaped: bool, b: u8) -> bool
+    ensures { result ≡ (not escaped && b == 92) }
+{
+    !escaped && b == b'\\'
+}
+
+// How many bytes there are up to the quote that closes a text, with that quote.
+fn quoted_len(text: &[u8]) -> Option<usize>
+    ensures value { result ≡ text_end false text.now }
+    ensures within { IfSome result (λ n. n ≤ length text.now) }
+{
+    let mut escaped = false;
+    for (i, b) in text.iter().enumerate() {
+        if closes(escaped, *b) {
+            return Some(i + 1);
+        }
+        escaped = escapes(escaped, *b);
+    }
+    None
+}
+
+// How many bytes the token at the front takes.
+fn front_len(text: &[u8]) -> Option<usize>
+    ensures value { result ≡ token_len text.now }
+    ensures within { IfSome result (λ n. n ≤ length text.now) }
+{
+    let [first, rest @ ..] = text else {
+        return Some(0);
+    };
+    match class_at(*first) {
+        Class::Quote => {
+            let len = quoted_len(rest)?;
+            Some(len + 1)
+        }
+        class => Some(run_len(class, rest) + 1),
+    }
+}
+
+// The token at the front, and what is behind it.
+#[tactic(auto, unfolding(crate::specs::Lexemes::cut))]
+fn front(text: &[u8]) -> Option<(&[u8], &[u8])>
+    ensures { option_map (λ x. (x.0.now, x.1.now)) result ≡ cut text.now }
+{
+    let len = front_len(text)?;
+    Some(text.split_at(len))
+}
+
+fn whole(number: Number) -> Option<Literal>
+    ensures { option_map value_of result ≡ number_in (number_view number) }
+{
+    if let Some(n) = number.as_u64() {
+        return Some(Literal::Natural(n));
+    }
+    match number.as_i64() {
+        Some(n) => Some(Literal::Negative(n)),
+        None => None,
+    }
+}
+
+fn literal_of(value: Value) -> Option<Literal>
+    ensures { option_map value_of result ≡ value_in (view value) }
+{
+    match value {
+        Value::Null => Some(Literal::Null),
+        Value::Bool(b) => Some(Literal::Boolean(b)),
+        Value::Number(n) => whole(n),
+        Value::String(text) => Some(Literal::Text(text)),
+        Value::Array(_) => None,
+        Value::Object(_) => None,
+    }
+}
+
+// The literal that JSON reads.
+#[tactic(auto, unfolding(crate::specs::Scanning::value_at))]
+fn literal(alloc: Global, word: &[u8]) -> Result<Option<Literal>, ReadError>
+    ensures { Gives (option_map value_of) result (Ok (value_at word.now)) }
+{
+    let Ok(text) = from_utf8(word) else {
+        return Ok(None);
+    };
+    match Value::from_str(alloc, text) {
+        Ok(value) => Ok(literal_of(value)),
+        Err(error) => {
+            if error.is_memory() {
+                Err(ReadError::Memory)
+            } else {
+                Ok(None)
+            }
+        }
+    }
+}
+
+/// Something else stands where so many bytes are left.
+pub fn stop(expected: Expected, left: usize) -> ReadError
+    ensures { result ≡ ReadError.Stopped (stop_at expected left) }
+{
+    ReadError::Stopped(Stop {
+        reason: Reason::Expected(expected),
+        left,
+    })
+}
+
+// The pointer that a path is written as.
+fn pointer_of(alloc: Global, path: &str) -> Result<String, ReadError>
+    ensures { Gives string_bytes result (Ok (pointer path.now)) }
+{
+    if path.len() == 1 {
+        Ok(String::new(alloc))
+    } else {
+        Ok(String::from_str(alloc, path)?)
+    }
+}
+
+// The token that is written so, with so many bytes from it on.
+#[tactic(auto, unfolding(crate::specs::Scanning::sign_in))]
+fn token_of(alloc: Global, class: Class, left: usize, word: &[u8]) -> Result<Kind, ReadError>
+    ensures { Gives sign_of result (sign_in class left word.now) }
+{
+    match class {
+        Class::Letter | Class::Symbol | Class::Mark => match fixed_of(word) {
+            Some(fixed) => Ok(kind(fixed)),
+            None => Err(stop(Expected::Token, left)),
+        },
+        Class::Digit => match literal(alloc, word)? {
+            Some(literal) => Ok(Kind::Literal(literal)),
+            None => Err(stop(Expected::Number, left)),
+        },
+        Class::Quote => match literal(alloc, word)? {
+            Some(literal) => Ok(Kind::Literal(literal)),
+            None => Err(stop(Expected::Escapes, left)),
+        },
+        Class::Slash => match from_utf8(word) {
+            Ok(path) => Ok(Kind::Path(pointer_of(alloc, path)?)),
+            Err(_) => Err(stop(Expected::Utf8, left)),
+        },
+        Class::Space | Class::Name | Class::Other => Err(stop(Expected::Token, left)),
+    }
+}
+
+fn first_class(word: &[u8]) -> Class
+    ensures { result ≡ front_class word.now }
+{
+    match word {
+        [] => Class::Other,
+        [first, ..] => class_at(*first),
+    }
+}
+
+// The token at the front, and what is behind it.
+#[tactic(auto, unfolding(crate::specs::Scanning::token_at))]
+fn token(alloc: Global, text: &[u8]) -> Result<(Kind, &[u8]), ReadError>
+    ensures { Gives (λ x. (sign_of x.0, x.1.now)) result (token_at text.now) }
+{
+    match front(text) {
+        Some((word, rest)) => {
+            let kind = token_of(alloc, first_class(word), text.len(), word)?;
+            Ok((kind, rest))
+        }
+        None => Err(stop(Expected::Quote, text.len())),
+    }
+}
+
+/// Whether nothing follows but a comment.
+pub fn is_at_end(text: &[u8]) -> bool
+    ensures { result ≡ is_over text.now }
+{
+    match text {
+        [] => true,
+        [first, ..] => *first == b'#',
+    }
+}
+
+// What is behind a space at the front.
+fn behind_space(text: &[u8]) -> Option<&[u8]>
+    ensures { option_map (λ x. x.now) result ≡ after_space text.now }
+{
+    let [first, rest @ ..] = text else {
+        return None;
+    };
+    is_blank(*first).then_some(rest)
+}
+
+/// Takes a text apart into tokens.
+pub fn lex(alloc: Global, text: &[u8]) -> Result<Vec<Token>, ReadError>
+    // What is taken apart is spaces and these tokens.
+    ensures found { IfOk result (λ ts. IsLexed text.now (map placed ts.items)) }
+    // What is spaces and tokens is taken apart so, unless memory runs out.
+    ensures only { (ts : List (Sign × ℕ)) → IsLexed text.now ts
+        → Gives (λ v. map placed v.items) result (Ok ts) }
+    // Where it stops, and why.
+    ensures fault { IfErr result (IsStop (NoToken text.now)) }
+{
+    let mut tokens = Vec::new(alloc);
+    let mut left = text;
+    while !is_at_end(left) {
+        match behind_space(left) {
+            Some(rest) => {
+                left = rest;
+            }
+            None => {
+                let (kind, rest) = token(alloc, left)?;
+                tokens.push(Token {
+                    kind,
+                    left: left.len(),
+                })?;
+                left = rest;
+            }
+        }
+    }
+    tokens.push(Token {
+        kind: Kind::End,
+        left: left.len(),
+    })?;
+    Ok(tokens)
+}

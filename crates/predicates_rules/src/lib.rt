@@ -1,0 +1,29 @@
+//! Rules as text, one a line: what each says of a record, read exactly as the grammar says.
+//!
+//! ```text
+//! rule         NAME: expression                  # and a comment
+//! expression   E or E    E xor E    E and E      the weakest first; a row of one connective is one join
+//!              not E    ( E )    each PATH ( E )    any PATH ( E )    test
+//! test         PATH exists    PATH missing    PATH is_empty
+//!              PATH == L      and != < <= > >=
+//!              PATH in [ L, .. ]
+//!              PATH starts_with T      and ends_with, contains, matches
+//! ```
+//!
+//! A path is a JSON pointer, and `/` alone the record. It ends at a space, a parenthesis, a bracket, a
+//! comma, an operator and a `#`. A literal L is a text as JSON writes it, a whole number from -2^63 to
+//! 2^64 - 1 with no zero in front, `true`, `false` or `null`, and T is such a text. Numbers with a
+//! fraction or an exponent are refused, as are lists and objects. Names of rules may repeat.
+#![tactic(auto)]
+
+pub mod condition;
+pub mod error;
+pub mod expression;
+mod fixed;
+mod lexer;
+pub mod literal;
+mod parser;
+mod reader;
+pub mod rule;
+mod stop;
+mod token;

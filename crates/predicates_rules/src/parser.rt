@@ -1,0 +1,426 @@
+//! Reads an expression from its tokens.
+
+ghost use Rattle.std.specs.Prelude.{◌≡◌, ℕ, List, [], map, option_map, string_bytes, IfOk, IfErr, Ok, length};
+ghost use Rattle.predicates_rules.specs.Trees.{Tree, Sign, value_of, test_of, tree_of, trees_of, signs};
+ghost use Rattle.predicates_rules.specs.Grammar.{tighter, By, Single, IsSpelled};
+ghost use Rattle.predicates_rules.specs.declared.expression.Connective.TheVariants.{Or};
+ghost use Rattle.predicates_rules.specs.Levels.{level_of};
+ghost use Rattle.predicates_rules.specs.Answers.{Gives, IsSyntax, stop_at};
+ghost use Rattle.predicates_rules.specs.Reading.{literal_at, goes_on_at, items_at, list_at, after_bracket, text_at, test_at, path_at, after_open, after_close, same, after_join, group, quantified, single, parts_at, join, chain, at_level, below, is_end, all_of};
+
+use crate::condition::Condition;
+use crate::error::{Expected, Reason};
+use crate::expression::{Connective, Expression, MAX_DEPTH, Quantifier};
+use crate::literal::Literal;
+use crate::stop::{ReadError, Stop};
+use crate::token::{Kind, Token};
+use std::alloc::{AllocError, Global};
+
+// The error at the front of these tokens.
+fn stop(expected: Expected, tokens: &[Token]) -> ReadError
+    ensures { result ≡ ReadError.Stopped (stop_at expected (length (signs tokens.now))) }
+{
+    ReadError::Stopped(Stop {
+        reason: Reason::Expected(expected),
+        left: tokens.len(),
+    })
+}
+
+fn copy(literal: &Literal) -> Result<Literal, AllocError>
+    ensures { IfOk result (λ v. value_of v ≡ value_of literal.now) }
+{
+    match literal {
+        Literal::Natural(n) => Ok(Literal::Natural(*n)),
+        Literal::Negative(n) => Ok(Literal::Negative(*n)),
+        Literal::Text(text) => Ok(Literal::Text(text.clone()?)),
+        Literal::Boolean(b) => Ok(Literal::Boolean(*b)),
+        Literal::Null => Ok(Literal::Null),
+    }
+}
+
+#[tactic(auto, unfolding(crate::specs::Reading::path_at))]
+fn path_of(tokens: &[Token]) -> Result<(String, &[Token]), ReadError>
+    ensures { Gives (λ x. (string_bytes x.0, signs x.1.now)) result (path_at (signs tokens.now)) }
+{
+    let [first, rest @ ..] = tokens else {
+        return Err(stop(Expected::Path, tokens));
+    };
+    match &first.kind {
+        Kind::Path(path) => Ok((path.clone()?, rest)),
+        _ => Err(stop(Expected::Path, tokens)),
+    }
+}
+
+#[tactic(auto, unfolding(crate::specs::Reading::after_open))]
+fn open(tokens: &[Token]) -> Result<&[Token], ReadError>
+    ensures { Gives (λ x. signs x.now) result (after_open (signs tokens.now)) }
+{
+    let [first, rest @ ..] = tokens else {
+        return Err(stop(Expected::Open, tokens));
+    };
+    match first.kind {
+        Kind::Open => Ok(rest),
+        _ => Err(stop(Expected::Open, tokens)),
+    }
+}
+
+#[tactic(auto, unfolding(crate::specs::Reading::after_close))]
+fn close(tokens: &[Token]) -> Result<&[Token], ReadError>
+    ensures { Gives (λ x. signs x.now) result (after_close (signs tokens.now)) }
+{
+    let [first, rest @ ..] = tokens else {
+        return Err(stop(Expected::Close, tokens));
+    };
+    match first.kind {
+        Kind::Close => Ok(rest),
+        _ => Err(stop(Expected::Close, tokens)),
+    }
+}
+
+#[tactic(auto, unfolding(crate::specs::Reading::after_bracket))]
+fn bracket(tokens: &[Token]) -> Result<&[Token], ReadError>
+    ensures { Gives (λ x. signs x.now) result (after_bracket (signs tokens.now)) }
+{
+    let [first, rest @ ..] = tokens else {
+        return Err(stop(Expected::List, tokens));
+    };
+    match first.kind {
+        Kind::OpenList => Ok(rest),
+        _ => Err(stop(Expected::List, tokens)),
+    }
+}
+
+#[tactic(auto, unfolding(crate::specs::Reading::literal_at))]
+fn literal(tokens: &[Token]) -> Result<(Literal, &[Token]), ReadError>
+    ensures { Gives (λ x. (value_of x.0, signs x.1.now)) result (literal_at (signs tokens.now)) }
+{
+    let [first, rest @ ..] = tokens else {
+        return Err(stop(Expected::Literal, tokens));
+    };
+    match &first.kind {
+        Kind::Literal(literal) => Ok((copy(literal)?, rest)),
+        _ => Err(stop(Expected::Literal, tokens)),
+    }
+}
+
+#[tactic(auto, unfolding(crate::specs::Reading::text_at))]
+fn text(tokens: &[Token]) -> Result<(String, &[Token]), ReadError>
+    ensures { Gives (λ x. (string_bytes x.0, signs x.1.now)) result (text_at (signs tokens.now)) }
+{
+    let [first, rest @ ..] = tokens else {
+        return Err(stop(Expected::Text, tokens));
+    };
+    match &first.kind {
+        Kind::Literal(Literal::Text(text)) => Ok((text.clone()?, rest)),
+        _ => Err(stop(Expected::Text, tokens)),
+    }
+}
+
+#[tactic(auto, unfolding(crate::specs::Reading::goes_on_at))]
+fn goes_on(tokens: &[Token]) -> Result<(bool, &[Token]), ReadError>
+    ensures { Gives (λ x. (x.0, signs x.1.now)) result (goes_on_at (signs tokens.now)) }
+{
+    let [first, rest @ ..] = tokens else {
+        return Err(stop(Expected::ListGoesOn, tokens));
+    };
+    match first.kind {
+        Kind::Comma => Ok((true, rest)),
+        Kind::CloseList => Ok((false, rest)),
+        _ => Err(stop(Expected::ListGoesOn, tokens)),
+    }
+}
+
+fn items(alloc: Global, tokens: &[Token]) -> Result<(Vec<Literal>, &[Token]), ReadError>
+    ensures { Gives (λ x. (map value_of x.0.items, signs x.1.now)) result
+        (items_at (signs tokens.now)) }
+{
+    let mut items = Vec::new(alloc);
+    let mut left = tokens;
+    loop {
+        let (scalar, rest) = literal(left)?;
+        items.push(scalar)?;
+        let (more, rest) = goes_on(rest)?;
+        left = rest;
+        if !more {
+            return Ok((items, left));
+        }
+    }
+}
+
+#[tactic(auto, unfolding(crate::specs::Reading::list_at))]
+fn list(alloc: Global, tokens: &[Token]) -> Result<(Vec<Literal>, &[Token]), ReadError>
+    ensures { Gives (λ x. (map value_of x.0.items, signs x.1.now)) result
+        (list_at (signs tokens.now)) }
+{
+    let [first, rest @ ..] = tokens else {
+        return items(alloc, tokens);
+    };
+    match first.kind {
+        Kind::CloseList => Ok((Vec::new(alloc), rest)),
+        _ => items(alloc, tokens),
+    }
+}
+
+#[tactic(auto, unfolding(crate::specs::Reading::test_at))]
+fn condition(alloc: Global, tokens: &[Token]) -> Result<(Condition, &[Token]), ReadError>
+    ensures { Gives (λ x. (test_of x.0, signs x.1.now)) result (test_at (signs tokens.now)) }
+{
+    let [first, rest @ ..] = tokens else {
+        return Err(stop(Expected::Condition, tokens));
+    };
+    match first.kind {
+        Kind::State(state) => Ok((Condition::Is(state), rest)),
+        Kind::Comparison(comparison) => {
+            let (literal, rest) = literal(rest)?;
+            Ok((Condition::Compare(comparison, literal), rest))
+        }
+        Kind::Relation(relation) => {
+            let (text, rest) = text(rest)?;
+            Ok((Condition::Relate(relation, text), rest))
+        }
+        Kind::In => {
+            let rest = bracket(rest)?;
+            let (items, rest) = list(alloc, rest)?;
+            Ok((Condition::In(items), rest))
+        }
+        _ => Err(stop(Expected::Condition, tokens)),
+    }
+}
+
+fn is_same(a: Connective, b: Connective) -> bool
+    ensures { result ≡ same a b }
+{
+    match (a, b) {
+        (Connective::Or, Connective::Or) => true,
+        (Connective::Xor, Connective::Xor) => true,
+        (Connective::And, Connective::And) => true,
+        _ => false,
+    }
+}
+
+// What stands behind the connective, if it is next.
+#[tactic(auto, unfolding(crate::specs::Reading::after_join))]
+fn behind(connective: Connective, tokens: &[Token]) -> Option<&[Token]>
+    ensures { option_map (λ x. signs x.now) result ≡ after_join connective (signs tokens.now) }
+{
+    let [first, rest @ ..] = tokens else {
+        return None;
+    };
+    match first.kind {
+        Kind::Join(next) => is_same(connective, next).then_some(rest),
+        _ => None,
+    }
+}
+
+// A first part with those that follow it, of which there may be none.
+fn with_others(
+    connective: Connective,
+    first: Expression,
+    mut others: Vec<Expression>,
+) -> Result<Expression, AllocError>
+    ensures { IfOk result (λ e. tree_of e
+        ≡ join connective (tree_of first) (trees_of (map tree_of others.items))) }
+{
+    if others.is_empty() {
+        return Ok(first);
+    }
+    others.insert(0, first)?;
+    Ok(Expression::Joined(connective, others))
+}
+
+// How tightly an expression holds together.
+#[derive(Clone, Copy)]
+enum Grip {
+    By(Connective),
+    Single,
+}
+
+fn next_tighter(connective: Connective) -> Grip
+    ensures { level_of result ≡ tighter connective }
+{
+    match connective {
+        Connective::Or => Grip::By(Connective::Xor),
+        Connective::Xor => Grip::By(Connective::And),
+        Connective::And => Grip::Single,
+    }
+}
+
+#[cycle(reader)]
+#[tactic(auto, unfolding(crate::specs::Reading::below))]
+fn deeper(
+    alloc: Global,
+    grip: Grip,
+    depth: u32,
+    tokens: &[Token],
+) -> Result<(Expression, &[Token]), ReadError>
+    ensures { Gives (λ x. (tree_of x.0, signs x.1.now)) result
+        (below depth (level_of grip) (signs tokens.now)) }
+{
+    if depth == 0 {
+        return Err(ReadError::Stopped(Stop {
+            reason: Reason::TooDeep,
+            left: tokens.len(),
+        }));
+    }
+    at_grip(alloc, grip, depth - 1, tokens)
+}
+
+#[cycle(reader)]
+#[tactic(auto, unfolding(crate::specs::Reading::at_level))]
+fn at_grip(
+    alloc: Global,
+    grip: Grip,
+    depth: u32,
+    tokens: &[Token],
+) -> Result<(Expression, &[Token]), ReadError>
+    ensures { Gives (λ x. (tree_of x.0, signs x.1.now)) result
+        (at_level (below depth) (level_of grip) (signs tokens.now)) }
+{
+    match grip {
+        Grip::By(connective) => joined(alloc, connective, depth, tokens),
+        Grip::Single => alone(alloc, depth, tokens),
+    }
+}
+
+#[cycle(reader)]
+#[tactic(auto, unfolding(crate::specs::Reading::chain))]
+fn joined(
+    alloc: Global,
+    connective: Connective,
+    depth: u32,
+    tokens: &[Token],
+) -> Result<(Expression, &[Token]), ReadError>
+    ensures { Gives (λ x. (tree_of x.0, signs x.1.now)) result
+        (chain connective (at_level (below depth) (tighter connective)) (signs tokens.now)) }
+{
+    let (first, rest) = at_grip(alloc, next_tighter(connective), depth, tokens)?;
+    let (others, rest) = others(alloc, connective, depth, rest)?;
+    Ok((with_others(connective, first, others)?, rest))
+}
+
+// The parts behind the first one, each with the connective before it.
+#[cycle(reader)]
+fn others(
+    alloc: Global,
+    connective: Connective,
+    depth: u32,
+    tokens: &[Token],
+) -> Result<(Vec<Expression>, &[Token]), ReadError>
+    ensures { Gives (λ x. (trees_of (map tree_of x.0.items), signs x.1.now)) result
+        (parts_at (length (signs tokens.now)) connective
+        (at_level (below depth) (tighter connective)) (signs tokens.now)) }
+{
+    let mut parts = Vec::new(alloc);
+    let mut left = tokens;
+    while let Some(rest) = behind(connective, left) {
+        let (part, rest) = at_grip(alloc, next_tighter(connective), depth, rest)?;
+        parts.push(part)?;
+        left = rest;
+    }
+    Ok((parts, left))
+}
+
+#[cycle(reader)]
+#[tactic(auto, unfolding(crate::specs::Reading::single))]
+fn alone(alloc: Global, depth: u32, tokens: &[Token]) -> Result<(Expression, &[Token]), ReadError>
+    ensures { Gives (λ x. (tree_of x.0, signs x.1.now)) result
+        (single (below depth) (signs tokens.now)) }
+{
+    let [first, rest @ ..] = tokens else {
+        return Err(stop(Expected::Expression, tokens));
+    };
+    match &first.kind {
+        Kind::Path(path) => {
+            let (condition, rest) = condition(alloc, rest)?;
+            Ok((Expression::Test(path.clone()?, condition), rest))
+        }
+        Kind::Not => {
+            let (denied, rest) = deeper(alloc, Grip::Single, depth, rest)?;
+            Ok((Expression::Not(Box::new(alloc, denied)?), rest))
+        }
+        Kind::Open => in_parentheses(alloc, depth, rest),
+        Kind::Quantifier(quantifier) => over_items(alloc, *quantifier, depth, rest),
+        _ => Err(stop(Expected::Expression, tokens)),
+    }
+}
+
+#[cycle(reader)]
+#[tactic(auto, unfolding(crate::specs::Reading::group))]
+fn in_parentheses(
+    alloc: Global,
+    depth: u32,
+    tokens: &[Token],
+) -> Result<(Expression, &[Token]), ReadError>
+    ensures { Gives (λ x. (tree_of x.0, signs x.1.now)) result
+        (group (below depth) (signs tokens.now)) }
+{
+    let (inner, rest) = deeper(alloc, Grip::By(Connective::Or), depth, tokens)?;
+    let rest = close(rest)?;
+    Ok((inner, rest))
+}
+
+#[cycle(reader)]
+#[tactic(auto, unfolding(crate::specs::Reading::quantified))]
+fn over_items(
+    alloc: Global,
+    quantifier: Quantifier,
+    depth: u32,
+    tokens: &[Token],
+) -> Result<(Expression, &[Token]), ReadError>
+    ensures { Gives (λ x. (tree_of x.0, signs x.1.now)) result
+        (quantified (below depth) quantifier (signs tokens.now)) }
+{
+    let (path, rest) = path_of(tokens)?;
+    let rest = open(rest)?;
+    let (inner, rest) = in_parentheses(alloc, depth, rest)?;
+    Ok((
+        Expression::Quantified(quantifier, path, Box::new(alloc, inner)?),
+        rest,
+    ))
+}
+
+fn is_last(tokens: &[Token]) -> bool
+    ensures { result ≡ is_end (signs tokens.now) }
+{
+    match tokens {
+        [token] => match token.kind {
+            Kind::End => true,
+            _ => false,
+        },
+        _ => false,
+    }
+}
+
+#[tactic(auto, unfolding(crate::specs::Reading::all_of, crate::specs::Reading::ended, crate::specs::Reading::below))]
+fn all(alloc: Global, tokens: &[Token]) -> Result<Expression, ReadError>
+    ensures { Gives tree_of result (all_of MAX_DEPTH (signs tokens.now)) }
+{
+    let (expression, rest) = at_grip(alloc, Grip::By(Connective::Or), MAX_DEPTH, tokens)?;
+    if !is_last(rest) {
+        return Err(stop(Expected::End, rest));
+    }
+    Ok(expression)
+}
+
+/// Reads an expression from all of the tokens.
+pub fn parse(alloc: Global, tokens: &[Token]) -> Result<Expression, ReadError>
+    // What is read is spelled so.
+    ensures found { IfOk result (λ e. IsSpelled MAX_DEPTH (signs tokens.now) (tree_of e)) }
+    // What is spelled so is read, unless memory runs out.
+    ensures only { (e : Tree) → IsSpelled MAX_DEPTH (signs tokens.now) e
+        → Gives tree_of result (Ok e) }
+    // Where it is refused for another reason than its depth, it is spelled by nothing, however
+    // deep.
+    ensures never { IfErr result (λ e. IsSyntax e → (n : ℕ) (t : Tree)
+        → IsSpelled n (signs tokens.now) t → ⊥) }
+    // Which fault it is, and how many tokens are left there.
+    ensures exact { Gives tree_of result (all_of MAX_DEPTH (signs tokens.now)) }
+{
+    all(alloc, tokens)
+}
+
+/// Tokens spell one expression at most, however deep it may nest.
+pub fn one_meaning()
+    ensures { (n m : ℕ) (ts : List Sign) (e f : Tree)
+        → IsSpelled n ts e → IsSpelled m ts f → e ≡ f }
+{}

@@ -1,0 +1,131 @@
+//! The rules of a file.
+
+ghost use Rattle.std.specs.Prelude.{◌≡◌, ◌≢◌, ℕ, ◌+◌, ◌≤◌, List, Option, IfOk, IfErr, map, option_map, length};
+ghost use Rattle.predicates_rules.specs.declared.error.RulesError.TheVariants.{OutOfMemory};
+ghost use Rattle.predicates_rules.specs.Trees.{Tree};
+ghost use Rattle.predicates_rules.specs.declared.expression.Connective.TheVariants.{Or};
+ghost use Rattle.predicates_rules.specs.Grammar.{By, max_depth};
+ghost use Rattle.predicates_rules.specs.Printing.{IsProper, IsPlain, nesting_at, printed};
+ghost use Rattle.predicates_rules.specs.Rules.{AreRules, AreRulesOf, AreRead, IsLine, Says, lines_of, rule_of};
+ghost use Rattle.predicates_rules.specs.Faults.{IsFaultOf, IsLineError, IsSyntaxError, error_at};
+
+use crate::error::RulesError;
+use crate::expression::Expression;
+use crate::reader::read_line;
+use crate::stop::ReadError;
+use std::alloc::{AllocError, AllocFailed, Global};
+
+/// A rule: what it is called, and what it says of a record.
+#[derive(Debug, Drop)]
+pub struct Rule {
+    pub name: String,
+    pub expression: Expression,
+}
+
+impl From<AllocError> for RulesError {
+    ghost from_gives = { λ _ e. e ≡ OutOfMemory };
+
+    fn from(_e: AllocError) -> RulesError {
+        RulesError::OutOfMemory
+    }
+}
+
+impl<T: Drop> From<AllocFailed<T>> for RulesError {
+    ghost from_gives = { λ _ e. e ≡ OutOfMemory };
+
+    fn from(_e: AllocFailed<T>) -> RulesError {
+        RulesError::OutOfMemory
+    }
+}
+
+fn placed(error: ReadError, number: usize, line: &[u8]) -> RulesError
+    ensures { result ≡ error_at number line.now error }
+{
+    match error {
+        ReadError::Memory => RulesError::OutOfMemory,
+        ReadError::Stopped(stop) => RulesError::Unreadable {
+            line: number,
+            column: line.len().saturating_sub(stop.left) + 1,
+            reason: stop.reason,
+        },
+    }
+}
+
+// The rule of a line with this number, which may be blank.
+fn rule_at(alloc: Global, number: usize, line: &[u8]) -> Result<Option<Rule>, RulesError>
+    ensures found { IfOk result (λ o. IsLine max_depth line.now (option_map rule_of o)) }
+    ensures error { IfErr result (IsLineError number line.now) }
+{
+    match read_line(alloc, line) {
+        Ok(rule) => Ok(rule),
+        Err(error) => Err(placed(error, number, line)),
+    }
+}
+
+fn parted<'a>(alloc: Global, text: &'a [u8]) -> Result<Vec<&'a [u8]>, AllocError>
+    ensures { IfOk result (λ v. map (λ x. x.now) v.items ≡ lines_of text.now) }
+{
+    text.split(|b| *b == b'\n').collect(alloc)
+}
+
+fn rules_of(alloc: Global, lines: &[&[u8]]) -> Result<Vec<Rule>, RulesError>
+    ensures found { IfOk result (λ v. AreRules max_depth (map (λ x. x.now) lines.now)
+        (map rule_of v.items)) }
+    ensures only { (rs : List (List ℕ × Tree)) → AreRules max_depth (map (λ x. x.now) lines.now) rs
+        → AreRead result rs }
+    ensures never { IfErr result (λ e. IsSyntaxError e → (n : ℕ) (rs : List (List ℕ × Tree))
+        → AreRules n (map (λ x. x.now) lines.now) rs → ⊥) }
+    ensures fault { IfErr result (IsFaultOf (map (λ x. x.now) lines.now)) }
+{
+    let mut rules = Vec::new(alloc);
+    for (i, line) in lines.iter().enumerate() {
+        if let Some(rule) = rule_at(alloc, i + 1, line)? {
+            rules.push(rule)?;
+        }
+    }
+    Ok(rules)
+}
+
+/// Reads the rules of a file, one on a line: `NAME: EXPRESSION`.
+///
+/// `#` begins a comment, blank lines are skipped, tabs and carriage returns count as spaces. A name
+/// has letters, digits, `_`, `-`, `.` and any characters beyond ASCII, and may stand on more than one
+/// line. What nests deeper than 100 is refused as `TooDeep`. Takes memory for the lines, the tokens
+/// of a line and the rules.
+///
+/// ```
+/// let rules = read_rules(alloc, b"adult: /age >= 18 and not /name is_empty")?;
+/// assert!(rt; rules.len() == 1 && rules[0].name.as_str() == "adult");
+/// ```
+pub fn read_rules(alloc: Global, text: &[u8]) -> Result<Vec<Rule>, RulesError>
+    // What is read is what the text says.
+    ensures found { IfOk result (λ v. AreRulesOf max_depth text.now (map rule_of v.items)) }
+    // What the text says is read, unless memory runs out.
+    ensures only { (rs : List (List ℕ × Tree)) → AreRulesOf max_depth text.now rs
+        → AreRead result rs }
+    // Where it is refused for another reason than its depth, it says no rules, however deep.
+    ensures never { IfErr result (λ e. IsSyntaxError e → (n : ℕ) (rs : List (List ℕ × Tree))
+        → AreRulesOf n text.now rs → ⊥) }
+    // The line and the column of the first fault, and what was expected there.
+    ensures fault { IfErr result (IsFaultOf (lines_of text.now)) }
+{
+    let lines = parted(alloc, text)?;
+    rules_of(alloc, &lines)
+}
+
+/// A text says one list of rules at most, however deep they may nest.
+pub fn one_meaning()
+    ensures { (n m : ℕ) (text : List ℕ) (rs ss : List (List ℕ × Tree))
+        → AreRulesOf n text rs → AreRulesOf m text ss → rs ≡ ss }
+{}
+
+/// An expression is written with no more parentheses than it needs, and its text says it again:
+/// with `only` of `read_rules`, a rule that is written so is read as that rule.
+pub fn written_is_read()
+    // Each join has two parts or more, and paths and literals are such as a rule can write.
+    ensures made { (n : ℕ) (e : Tree) → IsProper e → IsPlain e → nesting_at (By Or) e ≤ n
+        → Says n (printed e) e }
+    // What a text says, however many parentheses that text has.
+    ensures said { (n : ℕ) (text : List ℕ) (e : Tree) → Says n text e → IsPlain e
+        → Says n (printed e) e }
+{}

@@ -1,0 +1,32 @@
+//! The tokens of a rule.
+
+use crate::condition::{Comparison, Relation, State};
+use crate::expression::{Connective, Quantifier};
+use crate::literal::Literal;
+
+#[derive(Drop)]
+pub enum Kind {
+    Join(Connective),
+    Not,
+    Quantifier(Quantifier),
+    Open,
+    Close,
+    OpenList,
+    CloseList,
+    Comma,
+    Path(String),
+    Comparison(Comparison),
+    Relation(Relation),
+    In,
+    State(State),
+    Literal(Literal),
+    /// The end of a line or a comment, behind all other tokens.
+    End,
+}
+
+/// A token, and how many bytes of its line there are from it on.
+#[derive(Drop)]
+pub struct Token {
+    pub kind: Kind,
+    pub left: usize,
+}

@@ -1,0 +1,5 @@
+//! Tests of what no clause of `predicates_rules` says: messages, sizes, and that calls succeed.
+#![tactic(auto)]
+
+#[cfg(test)]
+mod tests;

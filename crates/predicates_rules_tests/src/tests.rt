@@ -1,0 +1,297 @@
+//! Rules that are read, and faults with their lines.
+
+use predicates_rules::error::{Reason, RulesError};
+use predicates_rules::expression::Expression;
+use predicates_rules::rule::{Rule, read_rules};
+use std::alloc::{AllocError, Global};
+use std::test::Fail;
+
+const SAMPLE: &str =
+    "adult:  /age >= 18\nknown:  /name starts_with \"A\" or /name == \"Zoe\"\nseated: /seat exists and not /seat in [13, 17]\nlines:  each /lines (/quantity >= 1 and /sku matches \"^[A-Z]{3}$\")\n";
+
+// What the rules of a text are, or why there are none.
+fn shown(alloc: Global, text: &str) -> Result<String, AllocError> {
+    match read_rules(alloc, text.as_bytes()) {
+        Ok(rules) => {
+            let mut out = String::new(alloc);
+            for rule in &rules {
+                let line = format!(in alloc; "{:?}\n", rule)?;
+                out.push_str(&line)?;
+            }
+            Ok(out)
+        }
+        Err(error) => format!(in alloc; "{error}"),
+    }
+}
+
+fn shows(alloc: Global, text: &str, expected: &str) -> Result<bool, AllocError> {
+    let found = shown(alloc, text)?;
+    Ok(found.as_str() == expected)
+}
+
+// A text, and the rules that it says, as `Debug` shows them.
+const READ: [(&str, &str); 9] = [
+    (
+        SAMPLE,
+        "Rule { name: \"adult\", expression: Test(\"/age\", Compare(AtLeast, Natural(18))) }\nRule { name: \"known\", expression: Joined(Or, [Test(\"/name\", Relate(StartsWith, \"A\")), Test(\"/name\", Compare(Equal, Text(\"Zoe\")))]) }\nRule { name: \"seated\", expression: Joined(And, [Test(\"/seat\", Is(Exists)), Not(Test(\"/seat\", In([Natural(13), Natural(17)])))]) }\nRule { name: \"lines\", expression: Quantified(Each, \"/lines\", Joined(And, [Test(\"/quantity\", Compare(AtLeast, Natural(1))), Test(\"/sku\", Relate(Matches, \"^[A-Z]{3}$\"))])) }\n",
+    ),
+    ("", ""),
+    ("# nothing\r\n\t \r\n   # more", ""),
+    (
+        "\tü-1.b:/a==1# and /b==2\r\n",
+        "Rule { name: \"ü-1.b\", expression: Test(\"/a\", Compare(Equal, Natural(1))) }\n",
+    ),
+    (
+        "all: / != -9223372036854775808 xor / < 18446744073709551615",
+        "Rule { name: \"all\", expression: Joined(Xor, [Test(\"\", Compare(Unequal, Negative(-9223372036854775808))), Test(\"\", Compare(Below, Natural(18446744073709551615)))]) }\n",
+    ),
+    (
+        "p: /a exists or /b missing and /c is_empty or (/d exists or /e exists) and not (/f exists and /g exists)",
+        "Rule { name: \"p\", expression: Joined(Or, [Test(\"/a\", Is(Exists)), Joined(And, [Test(\"/b\", Is(Missing)), Test(\"/c\", Is(IsEmpty))]), Joined(And, [Joined(Or, [Test(\"/d\", Is(Exists)), Test(\"/e\", Is(Exists))]), Not(Joined(And, [Test(\"/f\", Is(Exists)), Test(\"/g\", Is(Exists))]))])]) }\n",
+    ),
+    (
+        "q: any /x~1y (/ in [] xor / in [true, false, null, -1, \"#\\\"\"] and / ends_with \"\\u00e9\\ud83d\\ude00\" and / contains \"\\\\\\/\")",
+        "Rule { name: \"q\", expression: Quantified(Any, \"/x~1y\", Joined(Xor, [Test(\"\", In([])), Joined(And, [Test(\"\", In([Boolean(true), Boolean(false), Null, Negative(-1), Text(\"#\\\"\")])), Test(\"\", Relate(EndsWith, \"é😀\")), Test(\"\", Relate(Contains, \"\\\\/\"))])])) }\n",
+    ),
+    (
+        "same: /a <= 1\nsame: /a > 1",
+        "Rule { name: \"same\", expression: Test(\"/a\", Compare(AtMost, Natural(1))) }\nRule { name: \"same\", expression: Test(\"/a\", Compare(Above, Natural(1))) }\n",
+    ),
+    (
+        "not: not not /not exists",
+        "Rule { name: \"not\", expression: Not(Not(Test(\"/not\", Is(Exists)))) }\n",
+    ),
+];
+
+#[test]
+fn reads_rules(rt: HostRuntime) -> Result<(), Fail> {
+    for (text, expected) in READ {
+        let same = shows(rt.alloc(), text, expected)?;
+        assert!(rt; same, "{text}");
+    }
+    Ok(())
+}
+
+// A text, and the line that says why it has no rules.
+const REFUSED: [(&str, &str); 26] = [
+    (
+        "a: / exists\n\"b\": / exists",
+        "line 2, column 1: expected the name of a rule",
+    ),
+    (
+        "  a / exists",
+        "line 1, column 4: expected `:` behind the name of a rule",
+    ),
+    (
+        "a: or",
+        "line 1, column 4: expected a path, `not`, `each`, `any` or `(`",
+    ),
+    (
+        "a:   # later",
+        "line 1, column 6: expected a path, `not`, `each`, `any` or `(`",
+    ),
+    ("a: each (", "line 1, column 9: expected a path"),
+    (
+        "a: /b 1",
+        "line 1, column 7: expected an operator, `exists`, `missing` or `is_empty`",
+    ),
+    ("\n\na: /b == ", "line 3, column 10: expected a literal"),
+    ("a: /b == [1]", "line 1, column 10: expected a literal"),
+    ("a: /b in [1, ]", "line 1, column 14: expected a literal"),
+    (
+        "a: /b matches 1",
+        "line 1, column 15: expected a text in quotes",
+    ),
+    ("a: /b in 1", "line 1, column 10: expected `[`"),
+    ("a: /b in [1 2]", "line 1, column 13: expected `,` or `]`"),
+    ("a: any /b /c", "line 1, column 11: expected `(`"),
+    (
+        "a: (/b exists",
+        "line 1, column 14: expected `)`, `or`, `xor` or `and`",
+    ),
+    (
+        "a: /b exists)",
+        "line 1, column 13: expected the end of the line, `or`, `xor` or `and`",
+    ),
+    (
+        "a: /b exists /c exists",
+        "line 1, column 14: expected the end of the line, `or`, `xor` or `and`",
+    ),
+    (
+        "a: /b = 1",
+        "line 1, column 7: expected a word, an operator, a path or a literal",
+    ),
+    (
+        "a: /b exist",
+        "line 1, column 7: expected a word, an operator, a path or a literal",
+    ),
+    (
+        "a: ü",
+        "line 1, column 4: expected a word, an operator, a path or a literal",
+    ),
+    (
+        "a: /b == 1.5",
+        "line 1, column 10: expected a whole number from -2^63 to 2^64 - 1",
+    ),
+    (
+        "a: /b == 01",
+        "line 1, column 10: expected a whole number from -2^63 to 2^64 - 1",
+    ),
+    (
+        "a: /b == 18446744073709551616",
+        "line 1, column 10: expected a whole number from -2^63 to 2^64 - 1",
+    ),
+    (
+        "a: /b == -0",
+        "line 1, column 10: expected a whole number from -2^63 to 2^64 - 1",
+    ),
+    (
+        "a: /b == \"\\x\"",
+        "line 1, column 10: expected a text as JSON writes it",
+    ),
+    (
+        "a: /b == \"c\\\" # d",
+        "line 1, column 10: expected the quote that ends the text",
+    ),
+    (
+        "a:\tnot\t/b\tin\t[ 1 , 2 ,\t3\t",
+        "line 1, column 26: expected `,` or `]`",
+    ),
+];
+
+#[test]
+fn says_what_was_expected(rt: HostRuntime) -> Result<(), Fail> {
+    for (text, expected) in REFUSED {
+        let same = shows(rt.alloc(), text, expected)?;
+        assert!(rt; same, "{text}");
+    }
+    Ok(())
+}
+
+// Why bytes have no rules.
+fn fault(alloc: Global, text: &[u8]) -> Result<String, AllocError> {
+    match read_rules(alloc, text) {
+        Ok(_) => String::from_str(alloc, "none"),
+        Err(error) => format!(in alloc; "{error}"),
+    }
+}
+
+#[test]
+fn refuses_what_is_no_utf8(rt: HostRuntime) -> Result<(), Fail> {
+    let name = fault(rt.alloc(), b"a\xff: /b exists")?;
+    assert!(rt; name.as_str() == "line 1, column 1: expected text in UTF-8");
+    let path = fault(rt.alloc(), b"a: /b\xff exists")?;
+    assert!(rt; path.as_str() == "line 1, column 4: expected text in UTF-8");
+    let comment = fault(rt.alloc(), b"# \xff")?;
+    assert!(rt; comment.as_str() == "none");
+    Ok(())
+}
+
+// A rule of one text many times, and a test.
+fn repeated(alloc: Global, times: u32, part: &str) -> Result<String, AllocError> {
+    let mut text = String::from_str(alloc, "a: ")?;
+    for _ in 0..times {
+        text.push_str(part)?;
+    }
+    text.push_str("/b exists")?;
+    Ok(text)
+}
+
+// How a rule of one text many times ends: the number of parts that it joins, or whether it is too deep.
+#[derive(Clone, Copy, PartialEq, Eq, Debug)]
+enum Ending {
+    Joins(usize),
+    Nests,
+    TooDeep,
+    Otherwise,
+}
+
+fn ending_of(rules: &[Rule]) -> Ending {
+    match rules {
+        [rule] => match &rule.expression {
+            Expression::Joined(_, parts) => Ending::Joins(parts.len()),
+            _ => Ending::Nests,
+        },
+        _ => Ending::Otherwise,
+    }
+}
+
+fn ends_as(alloc: Global, times: u32, part: &str) -> Result<Ending, AllocError> {
+    let text = repeated(alloc, times, part)?;
+    let ending = match read_rules(alloc, text.as_bytes()) {
+        Ok(rules) => ending_of(&rules),
+        Err(
+            RulesError::Unreadable {
+                reason: Reason::TooDeep,
+                ..
+            },
+        ) => Ending::TooDeep,
+        Err(_) => Ending::Otherwise,
+    };
+    Ok(ending)
+}
+
+const SIZES: [(u32, &str, Ending); 9] = [
+    (100, "not ", Ending::Nests),
+    (101, "not ", Ending::TooDeep),
+    (101, "any / (", Ending::TooDeep),
+    (10_000, "not ", Ending::TooDeep),
+    (10_000, "each /c (", Ending::TooDeep),
+    (100_000, "(", Ending::TooDeep),
+    (10_000, "/c exists and ", Ending::Joins(10_001)),
+    (10_000, "/c exists or ", Ending::Joins(10_001)),
+    (
+        10_000,
+        "/c exists and /d exists xor ",
+        Ending::Joins(10_001),
+    ),
+];
+
+#[test]
+fn reads_long_rules_and_refuses_deep_ones(rt: HostRuntime) -> Result<(), Fail> {
+    for (times, part, expected) in SIZES {
+        let found = ends_as(rt.alloc(), times, part)?;
+        assert!(rt; found == expected, "{times} times {part}");
+    }
+    let deep = fault(
+        rt.alloc(),
+        b"a: /b exists\nb: ((((((((((((((((((((((((((((((((((((((((((((((((((((((((((((((((((((((((((((((((((((((((((((((((((((((",
+    )?;
+    assert!(rt; deep.as_str() == "line 2, column 105: nested more than 100 deep");
+    Ok(())
+}
+
+// Whether the front of the sample reads, or stops on its last line.
+fn stops_on_the_last_line(alloc: Global, front: &[u8]) -> bool {
+    let mut line = 1usize;
+    let mut column = 1usize;
+    for b in front {
+        if *b == b'\n' {
+            line = line.saturating_add(1);
+            column = 1;
+        } else {
+            column = column.saturating_add(1);
+        }
+    }
+    match read_rules(alloc, front) {
+        Ok(rules) => rules.len() == line || rules.len() + 1 == line,
+        Err(
+            RulesError::Unreadable {
+                line: at,
+                column: place,
+                ..
+            },
+        ) => at == line && place <= column,
+        Err(RulesError::OutOfMemory) => false,
+    }
+}
+
+#[test]
+fn stops_within_each_front_of_the_sample(rt: HostRuntime) -> Result<(), Fail> {
+    let sample = SAMPLE.as_bytes();
+    for len in 0..=sample.len() {
+        let sound = stops_on_the_last_line(rt.alloc(), &sample[..len]);
+        assert!(rt; sound, "{len} bytes");
+    }
+    Ok(())
+}
