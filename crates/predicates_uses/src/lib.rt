@@ -5,8 +5,8 @@ mod answer;
 mod either;
 mod files;
 mod last;
-mod plainly;
 mod order;
+mod plainly;
 mod policy;
 mod tested;
 
@@ -14,7 +14,7 @@ pub use answer::IsTheAnswer;
 pub use either::Either;
 pub use files::{is_copy, no_script};
 pub use last::{LastFirst, is_known};
-pub use plainly::{Around, find_plain_case};
 pub use order::{Line, Order, Policy, allow_order};
+pub use plainly::{Around, find_plain_case};
 pub use policy::{PolicyFault, read_policy};
 pub use tested::FortyTwo;

@@ -4,7 +4,9 @@ use super::stacked::stacked;
 use super::sweep::Memory::{Never, Taken};
 use super::sweep::{Call, sweep};
 use predicates::boolean::PredicateBooleanExt;
-use predicates::check::{Unmet, add_failure, check_all, expect, failures, require, require_as, sift};
+use predicates::check::{
+    Unmet, add_failure, check_all, expect, failures, require, require_as, sift,
+};
 use predicates::ord::{ge, le};
 use predicates_core::reflection::render_onto;
 use predicates_explain::{RunFault, TextCheck, filter_lines};
