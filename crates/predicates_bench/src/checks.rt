@@ -1,6 +1,5 @@
 //! Checks of texts as the program `explain` makes them, by their depth or their number of leaves.
 use crate::texts::{ask_of_text, text};
-use predicates::custom::Operator;
 use predicates_explain::TextCheck;
 use predicates_text::{ends_with, starts_with};
 use std::alloc::{AllocError, Global};
@@ -24,13 +23,10 @@ fn nots(alloc: Global, depth: usize) -> Result<Box<TextCheck>, AllocError> {
 fn row(alloc: Global, leaves: usize) -> Result<Box<TextCheck>, AllocError> {
     let mut check = leaf(alloc)?;
     for _ in 1..leaves {
-        check = Box::new(alloc, TextCheck::Join(Operator::And, check, leaf(alloc)?))?;
+        check = Box::new(alloc, TextCheck::And(check, leaf(alloc)?))?;
     }
     let last = TextCheck::Ends(ends_with(String::from_str(alloc, "b")?));
-    Ok(Box::new(
-        alloc,
-        TextCheck::Join(Operator::And, check, Box::new(alloc, last)?),
-    )?)
+    Ok(Box::new(alloc, TextCheck::And(check, Box::new(alloc, last)?))?)
 }
 
 // So many `xor` over leaves; the checks made so far stand on the right or on the left.
@@ -41,9 +37,9 @@ fn chain(alloc: Global, xors: usize, on_the_right: bool) -> Result<Box<TextCheck
         check = Box::new(
             alloc,
             if on_the_right {
-                TextCheck::Join(Operator::Xor, next, check)
+                TextCheck::Xor(next, check)
             } else {
-                TextCheck::Join(Operator::Xor, check, next)
+                TextCheck::Xor(check, next)
             },
         )?;
     }
@@ -62,9 +58,9 @@ fn join_pairs(
         let Some(left) = checks.next() else { break };
         let Some(right) = checks.next() else { break };
         let pair = if by_and {
-            TextCheck::Join(Operator::And, left, right)
+            TextCheck::And(left, right)
         } else {
-            TextCheck::Join(Operator::Or, left, right)
+            TextCheck::Or(left, right)
         };
         joined.push(Box::new(alloc, pair)?)?;
     }

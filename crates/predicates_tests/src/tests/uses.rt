@@ -3,6 +3,7 @@
 mod call_counts;
 mod callers;
 mod guide;
+mod orders;
 mod own;
 mod reason;
 
