@@ -9,13 +9,9 @@ use Rattle.std.proofs.lemmas.List.{take-append-drop, take_all, take-take, drop-t
 use Rattle.std.proofs.lemmas.List.Elements.{All-from_get_or}
 use Rattle.std.proofs.lemmas.List.Sorted.{IsNonDecreasingBy-take, IsNonDecreasingBy-drop}
 use Rattle.std.proofs.lemmas.List.Folds.{list_any-append, list_any_none, list_any_at}
-use Rattle.std.proofs.lemmas.Int.Digits.{length-digits_of-le, length-digits_of_step}
-use Rattle.predicates_item.specs.Digits.{digits}
+use Rattle.std.proofs.lemmas.Int.Digits.{length-digits_of-le}
+use Rattle.predicates_item.specs.Digits.{digits, digits_more}
 use Rattle.predicates_item.specs.Members.{has_equal}
-
--- a number has one digit more than its half
-digits_more : (n : ℕ) → 0 < n → digits n ≡ 1 + digits (n / 2)
-digits_more n h = omega (arith, length-digits_of_step 2 n (omega arith) h)
 
 or_false : (b : Bool) → (b || false) ≡ b
 or_false true = refl

@@ -239,21 +239,32 @@ impl<'a> Iterator for CaseChildren<'a> {
 #[cfg(test)]
 mod tests {
     use super::*;
+    use crate::node::{binary_node, leaf_node, unary_node};
     use std::test::Fail;
 
-    // `((true && true) || true)`: the root over three nodes in one list, each with its subtree's size.
+    fn leaf(alloc: Global) -> Result<Case, AllocError> {
+        Ok(leaf_node(alloc, String::from_str(alloc, "true")?, true))
+    }
+
+    // The case of `always().and(always()).or(always())`, by the calls that combinators make it by.
+    fn both_or_one(alloc: Global) -> Result<Case, AllocError> {
+        let text = String::from_str(alloc, "(true && true)")?;
+        let both = binary_node(alloc, text, true, leaf(alloc)?, leaf(alloc)?)?;
+        let text = String::from_str(alloc, "((true && true) || true)")?;
+        unary_node(alloc, text, true, "left", both)
+    }
+
+    // Three records stand in one list, each with the size of its subtree; the root's is 4.
     #[test]
     fn sizes_of_the_flat_list(rt: HostRuntime) -> Result<(), Fail> {
         let alloc = rt.alloc();
-        let both = Case::new(alloc, None, true)
-            .add_child("left", Case::new(alloc, None, true))?
-            .add_child("right", Case::new(alloc, None, true))?;
-        let case = Case::new(alloc, None, true).add_child("left", both)?;
+        let case = both_or_one(alloc)?;
         let mut sizes = Vec::new(alloc);
         for entry in case.below.as_slice() {
             sizes.push(entry.size)?;
         }
         assert_eq!(rt; sizes.as_slice(), [3usize, 1, 1].as_slice());
+        assert_eq!(rt; case.below.len().saturating_add(1), 4usize);
         Ok(())
     }
 }
