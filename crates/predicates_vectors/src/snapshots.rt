@@ -64,34 +64,56 @@ fn answer_content(
     })
 }
 
-// The formula of the words: that of the predicate of the content where a content is there, and else
-// one leaf of that truth.
-fn formula(
-    alloc: Global,
-    predicate: &str,
-    item: &Snapshot,
-    truth: bool,
-) -> Result<ReferenceFormula> {
-    match (predicate.strip_suffix(" from_file_path"), item.content()) {
-        (Some(words), Ok(content)) => {
-            let words = read_text_words(alloc, words)?.context("an unknown word")?;
-            bytes_formula(alloc, words, content)?.context("no formula")
-        }
-        _ => Ok(ReferenceFormula::Leaf(truth)),
+// Whether a leaf of the words holds, by the words of the item's parts; none of other words.
+fn leaf_truth(predicate: &str, parts: &str) -> Option<bool> {
+    let (plain, rest) = parts.split_once(' ').unwrap_or((parts, ""));
+    let (followed, content) = rest.split_once(' ').unwrap_or((rest, ""));
+    let is_there = matches!(followed, "file" | "dir" | "symlink" | "other");
+    Some(match predicate {
+        "exists" => is_there,
+        "missing" => !is_there,
+        "is_file" => plain == "file",
+        "is_dir" => plain == "dir",
+        "is_symlink" => plain == "symlink",
+        "is_file follow" => followed == "file",
+        "is_dir follow" => followed == "dir",
+        "is_symlink follow" => followed == "symlink",
+        "from_path" => is_there,
+        "eq_file a" | "eq_file a utf8" => match plain {
+            "bytes" => rest == "61",
+            "text" => rest == "a",
+            _ => content == "61",
+        },
+        _ => return None,
+    })
+}
+
+// The formula of the words: one leaf, or over a content that formula of the content, or a false leaf
+// where a fault stands in its place.
+fn formula(alloc: Global, predicate: &str, parts: &str) -> Result<ReferenceFormula> {
+    let Some(words) = predicate.strip_suffix(" from_file_path") else {
+        let truth = leaf_truth(predicate, parts).context("an unknown predicate")?;
+        return Ok(ReferenceFormula::Leaf(truth));
+    };
+    let (_, content) = parts.rsplit_once(' ').context("one part alone")?;
+    if read_fault(content).is_some() {
+        return Ok(ReferenceFormula::Leaf(false));
     }
+    let words = read_text_words(alloc, words)?.context("an unknown word")?;
+    let content = bytes(alloc, content)?;
+    bytes_formula(alloc, words, content.as_slice())?.context("no formula")
 }
 
 impl Items for Paths {
     fn ask(&self, alloc: Global, predicate: &str, item: &str) -> Asked {
+        let formula = formula(alloc, predicate, item)?;
         let same = same_as(read_snapshot(alloc, "p", "file file 61")?)?;
         if let Some(answers) = answer_content(alloc, predicate, item, same)? {
-            let leaf = ReferenceFormula::Leaf(answers.verdict);
-            return Ok((answers, leaf));
+            return Ok((answers, formula));
         }
         let same = same_as(read_snapshot(alloc, "p", "file file 61")?)?;
         let item = read_snapshot(alloc, "p", item)?;
         let answers = answer(alloc, predicate, &item, same)?.context("an unknown predicate")?;
-        let formula = formula(alloc, predicate, &item, answers.verdict)?;
         Ok((answers, formula))
     }
 }

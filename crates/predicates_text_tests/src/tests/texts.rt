@@ -27,6 +27,7 @@ fn places_of_patterns(rt: HostRuntime) -> Result<(), Fail> {
 fn counts_and_views(rt: HostRuntime) -> Result<(), Fail> {
     assert_eq!(rt; count::count("ababa", "aba"), 1);
     assert_eq!(rt; trimmed(rt.alloc(), "\u{a0}a b\t")?.as_str(), "a b");
+    assert_eq!(rt; trimmed(rt.alloc(), "\u{a0}a\t")?.as_str(), "a");
     assert_eq!(rt; lines_even(rt.alloc(), "a\rb\r\n")?.as_str(), "a\nb\n");
     Ok(())
 }

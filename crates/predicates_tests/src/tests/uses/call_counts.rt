@@ -1,5 +1,6 @@
 //! How often a part is evaluated, which no contract says.
 use predicates::custom::{Test, TestPredicate, leaf};
+use predicates::part::Field;
 use predicates::prelude::*;
 use predicates_uses::{Either, LastFirst};
 use std::alloc::{AllocError, Global};
@@ -39,6 +40,24 @@ fn true_leaf(count: &Cell<u32>) -> TestPredicate<Counted<'_>> {
 }
 
 // How often the cell's leaves are evaluated: by `eval`, and by `find_case` for each verdict.
+fn counts_on<P: Predicate<Item>, Item>(
+    alloc: Global,
+    count: &Cell<u32>,
+    predicate: &P,
+    item: &Item,
+) -> Result<(u32, u32, u32), AllocError>
+    requires { P.lawful predicate.now }
+{
+    count.set(0);
+    predicate.eval(alloc, item)?;
+    let by_eval = count.replace(0);
+    predicate.find_case(alloc, true, item)?;
+    let for_true = count.replace(0);
+    predicate.find_case(alloc, false, item)?;
+    Ok((by_eval, for_true, count.get()))
+}
+
+// The same on 5.
 fn counts<P: Predicate<u32>>(
     alloc: Global,
     count: &Cell<u32>,
@@ -46,13 +65,7 @@ fn counts<P: Predicate<u32>>(
 ) -> Result<(u32, u32, u32), AllocError>
     requires { P.lawful predicate.now }
 {
-    count.set(0);
-    predicate.eval(alloc, &5)?;
-    let by_eval = count.replace(0);
-    predicate.find_case(alloc, true, &5)?;
-    let for_true = count.replace(0);
-    predicate.find_case(alloc, false, &5)?;
-    Ok((by_eval, for_true, count.get()))
+    counts_on(alloc, count, predicate, &5)
 }
 
 fn counts_of_own(alloc: Global) -> Result<[(u32, u32, u32); 3], AllocError> {
@@ -117,5 +130,52 @@ fn nested_parts(rt: HostRuntime) -> Result<(), Fail> {
     assert_eq!(rt; counts_of_all(rt.alloc())?, (4, 13, 4));
     assert_eq!(rt; counts_of_first(rt.alloc())?, (1, 4, 1));
     assert_eq!(rt; counts_of_one(rt.alloc())?, (3, 8, 3));
+    Ok(())
+}
+
+#[derive(Drop)]
+struct Itself;
+
+impl Field<u32, u32> for Itself {
+    ghost part_of = { λ field number. number };
+
+    fn get<'a>(&self, number: &'a u32) -> &'a u32 {
+        number
+    }
+}
+
+// A part by a function and by a field, and a value that is there.
+fn counts_of_parts(alloc: Global) -> Result<[(u32, u32, u32); 3], AllocError> {
+    let cell = Cell::new(0);
+    let by_value = counts(alloc, &cell, &true_leaf(&cell).of("n", |number: &u32| *number))?;
+    let by_field = counts(alloc, &cell, &true_leaf(&cell).of_field("n", Itself))?;
+    let some = counts_on(alloc, &cell, &true_leaf(&cell).of_some(), &Some(5))?;
+    Ok([by_value, by_field, some])
+}
+
+// Each of four members, one of them, and each of three rules.
+fn counts_of_lists(alloc: Global) -> Result<[(u32, u32, u32); 3], AllocError> {
+    let cell = Cell::new(0);
+    let members = Vec::from_slice(alloc, &[1, 2, 3, 4])?;
+    let each = counts_on(alloc, &cell, &true_leaf(&cell).of_each(), &members)?;
+    let any = counts_on(alloc, &cell, &true_leaf(&cell).of_any(), &members)?;
+    let mut rules = Vec::new(alloc);
+    for _ in 0..3 {
+        rules.push(true_leaf(&cell))?;
+    }
+    Ok([each, any, counts(alloc, &cell, &predicate::all_of(rules))?])
+}
+
+#[test]
+fn parts_and_members(rt: HostRuntime) -> Result<(), Fail> {
+    let [by_value, by_field, some] = counts_of_parts(rt.alloc())?;
+    assert_eq!(rt; by_value, (1, 1, 1));
+    assert_eq!(rt; by_field, (1, 1, 1));
+    assert_eq!(rt; some, (1, 1, 1));
+    // A case of all evaluates each before it makes one.
+    let [each, any, rules] = counts_of_lists(rt.alloc())?;
+    assert_eq!(rt; each, (4, 8, 4));
+    assert_eq!(rt; any, (1, 1, 1));
+    assert_eq!(rt; rules, (3, 6, 3));
     Ok(())
 }
