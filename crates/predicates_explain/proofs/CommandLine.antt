@@ -13,7 +13,8 @@ use Rattle.predicates_explain.specs.Applied.{IsPattern}
 use Rattle.predicates_explain.specs.Ends.{IsTokenFault, HasTokensFault}
 use Rattle.predicates_explain.specs.Number.{Reads}
 use Rattle.predicates_explain.specs.Tokens.{token_of}
-use Rattle.predicates_explain.specs.CommandLine.{typed, AreNumbers, Makes, IsPatternToken, token as wrong_token}
+use Rattle.predicates_explain.specs.CommandLine.{typed, AreNumbers, token as wrong_token}
+use Rattle.predicates_explain.specs.Postfix.{Makes, IsPatternToken}
 use Rattle.predicates_explain.specs.declared.check.TextCheck.{TextCheck}
 use Rattle.predicates_explain.specs.declared.program.end.End.{End}
 use Rattle.predicates_explain.specs.declared.program.end.End.TheVariants.{Usage, PatternRefused, NoMemory}

@@ -4,48 +4,22 @@ use Rattle.std.specs.Prelude.{map, string_bytes}
 use Rattle.std.specs.Str.{IsUtf8}
 use Rattle.std.specs.declared.alloc.Global.{Global}
 use Rattle.std.specs.declared.vec.Vec.{Vec}
-use Rattle.predicates_core.specs.Text.{Text}
 use Rattle.predicates_explain.specs.Answers.{between_formula, IsNumber, IsNumberAnswer}
-use Rattle.predicates_explain.specs.Applied.{operand_count, IsApplied}
 use Rattle.predicates_explain.specs.Checks.{HasFormula}
 use Rattle.predicates_explain.specs.Number.{Reads}
+use Rattle.predicates_explain.specs.Postfix.{Makes, FailsFirst, IsNoWord, TakesMore, IsPatternToken}
 use Rattle.predicates_explain.specs.Runs.{HasRun}
 use Rattle.predicates_explain.specs.TextAnswers.{IsTextAnswer}
-use Rattle.predicates_explain.specs.Tokens.{token_of}
 use Rattle.predicates_explain.specs.declared.check.TextCheck.{TextCheck}
-use Rattle.predicates_explain.specs.declared.word.Word.{Word}
 
 -- the bytes of each word
 abbrev pub typed : List (Vec ℕ Global) → List (List ℕ)
 typed words = map (λ word. word.items) words
 
--- the tokens are words that are applied one after another: they make this stack of that one
-abbrev pub Makes : List (List ℕ) → List TextCheck → List TextCheck → Type 0
-Makes [] old new = new ≡ old
-Makes (token ∷ others) old new =
-    (word : Word) × (next : List TextCheck) × (token ≡ token_of word) × IsApplied word old next
-    × Makes others next new
-
--- a token is the first that fails: those before it make a stack, and on that stack it has the fault
-pub record FailsFirst (tokens : List (List ℕ)) (HasFault : List TextCheck → List ℕ → Type 0) : Type
-    0 where
-  pub before : List (List ℕ)
-  pub token : List ℕ
-  pub after : List (List ℕ)
-  pub stack : List TextCheck
-  pub is : tokens ≡ before ++ token ∷ after
-  pub makes : Makes before [] stack
-  pub fault : HasFault stack token
-
 -- a token is wrong: it is no word's, or too few checks are there for its word
 pub data IsWrongToken (stack : List TextCheck) (token : List ℕ) : Type 0 where
-  no_word : ((word : Word) → token ≢ token_of word) → IsWrongToken stack token
-  operand : (word : Word) → token ≡ token_of word → length stack < operand_count word
-      → IsWrongToken stack token
-
--- a token is a regular expression
-abbrev pub IsPatternToken : List TextCheck → List ℕ → Type 0
-IsPatternToken stack token = (pattern : Text) × (token ≡ codes "match=" ++ string_bytes pattern)
+  no_word : IsNoWord token → IsWrongToken stack token
+  operand : TakesMore stack token → IsWrongToken stack token
 
 -- the tokens are wrong: one of them is, or all of them do not leave one check
 pub data AreWrongTokens (tokens : List (List ℕ)) : Type 0 where

@@ -1,8 +1,9 @@
 -- How a call of the program ends: its status, and what it says of it.
 use Rattle.std.specs.Prelude.{ℕ, Bool, true, false, List, [], Option, Result, Ok, Err, codes}
-use Rattle.predicates_explain.specs.CommandLine.{FailsFirst, IsWrongToken, IsPatternToken, AreWrongTokens}
+use Rattle.predicates_explain.specs.CommandLine.{IsWrongToken, AreWrongTokens}
 use Rattle.predicates_explain.specs.CommandLine.{AreWrongWords, AreRightWords, HasRefusedPattern}
 use Rattle.predicates_explain.specs.CommandLine.{HasRunOf}
+use Rattle.predicates_explain.specs.Postfix.{FailsFirst, IsPatternToken}
 use Rattle.predicates_explain.specs.declared.check.TextCheck.{TextCheck}
 use Rattle.predicates_explain.specs.declared.run_fault.RunFault.{RunFault}
 use Rattle.predicates_explain.specs.declared.run_fault.RunFault.TheVariants.{NoMemory as RunNoMemory}

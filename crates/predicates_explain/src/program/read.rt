@@ -5,7 +5,8 @@ ghost use Rattle.predicates_explain.specs.declared.word.Word.{Word};
 ghost use Rattle.predicates_explain.specs.Tokens.{token_of};
 ghost use Rattle.predicates_explain.specs.Number.{Reads};
 ghost use Rattle.predicates_explain.specs.Ends.{IsTokenFault, HasTokensFault};
-ghost use Rattle.predicates_explain.specs.CommandLine.{typed, AreNumbers, Makes};
+ghost use Rattle.predicates_explain.specs.CommandLine.{typed, AreNumbers};
+ghost use Rattle.predicates_explain.specs.Postfix.{Makes};
 
 use super::end::End;
 use crate::apply::apply_word;

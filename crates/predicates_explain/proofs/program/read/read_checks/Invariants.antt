@@ -1,5 +1,6 @@
 use Rattle.std.proofs.Common.{[], take}
-use Rattle.predicates_explain.specs.CommandLine.{typed, Makes}
+use Rattle.predicates_explain.specs.CommandLine.{typed}
+use Rattle.predicates_explain.specs.Postfix.{Makes}
 use Rattle.predicates_explain.proofs.program.read.read_checks.Given as goal
 
 abbrev pub invariant-loop-token : goal.invariant-loop-token
