@@ -1,5 +1,5 @@
 -- Words in postfix order, and the checks that they leave.
-use Rattle.std.specs.Prelude.{◌≡◌, ◌≢◌, ◌<◌, ◌≤◌, ℕ, suc, max, List, [], ◌∷◌, ◌++◌, All, codes, length}
+use Rattle.std.specs.Prelude.{◌≡◌, ◌≢◌, ◌<◌, ◌≤◌, ℕ, suc, max, List, [], ◌∷◌, ◌++◌, codes, length}
 use Rattle.std.specs.Prelude.{map, string_bytes}
 use Rattle.predicates_core.specs.Text.{Text}
 use Rattle.predicates_explain.specs.Applied.{IsApplied, IsMade, operand_count}
@@ -63,7 +63,8 @@ depth _ = 0
 
 -- no check is deeper than the limit
 abbrev pub AreWithin : List TextCheck → Type 0
-AreWithin stack = All (λ check. depth check ≤ MAX_DEPTH) stack
+AreWithin [] = Unit {0}
+AreWithin (check ∷ others) = (depth check ≤ MAX_DEPTH) × AreWithin others
 
 -- the check of the token's word would be deeper than the limit
 abbrev pub MakesTooDeep : List TextCheck → List ℕ → Type 0

@@ -1,6 +1,6 @@
 use Rattle.std.proofs.Common.{rules}
 use Rattle.predicates_explain.specs.CommandLine.{operand}
-use Rattle.predicates_explain.proofs.CommandLine.{is_pattern_token}
+use Rattle.predicates_explain.proofs.Postfix.{is_pattern_token}
 use Rattle.predicates_explain.proofs.program.read.take_token.Goals as goal
 
 pub returns-in-Err-Operand-clause-fault : goal.returns-in-Err-Operand-clause-fault
