@@ -34,11 +34,11 @@ mapped-around f words i word lt is =
     ap (map f) (sym (take-append-drop i words)) ∙ map-append f (take i words) (drop i words)
     ∙ ap (λ others. map f (take i words) ++ map f others) (drop_more words i word lt ∙ ap (λ w. w ∷ drop (i + 1) words) (sym is))
 
--- the word at the place has the problem
-pub bad_word : (words : List Text) (i : ℕ) (word : Text) (stack : List TextCheck) (problem : WordProblem) → i < length words
+-- the word at the place has the problem, and `copy` is a copy of it
+pub bad_word : (words : List Text) (i place : ℕ) (word copy : Text) (stack : List TextCheck) (problem : WordProblem) → i < length words
     → word ≡ get_or words i word → Makes (written (take i words)) [] stack → IsFirstProblem problem stack (string_bytes word)
-    → HasBadWord (written words) (suc i) (string_bytes word) problem
-bad_word words i word stack problem lt is makes wrong =
+    → place ≡ suc i → string_bytes copy ≡ string_bytes word → HasBadWord (written words) place (string_bytes copy) problem
+bad_word words i place word copy stack problem lt is makes wrong next same =
     (record {
       before = written (take i words);
       token = string_bytes word;
@@ -47,4 +47,4 @@ bad_word words i word stack problem lt is makes wrong =
       is = mapped-around string_bytes words i word lt is;
       makes = makes;
       fault = wrong;
-    }, ap suc (sym (length-map (take i words) string_bytes ∙ length-take-le i words (omega (arith, lt)))), refl)
+    }, next ∙ ap suc (sym (length-map (take i words) string_bytes ∙ length-take-le i words (omega (arith, lt)))), same)
