@@ -1,20 +1,18 @@
 -- Tokens one after another.
-use Rattle.std.proofs.Common.{◌≡◌, ◌≢◌, ◌↔◌, ℕ, ◌+◌, ◌<◌, ℤ, Bool, true, false, ◌&&◌, List, [], ◌∷◌, ◌++◌, take, drop, get_or, length, Option, Some, None, MatchOption, arith, codes, string_bytes, refl, sym, ap, ◌∙◌, subst}
+use Rattle.std.proofs.Common.{◌≡◌, ◌≢◌, ◌↔◌, ℕ, ◌+◌, ◌<◌, ℤ, Bool, true, false, ◌&&◌, List, [], ◌∷◌, ◌++◌, take, drop, get_or, length, Option, Some, None, MatchOption, arith, codes, string_bytes, refl, sym, ◌∙◌, subst}
 use Rattle.std.specs.Global.{Global}
 use Rattle.std.specs.Prelude.{Vec}
 use Rattle.std.specs.Str.{IsUtf8, IsAscii}
 use Rattle.std.proofs.Math.Dec.{ltb}
 use Rattle.std.proofs.lemmas.Bool.{ltb-true}
-use Rattle.std.proofs.lemmas.List.{take_more, drop_more, map-append, take-append-drop}
 use Rattle.std.proofs.lemmas.Str.{IsUtf8-append, IsUtf8-from_ascii, IsUtf8-string_bytes}
 use Rattle.std.proofs.lemmas.Str.Ascii.{IsAscii-nil, IsAscii-cons}
 use Rattle.predicates_core.specs.Text.{Text}
-use Rattle.predicates_explain.specs.Applied.{IsPattern}
 use Rattle.predicates_explain.specs.Ends.{IsTokenFault, HasTokensFault}
 use Rattle.predicates_explain.specs.Number.{Reads}
 use Rattle.predicates_explain.specs.Tokens.{token_of}
 use Rattle.predicates_explain.specs.CommandLine.{typed, AreNumbers, token as wrong_token}
-use Rattle.predicates_explain.specs.Postfix.{Makes, IsPatternToken}
+use Rattle.predicates_explain.specs.Postfix.{Makes}
 use Rattle.predicates_explain.proofs.Postfix.{mapped-more, mapped-around}
 use Rattle.predicates_explain.specs.declared.check.TextCheck.{TextCheck}
 use Rattle.predicates_explain.specs.declared.program.end.End.{End}

@@ -20,6 +20,5 @@ abbrev pub error_text : WordsError → Option (List ℕ)
 error_text (BadWord place word problem) =
     Some (codes "word ") ++? Some (decimal place) ++? Some (codes ", ")
     ++? debug_str (string_bytes word) ++? Some (codes ": ") ++? Some (problem_text problem)
-error_text (NotOne count) =
-    Some (codes "not one check but " ++ decimal count)
+error_text (NotOne count) = Some (decimal count ++ codes " checks are left, not one")
 error_text NoMemory = Some (codes "out of memory")

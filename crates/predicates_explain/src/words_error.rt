@@ -12,7 +12,7 @@ use std::fmt;
 pub enum WordsError {
     /// The place of the first wrong word, from 1, the word, and what is wrong with it.
     BadWord(usize, String, WordProblem),
-    /// Not one check is left, but so many.
+    /// How many checks are left, where it is not one.
     NotOne(usize),
     /// Out of memory, so nothing is said of the words.
     NoMemory,
@@ -28,7 +28,7 @@ impl fmt::Display for WordsError {
             WordsError::BadWord(place, word, problem) => {
                 write!(f, "word {place}, {word:?}: {problem}")
             }
-            WordsError::NotOne(count) => write!(f, "not one check but {count}"),
+            WordsError::NotOne(count) => write!(f, "{count} checks are left, not one"),
             WordsError::NoMemory => write!(f, "out of memory"),
         }
     }

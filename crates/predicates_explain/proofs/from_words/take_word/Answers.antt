@@ -1,5 +1,5 @@
 use Rattle.std.proofs.Common.{rules}
-use Rattle.predicates_explain.proofs.Depths.{still_tracked, too_deep}
+use Rattle.predicates_explain.proofs.Depths.{still_tracked}
 use Rattle.predicates_explain.proofs.Postfix.{is_pattern_token}
 use Rattle.predicates_explain.proofs.from_words.take_word.Goals as goal
 
