@@ -16,7 +16,7 @@ use Rattle.predicates_explain.specs.Postfix.{Makes}
 use Rattle.predicates_explain.proofs.Postfix.{mapped-more, mapped-around}
 use Rattle.predicates_explain.specs.declared.check.TextCheck.{TextCheck}
 use Rattle.predicates_explain.specs.declared.program.end.End.{End}
-use Rattle.predicates_explain.specs.declared.program.end.End.TheVariants.{Usage, PatternRefused, NoMemory}
+use Rattle.predicates_explain.specs.declared.program.end.End.TheVariants.{Usage, PatternRefused, TooDeep, NoMemory}
 use Rattle.predicates_explain.specs.declared.word.Word.{Word}
 use Rattle.predicates_explain.specs.declared.word.Word.TheVariants.{Equals, Starts, Ends, Contains, Matches}
 
@@ -59,6 +59,8 @@ pub first_fault : (tokens before : List (List ℕ)) (failing : List ℕ) (after 
 first_fault tokens before failing after stack Usage e makes fault =
     wrong_token (record { before = before; token = failing; after = after; stack = stack; is = e; makes = makes; fault = fault })
 first_fault tokens before failing after stack PatternRefused e makes fault =
+    record { before = before; token = failing; after = after; stack = stack; is = e; makes = makes; fault = fault }
+first_fault tokens before failing after stack TooDeep e makes fault =
     record { before = before; token = failing; after = after; stack = stack; is = e; makes = makes; fault = fault }
 first_fault tokens before failing after stack NoMemory e makes fault = tt
 first_fault tokens before failing after stack _ e makes fault = absurd fault

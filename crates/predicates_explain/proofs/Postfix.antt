@@ -2,12 +2,8 @@
 use Rattle.std.proofs.Common.{◌≡◌, ◌<◌, ℕ, ◌+◌, suc, List, [], ◌∷◌, ◌++◌, map, length, take, drop, get_or, string_bytes, arith, sym, ap, ◌∙◌, subst}
 use Rattle.std.proofs.lemmas.List.{take_more, drop_more, map-append, take-append-drop, length-map, length-take-le}
 use Rattle.predicates_core.specs.Text.{Text}
-use Rattle.predicates_explain.specs.Applied.{IsPattern}
-use Rattle.predicates_explain.specs.Postfix.{Makes, IsPatternToken, IsFirstProblem, HasBadWord, written}
-use Rattle.predicates_explain.specs.Tokens.{token_of}
+use Rattle.predicates_explain.specs.Postfix.{Makes, IsFirstProblem, HasBadWord, written}
 use Rattle.predicates_explain.specs.declared.check.TextCheck.{TextCheck}
-use Rattle.predicates_explain.specs.declared.word.Word.{Word}
-use Rattle.predicates_explain.specs.declared.word.Word.TheVariants.{Matches}
 use Rattle.predicates_explain.specs.declared.word_problem.WordProblem.{WordProblem}
 
 -- one more token is applied
@@ -15,11 +11,6 @@ pub Makes-more : (tokens more : List (List ℕ)) (old mid new : List TextCheck) 
 Makes-more [] more old mid new e makes = subst (λ stack. Makes more stack new) e makes
 Makes-more (first ∷ tokens) more old mid new (word, next, e, applied, others) makes =
     (word, next, e, applied, Makes-more tokens more next mid new others makes)
-
--- the word of a token holds a pattern
-pub is_pattern_token : (stack : List TextCheck) (word : Word) (token : List ℕ) → token ≡ token_of word → IsPattern word → IsPatternToken stack token
-is_pattern_token stack (Matches text) token e is = (text, e)
-is_pattern_token stack _ token e is = absurd is
 
 -- the elements up to the next one, with it, and around it
 pub mapped-more : {A : Type 0} (f : A → List ℕ) (words : List A) (i : ℕ) (word : A) → i < length words → word ≡ get_or words i word

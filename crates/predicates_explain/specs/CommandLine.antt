@@ -1,5 +1,5 @@
 -- What the words of a command line ask for.
-use Rattle.std.specs.Prelude.{◌≡◌, ◌≢◌, ℕ, ℤ, Bool, List, [], ◌∷◌, Option, codes, length}
+use Rattle.std.specs.Prelude.{◌≡◌, ◌≢◌, ℕ, ℤ, ◌≤◌, Bool, List, [], ◌∷◌, Option, codes, length}
 use Rattle.std.specs.Prelude.{map, string_bytes}
 use Rattle.std.specs.Str.{IsUtf8}
 use Rattle.std.specs.declared.alloc.Global.{Global}
@@ -7,10 +7,14 @@ use Rattle.std.specs.declared.vec.Vec.{Vec}
 use Rattle.predicates_explain.specs.Answers.{between_formula, IsNumber, IsNumberAnswer}
 use Rattle.predicates_explain.specs.Checks.{HasFormula}
 use Rattle.predicates_explain.specs.Number.{Reads}
-use Rattle.predicates_explain.specs.Postfix.{Makes, FailsFirst, IsNoWord, TakesMore, IsPatternToken}
+use Rattle.predicates_explain.specs.Postfix.{Makes, FailsFirst, IsFirstProblem, LeaveNotOne, depth}
 use Rattle.predicates_explain.specs.Runs.{HasRun}
 use Rattle.predicates_explain.specs.TextAnswers.{IsTextAnswer}
 use Rattle.predicates_explain.specs.declared.check.TextCheck.{TextCheck}
+use Rattle.predicates_explain.specs.declared.from_words.TheConstants.{MAX_DEPTH}
+use Rattle.predicates_explain.specs.declared.word_problem.WordProblem.{WordProblem}
+use Rattle.predicates_explain.specs.declared.word_problem.WordProblem.TheVariants.{NoSuchWord}
+use Rattle.predicates_explain.specs.declared.word_problem.WordProblem.TheVariants.{TooFewChecks}
 
 -- the bytes of each word
 abbrev pub typed : List (Vec ℕ Global) → List (List ℕ)
@@ -18,14 +22,13 @@ typed words = map (λ word. word.items) words
 
 -- a token is wrong: it is no word's, or too few checks are there for its word
 pub data IsWrongToken (stack : List TextCheck) (token : List ℕ) : Type 0 where
-  no_word : IsNoWord token → IsWrongToken stack token
-  operand : TakesMore stack token → IsWrongToken stack token
+  no_word : IsFirstProblem NoSuchWord stack token → IsWrongToken stack token
+  operand : IsFirstProblem TooFewChecks stack token → IsWrongToken stack token
 
 -- the tokens are wrong: one of them is, or all of them do not leave one check
 pub data AreWrongTokens (tokens : List (List ℕ)) : Type 0 where
   token : FailsFirst tokens IsWrongToken → AreWrongTokens tokens
-  checks : (stack : List TextCheck) → Makes tokens [] stack → length stack ≢ 1
-      → AreWrongTokens tokens
+  checks : (count : ℕ) → LeaveNotOne tokens count → AreWrongTokens tokens
 
 -- the words are two numbers
 abbrev pub AreNumbers : List (List ℕ) → ℤ → ℤ → Type 0
@@ -40,7 +43,7 @@ AreBounds words lo hi = (others : List (List ℕ)) × (words ≡ codes "between"
 -- the words are `text` and the tokens of one check
 abbrev pub AreCheck : List (List ℕ) → TextCheck → Type 0
 AreCheck words check = (tokens : List (List ℕ)) × (words ≡ codes "text" ∷ tokens)
-    × Makes tokens [] (check ∷ [])
+    × Makes tokens [] (check ∷ []) × (depth check ≤ MAX_DEPTH)
 
 -- the words name no use, or one of them is wrong
 pub data AreWrongWords (words : List (List ℕ)) : Type 0 where
@@ -51,10 +54,10 @@ pub data AreWrongWords (words : List (List ℕ)) : Type 0 where
   wrong_text : (tokens : List (List ℕ)) → words ≡ codes "text" ∷ tokens → AreWrongTokens tokens
       → AreWrongWords words
 
--- the first word that fails is a regular expression
-abbrev pub HasRefusedPattern : List (List ℕ) → Type 0
-HasRefusedPattern words = (tokens : List (List ℕ)) × (words ≡ codes "text" ∷ tokens)
-    × FailsFirst tokens IsPatternToken
+-- the words are `text` and tokens, and the first that fails has the problem
+abbrev pub HasProblem : WordProblem → List (List ℕ) → Type 0
+HasProblem problem words = (tokens : List (List ℕ)) × (words ≡ codes "text" ∷ tokens)
+    × FailsFirst tokens (IsFirstProblem problem)
 
 -- the words are right
 pub data AreRightWords (words : List (List ℕ)) : Type 0 where

@@ -1,8 +1,8 @@
 -- Words in postfix order, and the checks that they leave.
-use Rattle.std.specs.Prelude.{◌≡◌, ◌≢◌, ◌<◌, ◌≤◌, ℕ, suc, max, List, [], ◌∷◌, ◌++◌, codes, length}
+use Rattle.std.specs.Prelude.{◌≡◌, ◌≢◌, ◌<◌, ◌≤◌, ℕ, suc, max, List, [], ◌∷◌, ◌++◌, length}
 use Rattle.std.specs.Prelude.{map, string_bytes}
 use Rattle.predicates_core.specs.Text.{Text}
-use Rattle.predicates_explain.specs.Applied.{IsApplied, IsMade, operand_count}
+use Rattle.predicates_explain.specs.Applied.{IsApplied, IsMade, IsPattern, operand_count}
 use Rattle.predicates_explain.specs.Tokens.{token_of}
 use Rattle.predicates_explain.specs.declared.check.TextCheck.{TextCheck, Trim', Normalize', Not'}
 use Rattle.predicates_explain.specs.declared.check.TextCheck.{And', Or', Xor'}
@@ -47,9 +47,9 @@ IsNoWord token = (word : Word) → token ≢ token_of word
 abbrev pub TakesMore : List TextCheck → List ℕ → Type 0
 TakesMore stack token = (word : Word) × (token ≡ token_of word) × (length stack < operand_count word)
 
--- a token is a regular expression
-abbrev pub IsPatternToken : List TextCheck → List ℕ → Type 0
-IsPatternToken stack token = (pattern : Text) × (token ≡ codes "match=" ++ string_bytes pattern)
+-- the token's word holds a regular expression
+abbrev pub HoldsPattern : List ℕ → Type 0
+HoldsPattern token = (word : Word) × (token ≡ token_of word) × IsPattern word
 
 -- how many checks a check lies over, one in the other
 abbrev pub depth : TextCheck → ℕ
@@ -75,7 +75,7 @@ MakesTooDeep stack token = (word : Word) × (left : List TextCheck) × (check : 
 abbrev pub IsProblem : WordProblem → List TextCheck → List ℕ → Type 0
 IsProblem NoSuchWord stack token = IsNoWord token
 IsProblem TooFewChecks stack token = TakesMore stack token
-IsProblem BadExpression stack token = IsPatternToken stack token
+IsProblem BadExpression stack token = HoldsPattern token
 IsProblem TooDeep stack token = MakesTooDeep stack token
 
 -- the token has the problem, and none before it made a check that is too deep

@@ -58,7 +58,7 @@ fn take_depth(depths: &mut Vec<usize>, word: &Word) -> Option<usize>
 }
 
 // Applies the word with the token, and keeps the depths of the checks; or says what is wrong with it.
-fn take_word(
+pub(crate) fn take_word(
     alloc: Global,
     checks: &mut Vec<TextCheck>,
     depths: &mut Vec<usize>,
