@@ -9,8 +9,14 @@ use std::test::Fail;
 // Words, and the text of their error.
 const REJECTED: [(&[&str], &str); 6] = [
     (&["empty", "trim", "foo"], "word 3, \"foo\": no such word"),
-    (&["empty", "and", "foo"], "word 2, \"and\": takes more checks than there are"),
-    (&["match=(", "not"], "word 1, \"match=(\": regular expression rejected"),
+    (
+        &["empty", "and", "foo"],
+        "word 2, \"and\": takes more checks than there are",
+    ),
+    (
+        &["match=(", "not"],
+        "word 1, \"match=(\": regular expression rejected",
+    ),
     (&["empty", "a\nb\""], "word 2, \"a\\nb\\\"\": no such word"),
     (&[], "0 checks are left, not one"),
     (&["empty", "empty", "eq="], "3 checks are left, not one"),
