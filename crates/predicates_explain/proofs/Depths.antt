@@ -3,8 +3,7 @@ use Rattle.std.proofs.Common.{◌≡◌, ◌<◌, ◌≤◌, ℕ, suc, max, List
 use Rattle.std.proofs.lemmas.List.{map-append, append_assoc}
 use Rattle.predicates_explain.specs.Applied.{IsCheckOf, IsMade, IsApplied, operand_count}
 use Rattle.predicates_explain.specs.Depths.{depth_over, AreTracked}
-use Rattle.predicates_explain.specs.Postfix.{depth, AreWithin, MakesTooDeep}
-use Rattle.predicates_explain.specs.Tokens.{token_of}
+use Rattle.predicates_explain.specs.Postfix.{depth, AreWithin}
 use Rattle.predicates_explain.specs.declared.from_words.TheConstants.{MAX_DEPTH}
 use Rattle.predicates_explain.specs.declared.word.Word.{Word}
 use Rattle.predicates_explain.specs.declared.word.Word.TheVariants.{Empty, Equals, Starts, Ends, Contains, Matches, Trim, Normalize, Not, And, Or, Xor}
@@ -26,14 +25,14 @@ both_taken before between after l r found first second one left (a ∷ b ∷ [])
     let left_taken = second left a right_taken.0 in
     deepened found l r a b one left_taken.1 right_taken.1 left_taken.0
   where
-  deepened : (found : Option ℕ) (l r a b : ℕ) → MatchOption found (MAX_DEPTH ≤ max l r) (λ d. (d ≡ suc (max l r)) × (max l r < MAX_DEPTH))
-      → l ≡ a → r ≡ b → after ≡ left → MatchOption found (MAX_DEPTH < suc (max a b)) (λ d. (d ≡ suc (max a b)) × (d ≤ MAX_DEPTH) × (after ≡ left))
-  deepened (Some d) l r a b one left_is right_is same =
-      let most : max l r ≡ max a b = rw (left_is, right_is) refl in
-      (one.0 ∙ ap suc most, omega (arith, one.0, one.1), same)
-  deepened None l r a b one left_is right_is same =
-      let most : max l r ≡ max a b = rw (left_is, right_is) refl in
-      omega (arith, one, most)
+    deepened : (found : Option ℕ) (l r a b : ℕ) → MatchOption found (MAX_DEPTH ≤ max l r) (λ d. (d ≡ suc (max l r)) × (max l r < MAX_DEPTH))
+        → l ≡ a → r ≡ b → after ≡ left → MatchOption found (MAX_DEPTH < suc (max a b)) (λ d. (d ≡ suc (max a b)) × (d ≤ MAX_DEPTH) × (after ≡ left))
+    deepened (Some d) l r a b one left_is right_is same =
+        let most : max l r ≡ max a b = rw (left_is, right_is) refl in
+        (one.0 ∙ ap suc most, omega (arith, one.0, one.1), same)
+    deepened None l r a b one left_is right_is same =
+        let most : max l r ≡ max a b = rw (left_is, right_is) refl in
+        omega (arith, one, most)
 both_taken before between after l r found first second one left operands are two = absurd (omega (arith, two))
 
 -- a check has the depth that is kept for it
@@ -77,13 +76,7 @@ pub still_tracked : (word : Word) (old new : List TextCheck) (before after : Lis
 still_tracked word old new before after d applied tracked takes =
     let taken = taken_for word old applied.left applied.check before after (Some d) applied.made tracked.0 takes in
     let same : after ++ d ∷ [] ≡ map depth new =
-        rw (taken.2, taken.0, applied.pushed) (sym (map-append depth applied.left (applied.check ∷ []))) in
+    rw (taken.2, taken.0, applied.pushed) (sym (map-append depth applied.left (applied.check ∷ []))) in
     let below = within_left applied.left applied.made.operands (subst AreWithin applied.made.taken tracked.1) in
     let low : depth applied.check ≤ MAX_DEPTH = subst (λ n. n ≤ MAX_DEPTH) taken.0 taken.1 in
     (same, subst AreWithin (sym applied.pushed) (within_more applied.left applied.check below low))
-
--- a word without a depth makes a check past the limit
-pub too_deep : (word : Word) (old new : List TextCheck) (before after : List ℕ) (token : List ℕ) → token ≡ token_of word → IsApplied word old new
-    → AreTracked old before → Takes before after (operand_count word) None → MakesTooDeep old token
-too_deep word old new before after token is applied tracked takes =
-    (word, applied.left, applied.check, is, applied.made, taken_for word old applied.left applied.check before after None applied.made tracked.0 takes)

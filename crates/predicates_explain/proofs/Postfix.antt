@@ -29,13 +29,16 @@ mapped-around f words i word lt is =
 pub bad_word : (words : List Text) (i place : ℕ) (word copy : Text) (stack : List TextCheck) (problem : WordProblem) → i < length words
     → word ≡ get_or words i word → Makes (written (take i words)) [] stack → IsFirstProblem problem stack (string_bytes word)
     → place ≡ suc i → string_bytes copy ≡ string_bytes word → HasBadWord (written words) place (string_bytes copy) problem
-bad_word words i place word copy stack problem lt is makes wrong next same =
-    (record {
-      before = written (take i words);
-      token = string_bytes word;
-      after = written (drop (i + 1) words);
-      stack = stack;
-      is = mapped-around string_bytes words i word lt is;
-      makes = makes;
-      fault = wrong;
-    }, next ∙ ap suc (sym (length-map (take i words) string_bytes ∙ length-take-le i words (omega (arith, lt)))), same)
+bad_word words i place word copy stack problem lt is makes wrong next same = (
+  record {
+    before = written (take i words);
+    token = string_bytes word;
+    after = written (drop (i + 1) words);
+    stack = stack;
+    is = mapped-around string_bytes words i word lt is;
+    makes = makes;
+    fault = wrong;
+  },
+  next ∙ ap suc (sym (length-map (take i words) string_bytes ∙ length-take-le i words (omega (arith, lt)))),
+  same,
+)

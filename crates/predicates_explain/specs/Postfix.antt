@@ -51,7 +51,7 @@ TakesMore stack token = (word : Word) × (token ≡ token_of word) × (length st
 abbrev pub HoldsPattern : List ℕ → Type 0
 HoldsPattern token = (word : Word) × (token ≡ token_of word) × IsPattern word
 
--- how many checks a check lies over, one in the other
+-- how many checks lie around the deepest leaf of a check
 abbrev pub depth : TextCheck → ℕ
 depth (Trim' _ inner) = suc (depth inner)
 depth (Normalize' _ inner) = suc (depth inner)

@@ -44,7 +44,7 @@ fn take_depth(depths: &mut Vec<usize>, word: &Word) -> Option<usize>
     ensures { (left operands : List ℕ) → depths.old.items ≡ left ++ operands
         → length operands ≡ operand_count word.now
         → MatchOption result (MAX_DEPTH < depth_over operands)
-            (λ depth. (depth ≡ depth_over operands) × (depth ≤ MAX_DEPTH) × (depths.new.items ≡ left)) }
+        (λ depth. (depth ≡ depth_over operands) × (depth ≤ MAX_DEPTH) × (depths.new.items ≡ left)) }
 {
     match word {
         Word::Trim | Word::Normalize | Word::Not => one_more(pop_depth(depths)),
@@ -67,7 +67,7 @@ pub(crate) fn take_word(
     requires { AreTracked checks.now.items depths.now.items }
     ensures { IfOk result (λ found. MatchOption found
         (Makes (token.now ∷ []) checks.old.items checks.new.items
-            × AreTracked checks.new.items depths.new.items)
+        × AreTracked checks.new.items depths.new.items)
         (λ problem. IsProblem problem checks.old.items token.now)) }
 {
     let Some(word) = read_word(alloc, token)? else {
