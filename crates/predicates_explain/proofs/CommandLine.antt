@@ -1,22 +1,22 @@
 -- Tokens one after another.
-use Rattle.std.proofs.Common.{◌≡◌, ◌≢◌, ◌↔◌, ℕ, ◌+◌, ◌<◌, ℤ, Bool, true, false, ◌&&◌, List, [], ◌∷◌, ◌++◌, take, drop, get_or, length, Option, Some, None, MatchOption, arith, codes, string_bytes, refl, sym, ap, ◌∙◌, subst}
+use Rattle.std.proofs.Common.{◌≡◌, ◌≢◌, ◌↔◌, ℕ, ◌+◌, ◌<◌, ℤ, Bool, true, false, ◌&&◌, List, [], ◌∷◌, ◌++◌, take, drop, get_or, length, Option, Some, None, MatchOption, arith, codes, string_bytes, refl, sym, ◌∙◌, subst}
 use Rattle.std.specs.Global.{Global}
 use Rattle.std.specs.Prelude.{Vec}
 use Rattle.std.specs.Str.{IsUtf8, IsAscii}
 use Rattle.std.proofs.Math.Dec.{ltb}
 use Rattle.std.proofs.lemmas.Bool.{ltb-true}
-use Rattle.std.proofs.lemmas.List.{take_more, drop_more, map-append, take-append-drop}
 use Rattle.std.proofs.lemmas.Str.{IsUtf8-append, IsUtf8-from_ascii, IsUtf8-string_bytes}
 use Rattle.std.proofs.lemmas.Str.Ascii.{IsAscii-nil, IsAscii-cons}
 use Rattle.predicates_core.specs.Text.{Text}
-use Rattle.predicates_explain.specs.Applied.{IsPattern}
 use Rattle.predicates_explain.specs.Ends.{IsTokenFault, HasTokensFault}
 use Rattle.predicates_explain.specs.Number.{Reads}
 use Rattle.predicates_explain.specs.Tokens.{token_of}
-use Rattle.predicates_explain.specs.CommandLine.{typed, AreNumbers, Makes, IsPatternToken, token as wrong_token}
+use Rattle.predicates_explain.specs.CommandLine.{typed, AreNumbers, token as wrong_token}
+use Rattle.predicates_explain.specs.Postfix.{Makes}
+use Rattle.predicates_explain.proofs.Postfix.{mapped-more, mapped-around}
 use Rattle.predicates_explain.specs.declared.check.TextCheck.{TextCheck}
 use Rattle.predicates_explain.specs.declared.program.end.End.{End}
-use Rattle.predicates_explain.specs.declared.program.end.End.TheVariants.{Usage, PatternRefused, NoMemory}
+use Rattle.predicates_explain.specs.declared.program.end.End.TheVariants.{Usage, PatternRefused, TooDeep, NoMemory}
 use Rattle.predicates_explain.specs.declared.word.Word.{Word}
 use Rattle.predicates_explain.specs.declared.word.Word.TheVariants.{Equals, Starts, Ends, Contains, Matches}
 
@@ -53,17 +53,6 @@ token_is_text word = text_from_low (token_of word) refl
 pub no_token : (token : List ℕ) → ¬ (IsUtf8 token) → (word : Word) → token ≢ token_of word
 no_token token other word e = other (subst IsUtf8 (sym e) (token_is_text word))
 
--- the word of a token holds a pattern
-pub is_pattern_token : (stack : List TextCheck) (word : Word) (token : List ℕ) → token ≡ token_of word → IsPattern word → IsPatternToken stack token
-is_pattern_token stack (Matches text) token e is = (text, e)
-is_pattern_token stack _ token e is = absurd is
-
--- one more token is applied
-pub Makes-more : (tokens more : List (List ℕ)) (old mid new : List TextCheck) → Makes tokens old mid → Makes more mid new → Makes (tokens ++ more) old new
-Makes-more [] more old mid new e makes = subst (λ stack. Makes more stack new) e makes
-Makes-more (first ∷ tokens) more old mid new (word, next, e, applied, others) makes =
-    (word, next, e, applied, Makes-more tokens more next mid new others makes)
-
 -- the first token that fails ends the reading of all
 pub first_fault : (tokens before : List (List ℕ)) (failing : List ℕ) (after : List (List ℕ)) (stack : List TextCheck) (end : End)
     → tokens ≡ before ++ failing ∷ after → Makes before [] stack → IsTokenFault stack failing end → HasTokensFault tokens end
@@ -71,21 +60,19 @@ first_fault tokens before failing after stack Usage e makes fault =
     wrong_token (record { before = before; token = failing; after = after; stack = stack; is = e; makes = makes; fault = fault })
 first_fault tokens before failing after stack PatternRefused e makes fault =
     record { before = before; token = failing; after = after; stack = stack; is = e; makes = makes; fault = fault }
+first_fault tokens before failing after stack TooDeep e makes fault =
+    record { before = before; token = failing; after = after; stack = stack; is = e; makes = makes; fault = fault }
 first_fault tokens before failing after stack NoMemory e makes fault = tt
 first_fault tokens before failing after stack _ e makes fault = absurd fault
 
 -- the words up to the next one, with it, and around it
 pub typed-more : (words : List (Vec ℕ Global)) (i : ℕ) (word : Vec ℕ Global) → i < length words → word ≡ get_or words i word
     → typed (take (i + 1) words) ≡ typed (take i words) ++ word.items ∷ []
-typed-more words i word lt is =
-    ap typed (take_more words i word lt) ∙ map-append (λ w. w.items) (take i words) (get_or words i word ∷ [])
-    ∙ ap (λ w. typed (take i words) ++ w.items ∷ []) (sym is)
+typed-more = mapped-more (λ word. word.items)
 
 pub typed-around : (words : List (Vec ℕ Global)) (i : ℕ) (word : Vec ℕ Global) → i < length words → word ≡ get_or words i word
     → typed words ≡ typed (take i words) ++ word.items ∷ typed (drop (i + 1) words)
-typed-around words i word lt is =
-    ap typed (sym (take-append-drop i words)) ∙ map-append (λ w. w.items) (take i words) (drop i words)
-    ∙ ap (λ others. typed (take i words) ++ typed others) (drop_more words i word lt ∙ ap (λ w. w ∷ drop (i + 1) words) (sym is))
+typed-around = mapped-around (λ word. word.items)
 
 -- what `number` found or did not find
 pub found : (line : List ℕ) (r : Option ℤ) (n : ℤ) → ((m : ℤ) → (r ≡ Some m) ↔ Reads line m) → r ≡ Some n → Reads line n

@@ -14,7 +14,7 @@ use Rattle.predicates_explain.specs.declared.check.TextCheck.{TextCheck}
 use Rattle.predicates_explain.specs.declared.run_fault.RunFault.{RunFault}
 use Rattle.predicates_explain.specs.declared.run_fault.RunFault.TheVariants.{NoMemory as RunNoMemory, Input, Output}
 use Rattle.predicates_explain.specs.declared.program.end.End.{End}
-use Rattle.predicates_explain.specs.declared.program.end.End.TheVariants.{Usage, PatternRefused, NoMemory}
+use Rattle.predicates_explain.specs.declared.program.end.End.TheVariants.{Usage, PatternRefused, TooDeep, NoMemory}
 
 module _ (words : List (List ℕ)) (untouched : Type 0) (r0 r1 w0 w1 : Option (List ℕ)) where
   ends_by_run : (ran : Result Bool RunFault) → AreRightWords words → IfOk ran (HasRunOf words r0 r1 w0 w1)
@@ -47,6 +47,7 @@ module _ (words : List (List ℕ)) (untouched : Type 0) (r0 r1 w0 w1 : Option (L
       → EndsBy words untouched r0 r1 w0 w1 end
   ends_by_fault tokens Usage is same fault = (wrong_text tokens is fault, same)
   ends_by_fault tokens PatternRefused is same fault = ((tokens, is, fault), same)
+  ends_by_fault tokens TooDeep is same fault = ((tokens, is, fault), same)
   ends_by_fault tokens NoMemory is same fault = tt
   ends_by_fault tokens _ is same fault = absurd fault
 

@@ -1,8 +1,10 @@
 pub mod BlockLemmas
 pub mod CommandLine
+pub mod Depths
 pub mod Ending
 pub mod Filtering
 pub mod Numerals
 pub mod PartsOfChecks
+pub mod Postfix
 pub mod Progress
 pub mod Splitting

@@ -1,57 +1,34 @@
 -- What the words of a command line ask for.
-use Rattle.std.specs.Prelude.{◌≡◌, ◌≢◌, ℕ, ℤ, ◌<◌, Bool, List, [], ◌∷◌, ◌++◌, Option, codes, length}
+use Rattle.std.specs.Prelude.{◌≡◌, ◌≢◌, ℕ, ℤ, ◌≤◌, Bool, List, [], ◌∷◌, Option, codes}
 use Rattle.std.specs.Prelude.{map, string_bytes}
 use Rattle.std.specs.Str.{IsUtf8}
 use Rattle.std.specs.declared.alloc.Global.{Global}
 use Rattle.std.specs.declared.vec.Vec.{Vec}
-use Rattle.predicates_core.specs.Text.{Text}
 use Rattle.predicates_explain.specs.Answers.{between_formula, IsNumber, IsNumberAnswer}
-use Rattle.predicates_explain.specs.Applied.{operand_count, IsApplied}
 use Rattle.predicates_explain.specs.Checks.{HasFormula}
 use Rattle.predicates_explain.specs.Number.{Reads}
+use Rattle.predicates_explain.specs.Postfix.{Makes, FailsFirst, IsFirstProblem, LeaveNotOne, depth}
 use Rattle.predicates_explain.specs.Runs.{HasRun}
 use Rattle.predicates_explain.specs.TextAnswers.{IsTextAnswer}
-use Rattle.predicates_explain.specs.Tokens.{token_of}
 use Rattle.predicates_explain.specs.declared.check.TextCheck.{TextCheck}
-use Rattle.predicates_explain.specs.declared.word.Word.{Word}
+use Rattle.predicates_explain.specs.declared.from_words.TheConstants.{MAX_DEPTH}
+use Rattle.predicates_explain.specs.declared.word_problem.WordProblem.{WordProblem}
+use Rattle.predicates_explain.specs.declared.word_problem.WordProblem.TheVariants.{NoSuchWord}
+use Rattle.predicates_explain.specs.declared.word_problem.WordProblem.TheVariants.{TooFewChecks}
 
 -- the bytes of each word
 abbrev pub typed : List (Vec ℕ Global) → List (List ℕ)
 typed words = map (λ word. word.items) words
 
--- the tokens are words that are applied one after another: they make this stack of that one
-abbrev pub Makes : List (List ℕ) → List TextCheck → List TextCheck → Type 0
-Makes [] old new = new ≡ old
-Makes (token ∷ others) old new =
-    (word : Word) × (next : List TextCheck) × (token ≡ token_of word) × IsApplied word old next
-    × Makes others next new
-
--- a token is the first that fails: those before it make a stack, and on that stack it has the fault
-pub record FailsFirst (tokens : List (List ℕ)) (HasFault : List TextCheck → List ℕ → Type 0) : Type
-    0 where
-  pub before : List (List ℕ)
-  pub token : List ℕ
-  pub after : List (List ℕ)
-  pub stack : List TextCheck
-  pub is : tokens ≡ before ++ token ∷ after
-  pub makes : Makes before [] stack
-  pub fault : HasFault stack token
-
 -- a token is wrong: it is no word's, or too few checks are there for its word
 pub data IsWrongToken (stack : List TextCheck) (token : List ℕ) : Type 0 where
-  no_word : ((word : Word) → token ≢ token_of word) → IsWrongToken stack token
-  operand : (word : Word) → token ≡ token_of word → length stack < operand_count word
-      → IsWrongToken stack token
-
--- a token is a regular expression
-abbrev pub IsPatternToken : List TextCheck → List ℕ → Type 0
-IsPatternToken stack token = (pattern : Text) × (token ≡ codes "match=" ++ string_bytes pattern)
+  no_word : IsFirstProblem NoSuchWord stack token → IsWrongToken stack token
+  operand : IsFirstProblem TooFewChecks stack token → IsWrongToken stack token
 
 -- the tokens are wrong: one of them is, or all of them do not leave one check
 pub data AreWrongTokens (tokens : List (List ℕ)) : Type 0 where
   token : FailsFirst tokens IsWrongToken → AreWrongTokens tokens
-  checks : (stack : List TextCheck) → Makes tokens [] stack → length stack ≢ 1
-      → AreWrongTokens tokens
+  checks : (count : ℕ) → LeaveNotOne tokens count → AreWrongTokens tokens
 
 -- the words are two numbers
 abbrev pub AreNumbers : List (List ℕ) → ℤ → ℤ → Type 0
@@ -66,7 +43,7 @@ AreBounds words lo hi = (others : List (List ℕ)) × (words ≡ codes "between"
 -- the words are `text` and the tokens of one check
 abbrev pub AreCheck : List (List ℕ) → TextCheck → Type 0
 AreCheck words check = (tokens : List (List ℕ)) × (words ≡ codes "text" ∷ tokens)
-    × Makes tokens [] (check ∷ [])
+    × Makes tokens [] (check ∷ []) × (depth check ≤ MAX_DEPTH)
 
 -- the words name no use, or one of them is wrong
 pub data AreWrongWords (words : List (List ℕ)) : Type 0 where
@@ -77,10 +54,10 @@ pub data AreWrongWords (words : List (List ℕ)) : Type 0 where
   wrong_text : (tokens : List (List ℕ)) → words ≡ codes "text" ∷ tokens → AreWrongTokens tokens
       → AreWrongWords words
 
--- the first word that fails is a regular expression
-abbrev pub HasRefusedPattern : List (List ℕ) → Type 0
-HasRefusedPattern words = (tokens : List (List ℕ)) × (words ≡ codes "text" ∷ tokens)
-    × FailsFirst tokens IsPatternToken
+-- the words are `text` and tokens, and the first that fails has the problem
+abbrev pub HasProblem : WordProblem → List (List ℕ) → Type 0
+HasProblem problem words = (tokens : List (List ℕ)) × (words ≡ codes "text" ∷ tokens)
+    × FailsFirst tokens (IsFirstProblem problem)
 
 -- the words are right
 pub data AreRightWords (words : List (List ℕ)) : Type 0 where

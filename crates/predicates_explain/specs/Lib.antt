@@ -4,13 +4,16 @@ pub mod Blocks
 pub mod CheckLaws
 pub mod Checks
 pub mod CommandLine
+pub mod Depths
 pub mod Ends
 pub mod Filtered
 pub mod Meaning
 pub mod Number
+pub mod Postfix
 pub mod RunFault
 pub mod Runs
 pub mod TextAnswers
 pub mod Tokens
 pub mod Weight
 pub mod WordFault
+pub mod WordsError

@@ -1,3 +1,2 @@
 pub mod Scripts
 pub mod BothEvaluated
-pub mod Applying

@@ -7,7 +7,6 @@ mod files;
 mod last;
 mod order;
 mod plainly;
-mod policy;
 mod tested;
 
 pub use answer::IsTheAnswer;
@@ -16,5 +15,4 @@ pub use files::{is_copy, no_script};
 pub use last::{LastFirst, is_known};
 pub use order::{Line, Order, Policy, allow_order};
 pub use plainly::{Around, find_plain_case};
-pub use policy::{PolicyFault, read_policy};
 pub use tested::FortyTwo;

@@ -3,9 +3,7 @@ use crate::cells::{bytes, text};
 use crate::outcome::Outcome;
 use crate::table::Table;
 use anyhow::{Context, Result, anyhow, bail};
-use predicates_explain::{
-    TextCheck, WordFault, apply_word, number, read_word, run_between, run_text,
-};
+use predicates_explain::{TextCheck, number, run_between, run_text};
 use predicates_testing::keeps_text;
 use std::alloc::Global;
 
@@ -40,17 +38,11 @@ fn run_bounds(alloc: Global, words: &str, mut input: &[u8]) -> Result<(bool, Vec
 
 // The check that the words leave, as the program has it.
 fn read_check(alloc: Global, words: &str) -> Result<TextCheck> {
-    let mut stack: Vec<TextCheck> = Vec::new(alloc);
+    let mut tokens = Vec::new(alloc);
     for word in words.split(' ') {
-        let word = text(alloc, word)?;
-        let word = read_word(alloc, word.as_str())?.context("an unknown word")?;
-        apply_word(alloc, &mut stack, word).map_err(|fault: WordFault| anyhow!("{fault}"))?;
+        tokens.push(text(alloc, word)?)?;
     }
-    let check = stack.pop().context("no check")?;
-    if !stack.is_empty() {
-        bail!("several checks");
-    }
-    Ok(check)
+    TextCheck::from_words(alloc, &tokens).map_err(|error| anyhow!("{error}"))
 }
 
 // Whether each line is a text, and what is written of the check.

@@ -57,8 +57,8 @@ fn run_words<R: BufRead, W: Write>(
 /// output, writes the message of its end to `messages`, and says how it ended and whether the
 /// message was written whole.
 ///
-/// A word that is no text is a wrong word. Wrong words and refused patterns leave the input and the
-/// output untouched.
+/// A word that is no text is a wrong word. Wrong words, refused patterns and checks nested too deep
+/// leave the input and the output untouched.
 pub fn explain_words<R: BufRead, W: Write, M: Write>(
     alloc: Global,
     words: &[Vec<u8>],

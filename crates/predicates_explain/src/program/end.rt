@@ -19,6 +19,8 @@ pub enum End {
     Usage,
     /// A regular expression was refused.
     PatternRefused,
+    /// The check is nested deeper than `MAX_DEPTH`.
+    TooDeep,
     /// Memory was refused.
     NoMemory,
     /// Reading or writing failed.
@@ -41,7 +43,7 @@ impl End {
         match self {
             End::AllItems => 0,
             End::NotAllItems => 1,
-            End::Usage | End::PatternRefused => 2,
+            End::Usage | End::PatternRefused | End::TooDeep => 2,
             End::NoMemory | End::InputOrOutput => 3,
         }
     }
@@ -54,6 +56,7 @@ impl End {
             End::AllItems | End::NotAllItems => "",
             End::Usage => "usage: explain between LO HI\nusage: explain text TOKEN..\n",
             End::PatternRefused => "explain: pattern refused\n",
+            End::TooDeep => "explain: check nested too deep\n",
             End::NoMemory => "explain: no memory\n",
             End::InputOrOutput => "explain: input or output fault\n",
         }

@@ -1,59 +1,56 @@
 //! What the words of a command line ask for.
-ghost use Rattle.std.specs.Prelude.{◌≡◌, ◌≢◌, ◌↔◌, ℤ, [], ◌∷◌, IfOk, IfErr, IsTrue, OnOk};
+ghost use Rattle.std.specs.Prelude.{◌≡◌, ◌≤◌, ◌↔◌, ℤ, [], ◌∷◌, IfOk, IfErr, IsTrue, OnOk};
 ghost use Rattle.std.specs.Prelude.{MatchOption};
-ghost use Rattle.predicates_explain.specs.declared.word.Word.{Word};
-ghost use Rattle.predicates_explain.specs.Tokens.{token_of};
+ghost use Rattle.predicates_explain.specs.Depths.{AreTracked};
+ghost use Rattle.predicates_explain.specs.declared.from_words.TheConstants.{MAX_DEPTH};
 ghost use Rattle.predicates_explain.specs.Number.{Reads};
 ghost use Rattle.predicates_explain.specs.Ends.{IsTokenFault, HasTokensFault};
-ghost use Rattle.predicates_explain.specs.CommandLine.{typed, AreNumbers, Makes};
+ghost use Rattle.predicates_explain.specs.CommandLine.{typed, AreNumbers};
+ghost use Rattle.predicates_explain.specs.Postfix.{Makes, AreWithin, depth};
 
 use super::end::End;
-use crate::apply::apply_word;
 use crate::check::TextCheck;
+use crate::from_words::take_word;
 use crate::parse_number::number;
-use crate::word::{Word, read_word};
-use crate::word_fault::WordFault;
-use std::alloc::{AllocError, Global};
+use crate::word_problem::WordProblem;
+use std::alloc::Global;
 use std::str;
 
-// The word with the token.
-fn word_of(alloc: Global, token: &[u8]) -> Result<Option<Word>, AllocError>
-    ensures { IfOk result (λ found. MatchOption found
-        ((word : Word) → token.now ≢ token_of word)
-        (λ word. token.now ≡ token_of word)) }
+// Applies the word with the token, and keeps the depths of the checks.
+fn take_token(
+    alloc: Global,
+    checks: &mut Vec<TextCheck>,
+    depths: &mut Vec<usize>,
+    token: &[u8],
+) -> Result<(), End>
+    requires { AreTracked checks.now.items depths.now.items }
+    ensures made { OnOk result (Makes (token.now ∷ []) checks.old.items checks.new.items) }
+    ensures tracked { OnOk result (AreTracked checks.new.items depths.new.items) }
+    ensures fault { IfErr result (IsTokenFault checks.old.items token.now) }
 {
-    match str::from_utf8(token) {
-        Ok(text) => read_word(alloc, text),
-        Err(_) => Ok(None),
-    }
-}
-
-// Applies the word with the token.
-fn take_token(alloc: Global, stack: &mut Vec<TextCheck>, token: &[u8]) -> Result<(), End>
-    ensures made { OnOk result (Makes (token.now ∷ []) stack.old.items stack.new.items) }
-    ensures fault { IfErr result (IsTokenFault stack.old.items token.now) }
-{
-    let Some(word) = word_of(alloc, token)? else {
+    let Ok(text) = str::from_utf8(token) else {
         return Err(End::Usage);
     };
-    match apply_word(alloc, stack, word) {
-        Ok(()) => Ok(()),
-        Err(WordFault::Operand) => Err(End::Usage),
-        Err(WordFault::Pattern) => Err(End::PatternRefused),
-        Err(WordFault::NoMemory) => Err(End::NoMemory),
+    match take_word(alloc, checks, depths, text)? {
+        None => Ok(()),
+        Some(WordProblem::NoSuchWord | WordProblem::TooFewChecks) => Err(End::Usage),
+        Some(WordProblem::BadExpression) => Err(End::PatternRefused),
+        Some(WordProblem::TooDeep) => Err(End::TooDeep),
     }
 }
 
 // The checks that the tokens leave.
 fn read_checks(alloc: Global, tokens: &[Vec<u8>]) -> Result<Vec<TextCheck>, End>
-    ensures made { IfOk result (λ stack. Makes (typed tokens.now) [] stack.items) }
+    ensures made { IfOk result (λ checks. Makes (typed tokens.now) [] checks.items) }
+    ensures within { IfOk result (λ checks. AreWithin checks.items) }
     ensures fault { IfErr result (HasTokensFault (typed tokens.now)) }
 {
-    let mut stack = Vec::new(alloc);
+    let mut checks = Vec::new(alloc);
+    let mut depths = Vec::new(alloc);
     for token in tokens {
-        take_token(alloc, &mut stack, token)?;
+        take_token(alloc, &mut checks, &mut depths, token)?;
     }
-    Ok(stack)
+    Ok(checks)
 }
 
 fn is_one(count: usize) -> bool
@@ -65,6 +62,7 @@ fn is_one(count: usize) -> bool
 // The one check that the tokens leave.
 pub(super) fn read_check(alloc: Global, tokens: &[Vec<u8>]) -> Result<TextCheck, End>
     ensures made { IfOk result (λ check. Makes (typed tokens.now) [] (check ∷ [])) }
+    ensures within { IfOk result (λ check. depth check ≤ MAX_DEPTH) }
     ensures fault { IfErr result (HasTokensFault (typed tokens.now)) }
 {
     let mut stack = read_checks(alloc, tokens)?;

@@ -3,13 +3,15 @@ mod faults;
 mod process;
 mod sizes;
 
-use predicates_explain::explain_words;
+use predicates_explain::{MAX_DEPTH, explain_words};
 use std::alloc::{AllocError, Global};
 use std::test::Fail;
 
 const USAGE: &str = "usage: explain between LO HI\nusage: explain text TOKEN..\n";
 
 const REFUSED: &str = "explain: pattern refused\n";
+
+const DEEP: &str = "explain: check nested too deep\n";
 
 const BLANK: &str =
     "line 1: true\n(var.is_empty() || var.contains(a)) = true\n  left: var.is_empty() = true\n    - var: \n";
@@ -108,5 +110,19 @@ fn rows(rt: HostRuntime) -> Result<(), Fail> {
         let holds = ends(rt.alloc(), line, input, status, output, message)?;
         assert!(rt; holds, "at {line:?}");
     }
+    Ok(())
+}
+
+// One level past the limit, also before a word that is wrong by itself.
+#[test]
+fn deep_checks(rt: HostRuntime) -> Result<(), Fail> {
+    let alloc = rt.alloc();
+    let mut line = Vec::from_slice(alloc, b"text|empty")?;
+    for _ in 0..=MAX_DEPTH {
+        line.extend_from_slice(b"|not")?;
+    }
+    assert!(rt; ends(alloc, &line, b"7", 2, "", DEEP)?);
+    line.extend_from_slice(b"|match=(")?;
+    assert!(rt; ends(alloc, &line, b"7", 2, "", DEEP)?);
     Ok(())
 }

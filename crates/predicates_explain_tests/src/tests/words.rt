@@ -134,6 +134,22 @@ fn two_hundred_times_not(rt: HostRuntime) -> Result<(), Fail> {
     Ok(())
 }
 
+// They have no limit by themselves, and drop without recursion.
+#[test]
+fn checks_of_20000_levels(rt: HostRuntime) -> Result<(), Fail> {
+    let alloc = rt.alloc();
+    let rows: [&[&str]; 3] = [&["not"], &["empty", "xor"], &["trim"]];
+    for tokens in rows {
+        let mut stack = Vec::new(alloc);
+        assert_eq!(rt; apply_tokens(alloc, &mut stack, &["empty"]), Ok(()));
+        for _ in 0..20_000 {
+            assert_eq!(rt; apply_tokens(alloc, &mut stack, tokens), Ok(()));
+        }
+        assert_eq!(rt; stack.len(), 1);
+    }
+    Ok(())
+}
+
 #[test]
 fn faults(rt: HostRuntime) -> Result<(), Fail> {
     let text = WordFault::Operand.to_string(rt.alloc())?;

@@ -3,31 +3,9 @@ use super::{file, has_lines};
 use predicates::path::{FileType, PathFault, Snapshot};
 use predicates::prelude::*;
 use predicates_testing::text;
-use predicates_uses::{Around, PolicyFault, find_plain_case, is_copy, no_script, read_policy};
+use predicates_uses::{Around, find_plain_case, is_copy, no_script};
 use std::alloc::{AllocError, Global};
 use std::test::Fail;
-
-fn words(alloc: Global, tokens: &[&str]) -> Result<Vec<String>, AllocError> {
-    let mut words = Vec::new(alloc);
-    for token in tokens {
-        words.push(text(alloc, token)?)?;
-    }
-    Ok(words)
-}
-
-// The error where the requirement is not met, or `met`.
-fn outcome<P: Predicate<Item>, Item>(
-    alloc: Global,
-    predicate: &P,
-    item: &Item,
-) -> Result<String, AllocError>
-    requires { P.lawful predicate.now }
-{
-    match require(alloc, predicate, item) {
-        Ok(()) => text(alloc, "met"),
-        Err(unmet) => unmet.to_string(alloc),
-    }
-}
 
 // Whether these lines explain why the file is no script.
 fn is_refused(alloc: Global, file: &Snapshot, lines: &str) -> Result<bool, AllocError> {
@@ -109,74 +87,6 @@ script = false
       - var: run.sh
 ";
     assert!(rt; is_refused(alloc, &bare, lines)?);
-    Ok(())
-}
-
-// Why the policy of the tokens does not hold of the item, or `met`; or that it was refused.
-fn policy_outcome(alloc: Global, tokens: &[String], item: &str) -> Result<String, AllocError> {
-    let item = text(alloc, item)?;
-    match read_policy(alloc, tokens) {
-        Ok(policy) => outcome(alloc, &policy, &item),
-        Err(_) => text(alloc, "refused"),
-    }
-}
-
-fn policy_ends_in(
-    alloc: Global,
-    tokens: &[String],
-    item: &str,
-    lines: &str,
-) -> Result<bool, AllocError> {
-    Ok(policy_outcome(alloc, tokens, item)?.as_str() == lines)
-}
-
-// Whether the tokens have the fault.
-fn has_fault(alloc: Global, tokens: &[&str], fault: PolicyFault) -> Result<bool, AllocError> {
-    let tokens = words(alloc, tokens)?;
-    Ok(read_policy(alloc, tokens.as_slice()).err() == Some(fault))
-}
-
-const REFUSED: [(&[&str], PolicyFault); 4] = [
-    (&["empty", "all"], PolicyFault::Unknown),
-    (&["empty", "and"], PolicyFault::Operand),
-    (&["match=(", "not"], PolicyFault::Pattern),
-    (&["empty", "empty"], PolicyFault::NotOne),
-];
-
-#[test]
-fn reads_policies(rt: HostRuntime) -> Result<(), Fail> {
-    let alloc = rt.alloc();
-    let tokens = words(
-        alloc,
-        ["empty", "trim", "not", "contains=#", "not", "and"].as_slice(),
-    )?;
-    assert!(rt; policy_ends_in(alloc, &tokens, "a line", "met")?);
-    let lines = "\
-((! var.is_empty()) && (! var.contains(#))) = false
-  right: (! var.contains(#)) = false
-    predicate: var.contains(#) = true
-      - var: a # b
-";
-    assert!(rt; policy_ends_in(alloc, &tokens, "a # b", lines)?);
-    for (tokens, fault) in REFUSED {
-        assert!(rt; has_fault(alloc, tokens, fault)?, "at {tokens:?}");
-    }
-    Ok(())
-}
-
-// No words make no check; so many checks stand side by side before they are joined.
-#[test]
-fn reads_no_words_and_many(rt: HostRuntime) -> Result<(), Fail> {
-    let alloc = rt.alloc();
-    assert!(rt; has_fault(alloc, &[], PolicyFault::NotOne)?);
-    let mut tokens = Vec::new(alloc);
-    for _ in 0..300u32 {
-        tokens.push(text(alloc, "empty")?)?;
-    }
-    for _ in 1..300u32 {
-        tokens.push(text(alloc, "or")?)?;
-    }
-    assert!(rt; policy_ends_in(alloc, &tokens, "", "met")?);
     Ok(())
 }
 

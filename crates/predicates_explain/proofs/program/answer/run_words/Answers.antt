@@ -20,7 +20,7 @@ returns-in-None g c =
 pub returns-in-Ok : goal.returns-in-Ok
 returns-in-Ok g c =
     let first = first_word c.args.words.now c.name-item-2.result (codes "text") (omega (arith, c.in-len1-up.len_at_least)) c.name-item-2.is (c.is_name-2.ensures.0 c.if-is_name-2.true) in
-    rw c.end_of_run-in-Ok.ensures (ends_text _ _ _ _ _ _ c.run_text.result c.in-Ok.check (typed (others_of c.args.words.now), first, c.in-Ok.ensures.made) c.run_text.ensures)
+    rw c.end_of_run-in-Ok.ensures (ends_text _ _ _ _ _ _ c.run_text.result c.in-Ok.check (typed (others_of c.args.words.now), first, c.in-Ok.ensures.made, c.in-Ok.ensures.within) c.run_text.ensures)
 
 pub returns-in-Err : goal.returns-in-Err
 returns-in-Err g c =
