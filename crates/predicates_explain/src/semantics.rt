@@ -4,13 +4,15 @@
 //! // From here on a proof knows the formulas of `check` on `text` by those of its parts.
 //! semantics::parts_of_checks(&check, &text);
 //! ```
-ghost use Rattle.std.specs.Prelude.{◌≡◌, ◌↔◌};
+ghost use Rattle.std.specs.Prelude.{◌≡◌, ◌↔◌, []};
 ghost use Rattle.predicates_core.specs.Formula.{Formula};
+ghost use Rattle.predicates_core.specs.Tree.{empty};
 ghost use Rattle.predicates_explain.specs.Meaning.{MeansByParts, IsLikeParts};
 
 use crate::check::TextCheck;
 use predicates::Predicate;
 use predicates::ord::EqPredicate;
+use predicates::reflection::PredicateReflection;
 use predicates::str::{
     ContainsPredicate, EndsWithPredicate, IsEmptyPredicate, RegexPredicate, StartsWithPredicate,
 };
@@ -73,9 +75,12 @@ pub fn leaves_of_words(
 
 /// A check over checks has the formulas that its parts have on the text, or on the view, joined by
 /// its word. Its text is made of theirs, and it is infallible as they are, but nowhere over a view.
+/// No check has parameters or children.
 pub fn parts_of_checks(check: &TextCheck, text: &String)
     ensures formula { MeansByParts ⟦<TextCheck as Predicate<String>>⟧.formula
         ⟦<TextCheck as Display>⟧.output check.now text.now }
     ensures own { IsLikeParts ⟦<TextCheck as Display>⟧.output
         (λ c. ⟦<TextCheck as Predicate<String>>⟧.infallible c text.now) check.now }
+    ensures values { ⟦<TextCheck as PredicateReflection>⟧.parameters_of check.now ≡ [] }
+    ensures parts { ⟦<TextCheck as PredicateReflection>⟧.children_of check.now ≡ empty }
 {}
