@@ -68,10 +68,14 @@ impl<P: Predicate<Order>> Policy<P> {
 /// Whether an order may be sent: somebody ordered at least one of each line, at most a third off,
 /// through a channel that is known.
 pub fn allow_order(alloc: Global, order: &Order) -> Result<(), Unmet> {
-    let named = predicate::str::is_empty().not().of_ref("customer", customer_of);
+    let named = predicate::str::is_empty()
+        .not()
+        .of_ref("customer", customer_of);
     let some = predicate::ge(1u32).of("quantity", |line: &Line| line.quantity);
     let each = some.of_each().of_ref("lines", lines_of);
-    let steep = predicate::gt(33u32).of_some().of_ref("discount", discount_of);
+    let steep = predicate::gt(33u32)
+        .of_some()
+        .of_ref("discount", discount_of);
     let web = predicate::str::starts_with("web".to_owned(alloc)?);
     let known = web.of_some_ref("channel", channel_of);
     let policy = Policy {

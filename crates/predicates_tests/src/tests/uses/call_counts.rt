@@ -147,7 +147,11 @@ impl Field<u32, u32> for Itself {
 // A part by a function and by a field, and a value that is there.
 fn counts_of_parts(alloc: Global) -> Result<[(u32, u32, u32); 3], AllocError> {
     let cell = Cell::new(0);
-    let by_value = counts(alloc, &cell, &true_leaf(&cell).of("n", |number: &u32| *number))?;
+    let by_value = counts(
+        alloc,
+        &cell,
+        &true_leaf(&cell).of("n", |number: &u32| *number),
+    )?;
     let by_field = counts(alloc, &cell, &true_leaf(&cell).of_field("n", Itself))?;
     let some = counts_on(alloc, &cell, &true_leaf(&cell).of_some(), &Some(5))?;
     Ok([by_value, by_field, some])
