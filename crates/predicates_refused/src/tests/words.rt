@@ -3,7 +3,8 @@ use super::answer::Answer;
 use super::stacked::stacked;
 use super::sweep::Memory::{GoesOn, Never, Taken};
 use super::sweep::{Call, sweep};
-use predicates_explain::{TextCheck, Word, WordFault, apply_word, read_word};
+use predicates::Predicate;
+use predicates_explain::{TextCheck, Word, WordFault, WordsError, apply_word, read_word};
 use std::alloc::{AllocError, Global};
 use std::test::Fail;
 
@@ -127,4 +128,77 @@ fn missing_operands(rt: HostRuntime) -> Result<(), Fail> {
         sweep(&rt, name.as_str(), &applying, "another fault", Never)?;
     }
     Ok(())
+}
+
+// A check that is made of words.
+#[derive(Drop)]
+struct FromWords<'a> {
+    words: &'a [&'a str],
+}
+
+impl Call for FromWords<'_> {
+    type Operand = Vec<String>;
+
+    fn operand(&self, alloc: Global) -> Result<Vec<String>, AllocError> {
+        let mut words = Vec::new(alloc);
+        for word in self.words {
+            words.push(String::from_str(alloc, word)?)?;
+        }
+        Ok(words)
+    }
+
+    fn call(&self, alloc: Global, operand: Vec<String>) -> Result<Answer, AllocError> {
+        match TextCheck::from_words(alloc, operand.as_slice()) {
+            Ok(check) => Ok(Answer::Text(check.to_string(alloc)?)),
+            Err(WordsError::NoMemory) => Err(AllocError),
+            Err(error) => Ok(Answer::Text(error.to_string(alloc)?)),
+        }
+    }
+}
+
+#[test]
+fn checks_from_words(rt: HostRuntime) -> Result<(), Fail> {
+    for (words, expected) in [
+        (
+            ["empty", "trim", "contains=a", "or"].as_slice(),
+            "(var.is_empty() || var.contains(a))",
+        ),
+        (["empty", "foo"].as_slice(), "word 2, \"foo\": no such word"),
+        (["empty", "empty"].as_slice(), "2 checks are left, not one"),
+    ] {
+        sweep(&rt, expected, &FromWords { words }, expected, Taken)?;
+    }
+    Ok(())
+}
+
+// Evaluates `contains=x match=y and` on a text without an `x`.
+struct LeftDecides;
+
+impl Call for LeftDecides {
+    type Operand = (Vec<TextCheck>, String);
+
+    fn operand(&self, alloc: Global) -> Result<(Vec<TextCheck>, String), AllocError> {
+        let checks = stacked(alloc, &["contains=x", "match=y", "and"])?;
+        Ok((checks, String::from_str(alloc, "a")?))
+    }
+
+    fn call(&self, alloc: Global, operand: (Vec<TextCheck>, String)) -> Result<Answer, AllocError> {
+        let (checks, item) = operand;
+        match checks.as_slice().first() {
+            Some(check) => Ok(Answer::Verdict(check.eval(alloc, &item)?)),
+            None => Err(AllocError),
+        }
+    }
+}
+
+// The right part, which takes memory, is not asked.
+#[test]
+fn a_left_part_that_decides(rt: HostRuntime) -> Result<(), Fail> {
+    sweep(
+        &rt,
+        "and, decided by its left part",
+        &LeftDecides,
+        "false",
+        Never,
+    )
 }

@@ -1,0 +1,110 @@
+//! Predicates of lists, of lists of rules, of outcomes and of lengths.
+ghost use Rattle.std.specs.Prelude.{◌≡◌, option_copied, slice_get};
+
+use super::predicate_calls::{Row, over, sweep_calls};
+use predicates::ord::{eq, ge, le};
+use predicates::part::PredicatePartExt;
+use predicates::rules::{all_of, any_of};
+use std::test::Fail;
+
+// Where each of them counts, they are evaluated before the case is made.
+const EACH: &str = "each(var >= 18) = true\n  item: var >= 18 = true\n    - var: 20\n  \
+    item: var >= 18 = true\n    - var: 18\n";
+
+#[test]
+fn members(rt: HostRuntime) -> Result<(), Fail> {
+    let alloc = rt.alloc();
+    let children = "item: var >= 18\n";
+    let each = ge(18u32).of_each();
+    let members = Vec::from_slice(alloc, &[20, 18])?;
+    sweep_calls(
+        &rt,
+        &each,
+        &members,
+        over("of_each of all", true, EACH, children),
+    )?;
+    let members = Vec::from_slice(alloc, &[20, 17])?;
+    let lines = "each(var >= 18) = false\n  - index: 1\n  item: var >= 18 = false\n    - var: 17\n";
+    sweep_calls(
+        &rt,
+        &each,
+        &members,
+        over("of_each", false, lines, children),
+    )?;
+    let any = ge(18u32).of_any();
+    let lines = "any(var >= 18) = true\n  - index: 0\n  item: var >= 18 = true\n    - var: 20\n";
+    sweep_calls(&rt, &any, &members, over("of_any", true, lines, children))?;
+    let none = Vec::new(alloc);
+    let lines = "each(var >= 18) = true\n  - len: 0\n";
+    sweep_calls(
+        &rt,
+        &each,
+        &none,
+        over("of_each of none", true, lines, children),
+    )
+}
+
+// The least numbers of the rules.
+const RULES: [u32; 2] = [1, 5];
+
+#[test]
+fn rules(rt: HostRuntime) -> Result<(), Fail> {
+    let alloc = rt.alloc();
+    let mut rules = Vec::new(alloc);
+    let mut others = Vec::new(alloc);
+    for least in RULES {
+        rules.push(ge(least))?;
+        others.push(ge(least))?;
+    }
+    let children = "rule: var >= 1\nrule: var >= 5\n";
+    let lines = "all_of(var >= 1, var >= 5) = false\n  - index: 1\n  \
+        rule: var >= 5 = false\n    - var: 4\n";
+    sweep_calls(
+        &rt,
+        &all_of(rules),
+        &4,
+        over("all_of", false, lines, children),
+    )?;
+    let lines = "any_of(var >= 1, var >= 5) = true\n  - index: 0\n  \
+        rule: var >= 1 = true\n    - var: 4\n";
+    sweep_calls(
+        &rt,
+        &any_of(others),
+        &4,
+        over("any_of", true, lines, children),
+    )
+}
+
+fn first_of(list: &Vec<u32>) -> Option<&u32>
+    ensures { option_copied result ≡ slice_get list.now.items 0 }
+{
+    list.as_slice().first()
+}
+
+#[test]
+fn absent_parts(rt: HostRuntime) -> Result<(), Fail> {
+    let first = ge(18u32).of_some_ref("first", first_of);
+    let lines = "first = false\n  first: var >= 18 = false\n    - error: no value\n";
+    let row = over("of_some_ref on nothing", false, lines, "first: var >= 18\n");
+    sweep_calls(&rt, &first, &Vec::new(rt.alloc()), row)?;
+    let (children, failed) = ("predicate: var >= 18\n", Err(-1i32));
+    let lines = "var >= 18 = false\n  - error: is Err\n";
+    let row = over("of_ok on an error", false, lines, children);
+    sweep_calls(&rt, &ge(18u32).of_ok(), &failed, row)?;
+    let row: Row<'_> = over(
+        "of_err",
+        true,
+        "var == -1 = true\n  - var: -1\n",
+        "predicate: var == -1\n",
+    );
+    let failed: Result<u32, i32> = Err(-1);
+    sweep_calls(&rt, &eq(-1i32).of_err(), &failed, row)
+}
+
+#[test]
+fn lengths(rt: HostRuntime) -> Result<(), Fail> {
+    let members = Vec::from_slice(rt.alloc(), &[1u32, 2])?;
+    let lines = "len = true\n  len: var <= 3 = true\n    - var: 2\n";
+    let row = over("of_len", true, lines, "len: var <= 3\n");
+    sweep_calls(&rt, &le(3).of_len(), &members, row)
+}
