@@ -133,6 +133,28 @@ fn a_thousand_members(rt: HostRuntime) -> Result<(), Fail> {
     Ok(())
 }
 
+// Whether the verdict on a million members is right, and the case shows the last of them.
+fn ask_a_million(alloc: Global) -> Result<(bool, bool), AllocError> {
+    let numbers = numbers_below(alloc, 1_000_000)?;
+    let lines = "\
+each(var < 999999) = false
+  - index: 999999
+  item: var < 999999 = false
+    - var: 999999
+";
+    let is_last = explains(alloc, &predicate::lt(999_999u32).of_each(), &numbers, lines)?;
+    Ok((
+        predicate::lt(1_000_000u32).of_each().eval(alloc, &numbers)?,
+        is_last,
+    ))
+}
+
+#[test]
+fn a_million_members(rt: HostRuntime) -> Result<(), Fail> {
+    assert_eq!(rt; ask_a_million(rt.alloc())?, (true, true));
+    Ok(())
+}
+
 // Whether the verdict on two lists in a list has these lines.
 fn explains_lists(alloc: Global, lists: [&[u32]; 2], lines: &str) -> Result<bool, AllocError> {
     let mut list = Vec::new(alloc);
@@ -153,6 +175,33 @@ fn explains_combined(alloc: Global, lines: &str) -> Result<bool, AllocError> {
     let each = predicate::ge(18u32).of_each();
     let old = predicate::ge(65u32).of_any().name("old");
     explains(alloc, &each.and(old.not()), &list, lines)
+}
+
+// Whether exactly one of them is explained by the lines.
+fn explains_exclusive(alloc: Global, lines: &str) -> Result<bool, AllocError> {
+    let list = Vec::from_slice(alloc, &[20, 70])?;
+    let one = predicate::ge(18u32)
+        .of_each()
+        .xor(predicate::ge(65u32).of_any());
+    explains(alloc, &one, &list, lines)
+}
+
+#[test]
+fn members_under_xor(rt: HostRuntime) -> Result<(), Fail> {
+    let lines = "\
+(each(var >= 18) ^ any(var >= 65)) = false
+  left: each(var >= 18) = true
+    item: var >= 18 = true
+      - var: 20
+    item: var >= 18 = true
+      - var: 70
+  right: any(var >= 65) = true
+    - index: 1
+    item: var >= 65 = true
+      - var: 70
+";
+    assert!(rt; explains_exclusive(rt.alloc(), lines)?);
+    Ok(())
 }
 
 #[test]
