@@ -2,6 +2,7 @@
 #![tactic(auto)]
 
 mod answer;
+mod boxed;
 mod either;
 mod files;
 mod last;
@@ -10,6 +11,7 @@ mod plainly;
 mod tested;
 
 pub use answer::IsTheAnswer;
+pub use boxed::eval_boxed;
 pub use either::Either;
 pub use files::{is_copy, no_script};
 pub use last::{LastFirst, is_known};

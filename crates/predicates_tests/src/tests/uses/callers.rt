@@ -3,7 +3,7 @@ use super::{file, has_lines};
 use predicates::path::{FileType, PathFault, Snapshot};
 use predicates::prelude::*;
 use predicates_testing::text;
-use predicates_uses::{Around, find_plain_case, is_copy, no_script};
+use predicates_uses::{Around, eval_boxed, find_plain_case, is_copy, no_script};
 use std::alloc::{AllocError, Global};
 use std::test::Fail;
 
@@ -106,5 +106,19 @@ fn plain_cases(rt: HostRuntime) -> Result<(), Fail> {
             assert!(rt; is_plain(rt.alloc(), around, item, verdict)?, "{item}");
         }
     }
+    Ok(())
+}
+
+// Whether a named test of no characters, in a box, holds of the text.
+fn is_blank(alloc: Global, item: &str) -> Result<bool, AllocError> {
+    let blank = predicate::str::is_empty().name(StaticText::new("blank"));
+    eval_boxed(alloc, Box::new(alloc, blank)?, &text(alloc, item)?)
+}
+
+#[test]
+fn asks_in_a_box(rt: HostRuntime) -> Result<(), Fail> {
+    let alloc = rt.alloc();
+    let answers = (is_blank(alloc, "")?, is_blank(alloc, "a")?);
+    assert_eq!(rt; answers, (true, false));
     Ok(())
 }
