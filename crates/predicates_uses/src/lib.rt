@@ -6,15 +6,15 @@ mod boxed;
 mod either;
 mod files;
 mod last;
+mod multiple;
 mod order;
 mod plainly;
-mod tested;
 
 pub use answer::IsTheAnswer;
 pub use boxed::eval_boxed;
 pub use either::Either;
 pub use files::{is_copy, no_script};
 pub use last::{LastFirst, is_known};
+pub use multiple::MultipleOf;
 pub use order::{Line, Order, Policy, allow_order};
 pub use plainly::{Around, find_plain_case};
-pub use tested::FortyTwo;

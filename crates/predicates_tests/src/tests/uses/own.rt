@@ -3,7 +3,7 @@ use super::has_lines;
 use predicates::custom::{Operator, bare_case, join_case, leaf, not_case};
 use predicates::prelude::*;
 use predicates_testing::{describe, explains, is_described, render_verdict};
-use predicates_uses::{Either, FortyTwo, IsTheAnswer, LastFirst, is_known};
+use predicates_uses::{Either, IsTheAnswer, LastFirst, MultipleOf, is_known};
 use std::alloc::{AllocError, Global};
 use std::test::Fail;
 
@@ -136,31 +136,33 @@ fn under_not_and_under_a_name(rt: HostRuntime) -> Result<(), Fail> {
 fn a_leaf_made_of_a_test(rt: HostRuntime) -> Result<(), Fail> {
     let alloc = rt.alloc();
     let mut out = String::new(alloc);
-    append_row(alloc, &mut out, &leaf(FortyTwo))?;
+    append_row(alloc, &mut out, &leaf(MultipleOf { divisor: 42 }))?;
     append_row(
         alloc,
         &mut out,
-        &leaf(FortyTwo).or(predicate::gt(41)).name("answer"),
+        &leaf(MultipleOf { divisor: 42 })
+            .or(predicate::gt(41))
+            .name("answer"),
     )?;
     assert_eq!(rt;
         out.as_str(),
         "\
-var.is_the_answer()
-var.is_the_answer() = true
+var % 42 == 0
+var % 42 == 0 = true
   - var: 42
-var.is_the_answer() = false
+var % 42 == 0 = false
   - var: 41
 answer
-answer: (var.is_the_answer() || var > 41)
-  left: var.is_the_answer()
+answer: (var % 42 == 0 || var > 41)
+  left: var % 42 == 0
   right: var > 41
 answer = true
-  answer: (var.is_the_answer() || var > 41) = true
-    left: var.is_the_answer() = true
+  answer: (var % 42 == 0 || var > 41) = true
+    left: var % 42 == 0 = true
       - var: 42
 answer = false
-  answer: (var.is_the_answer() || var > 41) = false
-    left: var.is_the_answer() = false
+  answer: (var % 42 == 0 || var > 41) = false
+    left: var % 42 == 0 = false
       - var: 41
     right: var > 41 = false
       - var: 41
