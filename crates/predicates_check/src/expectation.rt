@@ -1,4 +1,5 @@
 //! What is expected of some items, each under a label.
+ghost use Rattle.std.specs.List.{AllByRecursion};
 ghost use Rattle.std.specs.Prelude.{◌≡◌, IfOk, string_bytes};
 ghost use Rattle.predicates_check.specs.Told.{HasFailures};
 ghost use Rattle.predicates_check.specs.Expected.{expected, IsFailure};
@@ -48,7 +49,7 @@ pub fn check_all<P: Predicate<Item>, Item>(
     alloc: Global,
     expectations: &[Expectation<Item, P>],
 ) -> Result<Vec<Failure>, AllocError>
-    requires { (check : P) → P.lawful check }
+    requires { AllByRecursion (λ expectation. P.lawful expectation.check) expectations.now }
     ensures { IfOk result (λ failures. HasFailures (expected P.formula)
         (IsFailure P.formula) expectations.now failures.items) }
 {

@@ -1,4 +1,5 @@
 //! All rules that do not hold of an item.
+ghost use Rattle.std.specs.List.{AllByRecursion};
 ghost use Rattle.std.specs.Prelude.{◌≡◌, IfOk, OnErr, OnOk};
 ghost use Rattle.predicates_check.specs.Told.{HasFailures, Explains, IsAdded, about};
 
@@ -40,7 +41,7 @@ pub fn failures<P: Predicate<Item>, Item>(
     rules: &[P],
     item: &Item,
 ) -> Result<Vec<Case>, AllocError>
-    requires { (rule : P) → P.lawful rule }
+    requires { AllByRecursion P.lawful rules.now }
     ensures { IfOk result (λ cases. HasFailures (about P.formula item.now)
         (Explains (about P.formula item.now)) rules.now cases.items) }
 {

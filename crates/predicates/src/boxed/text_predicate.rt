@@ -14,7 +14,8 @@ use predicates_core::{Predicate, ReadsContent};
 use std::alloc::{AllocError, Global};
 
 /// A predicate of texts, seen without its type. Every predicate whose formula is a function of the
-/// text's bytes is one: all but those with a stored function.
+/// text's bytes is one: all but those that hold a stored function, a `leaf` over a test, a part by
+/// `of_field` or another box.
 ///
 /// What it promises is what `Predicate<String>` and `PredicateReflection` promise of the predicate.
 pub trait TextPredicate: Drop {
