@@ -16,6 +16,7 @@ unsafe extern "C" {
     ) -> usize;
     fn bench_function(ages: *const i64, len: usize, question: u8, rounds: usize) -> usize;
     fn bench_part(ages: *const i64, len: usize, question: u8, rounds: usize) -> usize;
+    fn bench_each(least: i64, members: *const i64, len: usize, question: u8, rounds: usize) -> usize;
     fn bench_nots(depth: usize, t: *const u8, tlen: usize, copies: usize, question: u8, rounds: usize) -> usize;
     fn bench_row(leaves: usize, t: *const u8, tlen: usize, copies: usize, question: u8, rounds: usize) -> usize;
     fn bench_xors(
@@ -94,6 +95,10 @@ pub fn function(ages: &[i64], question: Question, rounds: usize) -> usize {
 
 pub fn part(ages: &[i64], question: Question, rounds: usize) -> usize {
     unsafe { bench_part(ages.as_ptr(), ages.len(), question.number(), rounds) }
+}
+
+pub fn each(least: i64, members: &[i64], question: Question, rounds: usize) -> usize {
+    unsafe { bench_each(least, members.as_ptr(), members.len(), question.number(), rounds) }
 }
 
 /// How the members of a membership are held.

@@ -51,7 +51,7 @@ impl Question {
 }
 
 /// A case with texts, values and children of its own, as the port's is.
-struct Owned {
+pub struct Owned {
     text: Option<String>,
     outcome: bool,
     products: Vec<(&'static str, String)>,
@@ -59,7 +59,7 @@ struct Owned {
 }
 
 impl Owned {
-    fn of(case: &Case<'_>) -> Owned {
+    pub fn of(case: &Case<'_>) -> Owned {
         Owned {
             text: case.predicate().map(|predicate| predicate.to_string()),
             outcome: case.result(),

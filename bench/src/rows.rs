@@ -1,6 +1,7 @@
 //! What is measured: each row, its items, and what both sides are asked.
 
 mod checks;
+mod lists;
 mod members;
 mod numbers;
 mod texts;
@@ -62,6 +63,7 @@ pub fn print(only: &str) {
     numbers::print(only);
     checks::print(only);
     texts::print(only);
+    lists::print(only);
     println!("\n| Membership | `eval` |");
     println!("|---|---|");
     members::print(only);

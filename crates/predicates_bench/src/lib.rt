@@ -5,6 +5,7 @@
 mod asked;
 mod checks;
 mod comparisons;
+mod lists;
 mod members;
 mod parts;
 mod texts;

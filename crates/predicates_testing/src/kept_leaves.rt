@@ -1,7 +1,39 @@
 //! The leaves that a case keeps, read from the places of its nodes and never from their texts.
 use crate::reference::ReferenceFormula;
-use predicates_core::reflection::{Case, CaseChild, CaseView};
+use predicates_core::reflection::{Case, CaseChild, CaseChildren, CaseView};
 use std::alloc::{AllocError, Global};
+
+// The number of the member that alone is shown; 0 where all are.
+fn shown_member(node: &CaseView<'_>) -> usize {
+    match node.products().first() {
+        Some(product) if product.name() == "index" => product.value().parse().unwrap_or(0),
+        _ => 0,
+    }
+}
+
+// Adds the leaves that the children of a list's node keep of its members, of which the first is not
+// among the `hidden` ones; false where a child is not cut from its member.
+fn add_members(
+    kept: &mut Vec<usize>,
+    members: &ReferenceFormula,
+    children: &mut CaseChildren<'_>,
+    hidden: usize,
+    first: usize,
+) -> Result<bool, AllocError> {
+    let (ReferenceFormula::And(member, rest) | ReferenceFormula::Or(member, rest)) = members else {
+        return Ok(true);
+    };
+    if hidden == 0 {
+        let Some(CaseChild { name, case }) = children.next() else {
+            return Ok(true);
+        };
+        if name != "item" || !add_kept(kept, member, &case, first)? {
+            return Ok(false);
+        }
+    }
+    let behind = first.saturating_add(member.leaf_count());
+    add_members(kept, rest, children, hidden.saturating_sub(1), behind)
+}
 
 // Adds the leaves that a node keeps of the formula, whose first leaf has the number `first`;
 // false where the node is not cut from the formula.
@@ -41,6 +73,13 @@ fn add_kept(
             };
             Ok(add_kept(kept, part, &case, first)? && children.next().is_none())
         }
+        ReferenceFormula::Members(members) => {
+            let mut children = node.children();
+            let hidden = shown_member(node);
+            let is_cut = add_members(kept, members, &mut children, hidden, first)?;
+            Ok(is_cut && children.next().is_none())
+        }
+        ReferenceFormula::NoMore(_) => Ok(false),
     }
 }
 

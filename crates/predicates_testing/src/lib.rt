@@ -11,6 +11,7 @@ mod from_words;
 mod helpers;
 mod kept_leaves;
 mod level;
+mod lists;
 mod number_leaf;
 mod numbers;
 mod one_of;
@@ -34,6 +35,7 @@ pub use helpers::{
     repeated, text,
 };
 pub use level::Level;
+pub use lists::{answer_list, list_formula};
 pub use number_leaf::NumberLeaf;
 pub use numbers::{answer_number, number_formula};
 pub use one_of::OneOf;

@@ -12,6 +12,10 @@ pub enum ReferenceFormula {
     Xor(Box<ReferenceFormula>, Box<ReferenceFormula>),
     Not(Box<ReferenceFormula>),
     Named(Box<ReferenceFormula>),
+    /// A list: its first member joined with the rest, and so on to `NoMore`.
+    Members(Box<ReferenceFormula>),
+    /// What stands behind the last member of a list: a truth that decides nothing, and no leaf.
+    NoMore(bool),
 }
 
 impl ReferenceFormula {
@@ -19,24 +23,27 @@ impl ReferenceFormula {
     pub fn leaf_count(&self) -> usize {
         match self {
             ReferenceFormula::Leaf(_) => 1,
+            ReferenceFormula::NoMore(_) => 0,
             ReferenceFormula::And(left, right)
             | ReferenceFormula::Or(left, right)
             | ReferenceFormula::Xor(left, right) => {
                 left.leaf_count().saturating_add(right.leaf_count())
             }
-            ReferenceFormula::Not(part) | ReferenceFormula::Named(part) => part.leaf_count(),
+            ReferenceFormula::Not(part)
+            | ReferenceFormula::Named(part)
+            | ReferenceFormula::Members(part) => part.leaf_count(),
         }
     }
 
     /// The truth by the leaves' own truths.
     pub fn truth(&self) -> bool {
         match self {
-            ReferenceFormula::Leaf(own) => *own,
+            ReferenceFormula::Leaf(own) | ReferenceFormula::NoMore(own) => *own,
             ReferenceFormula::And(left, right) => left.truth() && right.truth(),
             ReferenceFormula::Or(left, right) => left.truth() || right.truth(),
             ReferenceFormula::Xor(left, right) => left.truth() != right.truth(),
             ReferenceFormula::Not(part) => !part.truth(),
-            ReferenceFormula::Named(part) => part.truth(),
+            ReferenceFormula::Named(part) | ReferenceFormula::Members(part) => part.truth(),
         }
     }
 
@@ -44,10 +51,13 @@ impl ReferenceFormula {
     fn own_truths(&self, above: u32) -> u32 {
         match self {
             ReferenceFormula::Leaf(own) => above << 1 | u32::from(*own),
+            ReferenceFormula::NoMore(_) => above,
             ReferenceFormula::And(left, right)
             | ReferenceFormula::Or(left, right)
             | ReferenceFormula::Xor(left, right) => { left.own_truths(right.own_truths(above)) }
-            ReferenceFormula::Not(part) | ReferenceFormula::Named(part) => part.own_truths(above),
+            ReferenceFormula::Not(part)
+            | ReferenceFormula::Named(part)
+            | ReferenceFormula::Members(part) => part.own_truths(above),
         }
     }
 
@@ -55,6 +65,7 @@ impl ReferenceFormula {
     fn value(&self, truths: u32) -> (bool, u32) {
         match self {
             ReferenceFormula::Leaf(_) => (truths & 1 == 1, truths >> 1),
+            ReferenceFormula::NoMore(own) => (*own, truths),
             ReferenceFormula::And(left, right) => {
                 let (left, rest) = left.value(truths);
                 let (right, rest) = right.value(rest);
@@ -74,7 +85,7 @@ impl ReferenceFormula {
                 let (part, rest) = part.value(truths);
                 (!part, rest)
             }
-            ReferenceFormula::Named(part) => part.value(truths),
+            ReferenceFormula::Named(part) | ReferenceFormula::Members(part) => part.value(truths),
         }
     }
 }
@@ -104,17 +115,23 @@ pub fn combined(
 }
 
 // The leaf k stands at the bit k.
-const LEAVES: [u32; 8] = [1, 2, 4, 8, 16, 32, 64, 128];
+const LEAVES: [u32; 9] = [1, 2, 4, 8, 16, 32, 64, 128, 256];
 
 // Whether the truth is the same under all choices of truths that leave the set's leaves as they
 // are.
 fn is_reason(formula: &ReferenceFormula, choices: u32, set: u32) -> bool {
     let own = formula.own_truths(0);
     let (truth, _) = formula.value(own);
-    for choice in 0..choices {
-        if (choice ^ own) & set == 0 && formula.value(choice).0 != truth {
+    let free = choices.wrapping_sub(1) & !set;
+    let mut turned = free;
+    for _ in 0..choices {
+        if formula.value(own ^ turned).0 != truth {
             return false;
         }
+        if turned == 0 {
+            return true;
+        }
+        turned = turned.wrapping_sub(1) & free;
     }
     true
 }
@@ -144,7 +161,7 @@ fn numbers(alloc: Global, set: u32) -> Result<Vec<usize>, AllocError> {
 }
 
 /// The first of all minimal reasons, as the order of lists has it; none for a formula of more than
-/// eight leaves.
+/// nine leaves.
 pub fn first_reason(
     alloc: Global,
     formula: &ReferenceFormula,

@@ -1,9 +1,10 @@
-//! Predicates over numbers as postfix words: operands first, the left one of two first.
+//! Predicates over numbers, and over lists of them, as postfix words: operands first, the left one of
+//! two first.
 use crate::escapes::unescape;
 use predicates_core::static_text::StaticText;
 use std::alloc::{AllocError, Global};
 
-/// One word for a predicate over numbers.
+/// One word for a predicate over numbers or over lists of numbers.
 #[derive(Drop)]
 pub enum NumberWord {
     Always,
@@ -19,6 +20,10 @@ pub enum NumberWord {
     Listed(Vec<i64>),
     Sorted(Vec<i64>),
     Hashed(Vec<i64>),
+    /// Of a list: the predicate before it holds of each member.
+    Each,
+    /// Of a list: the predicate before it holds of a member.
+    Any,
     Named(StaticText),
     Not,
     And,
@@ -30,6 +35,8 @@ fn bare_word(word: &str) -> Option<NumberWord> {
     Some(match word {
         "always" => NumberWord::Always,
         "never" => NumberWord::Never,
+        "each" => NumberWord::Each,
+        "any" => NumberWord::Any,
         "not" => NumberWord::Not,
         "and" => NumberWord::And,
         "or" => NumberWord::Or,

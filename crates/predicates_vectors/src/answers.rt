@@ -19,7 +19,7 @@ fn shown_numbers(alloc: Global, numbers: &[usize]) -> Result<String> {
 }
 
 // Compares the leaves that the case keeps, and those that the reference program finds, where there
-// are at most eight.
+// are at most nine.
 fn compare_kept(
     outcome: &mut Outcome,
     answers: &Answers,

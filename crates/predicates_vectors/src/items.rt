@@ -2,8 +2,9 @@
 use crate::cells::{bytes, text};
 use anyhow::{Context, Result};
 use predicates_testing::{
-    Answers, ReferenceFormula, TextWord, answer_bytes, answer_number, answer_text, bytes_formula,
-    number_formula, read_number_words, read_text_words, text_formula,
+    Answers, ReferenceFormula, TextWord, answer_bytes, answer_list, answer_number, answer_text,
+    bytes_formula, list_formula, number_formula, read_number_words, read_numbers, read_text_words,
+    text_formula,
 };
 use std::alloc::Global;
 
@@ -29,6 +30,19 @@ impl Items for Numbers {
         let item = item.parse::<i64>().context("no number")?;
         let formula = number_formula(alloc, words.as_slice(), item)?.context(NO_FORMULA)?;
         let answers = answer_number(alloc, words, item)?.context(NO_PREDICATE)?;
+        Ok((answers, formula))
+    }
+}
+
+/// Lists of whole numbers, with commas between them.
+pub struct Lists;
+
+impl Items for Lists {
+    fn ask(&self, alloc: Global, predicate: &str, item: &str) -> Asked {
+        let words = read_number_words(alloc, predicate)?.context("an unknown word")?;
+        let list = read_numbers(alloc, item)?.context("no list of numbers")?;
+        let formula = list_formula(alloc, words.as_slice(), list.as_slice())?.context(NO_FORMULA)?;
+        let answers = answer_list(alloc, words, &list)?.context(NO_PREDICATE)?;
         Ok((answers, formula))
     }
 }

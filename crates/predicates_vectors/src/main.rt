@@ -17,7 +17,7 @@ mod views;
 
 use answers::{Recorded, Worked};
 use anyhow::{Result, ensure};
-use items::{Bytes, Numbers, Texts};
+use items::{Bytes, Lists, Numbers, Texts};
 use lines::{NumberLines, Runs};
 use memberships::MembershipTable;
 use printed::PrintedTable;
@@ -29,10 +29,11 @@ use views::{DebugForms, EvenTexts, TextPairs, TrimmedTexts, ValidBytes};
 // Whether each table of worked rows has rows, and all are right.
 fn replay_worked(rt: &HostRuntime) -> Result<bool> {
     let numbers = replay(rt, "worked_numbers", &Worked { items: Numbers })?;
+    let lists = replay(rt, "worked_lists", &Worked { items: Lists })?;
     let texts = replay(rt, "worked_texts", &Worked { items: Texts })?;
     let bytes = replay(rt, "worked_bytes", &Worked { items: Bytes })?;
     let paths = replay(rt, "worked_paths", &Worked { items: Paths })?;
-    Ok(numbers && texts && bytes && paths)
+    Ok(numbers && lists && texts && bytes && paths)
 }
 
 // Whether each table of recorded answers about numbers has rows, and all are right.

@@ -2,96 +2,9 @@
 ghost use Rattle.std.specs.Prelude.{◌≡◌, option_copied, slice_get};
 
 use predicates::prelude::*;
-use predicates::reflection::{Case, CaseChild, CaseView};
-use predicates_testing::{ReferenceFormula, explains, first_reason, is_described};
+use predicates_testing::{answer_list, explains, is_described, list_formula, read_number_words};
 use std::alloc::{AllocError, Global};
 use std::test::Fail;
-
-// The lines of the verdict's case on the list, for `each` and for `any`.
-const MEMBERS: [(&[u32], &str, &str); 5] = [
-    (
-        &[],
-        "each(var >= 18) = true\n  - len: 0\n",
-        "any(var >= 18) = false\n  - len: 0\n",
-    ),
-    (
-        &[17],
-        "\
-each(var >= 18) = false
-  - index: 0
-  item: var >= 18 = false
-    - var: 17
-",
-        "\
-any(var >= 18) = false
-  item: var >= 18 = false
-    - var: 17
-",
-    ),
-    (
-        &[20],
-        "\
-each(var >= 18) = true
-  item: var >= 18 = true
-    - var: 20
-",
-        "\
-any(var >= 18) = true
-  - index: 0
-  item: var >= 18 = true
-    - var: 20
-",
-    ),
-    (
-        &[20, 17, 30, 16],
-        "\
-each(var >= 18) = false
-  - index: 1
-  item: var >= 18 = false
-    - var: 17
-",
-        "\
-any(var >= 18) = true
-  - index: 0
-  item: var >= 18 = true
-    - var: 20
-",
-    ),
-    (
-        &[3, 17, 18],
-        "\
-each(var >= 18) = false
-  - index: 0
-  item: var >= 18 = false
-    - var: 3
-",
-        "\
-any(var >= 18) = true
-  - index: 2
-  item: var >= 18 = true
-    - var: 18
-",
-    ),
-];
-
-fn explains_members(
-    alloc: Global,
-    members: &[u32],
-    each: &str,
-    any: &str,
-) -> Result<bool, AllocError> {
-    let list = Vec::from_slice(alloc, members)?;
-    let is_each = explains(alloc, &predicate::ge(18u32).of_each(), &list, each)?;
-    Ok(is_each && explains(alloc, &predicate::ge(18u32).of_any(), &list, any)?)
-}
-
-#[test]
-fn members(rt: HostRuntime) -> Result<(), Fail> {
-    for (members, each, any) in MEMBERS {
-        assert!(rt; explains_members(rt.alloc(), members, each, any)?, "{each}");
-    }
-    Ok(())
-}
 
 // The list of the numbers below `count`.
 fn numbers_below(alloc: Global, count: u32) -> Result<Vec<u32>, AllocError> {
@@ -416,112 +329,66 @@ fn lengths(rt: HostRuntime) -> Result<(), Fail> {
     Ok(())
 }
 
-// Adds the leaves that a case of `lt(3).or(lt(5))` keeps, the first of which has the number.
-fn add_kept(kept: &mut Vec<usize>, case: &CaseView<'_>, first: usize) -> Result<(), AllocError> {
-    for CaseChild { name, .. } in case.children() {
-        kept.push(if name == "left" {
-            first
-        } else {
-            first.saturating_add(1)
-        })?;
-    }
-    Ok(())
-}
+// Members on which the leaves of a predicate below differ.
+const KINDS: [i64; 4] = [1, 2, 9, 6];
 
-// The leaves that the case of a list keeps: of the member with the number that the node shows, or
-// of each member.
-fn kept_leaves(alloc: Global, case: &Case) -> Result<Vec<usize>, AllocError> {
-    let root = case.root();
-    let mut member: usize = match root.products().first() {
-        Some(product) => product.value().parse().unwrap_or(0),
-        None => 0,
-    };
-    let mut kept = Vec::new(alloc);
-    for CaseChild { case, .. } in root.children() {
-        add_kept(&mut kept, &case, member.saturating_mul(2))?;
-        member = member.saturating_add(1);
-    }
-    Ok(kept)
-}
+// A predicate of three leaves about each member of a list and about one, and one of two leaves; with
+// the length of the lists, how many kinds of members they have, and how many they are.
+const LISTS: [([&str; 2], [usize; 3]); 5] = [
+    (THREE_LEAVES, [0, 4, 1]),
+    (THREE_LEAVES, [1, 4, 4]),
+    (THREE_LEAVES, [2, 4, 16]),
+    (THREE_LEAVES, [3, 4, 64]),
+    (["lt=2 ge=6 or each", "lt=2 ge=6 or any"], [4, 3, 81]),
+];
 
-// The formula of a list, as a chain of two parts each.
-fn chain(
-    alloc: Global,
-    members: &[u32],
-    is_each: bool,
-) -> Result<Option<ReferenceFormula>, AllocError> {
-    let mut chain: Option<ReferenceFormula> = None;
-    for member in members.iter().rev() {
-        let first = Box::new(alloc, ReferenceFormula::Leaf(*member < 3))?;
-        let second = Box::new(alloc, ReferenceFormula::Leaf(*member < 5))?;
-        let part = ReferenceFormula::Or(first, second);
-        chain = Some(match chain {
-            None => part,
-            Some(rest) => {
-                let (part, rest) = (Box::new(alloc, part)?, Box::new(alloc, rest)?);
-                if is_each {
-                    ReferenceFormula::And(part, rest)
-                } else {
-                    ReferenceFormula::Or(part, rest)
-                }
-            }
-        });
-    }
-    Ok(chain)
-}
+const THREE_LEAVES: [&str; 2] = ["ge=2 lt=5 and eq=9 or each", "ge=2 lt=5 and eq=9 or any"];
 
-// Whether the list is explained by the first of all minimal reasons of its chain.
-fn is_explained<P: Predicate<Vec<u32>>>(
-    alloc: Global,
-    predicate: &P,
-    list: &Vec<u32>,
-    is_each: bool,
-) -> Result<bool, AllocError>
-    requires { P.lawful predicate.now }
-{
-    let Some(formula) = chain(alloc, list.as_slice(), is_each)? else {
+// Whether what the words say of the list is explained by the first of all minimal reasons.
+fn is_explained(alloc: Global, words: &str, list: &Vec<i64>) -> Result<bool, AllocError> {
+    let Some(read) = read_number_words(alloc, words)? else {
         return Ok(false);
     };
-    let verdict = formula.truth();
-    let Some(case) = predicate.find_case(alloc, verdict, list)? else {
-        return Ok(false);
-    };
-    let is_alone = predicate.find_case(alloc, !verdict, list)?.is_none();
-    Ok(is_alone && Some(kept_leaves(alloc, &case)?) == first_reason(alloc, &formula)?)
+    let formula = list_formula(alloc, read.as_slice(), list.as_slice())?;
+    match (formula, answer_list(alloc, read, list)?) {
+        (Some(formula), Some(answers)) => answers.explain(alloc, &formula),
+        _ => Ok(false),
+    }
 }
 
-// The list of these members, each of one of three kinds by a digit of the number.
-fn list_of(alloc: Global, number: u32, length: u32) -> Result<Vec<u32>, AllocError> {
+// The list with this number among those of the length and of so many kinds of members.
+fn list_of(alloc: Global, number: usize, length: usize, kinds: usize) -> Result<Vec<i64>, AllocError> {
     let mut list = Vec::new(alloc);
     let mut rest = number;
     for _ in 0..length {
-        list.push(match rest % 3 {
-            0 => 2,
-            1 => 4,
-            _ => 9,
-        })?;
-        rest /= 3;
+        if let Some(kind) = rest.checked_rem(kinds) {
+            list.push(KINDS.get(kind).copied().unwrap_or(0))?;
+        }
+        rest = rest.checked_div(kinds).unwrap_or(0);
     }
     Ok(list)
 }
 
-fn explains_by_first_reasons(alloc: Global, number: u32, length: u32) -> Result<bool, AllocError> {
-    let list = list_of(alloc, number, length)?;
-    let each = predicate::lt(3u32).or(predicate::lt(5u32)).of_each();
-    let any = predicate::lt(3u32).or(predicate::lt(5u32)).of_any();
-    let is_each = is_explained(alloc, &each, &list, true)?;
-    Ok(is_each && is_explained(alloc, &any, &list, false)?)
+// How many of the lists of the length are explained by first reasons, for each and for any.
+fn explained_lists(
+    alloc: Global,
+    [each, any]: [&str; 2],
+    [length, kinds, lists]: [usize; 3],
+) -> Result<(usize, usize), AllocError> {
+    let (mut of_each, mut of_any): (usize, usize) = (0, 0);
+    for number in 0..lists {
+        let list = list_of(alloc, number, length, kinds)?;
+        of_each = of_each.saturating_add(usize::from(is_explained(alloc, each, &list)?));
+        of_any = of_any.saturating_add(usize::from(is_explained(alloc, any, &list)?));
+    }
+    Ok((of_each, of_any))
 }
 
 #[test]
 fn first_reasons_of_all_lists_of_at_most_four_members(rt: HostRuntime) -> Result<(), Fail> {
-    for (length, lists) in [(1u32, 3u32), (2, 9), (3, 27), (4, 81)] {
-        for number in 0..lists {
-            assert!(rt;
-                explains_by_first_reasons(rt.alloc(), number, length)?,
-                "{number} of {length}"
-            );
-        }
+    for (words, numbers) in LISTS {
+        let [_, _, lists] = numbers;
+        assert_eq!(rt; explained_lists(rt.alloc(), words, numbers)?, (lists, lists));
     }
     Ok(())
 }

@@ -1,0 +1,28 @@
+//! Lists of numbers.
+use crate::asked::ask;
+use predicates::ord::ge;
+use predicates::part::PredicatePartExt;
+use std::alloc::{AllocError, Global};
+
+// A list of these members, as the only item.
+fn only_item(alloc: Global, members: &[i64]) -> Result<Vec<Vec<i64>>, AllocError> {
+    let mut items = Vec::new(alloc);
+    items.push(Vec::from_slice(alloc, members)?)?;
+    Ok(items)
+}
+
+/// Asks whether each of the members is at least `least`.
+#[unsafe(no_mangle)]
+pub extern "C" fn bench_each(
+    alloc: Global,
+    least: i64,
+    members: &[i64],
+    question: u8,
+    rounds: usize,
+) -> usize {
+    let each = ge(least).of_each();
+    match only_item(alloc, members) {
+        Ok(items) => ask(alloc, &each, &items, question, rounds),
+        Err(_) => 0,
+    }
+}
