@@ -243,7 +243,13 @@ impl Predicate<String> for TextCheck {
                 let mut copy = String::new(alloc);
                 inner.find_case(alloc, expected, lines_even_view(alloc, item, &mut copy)?)
             }
-            TextCheck::Not(inner) => self.find_not(alloc, inner, expected, item),
+            // A row of them is evaluated in a loop, and has a call for each where there is a case.
+            TextCheck::Not(inner) => {
+                if self.eval(alloc, item)? != expected {
+                    return Ok(None);
+                }
+                self.find_not(alloc, inner, expected, item)
+            }
             TextCheck::And(left, right)
             | TextCheck::Or(left, right)
             | TextCheck::Xor(left, right) => {

@@ -27,11 +27,27 @@ impl TextCheck {
         ensures { IfOk result (IsAnswer (IsNot (check_text self.now)
             (HasFormula inner.now (string_bytes item.now))) expected) }
     {
-        let Some(part) = inner.find_case(alloc, !expected, item)? else {
+        let Some(part) = inner.find_part(alloc, !expected, item)? else {
             return Ok(None);
         };
         let text = printed(alloc, self)?;
         Ok(Some(unary_node(alloc, text, expected, "predicate", part)?))
+    }
+
+    // Its case, below a `not` that has one: of a `not`, it is known that there is one.
+    #[cycle(find)]
+    fn find_part(
+        &self,
+        alloc: Global,
+        expected: bool,
+        item: &String,
+    ) -> Result<Option<Case>, AllocError>
+        ensures { IfOk result (IsAnswer (HasFormula self.now (string_bytes item.now)) expected) }
+    {
+        match self {
+            TextCheck::Not(inner) => self.find_not(alloc, inner, expected, item),
+            _ => self.find_case(alloc, expected, item),
+        }
     }
 
     // The truth of the check, where it is asked for.
