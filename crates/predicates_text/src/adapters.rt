@@ -25,6 +25,12 @@ pub use utf8::Utf8Predicate;
 pub trait PredicateStrExt: Predicate<String> {
     /// The predicate of what is left of a text without the white space at its ends. Its `eval`
     /// takes memory for that, but none where there is no such space.
+    ///
+    /// ```
+    /// let is_blank = is_empty().trim();
+    /// assert!(rt; is_blank.eval(alloc, &" \t\u{a0}".to_owned(alloc)?)?);
+    /// assert!(rt; !is_blank.eval(alloc, &" a ".to_owned(alloc)?)?);
+    /// ```
     fn trim(self) -> TrimPredicate<Self>
     where
         Self: Sized,
@@ -36,6 +42,12 @@ pub trait PredicateStrExt: Predicate<String> {
     /// The predicate of a text with even line endings: a carriage return, with the line feed behind
     /// it or alone, counts as a line feed. Its `eval` takes memory for that text, but none where
     /// there is no carriage return.
+    ///
+    /// ```
+    /// let two_lines = contains("a\nb\n".to_owned(alloc)?).normalize();
+    /// assert!(rt; two_lines.eval(alloc, &"a\r\nb\r".to_owned(alloc)?)?);
+    /// assert!(rt; !two_lines.eval(alloc, &"a\n\rb\n".to_owned(alloc)?)?);
+    /// ```
     fn normalize(self) -> NormalizedPredicate<Self>
     where
         Self: Sized,
@@ -46,6 +58,12 @@ pub trait PredicateStrExt: Predicate<String> {
 
     /// The predicate of the text that bytes encode, which is false on other bytes. Its `eval`
     /// takes memory for the text, and none on other bytes.
+    ///
+    /// ```
+    /// let has_umlaut = contains("ä".to_owned(alloc)?).from_utf8();
+    /// assert!(rt; has_umlaut.eval(alloc, &vec![in alloc; 0xc3, 0xa4]?)?);
+    /// assert!(rt; !has_umlaut.eval(alloc, &vec![in alloc; 0xe4]?)?);
+    /// ```
     fn from_utf8(self) -> Utf8Predicate<Self>
     where
         Self: Sized,

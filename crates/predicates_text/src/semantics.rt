@@ -29,9 +29,9 @@ ghost use Rattle.predicates_text.specs.ViewFormulas.{HasEvenLinesOf};
 
 use crate::adapters::{NormalizedPredicate, TrimPredicate, Utf8Predicate};
 use crate::basics::contains::ContainsPredicate;
-use crate::basics::count::MatchesPredicate;
 use crate::basics::ends_with::EndsWithPredicate;
 use crate::basics::is_empty::IsEmptyPredicate;
+use crate::basics::matches::MatchesPredicate;
 use crate::basics::starts_with::StartsWithPredicate;
 use crate::expressions::is_match::RegexPredicate;
 use crate::expressions::match_count::RegexMatchesPredicate;
@@ -135,8 +135,8 @@ pub fn normalize<P: Predicate<String>>(normalized: &NormalizedPredicate<P>, item
         (P.parameters_of (normalized_part normalized.now)) (P.children_of (normalized_part normalized.now)) }
 {}
 
-/// Its formulas are those of its part on the text that the bytes encode, with that text as a
-/// product more; on other bytes it is a leaf that is false, and takes no memory to evaluate.
+/// Its formulas are those of its part on the text that the bytes encode, with that text as one more
+/// product; on other bytes it is a false leaf, which takes no memory to evaluate.
 pub fn from_utf8<P: Predicate<String>>(decoded: &Utf8Predicate<P>, item: &Vec<u8>)
     ensures formula { (f : Formula) → ⟦<Utf8Predicate<P> as Predicate<Vec<u8>>>⟧.formula decoded.now item.now f
         ↔ IsDecoded (P.output (utf8_part decoded.now)) (P.formula (utf8_part decoded.now))
