@@ -10,16 +10,18 @@ ghost use Rattle.predicates_core.specs.Text.{Text};
 ghost use Rattle.predicates_core.specs.Formula.{Formula};
 ghost use Rattle.predicates_text.specs.ViewFormulas.{IsOfEach, IsDecoded, IsTrimmedOf};
 ghost use Rattle.predicates_text.specs.ViewFormulas.{HasEvenLinesOf};
-ghost use Rattle.predicates_text.specs.AdapterParts.{trim_part, normalized_part, utf8_part};
+ghost use Rattle.predicates_text.specs.AdapterParts.{inner_of};
 
 mod normalize;
 mod trim;
 mod utf8;
+mod view;
 
-pub use normalize::NormalizedPredicate;
+pub use normalize::{NormalizeView, NormalizedPredicate};
 use predicates_core::Predicate;
-pub use trim::TrimPredicate;
-pub use utf8::Utf8Predicate;
+pub use trim::{TrimPredicate, TrimView};
+pub use utf8::{Utf8Predicate, Utf8View};
+pub use view::{TextView, View, ViewPredicate};
 
 /// Adapts any predicate of texts.
 pub trait PredicateStrExt: Predicate<String> {
@@ -34,7 +36,7 @@ pub trait PredicateStrExt: Predicate<String> {
     fn trim(self) -> TrimPredicate<Self>
     where
         Self: Sized,
-        ensures inner { trim_part result ≡ self }
+        ensures inner { inner_of result ≡ self }
         ensures formula { (v : Text) (f : Formula) →
             ⟦<TrimPredicate<Self> as Predicate<String>>⟧.formula result v f
             ↔ IsOfEach (Self.formula self) (IsTrimmedOf v) f };
@@ -51,7 +53,7 @@ pub trait PredicateStrExt: Predicate<String> {
     fn normalize(self) -> NormalizedPredicate<Self>
     where
         Self: Sized,
-        ensures inner { normalized_part result ≡ self }
+        ensures inner { inner_of result ≡ self }
         ensures formula { (v : Text) (f : Formula) →
             ⟦<NormalizedPredicate<Self> as Predicate<String>>⟧.formula result v f
             ↔ IsOfEach (Self.formula self) (HasEvenLinesOf v) f };
@@ -67,7 +69,7 @@ pub trait PredicateStrExt: Predicate<String> {
     fn from_utf8(self) -> Utf8Predicate<Self>
     where
         Self: Sized,
-        ensures inner { utf8_part result ≡ self }
+        ensures inner { inner_of result ≡ self }
         ensures formula { (v : Vec ℕ Global) (f : Formula) →
             ⟦<Utf8Predicate<Self> as Predicate<Vec<u8>>>⟧.formula result v f
             ↔ IsDecoded (Self.output self) (Self.formula self) v.items f };
