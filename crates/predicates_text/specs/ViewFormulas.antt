@@ -43,8 +43,8 @@ undecoded text = Leaf (showing text (codes "error") (Some (codes "Invalid UTF-8 
 abbrev pub decoded : List ℕ → Formula → Formula
 decoded bytes f = with_product f (record { name = codes "var as str"; value = Some bytes })
 
--- f is had on each text with the bytes, with the text as a product more, or is a leaf where there
--- is none
+-- f is the formula of each text with these bytes, with that text as one more product, or a false
+-- leaf where the bytes are no text
 pub record IsDecoded (text : Option (List ℕ)) (has : Text → Formula → Type 0) (bytes : List ℕ)
     (f : Formula) : Type 0 where
   pub of_text : (t : Text) → string_bytes t ≡ bytes
