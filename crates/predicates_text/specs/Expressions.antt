@@ -45,7 +45,7 @@ abbrev pub match_formula : List ℕ → Re → List ℕ → Formula
 match_formula pattern meaning bytes = text_leaf (match_text pattern) bytes
     (is_some (find_str meaning bytes 0))
 
--- the pattern has so many matches in the text
+-- the pattern has `count` matches in the text
 abbrev pub match_count_formula : List ℕ → Re → ℕ → List ℕ → Formula
 match_count_formula pattern meaning count bytes =
     let n : ℕ = length (find_all_str meaning bytes) in

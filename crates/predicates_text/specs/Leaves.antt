@@ -47,7 +47,7 @@ abbrev pub contains_formula : List ℕ → List ℕ → Formula
 contains_formula pattern bytes = text_leaf (contains_text pattern) bytes
     (is_part (chars pattern) (chars bytes))
 
--- the pattern has so many places in the text, of which no two overlap
+-- the pattern has `count` places in the text, of which no two overlap
 abbrev pub matches_formula : List ℕ → ℕ → List ℕ → Formula
 matches_formula pattern count bytes =
     let n : ℕ = count_of (chars pattern) (chars bytes) in

@@ -3,7 +3,7 @@ use Rattle.std.specs.Prelude.{ℕ, List, string_bytes}
 use Rattle.predicates_text.specs.declared.basics.starts_with.StartsWithPredicate.{StartsWithPredicate}
 use Rattle.predicates_text.specs.declared.basics.ends_with.EndsWithPredicate.{EndsWithPredicate}
 use Rattle.predicates_text.specs.declared.basics.contains.ContainsPredicate.{ContainsPredicate}
-use Rattle.predicates_text.specs.declared.basics.count.MatchesPredicate.{MatchesPredicate}
+use Rattle.predicates_text.specs.declared.basics.matches.MatchesPredicate.{MatchesPredicate}
 
 -- the pattern that is looked for
 abbrev pub starts_pattern : StartsWithPredicate → List ℕ

@@ -46,7 +46,7 @@ module _ {text : Option (List ℕ)} {has : Text → Formula → Type 0} {bytes :
       (λ t. one_with_product (one t.0) (h.of_text t.0 t.1) (k.of_text t.0 t.1))
       (λ n. one_exactly (h.of_other n) (k.of_other n)) v
 
--- that formula is had
+-- bytes have that formula
 pub has_decoded_formula : (content : List ℕ → Formula) (text : Option (List ℕ))
     (has : Text → Formula → Type 0) (bytes : List ℕ)
     → ((t : Text) → has t (content (string_bytes t)))

@@ -8,20 +8,27 @@ use Rattle.predicates_core.specs.Leaves.{IsExactly}
 use Rattle.predicates_core.specs.Added.{IsWithProduct}
 use Rattle.predicates_text.specs.Views as view
 
+-- the text t has the characters that the view shows of v
+abbrev pub IsViewOf : (List ℕ → List ℕ) → Text → Text → Type 0
+IsViewOf shows v t = chars (string_bytes t) ≡ shows (chars (string_bytes v))
+
 -- the text t is v without the white space at its ends
 abbrev pub IsTrimmedOf : Text → Text → Type 0
-IsTrimmedOf v t = chars (string_bytes t) ≡ view.trimmed (chars (string_bytes v))
+IsTrimmedOf v t = IsViewOf view.trimmed v t
 
 -- the text t is v with even line endings
 abbrev pub HasEvenLinesOf : Text → Text → Type 0
-HasEvenLinesOf v t = chars (string_bytes t) ≡ view.lines_even (chars (string_bytes v))
+HasEvenLinesOf v t = IsViewOf view.lines_even v t
 
--- the bytes of these views
+-- the bytes of a view, from those of the text
+abbrev pub view_bytes : (List ℕ → List ℕ) → List ℕ → List ℕ
+view_bytes shows bytes = encode_utf8_all (shows (chars bytes))
+
 abbrev pub trimmed_bytes : List ℕ → List ℕ
-trimmed_bytes bytes = encode_utf8_all (view.trimmed (chars bytes))
+trimmed_bytes bytes = view_bytes view.trimmed bytes
 
 abbrev pub even_bytes : List ℕ → List ℕ
-even_bytes bytes = encode_utf8_all (view.lines_even (chars bytes))
+even_bytes bytes = view_bytes view.lines_even bytes
 
 -- f is a formula of the part on each text that is such a view
 pub record IsOfEach (has : Text → Formula → Type 0) (viewed : Text → Type 0) (f : Formula) : Type 0
@@ -36,8 +43,8 @@ undecoded text = Leaf (showing text (codes "error") (Some (codes "Invalid UTF-8 
 abbrev pub decoded : List ℕ → Formula → Formula
 decoded bytes f = with_product f (record { name = codes "var as str"; value = Some bytes })
 
--- f is had on each text with the bytes, with the text as a product more, or is a leaf where there
--- is none
+-- f is the formula of each text with these bytes, with that text as one more product, or a false
+-- leaf where the bytes are no text
 pub record IsDecoded (text : Option (List ℕ)) (has : Text → Formula → Type 0) (bytes : List ℕ)
     (f : Formula) : Type 0 where
   pub of_text : (t : Text) → string_bytes t ≡ bytes

@@ -15,8 +15,7 @@ use Rattle.std.proofs.lemmas.Str.{chars-encodes, encodes-chars, scalars-chars, e
 use Rattle.std.proofs.lemmas.Str.{IsUtf8-string_bytes}
 use Rattle.predicates_text.specs.Views.{lines_even}
 use Rattle.predicates_text.specs.EvenLines.{IsNoLonger, lines_even_fits}
-use Rattle.predicates_text.specs.ViewFormulas.{IsTrimmedOf, HasEvenLinesOf, trimmed_bytes}
-use Rattle.predicates_text.specs.ViewFormulas.{even_bytes}
+use Rattle.predicates_text.specs.ViewFormulas.{IsViewOf, IsTrimmedOf, HasEvenLinesOf, view_bytes}
 use Rattle.predicates_text.specs.ViewFormulaLaws.{TextOrNot}
 
 -- a text of given bytes, where another has room for it
@@ -103,10 +102,7 @@ bytes_of_chars t cs e = sym (encodes-chars (string_bytes t) (IsUtf8-string_bytes
 pub text_or_other : (v : Vec ℕ Global) → TextOrNot v.items
 text_or_other v = ⊎_elim (λ u. inl (has_decoded v u)) inr (text_or_not v.items)
 
--- the bytes of each view
-pub trimmed_is : (v t : Text) → IsTrimmedOf v t → string_bytes t ≡ trimmed_bytes (string_bytes v)
-trimmed_is v t is = bytes_of_chars t _ is
-
-pub even_lines_are : (v t : Text) → HasEvenLinesOf v t
-    → string_bytes t ≡ even_bytes (string_bytes v)
-even_lines_are v t is = bytes_of_chars t _ is
+-- the bytes of a view
+pub view_is : (shows : List ℕ → List ℕ) (v t : Text) → IsViewOf shows v t
+    → string_bytes t ≡ view_bytes shows (string_bytes v)
+view_is shows v t is = bytes_of_chars t _ is

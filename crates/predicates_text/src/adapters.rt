@@ -10,25 +10,33 @@ ghost use Rattle.predicates_core.specs.Text.{Text};
 ghost use Rattle.predicates_core.specs.Formula.{Formula};
 ghost use Rattle.predicates_text.specs.ViewFormulas.{IsOfEach, IsDecoded, IsTrimmedOf};
 ghost use Rattle.predicates_text.specs.ViewFormulas.{HasEvenLinesOf};
-ghost use Rattle.predicates_text.specs.AdapterParts.{trim_part, normalized_part, utf8_part};
+ghost use Rattle.predicates_text.specs.AdapterParts.{inner_of};
 
 mod normalize;
 mod trim;
 mod utf8;
+mod view;
 
-pub use normalize::NormalizedPredicate;
+pub use normalize::{NormalizeView, NormalizedPredicate};
 use predicates_core::Predicate;
-pub use trim::TrimPredicate;
-pub use utf8::Utf8Predicate;
+pub use trim::{TrimPredicate, TrimView};
+pub use utf8::{Utf8Predicate, Utf8View};
+pub use view::{TextView, View, ViewPredicate};
 
 /// Adapts any predicate of texts.
 pub trait PredicateStrExt: Predicate<String> {
     /// The predicate of what is left of a text without the white space at its ends. Its `eval`
     /// takes memory for that, but none where there is no such space.
+    ///
+    /// ```
+    /// let is_blank = is_empty().trim();
+    /// assert!(rt; is_blank.eval(alloc, &" \t\u{a0}".to_owned(alloc)?)?);
+    /// assert!(rt; !is_blank.eval(alloc, &" a ".to_owned(alloc)?)?);
+    /// ```
     fn trim(self) -> TrimPredicate<Self>
     where
         Self: Sized,
-        ensures inner { trim_part result ≡ self }
+        ensures inner { inner_of result ≡ self }
         ensures formula { (v : Text) (f : Formula) →
             ⟦<TrimPredicate<Self> as Predicate<String>>⟧.formula result v f
             ↔ IsOfEach (Self.formula self) (IsTrimmedOf v) f };
@@ -36,20 +44,32 @@ pub trait PredicateStrExt: Predicate<String> {
     /// The predicate of a text with even line endings: a carriage return, with the line feed behind
     /// it or alone, counts as a line feed. Its `eval` takes memory for that text, but none where
     /// there is no carriage return.
+    ///
+    /// ```
+    /// let two_lines = contains("a\nb\n".to_owned(alloc)?).normalize();
+    /// assert!(rt; two_lines.eval(alloc, &"a\r\nb\r".to_owned(alloc)?)?);
+    /// assert!(rt; !two_lines.eval(alloc, &"a\n\rb\n".to_owned(alloc)?)?);
+    /// ```
     fn normalize(self) -> NormalizedPredicate<Self>
     where
         Self: Sized,
-        ensures inner { normalized_part result ≡ self }
+        ensures inner { inner_of result ≡ self }
         ensures formula { (v : Text) (f : Formula) →
             ⟦<NormalizedPredicate<Self> as Predicate<String>>⟧.formula result v f
             ↔ IsOfEach (Self.formula self) (HasEvenLinesOf v) f };
 
     /// The predicate of the text that bytes encode, which is false on other bytes. Its `eval`
     /// takes memory for the text, and none on other bytes.
+    ///
+    /// ```
+    /// let has_umlaut = contains("ä".to_owned(alloc)?).from_utf8();
+    /// assert!(rt; has_umlaut.eval(alloc, &vec![in alloc; 0xc3, 0xa4]?)?);
+    /// assert!(rt; !has_umlaut.eval(alloc, &vec![in alloc; 0xe4]?)?);
+    /// ```
     fn from_utf8(self) -> Utf8Predicate<Self>
     where
         Self: Sized,
-        ensures inner { utf8_part result ≡ self }
+        ensures inner { inner_of result ≡ self }
         ensures formula { (v : Vec ℕ Global) (f : Formula) →
             ⟦<Utf8Predicate<Self> as Predicate<Vec<u8>>>⟧.formula result v f
             ↔ IsDecoded (Self.output self) (Self.formula self) v.items f };

@@ -6,7 +6,7 @@
 //! ```
 
 pub mod contains;
-pub mod count;
 pub mod ends_with;
 pub mod is_empty;
+pub mod matches;
 pub mod starts_with;

@@ -60,7 +60,8 @@ fn count_byte(byte: u8, text: &str) -> usize
     count
 }
 
-// What follows the first occurrence of the pattern, if there is one. The searcher is the pattern's.
+// What follows the first occurrence of the pattern, if there is one. The search is made for this
+// pattern.
 fn after_first_match<'a>(
     text: &'a str,
     pattern: &str,
@@ -84,34 +85,36 @@ fn after_first_match<'a>(
     Some(&text[place + pattern.len()..])
 }
 
-// A search for one pattern, with the position in it of a byte that is rare in texts.
+// A prepared search for one pattern. `rare_index` is the position in the pattern of a byte that is
+// rare in texts.
 #[derive(Drop)]
 struct Searcher<'p> {
     finder: Finder<'p>,
-    rare_byte: usize,
+    rare_index: usize,
 }
 
 impl<'p> Searcher<'p> {
     fn new(pattern: &'p [u8]) -> Searcher<'p>
         ensures { result.finder ≡ pattern.now }
     {
-        let rare_byte = match Pair::new(pattern) {
+        let rare_index = match Pair::new(pattern) {
             Some(pair) => pair.index1() as usize,
             None => 0,
         };
         Searcher {
             finder: Finder::new(pattern),
-            rare_byte,
+            rare_index,
         }
     }
 
-    // The first occurrence of the pattern, mostly where that byte first occurs.
+    // The first occurrence of the pattern. It is mostly where the rare byte first occurs, so that is
+    // tried first.
     fn find(&self, text: &[u8], pattern: &[u8]) -> Option<usize>
         requires { self.now.finder ≡ pattern.now }
         ensures { FindsNeedle text.now pattern.now 0 result }
     {
-        if self.rare_byte < pattern.len() && pattern.len() <= text.len() {
-            let place = memchr(pattern[self.rare_byte], &text[self.rare_byte..])?;
+        if self.rare_index < pattern.len() && pattern.len() <= text.len() {
+            let place = memchr(pattern[self.rare_index], &text[self.rare_index..])?;
             if is_prefix(&text[place..], pattern) {
                 return Some(place);
             }

@@ -6,7 +6,7 @@
 
 pub mod is_match;
 pub mod match_count;
-mod search;
+mod regex_search;
 
-/// Why a pattern is refused: for its syntax, for its size, or for want of memory.
+/// Why a pattern gives no predicate: its syntax is invalid, it is too large, or memory ran out.
 pub type RegexError = regex::Error;

@@ -24,13 +24,13 @@ pub(crate) fn text_case<P: fmt::Display>(
     if holds != expected {
         return Ok(None);
     }
-    made_case(alloc, leaf, holds, item)
+    make_text_case(alloc, leaf, holds, item)
 }
 
-// The case of `text_case`, in a function of its own, so that a leaf without one needs no frame.
+// Makes the case for `text_case`. It is not inlined, so that a call that returns no case is short.
 #[inline(never)]
 #[tactic(auto, using(predicates_core::proofs::Leaves::leaves))]
-fn made_case<P: fmt::Display>(
+fn make_text_case<P: fmt::Display>(
     alloc: Global,
     leaf: &P,
     holds: bool,
@@ -43,7 +43,8 @@ fn made_case<P: fmt::Display>(
     Ok(Some(showing_text(alloc, case, "var", item)?))
 }
 
-// The same of a leaf that compares a number with the wanted one, which it shows after the item.
+// What `find_case` returns for a leaf that compares a number with the wanted one. It shows the item
+// as `var` and then the number as `actual count`.
 #[tactic(auto, using(predicates_core::proofs::Leaves::leaves))]
 pub(crate) fn count_case<P: fmt::Display>(
     alloc: Global,

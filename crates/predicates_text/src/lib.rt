@@ -20,11 +20,14 @@ pub mod search;
 pub mod semantics;
 mod views;
 
-pub use adapters::{NormalizedPredicate, PredicateStrExt, TrimPredicate, Utf8Predicate};
+pub use adapters::{
+    NormalizeView, NormalizedPredicate, PredicateStrExt, TextView, TrimPredicate, TrimView,
+    Utf8Predicate, Utf8View, View, ViewPredicate,
+};
 pub use basics::contains::{ContainsPredicate, contains};
-pub use basics::count::MatchesPredicate;
 pub use basics::ends_with::{EndsWithPredicate, ends_with};
 pub use basics::is_empty::{IsEmptyPredicate, is_empty};
+pub use basics::matches::MatchesPredicate;
 pub use basics::starts_with::{StartsWithPredicate, starts_with};
 pub use expressions::RegexError;
 pub use expressions::is_match::{RegexPredicate, is_match};

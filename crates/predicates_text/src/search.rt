@@ -12,7 +12,7 @@ ghost use Rattle.predicates_text.specs.Places.{is_back, is_part};
 use memchr::arch::all::{is_prefix, packedpair};
 use memchr::memmem;
 
-// In texts of at least this many bytes, a search that is prepared first takes less time.
+// Searching a text of at least this many bytes is faster with a search that is prepared first.
 pub(crate) const LONG: usize = 512;
 
 /// Whether the text has no characters.
@@ -51,8 +51,9 @@ pub fn contains(text: &str, pattern: &str) -> bool
     find(text.as_bytes(), pattern.as_bytes()).is_some()
 }
 
-// The first occurrence of the pattern. A search for the two of its bytes that are rarest in texts is
-// made in half the time of one for the whole, and mostly decides.
+// The first occurrence of the pattern. First the two of its bytes that are rarest in texts are
+// searched for: such a search is prepared in half the time of one for the whole pattern, and mostly
+// gives the answer.
 fn find(text: &[u8], pattern: &[u8]) -> Option<usize>
     ensures { FindsNeedle text.now pattern.now 0 result }
 {

@@ -15,7 +15,7 @@ ghost use Rattle.predicates_core.specs.Label.{value_of};
 ghost use Rattle.predicates_core.specs.Leaves.{IsExactly};
 ghost use Rattle.predicates_core.specs.Parts.{part};
 ghost use Rattle.predicates_core.specs.Tree.{empty};
-ghost use Rattle.predicates_text.specs.AdapterParts.{trim_part, normalized_part, utf8_part};
+ghost use Rattle.predicates_text.specs.AdapterParts.{inner_of};
 ghost use Rattle.predicates_text.specs.Expressions.{match_formula, match_count_formula};
 ghost use Rattle.predicates_text.specs.Expressions.{regex_text, regex_meaning};
 ghost use Rattle.predicates_text.specs.Expressions.{regex_matches_text, regex_matches_meaning};
@@ -29,9 +29,9 @@ ghost use Rattle.predicates_text.specs.ViewFormulas.{HasEvenLinesOf};
 
 use crate::adapters::{NormalizedPredicate, TrimPredicate, Utf8Predicate};
 use crate::basics::contains::ContainsPredicate;
-use crate::basics::count::MatchesPredicate;
 use crate::basics::ends_with::EndsWithPredicate;
 use crate::basics::is_empty::IsEmptyPredicate;
+use crate::basics::matches::MatchesPredicate;
 use crate::basics::starts_with::StartsWithPredicate;
 use crate::expressions::is_match::RegexPredicate;
 use crate::expressions::match_count::RegexMatchesPredicate;
@@ -114,38 +114,38 @@ pub fn match_count(counted: &RegexMatchesPredicate, item: &String)
 /// Its formulas are those of its part on the text without the white space at its ends.
 pub fn trim<P: Predicate<String>>(trimmed: &TrimPredicate<P>, item: &String)
     ensures formula { (f : Formula) → ⟦<TrimPredicate<P> as Predicate<String>>⟧.formula trimmed.now item.now f
-        ↔ IsOfEach (P.formula (trim_part trimmed.now)) (IsTrimmedOf item.now) f }
-    ensures lawful { ⟦<TrimPredicate<P> as Predicate<String>>⟧.lawful trimmed.now ↔ P.lawful (trim_part trimmed.now) }
+        ↔ IsOfEach (P.formula (inner_of trimmed.now)) (IsTrimmedOf item.now) f }
+    ensures lawful { ⟦<TrimPredicate<P> as Predicate<String>>⟧.lawful trimmed.now ↔ P.lawful (inner_of trimmed.now) }
     ensures fallible { ¬ (⟦<TrimPredicate<P> as Predicate<String>>⟧.infallible trimmed.now item.now) }
     ensures values { ⟦<TrimPredicate<P> as PredicateReflection>⟧.parameters_of trimmed.now ≡ [] }
     ensures parts { ⟦<TrimPredicate<P> as PredicateReflection>⟧.children_of trimmed.now
-        ≡ part (codes "predicate") (P.output (trim_part trimmed.now))
-        (P.parameters_of (trim_part trimmed.now)) (P.children_of (trim_part trimmed.now)) }
+        ≡ part (codes "predicate") (P.output (inner_of trimmed.now))
+        (P.parameters_of (inner_of trimmed.now)) (P.children_of (inner_of trimmed.now)) }
 {}
 
 /// Its formulas are those of its part on the text with even line endings.
 pub fn normalize<P: Predicate<String>>(normalized: &NormalizedPredicate<P>, item: &String)
     ensures formula { (f : Formula) → ⟦<NormalizedPredicate<P> as Predicate<String>>⟧.formula normalized.now item.now f
-        ↔ IsOfEach (P.formula (normalized_part normalized.now)) (HasEvenLinesOf item.now) f }
-    ensures lawful { ⟦<NormalizedPredicate<P> as Predicate<String>>⟧.lawful normalized.now ↔ P.lawful (normalized_part normalized.now) }
+        ↔ IsOfEach (P.formula (inner_of normalized.now)) (HasEvenLinesOf item.now) f }
+    ensures lawful { ⟦<NormalizedPredicate<P> as Predicate<String>>⟧.lawful normalized.now ↔ P.lawful (inner_of normalized.now) }
     ensures fallible { ¬ (⟦<NormalizedPredicate<P> as Predicate<String>>⟧.infallible normalized.now item.now) }
     ensures values { ⟦<NormalizedPredicate<P> as PredicateReflection>⟧.parameters_of normalized.now ≡ [] }
     ensures parts { ⟦<NormalizedPredicate<P> as PredicateReflection>⟧.children_of normalized.now
-        ≡ part (codes "predicate") (P.output (normalized_part normalized.now))
-        (P.parameters_of (normalized_part normalized.now)) (P.children_of (normalized_part normalized.now)) }
+        ≡ part (codes "predicate") (P.output (inner_of normalized.now))
+        (P.parameters_of (inner_of normalized.now)) (P.children_of (inner_of normalized.now)) }
 {}
 
-/// Its formulas are those of its part on the text that the bytes encode, with that text as a
-/// product more; on other bytes it is a leaf that is false, and takes no memory to evaluate.
+/// Its formulas are those of its part on the text that the bytes encode, with that text as one more
+/// product; on other bytes it is a false leaf, which takes no memory to evaluate.
 pub fn from_utf8<P: Predicate<String>>(decoded: &Utf8Predicate<P>, item: &Vec<u8>)
     ensures formula { (f : Formula) → ⟦<Utf8Predicate<P> as Predicate<Vec<u8>>>⟧.formula decoded.now item.now f
-        ↔ IsDecoded (P.output (utf8_part decoded.now)) (P.formula (utf8_part decoded.now))
+        ↔ IsDecoded (P.output (inner_of decoded.now)) (P.formula (inner_of decoded.now))
         item.now.items f }
-    ensures lawful { ⟦<Utf8Predicate<P> as Predicate<Vec<u8>>>⟧.lawful decoded.now ↔ P.lawful (utf8_part decoded.now) }
+    ensures lawful { ⟦<Utf8Predicate<P> as Predicate<Vec<u8>>>⟧.lawful decoded.now ↔ P.lawful (inner_of decoded.now) }
     ensures infallible { ⟦<Utf8Predicate<P> as Predicate<Vec<u8>>>⟧.infallible decoded.now item.now
         ↔ ¬ (IsUtf8 item.now.items) }
     ensures values { ⟦<Utf8Predicate<P> as PredicateReflection>⟧.parameters_of decoded.now ≡ [] }
     ensures parts { ⟦<Utf8Predicate<P> as PredicateReflection>⟧.children_of decoded.now
-        ≡ part (codes "predicate") (P.output (utf8_part decoded.now))
-        (P.parameters_of (utf8_part decoded.now)) (P.children_of (utf8_part decoded.now)) }
+        ≡ part (codes "predicate") (P.output (inner_of decoded.now))
+        (P.parameters_of (inner_of decoded.now)) (P.children_of (inner_of decoded.now)) }
 {}

@@ -1,34 +1,33 @@
 //! Bytes that may be text.
-ghost use Rattle.std.specs.Prelude.{◌≡◌, [], Some, IfOk, IfSome, IsOk, MatchOption, codes};
+ghost use Rattle.std.specs.Prelude.{◌≡◌, Some, IfOk, IfSome, IsOk, MatchOption, codes};
 ghost use Rattle.std.specs.Prelude.{string_bytes};
 ghost use Rattle.std.specs.Str.{IsUtf8};
-ghost use Rattle.predicates_core.specs.Parts.{part};
 ghost use Rattle.predicates_text.specs.ViewFormulas.{IsDecoded, decoded_formula};
 ghost use Rattle.predicates_text.specs.ViewFormulaLaws.{decoded_text_fits, one_decoded};
 ghost use Rattle.predicates_text.specs.ViewFormulaLaws.{has_decoded_formula};
 ghost use Rattle.predicates_text.specs.ViewTexts.{text_or_other};
-ghost use Rattle.predicates_text.specs.AdapterParts.{utf8_part};
+ghost use Rattle.predicates_text.specs.AdapterParts.{inner_of};
 
+use crate::adapters::view::{View, ViewPredicate};
 use predicates_core::node::{leaf_node, printed, showing, showing_text};
-use predicates_core::reflection::{Case, Child, Parameter, PredicateReflection, describe};
+use predicates_core::reflection::Case;
 use predicates_core::{Predicate, ReadsContent, Total};
 use simdutf8::basic::from_utf8;
 use std::alloc::{AllocError, Global};
-use std::fmt;
 
 /// Evaluates its part on the text that the bytes encode, and is false on other bytes. Made by
 /// `PredicateStrExt::from_utf8`.
-#[derive(Debug, Clone, Copy, PartialEq, Eq, Drop)]
-pub struct Utf8Predicate<P> {
-    inner: P,
-}
+pub type Utf8Predicate<P> = ViewPredicate<Utf8View, P>;
 
-impl<P> Utf8Predicate<P> {
-    // The adapter over this predicate.
-    pub(crate) fn new(inner: P) -> Utf8Predicate<P>
-        ensures { utf8_part result ≡ inner }
-    {
-        Utf8Predicate { inner }
+/// The text that bytes encode.
+#[derive(Debug, Clone, Copy, PartialEq, Eq)]
+pub struct Utf8View;
+
+impl View for Utf8View {
+    ghost name_is = { codes "Utf8Predicate" };
+
+    fn adapter_name() -> &'static str {
+        "Utf8Predicate"
     }
 }
 
@@ -46,44 +45,17 @@ fn decode(alloc: Global, bytes: &Vec<u8>) -> Result<Option<String>, AllocError>
     }
 }
 
-impl<P: fmt::Display> fmt::Display for Utf8Predicate<P> {
-    ghost output = { λ p. P.output (utf8_part p) };
+impl<P: Predicate<String>> Predicate<Vec<u8>> for ViewPredicate<Utf8View, P> {
+    ghost lawful = { λ p. P.lawful (inner_of p) };
 
-    fn fmt<W: fmt::Write>(&self, f: &mut fmt::Formatter<W>) -> fmt::Result {
-        let inner = &self.inner;
-        write!(f, "{inner}")
-    }
-}
-
-impl<P: PredicateReflection> PredicateReflection for Utf8Predicate<P> {
-    ghost parameters_of = { λ p. [] };
-
-    ghost children_of = { λ p. part
-        (codes "predicate") (P.output (utf8_part p)) (P.parameters_of (utf8_part p))
-        (P.children_of (utf8_part p)) };
-
-    fn parameters(&self, alloc: Global) -> Result<Vec<Parameter>, AllocError> {
-        Ok(Vec::new(alloc))
-    }
-
-    fn children(&self, alloc: Global) -> Result<Vec<Child>, AllocError> {
-        let mut children = Vec::new(alloc);
-        children.push(describe(alloc, "predicate", &self.inner)?)?;
-        Ok(children)
-    }
-}
-
-impl<P: Predicate<String>> Predicate<Vec<u8>> for Utf8Predicate<P> {
-    ghost lawful = { λ p. P.lawful (utf8_part p) };
-
-    ghost formula = { λ p v. IsDecoded (P.output (utf8_part p)) (P.formula (utf8_part p)) v.items };
+    ghost formula = { λ p v. IsDecoded (P.output (inner_of p)) (P.formula (inner_of p)) v.items };
 
     ghost infallible = { λ p v. ¬ (IsUtf8 v.items) };
 
-    ghost text_fits = { λ p v f h. decoded_text_fits (text_or_other v) (P.text_fits (utf8_part p)) h };
+    ghost text_fits = { λ p v f h. decoded_text_fits (text_or_other v) (P.text_fits (inner_of p)) h };
 
     ghost one_formula = { λ p v f g lawful h k. one_decoded (text_or_other v)
-        (λ t x y. P.one_formula (utf8_part p) t x y lawful) h k };
+        (λ t x y. P.one_formula (inner_of p) t x y lawful) h k };
 
     #[tactic(auto, using(crate::proofs::AdapterAnswers::decoding))]
     fn eval(&self, alloc: Global, item: &Vec<u8>) -> Result<bool, AllocError> {
@@ -114,13 +86,13 @@ impl<P: Predicate<String>> Predicate<Vec<u8>> for Utf8Predicate<P> {
     }
 }
 
-impl<P: ReadsContent<String>> Total<Vec<u8>> for Utf8Predicate<P> {
-    ghost formula_of = { λ p v. decoded_formula (P.content_formula (utf8_part p))
-        (P.output (utf8_part p)) v.items };
+impl<P: ReadsContent<String>> Total<Vec<u8>> for ViewPredicate<Utf8View, P> {
+    ghost formula_of = { λ p v. decoded_formula (P.content_formula (inner_of p))
+        (P.output (inner_of p)) v.items };
 
-    ghost always_lawful = { λ p. P.always_lawful (utf8_part p) };
+    ghost always_lawful = { λ p. P.always_lawful (inner_of p) };
 
     ghost has_formula = { λ p v. has_decoded_formula
-        (P.content_formula (utf8_part p)) (P.output (utf8_part p)) (P.formula (utf8_part p)) v.items
-        (P.has_formula (utf8_part p)) };
+        (P.content_formula (inner_of p)) (P.output (inner_of p)) (P.formula (inner_of p)) v.items
+        (P.has_formula (inner_of p)) };
 }

@@ -8,7 +8,7 @@ ghost use Rattle.predicates_text.specs.LeafFormulas.{IsContainsLeaf, IsCountedLe
 ghost use Rattle.predicates_text.specs.LeafFormulaLaws.{contains_text_fits, one_contains, has_contains};
 ghost use Rattle.predicates_text.specs.Patterns.{contains_pattern, matches_pattern, matches_count};
 
-use crate::basics::count::MatchesPredicate;
+use crate::basics::matches::MatchesPredicate;
 use crate::leaf_case::text_case;
 use crate::search;
 use predicates_core::reflection::{Case, Child, Parameter, PredicateReflection};
@@ -24,6 +24,12 @@ pub struct ContainsPredicate {
 
 /// The predicate of the texts that contain the pattern, which it owns. It takes no memory, and
 /// neither does its `eval`.
+///
+/// ```
+/// let has_two = contains("Two".to_owned(alloc)?);
+/// assert!(rt; has_two.eval(alloc, &"One Two Three".to_owned(alloc)?)?);
+/// assert!(rt; !has_two.eval(alloc, &"One Three".to_owned(alloc)?)?);
+/// ```
 pub fn contains(pattern: String) -> ContainsPredicate
     ensures pattern { contains_pattern result ≡ string_bytes pattern }
     ensures formula { (v : Text) (f : Formula) →
@@ -37,6 +43,12 @@ impl ContainsPredicate {
     /// The predicate of the texts in which the greatest number of occurrences of the pattern, no
     /// two overlapping, is `count`. The empty pattern occurs before each character and at the end.
     /// It takes no memory, and neither does its `eval`.
+    ///
+    /// ```
+    /// let twice = contains("aa".to_owned(alloc)?).count(2);
+    /// assert!(rt; twice.eval(alloc, &"aaaaa".to_owned(alloc)?)?);
+    /// assert!(rt; !twice.eval(alloc, &"aaa".to_owned(alloc)?)?);
+    /// ```
     pub fn count(self, count: usize) -> MatchesPredicate
         ensures pattern { matches_pattern result ≡ contains_pattern self }
         ensures count { matches_count result ≡ count }

@@ -23,6 +23,12 @@ pub struct EndsWithPredicate {
 
 /// The predicate of the texts that end with the pattern, which it owns. It takes no memory, and
 /// neither does its `eval`.
+///
+/// ```
+/// let is_source = ends_with(".rt".to_owned(alloc)?);
+/// assert!(rt; is_source.eval(alloc, &"lib.rt".to_owned(alloc)?)?);
+/// assert!(rt; !is_source.eval(alloc, &"lib.rt.orig".to_owned(alloc)?)?);
+/// ```
 pub fn ends_with(pattern: String) -> EndsWithPredicate
     ensures pattern { ends_pattern result ≡ string_bytes pattern }
     ensures formula { (v : Text) (f : Formula) →

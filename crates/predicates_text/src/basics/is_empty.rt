@@ -20,6 +20,11 @@ pub struct IsEmptyPredicate;
 
 /// The predicate of the texts that have no characters. It takes no memory, and neither does its
 /// `eval`.
+///
+/// ```
+/// assert!(rt; is_empty().eval(alloc, &String::new(alloc))?);
+/// assert!(rt; !is_empty().eval(alloc, &" ".to_owned(alloc)?)?);
+/// ```
 pub fn is_empty() -> IsEmptyPredicate
     ensures { (v : Text) (f : Formula) →
         ⟦<IsEmptyPredicate as Predicate<String>>⟧.formula result v f

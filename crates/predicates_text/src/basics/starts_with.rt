@@ -23,6 +23,12 @@ pub struct StartsWithPredicate {
 
 /// The predicate of the texts that begin with the pattern, which it owns. It takes no memory, and
 /// neither does its `eval`.
+///
+/// ```
+/// let greets = starts_with("Hello".to_owned(alloc)?);
+/// assert!(rt; greets.eval(alloc, &"Hello World".to_owned(alloc)?)?);
+/// assert!(rt; !greets.eval(alloc, &"World, Hello".to_owned(alloc)?)?);
+/// ```
 pub fn starts_with(pattern: String) -> StartsWithPredicate
     ensures pattern { starts_pattern result ≡ string_bytes pattern }
     ensures formula { (v : Text) (f : Formula) →

@@ -16,7 +16,7 @@ ghost use Rattle.predicates_text.specs.Expressions.{IsReadFromText};
 
 use crate::expressions::RegexError;
 use crate::expressions::match_count::RegexMatchesPredicate;
-use crate::expressions::search::has_match;
+use crate::expressions::regex_search::has_match;
 use crate::leaf_case::text_case;
 use predicates_core::reflection::{Case, Child, Parameter, PredicateReflection};
 use predicates_core::{Predicate, ReadsContent, Total};
@@ -31,9 +31,15 @@ pub struct RegexPredicate {
     regex: Regex,
 }
 
-/// The predicate of the texts in which the pattern has a match anywhere, or why the pattern is
-/// refused: for its syntax, for its size, or for want of memory. A refused pattern is dropped.
-/// `eval` takes memory, and may be refused.
+/// The predicate of the texts in which the pattern has a match anywhere. The error says why there is
+/// none: the syntax is invalid, the pattern is too large, or memory ran out; the pattern is dropped
+/// then. `eval` takes memory too, and returns an error where it gets none.
+///
+/// ```
+/// let word = is_match(alloc, "T[a-z]*".to_owned(alloc)?)?;
+/// assert!(rt; word.eval(alloc, &"One Two".to_owned(alloc)?)?);
+/// assert!(rt; is_match(alloc, "T[a-z".to_owned(alloc)?).is_err());
+/// ```
 pub fn is_match(alloc: Global, pattern: String) -> Result<RegexPredicate, RegexError>
     ensures pattern { IfOk result (λ p. regex_text p ≡ string_bytes pattern) }
     ensures read { IfOk result (λ p. IsReadFromText p) }
@@ -51,7 +57,13 @@ pub fn is_match(alloc: Global, pattern: String) -> Result<RegexPredicate, RegexE
 
 impl RegexPredicate {
     /// The predicate of the texts in which the pattern has `count` matches, searched from the left
-    /// and without overlap. It takes no memory; `eval` does, and may be refused.
+    /// and without overlap. It takes no memory; `eval` does, and returns an error where it gets none.
+    ///
+    /// ```
+    /// let three = is_match(alloc, "T[a-z]*".to_owned(alloc)?)?.count(3);
+    /// assert!(rt; three.eval(alloc, &"One Two Three Two One".to_owned(alloc)?)?);
+    /// assert!(rt; !three.eval(alloc, &"One Two".to_owned(alloc)?)?);
+    /// ```
     pub fn count(self, count: usize) -> RegexMatchesPredicate
         ensures pattern { regex_matches_text result ≡ regex_text self }
         ensures meaning { regex_matches_meaning result ≡ regex_meaning self }

@@ -10,7 +10,7 @@ ghost use Rattle.predicates_text.specs.Expressions.{match_text, match_count_form
 ghost use Rattle.predicates_text.specs.Expressions.{regex_matches_text, regex_matches_meaning};
 ghost use Rattle.predicates_text.specs.Expressions.{regex_matches_count};
 
-use crate::expressions::search::match_count;
+use crate::expressions::regex_search::match_count;
 use crate::leaf_case::count_case;
 use predicates_core::reflection::{Case, Child, Parameter, PredicateReflection};
 use predicates_core::{Predicate, ReadsContent, Total};
@@ -18,7 +18,8 @@ use regex::Regex;
 use std::alloc::{AllocError, Global};
 use std::fmt;
 
-/// Whether a regular expression has so many matches in a text. Made by `RegexPredicate::count`.
+/// Whether a regular expression has a given number of matches in a text. Made by
+/// `RegexPredicate::count`.
 #[derive(Drop)]
 pub struct RegexMatchesPredicate {
     pattern: String,
@@ -27,7 +28,8 @@ pub struct RegexMatchesPredicate {
 }
 
 impl RegexMatchesPredicate {
-    // The predicate of the texts in which what was read in the pattern has so many matches.
+    // The predicate of the texts in which the expression that the pattern was read as has `count`
+    // matches.
     pub(crate) fn new(pattern: String, regex: Regex, count: usize) -> RegexMatchesPredicate
         ensures pattern { regex_matches_text result ≡ string_bytes pattern }
         ensures meaning { regex_matches_meaning result ≡ regex_pattern regex }

@@ -14,6 +14,11 @@ fn is_copied<T: fmt::Debug + Copy + Eq>(alloc: Global, value: T) -> Result<bool,
     Ok(copied == value && value.clone()? == copied && !shown.is_empty())
 }
 
+// Whether the value has this `Debug` form.
+fn is_shown_as<T: fmt::Debug>(alloc: Global, value: T, form: &str) -> Result<bool, AllocError> {
+    Ok(format!(in alloc; "{value:?}")?.as_str() == form)
+}
+
 fn part(alloc: Global, pattern: &str) -> Result<ContainsPredicate, AllocError> {
     Ok(contains(text(alloc, pattern)?))
 }
@@ -57,6 +62,18 @@ fn copied(rt: HostRuntime) -> Result<(), Fail> {
     assert!(rt; is_copied(alloc, is_empty().trim())?);
     assert!(rt; is_copied(alloc, is_empty().normalize())?);
     assert!(rt; is_copied(alloc, is_empty().from_utf8())?);
+    Ok(())
+}
+
+#[test]
+fn adapters_are_shown(rt: HostRuntime) -> Result<(), Fail> {
+    let (alloc, part) = (rt.alloc(), is_empty());
+    let trim = "TrimPredicate { inner: IsEmptyPredicate }";
+    let normalized = "NormalizedPredicate { inner: IsEmptyPredicate }";
+    let utf8 = "Utf8Predicate { inner: IsEmptyPredicate }";
+    assert!(rt; is_shown_as(alloc, part.trim(), trim)?);
+    assert!(rt; is_shown_as(alloc, part.normalize(), normalized)?);
+    assert!(rt; is_shown_as(alloc, part.from_utf8(), utf8)?);
     Ok(())
 }
 

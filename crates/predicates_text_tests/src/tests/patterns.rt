@@ -1,4 +1,4 @@
-//! What patterns match, how often, and which are refused.
+//! What patterns match, how often, and which are invalid.
 use predicates_core::Predicate;
 use predicates_testing::{describe, render_verdict, repeated, text};
 use predicates_text::{RegexMatchesPredicate, RegexPredicate, is_match};
@@ -72,10 +72,10 @@ var.is_match(^Hello.*$)
 #[test]
 fn refused_patterns(rt: HostRuntime) -> Result<(), Fail> {
     let alloc = rt.alloc();
-    for refused in ["(", ")", "[a", "*", "a{2,1}"] {
+    for invalid in ["(", ")", "[a", "*", "a{2,1}"] {
         assert!(rt;
-            is_match(alloc, text(alloc, refused)?).is_err(),
-            "{refused}"
+            is_match(alloc, text(alloc, invalid)?).is_err(),
+            "{invalid}"
         );
     }
     Ok(())

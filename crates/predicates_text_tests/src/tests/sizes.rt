@@ -26,7 +26,7 @@ fn explains_leaf<P: Predicate<String>>(
     Ok(is_described(alloc, leaf, label.as_str())? && explains(alloc, leaf, item, lines.as_str())?)
 }
 
-// Whether a count that prints the label finds so many places where it expects the other number.
+// Whether a count that prints the label finds the first of the numbers, where it expects the second.
 fn explains_count<P: Predicate<String>>(
     alloc: Global,
     counted: &P,
@@ -53,7 +53,7 @@ const ENDS: &str = "var.ends_with(\"";
 
 const END: &str = "\")";
 
-// Starts and ends of so many bytes.
+// Starts and ends of this many bytes.
 fn explains_ends(alloc: Global, length: u32) -> Result<bool, AllocError> {
     let text = repeated(alloc, "a", length, "")?;
     let (after, before) = (format!(in alloc; "{text}b")?, format!(in alloc; "b{text}")?);
@@ -86,7 +86,7 @@ fn explains_ends(alloc: Global, length: u32) -> Result<bool, AllocError> {
 
 const PART: &str = "var.contains(";
 
-// Parts of so many bytes.
+// Parts of this many bytes.
 fn explains_parts(alloc: Global, length: u32) -> Result<bool, AllocError> {
     let text = repeated(alloc, "a", length, "")?;
     let more = format!(in alloc; "b{text}b")?;
@@ -107,7 +107,7 @@ fn explains_parts(alloc: Global, length: u32) -> Result<bool, AllocError> {
     )
 }
 
-// So many places of one byte, and one place of so many bytes.
+// One byte, which occurs this many times, and one text of this many bytes.
 fn explains_counts(alloc: Global, length: u32) -> Result<bool, AllocError> {
     let item = repeated(alloc, "a", length, "b")?;
     let whole = contains(item.clone()?).count(1);
@@ -121,7 +121,7 @@ fn explains_counts(alloc: Global, length: u32) -> Result<bool, AllocError> {
 
 const PATTERN: &str = "var.is_match(";
 
-// Patterns and their matches in so many bytes.
+// Patterns and their matches in this many bytes.
 fn explains_patterns(alloc: Global, length: u32) -> Result<bool, Fail> {
     let item = repeated(alloc, "a", length, "")?;
     let more = format!(in alloc; "{item}b")?;
@@ -152,7 +152,7 @@ fn trims(alloc: Global, length: u32) -> Result<bool, AllocError> {
     )
 }
 
-// So many returns are handed on as line feeds.
+// This many carriage returns become line feeds.
 fn normalizes(alloc: Global, length: u32) -> Result<bool, AllocError> {
     let returns = repeated(alloc, "\r", length, "")?;
     let even = repeated(alloc, "\n", length, "")?;
@@ -164,7 +164,7 @@ fn normalizes(alloc: Global, length: u32) -> Result<bool, AllocError> {
     )
 }
 
-// So many bytes are handed on as a text, and refused with one more that is no text.
+// This many bytes are decoded, and with one more they are not UTF-8.
 fn decodes(alloc: Global, length: u32) -> Result<bool, AllocError> {
     let text = repeated(alloc, "a", length, "")?;
     let verdict = length == 0;
@@ -174,8 +174,8 @@ fn decodes(alloc: Global, length: u32) -> Result<bool, AllocError> {
     let mut bytes = text.into_bytes();
     let is_text = explains(alloc, &decoded, &bytes, lines.as_str())?;
     bytes.push(0xff)?;
-    let refused = "var.is_empty() = false\n  - error: Invalid UTF-8 string\n";
-    Ok(is_text && explains(alloc, &decoded, &bytes, refused)?)
+    let not_text = "var.is_empty() = false\n  - error: Invalid UTF-8 string\n";
+    Ok(is_text && explains(alloc, &decoded, &bytes, not_text)?)
 }
 
 #[test]

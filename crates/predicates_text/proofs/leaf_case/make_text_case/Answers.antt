@@ -1,6 +1,6 @@
 use Rattle.std.proofs.Common.{rules}
 use Rattle.predicates_core.proofs.Leaves.{IsCaseOf-showing, HasTruth-exactly}
-use Rattle.predicates_text.proofs.leaf_case.made_case.Goals as goal
+use Rattle.predicates_text.proofs.leaf_case.make_text_case.Goals as goal
 
 pub returns : goal.returns
 returns g c =
