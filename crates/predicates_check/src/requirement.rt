@@ -53,6 +53,12 @@ pub fn require<P: Predicate<Item>, Item>(
 }
 
 /// As `require`, with a label before the lines: `request 17: ` and then the lines of the case.
+///
+/// ```
+/// let unmet = require_as(alloc, "request 17", &predicate::ge(5), &3).err().ok_or("met")?;
+/// let text = unmet.to_string(alloc)?;
+/// assert!(rt; text.as_str() == "request 17: var >= 5 = false\n  - var: 3\n");
+/// ```
 pub fn require_as<P: Predicate<Item>, Item>(
     alloc: Global,
     label: &str,

@@ -131,6 +131,12 @@ impl<P: Total<Vec<u8>>> Total<Snapshot> for FileContentPredicate<P> {
 pub trait PredicateFileContentExt: Predicate<Vec<u8>> {
     /// Holds where the snapshot has a content and this predicate holds of its bytes. `eval` does not
     /// allocate where this one does not on the bytes, or where there is no content.
+    ///
+    /// ```
+    /// let short = predicate::le(9).of_len().from_file_path();
+    /// assert!(rt; short.eval(alloc, &file)?);
+    /// assert!(rt; !short.eval(alloc, &gone)?); // without a content
+    /// ```
     fn from_file_path(self) -> FileContentPredicate<Self>
     where
         Self: Sized,

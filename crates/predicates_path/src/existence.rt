@@ -21,6 +21,11 @@ pub struct ExistencePredicate {
 }
 
 /// Holds where the path leads to something. It does not allocate.
+///
+/// ```
+/// assert!(rt; predicate::path::exists().eval(alloc, &file)?);
+/// assert!(rt; !predicate::path::exists().eval(alloc, &gone)?);
+/// ```
 pub fn exists() -> ExistencePredicate
     ensures presence { asks_presence result ≡ true }
     ensures formula { (s : Snapshot) (f : Formula)
@@ -31,6 +36,11 @@ pub fn exists() -> ExistencePredicate
 }
 
 /// Holds where the path leads to nothing, or is a link without a target. It does not allocate.
+///
+/// ```
+/// assert!(rt; predicate::path::missing().eval(alloc, &gone)?);
+/// assert!(rt; !predicate::path::missing().eval(alloc, &file)?);
+/// ```
 pub fn missing() -> ExistencePredicate
     ensures presence { asks_presence result ≡ false }
     ensures formula { (s : Snapshot) (f : Formula)

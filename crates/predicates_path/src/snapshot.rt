@@ -63,6 +63,11 @@ impl Snapshot {
     /// path leads to a regular file; it never waits for a pipe or a device. A failed query is kept
     /// as a `PathFault`. It fails only where memory runs out, here or in the system. It allocates
     /// the path and the content.
+    ///
+    /// ```
+    /// let gone = Snapshot::take(&rt, alloc, "no such file")?;
+    /// assert!(rt; gone.plain() == Err(PathFault::NotFound));
+    /// ```
     pub fn take<R: Files + AllocGlobal>(
         rt: &R,
         alloc: Global,
@@ -89,6 +94,12 @@ impl Snapshot {
 
     /// A snapshot made of the given parts, even of parts that no file system would give together.
     /// It does not allocate.
+    ///
+    /// ```
+    /// let (kind, content) = (Ok(FileType::File), Ok(Vec::from_slice(alloc, b"hello")?));
+    /// let file = Snapshot::from_parts("a".to_owned(alloc)?, kind, kind, content);
+    /// assert!(rt; file.path() == "a");
+    /// ```
     pub fn from_parts(
         path: String,
         plain: Result<FileType, PathFault>,

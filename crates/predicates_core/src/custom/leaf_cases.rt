@@ -10,8 +10,8 @@ use crate::reflection::Case;
 use std::alloc::{AllocError, Global};
 use std::fmt;
 
-/// What `find_case` of a leaf without products is to answer, where the leaf `holds` or does not. It
-/// takes memory for the case alone.
+/// The `find_case` of a leaf without products, from its verdict `holds`. It takes memory for the
+/// case alone.
 #[tactic(auto, using(crate::proofs::Leaves::leaves))]
 pub fn bare_case<P: fmt::Display>(
     alloc: Global,
@@ -28,7 +28,7 @@ pub fn bare_case<P: fmt::Display>(
     made_bare_case(alloc, leaf, holds)
 }
 
-// The case that there is, in a function of its own, so that an answer without one needs no frame.
+// Makes the case. It is not inlined, so that a caller that gets none uses no stack for it.
 #[inline(never)]
 #[tactic(auto, using(crate::proofs::Leaves::leaves))]
 fn made_bare_case<P: fmt::Display>(
@@ -42,7 +42,7 @@ fn made_bare_case<P: fmt::Display>(
     Ok(Some(leaf_node(alloc, printed(alloc, leaf)?, holds)))
 }
 
-/// The same of a leaf that shows the item's debug form as its product `var`.
+/// The same for a leaf that shows the item's debug form as its product `var`.
 #[tactic(auto, using(crate::proofs::Leaves::leaves))]
 pub fn showing_case<P: fmt::Display, Item: fmt::Debug>(
     alloc: Global,

@@ -26,6 +26,12 @@ pub struct HashableInPredicate<T: Eq + Hash> {
 /// The predicate that holds of each item that equals one of those that the iterator gives, of which
 /// the first of equal ones stays in its place and the others are dropped. The iterator has to end.
 /// Where memory is refused, it and what it gave are dropped.
+///
+/// ```
+/// let distinct = predicate::in_hash(alloc, [5, 1, 3, 1])?;
+/// assert!(rt; distinct.eval(alloc, &3)?);
+/// assert!(rt; !distinct.eval(alloc, &4)?);
+/// ```
 pub fn in_hash<I: IntoIterator<Item = T>, T: fmt::Debug + Hash + Eq + Drop>(
     alloc: Global,
     iter: I,

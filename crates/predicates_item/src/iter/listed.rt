@@ -28,6 +28,12 @@ pub struct InPredicate<T> {
 /// The predicate that holds of each item that equals one of those that the iterator gives, all of
 /// which are kept in order. The iterator has to end. Where memory is refused, it and what it gave
 /// are dropped.
+///
+/// ```
+/// let few = predicate::in_iter(alloc, [5, 1, 3])?;
+/// assert!(rt; few.eval(alloc, &3)?);
+/// assert!(rt; !few.eval(alloc, &4)?);
+/// ```
 pub fn in_iter<I: IntoIterator<Item = T>, T: fmt::Debug + PartialEq + Drop>(
     alloc: Global,
     iter: I,
@@ -57,6 +63,12 @@ impl<T: PartialEq> InPredicate<T> {
 impl<T: Ord> InPredicate<T> {
     /// The same members in ascending order, each as often as before, to be searched by halving.
     /// Sorting takes memory; where it is refused, the members are dropped.
+    ///
+    /// ```
+    /// let sorted = predicate::in_iter(alloc, [5, 1, 3])?.sort()?;
+    /// assert!(rt; sorted.eval(alloc, &3)?);
+    /// assert!(rt; !sorted.eval(alloc, &4)?);
+    /// ```
     #[tactic(auto, using(crate::proofs::Memberships::same_rearranged))]
     pub fn sort(self) -> Result<OrdInPredicate<T>, AllocError>
     where

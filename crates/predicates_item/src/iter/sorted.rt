@@ -25,6 +25,13 @@ impl<T: Ord> OrdInPredicate<T> {
     /// Whether some member equals the item. Afterwards `steps` is the number of comparisons of
     /// this call, which is at most the number of binary digits of the number of members. It takes
     /// no memory.
+    ///
+    /// ```
+    /// let sorted = predicate::in_iter(alloc, [5, 1, 3])?.sort()?;
+    /// let mut steps = Steps::new();
+    /// assert!(rt; sorted.search_counted(&3, &mut steps));
+    /// assert!(rt; steps.count() <= 2);
+    /// ```
     pub fn search_counted(&self, item: &T, steps: &mut Steps) -> bool
         ensures member { result ≡ has_equal T.eq (members_of self.now) item.now }
         ensures bound { steps.new ≤ digits (length (members_of self.now)) }
