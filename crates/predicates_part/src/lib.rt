@@ -155,10 +155,10 @@ pub trait PredicatePartExt<U>: Predicate<U> {
     /// not hold of `Ok`. It takes no memory of its own, and prints what this one prints.
     ///
     /// ```
-    /// let refused = predicate::eq(7u8).of_err();
+    /// let seven = predicate::eq(7u8).of_err();
     /// let (answered, failed): (Result<u16, u8>, Result<u16, u8>) = (Ok(200), Err(7));
-    /// assert!(rt; refused.eval(alloc, &failed)?);
-    /// assert!(rt; !refused.eval(alloc, &answered)?);
+    /// assert!(rt; seven.eval(alloc, &failed)?);
+    /// assert!(rt; !seven.eval(alloc, &answered)?);
     /// ```
     fn of_err(self) -> ErrPredicate<Self>
     where
@@ -168,8 +168,8 @@ pub trait PredicatePartExt<U>: Predicate<U> {
     /// The predicate of a list that holds where this one holds of each member. It prints
     /// `each(..)`, and takes no memory of its own.
     ///
-    /// `eval` asks no member behind the first of which this one does not hold. The case of a list
-    /// that holds has a node for each member, so it takes memory in proportion to the list.
+    /// `eval` stops at the first member of which this one does not hold. The case of a list that
+    /// holds has a node for each member, so it takes memory in proportion to the list.
     ///
     /// ```
     /// let adults = predicate::ge(18).of_each();
@@ -184,8 +184,8 @@ pub trait PredicatePartExt<U>: Predicate<U> {
     /// The predicate of a list that holds where this one holds of a member. It prints `any(..)`,
     /// and takes no memory of its own.
     ///
-    /// `eval` asks no member behind the first of which this one holds. The case of a list that does
-    /// not hold has a node for each member, so it takes memory in proportion to the list.
+    /// `eval` stops at the first member of which this one holds. The case of a list that does not
+    /// hold has a node for each member, so it takes memory in proportion to the list.
     ///
     /// ```
     /// let accompanied = predicate::ge(18).of_any();

@@ -25,13 +25,13 @@ pub fn bare_case<P: fmt::Display>(
     if holds != expected {
         return Ok(None);
     }
-    made_bare_case(alloc, leaf, holds)
+    make_bare_case(alloc, leaf, holds)
 }
 
 // Makes the case. It is not inlined, so that a caller that gets none uses no stack for it.
 #[inline(never)]
 #[tactic(auto, using(crate::proofs::Leaves::leaves))]
-fn made_bare_case<P: fmt::Display>(
+fn make_bare_case<P: fmt::Display>(
     alloc: Global,
     leaf: &P,
     holds: bool,
@@ -58,13 +58,13 @@ pub fn showing_case<P: fmt::Display, Item: fmt::Debug>(
     if holds != expected {
         return Ok(None);
     }
-    made_showing_case(alloc, leaf, holds, item)
+    make_showing_case(alloc, leaf, holds, item)
 }
 
-// As `made_bare_case`.
+// As `make_bare_case`, with the product.
 #[inline(never)]
 #[tactic(auto, using(crate::proofs::Leaves::leaves))]
-fn made_showing_case<P: fmt::Display, Item: fmt::Debug>(
+fn make_showing_case<P: fmt::Display, Item: fmt::Debug>(
     alloc: Global,
     leaf: &P,
     holds: bool,
