@@ -31,7 +31,7 @@ pub struct BinaryFilePredicate {
 }
 
 /// Holds where the content equals the snapshot's. It fails with the snapshot's fault where that has
-/// no content; the path is then dropped. It does not allocate.
+/// no content; the path is then dropped. It takes no memory.
 ///
 /// ```
 /// let same = predicate::path::eq_file(file)?;
@@ -59,7 +59,7 @@ pub fn eq_file(snapshot: Snapshot) -> Result<BinaryFilePredicate, PathFault>
 
 impl BinaryFilePredicate {
     /// The predicate that compares texts and contents with these bytes, where they are UTF-8. Where
-    /// they are not, it is `None`, and the path and the bytes are dropped. It does not allocate.
+    /// they are not, it is `None`, and the path and the bytes are dropped. It takes no memory.
     ///
     /// ```
     /// let same = predicate::path::eq_file(file)?.utf8().ok_or("no text")?;

@@ -20,7 +20,7 @@ pub struct ExistencePredicate {
     exists: bool,
 }
 
-/// Holds where the path leads to something. It does not allocate.
+/// Holds where the path leads to something. It takes no memory.
 ///
 /// ```
 /// assert!(rt; predicate::path::exists().eval(alloc, &file)?);
@@ -35,7 +35,7 @@ pub fn exists() -> ExistencePredicate
     ExistencePredicate { exists: true }
 }
 
-/// Holds where the path leads to nothing, or is a link without a target. It does not allocate.
+/// Holds where the path leads to nothing, or is a link without a target. It takes no memory.
 ///
 /// ```
 /// assert!(rt; predicate::path::missing().eval(alloc, &gone)?);

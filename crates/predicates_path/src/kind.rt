@@ -30,7 +30,7 @@ pub struct FileTypePredicate {
 }
 
 /// Holds where a regular file is at the path itself, without following links, and not where the kind
-/// is a fault. It does not allocate.
+/// is a fault. It takes no memory.
 ///
 /// ```
 /// assert!(rt; predicate::path::is_file().eval(alloc, &file)?);
@@ -50,7 +50,7 @@ pub fn is_file() -> FileTypePredicate
 }
 
 /// Holds where a directory is at the path itself, without following links, and not where the kind
-/// is a fault. It does not allocate.
+/// is a fault. It takes no memory.
 ///
 /// ```
 /// assert!(rt; !predicate::path::is_dir().eval(alloc, &file)?);
@@ -68,7 +68,7 @@ pub fn is_dir() -> FileTypePredicate
     }
 }
 
-/// Holds where a link is at the path itself, whatever it leads to. It does not allocate.
+/// Holds where a link is at the path itself, whatever it leads to. It takes no memory.
 ///
 /// ```
 /// assert!(rt; predicate::path::is_symlink().eval(alloc, &link)?);
@@ -109,7 +109,7 @@ fn show_found(
 
 impl FileTypePredicate {
     /// Holds where a path leads to the same kind of file as the snapshot's, after following links.
-    /// It fails with the snapshot's fault where that has no kind. It does not allocate.
+    /// It fails with the snapshot's fault where that has no kind. It takes no memory.
     ///
     /// ```
     /// let same = FileTypePredicate::from_path(&link)?; // which leads to a file
@@ -131,7 +131,7 @@ impl FileTypePredicate {
         })
     }
 
-    /// The predicate of the same kind, which follows links where `yes` is true. It does not allocate.
+    /// The predicate of the same kind, which follows links where `yes` is true. It takes no memory.
     ///
     /// ```
     /// let leads_to_file = predicate::path::is_file().follow_links(true);
