@@ -111,8 +111,8 @@ impl<M: ReadsContent<Item>, Item: Content, N: AsStaticStr> ReadsContent<Item>
 
 /// Names any predicate.
 pub trait PredicateNameExt<Item>: Predicate<Item> {
-    /// The same predicate under a name, which is a `&'static str` or, where no lifetime may stand
-    /// in the type, as in a box, a `StaticText`. It takes no memory.
+    /// The same predicate under a name: a `&'static str`, or a `StaticText` where the type must not
+    /// contain a lifetime, as in a box. It takes no memory.
     ///
     /// ```
     /// let adult = predicate::ge(18).name("adult");

@@ -38,7 +38,7 @@ pub type AllOfPredicate<P> = RulesPredicate<Every, P>;
 /// Holds where one of its rules does. Made by `any_of`.
 pub type AnyOfPredicate<P> = RulesPredicate<AtLeastOne, P>;
 
-/// Each of the rules holds; no rule is evaluated behind the first that does not. It prints
+/// Holds where each of the rules does; `eval` stops at the first that does not. It prints
 /// `all_of(..)`, and without rules it holds. Making it takes no memory.
 ///
 /// ```
@@ -55,7 +55,7 @@ pub fn all_of<P>(rules: Vec<P>) -> AllOfPredicate<P>
     }
 }
 
-/// One of the rules holds; no rule is evaluated behind the first that does. It prints `any_of(..)`,
+/// Holds where one of the rules does; `eval` stops at the first that does. It prints `any_of(..)`,
 /// and without rules it does not hold. Making it takes no memory.
 ///
 /// ```

@@ -27,7 +27,7 @@ pub struct FnPredicate<F, T> {
 /// The predicate that asks the function, under the name `fn`.
 ///
 /// The function may be called on every item (`callable`) and has one answer for each
-/// (`one_answer`). It takes no memory, and neither does its `eval`. The function is kept.
+/// (`one_answer`). It takes no memory, and neither does its `eval`.
 ///
 /// ```
 /// let large = predicate::function(|x: &i32| *x >= 5);

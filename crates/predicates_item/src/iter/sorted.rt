@@ -8,8 +8,8 @@ use predicates_core::{Predicate, ReadsContent, Total};
 use std::alloc::{AllocError, Global};
 use std::fmt;
 
-/// Holds of an item that equals one of some values, which are kept in ascending order and searched
-/// by halving. Made by `InPredicate::sort`.
+/// Holds of an item that equals one of its members, which are kept in ascending order and found by
+/// binary search. Made by `InPredicate::sort`.
 #[derive(Debug, PartialEq, Eq, Drop)]
 pub struct OrdInPredicate<T: Ord> {
     pub(crate) members: Vec<T>,
@@ -38,8 +38,8 @@ impl<T: Ord> OrdInPredicate<T> {
     {
         steps.clear();
         // The `left` members from `base` on are undecided, and `found` is the end of the members
-        // up to an equal one, or 0. It is no `bool`, since the compiler would then jump on what a
-        // comparison says, which no processor can foresee.
+        // up to an equal one, or 0. It is no `bool`, since the compiler would then branch on each
+        // comparison, which no processor predicts.
         let members = self.members.as_slice();
         let mut base = 0;
         let mut left = members.len();

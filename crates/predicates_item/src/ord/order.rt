@@ -46,7 +46,7 @@ pub struct OrdPredicate<T> {
 impl<T: Ord> OrdPredicate<T> {
     ghost use Rattle.predicates_item.specs.Comparison.{ord_truth};
 
-    // Whether the item stands in the order to the constant.
+    // Whether the item has the order to the constant.
     fn holds(&self, item: &T) -> bool
         ensures { result ≡ ord_truth self.now.op (T.cmp item.now self.now.constant) }
     {
