@@ -87,9 +87,9 @@ fn of_values_that_may_be_absent(rt: HostRuntime) -> Result<(), Fail> {
     assert!(rt; found.eval(alloc, &answered)?);
     assert!(rt; !found.eval(alloc, &failed)?);
 
-    let refused = predicate::eq(7u8).of_err();
+    let seven = predicate::eq(7u8).of_err();
     let (answered, failed): (Result<u16, u8>, Result<u16, u8>) = (Ok(200), Err(7));
-    assert!(rt; refused.eval(alloc, &failed)?);
-    assert!(rt; !refused.eval(alloc, &answered)?);
+    assert!(rt; seven.eval(alloc, &failed)?);
+    assert!(rt; !seven.eval(alloc, &answered)?);
     Ok(())
 }
