@@ -23,6 +23,12 @@ use predicates_core::Predicate;
 /// Combines any predicates over one item type.
 pub trait PredicateBooleanExt<Item>: Predicate<Item> {
     /// Both `self` and `other` hold; `other` is evaluated only where `self` holds.
+    ///
+    /// ```
+    /// let between = predicate::ge(5).and(predicate::le(10));
+    /// assert!(rt; between.eval(alloc, &7)?);
+    /// assert!(rt; !between.eval(alloc, &11)?);
+    /// ```
     fn and<B: Predicate<Item>>(self, other: B) -> AndPredicate<Self, B, Item>
     where
         Self: Sized,
@@ -30,6 +36,12 @@ pub trait PredicateBooleanExt<Item>: Predicate<Item> {
         ensures right { right_of result ≡ other };
 
     /// `self` or `other` holds; `other` is evaluated only where `self` does not hold.
+    ///
+    /// ```
+    /// let outside = predicate::lt(5).or(predicate::gt(10));
+    /// assert!(rt; outside.eval(alloc, &11)?);
+    /// assert!(rt; !outside.eval(alloc, &7)?);
+    /// ```
     fn or<B: Predicate<Item>>(self, other: B) -> OrPredicate<Self, B, Item>
     where
         Self: Sized,
@@ -37,6 +49,12 @@ pub trait PredicateBooleanExt<Item>: Predicate<Item> {
         ensures right { right_of result ≡ other };
 
     /// Exactly one of `self` and `other` holds; both are evaluated.
+    ///
+    /// ```
+    /// let one = predicate::ge(5).xor(predicate::ge(10));
+    /// assert!(rt; one.eval(alloc, &7)?);
+    /// assert!(rt; !one.eval(alloc, &11)?);
+    /// ```
     fn xor<B: Predicate<Item>>(self, other: B) -> XorPredicate<Self, B, Item>
     where
         Self: Sized,
@@ -44,6 +62,12 @@ pub trait PredicateBooleanExt<Item>: Predicate<Item> {
         ensures right { right_of result ≡ other };
 
     /// `self` does not hold.
+    ///
+    /// ```
+    /// let small = predicate::ge(5).not();
+    /// assert!(rt; small.eval(alloc, &3)?);
+    /// assert!(rt; !small.eval(alloc, &7)?);
+    /// ```
     fn not(self) -> NotPredicate<Self, Item>
     where
         Self: Sized,

@@ -111,8 +111,15 @@ impl<M: ReadsContent<Item>, Item: Content, N: AsStaticStr> ReadsContent<Item>
 
 /// Names any predicate.
 pub trait PredicateNameExt<Item>: Predicate<Item> {
-    /// The same predicate under a name, which is a `&'static str` or, where no lifetime may stand
-    /// in the type, as in a box, a `StaticText`. It takes no memory.
+    /// The same predicate under a name: a `&'static str`, or a `StaticText` where the type must not
+    /// contain a lifetime, as in a box. It takes no memory.
+    ///
+    /// ```
+    /// let adult = predicate::ge(18).name("adult");
+    /// let case = adult.find_case(alloc, false, &17)?.ok_or("no case")?;
+    /// let lines = render(alloc, &case)?;
+    /// assert!(rt; lines.as_str() == "adult = false\n  adult: var >= 18 = false\n    - var: 17\n");
+    /// ```
     fn name<N: AsStaticStr>(self, name: N) -> NamePredicate<Self, Item, N>
     where
         Self: Sized,

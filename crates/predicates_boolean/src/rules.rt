@@ -38,8 +38,14 @@ pub type AllOfPredicate<P> = RulesPredicate<Every, P>;
 /// Holds where one of its rules does. Made by `any_of`.
 pub type AnyOfPredicate<P> = RulesPredicate<AtLeastOne, P>;
 
-/// Each of the rules holds; no rule is evaluated behind the first that does not. It prints
+/// Holds where each of the rules does; `eval` stops at the first that does not. It prints
 /// `all_of(..)`, and without rules it holds. Making it takes no memory.
+///
+/// ```
+/// let all = predicate::all_of(vec![in alloc; predicate::ge(5), predicate::ge(10)]?);
+/// assert!(rt; all.eval(alloc, &11)?);
+/// assert!(rt; !all.eval(alloc, &7)?);
+/// ```
 pub fn all_of<P>(rules: Vec<P>) -> AllOfPredicate<P>
     ensures { rules_of result ≡ rules.items }
 {
@@ -49,8 +55,14 @@ pub fn all_of<P>(rules: Vec<P>) -> AllOfPredicate<P>
     }
 }
 
-/// One of the rules holds; no rule is evaluated behind the first that does. It prints `any_of(..)`,
+/// Holds where one of the rules does; `eval` stops at the first that does. It prints `any_of(..)`,
 /// and without rules it does not hold. Making it takes no memory.
+///
+/// ```
+/// let any = predicate::any_of(vec![in alloc; predicate::eq(5), predicate::eq(10)]?);
+/// assert!(rt; any.eval(alloc, &10)?);
+/// assert!(rt; !any.eval(alloc, &7)?);
+/// ```
 pub fn any_of<P>(rules: Vec<P>) -> AnyOfPredicate<P>
     ensures { rules_of result ≡ rules.items }
 {

@@ -9,7 +9,7 @@ use predicates_core::Predicate;
 use predicates_core::reflection::{Case, render, render_onto};
 use std::alloc::{AllocError, Global};
 
-// The case where the predicate does not hold. Where it holds, `eval` alone is asked.
+// The case where the predicate does not hold. Where it holds, only `eval` is called.
 fn find_reason<P: Predicate<Item>, Item>(
     alloc: Global,
     predicate: &P,
@@ -26,10 +26,10 @@ fn find_reason<P: Predicate<Item>, Item>(
     predicate.find_case(alloc, false, item)
 }
 
-/// Asks that the predicate holds of the item. Where it does not, the error has the lines of its
+/// Requires that the predicate holds of the item. Where it does not, the error has the lines of its
 /// case.
 ///
-/// Where it holds, this takes what `eval` takes; else memory for the case and its lines.
+/// Where it holds, this takes what memory `eval` takes; else memory for the case and its lines.
 ///
 /// ```
 /// let between = predicate::ge(5).and(predicate::le(10));
@@ -53,6 +53,12 @@ pub fn require<P: Predicate<Item>, Item>(
 }
 
 /// As `require`, with a label before the lines: `request 17: ` and then the lines of the case.
+///
+/// ```
+/// let unmet = require_as(alloc, "request 17", &predicate::ge(5), &3).err().ok_or("met")?;
+/// let text = unmet.to_string(alloc)?;
+/// assert!(rt; text.as_str() == "request 17: var >= 5 = false\n  - var: 3\n");
+/// ```
 pub fn require_as<P: Predicate<Item>, Item>(
     alloc: Global,
     label: &str,

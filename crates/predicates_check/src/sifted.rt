@@ -22,8 +22,14 @@ pub struct Sifted<T> {
     pub rejected: Vec<Rejection<T>>,
 }
 
-/// Keeps the items of which the predicate holds, and gives each other one its reason. It takes
-/// memory for both lists and for the cases; where that is refused, the items are dropped.
+/// Keeps the items of which the predicate holds, and gives a reason for each other one. It takes
+/// memory for both lists and for the cases; where it runs out, the items are dropped.
+///
+/// ```
+/// let sifted = sift(alloc, &predicate::ge(5), vec![in alloc; 3, 7]?)?;
+/// assert!(rt; sifted.kept.as_slice() == [7].as_slice());
+/// assert!(rt; sifted.rejected.len() == 1);
+/// ```
 pub fn sift<P: Predicate<T>, T: Drop>(
     alloc: Global,
     predicate: &P,

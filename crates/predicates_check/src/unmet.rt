@@ -15,7 +15,7 @@ use std::fmt;
 pub enum Unmet {
     /// The predicate does not hold: the label, where there is one, and the lines of the case.
     Fails(String),
-    /// Memory was refused, so there is no verdict.
+    /// Memory ran out, so there is no verdict.
     NoMemory,
 }
 

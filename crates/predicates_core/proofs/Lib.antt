@@ -7,6 +7,7 @@ pub mod FirstReasonOf
 pub mod Shown
 pub mod CombinedLemmas
 pub mod Leaves
+pub mod PresentCases
 pub mod Added
 pub mod Forests
 pub mod Lines

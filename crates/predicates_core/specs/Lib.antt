@@ -9,6 +9,7 @@ pub mod Asked
 pub mod Alike
 pub mod Leaves
 pub mod LeafLaws
+pub mod Present
 pub mod Several
 pub mod Laws
 pub mod Added

@@ -2,7 +2,7 @@
 //! leaves and of combinators whose formula is that of a combinator of the library.
 //!
 //! The `find_case` of the library's combinators evaluates before it makes a case. So below n nested
-//! combinators a part may be asked n + 1 times, as often as its text is printed into the case.
+//! combinators a part may be evaluated n + 1 times, as often as its text is printed into the case.
 mod children;
 mod join;
 mod leaf_cases;

@@ -6,8 +6,8 @@
 //! ```
 ghost use Rattle.predicates_core.specs.Laws.{FirstReasons, NoneIsEmpty, OneChild};
 
-/// Each formula has exactly one first reason, which has a leaf at least. So a case that is cut down to
-/// it is never without one.
+/// Each formula has exactly one first reason, and that has at least one leaf. So a case that is cut
+/// down to it always shows a leaf.
 pub fn first_reasons()
     ensures one { FirstReasons }
     ensures some { NoneIsEmpty }

@@ -5,7 +5,7 @@
 //! Ok(Some(unary_node(alloc, text, expected, "predicate", part)?))
 //! ```
 //!
-//! Each call is refused where memory is, and then drops what it was handed.
+//! A call fails only where memory runs out, and then drops its arguments.
 ghost use Rattle.std.specs.Prelude.{◌≡◌, [], ◌∷◌, codes, Some, IfOk, IfSome, string_bytes};
 ghost use Rattle.predicates_core.specs.Shows.{IsNode, found_parts};
 ghost use Rattle.predicates_core.specs.Leaves.{IsShowing};
@@ -17,8 +17,13 @@ use std::fmt;
 // The bytes that a printed text has room for at first.
 const ROOM: usize = 64;
 
-/// What the value prints; it has room for 64 bytes at first, so that a short text takes memory
-/// once.
+/// What the value prints, in a text with room for 64 bytes at first, so that a short one takes
+/// memory once.
+///
+/// ```
+/// let text = printed(alloc, &predicate::ge(5))?;
+/// assert!(rt; text.as_str() == "var >= 5");
+/// ```
 pub fn printed<T: fmt::Display>(alloc: Global, value: &T) -> Result<String, AllocError>
     ensures { IfOk result (λ text. IfSome (T.output value.now) (λ bytes. string_bytes text ≡ bytes)) }
 {
@@ -27,7 +32,12 @@ pub fn printed<T: fmt::Display>(alloc: Global, value: &T) -> Result<String, Allo
     Ok(text)
 }
 
-/// A node alone, without products. It takes no memory.
+/// A node without products and children. It takes no memory.
+///
+/// ```
+/// let case = leaf_node(alloc, "never".to_owned(alloc)?, false);
+/// assert!(rt; !case.root().result());
+/// ```
 #[inline(always)] // a call would copy the case
 pub fn leaf_node(alloc: Global, text: String, outcome: bool) -> Case
     ensures { IsNode (Some (string_bytes text)) outcome [] result }
@@ -36,6 +46,13 @@ pub fn leaf_node(alloc: Global, text: String, outcome: bool) -> Case
 }
 
 /// A node over one part, which stands under the name.
+///
+/// ```
+/// let part = leaf_node(alloc, "a".to_owned(alloc)?, false);
+/// let whole = unary_node(alloc, "(! a)".to_owned(alloc)?, true, "predicate", part)?;
+/// let lines = render(alloc, &whole)?;
+/// assert!(rt; lines.as_str() == "(! a) = true\n  predicate: a = false\n");
+/// ```
 pub fn unary_node(
     alloc: Global,
     text: String,
@@ -50,6 +67,13 @@ pub fn unary_node(
 }
 
 /// A node over a left and a right part, under the names `left` and `right`.
+///
+/// ```
+/// let (a, b) = ("a".to_owned(alloc)?, "b".to_owned(alloc)?);
+/// let (left, right) = (leaf_node(alloc, a, true), leaf_node(alloc, b, true));
+/// let whole = binary_node(alloc, "(a && b)".to_owned(alloc)?, true, left, right)?;
+/// assert!(rt; whole.root().children().count() == 2);
+/// ```
 pub fn binary_node(
     alloc: Global,
     text: String,
@@ -86,7 +110,14 @@ pub fn binary_node_of(
     }
 }
 
-/// The case with a value more under the name, the last of its root's products; the value is kept.
+/// Adds a product to the root, behind those that are there. The value is moved into the case.
+///
+/// ```
+/// let case = leaf_node(alloc, "even".to_owned(alloc)?, false);
+/// let case = showing(case, "remainder", "1".to_owned(alloc)?)?;
+/// let lines = render(alloc, &case)?;
+/// assert!(rt; lines.as_str() == "even = false\n  - remainder: 1\n");
+/// ```
 #[inline(always)] // a call would copy the case
 pub fn showing(case: Case, name: &'static str, value: String) -> Result<Case, AllocError>
     ensures { IfOk result (IsShowing name.entry.now (Some (string_bytes value)) case) }
@@ -94,7 +125,14 @@ pub fn showing(case: Case, name: &'static str, value: String) -> Result<Case, Al
     case.add_product(Product::new(name, value))
 }
 
-/// The case with a text more under the name, the last of its root's products; the text is copied.
+/// Adds a product to the root, behind those that are there. The text is copied.
+///
+/// ```
+/// let case = leaf_node(alloc, "is text".to_owned(alloc)?, false);
+/// let case = showing_text(alloc, case, "error", "invalid")?;
+/// let lines = render(alloc, &case)?;
+/// assert!(rt; lines.as_str() == "is text = false\n  - error: invalid\n");
+/// ```
 #[inline(always)] // a call would copy the case
 pub fn showing_text(
     alloc: Global,
@@ -107,7 +145,14 @@ pub fn showing_text(
     showing(case, name, String::from_str(alloc, text)?)
 }
 
-/// The case with the item's debug form as the product `var`, the last of its root's products.
+/// Adds the item's debug form as the product `var`, behind those that are there.
+///
+/// ```
+/// let case = leaf_node(alloc, "var >= 5".to_owned(alloc)?, false);
+/// let case = showing_item(alloc, case, &3)?;
+/// let lines = render(alloc, &case)?;
+/// assert!(rt; lines.as_str() == "var >= 5 = false\n  - var: 3\n");
+/// ```
 pub fn showing_item<T: fmt::Debug>(alloc: Global, case: Case, item: &T) -> Result<Case, AllocError>
     ensures { IfOk result (IsShowing (codes "var") (T.debug_output item.now) case) }
 {

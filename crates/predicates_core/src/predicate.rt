@@ -29,7 +29,7 @@ pub trait Predicate<Item>: PredicateReflection {
 
     /// Whether the predicate holds of the item.
     ///
-    /// The one error is that memory was refused, never where the predicate is infallible. There is then
+    /// The one error is that memory ran out, never where the predicate is infallible. There is then
     /// no verdict, and the predicate is as before.
     fn eval(&self, alloc: Global, item: &Item) -> Result<bool, AllocError>
         requires { lawful self.now }
@@ -38,8 +38,8 @@ pub trait Predicate<Item>: PredicateReflection {
 
     /// A case that explains the verdict where it is the expected one, and none where it is not.
     ///
-    /// It takes memory for the case, and what `eval` takes. The one error is that memory was
-    /// refused: there is then neither a case nor none, and the predicate is as before.
+    /// It takes memory for the case, and what `eval` takes. The one error is that memory ran
+    /// out: there is then no answer, and the predicate is as before.
     fn find_case(
         &self,
         alloc: Global,
@@ -60,7 +60,7 @@ pub trait Predicate<Item>: PredicateReflection {
 
 /// A predicate that may be asked about every item, whatever it holds, and has a formula on each.
 ///
-/// It has no calls. Over it contracts are never empty, and no condition is asked.
+/// It has no methods. A contract over such a predicate is never empty and has no condition.
 pub trait Total<Item>: Predicate<Item> {
     // The formula that the predicate has on an item.
     ghost formula_of: { Self → Item → Formula };
@@ -85,7 +85,7 @@ impl Content for String {
 /// A predicate that may be asked about every item, and whose formula is a function of the item's
 /// content.
 ///
-/// It has no calls. What is to be boxed, trimmed or decoded has it.
+/// It has no methods. A predicate has to implement it to be boxed, trimmed or decoded.
 pub trait ReadsContent<Item: Content>: Predicate<Item> {
     // The formula that the predicate has on an item with a content.
     ghost content_formula: { Self → List ℕ → Formula };
@@ -101,7 +101,14 @@ pub trait ReadsContent<Item: Content>: Predicate<Item> {
 /// The case of a predicate whose formula on the item is a single leaf: a node with the printed
 /// text, without products, where the verdict is `expected`, and none where it is not.
 ///
-/// It takes memory for the text, and what `eval` takes, and is refused where that is.
+/// It takes memory for the text, and what `eval` takes; it fails only where memory runs out.
+///
+/// ```
+/// let none = default_find_case(alloc, &predicate::ge(5), false, &7)?;
+/// assert!(rt; none.is_none());
+/// let case = default_find_case(alloc, &predicate::ge(5), true, &7)?.ok_or("no case")?;
+/// assert!(rt; render(alloc, &case)?.as_str() == "var >= 5 = true\n");
+/// ```
 pub fn default_find_case<P: Predicate<Item>, Item>(
     alloc: Global,
     predicate: &P,

@@ -40,19 +40,24 @@ pub trait PredicateReflection: fmt::Display {
     // The parts that `children` is to give, in order, each down to its leaves.
     ghost children_of: { Self → Forest Part };
 
-    /// The values that the predicate was made with, in order; with none it does not refuse.
+    /// The values that the predicate was made with, in order. Where there are none it cannot fail.
     fn parameters(&self, alloc: Global) -> Result<Vec<Parameter>, AllocError>
         ensures fits { IfOk result (λ ps. FitsProducts (parameters_of self.now) ps.items) }
         ensures none { parameters_of self.now ≡ [] → IsOk result };
 
-    /// The parts that the predicate is made of, in order; with none it does not refuse.
+    /// The parts that the predicate is made of, in order. Where there are none it cannot fail.
     fn children(&self, alloc: Global) -> Result<Vec<Child>, AllocError>
         ensures fits { IfOk result (λ cs. FitsParts (children_of self.now) (forest cs.items)) }
         ensures none { children_of self.now ≡ empty → IsOk result };
 }
 
 /// The description of a part that stands under a name: its printed text, its parameters and its own
-/// parts, down to the leaves. It takes memory for all of these, and is refused where that is.
+/// parts, down to the leaves. It takes memory for all of these, and fails where that runs out.
+///
+/// ```
+/// let part = describe(alloc, "left", &predicate::ge(5))?;
+/// assert!(rt; part.name() == "left" && part.text() == "var >= 5");
+/// ```
 pub fn describe<P: PredicateReflection, N: AsStaticStr + Copy>(
     alloc: Global,
     name: N,

@@ -63,6 +63,11 @@ impl Model for StaticText {
 
 impl StaticText {
     /// Holds `text`. It takes no memory and cannot fail.
+    ///
+    /// ```
+    /// let name = StaticText::new("any");
+    /// assert!(rt; name.as_str() == "any");
+    /// ```
     pub fn new(text: &'static str) -> StaticText
         ensures { result ≡ text.now }
     {

@@ -27,6 +27,11 @@ pub struct BooleanPredicate<Item> {
 }
 
 /// The predicate that holds of every item. It takes no memory, and neither does its `eval`.
+///
+/// ```
+/// let open = predicate::always();
+/// assert!(rt; open.eval(alloc, &5)?);
+/// ```
 pub fn always<Item>() -> BooleanPredicate<Item>
     ensures { answer_of result ≡ true }
 {
@@ -37,6 +42,11 @@ pub fn always<Item>() -> BooleanPredicate<Item>
 }
 
 /// The predicate that holds of no item. It takes no memory, and neither does its `eval`.
+///
+/// ```
+/// let closed = predicate::never();
+/// assert!(rt; !closed.eval(alloc, &5)?);
+/// ```
 pub fn never<Item>() -> BooleanPredicate<Item>
     ensures { answer_of result ≡ false }
 {

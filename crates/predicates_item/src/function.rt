@@ -27,7 +27,13 @@ pub struct FnPredicate<F, T> {
 /// The predicate that asks the function, under the name `fn`.
 ///
 /// The function may be called on every item (`callable`) and has one answer for each
-/// (`one_answer`). It takes no memory, and neither does its `eval`. The function is kept.
+/// (`one_answer`). It takes no memory, and neither does its `eval`.
+///
+/// ```
+/// let large = predicate::function(|x: &i32| *x >= 5);
+/// assert!(rt; large.eval(alloc, &7)?);
+/// assert!(rt; !large.eval(alloc, &3)?);
+/// ```
 pub fn function<F: Fn(&T) -> bool, T>(function: F) -> FnPredicate<F, T>
     requires callable { F.IsAlwaysCallable function }
     requires one_answer { HasOneAnswer F.Fn function }
@@ -43,6 +49,12 @@ pub fn function<F: Fn(&T) -> bool, T>(function: F) -> FnPredicate<F, T>
 
 impl<F, T> FnPredicate<F, T> {
     /// The same predicate under another name; the old one is dropped. It takes no memory.
+    ///
+    /// ```
+    /// let large = predicate::function(|x: &i32| *x >= 5).fn_name("large");
+    /// let text = large.to_string(alloc)?;
+    /// assert!(rt; text.as_str() == "large(var)");
+    /// ```
     pub fn fn_name(self, name: &'static str) -> FnPredicate<F, T>
         ensures function { function_of result ≡ function_of self }
         ensures name { name_of result ≡ name.now }

@@ -6,7 +6,7 @@
 //! let distinct = predicate::in_hash(alloc, ports)?;
 //! ```
 //!
-//! Making one takes memory for its members. `eval` takes none, and never refuses.
+//! Making one takes memory for its members. `eval` takes none and cannot fail.
 mod hashed;
 mod listed;
 mod sorted;

@@ -5,8 +5,8 @@
 //! assert!(rt; small.eval(alloc, &7)?);
 //! ```
 //!
-//! Making one takes no memory, but for a membership, which keeps its members in a list. `eval`
-//! takes none, and never refuses.
+//! Making one takes no memory, except for a membership, which keeps its members in a list. `eval`
+//! takes none and cannot fail.
 #![tactic(auto)]
 
 pub mod constant;

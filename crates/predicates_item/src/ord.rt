@@ -5,8 +5,8 @@
 //! assert!(rt; small.eval(alloc, &7)?);
 //! ```
 //!
-//! The constant is kept. Making a comparison takes no memory, and neither does its `eval`; `eval`
-//! never refuses.
+//! The constant is moved into the predicate. Making a comparison takes no memory, and neither does
+//! its `eval`, which cannot fail.
 mod equality;
 mod order;
 

@@ -9,7 +9,7 @@ use Rattle.predicates_core.specs.Describe.{CaseNode}
 use Rattle.predicates_core.proofs.Leaves.{HasTruth-exactly, IsCaseOf-leaf}
 use Rattle.serde_json.specs.Data.{Data, null, boolean, number, string, array, object}
 use Rattle.serde_json.specs.Find.{as_null}
-use Rattle.predicates_json.specs.Held.{error_leaf}
+use Rattle.predicates_core.specs.Present.{absent_leaf}
 use Rattle.predicates_json.specs.Kinds.{kind_text}
 use Rattle.predicates_json.specs.Null.{null_text, null_formula}
 
@@ -21,7 +21,7 @@ null-is (string s) e = absurd (cc)
 null-is (array ds) e = absurd (cc)
 null-is (object ms) e = absurd (cc)
 
-null-not : (d : Data) → is_some (as_null d) ≡ false → null_formula d ≡ error_leaf (Some null_text) (kind_text d)
+null-not : (d : Data) → is_some (as_null d) ≡ false → null_formula d ≡ absent_leaf (Some null_text) (kind_text d)
 null-not null e = absurd (cc)
 null-not (boolean b) e = refl
 null-not (number n) e = refl
@@ -38,7 +38,7 @@ IsCaseOf-null d {b} {bytes} {t} e same written fits =
     let of_null = subst (λ g. IsCaseOf (IsExactly g) true t) (sym (null-is d e)) (IsCaseOf-leaf written fits (HasTruth-exactly refl)) in
     subst (λ x. IsCaseOf (IsExactly (null_formula d)) x t) (sym same) of_null
 
-pub IsCaseOf-not_null : (d : Data) {b : Bool} {t : Tree CaseNode} → is_some (as_null d) ≡ false → b ≡ false → IsCaseOf (IsExactly (error_leaf (Some null_text) (kind_text d))) false t → IsCaseOf (IsExactly (null_formula d)) b t
+pub IsCaseOf-not_null : (d : Data) {b : Bool} {t : Tree CaseNode} → is_some (as_null d) ≡ false → b ≡ false → IsCaseOf (IsExactly (absent_leaf (Some null_text) (kind_text d))) false t → IsCaseOf (IsExactly (null_formula d)) b t
 IsCaseOf-not_null d {b} {t} e same h =
     let of_other = subst (λ g. IsCaseOf (IsExactly g) false t) (sym (null-not d e)) h in
     subst (λ x. IsCaseOf (IsExactly (null_formula d)) x t) (sym same) of_other

@@ -1,6 +1,5 @@
 pub mod CaseData
 pub mod At
-pub mod Held
 pub mod Kinds
 pub mod KindParts
 pub mod NumberParts

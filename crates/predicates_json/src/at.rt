@@ -12,10 +12,12 @@ ghost use Rattle.predicates_json.specs.At.{at_pointer, step as one_step};
 use fast_float::Numeral;
 use serde_json::{Map, Value};
 
-/// What stands within the value at the JSON Pointer, if anything. It takes no memory.
+/// The value at the JSON Pointer within `value`, if there is one. It takes no memory.
 ///
 /// ```
+/// let order = Value::from_str(alloc, "{\"lines\": [7]}")?;
 /// let first = value_at(&order, "/lines/0");
+/// assert!(rt; first.is_some());
 /// ```
 #[tactic(auto, using(crate::proofs::Pointed::pointed))]
 pub fn value_at<'v>(value: &'v Value, pointer: &str) -> Option<&'v Value>

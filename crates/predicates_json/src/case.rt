@@ -62,6 +62,13 @@ fn node_json(alloc: Global, case: &CaseView<'_>, children: Vec<Value>) -> Result
 
 /// The case as an object with its `text`, its `result`, its `products`, each a `name` and a
 /// `value`, and its `children`, each a `name` and a `case`.
+///
+/// ```
+/// let case = leaf_node(alloc, "never".to_owned(alloc)?, false);
+/// let text = case_json(alloc, &case.root())?.to_string(alloc)?;
+/// let expected = "{\"children\":[],\"products\":[],\"result\":false,\"text\":\"never\"}";
+/// assert!(rt; text.as_str() == expected);
+/// ```
 pub fn case_json(alloc: Global, case: &CaseView<'_>) -> Result<Value, AllocError>
     ensures { IfOk result (λ value. view value ≡ case_data case.now) }
 {

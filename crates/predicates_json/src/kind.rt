@@ -9,8 +9,8 @@ ghost use Rattle.serde_json.specs.View.{view};
 ghost use Rattle.serde_json.specs.declared.value.Value.{Value as JsonValue};
 ghost use Rattle.predicates_json.specs.Kinds.{kind_text, held_bool, held_string, held_array};
 ghost use Rattle.predicates_json.specs.Kinds.{held_object};
-ghost use Rattle.predicates_json.specs.Held.{IsOfHeld, held_text_fits, one_held, held_formula};
-ghost use Rattle.predicates_json.specs.Held.{has_held};
+ghost use Rattle.predicates_core.specs.Present.{IsOfPresent, present_text_fits, one_present, present_formula};
+ghost use Rattle.predicates_core.specs.Present.{has_present};
 ghost use Rattle.predicates_json.specs.KindParts.{inner_of};
 
 use crate::error_case::error_case;
@@ -76,7 +76,7 @@ impl JsonKind for Map<String, Value> {
     }
 }
 
-/// What is said of a value of another kind than the one that is asked for.
+/// The `error` that a case shows of a value of another kind than the wanted one.
 pub(crate) fn kind(value: &Value) -> &'static str
     ensures { result.now ≡ kind_text (view value.now) }
 {
@@ -140,17 +140,17 @@ impl<P: PredicateReflection, U> PredicateReflection for KindPredicate<P, U> {
 impl<P: Predicate<U>, U: JsonKind> Predicate<Value> for KindPredicate<P, U> {
     ghost lawful = { λ p. P.lawful (inner_of p) };
 
-    ghost formula = { λ p v. IsOfHeld (P.output (inner_of p)) (kind_text (view v))
+    ghost formula = { λ p v. IsOfPresent (P.output (inner_of p)) (kind_text (view v))
         (P.formula (inner_of p)) (U.held_by v) };
 
     ghost infallible = { λ p v. IfSome (U.held_by v) (P.infallible (inner_of p)) };
 
-    ghost text_fits = { λ p v f. held_text_fits (U.held_by v) (λ u. P.text_fits (inner_of p) u) };
+    ghost text_fits = { λ p v f. present_text_fits (U.held_by v) (λ u. P.text_fits (inner_of p) u) };
 
-    ghost one_formula = { λ p v f g lawful. one_held (U.held_by v)
+    ghost one_formula = { λ p v f g lawful. one_present (U.held_by v)
         (λ u x y. P.one_formula (inner_of p) u x y lawful) };
 
-    #[tactic(auto, using(crate::proofs::HeldCases::held_cases))]
+    #[tactic(auto, using(predicates_core::proofs::PresentCases::present_cases))]
     fn eval(&self, alloc: Global, item: &Value) -> Result<bool, AllocError> {
         match U::held(item) {
             Some(held) => self.inner.eval(alloc, held),
@@ -158,7 +158,7 @@ impl<P: Predicate<U>, U: JsonKind> Predicate<Value> for KindPredicate<P, U> {
         }
     }
 
-    #[tactic(auto, using(crate::proofs::HeldCases::held_cases))]
+    #[tactic(auto, using(predicates_core::proofs::PresentCases::present_cases))]
     fn find_case(
         &self,
         alloc: Global,
@@ -174,12 +174,12 @@ impl<P: Predicate<U>, U: JsonKind> Predicate<Value> for KindPredicate<P, U> {
 }
 
 impl<P: Total<U>, U: JsonKind> Total<Value> for KindPredicate<P, U> {
-    ghost formula_of = { λ p v. held_formula (P.output (inner_of p)) (kind_text (view v))
+    ghost formula_of = { λ p v. present_formula (P.output (inner_of p)) (kind_text (view v))
         (P.formula_of (inner_of p)) (U.held_by v) };
 
     ghost always_lawful = { λ p. P.always_lawful (inner_of p) };
 
-    ghost has_formula = { λ p v. has_held (P.output (inner_of p)) (kind_text (view v))
+    ghost has_formula = { λ p v. has_present (P.output (inner_of p)) (kind_text (view v))
         (P.formula (inner_of p)) (P.formula_of (inner_of p)) (U.held_by v)
         (P.has_formula (inner_of p)) };
 }

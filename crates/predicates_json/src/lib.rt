@@ -4,8 +4,8 @@
 //! let adult = predicate::ge(18i64).of_number().of_pointer("/age");
 //! ```
 //!
-//! Its case on `{"age": 17}` shows what stands at the pointer, and on `{"age": "17"}` why it can't
-//! be asked about:
+//! Its case on `{"age": 17}` shows what stands at the pointer, and on `{"age": "17"}` why that
+//! cannot be tested:
 //!
 //! ```text
 //! /age = false
@@ -23,7 +23,7 @@ ghost use Rattle.serde_json.specs.Find.{as_number};
 ghost use Rattle.serde_json.specs.View.{view};
 ghost use Rattle.serde_json.specs.declared.value.Value.{Value as JsonValue};
 ghost use Rattle.predicates_json.specs.At.{at_pointer};
-ghost use Rattle.predicates_json.specs.Held.{IsOfHeld};
+ghost use Rattle.predicates_core.specs.Present.{IsOfPresent};
 ghost use Rattle.predicates_json.specs.Kinds.{kind_text, no_number_text};
 ghost use Rattle.predicates_json.specs.Kinds.{held_bool, held_string, held_array, held_object};
 ghost use Rattle.predicates_json.specs.KindParts as Kind;
@@ -56,6 +56,12 @@ pub trait PredicateJsonExt: Sized {
     /// The predicate that holds of a value where this one holds of what stands at the pointer, and
     /// not where nothing stands there. It prints the pointer. Making it takes no memory, and its
     /// `eval` takes what this one's does.
+    ///
+    /// ```
+    /// let adult = predicate::ge(18i64).of_number().of_pointer("/age");
+    /// assert!(rt; adult.eval(alloc, &Value::from_str(alloc, "{\"age\": 18}")?)?);
+    /// assert!(rt; !adult.eval(alloc, &Value::from_str(alloc, "{}")?)?);
+    /// ```
     fn of_pointer<N: JsonPointer>(self, pointer: N) -> PointerPredicate<Self, N>
     where
         Self: Predicate<Value>,
@@ -63,60 +69,91 @@ pub trait PredicateJsonExt: Sized {
         ensures pointer { Pointer.pointer_of result ≡ pointer }
         ensures formula { (v : JsonValue) (f : Formula)
             → ⟦<PointerPredicate<Self, N> as Predicate<Value>>⟧.formula result v f
-            ↔ IsAt (N.bytes pointer) (IsOfHeld (Self.output self) no_value_text
+            ↔ IsAt (N.bytes pointer) (IsOfPresent (Self.output self) no_value_text
             (Self.formula self) (at_pointer (N.bytes pointer) v)) f };
 
     /// The predicate that holds of a JSON text where this one holds of it, and not of a value of
     /// another kind. It prints what this one prints, takes no memory to make, and its `eval` takes
     /// what this one's does; so do the four below.
+    ///
+    /// ```
+    /// let named = predicate::eq("Ada".to_owned(alloc)?).of_string();
+    /// assert!(rt; named.eval(alloc, &Value::from_str(alloc, "\"Ada\"")?)?);
+    /// assert!(rt; !named.eval(alloc, &Value::from_str(alloc, "7")?)?);
+    /// ```
     fn of_string(self) -> KindPredicate<Self, String>
     where
         Self: Predicate<String>,
         ensures inner { Kind.inner_of result ≡ self }
         ensures formula { (v : JsonValue) (f : Formula)
             → ⟦<KindPredicate<Self, String> as Predicate<Value>>⟧.formula result v f
-            ↔ IsOfHeld (Self.output self) (kind_text (view v)) (Self.formula self)
+            ↔ IsOfPresent (Self.output self) (kind_text (view v)) (Self.formula self)
             (held_string v) f };
 
     /// The same of a JSON truth.
+    ///
+    /// ```
+    /// let set = predicate::eq(true).of_bool();
+    /// assert!(rt; set.eval(alloc, &Value::from_str(alloc, "true")?)?);
+    /// assert!(rt; !set.eval(alloc, &Value::from_str(alloc, "1")?)?);
+    /// ```
     fn of_bool(self) -> KindPredicate<Self, bool>
     where
         Self: Predicate<bool>,
         ensures inner { Kind.inner_of result ≡ self }
         ensures formula { (v : JsonValue) (f : Formula)
             → ⟦<KindPredicate<Self, bool> as Predicate<Value>>⟧.formula result v f
-            ↔ IsOfHeld (Self.output self) (kind_text (view v)) (Self.formula self)
+            ↔ IsOfPresent (Self.output self) (kind_text (view v)) (Self.formula self)
             (held_bool v) f };
 
     /// The same of the items of a JSON array.
+    ///
+    /// ```
+    /// let short = predicate::le(2).of_len().of_array();
+    /// assert!(rt; short.eval(alloc, &Value::from_str(alloc, "[1, 2]")?)?);
+    /// assert!(rt; !short.eval(alloc, &Value::from_str(alloc, "[1, 2, 3]")?)?);
+    /// ```
     fn of_array(self) -> KindPredicate<Self, Vec<Value>>
     where
         Self: Predicate<Vec<Value>>,
         ensures inner { Kind.inner_of result ≡ self }
         ensures formula { (v : JsonValue) (f : Formula)
             → ⟦<KindPredicate<Self, Vec<Value>> as Predicate<Value>>⟧.formula result v f
-            ↔ IsOfHeld (Self.output self) (kind_text (view v)) (Self.formula self)
+            ↔ IsOfPresent (Self.output self) (kind_text (view v)) (Self.formula self)
             (held_array v) f };
 
     /// The same of the members of a JSON object.
+    ///
+    /// ```
+    /// let some = predicate::function(|map: &Map<String, Value>| !map.is_empty()).of_object();
+    /// assert!(rt; some.eval(alloc, &Value::from_str(alloc, "{\"a\": 1}")?)?);
+    /// assert!(rt; !some.eval(alloc, &Value::from_str(alloc, "{}")?)?);
+    /// ```
     fn of_object(self) -> KindPredicate<Self, Map<String, Value>>
     where
         Self: Predicate<Map<String, Value>>,
         ensures inner { Kind.inner_of result ≡ self }
         ensures formula { (v : JsonValue) (f : Formula)
             → ⟦<KindPredicate<Self, Map<String, Value>> as Predicate<Value>>⟧.formula result v f
-            ↔ IsOfHeld (Self.output self) (kind_text (view v)) (Self.formula self)
+            ↔ IsOfPresent (Self.output self) (kind_text (view v)) (Self.formula self)
             (held_object v) f };
 
-    /// The same of a JSON number, read as an `i64`, a `u64` or an `f64`. A number that the type has
-    /// not is of another kind: for the first two a float, even `5.0`, or one that is out of range.
+    /// The same of a JSON number, read as an `i64`, a `u64` or an `f64`. A number that the type
+    /// cannot represent is of another kind: for the first two a float, even `5.0`, or one that is out
+    /// of range.
+    ///
+    /// ```
+    /// let adult = predicate::ge(18i64).of_number();
+    /// assert!(rt; adult.eval(alloc, &Value::from_str(alloc, "18")?)?);
+    /// assert!(rt; !adult.eval(alloc, &Value::from_str(alloc, "18.0")?)?);
+    /// ```
     fn of_number<N: JsonNumber>(self) -> NumberPredicate<Self, N>
     where
         Self: Predicate<N>,
         ensures inner { Numbers.inner_of result ≡ self }
         ensures formula { (v : JsonValue) (f : Formula)
             → ⟦<NumberPredicate<Self, N> as Predicate<Value>>⟧.formula result v f
-            ↔ IsOfHeld (Self.output self) (no_number_text N.misfit_text (view v))
+            ↔ IsOfPresent (Self.output self) (no_number_text N.misfit_text (view v))
             (Self.formula self) (option_and_then N.number_as (as_number (view v))) f };
 }
 

@@ -24,6 +24,11 @@ pub struct NullPredicate;
 
 /// The predicate of null. On another value its case shows which kind that is. It takes no memory,
 /// and neither does its `eval`.
+///
+/// ```
+/// assert!(rt; is_null().eval(alloc, &Value::from_str(alloc, "null")?)?);
+/// assert!(rt; !is_null().eval(alloc, &Value::from_str(alloc, "0")?)?);
+/// ```
 pub fn is_null() -> NullPredicate
     ensures formula { (v : JsonValue) (f : Formula)
         → ⟦<NullPredicate as Predicate<Value>>⟧.formula result v f

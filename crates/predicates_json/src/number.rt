@@ -10,8 +10,8 @@ ghost use Rattle.serde_json.specs.Find.{as_i64, as_u64, as_number, to_float};
 ghost use Rattle.serde_json.specs.View.{view, number_view};
 ghost use Rattle.predicates_json.specs.Kinds.{no_i64_text, no_u64_text, no_f64_text};
 ghost use Rattle.predicates_json.specs.Kinds.{no_number_text};
-ghost use Rattle.predicates_json.specs.Held.{IsOfHeld, held_text_fits, one_held, held_formula};
-ghost use Rattle.predicates_json.specs.Held.{has_held};
+ghost use Rattle.predicates_core.specs.Present.{IsOfPresent, present_text_fits, one_present, present_formula};
+ghost use Rattle.predicates_core.specs.Present.{has_present};
 ghost use Rattle.predicates_json.specs.NumberParts.{inner_of};
 
 use crate::error_case::error_case;
@@ -26,17 +26,17 @@ use std::marker::PhantomData;
 /// A type that a JSON number may be read as: `i64`, `u64`, or `f64`, which has each number, an
 /// integer as the float that is nearest.
 pub trait JsonNumber: Sized + Copy + Drop {
-    // The number, if the type has it.
+    // The number, if the type can represent it.
     ghost number_as: { Num → Option Self };
 
-    // What is said of a number that the type has not.
+    // The `error` that a case shows of a number that the type cannot represent.
     ghost misfit_text: { Num → List ℕ };
 
-    /// The number, if the type has it. It takes no memory.
+    /// The number, if the type can represent it. It takes no memory.
     fn from_number(number: &Number) -> Option<Self>
         ensures { result ≡ number_as (number_view number.now) };
 
-    /// What is said of a number that the type has not, as `is a float`.
+    /// The `error` that a case shows of a number that the type cannot represent, as `is a float`.
     fn misfit(number: &Number) -> &'static str
         ensures { result.now ≡ misfit_text (number_view number.now) };
 }
@@ -91,7 +91,7 @@ impl JsonNumber for f64 {
     }
 }
 
-// What is said of a value that is no number of the type.
+// The `error` that a case shows of a value that is no number of the type.
 fn no_number<N: JsonNumber>(value: &Value) -> &'static str
     ensures { result.now ≡ no_number_text N.misfit_text (view value.now) }
 {
@@ -150,20 +150,20 @@ impl<P: PredicateReflection, N> PredicateReflection for NumberPredicate<P, N> {
 impl<P: Predicate<N>, N: JsonNumber> Predicate<Value> for NumberPredicate<P, N> {
     ghost lawful = { λ p. P.lawful (inner_of p) };
 
-    ghost formula = { λ p v. IsOfHeld (P.output (inner_of p)) (no_number_text N.misfit_text (view v))
+    ghost formula = { λ p v. IsOfPresent (P.output (inner_of p)) (no_number_text N.misfit_text (view v))
         (P.formula (inner_of p)) (option_and_then N.number_as (as_number (view v))) };
 
     ghost infallible = { λ p v. IfSome (option_and_then N.number_as (as_number (view v)))
         (P.infallible (inner_of p)) };
 
-    ghost text_fits = { λ p v f. held_text_fits
+    ghost text_fits = { λ p v f. present_text_fits
         (option_and_then N.number_as (as_number (view v))) (λ u. P.text_fits (inner_of p) u) };
 
-    ghost one_formula = { λ p v f g lawful. one_held
+    ghost one_formula = { λ p v f g lawful. one_present
         (option_and_then N.number_as (as_number (view v)))
         (λ u x y. P.one_formula (inner_of p) u x y lawful) };
 
-    #[tactic(auto, using(crate::proofs::HeldCases::held_cases))]
+    #[tactic(auto, using(predicates_core::proofs::PresentCases::present_cases))]
     fn eval(&self, alloc: Global, item: &Value) -> Result<bool, AllocError> {
         match number_of::<N>(item) {
             Some(number) => self.inner.eval(alloc, &number),
@@ -171,7 +171,7 @@ impl<P: Predicate<N>, N: JsonNumber> Predicate<Value> for NumberPredicate<P, N> 
         }
     }
 
-    #[tactic(auto, using(crate::proofs::HeldCases::held_cases))]
+    #[tactic(auto, using(predicates_core::proofs::PresentCases::present_cases))]
     fn find_case(
         &self,
         alloc: Global,
@@ -187,13 +187,13 @@ impl<P: Predicate<N>, N: JsonNumber> Predicate<Value> for NumberPredicate<P, N> 
 }
 
 impl<P: Total<N>, N: JsonNumber> Total<Value> for NumberPredicate<P, N> {
-    ghost formula_of = { λ p v. held_formula (P.output (inner_of p))
+    ghost formula_of = { λ p v. present_formula (P.output (inner_of p))
         (no_number_text N.misfit_text (view v)) (P.formula_of (inner_of p))
         (option_and_then N.number_as (as_number (view v))) };
 
     ghost always_lawful = { λ p. P.always_lawful (inner_of p) };
 
-    ghost has_formula = { λ p v. has_held (P.output (inner_of p))
+    ghost has_formula = { λ p v. has_present (P.output (inner_of p))
         (no_number_text N.misfit_text (view v)) (P.formula (inner_of p)) (P.formula_of (inner_of p))
         (option_and_then N.number_as (as_number (view v))) (P.has_formula (inner_of p)) };
 }

@@ -7,8 +7,8 @@ ghost use Rattle.std.specs.Prelude.{◌≡◌, ℕ, List, [], codes, false, Some
 ghost use Rattle.predicates_core.specs.Parts.{part};
 ghost use Rattle.predicates_core.specs.Shows.{IsAnswer};
 ghost use Rattle.predicates_json.specs.At.{at_pointer};
-ghost use Rattle.predicates_json.specs.Held.{IsOfHeld, held_text_fits, one_held, held_formula};
-ghost use Rattle.predicates_json.specs.Held.{has_held};
+ghost use Rattle.predicates_core.specs.Present.{IsOfPresent, present_text_fits, one_present, present_formula};
+ghost use Rattle.predicates_core.specs.Present.{has_present};
 ghost use Rattle.predicates_json.specs.Pointer.{IsAt, at_formula, no_value_text};
 ghost use Rattle.predicates_json.specs.Pointer.{inner_of, pointer_of};
 ghost use Rattle.predicates_json.specs.PointerText.{is_pointer_text, has_whole_escapes as whole_escapes};
@@ -100,8 +100,8 @@ impl<P: PredicateReflection, N: JsonPointer> PredicateReflection for PointerPred
 }
 
 impl<P: Predicate<Value>, N: JsonPointer> PointerPredicate<P, N> {
-    // What is to be answered of the value at the pointer, or of none: the case below the pointer.
-    #[tactic(auto, using(crate::proofs::HeldCases::held_cases))]
+    // The `find_case` of the value at the pointer, or of none: the case below the pointer's node.
+    #[tactic(auto, using(predicates_core::proofs::PresentCases::present_cases))]
     fn case_below(
         &self,
         alloc: Global,
@@ -109,7 +109,7 @@ impl<P: Predicate<Value>, N: JsonPointer> PointerPredicate<P, N> {
         item: &Value,
     ) -> Result<Option<Case>, AllocError>
         requires { P.lawful (inner_of self.now) }
-        ensures { IfOk result (IsAnswer (IsOfHeld (P.output (inner_of self.now)) no_value_text
+        ensures { IfOk result (IsAnswer (IsOfPresent (P.output (inner_of self.now)) no_value_text
             (P.formula (inner_of self.now)) (at_pointer (N.bytes (pointer_of self.now)) item.now))
             expected) }
     {
@@ -124,7 +124,7 @@ impl<P: Predicate<Value>, N: JsonPointer> PointerPredicate<P, N> {
 impl<P: Predicate<Value>, N: JsonPointer> Predicate<Value> for PointerPredicate<P, N> {
     ghost lawful = { λ p. P.lawful (inner_of p) };
 
-    ghost formula = { λ p v. IsAt (N.bytes (pointer_of p)) (IsOfHeld (P.output (inner_of p))
+    ghost formula = { λ p v. IsAt (N.bytes (pointer_of p)) (IsOfPresent (P.output (inner_of p))
         no_value_text (P.formula (inner_of p)) (at_pointer (N.bytes (pointer_of p)) v)) };
 
     ghost infallible = { λ p v. IfSome (at_pointer (N.bytes (pointer_of p)) v)
@@ -132,11 +132,11 @@ impl<P: Predicate<Value>, N: JsonPointer> Predicate<Value> for PointerPredicate<
 
     ghost text_fits = { λ p v f. at_text_fits };
 
-    ghost one_formula = { λ p v f g lawful. one_at (λ x y. one_held
+    ghost one_formula = { λ p v f g lawful. one_at (λ x y. one_present
         (at_pointer (N.bytes (pointer_of p)) v)
         (λ u k l. P.one_formula (inner_of p) u k l lawful)) };
 
-    #[tactic(auto, using(crate::proofs::PointerCases::pointers, crate::proofs::HeldCases::held_cases))]
+    #[tactic(auto, using(crate::proofs::PointerCases::pointers, predicates_core::proofs::PresentCases::present_cases))]
     fn eval(&self, alloc: Global, item: &Value) -> Result<bool, AllocError> {
         match value_at(item, self.pointer.text()) {
             Some(value) => self.inner.eval(alloc, value),
@@ -160,13 +160,13 @@ impl<P: Predicate<Value>, N: JsonPointer> Predicate<Value> for PointerPredicate<
 }
 
 impl<P: Total<Value>, N: JsonPointer> Total<Value> for PointerPredicate<P, N> {
-    ghost formula_of = { λ p v. at_formula (N.bytes (pointer_of p)) (held_formula
+    ghost formula_of = { λ p v. at_formula (N.bytes (pointer_of p)) (present_formula
         (P.output (inner_of p)) no_value_text (P.formula_of (inner_of p))
         (at_pointer (N.bytes (pointer_of p)) v)) };
 
     ghost always_lawful = { λ p. P.always_lawful (inner_of p) };
 
-    ghost has_formula = { λ p v. has_at (has_held (P.output (inner_of p)) no_value_text
+    ghost has_formula = { λ p v. has_at (has_present (P.output (inner_of p)) no_value_text
         (P.formula (inner_of p)) (P.formula_of (inner_of p))
         (at_pointer (N.bytes (pointer_of p)) v) (P.has_formula (inner_of p))) };
 }
@@ -175,7 +175,8 @@ impl<P: Total<Value>, N: JsonPointer> Total<Value> for PointerPredicate<P, N> {
 /// `~`. `of_pointer` takes any text, so one that was read at run time is tested by this first.
 ///
 /// ```
-/// let wrong = !is_pointer("age");
+/// assert!(rt; is_pointer("/age"));
+/// assert!(rt; !is_pointer("age"));
 /// ```
 pub fn is_pointer(text: &str) -> bool
     ensures { result ≡ is_pointer_text text.now }

@@ -27,6 +27,12 @@ pub struct PointerPresencePredicate<N = &'static str> {
 
 /// Holds where something stands at the pointer, null too. It takes no memory, and neither does its
 /// `eval`.
+///
+/// ```
+/// let aged = has_pointer("/age");
+/// assert!(rt; aged.eval(alloc, &Value::from_str(alloc, "{\"age\": null}")?)?);
+/// assert!(rt; !aged.eval(alloc, &Value::from_str(alloc, "{}")?)?);
+/// ```
 pub fn has_pointer<N: JsonPointer>(pointer: N) -> PointerPresencePredicate<N>
     ensures pointer { asked_pointer result ≡ pointer }
     ensures presence { asks_presence result ≡ true }
@@ -41,6 +47,12 @@ pub fn has_pointer<N: JsonPointer>(pointer: N) -> PointerPresencePredicate<N>
 }
 
 /// Holds where nothing stands at the pointer. It takes no memory, and neither does its `eval`.
+///
+/// ```
+/// let ageless = lacks_pointer("/age");
+/// assert!(rt; ageless.eval(alloc, &Value::from_str(alloc, "{}")?)?);
+/// assert!(rt; !ageless.eval(alloc, &Value::from_str(alloc, "{\"age\": null}")?)?);
+/// ```
 pub fn lacks_pointer<N: JsonPointer>(pointer: N) -> PointerPresencePredicate<N>
     ensures pointer { asked_pointer result ≡ pointer }
     ensures presence { asks_presence result ≡ false }

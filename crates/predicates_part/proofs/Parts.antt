@@ -13,7 +13,7 @@ use Rattle.predicates_core.specs.Label.{Entry, Fits}
 use Rattle.predicates_core.specs.Leaves.{IsExactly}
 use Rattle.predicates_core.proofs.Fewer.{truth_of_fewer, case_of_fewer, answer_of_fewer, case_with}
 use Rattle.predicates_part.specs.Field.{HasOnePart, IsOfPart}
-use Rattle.predicates_part.specs.Optional.{IsOfPresent, absent_leaf}
+use Rattle.predicates_core.specs.Present.{IsOfPresent, absent_leaf}
 
 module _ {F T R U : Type 0} {calls : Shared F (Bor T × Unit {0}) R} {read : R → U} {function : F} {item : Bor T} {r : R} {has : U → Formula → Type 0} {name : List ℕ} where
   pub on_part : HasOnePart calls read function → calls.post function (item, tt) r → (f : Formula) → IsNamed name (IsOfPart calls read function has item.now) f → IsNamed name (has (read r)) f

@@ -16,7 +16,7 @@ ghost use Rattle.predicates_core.specs.Combined.{IsNamed};
 ghost use Rattle.predicates_core.proofs.CombinedLemmas.{named_text_fits, one_named, has_named};
 ghost use Rattle.predicates_part.specs.Field.{HasOnePart, IsOfPart, IsInfallibleOnPart};
 ghost use Rattle.predicates_part.specs.Field.{one_of_part, owned, borrowed};
-ghost use Rattle.predicates_part.specs.Optional.{IsOfPresent, absent_leaf, one_present};
+ghost use Rattle.predicates_core.specs.Present.{IsOfPresent, absent_leaf, one_present};
 
 use crate::variant::absent_case;
 use predicates_core::as_static_str::AsStaticStr;
@@ -60,7 +60,7 @@ pub struct FieldPredicate<P, F, T, U, N = &'static str, Access = ByValue> {
 }
 
 impl<P: Predicate<U>, F, T, U, N: AsStaticStr, Access> FieldPredicate<P, F, T, U, N, Access> {
-    // What `find_case` is to answer of an item with this part.
+    // The `find_case` of an item with this part.
     #[tactic(auto, using(crate::proofs::Parts::parts))]
     fn case_of_part(
         &self,

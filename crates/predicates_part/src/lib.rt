@@ -44,6 +44,12 @@ pub trait PredicatePartExt<U>: Predicate<U> {
     ///
     /// The function may be called on every item (`callable`) and gives one part of each
     /// (`one_part`). Making it takes no memory, and its `eval` takes what this one's does.
+    ///
+    /// ```
+    /// let adult = predicate::ge(18).of("age", |guest: &Guest| guest.age);
+    /// assert!(rt; adult.eval(alloc, &ada)?);
+    /// assert!(rt; !adult.eval(alloc, &bob)?);
+    /// ```
     fn of<F: Fn(&T) -> U, T, N: AsStaticStr>(
         self,
         name: N,
@@ -59,6 +65,12 @@ pub trait PredicatePartExt<U>: Predicate<U> {
 
     /// As `of`, of a part that the function borrows from the item. The function is a named one with
     /// an `ensures`, as `fn name_of(person: &Person) -> &String`, and no closure.
+    ///
+    /// ```
+    /// let first = predicate::eq("Ada".to_owned(alloc)?).of_ref("name", name_of);
+    /// assert!(rt; first.eval(alloc, &ada)?);
+    /// assert!(rt; !first.eval(alloc, &bob)?);
+    /// ```
     fn of_ref<F: Fn(&T) -> &U, T, N: AsStaticStr>(
         self,
         name: N,
@@ -75,6 +87,12 @@ pub trait PredicatePartExt<U>: Predicate<U> {
     /// As `of_ref`, of a part that an item may lack, as the value under a key of a map, the first
     /// member of a list or an enum's variant. Where there is none, this one does not hold; the case
     /// then shows one false leaf under the name, with the product `error`.
+    ///
+    /// ```
+    /// let front = predicate::le(9).of_some_ref("seat", seat_of);
+    /// assert!(rt; front.eval(alloc, &ada)?);
+    /// assert!(rt; !front.eval(alloc, &bob)?); // without a seat
+    /// ```
     fn of_some_ref<F: Fn(&T) -> Option<&U>, T, N: AsStaticStr>(
         self,
         name: N,
@@ -89,6 +107,12 @@ pub trait PredicatePartExt<U>: Predicate<U> {
         ensures name { name_of result ≡ name };
 
     /// As `of`, of a field. There is no condition, and where this one is `Total` so is the result.
+    ///
+    /// ```
+    /// let adult = predicate::ge(18).of_field("age", Age);
+    /// assert!(rt; adult.eval(alloc, &ada)?);
+    /// assert!(rt; !adult.eval(alloc, &bob)?);
+    /// ```
     fn of_field<F: Field<T, U>, T, N: AsStaticStr>(
         self,
         name: N,
@@ -102,6 +126,12 @@ pub trait PredicatePartExt<U>: Predicate<U> {
 
     /// The predicate of an `Option` that holds of `Some` where this one holds of its value, and
     /// does not hold of `None`. It takes no memory of its own, and prints what this one prints.
+    ///
+    /// ```
+    /// let adult = predicate::ge(18).of_some();
+    /// assert!(rt; adult.eval(alloc, &Some(18))?);
+    /// assert!(rt; !adult.eval(alloc, &None)?);
+    /// ```
     fn of_some(self) -> SomePredicate<Self>
     where
         Self: Sized,
@@ -109,6 +139,13 @@ pub trait PredicatePartExt<U>: Predicate<U> {
 
     /// The predicate of a `Result` that holds of `Ok` where this one holds of its value, and does
     /// not hold of `Err`. It takes no memory of its own, and prints what this one prints.
+    ///
+    /// ```
+    /// let found = predicate::eq(200u16).of_ok();
+    /// let (answered, failed): (Result<u16, u8>, Result<u16, u8>) = (Ok(200), Err(7));
+    /// assert!(rt; found.eval(alloc, &answered)?);
+    /// assert!(rt; !found.eval(alloc, &failed)?);
+    /// ```
     fn of_ok(self) -> OkPredicate<Self>
     where
         Self: Sized,
@@ -116,6 +153,13 @@ pub trait PredicatePartExt<U>: Predicate<U> {
 
     /// The predicate of a `Result` that holds of `Err` where this one holds of its error, and does
     /// not hold of `Ok`. It takes no memory of its own, and prints what this one prints.
+    ///
+    /// ```
+    /// let seven = predicate::eq(7u8).of_err();
+    /// let (answered, failed): (Result<u16, u8>, Result<u16, u8>) = (Ok(200), Err(7));
+    /// assert!(rt; seven.eval(alloc, &failed)?);
+    /// assert!(rt; !seven.eval(alloc, &answered)?);
+    /// ```
     fn of_err(self) -> ErrPredicate<Self>
     where
         Self: Sized,
@@ -124,8 +168,14 @@ pub trait PredicatePartExt<U>: Predicate<U> {
     /// The predicate of a list that holds where this one holds of each member. It prints
     /// `each(..)`, and takes no memory of its own.
     ///
-    /// `eval` asks no member behind the first of which this one does not hold. The case of a list
-    /// that holds has a node for each member, so it takes memory in proportion to the list.
+    /// `eval` stops at the first member of which this one does not hold. The case of a list that
+    /// holds has a node for each member, so it takes memory in proportion to the list.
+    ///
+    /// ```
+    /// let adults = predicate::ge(18).of_each();
+    /// assert!(rt; adults.eval(alloc, &vec![in alloc; 18, 40]?)?);
+    /// assert!(rt; !adults.eval(alloc, &vec![in alloc; 17, 40]?)?);
+    /// ```
     fn of_each(self) -> EachPredicate<Self>
     where
         Self: Sized,
@@ -134,8 +184,14 @@ pub trait PredicatePartExt<U>: Predicate<U> {
     /// The predicate of a list that holds where this one holds of a member. It prints `any(..)`,
     /// and takes no memory of its own.
     ///
-    /// `eval` asks no member behind the first of which this one holds. The case of a list that does
-    /// not hold has a node for each member, so it takes memory in proportion to the list.
+    /// `eval` stops at the first member of which this one holds. The case of a list that does not
+    /// hold has a node for each member, so it takes memory in proportion to the list.
+    ///
+    /// ```
+    /// let accompanied = predicate::ge(18).of_any();
+    /// assert!(rt; accompanied.eval(alloc, &vec![in alloc; 17, 40]?)?);
+    /// assert!(rt; !accompanied.eval(alloc, &vec![in alloc; 16, 17]?)?);
+    /// ```
     fn of_any(self) -> AnyPredicate<Self>
     where
         Self: Sized,
@@ -144,6 +200,12 @@ pub trait PredicatePartExt<U>: Predicate<U> {
     /// The predicate of a list or a text that holds where this one, a predicate of `usize`, holds of
     /// its length: the number of members, or of bytes. It prints `len`, and takes no memory of its
     /// own.
+    ///
+    /// ```
+    /// let short = predicate::le(2).of_len();
+    /// assert!(rt; short.eval(alloc, &"ab".to_owned(alloc)?)?);
+    /// assert!(rt; !short.eval(alloc, &"abc".to_owned(alloc)?)?);
+    /// ```
     fn of_len(self) -> LengthPredicate<Self>
     where
         Self: Predicate<usize> + Sized,

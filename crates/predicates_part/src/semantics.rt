@@ -16,7 +16,7 @@ ghost use Rattle.predicates_part.specs.Length as Length;
 ghost use Rattle.predicates_part.specs.Members as Members;
 ghost use Rattle.predicates_part.specs.Members.{applied_text, word};
 ghost use Rattle.predicates_part.specs.Optional as Optional;
-ghost use Rattle.predicates_part.specs.Optional.{IsOfPresent};
+ghost use Rattle.predicates_core.specs.Present.{IsOfPresent};
 
 use crate::{
     ByField, ByOption, ByReference, ByValue, Field, FieldPredicate, Length, LengthPredicate,

@@ -2,16 +2,16 @@
 //!
 //! ```
 //! let adult = predicate::ge(18).of_some();
-//! let refused = predicate::eq(403).of_err();
+//! let forbidden = predicate::eq(403).of_err();
 //! ```
 ghost use Rattle.std.specs.Prelude.{◌≡◌, ℕ, [], List, Option, Some, None, codes, false, IfOk, IfSome, option_copied};
 ghost use Rattle.predicates_core.specs.Leaves.{IsExactly};
 ghost use Rattle.predicates_core.specs.Parts.{part};
 ghost use Rattle.predicates_core.specs.Shows.{IsCaseOf};
-ghost use Rattle.predicates_part.specs.Optional.{IsOfPresent, inner_of, absent_leaf};
-ghost use Rattle.predicates_part.specs.Optional.{value_of_ok, value_of_err};
-ghost use Rattle.predicates_part.specs.Optional.{present_text_fits, one_present};
-ghost use Rattle.predicates_part.specs.Optional.{present_formula, has_present};
+ghost use Rattle.predicates_core.specs.Present.{IsOfPresent, absent_leaf};
+ghost use Rattle.predicates_core.specs.Present.{present_text_fits, one_present};
+ghost use Rattle.predicates_core.specs.Present.{present_formula, has_present};
+ghost use Rattle.predicates_part.specs.Optional.{inner_of, value_of_ok, value_of_err};
 
 use predicates_core::node::{leaf_node, printed, showing_text};
 use predicates_core::reflection::{Case, Child, Parameter, PredicateReflection, describe};
@@ -28,14 +28,14 @@ pub trait Variant<T> {
     // The value, where the item is of the variant.
     ghost value_of: { T → Option Self.Value };
 
-    // What is said where it is not.
+    // The `error` that a case shows where it is not.
     ghost absent: { List ℕ };
 
     /// The value, where the item is of the variant.
     fn value(item: &T) -> Option<&Self::Value>
         ensures { option_copied result ≡ value_of item.now };
 
-    /// What is said where the item is not of the variant.
+    /// The `error` that a case shows where the item is not of the variant.
     fn absent() -> &'static str
         ensures { result.now ≡ absent };
 }
@@ -129,8 +129,8 @@ impl<V, P> VariantPredicate<V, P> {
     }
 }
 
-/// The case of a value that is absent: a false leaf with the text of the predicate that would be
-/// asked about it, and with what is said in its place as the product `error`.
+/// The case of a value that is absent: a false leaf with the text of the predicate that tests such
+/// a value, and with the reason as the product `error`.
 pub(crate) fn absent_case<P: fmt::Display>(
     alloc: Global,
     predicate: &P,
@@ -184,7 +184,7 @@ impl<V: Variant<T>, P: Predicate<V::Value>, T> Predicate<T> for VariantPredicate
     ghost one_formula = { λ p v f g lawful. one_present (V.value_of v)
         (λ u x y. P.one_formula (inner_of p) u x y lawful) };
 
-    #[tactic(auto, using(crate::proofs::OptionalCases::optional_cases))]
+    #[tactic(auto, using(predicates_core::proofs::PresentCases::present_cases))]
     fn eval(&self, alloc: Global, item: &T) -> Result<bool, AllocError> {
         match V::value(item) {
             Some(value) => self.inner.eval(alloc, value),
@@ -192,7 +192,7 @@ impl<V: Variant<T>, P: Predicate<V::Value>, T> Predicate<T> for VariantPredicate
         }
     }
 
-    #[tactic(auto, using(crate::proofs::OptionalCases::optional_cases))]
+    #[tactic(auto, using(predicates_core::proofs::PresentCases::present_cases))]
     fn find_case(
         &self,
         alloc: Global,

@@ -19,8 +19,8 @@ use predicates_core::{Predicate, Total};
 use std::alloc::{AllocError, Global};
 use std::fmt;
 
-/// Passes the content at a path to a predicate of bytes, and does not hold where there is none. Made
-/// by `PredicateFileContentExt::from_file_path`.
+/// Holds where a path has a content and its inner predicate holds of the bytes. Made by
+/// `PredicateFileContentExt::from_file_path`.
 #[derive(Debug, Clone, Copy, PartialEq, Eq, Drop)]
 pub struct FileContentPredicate<P> {
     inner: P,
@@ -129,8 +129,14 @@ impl<P: Total<Vec<u8>>> Total<Snapshot> for FileContentPredicate<P> {
 
 /// Evaluates predicates of bytes on the contents of files.
 pub trait PredicateFileContentExt: Predicate<Vec<u8>> {
-    /// Holds where the snapshot has a content and this predicate holds of its bytes. `eval` does not
-    /// allocate where this one does not on the bytes, or where there is no content.
+    /// Holds where the snapshot has a content and this predicate holds of its bytes. `eval` takes
+    /// no memory where this one takes none on the bytes, or where there is no content.
+    ///
+    /// ```
+    /// let short = predicate::le(9).of_len().from_file_path();
+    /// assert!(rt; short.eval(alloc, &file)?);
+    /// assert!(rt; !short.eval(alloc, &gone)?); // without a content
+    /// ```
     fn from_file_path(self) -> FileContentPredicate<Self>
     where
         Self: Sized,

@@ -31,7 +31,13 @@ pub struct BinaryFilePredicate {
 }
 
 /// Holds where the content equals the snapshot's. It fails with the snapshot's fault where that has
-/// no content; the path is then dropped. It does not allocate.
+/// no content; the path is then dropped. It takes no memory.
+///
+/// ```
+/// let same = predicate::path::eq_file(file)?;
+/// assert!(rt; same.eval(alloc, &Vec::from_slice(alloc, b"hello")?)?);
+/// assert!(rt; predicate::path::eq_file(gone) == Err(PathFault::NotFound));
+/// ```
 pub fn eq_file(snapshot: Snapshot) -> Result<BinaryFilePredicate, PathFault>
     ensures content { MatchResult (content_of snapshot)
         (λ bytes. IsOkAnd result
@@ -53,7 +59,12 @@ pub fn eq_file(snapshot: Snapshot) -> Result<BinaryFilePredicate, PathFault>
 
 impl BinaryFilePredicate {
     /// The predicate that compares texts and contents with these bytes, where they are UTF-8. Where
-    /// they are not, it is `None`, and the path and the bytes are dropped. It does not allocate.
+    /// they are not, it is `None`, and the path and the bytes are dropped. It takes no memory.
+    ///
+    /// ```
+    /// let same = predicate::path::eq_file(file)?.utf8().ok_or("no text")?;
+    /// assert!(rt; same.eval(alloc, &"hello".to_owned(alloc)?)?);
+    /// ```
     pub fn utf8(self) -> Option<StrFilePredicate>
         ensures text { MatchOption result (¬ (IsUtf8 (compared_bytes self)))
             (λ p. (text.compared_path p ≡ compared_path self)

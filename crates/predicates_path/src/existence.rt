@@ -20,7 +20,12 @@ pub struct ExistencePredicate {
     exists: bool,
 }
 
-/// Holds where the path leads to something. It does not allocate.
+/// Holds where the path leads to something. It takes no memory.
+///
+/// ```
+/// assert!(rt; predicate::path::exists().eval(alloc, &file)?);
+/// assert!(rt; !predicate::path::exists().eval(alloc, &gone)?);
+/// ```
 pub fn exists() -> ExistencePredicate
     ensures presence { asks_presence result ≡ true }
     ensures formula { (s : Snapshot) (f : Formula)
@@ -30,7 +35,12 @@ pub fn exists() -> ExistencePredicate
     ExistencePredicate { exists: true }
 }
 
-/// Holds where the path leads to nothing, or is a link without a target. It does not allocate.
+/// Holds where the path leads to nothing, or is a link without a target. It takes no memory.
+///
+/// ```
+/// assert!(rt; predicate::path::missing().eval(alloc, &gone)?);
+/// assert!(rt; !predicate::path::missing().eval(alloc, &file)?);
+/// ```
 pub fn missing() -> ExistencePredicate
     ensures presence { asks_presence result ≡ false }
     ensures formula { (s : Snapshot) (f : Formula)

@@ -30,7 +30,12 @@ pub struct FileTypePredicate {
 }
 
 /// Holds where a regular file is at the path itself, without following links, and not where the kind
-/// is a fault. It does not allocate.
+/// is a fault. It takes no memory.
+///
+/// ```
+/// assert!(rt; predicate::path::is_file().eval(alloc, &file)?);
+/// assert!(rt; !predicate::path::is_file().eval(alloc, &link)?);
+/// ```
 pub fn is_file() -> FileTypePredicate
     ensures kind { tested_kind result ≡ FileType.File }
     ensures follow { follows result ≡ false }
@@ -45,7 +50,11 @@ pub fn is_file() -> FileTypePredicate
 }
 
 /// Holds where a directory is at the path itself, without following links, and not where the kind
-/// is a fault. It does not allocate.
+/// is a fault. It takes no memory.
+///
+/// ```
+/// assert!(rt; !predicate::path::is_dir().eval(alloc, &file)?);
+/// ```
 pub fn is_dir() -> FileTypePredicate
     ensures kind { tested_kind result ≡ FileType.Dir }
     ensures follow { follows result ≡ false }
@@ -59,7 +68,12 @@ pub fn is_dir() -> FileTypePredicate
     }
 }
 
-/// Holds where a link is at the path itself, whatever it leads to. It does not allocate.
+/// Holds where a link is at the path itself, whatever it leads to. It takes no memory.
+///
+/// ```
+/// assert!(rt; predicate::path::is_symlink().eval(alloc, &link)?);
+/// assert!(rt; !predicate::path::is_symlink().eval(alloc, &file)?);
+/// ```
 pub fn is_symlink() -> FileTypePredicate
     ensures kind { tested_kind result ≡ FileType.Symlink }
     ensures follow { follows result ≡ false }
@@ -95,7 +109,13 @@ fn show_found(
 
 impl FileTypePredicate {
     /// Holds where a path leads to the same kind of file as the snapshot's, after following links.
-    /// It fails with the snapshot's fault where that has no kind. It does not allocate.
+    /// It fails with the snapshot's fault where that has no kind. It takes no memory.
+    ///
+    /// ```
+    /// let same = FileTypePredicate::from_path(&link)?; // which leads to a file
+    /// assert!(rt; same.eval(alloc, &file)?);
+    /// assert!(rt; FileTypePredicate::from_path(&gone) == Err(PathFault::NotFound));
+    /// ```
     pub fn from_path(snapshot: &Snapshot) -> Result<FileTypePredicate, PathFault>
         ensures found { MatchResult (followed_of snapshot.now)
             (λ kind. IsOkAnd result (λ p. tested_kind p ≡ kind))
@@ -111,7 +131,12 @@ impl FileTypePredicate {
         })
     }
 
-    /// The predicate of the same kind, which follows links where `yes` is true. It does not allocate.
+    /// The predicate of the same kind, which follows links where `yes` is true. It takes no memory.
+    ///
+    /// ```
+    /// let leads_to_file = predicate::path::is_file().follow_links(true);
+    /// assert!(rt; leads_to_file.eval(alloc, &link)?);
+    /// ```
     pub fn follow_links(mut self, yes: bool) -> Self
         ensures kind { tested_kind result ≡ tested_kind self }
         ensures follow { follows result ≡ yes }

@@ -7,8 +7,8 @@
 //! ```
 //!
 //! Items are `Snapshot`s: a predicate itself never queries the file system. Making one of these
-//! predicates does not allocate, and neither does `eval`, apart from what a predicate of bytes
-//! allocates under `from_file_path`.
+//! predicates takes no memory, and neither does `eval`, apart from what a predicate of bytes takes
+//! under `from_file_path`.
 #![tactic(auto)]
 
 mod content;

@@ -61,8 +61,13 @@ pub(crate) fn has_bytes(bytes: &[u8], found: &[u8]) -> bool
 impl Snapshot {
     /// Queries the file system once for each of the two kinds, and reads the content once where the
     /// path leads to a regular file; it never waits for a pipe or a device. A failed query is kept
-    /// as a `PathFault`. It fails only where memory runs out, here or in the system. It allocates
-    /// the path and the content.
+    /// as a `PathFault`. It fails only where memory runs out, here or in the system. It takes
+    /// memory for the path and the content.
+    ///
+    /// ```
+    /// let gone = Snapshot::take(&rt, alloc, "no such file")?;
+    /// assert!(rt; gone.plain() == Err(PathFault::NotFound));
+    /// ```
     pub fn take<R: Files + AllocGlobal>(
         rt: &R,
         alloc: Global,
@@ -88,7 +93,13 @@ impl Snapshot {
     }
 
     /// A snapshot made of the given parts, even of parts that no file system would give together.
-    /// It does not allocate.
+    /// It takes no memory.
+    ///
+    /// ```
+    /// let (kind, content) = (Ok(FileType::File), Ok(Vec::from_slice(alloc, b"hello")?));
+    /// let file = Snapshot::from_parts("a".to_owned(alloc)?, kind, kind, content);
+    /// assert!(rt; file.path() == "a");
+    /// ```
     pub fn from_parts(
         path: String,
         plain: Result<FileType, PathFault>,

@@ -81,7 +81,7 @@ pub type XorPredicate<M1, M2, Item> = JoinPredicate<XorOperator, M1, M2, Item>;
 impl<O, M1, M2, Item> JoinPredicate<O, M1, M2, Item> {
     ghost use Rattle.predicates_boolean.specs.Join.{left_of, right_of};
 
-    /// Both parts; the left one is evaluated first.
+    /// Joins two parts; `a` is the left one and is evaluated first.
     pub fn new(a: M1, b: M2) -> JoinPredicate<O, M1, M2, Item>
         ensures left { left_of result ≡ a }
         ensures right { right_of result ≡ b }

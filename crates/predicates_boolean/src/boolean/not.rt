@@ -23,7 +23,7 @@ pub struct NotPredicate<M, Item> {
 impl<M, Item> NotPredicate<M, Item> {
     ghost use Rattle.predicates_boolean.specs.Not.{inner_of};
 
-    /// The opposite of the part.
+    /// Holds where `inner` does not, as `PredicateBooleanExt::not`.
     pub fn new(inner: M) -> NotPredicate<M, Item>
         ensures { inner_of result ≡ inner }
     {

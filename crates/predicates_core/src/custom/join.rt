@@ -1,4 +1,4 @@
-//! The case of two parts that an operator joins, over parts that are asked here.
+//! The verdict and the case of two parts that an operator joins.
 ghost use Rattle.std.specs.Prelude.{◌≡◌, ℕ, List, Option, IfOk, IsOk};
 ghost use Rattle.predicates_core.specs.Asked.{asks, keeps, IsTruthIf, IsCaseIf};
 ghost use Rattle.predicates_core.specs.Combined.{sign, IsPair};
@@ -45,7 +45,7 @@ impl Operator {
         }
     }
 
-    /// Whether the right part counts where the left one has this truth.
+    /// Whether the right part is evaluated after the left one had this truth.
     pub fn asks(self, left: bool) -> bool
         ensures { result ≡ asks self left }
     {
@@ -68,7 +68,7 @@ impl Operator {
     }
 }
 
-/// The part's truth, where it is asked for.
+/// The part's verdict if it is `asked`, and else `false`, for which the part is not evaluated.
 pub fn truth_if<P: Predicate<Item>, Item>(
     alloc: Global,
     asked: bool,
@@ -86,7 +86,7 @@ pub fn truth_if<P: Predicate<Item>, Item>(
     }
 }
 
-// The part's case, where it is asked for.
+// The part's case if it is `asked`.
 fn case_if<P: Predicate<Item>, Item>(
     alloc: Global,
     asked: bool,
@@ -104,8 +104,8 @@ fn case_if<P: Predicate<Item>, Item>(
     }
 }
 
-/// What `eval` of a predicate is to answer that joins two parts. The left part is asked first, and
-/// the right one only where it counts.
+/// The `eval` of a predicate that joins two parts by an operator. It evaluates the left part first,
+/// and the right one only if that can change the verdict.
 #[tactic(auto, using(crate::proofs::Asked::HasTruth_asked))]
 pub fn join_truth<P: Predicate<Item>, Q: Predicate<Item>, Item>(
     alloc: Global,
@@ -126,8 +126,8 @@ pub fn join_truth<P: Predicate<Item>, Q: Predicate<Item>, Item>(
     Ok(operator.apply(left_holds, right_holds))
 }
 
-/// What `find_case` of a predicate is to answer that joins two parts. Each part that counts is
-/// asked for its truth, the left one first, and then, where it belongs to the reason, for its case.
+/// The `find_case` of a predicate that joins two parts by an operator. It evaluates the parts as
+/// `join_truth` does, and then makes the cases of those that belong to the reason.
 pub fn join_case<W: fmt::Display, P: Predicate<Item>, Q: Predicate<Item>, Item>(
     alloc: Global,
     operator: Operator,

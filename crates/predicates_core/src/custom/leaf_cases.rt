@@ -10,8 +10,8 @@ use crate::reflection::Case;
 use std::alloc::{AllocError, Global};
 use std::fmt;
 
-/// What `find_case` of a leaf without products is to answer, where the leaf `holds` or does not. It
-/// takes memory for the case alone.
+/// The `find_case` of a leaf without products, from its verdict `holds`. It takes memory for the
+/// case alone.
 #[tactic(auto, using(crate::proofs::Leaves::leaves))]
 pub fn bare_case<P: fmt::Display>(
     alloc: Global,
@@ -25,13 +25,13 @@ pub fn bare_case<P: fmt::Display>(
     if holds != expected {
         return Ok(None);
     }
-    made_bare_case(alloc, leaf, holds)
+    make_bare_case(alloc, leaf, holds)
 }
 
-// The case that there is, in a function of its own, so that an answer without one needs no frame.
+// Makes the case. It is not inlined, so that a caller that gets none uses no stack for it.
 #[inline(never)]
 #[tactic(auto, using(crate::proofs::Leaves::leaves))]
-fn made_bare_case<P: fmt::Display>(
+fn make_bare_case<P: fmt::Display>(
     alloc: Global,
     leaf: &P,
     holds: bool,
@@ -42,7 +42,7 @@ fn made_bare_case<P: fmt::Display>(
     Ok(Some(leaf_node(alloc, printed(alloc, leaf)?, holds)))
 }
 
-/// The same of a leaf that shows the item's debug form as its product `var`.
+/// The same for a leaf that shows the item's debug form as its product `var`.
 #[tactic(auto, using(crate::proofs::Leaves::leaves))]
 pub fn showing_case<P: fmt::Display, Item: fmt::Debug>(
     alloc: Global,
@@ -58,13 +58,13 @@ pub fn showing_case<P: fmt::Display, Item: fmt::Debug>(
     if holds != expected {
         return Ok(None);
     }
-    made_showing_case(alloc, leaf, holds, item)
+    make_showing_case(alloc, leaf, holds, item)
 }
 
-// As `made_bare_case`.
+// As `make_bare_case`, with the product.
 #[inline(never)]
 #[tactic(auto, using(crate::proofs::Leaves::leaves))]
-fn made_showing_case<P: fmt::Display, Item: fmt::Debug>(
+fn make_showing_case<P: fmt::Display, Item: fmt::Debug>(
     alloc: Global,
     leaf: &P,
     holds: bool,

@@ -1,4 +1,4 @@
-//! Verdicts and cases over the members of a list, each of which is asked here.
+//! Verdicts and cases over the members of a list, by one predicate of a member.
 ghost use Rattle.std.specs.Prelude.{◌≡◌, ◌≢◌, ℕ, [], List, not, IfOk, IsOk, codes};
 ghost use Rattle.std.specs.List.{AllByRecursion};
 ghost use Rattle.predicates_core.specs.Formula.{HasTruth};
@@ -13,8 +13,8 @@ use crate::reflection::Case;
 use std::alloc::{AllocError, Global};
 use std::fmt;
 
-/// Whether a predicate holds of a list that is decided by one member with the truth `decides`. It
-/// asks no further.
+/// The `eval` of a predicate of a list that one member with the verdict `decides` decides. It stops
+/// at the first such member.
 pub fn members_hold<P: Predicate<Item>, Item>(
     alloc: Global,
     part: &P,
@@ -34,8 +34,8 @@ pub fn members_hold<P: Predicate<Item>, Item>(
     Ok(!decides)
 }
 
-/// What `find_case` of such a predicate is to answer. Its node shows each member under the name, or
-/// the first that decides, with its number as the product `index`.
+/// The `find_case` of such a predicate. The node has the case of each member under the name, or
+/// that of the first member that decides, with its number as the product `index`.
 pub fn members_case<W: fmt::Display, P: Predicate<Item>, Item>(
     alloc: Global,
     whole: &W,

@@ -1,4 +1,4 @@
-//! The case of a negation, over a part that is asked here.
+//! The case of a negation.
 ghost use Rattle.std.specs.Prelude.{IfOk};
 ghost use Rattle.predicates_core.specs.Combined.{IsNot};
 ghost use Rattle.predicates_core.specs.Shows.{IsAnswer};
@@ -9,7 +9,7 @@ use crate::reflection::Case;
 use std::alloc::{AllocError, Global};
 use std::fmt;
 
-/// What `find_case` of a predicate is to answer that holds where its part does not.
+/// The `find_case` of a predicate that holds where its part does not.
 #[tactic(auto, using(crate::proofs::CombinedLemmas::combined))]
 pub fn not_case<W: fmt::Display, P: Predicate<Item>, Item>(
     alloc: Global,

@@ -1,4 +1,4 @@
-//! Verdicts and cases of several predicates of one item, each of which is asked here.
+//! Verdicts and cases of several predicates of one item.
 ghost use Rattle.std.specs.Prelude.{◌≡◌, ◌≢◌, ℕ, [], List, not, IfOk, IsOk};
 ghost use Rattle.std.specs.List.{AllByRecursion};
 ghost use Rattle.predicates_core.specs.Formula.{HasTruth};
@@ -15,8 +15,8 @@ use crate::reflection::{Case, Child, PredicateReflection, describe};
 use std::alloc::{AllocError, Global};
 use std::fmt;
 
-/// Whether a predicate holds that is decided by one part with the truth `decides`. It asks no
-/// further.
+/// The `eval` of a predicate that one part with the verdict `decides` decides. It stops at the
+/// first such part.
 pub fn parts_hold<P: Predicate<Item>, Item>(
     alloc: Global,
     parts: &[P],
@@ -36,8 +36,8 @@ pub fn parts_hold<P: Predicate<Item>, Item>(
     Ok(!decides)
 }
 
-/// What `find_case` of such a predicate is to answer. Its node shows each part under the name, or
-/// the first that decides, with its number as the product `index`.
+/// The `find_case` of such a predicate. The node has the case of each part under the name, or that
+/// of the first part that decides, with its number as the product `index`.
 pub fn parts_case<W: fmt::Display, P: Predicate<Item>, Item>(
     alloc: Global,
     whole: &W,

@@ -1,7 +1,7 @@
-//! Whether each of several has to hold, or one, as a type.
+//! Whether each of several predicates has to hold, or one, as a type.
 ghost use Rattle.std.specs.Prelude.{◌≡◌, Bool, true, false};
 
-/// How many of several have to hold.
+/// How many of several predicates have to hold: each, or one.
 pub trait Quantifier {
     // One that holds suffices; otherwise each has to.
     ghost one_suffices: { Bool };
@@ -11,7 +11,7 @@ pub trait Quantifier {
         ensures { result ≡ one_suffices };
 }
 
-/// Each of them.
+/// Each of them has to hold.
 #[derive(Debug, Clone, Copy, PartialEq, Eq)]
 pub struct Every;
 
@@ -23,7 +23,7 @@ impl Quantifier for Every {
     }
 }
 
-/// At least one of them.
+/// At least one of them has to hold.
 #[derive(Debug, Clone, Copy, PartialEq, Eq)]
 pub struct AtLeastOne;
 

@@ -29,6 +29,12 @@ pub struct TestPredicate<T> {
 }
 
 /// The predicate of a test.
+///
+/// ```
+/// let multiple = leaf(MultipleOf { divisor: 42 });
+/// assert!(rt; multiple.eval(alloc, &84)?);
+/// assert!(rt; !multiple.eval(alloc, &41)?);
+/// ```
 pub fn leaf<T>(test: T) -> TestPredicate<T>
     ensures { test_of result ≡ test }
 {

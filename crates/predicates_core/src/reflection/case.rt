@@ -60,6 +60,12 @@ impl Model for Case {
 impl Case {
     /// A node without products and children. It takes no memory; the lists of the case take from
     /// the allocator once they grow.
+    ///
+    /// ```
+    /// let part = Case::new(alloc, None, true);
+    /// let whole = Case::new(alloc, None, true).add_child("part", part)?;
+    /// assert!(rt; whole.root().children().count() == 1);
+    /// ```
     pub fn new(alloc: Global, predicate: Option<String>, outcome: bool) -> Case
         ensures { result ≡ leaf (option_map string_bytes predicate) outcome }
     {
@@ -73,8 +79,8 @@ impl Case {
         }
     }
 
-    /// The case with a product more, which is the last of its root. Where memory is refused, the
-    /// case and the product are dropped.
+    /// Adds a product to the root, behind those that are there. Where memory runs out, the case and
+    /// the product are dropped.
     #[inline(always)] // a call would copy the case
     pub fn add_product(mut self, product: Product) -> Result<Case, AllocError>
         ensures { IfOk result (λ c. c ≡ with_product self product) }
@@ -83,8 +89,8 @@ impl Case {
         Ok(self)
     }
 
-    /// The case with a child more, which is the last and stands under the name. Where memory is
-    /// refused, the case and the child are dropped.
+    /// Adds a child to the root under the name, behind those that are there. Where memory runs out,
+    /// the case and the child are dropped.
     pub fn add_child(self, name: &'static str, child: Case) -> Result<Case, AllocError>
         ensures { IfOk result (λ c. c ≡ with_child self name.entry.now child) }
     {

@@ -22,6 +22,11 @@ impl Model for Parameter {
 
 impl Parameter {
     /// The value under the name; both are kept as they are.
+    ///
+    /// ```
+    /// let parameter = Parameter::new("count", "2".to_owned(alloc)?);
+    /// assert!(rt; parameter.name() == "count" && parameter.value() == "2");
+    /// ```
     pub fn new(name: &'static str, value: String) -> Parameter
         ensures { result ≡ (name.entry.now, string_bytes value) }
     {

@@ -22,6 +22,11 @@ impl Model for Product {
 
 impl Product {
     /// The value under the name; both are kept as they are.
+    ///
+    /// ```
+    /// let product = Product::new("var", "3".to_owned(alloc)?);
+    /// assert!(rt; product.name() == "var" && product.value() == "3");
+    /// ```
     pub fn new(name: &'static str, value: String) -> Product
         ensures { result ≡ (name.entry.now, string_bytes value) }
     {

@@ -63,7 +63,13 @@ fn write_case(out: &mut String, depth: usize, case: &CaseView<'_>) -> Result<(),
 }
 
 /// Writes the lines of a case after what the text holds. It takes memory where the text has no room
-/// for them, and is refused where that is; some of the lines may then stand there.
+/// for them, and fails where that runs out; some of the lines may then have been written.
+///
+/// ```
+/// let mut lines = "request 17: ".to_owned(alloc)?;
+/// render_onto(&mut lines, &leaf_node(alloc, "true".to_owned(alloc)?, true))?;
+/// assert!(rt; lines.as_str() == "request 17: true = true\n");
+/// ```
 pub fn render_onto(out: &mut String, case: &Case) -> Result<(), AllocError>
     ensures { OnOk result (string_bytes out.new ≡ string_bytes out.old ++ lines case.now) }
 {
@@ -86,7 +92,13 @@ fn room(case: &CaseView<'_>) -> usize {
 
 /// The lines of a case: one a node, indented by two spaces for each depth, with the node's
 /// products and then its children below it. Each ends by a line feed. It takes memory for them, and
-/// is refused where that is.
+/// fails where that runs out.
+///
+/// ```
+/// let case = leaf_node(alloc, "var.is_empty()".to_owned(alloc)?, false);
+/// let lines = render(alloc, &case)?;
+/// assert!(rt; lines.as_str() == "var.is_empty() = false\n");
+/// ```
 pub fn render(alloc: Global, case: &Case) -> Result<String, AllocError>
     ensures { IfOk result (λ text. string_bytes text ≡ lines case.now) }
 {

@@ -1,4 +1,4 @@
-//! Membership in a hashed set.
+//! Membership in a hash set.
 ghost use Rattle.std.specs.Prelude.{◌≡◌, refl, codes, IfOk, None};
 ghost use Rattle.std.specs.Iterator.{IsFiniteIterable};
 ghost use Rattle.predicates_core.specs.Label.{value_of};
@@ -16,16 +16,21 @@ use std::alloc::{AllocError, Global};
 use std::fmt;
 use std::hash::Hash;
 
-/// Holds of an item that equals one of some values, of which the first of equal ones is kept, in a
-/// hashed set. Made by `in_hash`.
+/// Holds of an item that equals one of its members, which stand in a hash set. Made by `in_hash`.
 #[derive(Debug, Drop)]
 pub struct HashableInPredicate<T: Eq + Hash> {
     members: IndexSet<T>,
 }
 
-/// The predicate that holds of each item that equals one of those that the iterator gives, of which
-/// the first of equal ones stays in its place and the others are dropped. The iterator has to end.
-/// Where memory is refused, it and what it gave are dropped.
+/// Holds of an item that equals one of the iterator's items. Of equal ones the first is kept, in
+/// its place, and the others are dropped. The iterator has to end. Where memory runs out, it and
+/// the items are dropped.
+///
+/// ```
+/// let distinct = predicate::in_hash(alloc, [5, 1, 3, 1])?;
+/// assert!(rt; distinct.eval(alloc, &3)?);
+/// assert!(rt; !distinct.eval(alloc, &4)?);
+/// ```
 pub fn in_hash<I: IntoIterator<Item = T>, T: fmt::Debug + Hash + Eq + Drop>(
     alloc: Global,
     iter: I,

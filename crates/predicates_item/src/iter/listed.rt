@@ -18,16 +18,21 @@ use predicates_core::{Predicate, ReadsContent, Total};
 use std::alloc::{AllocError, Global};
 use std::fmt;
 
-/// Holds of an item that equals one of some values, which are compared one by one. Made by
+/// Holds of an item that equals one of its members, which are compared one by one. Made by
 /// `in_iter`.
 #[derive(Debug, PartialEq, Eq, Drop)]
 pub struct InPredicate<T> {
     members: Vec<T>,
 }
 
-/// The predicate that holds of each item that equals one of those that the iterator gives, all of
-/// which are kept in order. The iterator has to end. Where memory is refused, it and what it gave
-/// are dropped.
+/// Holds of an item that equals one of the iterator's items. All of them are kept, in order. The
+/// iterator has to end. Where memory runs out, it and the items are dropped.
+///
+/// ```
+/// let few = predicate::in_iter(alloc, [5, 1, 3])?;
+/// assert!(rt; few.eval(alloc, &3)?);
+/// assert!(rt; !few.eval(alloc, &4)?);
+/// ```
 pub fn in_iter<I: IntoIterator<Item = T>, T: fmt::Debug + PartialEq + Drop>(
     alloc: Global,
     iter: I,
@@ -55,8 +60,14 @@ impl<T: PartialEq> InPredicate<T> {
 }
 
 impl<T: Ord> InPredicate<T> {
-    /// The same members in ascending order, each as often as before, to be searched by halving.
-    /// Sorting takes memory; where it is refused, the members are dropped.
+    /// The predicate of the same members in ascending order, each as often as before, which finds
+    /// an item by binary search. Sorting takes memory; where it runs out, the members are dropped.
+    ///
+    /// ```
+    /// let sorted = predicate::in_iter(alloc, [5, 1, 3])?.sort()?;
+    /// assert!(rt; sorted.eval(alloc, &3)?);
+    /// assert!(rt; !sorted.eval(alloc, &4)?);
+    /// ```
     #[tactic(auto, using(crate::proofs::Memberships::same_rearranged))]
     pub fn sort(self) -> Result<OrdInPredicate<T>, AllocError>
     where

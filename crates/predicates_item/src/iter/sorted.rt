@@ -8,8 +8,8 @@ use predicates_core::{Predicate, ReadsContent, Total};
 use std::alloc::{AllocError, Global};
 use std::fmt;
 
-/// Holds of an item that equals one of some values, which are kept in ascending order and searched
-/// by halving. Made by `InPredicate::sort`.
+/// Holds of an item that equals one of its members, which are kept in ascending order and found by
+/// binary search. Made by `InPredicate::sort`.
 #[derive(Debug, PartialEq, Eq, Drop)]
 pub struct OrdInPredicate<T: Ord> {
     pub(crate) members: Vec<T>,
@@ -25,14 +25,21 @@ impl<T: Ord> OrdInPredicate<T> {
     /// Whether some member equals the item. Afterwards `steps` is the number of comparisons of
     /// this call, which is at most the number of binary digits of the number of members. It takes
     /// no memory.
+    ///
+    /// ```
+    /// let sorted = predicate::in_iter(alloc, [5, 1, 3])?.sort()?;
+    /// let mut steps = Steps::new();
+    /// assert!(rt; sorted.search_counted(&3, &mut steps));
+    /// assert!(rt; steps.count() <= 2);
+    /// ```
     pub fn search_counted(&self, item: &T, steps: &mut Steps) -> bool
         ensures member { result ≡ has_equal T.eq (members_of self.now) item.now }
         ensures bound { steps.new ≤ digits (length (members_of self.now)) }
     {
         steps.clear();
         // The `left` members from `base` on are undecided, and `found` is the end of the members
-        // up to an equal one, or 0. It is no `bool`, since the compiler would then jump on what a
-        // comparison says, which no processor can foresee.
+        // up to an equal one, or 0. It is no `bool`, since the compiler would then branch on each
+        // comparison, which no processor predicts.
         let members = self.members.as_slice();
         let mut base = 0;
         let mut left = members.len();

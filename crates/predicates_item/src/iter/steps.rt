@@ -19,6 +19,11 @@ impl Model for Steps {
 
 impl Steps {
     /// A count of no comparisons.
+    ///
+    /// ```
+    /// let steps = Steps::new();
+    /// assert!(rt; steps.count() == 0);
+    /// ```
     pub fn new() -> Steps
         ensures { result ≡ 0 }
     {

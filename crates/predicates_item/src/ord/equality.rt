@@ -128,6 +128,12 @@ impl ReadsContent<String> for EqPredicate<String> {
 }
 
 /// Holds of an item that equals the constant.
+///
+/// ```
+/// let five = predicate::eq(5);
+/// assert!(rt; five.eval(alloc, &5)?);
+/// assert!(rt; !five.eval(alloc, &6)?);
+/// ```
 pub fn eq<T: fmt::Debug + PartialEq>(constant: T) -> EqPredicate<T>
     ensures { result ≡ equal_to constant }
 {
@@ -138,6 +144,12 @@ pub fn eq<T: fmt::Debug + PartialEq>(constant: T) -> EqPredicate<T>
 }
 
 /// Holds of an item that does not equal the constant.
+///
+/// ```
+/// let other = predicate::ne(5);
+/// assert!(rt; other.eval(alloc, &6)?);
+/// assert!(rt; !other.eval(alloc, &5)?);
+/// ```
 pub fn ne<T: fmt::Debug + PartialEq>(constant: T) -> EqPredicate<T>
     ensures { result ≡ unequal_to constant }
 {

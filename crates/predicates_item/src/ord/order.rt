@@ -46,7 +46,7 @@ pub struct OrdPredicate<T> {
 impl<T: Ord> OrdPredicate<T> {
     ghost use Rattle.predicates_item.specs.Comparison.{ord_truth};
 
-    // Whether the item stands in the order to the constant.
+    // Whether the item has the order to the constant.
     fn holds(&self, item: &T) -> bool
         ensures { result ≡ ord_truth self.now.op (T.cmp item.now self.now.constant) }
     {
@@ -140,6 +140,12 @@ impl ReadsContent<String> for OrdPredicate<String> {
 }
 
 /// Holds of an item less than the constant.
+///
+/// ```
+/// let below = predicate::lt(5);
+/// assert!(rt; below.eval(alloc, &4)?);
+/// assert!(rt; !below.eval(alloc, &5)?);
+/// ```
 pub fn lt<T: fmt::Debug + Ord>(constant: T) -> OrdPredicate<T>
     ensures { result ≡ less_than constant }
 {
@@ -150,6 +156,12 @@ pub fn lt<T: fmt::Debug + Ord>(constant: T) -> OrdPredicate<T>
 }
 
 /// Holds of an item at most the constant.
+///
+/// ```
+/// let at_most = predicate::le(5);
+/// assert!(rt; at_most.eval(alloc, &5)?);
+/// assert!(rt; !at_most.eval(alloc, &6)?);
+/// ```
 pub fn le<T: fmt::Debug + Ord>(constant: T) -> OrdPredicate<T>
     ensures { result ≡ at_most constant }
 {
@@ -160,6 +172,12 @@ pub fn le<T: fmt::Debug + Ord>(constant: T) -> OrdPredicate<T>
 }
 
 /// Holds of an item at least the constant.
+///
+/// ```
+/// let at_least = predicate::ge(5);
+/// assert!(rt; at_least.eval(alloc, &5)?);
+/// assert!(rt; !at_least.eval(alloc, &4)?);
+/// ```
 pub fn ge<T: fmt::Debug + Ord>(constant: T) -> OrdPredicate<T>
     ensures { result ≡ at_least constant }
 {
@@ -170,6 +188,12 @@ pub fn ge<T: fmt::Debug + Ord>(constant: T) -> OrdPredicate<T>
 }
 
 /// Holds of an item greater than the constant.
+///
+/// ```
+/// let above = predicate::gt(5);
+/// assert!(rt; above.eval(alloc, &6)?);
+/// assert!(rt; !above.eval(alloc, &5)?);
+/// ```
 pub fn gt<T: fmt::Debug + Ord>(constant: T) -> OrdPredicate<T>
     ensures { result ≡ greater_than constant }
 {

@@ -1,6 +1,6 @@
 use Rattle.std.proofs.Common.{rules}
 use Rattle.predicates_core.proofs.Leaves.{IsCaseOf-showing, HasTruth-exactly}
-use Rattle.predicates_core.proofs.custom.leaf_cases.made_showing_case.Goals as goal
+use Rattle.predicates_core.proofs.custom.leaf_cases.make_showing_case.Goals as goal
 
 pub returns : goal.returns
 returns g c = IsCaseOf-showing c.in_ok-showing_item.ensures c.leaf_node-case.ensures (search rules) (HasTruth-exactly (search rules))

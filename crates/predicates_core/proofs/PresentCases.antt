@@ -1,0 +1,26 @@
+-- Verdicts and cases of a predicate of a value that may be absent, from those of the inner predicate.
+use Rattle.std.proofs.Common.{◌≡◌, ℕ, List, refl, sym, Bool, false, Option, Some, None}
+use denote.Ref.{Bor}
+use Rattle.predicates_core.specs.Label.{Entry}
+use Rattle.predicates_core.specs.Formula.{Formula, HasTruth}
+use Rattle.predicates_core.specs.Shows.{IsCaseOf}
+use Rattle.predicates_core.specs.Tree.{Tree}
+use Rattle.predicates_core.specs.Describe.{CaseNode}
+use Rattle.predicates_core.specs.Leaves.{IsExactly}
+use Rattle.predicates_core.proofs.Leaves.{HasTruth-exactly}
+use Rattle.predicates_core.specs.Present.{IsOfPresent, absent_leaf}
+
+module _ {U : Type 0} {text : Entry} {reason : List ℕ} {has : U → Formula → Type 0} {held : Option U} where
+  pub HasTruth-present : {b : Bool} {u : U} → held ≡ Some u → HasTruth (has u) b → HasTruth (IsOfPresent text reason has held) b
+  HasTruth-present {b} {u} e h = record { at = λ f x. h.at f (x.of_some u e) }
+
+  pub IsCaseOf-present : {b : Bool} {u : U} {t : Tree CaseNode} → held ≡ Some u → IsCaseOf (has u) b t → IsCaseOf (IsOfPresent text reason has held) b t
+  IsCaseOf-present {b} {u} e h = record { truth = HasTruth-present e h.truth; explains = λ f x. h.explains f (x.of_some u e) }
+
+  pub HasTruth-absent : {b : Bool} → held ≡ None → b ≡ false → HasTruth (IsOfPresent text reason has held) b
+  HasTruth-absent {b} e isnt = record { at = λ f x. (HasTruth-exactly (sym isnt)).at f (x.of_none e) }
+
+  pub IsCaseOf-absent : {b : Bool} {t : Tree CaseNode} → held ≡ None → b ≡ false → IsCaseOf (IsExactly (absent_leaf text reason)) false t → IsCaseOf (IsOfPresent text reason has held) b t
+  IsCaseOf-absent {b} e isnt h = record { truth = HasTruth-absent e isnt; explains = λ f x. h.explains f (x.of_none e) }
+
+pub ruleset present_cases = (HasTruth-present, IsCaseOf-present, HasTruth-absent, IsCaseOf-absent)

@@ -1,0 +1,103 @@
+use predicates::custom::leaf;
+use predicates::default_find_case;
+use predicates::node::{
+    binary_node, leaf_node, printed, showing, showing_item, showing_text, unary_node,
+};
+use predicates::prelude::*;
+use predicates::reflection::{Case, Parameter, Product, describe, render_onto};
+use predicates_uses::MultipleOf;
+use std::test::Fail;
+
+#[test]
+fn parts_of_cases(rt: HostRuntime) -> Result<(), Fail> {
+    let alloc = rt.alloc();
+
+    let name = StaticText::new("any");
+    assert!(rt; name.as_str() == "any");
+
+    let part = Case::new(alloc, None, true);
+    let whole = Case::new(alloc, None, true).add_child("part", part)?;
+    assert!(rt; whole.root().children().count() == 1);
+
+    let product = Product::new("var", "3".to_owned(alloc)?);
+    assert!(rt; product.name() == "var" && product.value() == "3");
+
+    let parameter = Parameter::new("count", "2".to_owned(alloc)?);
+    assert!(rt; parameter.name() == "count" && parameter.value() == "2");
+    Ok(())
+}
+
+#[test]
+fn lines(rt: HostRuntime) -> Result<(), Fail> {
+    let alloc = rt.alloc();
+
+    let case = leaf_node(alloc, "var.is_empty()".to_owned(alloc)?, false);
+    let lines = render(alloc, &case)?;
+    assert!(rt; lines.as_str() == "var.is_empty() = false\n");
+
+    let mut lines = "request 17: ".to_owned(alloc)?;
+    render_onto(&mut lines, &leaf_node(alloc, "true".to_owned(alloc)?, true))?;
+    assert!(rt; lines.as_str() == "request 17: true = true\n");
+
+    let part = describe(alloc, "left", &predicate::ge(5))?;
+    assert!(rt; part.name() == "left" && part.text() == "var >= 5");
+
+    let text = printed(alloc, &predicate::ge(5))?;
+    assert!(rt; text.as_str() == "var >= 5");
+    Ok(())
+}
+
+#[test]
+fn nodes(rt: HostRuntime) -> Result<(), Fail> {
+    let alloc = rt.alloc();
+
+    let case = leaf_node(alloc, "never".to_owned(alloc)?, false);
+    assert!(rt; !case.root().result());
+
+    let part = leaf_node(alloc, "a".to_owned(alloc)?, false);
+    let whole = unary_node(alloc, "(! a)".to_owned(alloc)?, true, "predicate", part)?;
+    let lines = render(alloc, &whole)?;
+    assert!(rt; lines.as_str() == "(! a) = true\n  predicate: a = false\n");
+
+    let (a, b) = ("a".to_owned(alloc)?, "b".to_owned(alloc)?);
+    let (left, right) = (leaf_node(alloc, a, true), leaf_node(alloc, b, true));
+    let whole = binary_node(alloc, "(a && b)".to_owned(alloc)?, true, left, right)?;
+    assert!(rt; whole.root().children().count() == 2);
+    Ok(())
+}
+
+#[test]
+fn products(rt: HostRuntime) -> Result<(), Fail> {
+    let alloc = rt.alloc();
+
+    let case = leaf_node(alloc, "even".to_owned(alloc)?, false);
+    let case = showing(case, "remainder", "1".to_owned(alloc)?)?;
+    let lines = render(alloc, &case)?;
+    assert!(rt; lines.as_str() == "even = false\n  - remainder: 1\n");
+
+    let case = leaf_node(alloc, "is text".to_owned(alloc)?, false);
+    let case = showing_text(alloc, case, "error", "invalid")?;
+    let lines = render(alloc, &case)?;
+    assert!(rt; lines.as_str() == "is text = false\n  - error: invalid\n");
+
+    let case = leaf_node(alloc, "var >= 5".to_owned(alloc)?, false);
+    let case = showing_item(alloc, case, &3)?;
+    let lines = render(alloc, &case)?;
+    assert!(rt; lines.as_str() == "var >= 5 = false\n  - var: 3\n");
+    Ok(())
+}
+
+#[test]
+fn leaves(rt: HostRuntime) -> Result<(), Fail> {
+    let alloc = rt.alloc();
+
+    let multiple = leaf(MultipleOf { divisor: 42 });
+    assert!(rt; multiple.eval(alloc, &84)?);
+    assert!(rt; !multiple.eval(alloc, &41)?);
+
+    let none = default_find_case(alloc, &predicate::ge(5), false, &7)?;
+    assert!(rt; none.is_none());
+    let case = default_find_case(alloc, &predicate::ge(5), true, &7)?.ok_or("no case")?;
+    assert!(rt; render(alloc, &case)?.as_str() == "var >= 5 = true\n");
+    Ok(())
+}

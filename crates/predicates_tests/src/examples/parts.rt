@@ -1,0 +1,95 @@
+ghost use Rattle.std.specs.Prelude.{◌≡◌, option_copied};
+
+use predicates::part::Field;
+use predicates::prelude::*;
+use std::alloc::{AllocError, Global};
+use std::test::Fail;
+
+// A guest with a name, an age and a seat, if there is one.
+#[derive(Drop)]
+struct Guest {
+    name: String,
+    age: u32,
+    seat: Option<u32>,
+}
+
+fn name_of(guest: &Guest) -> &String
+    ensures { result.now ≡ guest.now.name }
+{
+    &guest.name
+}
+
+fn seat_of(guest: &Guest) -> Option<&u32>
+    ensures { option_copied result ≡ guest.now.seat }
+{
+    guest.seat.as_ref()
+}
+
+#[derive(Drop)]
+struct Age;
+
+impl Field<Guest, u32> for Age {
+    ghost part_of = { λ field guest. guest.age };
+
+    fn get<'a>(&self, guest: &'a Guest) -> &'a u32 {
+        &guest.age
+    }
+}
+
+// A guest of 36 in the seat 7, and one of 17 without a seat.
+fn guests(alloc: Global) -> Result<(Guest, Guest), AllocError> {
+    let ada = Guest {
+        name: "Ada".to_owned(alloc)?,
+        age: 36,
+        seat: Some(7),
+    };
+    let bob = Guest {
+        name: "Bob".to_owned(alloc)?,
+        age: 17,
+        seat: None,
+    };
+    Ok((ada, bob))
+}
+
+#[test]
+fn of_fields(rt: HostRuntime) -> Result<(), Fail> {
+    let alloc = rt.alloc();
+    let (ada, bob) = guests(alloc)?;
+
+    let adult = predicate::ge(18).of("age", |guest: &Guest| guest.age);
+    assert!(rt; adult.eval(alloc, &ada)?);
+    assert!(rt; !adult.eval(alloc, &bob)?);
+
+    let first = predicate::eq("Ada".to_owned(alloc)?).of_ref("name", name_of);
+    assert!(rt; first.eval(alloc, &ada)?);
+    assert!(rt; !first.eval(alloc, &bob)?);
+
+    let front = predicate::le(9).of_some_ref("seat", seat_of);
+    assert!(rt; front.eval(alloc, &ada)?);
+    assert!(rt; !front.eval(alloc, &bob)?); // without a seat
+
+    let adult = predicate::ge(18).of_field("age", Age);
+    assert!(rt; adult.eval(alloc, &ada)?);
+    assert!(rt; !adult.eval(alloc, &bob)?);
+    Ok(())
+}
+
+#[test]
+fn of_values_that_may_be_absent(rt: HostRuntime) -> Result<(), Fail> {
+    let alloc = rt.alloc();
+
+    let adult = predicate::ge(18).of_some();
+    assert!(rt; adult.eval(alloc, &Some(18))?);
+    assert!(rt; !adult.eval(alloc, &None)?);
+
+    let found = predicate::eq(200u16).of_ok();
+    let (answered, failed): (Result<u16, u8>, Result<u16, u8>) = (Ok(200), Err(7));
+    assert!(rt; found.eval(alloc, &answered)?);
+    assert!(rt; !found.eval(alloc, &failed)?);
+
+    let seven = predicate::eq(7u8).of_err();
+    let (answered, failed): (Result<u16, u8>, Result<u16, u8>) = (Ok(200), Err(7));
+    assert!(rt; seven.eval(alloc, &failed)?);
+    assert!(rt; !seven.eval(alloc, &answered)?);
+    Ok(())
+}
