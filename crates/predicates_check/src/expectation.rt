@@ -45,6 +45,10 @@ pub fn expect<Item: Drop, P: Drop>(
 
 /// One failure for each expectation that is not met, in their order. It takes memory for the
 /// failures: their labels and their cases.
+///
+/// ```
+/// assert!(rt; check_all(alloc, expected.as_slice())?.len() == 1);
+/// ```
 pub fn check_all<P: Predicate<Item>, Item>(
     alloc: Global,
     expectations: &[Expectation<Item, P>],

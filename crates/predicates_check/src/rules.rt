@@ -10,7 +10,7 @@ use std::alloc::{AllocError, Global};
 /// Adds the case of the rule where it does not hold of the item, and nothing where it holds: for
 /// rules of several types, one call for each.
 ///
-/// It takes memory for the case. Where that is refused, the cases are as before.
+/// It takes memory for the case. Where it runs out, the cases are as before.
 ///
 /// ```
 /// let mut cases = Vec::new(alloc);
@@ -36,6 +36,12 @@ pub fn add_failure<P: Predicate<Item>, Item>(
 
 /// One case for each rule that does not hold of the item, in their order: all failures, where the
 /// case of `and` shows the first reason alone. It takes memory for the cases.
+///
+/// ```
+/// let rules = [predicate::ge(5), predicate::ge(10)];
+/// let cases = failures(alloc, &rules, &7)?;
+/// assert!(rt; cases.len() == 1);
+/// ```
 pub fn failures<P: Predicate<Item>, Item>(
     alloc: Global,
     rules: &[P],

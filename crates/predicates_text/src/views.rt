@@ -1,9 +1,4 @@
 //! The texts that are made of a text.
-//!
-//! ```
-//! let bare = trimmed(alloc, "  a b ")?; // "a b"
-//! let even = lines_even(alloc, "a\r\nb\r")?; // "a\nb\n"
-//! ```
 ghost use Rattle.std.specs.Prelude.{◌≡◌, ◌≢◌, All, IfOk, string_bytes};
 ghost use Rattle.std.specs.Str.{chars};
 ghost use Rattle.predicates_text.specs.Views.{trimmed, lines_even, carriage_return};
@@ -13,6 +8,10 @@ ghost use Rattle.predicates_text.specs.ViewFormulas.{trimmed_bytes, even_bytes};
 use std::alloc::{AllocError, Global};
 
 /// The text without its longest front and its longest back of white space, in memory of its own.
+///
+/// ```
+/// assert!(rt; trimmed(alloc, " \ta b\u{a0}")?.as_str() == "a b");
+/// ```
 #[tactic(auto, using(crate::proofs::Trimming::view_of_trim))]
 pub fn trimmed(alloc: Global, text: &str) -> Result<String, AllocError>
     ensures view { IfOk result (λ s. chars (string_bytes s) ≡ trimmed (chars text.now)) }
@@ -52,6 +51,10 @@ pub fn trimmed_view<'a>(
 ///
 /// A carriage return with the line feed after it, or alone, becomes a line feed. The text stands in
 /// memory of its own, of which as much is taken as the old one has bytes.
+///
+/// ```
+/// assert!(rt; lines_even(alloc, "a\r\nb\r")?.as_str() == "a\nb\n");
+/// ```
 pub fn lines_even(alloc: Global, text: &str) -> Result<String, AllocError>
     ensures view { IfOk result (λ s. chars (string_bytes s) ≡ lines_even (chars text.now)) }
     ensures no_return { IfOk result (λ s. All (λ c. c ≢ carriage_return) (chars (string_bytes s))) }

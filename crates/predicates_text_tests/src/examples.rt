@@ -1,6 +1,8 @@
 //! The examples that stand at the public makers of `predicates_text`, word for word.
 use predicates_core::Predicate;
-use predicates_text::{PredicateStrExt, contains, ends_with, is_empty, is_match, starts_with};
+use predicates_text::{
+    PredicateStrExt, contains, ends_with, is_empty, is_match, lines_even, starts_with, trimmed,
+};
 use std::test::Fail;
 
 #[test]
@@ -54,5 +56,13 @@ fn adapters(rt: HostRuntime) -> Result<(), Fail> {
     let has_umlaut = contains("ä".to_owned(alloc)?).from_utf8();
     assert!(rt; has_umlaut.eval(alloc, &vec![in alloc; 0xc3, 0xa4]?)?);
     assert!(rt; !has_umlaut.eval(alloc, &vec![in alloc; 0xe4]?)?);
+    Ok(())
+}
+
+#[test]
+fn views(rt: HostRuntime) -> Result<(), Fail> {
+    let alloc = rt.alloc();
+    assert!(rt; trimmed(alloc, " \ta b\u{a0}")?.as_str() == "a b");
+    assert!(rt; lines_even(alloc, "a\r\nb\r")?.as_str() == "a\nb\n");
     Ok(())
 }
