@@ -15,7 +15,7 @@ fn is_copied<T: fmt::Debug + Copy + Eq>(alloc: Global, value: T) -> Result<bool,
 }
 
 // Whether the value has this `Debug` form.
-fn is_shown_as<T: fmt::Debug>(alloc: Global, value: T, form: &str) -> Result<bool, AllocError> {
+fn is_shown_as<T: fmt::Debug>(alloc: Global, value: &T, form: &str) -> Result<bool, AllocError> {
     Ok(format!(in alloc; "{value:?}")?.as_str() == form)
 }
 
@@ -71,9 +71,9 @@ fn adapters_are_shown(rt: HostRuntime) -> Result<(), Fail> {
     let trim = "TrimPredicate { inner: IsEmptyPredicate }";
     let normalized = "NormalizedPredicate { inner: IsEmptyPredicate }";
     let utf8 = "Utf8Predicate { inner: IsEmptyPredicate }";
-    assert!(rt; is_shown_as(alloc, part.trim(), trim)?);
-    assert!(rt; is_shown_as(alloc, part.normalize(), normalized)?);
-    assert!(rt; is_shown_as(alloc, part.from_utf8(), utf8)?);
+    assert!(rt; is_shown_as(alloc, &part.trim(), trim)?);
+    assert!(rt; is_shown_as(alloc, &part.normalize(), normalized)?);
+    assert!(rt; is_shown_as(alloc, &part.from_utf8(), utf8)?);
     Ok(())
 }
 
