@@ -24,7 +24,7 @@ pub fn spent() -> f64 {
     time.seconds as f64 * 1e9 + time.nanoseconds as f64
 }
 
-/// One side of a comparison: the sum of its answers over so many rounds.
+/// One side of a comparison: the sum of its answers over a number of rounds.
 pub type Asked<'a> = dyn Fn(usize) -> usize + 'a;
 
 /// Medians of nanoseconds, and the median of the ratios of neighbours.
@@ -46,7 +46,7 @@ pub fn median(mut times: Vec<f64>) -> f64 {
     times[times.len() / 2]
 }
 
-/// A side with what a call takes before its first round, and so many rounds that this is little.
+/// A side with what a call takes before its first round, and enough rounds that this is little.
 struct Side<'a> {
     asked: &'a Asked<'a>,
     making: f64,
@@ -86,7 +86,7 @@ fn counted() -> Option<(usize, usize)> {
     Some((rounds("PORT")?, rounds("ORIGINAL")?))
 }
 
-/// The time of one answer on both sides, of which each round gives so many.
+/// The time of one answer on both sides, of which each round gives the number `answers`.
 pub fn beside(port: &Asked<'_>, original: &Asked<'_>, answers: usize) -> Pair {
     if let Some((of_port, of_original)) = counted() {
         eprintln!("answers: {answers}");

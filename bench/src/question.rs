@@ -86,7 +86,7 @@ fn hold(case: Owned) -> bool {
     case.outcome
 }
 
-/// The sum of the original's answers about all items over so many rounds.
+/// The sum of the original's answers about all items over all rounds.
 pub fn ask<P, I, B>(predicate: &P, items: &[B], question: Question, naming: Naming, rounds: usize) -> usize
 where
     P: Predicate<I>,

@@ -131,7 +131,7 @@ fn answer<P: Predicate<Item>, Item>(
     }
 }
 
-// The sum of the answers about all items over so many rounds, and zero where memory is refused.
+// The sum of the answers about all items over all rounds, and zero where memory runs out.
 pub(crate) fn ask<P: Predicate<Item>, Item>(
     alloc: Global,
     predicate: &P,

@@ -10,7 +10,7 @@ fn leaf(alloc: Global) -> Result<Box<TextCheck>, AllocError> {
     Ok(Box::new(alloc, TextCheck::Starts(starts_with(pattern)))?)
 }
 
-// The leaf under so many `not`.
+// The leaf under as many `not` as `depth` says.
 fn nots(alloc: Global, depth: usize) -> Result<Box<TextCheck>, AllocError> {
     let mut check = leaf(alloc)?;
     for _ in 0..depth {
@@ -67,7 +67,8 @@ fn join_pairs(
     Ok(joined)
 }
 
-// A full tree of so many levels over leaves, by `and` and `or` in turn, with `and` at the root.
+// A full tree of the given number of levels over leaves, by `and` and `or` in turn, with `and` at
+// the root.
 fn full(alloc: Global, levels: u8) -> Result<Box<TextCheck>, AllocError> {
     let mut checks = Vec::new(alloc);
     for _ in 0..1u32 << (levels % 16) {
@@ -98,7 +99,7 @@ fn ask_check(
     }
 }
 
-/// Asks a chain of so many `not` over `starts_with("a")`.
+/// Asks a chain of `depth` times `not` over `starts_with("a")`.
 #[unsafe(no_mangle)]
 pub extern "C" fn bench_nots(
     alloc: Global,
@@ -111,7 +112,7 @@ pub extern "C" fn bench_nots(
     ask_check(alloc, nots(alloc, depth), bytes, copies, question, rounds)
 }
 
-/// Asks so many `starts_with("a")` and a last `ends_with("b")`, joined by `and`.
+/// Asks `leaves` times `starts_with("a")` and a last `ends_with("b")`, joined by `and`.
 #[unsafe(no_mangle)]
 pub extern "C" fn bench_row(
     alloc: Global,
@@ -124,8 +125,8 @@ pub extern "C" fn bench_row(
     ask_check(alloc, row(alloc, leaves), bytes, copies, question, rounds)
 }
 
-/// Asks a chain of so many `xor` over `starts_with("a")`, to the right where `on_the_right` is not
-/// 0.
+/// Asks a chain of `xors` times `xor` over `starts_with("a")`, to the right where `on_the_right` is
+/// not 0.
 #[unsafe(no_mangle)]
 pub extern "C" fn bench_xors(
     alloc: Global,
@@ -140,7 +141,7 @@ pub extern "C" fn bench_xors(
     ask_check(alloc, check, bytes, copies, question, rounds)
 }
 
-/// Asks a full tree of so many levels over `starts_with("a")`, with `and` and `or` in turn.
+/// Asks a full tree of `levels` levels over `starts_with("a")`, with `and` and `or` in turn.
 #[unsafe(no_mangle)]
 pub extern "C" fn bench_full(
     alloc: Global,

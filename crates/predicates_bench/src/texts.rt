@@ -22,7 +22,7 @@ fn copies_of(alloc: Global, bytes: &[u8], copies: usize) -> Result<Vec<String>, 
     Ok(all)
 }
 
-// The sum of the answers about so many copies of the text, and zero where memory is refused.
+// The sum of the answers about all copies of the text, and zero where memory runs out.
 pub(crate) fn ask_of_text<P: Predicate<String>>(
     alloc: Global,
     predicate: &P,
@@ -98,7 +98,7 @@ pub extern "C" fn bench_starts_with(
     }
 }
 
-/// Asks whether the regular expression has so many matches in the text.
+/// Asks whether the regular expression has `count` matches in the text.
 #[unsafe(no_mangle)]
 pub extern "C" fn bench_matches(
     alloc: Global,

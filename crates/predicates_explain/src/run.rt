@@ -38,7 +38,7 @@ pub(crate) trait AnswerLine {
         ensures item { IfOk result (λ found. IsTrue found ↔ is_item self.now line.now) };
 }
 
-// The fault of a read or a write that failed: want of memory, or the one that is given.
+// The fault of a read or a write that failed: out of memory, or the one that is given.
 pub(crate) fn classify_error(error: &io::Error, fault: RunFault) -> RunFault
     ensures memory { error_kind error.now ≡ ErrorKind.OutOfMemory → result ≡ NoMemory }
     ensures other { error_kind error.now ≢ ErrorKind.OutOfMemory → result ≡ fault }

@@ -1,6 +1,6 @@
 //! A predicate of texts of the level below, or a combinator or an adapter of the library over such.
 ghost use Rattle.predicates_text.specs.ViewFormulaLaws.{each_text_fits, one_each};
-ghost use Rattle.predicates_text.specs.AdapterParts.{trim_part, normalized_part};
+ghost use Rattle.predicates_text.specs.AdapterParts.{inner_of};
 ghost use Rattle.predicates_text.specs.ViewTexts.{has_trimmed, has_even_lines};
 ghost use Rattle.predicates_testing.specs.Level.{level_text_fits, one_of_level};
 ghost use Rattle.predicates_testing.specs.OneOf.{text_fits_by_type, one_by_type};
@@ -90,19 +90,19 @@ impl<P: Predicate<String>> Predicate<String> for TextLevel<P> {
         (λ q. ⟦<NormalizedPredicate<P> as Predicate<String>>⟧.formula q v)
         ⟦<TrimPredicate<P> as fmt::Display>⟧.output
         ⟦<NormalizedPredicate<P> as fmt::Display>⟧.output
-        (λ q g h. each_text_fits (P.output (trim_part q)) (has_trimmed v)
-        (λ t. P.text_fits (trim_part q) t g) h)
-        (λ q g h. each_text_fits (P.output (normalized_part q)) (has_even_lines v)
-        (λ t. P.text_fits (normalized_part q) t g) h))
+        (λ q g h. each_text_fits (P.output (inner_of q)) (has_trimmed v)
+        (λ t. P.text_fits (inner_of q) t g) h)
+        (λ q g h. each_text_fits (P.output (inner_of q)) (has_even_lines v)
+        (λ t. P.text_fits (inner_of q) t g) h))
         p.node f };
 
     ghost one_formula = { λ p v f g. one_by_type
         (λ l. one_of_level P.output (λ q. P.formula q v) (λ q. P.one_formula q v) l.node)
         (one_by_type
         (λ q h k lawful x y. one_each (has_trimmed v)
-        (λ t. P.one_formula (trim_part q) t h k lawful) x y)
+        (λ t. P.one_formula (inner_of q) t h k lawful) x y)
         (λ q h k lawful x y. one_each (has_even_lines v)
-        (λ t. P.one_formula (normalized_part q) t h k lawful) x y))
+        (λ t. P.one_formula (inner_of q) t h k lawful) x y))
         p.node f g };
 
     fn eval(&self, alloc: Global, item: &String) -> Result<bool, AllocError> {

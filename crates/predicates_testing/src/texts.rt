@@ -1,5 +1,5 @@
 //! What the library's predicates over texts and bytes answer.
-ghost use Rattle.predicates_text.specs.AdapterParts.{trim_part, normalized_part, utf8_part};
+ghost use Rattle.predicates_text.specs.AdapterParts.{inner_of};
 ghost use Rattle.predicates_testing.specs.Level.{all_parts};
 ghost use Rattle.predicates_testing.specs.OneOf.{lawful_by_type};
 
@@ -34,8 +34,8 @@ impl<P: FromWords<TextWord, String>> FromWords<TextWord, String> for TextLevel<P
     ghost always_lawful = { λ p. lawful_by_type
         (λ l. all_parts P.always_lawful l.node)
         (lawful_by_type
-        (λ q. P.always_lawful (trim_part q))
-        (λ q. P.always_lawful (normalized_part q)))
+        (λ q. P.always_lawful (inner_of q))
+        (λ q. P.always_lawful (inner_of q)))
         p.node };
 
     fn from_words(
@@ -69,7 +69,7 @@ fn pop_from_utf8(words: &mut Vec<TextWord>) -> bool {
 }
 
 impl<P: FromWords<TextWord, String>> FromWords<TextWord, Vec<u8>> for Utf8Predicate<P> {
-    ghost always_lawful = { λ p. P.always_lawful (utf8_part p) };
+    ghost always_lawful = { λ p. P.always_lawful (inner_of p) };
 
     fn from_words(
         alloc: Global,

@@ -168,7 +168,7 @@ fn a_read_that_fails(rt: HostRuntime) -> Result<(), Fail> {
     Ok(())
 }
 
-// A call that fails for want of memory refuses the snapshot.
+// A call that runs out of memory gives no snapshot.
 #[test]
 fn want_of_memory(rt: HostRuntime) -> Result<(), Fail> {
     let nothing = (Err(Other), Err(Other), Err(Other));

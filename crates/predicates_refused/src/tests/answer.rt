@@ -22,7 +22,7 @@ pub enum Answer {
     Checks(Vec<TextCheck>),
     /// Whether each line was an item, and what was written.
     Run(bool, Vec<u8>),
-    /// An error that stands for something else than want of memory.
+    /// An error that says something else than that memory ran out.
     OtherFault,
 }
 

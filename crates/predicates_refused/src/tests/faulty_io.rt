@@ -51,7 +51,7 @@ const KINDS: [(ErrorKind, RunFault, RunFault); 3] = [
     ),
 ];
 
-// Whether the run with room for so many bytes writes them, and ends so.
+// Whether the run with room for `room` bytes writes them, and ends as it should.
 fn ends_after(
     alloc: Global,
     run: Run<'_>,

@@ -40,7 +40,7 @@ impl BufRead for Slow<'_> {
     }
 }
 
-/// Takes one byte at a time, and after so many of them answers an error of the kind.
+/// Takes one byte at a time, and after `room` of them answers an error of the kind.
 #[derive(Drop)]
 pub struct Narrow {
     pub got: Vec<u8>,

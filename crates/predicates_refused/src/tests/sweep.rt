@@ -19,7 +19,7 @@ pub trait Call {
     /// Makes the operand, with ample memory.
     fn operand(&self, alloc: Global) -> Result<Self::Operand, AllocError>;
 
-    /// Makes the call. Each error that stands for want of memory comes as this one.
+    /// Makes the call. Each error that says that memory ran out comes as this one.
     fn call(&self, alloc: Global, operand: Self::Operand) -> Result<Answer, AllocError>
         requires { ready self.now };
 }
@@ -29,7 +29,7 @@ pub trait Call {
 pub enum Memory {
     /// It makes none.
     Never,
-    /// It answers want of memory.
+    /// It answers that memory ran out.
     Taken,
     /// That, where it requests any.
     Perhaps,
@@ -133,8 +133,8 @@ fn refuse_each<R: Abort + AllocGlobal, C: Call>(
 /// Makes the call again and again: its first request is refused, then its second, and so on until
 /// none is; once alone, and once with all after it.
 ///
-/// Each run answers want of memory or what it should, leaves no block, and is right when it is made
-/// once more. Over an allocator that refuses nothing the call is made once.
+/// Each run answers that memory ran out or what it should, leaves no block, and is right when it is
+/// made once more. Over an allocator that refuses nothing the call is made once.
 pub fn sweep<R: Abort + AllocGlobal + Print, C: Call>(
     rt: &R,
     name: &str,

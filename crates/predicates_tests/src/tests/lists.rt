@@ -356,7 +356,7 @@ fn is_explained(alloc: Global, words: &str, list: &Vec<i64>) -> Result<bool, All
     }
 }
 
-// The list with this number among those of the length and of so many kinds of members.
+// The list with this number among those of the length and with members of `kinds` kinds.
 fn list_of(alloc: Global, number: usize, length: usize, kinds: usize) -> Result<Vec<i64>, AllocError> {
     let mut list = Vec::new(alloc);
     let mut rest = number;

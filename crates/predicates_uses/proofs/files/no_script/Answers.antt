@@ -5,7 +5,7 @@ use Rattle.predicates_boolean.specs.Name as Name
 use Rattle.predicates_path.specs.Content.{part_of}
 use Rattle.predicates_path.specs.Kind.{tested_kind, follows, kind_predicate_text}
 use Rattle.predicates_path.specs.declared.file_type.FileType.TheVariants.{File}
-use Rattle.predicates_text.specs.AdapterParts.{utf8_part}
+use Rattle.predicates_text.specs.AdapterParts.{inner_of}
 use Rattle.predicates_text.specs.Patterns.{starts_pattern}
 use Rattle.predicates_text.specs.Leaves.{starts_text}
 use Rattle.predicates_core.specs.Combined.{infix_text, sign}
@@ -17,7 +17,7 @@ pub returns : goal.returns
 returns c =
     let both = Name.inner_of c.name-script.result in
     let kind = Join.left_of both in
-    let mark = starts_pattern (utf8_part (part_of (Join.right_of both))) in
+    let mark = starts_pattern (inner_of (part_of (Join.right_of both))) in
     let is_kind : tested_kind kind ≡ File = search rules in
     let follow : follows kind ≡ true = search rules in
     let is_mark : mark ≡ codes "#!" = search rules in
