@@ -131,8 +131,8 @@ pub fn list_formula(
                     return Ok(None);
                 };
                 let is_each = matches!(word, NumberWord::Each);
-                members_formula(alloc, member, list, is_each)?
-                    .map(|formula| Operand::OfList(formula))
+                let made = members_formula(alloc, member, list, is_each)?;
+                made.map(|formula| Operand::OfList(formula))
             }
             (_, Some(combinator)) => combine(alloc, combinator, &mut stack)?,
             _ => leaf_truth(word, 0).map(|_| Operand::OfNumbers { start: place }),

@@ -357,7 +357,12 @@ fn is_explained(alloc: Global, words: &str, list: &Vec<i64>) -> Result<bool, All
 }
 
 // The list with this number among those of the length and with members of `kinds` kinds.
-fn list_of(alloc: Global, number: usize, length: usize, kinds: usize) -> Result<Vec<i64>, AllocError> {
+fn list_of(
+    alloc: Global,
+    number: usize,
+    length: usize,
+    kinds: usize,
+) -> Result<Vec<i64>, AllocError> {
     let mut list = Vec::new(alloc);
     let mut rest = number;
     for _ in 0..length {
@@ -388,7 +393,10 @@ fn explained_lists(
 fn first_reasons_of_all_lists_of_at_most_four_members(rt: HostRuntime) -> Result<(), Fail> {
     for (words, numbers) in LISTS {
         let [_, _, lists] = numbers;
-        assert_eq!(rt; explained_lists(rt.alloc(), words, numbers)?, (lists, lists));
+        assert_eq!(rt;
+            explained_lists(rt.alloc(), words, numbers)?,
+            (lists, lists)
+        );
     }
     Ok(())
 }
