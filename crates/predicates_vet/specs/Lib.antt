@@ -1,0 +1,4 @@
+pub mod Records
+pub mod RulesFile
+pub mod Runs
+pub mod Settings

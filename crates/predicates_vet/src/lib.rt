@@ -1,0 +1,14 @@
+//! Checks records of JSON, one on a line, against rules as text: which records break a rule, and why.
+#![tactic(auto)]
+
+mod program;
+mod record;
+mod rules_file;
+mod run;
+mod run_fault;
+pub mod settings;
+
+pub use program::run_program;
+pub use rules_file::{ReadChecksError, read_checks};
+pub use run::{Counts, run_records};
+pub use run_fault::RunFault;

@@ -1,0 +1,5 @@
+//! The program `vet`: what its words ask for, what it writes, and how it ends.
+mod command;
+mod runtime;
+
+pub use runtime::run_program;

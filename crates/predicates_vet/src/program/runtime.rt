@@ -1,0 +1,97 @@
+//! The program over what its process is given.
+use super::command::{command, settings_of};
+use crate::rules_file::read_checks;
+use crate::run::{Counts, run_records};
+use std::io::{BufReader, BufWriter, Error, ErrorKind, Write};
+use std::rt::{Env, Files};
+use std::{env, fs, io, str};
+
+// Standard error, as a place for texts.
+#[derive(Drop)]
+struct Stderr<'a, E> {
+    rt: &'a E,
+}
+
+impl<E: Eprint> Write for Stderr<'_, E> {
+    fn write(&mut self, buf: &[u8]) -> io::Result<usize> {
+        let Ok(text) = str::from_utf8(buf) else {
+            return Err(Error::from(ErrorKind::InvalidData));
+        };
+        self.rt.eprint(text)?;
+        Ok(buf.len())
+    }
+
+    fn flush(&mut self) -> io::Result<()> {
+        Ok(())
+    }
+}
+
+// The totals of a run, and the status that they give.
+fn end<E: Eprint>(rt: &E, counts: Counts) -> io::Result<u8> {
+    let Counts {
+        records,
+        failed,
+        unreadable,
+    } = counts;
+    if unreadable > 0 {
+        eprintln!(rt; "{records} records, {failed} failed, {unreadable} lines unreadable")?;
+        return Ok(2);
+    }
+    eprintln!(rt; "{records} records, {failed} failed")?;
+    Ok(if failed > 0 { 1 } else { 0 })
+}
+
+fn answer<E: Env + Files + Input + Print + Eprint + AllocGlobal>(rt: &E) -> io::Result<u8> {
+    let alloc = rt.alloc();
+    let words: Vec<String> = env::args(rt)?.collect(alloc)?;
+    let matches = match command(alloc)?.try_get_matches_from(words.as_slice()) {
+        Ok(matches) => matches,
+        Err(error) => {
+            error.print(rt)?;
+            return Ok(if error.use_stderr() { 2 } else { 0 });
+        }
+    };
+    let settings = settings_of(alloc, &matches)?;
+    let path = matches.get_str("RULES").unwrap_or("");
+    let text = match fs::read(rt, path) {
+        Ok(text) => text,
+        Err(error) => {
+            eprintln!(rt; "vet: {path}: {error}")?;
+            return Ok(2);
+        }
+    };
+    let rules = match read_checks(alloc, &text) {
+        Ok(rules) => rules,
+        Err(error) => {
+            eprintln!(rt; "vet: {path}: {error}")?;
+            return Ok(2);
+        }
+    };
+    let mut input = BufReader::new(alloc, rt.reader())?;
+    let mut output = BufWriter::new(alloc, io::writer(rt))?;
+    let mut messages = Stderr { rt };
+    match run_records(
+        alloc,
+        &rules,
+        &settings,
+        &mut input,
+        &mut output,
+        &mut messages,
+    ) {
+        Ok(counts) => end(rt, counts),
+        Err(fault) => {
+            eprintln!(rt; "vet: {fault}")?;
+            Ok(2)
+        }
+    }
+}
+
+/// Runs the program on the words, the files, the streams and the memory of a process, and answers its
+/// status: 0 where every record keeps every rule, 1 where one breaks a rule, and 2 for wrong words,
+/// rules that can't be read, lines that are no JSON, and faults of reading and writing.
+pub fn run_program<E: Env + Files + Input + Print + Eprint + AllocGlobal>(rt: &E) -> u8 {
+    match answer(rt) {
+        Ok(status) => status,
+        Err(_) => 2,
+    }
+}

@@ -1,0 +1,200 @@
+//! What is written for one record.
+ghost use Rattle.std.specs.Prelude.{◌≡◌, ◌++◌, ℕ, List, IfOk, IfSome, OnOk, string_bytes, option_map};
+ghost use Rattle.std.specs.List.{AllZip};
+ghost use Rattle.predicates_core.specs.Shows.{Explains};
+ghost use Rattle.serde_json.specs.View.{view};
+ghost use Rattle.predicates_vet_check.specs.Plans.{found_text};
+ghost use Rattle.std.specs.Prelude.{◌==◌, length, flat_map};
+ghost use Rattle.predicates_core.specs.Lines.{lines};
+ghost use Rattle.predicates_vet.specs.Records.{keeps, broken, shown, label, block, IsBlock, AddsCase};
+ghost use Rattle.predicates_vet.specs.Settings.{id_of};
+
+use crate::settings::Settings;
+use predicates_core::Predicate;
+use predicates_core::reflection::{Case, render_onto};
+use predicates_json::{case_json, value_at};
+use predicates_vet_check::RuleCheck;
+use serde_json::{Map, Value, put};
+use std::alloc::{AllocError, Global};
+
+// Whether the record keeps every rule.
+pub(crate) fn keeps(alloc: Global, rules: &[RuleCheck], value: &Value) -> Result<bool, AllocError>
+    ensures { IfOk result (λ held. held ≡ keeps rules.now (view value.now)) }
+{
+    for rule in rules {
+        let held = rule.eval(alloc, value)?;
+        if !held {
+            return Ok(false);
+        }
+    }
+    Ok(true)
+}
+
+// The cases of the rules that the record breaks: of the first, or of all.
+fn broken(
+    alloc: Global,
+    rules: &[RuleCheck],
+    all: bool,
+    value: &Value,
+) -> Result<Vec<Case>, AllocError>
+    ensures { IfOk result (λ cases.
+        AllZip Explains (shown all (broken rules.now (view value.now))) cases.items) }
+{
+    let mut cases = Vec::new(alloc);
+    for rule in rules {
+        let added = add_case(alloc, rule, value, &mut cases)?;
+        if added && !all {
+            return Ok(cases);
+        }
+    }
+    Ok(cases)
+}
+
+// Adds the case of the rule where the record breaks it, and says whether it does.
+fn add_case(
+    alloc: Global,
+    rule: &RuleCheck,
+    value: &Value,
+    cases: &mut Vec<Case>,
+) -> Result<bool, AllocError>
+    ensures { IfOk result
+        (AddsCase (view value.now) rule.now cases.old.items cases.new.items) }
+{
+    let Some(case) = rule.find_case(alloc, false, value)? else {
+        return Ok(false);
+    };
+    cases.push(case)?;
+    Ok(true)
+}
+
+// The label of the record, as JSON.
+fn label(
+    alloc: Global,
+    settings: &Settings,
+    number: u64,
+    value: &Value,
+) -> Result<String, AllocError>
+    ensures { IfOk result (λ text. IfSome (found_text (label (id_of settings.now) number
+        (view value.now))) (λ given. string_bytes text ≡ given)) }
+{
+    let Some(path) = &settings.id else {
+        return format!(in alloc; "{number}");
+    };
+    match value_at(value, path) {
+        Some(found) => found.to_string(alloc),
+        None => String::from_str(alloc, "null"),
+    }
+}
+
+// Writes the lines of each case behind the text.
+fn write_cases(text: &mut String, cases: &[Case]) -> Result<(), AllocError>
+    ensures { OnOk result (string_bytes text.new ≡ string_bytes text.old ++ flat_map lines cases.now) }
+{
+    for case in cases {
+        render_onto(text, case)?;
+    }
+    Ok(())
+}
+
+// Writes the block of the cases in place of what the text held.
+fn write_block(text: &mut String, label: &str, cases: &[Case]) -> Result<(), AllocError>
+    ensures { OnOk result (string_bytes text.new ≡ block label.now cases.now) }
+{
+    text.clear();
+    if cases.is_empty() {
+        return Ok(());
+    }
+    text.push_str("record ")?;
+    text.push_str(label)?;
+    text.push_str(": false\n")?;
+    write_cases(text, cases)
+}
+
+fn cases_json(alloc: Global, cases: &[Case]) -> Result<Vec<Value>, AllocError> {
+    let mut values = Vec::new(alloc);
+    for case in cases {
+        values.push(case_json(alloc, &case.root())?)?;
+    }
+    Ok(values)
+}
+
+// The value that labels the record.
+fn id_json(
+    alloc: Global,
+    settings: &Settings,
+    number: u64,
+    value: &Value,
+) -> Result<Value, AllocError> {
+    let Some(path) = &settings.id else {
+        return Ok(Value::from(number));
+    };
+    match value_at(value, path) {
+        Some(found) => found.clone(),
+        None => Ok(Value::Null),
+    }
+}
+
+// Writes the object of the cases, on a line, in place of what the text held.
+fn write_json(
+    alloc: Global,
+    text: &mut String,
+    id: Value,
+    cases: &[Case],
+) -> Result<(), AllocError> {
+    let mut members = Map::new(alloc);
+    let values = cases_json(alloc, cases)?;
+    put(&mut members, alloc, "broken", Value::Array(values))?;
+    put(&mut members, alloc, "holds", Value::Bool(cases.is_empty()))?;
+    put(&mut members, alloc, "record", id)?;
+    let object = Value::Object(members).to_string(alloc)?;
+    text.clear();
+    text.push_str(&object)?;
+    text.push_str("\n")
+}
+
+fn is_none(cases: &Vec<Case>) -> bool
+    ensures { result ≡ (length cases.now.items == 0) }
+{
+    cases.is_empty()
+}
+
+/// Writes the block of the rules that the record breaks, of all or of the first, in place of what the
+/// text held, and says whether it keeps every rule.
+pub(crate) fn write_broken(
+    alloc: Global,
+    rules: &[RuleCheck],
+    settings: &Settings,
+    all: bool,
+    number: u64,
+    value: &Value,
+    text: &mut String,
+) -> Result<bool, AllocError>
+    ensures block { OnOk result (IsBlock rules.now all
+        (label (id_of settings.now) number (view value.now)) (view value.now)
+        (string_bytes text.new)) }
+    ensures held { IfOk result (λ held. held ≡ keeps rules.now (view value.now)) }
+{
+    let cases = broken(alloc, rules, all, value)?;
+    let text_of_label = label(alloc, settings, number, value)?;
+    write_block(text, &text_of_label, cases.as_slice())?;
+    Ok(is_none(&cases))
+}
+
+/// Writes an object of JSON for the record in place of what the text held, and says whether it keeps
+/// every rule.
+pub(crate) fn write_object(
+    alloc: Global,
+    rules: &[RuleCheck],
+    settings: &Settings,
+    all: bool,
+    number: u64,
+    value: &Value,
+    text: &mut String,
+) -> Result<bool, AllocError>
+    ensures { IfOk result (λ held. held ≡ keeps rules.now (view value.now)) }
+{
+    let cases = broken(alloc, rules, all, value)?;
+    let id = id_json(alloc, settings, number, value)?;
+    write_json(alloc, text, id, cases.as_slice())?;
+    Ok(is_none(&cases))
+}

@@ -1,0 +1,95 @@
+//! The rules of a file, each with its check.
+ghost use Rattle.std.specs.Prelude.{◌≡◌, ℕ, List, IfOk, map};
+ghost use Rattle.std.specs.List.{AllZip};
+ghost use Rattle.predicates_rules.specs.Grammar.{max_depth};
+ghost use Rattle.predicates_rules.specs.Rules.{AreRulesOf, rule_of};
+ghost use Rattle.predicates_rules.specs.Trees.{Tree};
+ghost use Rattle.predicates_vet.specs.RulesFile.{IsCheckOf};
+
+use predicates_rules::error::RulesError;
+use predicates_rules::rule::{Rule, read_rules};
+use predicates_vet_check::{CheckError, RuleCheck, check_of};
+use std::alloc::{AllocError, AllocFailed, Global};
+use std::error::Error;
+use std::fmt;
+
+/// Why the rules of a file were not read.
+#[derive(Debug, Drop)]
+pub enum ReadChecksError {
+    OutOfMemory,
+    /// The text says no rules.
+    Unreadable(RulesError),
+    /// A rule has a pattern that is no regular expression, or one that is too large.
+    Pattern { rule: String, pattern: String },
+}
+
+impl fmt::Display for ReadChecksError {
+    fn fmt<W: fmt::Write>(&self, f: &mut fmt::Formatter<W>) -> fmt::Result {
+        match self {
+            ReadChecksError::OutOfMemory => f.write_str("out of memory"),
+            ReadChecksError::Unreadable(error) => write!(f, "{error}"),
+            ReadChecksError::Pattern { rule, pattern } => {
+                write!(f, "rule {rule}: no regular expression: {pattern}")
+            }
+        }
+    }
+}
+
+impl Error for ReadChecksError {}
+
+impl From<AllocError> for ReadChecksError {
+    fn from(_e: AllocError) -> ReadChecksError {
+        ReadChecksError::OutOfMemory
+    }
+}
+
+impl<T: Drop> From<AllocFailed<T>> for ReadChecksError {
+    fn from(_e: AllocFailed<T>) -> ReadChecksError {
+        ReadChecksError::OutOfMemory
+    }
+}
+
+fn rule_check(alloc: Global, rule: Rule) -> Result<RuleCheck, ReadChecksError>
+    ensures { IfOk result (IsCheckOf (rule_of rule)) }
+{
+    let Rule { name, expression } = rule;
+    match check_of(alloc, expression) {
+        Ok(check) => Ok(RuleCheck { name, check }),
+        Err(CheckError::OutOfMemory) => Err(ReadChecksError::OutOfMemory),
+        Err(CheckError::Pattern(pattern)) => Err(ReadChecksError::Pattern {
+            rule: name,
+            pattern,
+        }),
+    }
+}
+
+fn rules_of(alloc: Global, text: &[u8]) -> Result<Vec<Rule>, ReadChecksError>
+    ensures { IfOk result (λ rules. AreRulesOf max_depth text.now (map rule_of rules.items)) }
+{
+    match read_rules(alloc, text) {
+        Ok(rules) => Ok(rules),
+        Err(RulesError::OutOfMemory) => Err(ReadChecksError::OutOfMemory),
+        Err(error) => Err(ReadChecksError::Unreadable(error)),
+    }
+}
+
+fn checks_of(alloc: Global, rules: Vec<Rule>) -> Result<Vec<RuleCheck>, ReadChecksError>
+    ensures { IfOk result (λ checks. AllZip IsCheckOf (map rule_of rules.items) checks.items) }
+{
+    let mut checks = Vec::new(alloc);
+    for rule in rules {
+        checks.push(rule_check(alloc, rule)?)?;
+    }
+    Ok(checks)
+}
+
+/// Reads the rules of a file, as `read_rules`, and makes the check of each. It is refused where the
+/// text says no rules, and where a pattern is no regular expression.
+pub fn read_checks(alloc: Global, text: &[u8]) -> Result<Vec<RuleCheck>, ReadChecksError>
+    // What is read is what the text says.
+    ensures { IfOk result (λ checks. (rules : List (List ℕ × Tree))
+        × AreRulesOf max_depth text.now rules × AllZip IsCheckOf rules checks.items) }
+{
+    let rules = rules_of(alloc, text)?;
+    checks_of(alloc, rules)
+}

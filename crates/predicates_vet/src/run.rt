@@ -1,0 +1,297 @@
+//! A run over the records of an input, one on a line.
+ghost use Rattle.std.specs.Prelude.{◌≡◌, ◌≢◌, ◌+◌, ◌<◌, ◌^◌, ◌∷◌, ℕ, List, [], Ok, Some, IfOk, OnOk};
+ghost use Rattle.std.specs.Prelude.{true, false, string_bytes, option_map, if◌then◌else◌, is_some, not};
+ghost use Rattle.std.specs.Option.{ForSome};
+ghost use Rattle.std.specs.IoError.{error_kind};
+ghost use Rattle.std.specs.Io.KnownBytes.{Appends, Keeps};
+ghost use Rattle.serde_json.specs.Read.{read};
+ghost use Rattle.serde_json.specs.View.{view};
+ghost use Rattle.predicates_vet.specs.Records.{keeps, IsWritten};
+ghost use Rattle.predicates_vet.specs.Runs.{is_false};
+ghost use Rattle.predicates_vet.specs.Runs.{ended_lines, record_on, HasRun, breaks, IsLineWritten};
+ghost use Rattle.predicates_vet.specs.declared.run_fault.RunFault.TheVariants.{NoMemory};
+
+use crate::record::{keeps, write_broken, write_object};
+use crate::run_fault::RunFault;
+use crate::settings::{Report, Settings};
+use predicates_vet_check::RuleCheck;
+use serde_json::Value;
+use std::alloc::{AllocError, Global};
+use std::fmt::Write as _;
+use std::io::{BufRead, ErrorKind, Write};
+use std::{io, str};
+
+/// How many lines a run took.
+#[derive(Clone, Copy, Debug, PartialEq, Eq)]
+pub struct Counts {
+    /// Lines on which a record stands.
+    pub records: u64,
+    /// Records that break a rule.
+    pub failed: u64,
+    /// Lines on which no record stands. Each is told by a message.
+    pub unreadable: u64,
+}
+
+impl Counts {
+    // Counts one line more: whether its record keeps every rule, or none where no record stands on it.
+    fn count(self, held: Option<bool>) -> Counts
+        requires records { self.records + 1 < 2 ^ 64 }
+        requires failed { self.failed + 1 < 2 ^ 64 }
+        requires unreadable { self.unreadable + 1 < 2 ^ 64 }
+        ensures records { result.records ≡ self.records + (if is_some held then 1 else 0) }
+        ensures failed { result.failed ≡ self.failed + (if is_false held then 1 else 0) }
+        ensures unreadable { result.unreadable ≡ self.unreadable + (if not (is_some held) then 1 else 0) }
+    {
+        let Counts {
+            records,
+            failed,
+            unreadable,
+        } = self;
+        match held {
+            Some(true) => Counts {
+                records: records + 1,
+                failed,
+                unreadable,
+            },
+            Some(false) => Counts {
+                records: records + 1,
+                failed: failed + 1,
+                unreadable,
+            },
+            None => Counts {
+                records,
+                failed,
+                unreadable: unreadable + 1,
+            },
+        }
+    }
+}
+
+// The fault of a read or a write that failed: want of memory, or the one that is given.
+fn classify_error(error: &io::Error, fault: RunFault) -> RunFault
+    ensures memory { error_kind error.now ≡ ErrorKind.OutOfMemory → result ≡ NoMemory }
+    ensures other { error_kind error.now ≢ ErrorKind.OutOfMemory → result ≡ fault }
+{
+    if error.kind() == ErrorKind::OutOfMemory {
+        RunFault::NoMemory
+    } else {
+        fault
+    }
+}
+
+// Takes the next line of the input, with its line feed, in place of what `line` held.
+// The answer is `false` at the end of the input.
+fn next_line<R: BufRead>(input: &mut R, line: &mut Vec<u8>) -> Result<bool, RunFault>
+    ensures more { result ≡ Ok true → ForSome (R.remaining input.old) (λ bytes. (left : List ℕ)
+        × (R.remaining input.new ≡ Some left)
+        × (ended_lines bytes ≡ line.new.items ∷ ended_lines left)) }
+    ensures end { result ≡ Ok false → ForSome (R.remaining input.old) (λ bytes.
+        (R.remaining input.new ≡ Some []) × (ended_lines bytes ≡ [])) }
+{
+    line.clear();
+    match input.read_until(b'\n', line) {
+        Ok(0) => Ok(false),
+        Ok(_) => Ok(true),
+        Err(error) => Err(classify_error(&error, RunFault::Input)),
+    }
+}
+
+fn write_bytes<W: Write>(output: &mut W, bytes: &[u8]) -> Result<(), RunFault>
+    ensures { OnOk result (Appends (W.contents output.old) (W.contents output.new) bytes.now) }
+{
+    output
+        .write_all(bytes)
+        .map_err(|error| classify_error(&error, RunFault::Output))
+}
+
+fn flush<W: Write>(output: &mut W) -> Result<(), RunFault>
+    ensures { OnOk result (Keeps (W.contents output.old) (W.contents output.new)) }
+{
+    output
+        .flush()
+        .map_err(|error| classify_error(&error, RunFault::Output))
+}
+
+// What JSON reads in the source, or none, and then the text says why.
+fn parse(alloc: Global, source: &str, text: &mut String) -> Result<Option<Value>, AllocError>
+    ensures { IfOk result (λ found. option_map view found ≡ read source.now) }
+{
+    match Value::from_str(alloc, source) {
+        Ok(value) => Ok(Some(value)),
+        Err(error) => {
+            if error.is_memory() {
+                return Err(AllocError);
+            }
+            write!(text, "no JSON: {error}")?;
+            Ok(None)
+        }
+    }
+}
+
+// The record on the line, or none, and then the text says why.
+fn read_record(alloc: Global, line: &[u8], text: &mut String) -> Result<Option<Value>, AllocError>
+    ensures { IfOk result (λ found. option_map view found ≡ record_on line.now) }
+{
+    text.clear();
+    match str::from_utf8(line) {
+        Ok(source) => {
+            let found = parse(alloc, source, text)?;
+            Ok(found)
+        }
+        Err(_) => {
+            text.push_str("not UTF-8")?;
+            Ok(None)
+        }
+    }
+}
+
+// Writes why no record stands on the line of this number.
+fn write_message<M: Write>(
+    messages: &mut M,
+    number: u64,
+    problem: &str,
+    line: &mut String,
+) -> Result<(), RunFault> {
+    line.clear();
+    writeln!(line, "vet: record {number}: {problem}")?;
+    write_bytes(messages, line.as_bytes())
+}
+
+// Writes what is told of the record on the line, and says whether it keeps every rule; where no record
+// stands there, a message says so.
+fn tell_line<W: Write, M: Write>(
+    alloc: Global,
+    rules: &[RuleCheck],
+    settings: &Settings,
+    number: u64,
+    line: &[u8],
+    texts: &mut Texts,
+    output: &mut W,
+    messages: &mut M,
+) -> Result<Option<bool>, RunFault>
+    ensures written { IfOk result (λ _. (written : List ℕ)
+        × IsLineWritten settings.now rules.now number line.now (record_on line.now) written
+        × Appends (W.contents output.old) (W.contents output.new) written) }
+    ensures held { IfOk result (λ held. held ≡ option_map (keeps rules.now) (record_on line.now)) }
+{
+    match read_record(alloc, line, &mut texts.text)? {
+        Some(record) => {
+            let held = tell_record(
+                alloc,
+                rules,
+                settings,
+                number,
+                line,
+                &record,
+                &mut texts.text,
+                output,
+            )?;
+            Ok(Some(held))
+        }
+        None => {
+            write_message(messages, number, &texts.text, &mut texts.message)?;
+            Ok(None)
+        }
+    }
+}
+
+// Texts that take memory once for many lines.
+#[derive(Drop)]
+struct Texts {
+    text: String,
+    message: String,
+}
+
+// Writes what is told of the record, and says whether it keeps every rule.
+fn tell_record<W: Write>(
+    alloc: Global,
+    rules: &[RuleCheck],
+    settings: &Settings,
+    number: u64,
+    line: &[u8],
+    value: &Value,
+    text: &mut String,
+    output: &mut W,
+) -> Result<bool, RunFault>
+    ensures written { IfOk result (λ _. (written : List ℕ)
+        × IsWritten settings.now rules.now number line.now (view value.now) written
+        × Appends (W.contents output.old) (W.contents output.new) written) }
+    ensures held { IfOk result (λ held. held ≡ keeps rules.now (view value.now)) }
+{
+    match settings.report {
+        Report::First => {
+            let held = write_broken(alloc, rules, settings, false, number, value, text)?;
+            write_bytes(output, text.as_bytes())?;
+            Ok(held)
+        }
+        Report::All => {
+            let held = write_broken(alloc, rules, settings, true, number, value, text)?;
+            write_bytes(output, text.as_bytes())?;
+            Ok(held)
+        }
+        Report::Json { all } => {
+            let held = write_object(alloc, rules, settings, all, number, value, text)?;
+            write_bytes(output, text.as_bytes())?;
+            Ok(held)
+        }
+        Report::Lines(wanted) => {
+            let held = keeps(alloc, rules, value)?;
+            if held == wanted {
+                write_bytes(output, line)?;
+            }
+            Ok(held)
+        }
+    }
+}
+
+/// Writes what is told of each record of the input, in order, and counts the lines. A line on which no
+/// record stands, as it is no JSON or nests more than 127 deep, is told by a message, and the run goes
+/// on.
+///
+/// It takes memory for the longest line, for the record on it and for what is written of it, and no
+/// more however long the input is. After a fault nothing is said of how much was written.
+pub fn run_records<R: BufRead, W: Write, M: Write>(
+    alloc: Global,
+    rules: &[RuleCheck],
+    settings: &Settings,
+    input: &mut R,
+    output: &mut W,
+    messages: &mut M,
+) -> Result<Counts, RunFault>
+    ensures { IfOk result (HasRun settings.now rules.now (R.remaining input.old)
+        (R.remaining input.new) (W.contents output.old) (W.contents output.new)) }
+{
+    let mut line = Vec::new(alloc);
+    let mut texts = Texts {
+        text: String::new(alloc),
+        message: String::new(alloc),
+    };
+    let mut counts = Counts {
+        records: 0,
+        failed: 0,
+        unreadable: 0,
+    };
+    for taken in 0..u64::MAX {
+        if !next_line(input, &mut line)? {
+            flush(output)?;
+            return Ok(counts);
+        }
+        let held = tell_line(
+            alloc,
+            rules,
+            settings,
+            taken + 1,
+            &line,
+            &mut texts,
+            output,
+            messages,
+        )?;
+        counts = counts.count(held);
+    }
+    // More lines than can be counted.
+    if next_line(input, &mut line)? {
+        return Err(RunFault::Input);
+    }
+    flush(output)?;
+    Ok(counts)
+}

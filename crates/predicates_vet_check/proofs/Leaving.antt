@@ -1,0 +1,76 @@
+-- Leaves that show what was found.
+use Rattle.std.proofs.Common.{◌≡◌, ℕ, List, Bool, true, false, Option, Some, None, refl, sym, ◌∙◌, subst}
+use Rattle.std.specs.Prelude.{IfSome, cond}
+use Rattle.predicates_core.specs.Formula.{Leaf, HasTruth}
+use Rattle.predicates_core.specs.Label.{plain}
+use Rattle.predicates_core.specs.Leaves.{IsExactly}
+use Rattle.predicates_core.specs.Shows.{IsAnswer, IsCaseOf}
+use Rattle.predicates_core.proofs.Leaves.{HasTruth-exactly}
+use Rattle.serde_json.specs.Data.{Data}
+use Rattle.predicates_rules.specs.declared.condition.State.TheVariants as states
+use Rattle.predicates_vet_check.specs.Queries.{Query, Stands, Compares, Begins, Finishes, Holds, Matches, IsAmong, verdict, nothing_verdict, is_of_presence, misfit_text}
+use Rattle.predicates_vet_check.specs.Plans.{asked_formula, leaf_of_verdict, found_leaf, misfit_leaf, nothing_leaf}
+use Rattle.predicates_core.specs.Label.{Entry}
+use Rattle.predicates_core.specs.Tree.{Tree}
+use Rattle.predicates_core.specs.Describe.{CaseNode}
+use Rattle.predicates_core.specs.Leaves.{IsShowing}
+
+fits_open : (entry : Entry) (bytes shown : List ℕ) → IfSome entry (λ given. bytes ≡ given) → shown ≡ bytes → IfSome entry (λ given. shown ≡ given)
+fits_open None bytes shown h e = tt
+fits_open (Some given) bytes shown h e = e ∙ h
+
+-- what is shown fits an entry that its bytes fit
+pub showing_entry : {name bytes : List ℕ} {c t : Tree CaseNode} (entry : Entry) → IfSome entry (λ given. bytes ≡ given) → IsShowing name (Some bytes) c t → IsShowing name entry c t
+showing_entry {name} {bytes} entry h s = record { bytes = s.bytes; fits = fits_open entry bytes s.bytes h s.fits; is = s.is }
+
+-- what is about presence alone holds of nothing, or does not
+no_presence : (q : Query) → is_of_presence q ≡ false → nothing_verdict q ≡ false
+no_presence (Stands states.Exists) e = refl
+no_presence (Stands states.Missing) e = absurd (cc)
+no_presence (Stands states.IsEmpty) e = refl
+no_presence (Compares c v) e = refl
+no_presence (Begins s) e = refl
+no_presence (Finishes s) e = refl
+no_presence (Holds s) e = refl
+no_presence (Matches re) e = refl
+no_presence (IsAmong vs) e = refl
+
+of_presence : (text path : List ℕ) (presence own : Bool) → (presence ≡ false → own ≡ false) → HasTruth (IsExactly (cond presence (Leaf (plain (Some text)) own) (nothing_leaf text path))) own
+of_presence text path true own h = HasTruth-exactly refl
+of_presence text path false own h = HasTruth-exactly (sym (h refl))
+
+module _ (text path : List ℕ) (q : Query) (o : Option Data) where
+  -- ---- truths
+
+  pub HasTruth-found : {d : Data} {b : Bool} → o ≡ Some d → verdict q d ≡ Some b → HasTruth (IsExactly (asked_formula text path q o)) b
+  HasTruth-found {d} {b} e v = subst (λ z. HasTruth (IsExactly (asked_formula text path q z)) b) (sym e) (subst (λ z. HasTruth (IsExactly (leaf_of_verdict text q d z)) b) (sym v) (HasTruth-exactly refl))
+
+  pub HasTruth-misfit : {d : Data} {b : Bool} → o ≡ Some d → verdict q d ≡ None → b ≡ false → HasTruth (IsExactly (asked_formula text path q o)) b
+  HasTruth-misfit {d} {b} e v isnt = subst (λ z. HasTruth (IsExactly (asked_formula text path q z)) b) (sym e) (subst (λ z. HasTruth (IsExactly (leaf_of_verdict text q d z)) b) (sym v) (HasTruth-exactly (sym isnt)))
+
+  pub HasTruth-nothing : {b : Bool} → o ≡ None → b ≡ nothing_verdict q → HasTruth (IsExactly (asked_formula text path q o)) b
+  HasTruth-nothing {b} e is = subst (λ z. HasTruth (IsExactly (asked_formula text path q z)) b) (sym e) (subst (λ z. HasTruth (IsExactly (asked_formula text path q None)) z) (sym is) (of_presence text path (is_of_presence q) (nothing_verdict q) (no_presence q)))
+
+  -- ---- cases
+
+  pub answer_of_value : {d : Data} (expected : Bool) (found : Option (Tree CaseNode)) → o ≡ Some d → IsAnswer (IsExactly (leaf_of_verdict text q d (verdict q d))) expected found → IsAnswer (IsExactly (asked_formula text path q o)) expected found
+  answer_of_value {d} expected found e h = subst (λ z. IsAnswer (IsExactly (asked_formula text path q z)) expected found) (sym e) h
+
+  pub answer_of_nowhere : (expected : Bool) (found : Option (Tree CaseNode)) → o ≡ None → IsAnswer (IsExactly (asked_formula text path q None)) expected found → IsAnswer (IsExactly (asked_formula text path q o)) expected found
+  answer_of_nowhere expected found e h = subst (λ z. IsAnswer (IsExactly (asked_formula text path q z)) expected found) (sym e) h
+
+module _ (text path : List ℕ) (q : Query) where
+  pub case_of_bare : {t : Tree CaseNode} {b : Bool} → is_of_presence q ≡ true → b ≡ nothing_verdict q → IsCaseOf (IsExactly (Leaf (plain (Some text)) b)) b t → IsCaseOf (IsExactly (asked_formula text path q None)) b t
+  case_of_bare {t} {b} e is h = subst (λ z. IsCaseOf (IsExactly (cond z (Leaf (plain (Some text)) (nothing_verdict q)) (nothing_leaf text path))) b t) (sym e) (subst (λ z. IsCaseOf (IsExactly (Leaf (plain (Some text)) z)) b t) is h)
+
+  pub case_of_no_value : {t : Tree CaseNode} {b : Bool} → is_of_presence q ≡ false → b ≡ nothing_verdict q → IsCaseOf (IsExactly (nothing_leaf text path)) false t → IsCaseOf (IsExactly (asked_formula text path q None)) b t
+  case_of_no_value {t} {b} e is h = subst (λ z. IsCaseOf (IsExactly (cond z (Leaf (plain (Some text)) (nothing_verdict q)) (nothing_leaf text path))) b t) (sym e) (subst (λ z. IsCaseOf (IsExactly (nothing_leaf text path)) z t) (sym (is ∙ no_presence q e)) h)
+
+module _ (text : List ℕ) (q : Query) (d : Data) where
+  pub answer_of_found : (expected : Bool) (found : Option (Tree CaseNode)) {b : Bool} → verdict q d ≡ Some b → IsAnswer (IsExactly (found_leaf text d b)) expected found → IsAnswer (IsExactly (leaf_of_verdict text q d (verdict q d))) expected found
+  answer_of_found expected found e h = subst (λ z. IsAnswer (IsExactly (leaf_of_verdict text q d z)) expected found) (sym e) h
+
+  pub answer_of_misfit : (expected : Bool) (found : Option (Tree CaseNode)) → verdict q d ≡ None → IsAnswer (IsExactly (misfit_leaf text (misfit_text q) d)) expected found → IsAnswer (IsExactly (leaf_of_verdict text q d (verdict q d))) expected found
+  answer_of_misfit expected found e h = subst (λ z. IsAnswer (IsExactly (leaf_of_verdict text q d z)) expected found) (sym e) h
+
+pub ruleset leavings = (HasTruth-found, HasTruth-misfit, HasTruth-nothing, case_of_bare, case_of_no_value, answer_of_value, answer_of_nowhere, answer_of_found, answer_of_misfit)

@@ -1,0 +1,5 @@
+mod Differing
+mod Leaving
+mod Members
+mod Rows
+mod Ruling

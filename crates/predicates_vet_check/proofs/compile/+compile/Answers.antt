@@ -1,0 +1,17 @@
+use Rattle.std.proofs.Common.{rules, ◌++◌, ◌∷◌, [], sym, ap, ◌∙◌, append_assoc}
+use Rattle.predicates_rules.specs.Trees.{tree_of}
+use Rattle.predicates_vet_check.specs.Checks.{plan_of}
+use Rattle.predicates_vet_check.proofs.Rows.{plans_more, plans_all}
+use Rattle.predicates_vet_check.proofs.compile.+compile.Goals as goal
+
+pub checks_of-loop-expression-init : goal.checks_of-loop-expression-init
+checks_of-loop-expression-init t c = (sym c.into_iter-expression-iterator.ensures.into_iter_gives.0, rw c.in_ok-checks.ensures.items tt)
+
+pub checks_of-loop-expression-preserved : goal.checks_of-loop-expression-preserved
+checks_of-loop-expression-preserved t c = (
+  c.loop-expression.invariant.0 ∙ ap (λ r. c.loop-expression.yielded ++ r) (search rules) ∙ sym (append_assoc c.loop-expression.yielded (c.in-Some.expression ∷ []) c.next.new.self.rest.items),
+  rw c.in_ok-push.ensures.items (plans_more tree_of plan_of c.loop-expression.yielded c.loop-expression.checks.items c.in-Some.expression c.in_ok-check_of.field-0 c.loop-expression.invariant.1 c.in_ok-check_of.ensures),
+)
+
+pub checks_of-returns : goal.checks_of-returns
+checks_of-returns t c = plans_all tree_of plan_of c.args.expressions.items c.loop-expression.yielded c.loop-expression.expression-iterator.rest.items c.loop-expression.checks.items c.loop-expression.invariant.0 (search rules) c.loop-expression.invariant.1

@@ -1,0 +1,64 @@
+-- What a check prints is the text of its formula.
+use Rattle.std.proofs.Common.{◌≡◌, ℕ, List, Bool, true, false, Option, Some, None, refl, sym, subst}
+use Rattle.std.specs.Prelude.{cond}
+use Rattle.predicates_core.specs.Label.{FitsEntry, plain}
+use Rattle.predicates_core.specs.Formula.{Formula, Formulas, Leaf, text_of}
+use Rattle.predicates_core.specs.Leaves.{IsExactly}
+use Rattle.serde_json.specs.Data.{Data, Items, no_items, item}
+use Rattle.serde_json.specs.Find.{pointer, as_array}
+use Rattle.predicates_rules.specs.declared.expression.Connective.{Connective}
+use Rattle.predicates_rules.specs.declared.expression.Connective.TheVariants.{Or, Xor, And}
+use Rattle.predicates_rules.specs.declared.expression.Quantifier.{Quantifier}
+use Rattle.predicates_vet_check.specs.Queries.{Query, verdict, is_of_presence, nothing_verdict}
+use Rattle.predicates_vet_check.specs.Plans.{Plan, Asks, Denies, Joins, Ranges, nothing, also, plan_formula, plan_text, asked_formula, leaf_of_verdict, range_formula, over_items, over_array, joined_formula, nothing_leaf, part_formulas, decides_all}
+use Rattle.predicates_vet_check.specs.RuleChecks.{rule_formula}
+
+-- the formula has the text at its root, and so what is exactly that formula fits it
+pub text_fits_exactly : {f g : Formula} {text : List ℕ} → text_of g ≡ Some text → IsExactly g f → FitsEntry (text_of f) (Some text)
+text_fits_exactly {f} {g} {text} e h = subst (λ x. FitsEntry (text_of x) (Some text)) (sym h.is) (subst (λ entry. FitsEntry entry (Some text)) (sym e) refl)
+
+module _ (text : List ℕ) where
+  absent_text : (path : List ℕ) (own presence : Bool) → text_of (cond presence (Leaf (plain (Some text)) own) (nothing_leaf text path)) ≡ Some text
+  absent_text path own true = refl
+  absent_text path own false = refl
+
+  verdict_text : (q : Query) (d : Data) (v : Option Bool) → text_of (leaf_of_verdict text q d v) ≡ Some text
+  verdict_text q d None = refl
+  verdict_text q d (Some own) = refl
+
+  pub asked_text : (path : List ℕ) (q : Query) (o : Option Data) → text_of (asked_formula text path q o) ≡ Some text
+  asked_text path q None = absent_text path (nothing_verdict q) (is_of_presence q)
+  asked_text path q (Some d) = verdict_text q d (verdict q d)
+
+  joined_text : (c : Connective) (fs : Formulas) → text_of (joined_formula text c fs) ≡ Some text
+  joined_text Or fs = refl
+  joined_text Xor fs = refl
+  joined_text And fs = refl
+
+  over_text : (decides : Bool) (g : Data → Formula) (ds : Items) → text_of (over_items text decides g ds) ≡ Some text
+  over_text decides g no_items = refl
+  over_text decides g (item d ds) = refl
+
+  array_text : (d : Data) (decides : Bool) (g : Data → Formula) (o : Option Items) → text_of (over_array text d decides g o) ≡ Some text
+  array_text d decides g None = refl
+  array_text d decides g (Some ds) = over_text decides g ds
+
+  ranged_text : (path : List ℕ) (q : Quantifier) (g : Data → Formula) (o : Option Data) → text_of (range_formula text path q g o) ≡ Some text
+  ranged_text path q g None = refl
+  ranged_text path q g (Some d) = array_text d (decides_all q) g (as_array d)
+
+root_text : (p : Plan) (d : Data) → text_of (plan_formula p d) ≡ Some (plan_text p)
+root_text (Asks text path q) d = asked_text text path q (pointer path d)
+root_text (Denies text e) d = refl
+root_text (Joins text c nothing) d = refl
+root_text (Joins text c (also e es)) d = joined_text text c (part_formulas (plan_formula e d) es d)
+root_text (Ranges text path q e) d = ranged_text text path q (plan_formula e) (pointer path d)
+
+pub plan_text_fits : (p : Plan) (d : Data) {f : Formula} → IsExactly (plan_formula p d) f → FitsEntry (text_of f) (Some (plan_text p))
+plan_text_fits p d h = text_fits_exactly (root_text p d) h
+
+pub asked_text_fits : (text path : List ℕ) (q : Query) (o : Option Data) {f : Formula} → IsExactly (asked_formula text path q o) f → FitsEntry (text_of f) (Some text)
+asked_text_fits text path q o h = text_fits_exactly (asked_text text path q o) h
+
+pub rule_text_fits : (name : List ℕ) (p : Plan) (d : Data) {f : Formula} → IsExactly (rule_formula name p d) f → FitsEntry (text_of f) (Some name)
+rule_text_fits name p d h = text_fits_exactly refl h

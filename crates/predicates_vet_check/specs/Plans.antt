@@ -1,0 +1,123 @@
+-- What a check is, apart from where it lies in memory, and its formula on a value.
+use Rattle.std.specs.Prelude.{ℕ, List, [], ◌∷◌, ◌++◌, Bool, true, false, not, Option, Some, None, cond, codes}
+use Rattle.serde_json.specs.Data.{Data, Items, no_items, item}
+use Rattle.serde_json.specs.Find.{pointer, as_array}
+use Rattle.serde_json.specs.Written.{has_float, compact_text}
+use Rattle.predicates_core.specs.Label.{Entry, plain, showing, showing_both}
+use Rattle.predicates_core.specs.declared.custom.join.Operator.TheVariants as operators
+use Rattle.predicates_core.specs.Formula.{Formula, Leaf, Join, Not, Formulas, one, more}
+use Rattle.predicates_core.specs.Several.{decided_by, numbered, no_members}
+use Rattle.predicates_rules.specs.declared.expression.Connective.{Connective}
+use Rattle.predicates_rules.specs.declared.expression.Connective.TheVariants.{Or, Xor, And}
+use Rattle.predicates_rules.specs.declared.expression.Quantifier.{Quantifier}
+use Rattle.predicates_rules.specs.declared.expression.Quantifier.TheVariants.{Each, Any}
+use Rattle.predicates_vet_check.specs.Queries.{Query, verdict, nothing_verdict, is_of_presence, misfit_text}
+
+mutual
+  -- each with the text that it prints
+  pub data Plan : Type 0 where
+    Asks : (text path : List ℕ) → (q : Query) → Plan
+    Denies : (text : List ℕ) → (e : Plan) → Plan
+    Joins : (text : List ℕ) → (c : Connective) → (es : Plans) → Plan
+    Ranges : (text path : List ℕ) → (q : Quantifier) → (e : Plan) → Plan
+
+  pub data Plans : Type 0 where
+    nothing : Plans
+    also : (e : Plan) → (es : Plans) → Plans
+
+abbrev pub plans_of : List Plan → Plans
+plans_of [] = nothing
+plans_of (e ∷ es) = also e (plans_of es)
+
+-- ---- leaves
+
+-- the value as JSON, where it has no float; the digits of a float are left open
+abbrev pub found_text : Data → Entry
+found_text d = cond (has_float d) None (Some (compact_text d))
+
+-- a path as a rule writes it
+abbrev pub path_text : List ℕ → List ℕ
+path_text [] = codes "/"
+path_text (b ∷ bytes) = b ∷ bytes
+
+abbrev pub nothing_text : List ℕ → List ℕ
+nothing_text path = codes "nothing at " ++ path_text path
+
+-- a false leaf that says that nothing stands at the path
+abbrev pub nothing_leaf : List ℕ → List ℕ → Formula
+nothing_leaf text path = Leaf (showing (Some text) (codes "error") (Some (nothing_text path))) false
+
+-- a false leaf that shows a value of a kind that can't answer
+abbrev pub misfit_leaf : List ℕ → List ℕ → Data → Formula
+misfit_leaf text error d = Leaf (showing_both (Some text) (codes "found") (found_text d) (codes "error") (Some error)) false
+
+-- a leaf that shows the value that it asks about
+abbrev pub found_leaf : List ℕ → Data → Bool → Formula
+found_leaf text d own = Leaf (showing (Some text) (codes "found") (found_text d)) own
+
+abbrev pub leaf_of_verdict : List ℕ → Query → Data → Option Bool → Formula
+leaf_of_verdict text q d None = misfit_leaf text (misfit_text q) d
+leaf_of_verdict text q d (Some own) = found_leaf text d own
+
+abbrev pub asked_formula : List ℕ → List ℕ → Query → Option Data → Formula
+asked_formula text path q None = cond (is_of_presence q) (Leaf (plain (Some text)) (nothing_verdict q)) (nothing_leaf text path)
+asked_formula text path q (Some d) = leaf_of_verdict text q d (verdict q d)
+
+-- ---- what is over several
+
+-- the truth of a part that decides the whole
+abbrev pub decides_all : Quantifier → Bool
+decides_all Each = false
+decides_all Any = true
+
+-- a formula of each item, under `item`
+abbrev pub item_formulas : (Data → Formula) → Data → Items → Formulas
+item_formulas g d no_items = one (codes "item") (g d)
+item_formulas g d (item e ds) = more (codes "item") (g d) (item_formulas g e ds)
+
+abbrev pub over_items : List ℕ → Bool → (Data → Formula) → Items → Formula
+over_items text decides g no_items = no_members (Some text) (not decides)
+over_items text decides g (item d ds) = Join (decided_by decides) (numbered (Some text) decides (item_formulas g d ds)) (item_formulas g d ds)
+
+abbrev pub not_an_array : List ℕ
+not_an_array = codes "not an array"
+
+abbrev pub over_array : List ℕ → Data → Bool → (Data → Formula) → Option Items → Formula
+over_array text d decides g None = misfit_leaf text not_an_array d
+over_array text d decides g (Some ds) = over_items text decides g ds
+
+abbrev pub range_formula : List ℕ → List ℕ → Quantifier → (Data → Formula) → Option Data → Formula
+range_formula text path q g None = nothing_leaf text path
+range_formula text path q g (Some d) = over_array text d (decides_all q) g (as_array d)
+
+-- formulas that a connective joins
+abbrev pub joined_formula : List ℕ → Connective → Formulas → Formula
+joined_formula text Or fs = Join operators.Or (numbered (Some text) true fs) fs
+joined_formula text Xor fs = Join operators.Xor (plain (Some text)) fs
+joined_formula text And fs = Join operators.And (numbered (Some text) false fs) fs
+
+-- the truth of a row without parts
+abbrev pub empty_truth : Connective → Bool
+empty_truth Or = false
+empty_truth Xor = false
+empty_truth And = true
+
+abbrev mutual
+  -- the formula of a check on a value
+  pub plan_formula : Plan → Data → Formula
+  plan_formula (Asks text path q) d = asked_formula text path q (pointer path d)
+  plan_formula (Denies text e) d = Not (plain (Some text)) (plan_formula e d)
+  plan_formula (Joins text c nothing) d = no_members (Some text) (empty_truth c)
+  plan_formula (Joins text c (also e es)) d = joined_formula text c (part_formulas (plan_formula e d) es d)
+  plan_formula (Ranges text path q e) d = range_formula text path q (plan_formula e) (pointer path d)
+
+  -- a first formula, and those of the others, under `part`
+  pub part_formulas : Formula → Plans → Data → Formulas
+  part_formulas f nothing d = one (codes "part") f
+  part_formulas f (also e es) d = more (codes "part") f (part_formulas (plan_formula e d) es d)
+
+abbrev pub plan_text : Plan → List ℕ
+plan_text (Asks text path q) = text
+plan_text (Denies text e) = text
+plan_text (Joins text c es) = text
+plan_text (Ranges text path q e) = text

@@ -1,0 +1,123 @@
+//! A check of a JSON value, made of a rule's expression.
+ghost use Rattle.std.specs.Prelude.{◌≡◌, refl, [], Some};
+ghost use Rattle.predicates_core.specs.Tree.{empty};
+ghost use Rattle.predicates_core.specs.Leaves.{IsExactly};
+ghost use Rattle.predicates_core.specs.LeafLaws.{one_exactly};
+ghost use Rattle.serde_json.specs.View.{view};
+ghost use Rattle.predicates_vet_check.specs.Plans.{plan_formula, plan_text};
+ghost use Rattle.predicates_vet_check.specs.PlanLaws.{plan_text_fits};
+ghost use Rattle.predicates_vet_check.specs.Checks.{plan_of};
+
+mod find;
+mod hold;
+
+use crate::path_test::PathTest;
+use find::{joined_case, not_case, range_case};
+use hold::{joined_hold, not_hold, range_hold};
+use predicates_core::reflection::{Case, Child, Parameter, PredicateReflection};
+use predicates_core::{Predicate, Total};
+use predicates_rules::expression::{Connective, Quantifier};
+use serde_json::Value;
+use std::alloc::{AllocError, Global};
+use std::fmt;
+
+/// A check of a JSON value, with a variant for each form of a rule's expression. It has no parameters
+/// and no children, and what is over a path or over parts has its printed text with it.
+#[derive(Drop)]
+pub enum Check {
+    /// A test of the value at a path.
+    Test(PathTest),
+    /// The check does not hold.
+    Not(String, Box<Check>),
+    /// As many parts hold as the connective wants. A row without parts holds under `And` alone.
+    Joined(String, Connective, Vec<Check>),
+    /// The check holds of each item of the array at the path, or of one. What is no array is a false
+    /// leaf that says so.
+    Quantified(String, Quantifier, String, Box<Check>),
+}
+
+impl fmt::Display for Check {
+    ghost output = { λ c. Some (plan_text (plan_of c)) };
+
+    fn fmt<W: fmt::Write>(&self, f: &mut fmt::Formatter<W>) -> fmt::Result {
+        f.write_str(self.text())
+    }
+}
+
+impl PredicateReflection for Check {
+    ghost parameters_of = { λ _. [] };
+
+    ghost children_of = { λ _. empty };
+
+    fn parameters(&self, alloc: Global) -> Result<Vec<Parameter>, AllocError> {
+        Ok(Vec::new(alloc))
+    }
+
+    fn children(&self, alloc: Global) -> Result<Vec<Child>, AllocError> {
+        Ok(Vec::new(alloc))
+    }
+}
+
+impl Check {
+    /// What the check prints. It takes no memory.
+    pub fn text(&self) -> &str
+        ensures { result.now ≡ plan_text (plan_of self.now) }
+    {
+        match self {
+            Check::Test(test) => &test.text,
+            Check::Not(text, _) => text,
+            Check::Joined(text, _, _) => text,
+            Check::Quantified(text, _, _, _) => text,
+        }
+    }
+}
+
+impl Predicate<Value> for Check {
+    ghost formula = { λ c v. IsExactly (plan_formula (plan_of c) (view v)) };
+
+    ghost infallible = { λ _ _. ⊥ };
+
+    ghost text_fits = { λ c v f. plan_text_fits (plan_of c) (view v) };
+
+    ghost one_formula = { λ c v f g lawful. one_exactly };
+
+    #[cycle(hold)]
+    fn eval(&self, alloc: Global, item: &Value) -> Result<bool, AllocError> {
+        match self {
+            Check::Test(test) => test.eval(alloc, item),
+            Check::Not(_, inner) => not_hold(alloc, inner, item),
+            Check::Joined(_, connective, parts) => joined_hold(alloc, *connective, parts, item),
+            Check::Quantified(_, quantifier, path, inner) => {
+                range_hold(alloc, *quantifier, path, inner, item)
+            }
+        }
+    }
+
+    #[cycle(find)]
+    fn find_case(
+        &self,
+        alloc: Global,
+        expected: bool,
+        item: &Value,
+    ) -> Result<Option<Case>, AllocError> {
+        match self {
+            Check::Test(test) => test.find_case(alloc, expected, item),
+            Check::Not(text, inner) => not_case(alloc, text, inner, expected, item),
+            Check::Joined(text, connective, parts) => {
+                joined_case(alloc, text, *connective, parts, expected, item)
+            }
+            Check::Quantified(text, quantifier, path, inner) => {
+                let found = range_case(alloc, text, *quantifier, path, inner, expected, item)?;
+                Ok(found)
+            }
+        }
+    }
+}
+
+impl Total<Value> for Check {
+    ghost formula_of = { λ c v. plan_formula (plan_of c) (view v) };
+
+    ghost always_lawful = { λ _. tt };
+
+    ghost has_formula = { λ c v. record { is = refl } };
+}

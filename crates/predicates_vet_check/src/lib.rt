@@ -1,0 +1,20 @@
+//! Rules as text, made into predicates of JSON values.
+//!
+//! ```
+//! let check = check_of(alloc, expression)?; // of `/age >= 18`
+//! let case = check.find_case(alloc, false, &record)?;
+//! ```
+#![tactic(auto)]
+
+pub mod check;
+mod check_error;
+mod compile;
+mod leaf;
+mod path_test;
+mod question;
+mod rule_check;
+
+pub use check_error::CheckError;
+pub use compile::check_of;
+pub use path_test::PathTest;
+pub use rule_check::RuleCheck;

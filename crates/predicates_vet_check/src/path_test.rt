@@ -1,0 +1,196 @@
+//! A test of the value at a path.
+ghost use Rattle.std.specs.Prelude.{◌≡◌, refl, [], Some, string_bytes};
+ghost use Rattle.predicates_core.specs.Tree.{empty};
+ghost use Rattle.predicates_core.specs.Leaves.{IsExactly};
+ghost use Rattle.predicates_core.specs.LeafLaws.{one_exactly};
+ghost use Rattle.serde_json.specs.Find.{pointer};
+ghost use Rattle.serde_json.specs.View.{view};
+ghost use Rattle.std.specs.Prelude.{IfOk, None};
+ghost use Rattle.predicates_core.specs.Shows.{IsAnswer, IsCaseOf};
+ghost use Rattle.predicates_vet_check.specs.Queries.{verdict};
+ghost use Rattle.predicates_vet_check.specs.PlanLaws.{asked_text_fits};
+ghost use Rattle.predicates_vet_check.specs.Plans.{asked_formula, leaf_of_verdict, found_leaf, misfit_leaf};
+ghost use Rattle.predicates_vet_check.specs.Queries.{misfit_text, nothing_verdict};
+ghost use Rattle.predicates_vet_check.specs.Tests.{text_of_test, path_of_test, query_of_test};
+
+use crate::leaf::{bare_leaf, found_at, misfit_at, nothing_at};
+use crate::question::Question;
+use predicates_core::reflection::{Case, Child, Parameter, PredicateReflection};
+use predicates_core::{Predicate, Total};
+use predicates_json::value_at;
+use serde_json::Value;
+use std::alloc::{AllocError, Global};
+use std::fmt;
+
+/// A test of the value at a path. It prints the test as a rule writes it, and its case shows the
+/// value that it found, or says what is wrong.
+#[derive(Drop)]
+pub struct PathTest {
+    pub(crate) text: String,
+    pub(crate) path: String,
+    pub(crate) question: Question,
+}
+
+impl fmt::Display for PathTest {
+    ghost output = { λ t. Some (text_of_test t) };
+
+    fn fmt<W: fmt::Write>(&self, f: &mut fmt::Formatter<W>) -> fmt::Result {
+        f.write_str(&self.text)
+    }
+}
+
+impl PredicateReflection for PathTest {
+    ghost parameters_of = { λ _. [] };
+
+    ghost children_of = { λ _. empty };
+
+    fn parameters(&self, alloc: Global) -> Result<Vec<Parameter>, AllocError> {
+        Ok(Vec::new(alloc))
+    }
+
+    fn children(&self, alloc: Global) -> Result<Vec<Child>, AllocError> {
+        Ok(Vec::new(alloc))
+    }
+}
+
+impl PathTest {
+    // The case of a value that was found.
+    #[tactic(auto, using(crate::proofs::Leaving::leavings))]
+    fn case_of(
+        &self,
+        alloc: Global,
+        value: &Value,
+        expected: bool,
+    ) -> Result<Option<Case>, AllocError>
+        ensures { IfOk result (IsAnswer (IsExactly (leaf_of_verdict (text_of_test self.now)
+            (query_of_test self.now) (view value.now)
+            (verdict (query_of_test self.now) (view value.now)))) expected) }
+    {
+        match self.question.verdict(alloc, value)? {
+            Some(holds) => {
+                let found = self.case_of_found(alloc, value, holds, expected)?;
+                Ok(found)
+            }
+            None => {
+                let found = self.case_of_misfit(alloc, value, expected)?;
+                Ok(found)
+            }
+        }
+    }
+
+    // The case of a value that answers.
+    #[tactic(auto, using(predicates_core::proofs::Leaves::leaves))]
+    fn case_of_found(
+        &self,
+        alloc: Global,
+        value: &Value,
+        holds: bool,
+        expected: bool,
+    ) -> Result<Option<Case>, AllocError>
+        ensures { IfOk result (IsAnswer (IsExactly (found_leaf (text_of_test self.now)
+            (view value.now) holds)) expected) }
+    {
+        if holds != expected {
+            return Ok(None);
+        }
+        let case = found_at(alloc, &self.text, value, holds)?;
+        Ok(Some(case))
+    }
+
+    // The case of a value that can't answer.
+    #[tactic(auto, using(predicates_core::proofs::Leaves::leaves))]
+    fn case_of_misfit(
+        &self,
+        alloc: Global,
+        value: &Value,
+        expected: bool,
+    ) -> Result<Option<Case>, AllocError>
+        ensures { IfOk result (IsAnswer (IsExactly (misfit_leaf (text_of_test self.now)
+            (misfit_text (query_of_test self.now)) (view value.now))) expected) }
+    {
+        if expected {
+            return Ok(None);
+        }
+        let case = misfit_at(alloc, &self.text, value, self.question.misfit())?;
+        Ok(Some(case))
+    }
+
+    // The case where nothing stands at the path.
+    #[tactic(auto, using(crate::proofs::Leaving::leavings))]
+    fn case_of_nothing(&self, alloc: Global, expected: bool) -> Result<Option<Case>, AllocError>
+        ensures { IfOk result (IsAnswer (IsExactly (asked_formula (text_of_test self.now)
+            (path_of_test self.now) (query_of_test self.now) None)) expected) }
+    {
+        let holds = self.question.holds_of_nothing();
+        if holds == expected {
+            let case = self.nothing_case(alloc, holds)?;
+            return Ok(Some(case));
+        }
+        Ok(None)
+    }
+
+    #[tactic(auto, using(crate::proofs::Leaving::leavings))]
+    fn nothing_case(&self, alloc: Global, holds: bool) -> Result<Case, AllocError>
+        requires truth { holds ≡ nothing_verdict (query_of_test self.now) }
+        ensures { IfOk result (IsCaseOf (IsExactly (asked_formula (text_of_test self.now)
+            (path_of_test self.now) (query_of_test self.now) None)) holds) }
+    {
+        if self.question.is_of_presence() {
+            let case = bare_leaf(alloc, &self.text, holds)?;
+            return Ok(case);
+        }
+        let case = nothing_at(alloc, &self.text, &self.path)?;
+        Ok(case)
+    }
+}
+
+impl Predicate<Value> for PathTest {
+    ghost formula = { λ t v. IsExactly (asked_formula (text_of_test t) (path_of_test t)
+        (query_of_test t) (pointer (path_of_test t) (view v))) };
+
+    ghost infallible = { λ _ _. ⊥ };
+
+    ghost text_fits = { λ t v f. asked_text_fits (text_of_test t)
+        (path_of_test t) (query_of_test t) (pointer (path_of_test t) (view v)) };
+
+    ghost one_formula = { λ t v f g lawful. one_exactly };
+
+    #[tactic(auto, using(crate::proofs::Leaving::leavings))]
+    fn eval(&self, alloc: Global, item: &Value) -> Result<bool, AllocError> {
+        let Some(value) = value_at(item, &self.path) else {
+            return Ok(self.question.holds_of_nothing());
+        };
+        match self.question.verdict(alloc, value)? {
+            Some(holds) => Ok(holds),
+            None => Ok(false),
+        }
+    }
+
+    #[tactic(auto, using(crate::proofs::Leaving::leavings))]
+    fn find_case(
+        &self,
+        alloc: Global,
+        expected: bool,
+        item: &Value,
+    ) -> Result<Option<Case>, AllocError> {
+        match value_at(item, &self.path) {
+            Some(value) => {
+                let found = self.case_of(alloc, value, expected)?;
+                Ok(found)
+            }
+            None => {
+                let found = self.case_of_nothing(alloc, expected)?;
+                Ok(found)
+            }
+        }
+    }
+}
+
+impl Total<Value> for PathTest {
+    ghost formula_of = { λ t v. asked_formula (text_of_test t) (path_of_test t)
+        (query_of_test t) (pointer (path_of_test t) (view v)) };
+
+    ghost always_lawful = { λ _. tt };
+
+    ghost has_formula = { λ t v. record { is = refl } };
+}

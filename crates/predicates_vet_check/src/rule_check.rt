@@ -1,0 +1,82 @@
+//! A rule that a record keeps or breaks.
+ghost use Rattle.std.specs.Prelude.{◌≡◌, refl, [], Some, IfOk};
+ghost use Rattle.predicates_core.specs.Tree.{empty};
+ghost use Rattle.predicates_core.specs.Leaves.{IsExactly};
+ghost use Rattle.predicates_core.specs.LeafLaws.{one_exactly};
+ghost use Rattle.serde_json.specs.View.{view};
+ghost use Rattle.predicates_vet_check.specs.RuleChecks.{rule_formula, name_of, plan_of_rule};
+ghost use Rattle.predicates_vet_check.specs.PlanLaws.{rule_text_fits};
+
+use crate::check::Check;
+use predicates_core::node::unary_node;
+use predicates_core::reflection::{Case, Child, Parameter, PredicateReflection};
+use predicates_core::{Predicate, Total};
+use serde_json::Value;
+use std::alloc::{AllocError, Global};
+use std::fmt;
+
+/// A rule of a file: what it is called, and the check that it makes. It prints its name, and the check
+/// stands under `rule`.
+#[derive(Drop)]
+pub struct RuleCheck {
+    pub name: String,
+    pub check: Check,
+}
+
+impl fmt::Display for RuleCheck {
+    ghost output = { λ r. Some (name_of r) };
+
+    fn fmt<W: fmt::Write>(&self, f: &mut fmt::Formatter<W>) -> fmt::Result {
+        f.write_str(&self.name)
+    }
+}
+
+impl PredicateReflection for RuleCheck {
+    ghost parameters_of = { λ _. [] };
+
+    ghost children_of = { λ _. empty };
+
+    fn parameters(&self, alloc: Global) -> Result<Vec<Parameter>, AllocError> {
+        Ok(Vec::new(alloc))
+    }
+
+    fn children(&self, alloc: Global) -> Result<Vec<Child>, AllocError> {
+        Ok(Vec::new(alloc))
+    }
+}
+
+impl Predicate<Value> for RuleCheck {
+    ghost formula = { λ r v. IsExactly (rule_formula (name_of r) (plan_of_rule r) (view v)) };
+
+    ghost infallible = { λ _ _. ⊥ };
+
+    ghost text_fits = { λ r v f. rule_text_fits (name_of r) (plan_of_rule r) (view v) };
+
+    ghost one_formula = { λ r v f g lawful. one_exactly };
+
+    fn eval(&self, alloc: Global, item: &Value) -> Result<bool, AllocError> {
+        let holds = self.check.eval(alloc, item)?;
+        Ok(holds)
+    }
+
+    fn find_case(
+        &self,
+        alloc: Global,
+        expected: bool,
+        item: &Value,
+    ) -> Result<Option<Case>, AllocError> {
+        let Some(case) = self.check.find_case(alloc, expected, item)? else {
+            return Ok(None);
+        };
+        let name = String::from_str(alloc, &self.name)?;
+        Ok(Some(unary_node(alloc, name, expected, "rule", case)?))
+    }
+}
+
+impl Total<Value> for RuleCheck {
+    ghost formula_of = { λ r v. rule_formula (name_of r) (plan_of_rule r) (view v) };
+
+    ghost always_lawful = { λ _. tt };
+
+    ghost has_formula = { λ r v. record { is = refl } };
+}
