@@ -1,5 +1,5 @@
 -- What a run writes.
-use Rattle.std.specs.Prelude.{◌≡◌, ℕ, ◌+◌, List, [], ◌∷◌, Bool, false, not, Option, Some, None, if◌then◌else◌, ◌==◌, map, filter, flat_map, length, is_some}
+use Rattle.std.specs.Prelude.{nat_lt, ◌≡◌, ℕ, ◌+◌, List, [], ◌∷◌, Bool, false, not, Option, Some, None, if◌then◌else◌, ◌==◌, map, filter, flat_map, length, is_some}
 use Rattle.std.specs.Option.{ForSome}
 use Rattle.std.specs.Str.{is_utf8}
 use Rattle.std.specs.Io.KnownBytes.{Appends}
@@ -57,3 +57,7 @@ pub record HasRun (s : Settings) (rules : List RuleCheck) (reader_before reader_
   pub records : counts.records ≡ length (filter (λ l. is_some (record_on l.0)) lines)
   pub failed : counts.failed ≡ length (filter (λ l. breaks rules (record_on l.0)) lines)
   pub unreadable : counts.unreadable ≡ length (filter (λ l. not (is_some (record_on l.0))) lines)
+
+-- the status of a process after a run
+abbrev pub status_of : Counts → ℕ
+status_of counts = if nat_lt 0 counts.unreadable then 2 else (if nat_lt 0 counts.failed then 1 else 0)

@@ -7,7 +7,7 @@ ghost use Rattle.std.specs.Io.KnownBytes.{Appends, Keeps};
 ghost use Rattle.serde_json.specs.Read.{read};
 ghost use Rattle.serde_json.specs.View.{view};
 ghost use Rattle.predicates_vet.specs.Records.{keeps, IsWritten};
-ghost use Rattle.predicates_vet.specs.Runs.{is_false};
+ghost use Rattle.predicates_vet.specs.Runs.{is_false, status_of};
 ghost use Rattle.predicates_vet.specs.Runs.{ended_lines, record_on, HasRun, breaks, IsLineWritten};
 ghost use Rattle.predicates_vet.specs.declared.run_fault.RunFault.TheVariants.{NoMemory};
 
@@ -33,6 +33,20 @@ pub struct Counts {
 }
 
 impl Counts {
+    /// The status of a process after the run: 2 where no record stands on a line, else 1 where a record
+    /// breaks a rule, else 0.
+    pub fn status(self) -> u8
+        ensures { result ≡ status_of self }
+    {
+        if self.unreadable > 0 {
+            2
+        } else if self.failed > 0 {
+            1
+        } else {
+            0
+        }
+    }
+
     // Counts one line more: whether its record keeps every rule, or none where no record stands on it.
     fn count(self, held: Option<bool>) -> Counts
         requires records { self.records + 1 < 2 ^ 64 }

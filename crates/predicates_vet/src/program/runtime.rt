@@ -35,10 +35,10 @@ fn end<E: Eprint>(rt: &E, counts: Counts) -> io::Result<u8> {
     } = counts;
     if unreadable > 0 {
         eprintln!(rt; "{records} records, {failed} failed, {unreadable} lines unreadable")?;
-        return Ok(2);
+    } else {
+        eprintln!(rt; "{records} records, {failed} failed")?;
     }
-    eprintln!(rt; "{records} records, {failed} failed")?;
-    Ok(if failed > 0 { 1 } else { 0 })
+    Ok(counts.status())
 }
 
 fn answer<E: Env + Files + Input + Print + Eprint + AllocGlobal>(rt: &E) -> io::Result<u8> {
