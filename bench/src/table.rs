@@ -28,10 +28,10 @@ pub fn missed(what: &str, ratio: f64, target: f64) -> &'static str {
     " !"
 }
 
-/// Both times and their ratio, which is marked where it is above the target.
+/// The ratio of both times, which is marked where it is above the target, and the port's time.
 pub fn cell(what: &str, pair: Pair, target: f64) -> String {
     let mark = missed(what, pair.ratio, target);
-    format!("{} / {} = {:.2}{mark}", time(pair.port), time(pair.original), pair.ratio)
+    format!("{:.2} ({}){mark}", pair.ratio, time(pair.port))
 }
 
 /// Prints what was above its target.
