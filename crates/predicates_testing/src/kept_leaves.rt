@@ -13,6 +13,7 @@ fn shown_member(node: &CaseView<'_>) -> usize {
 
 // Adds the leaves that the children of a list's node keep of its members, of which the first is not
 // among the `hidden` ones; false where a child is not cut from its member.
+#[cycle(kept)]
 fn add_members(
     kept: &mut Vec<usize>,
     members: &ReferenceFormula,
@@ -37,6 +38,7 @@ fn add_members(
 
 // Adds the leaves that a node keeps of the formula, whose first leaf has the number `first`;
 // false where the node is not cut from the formula.
+#[cycle(kept)]
 fn add_kept(
     kept: &mut Vec<usize>,
     formula: &ReferenceFormula,

@@ -40,13 +40,13 @@ pub fn answer_number(
 }
 
 // The only value of a stack that holds one.
-pub(crate) fn only<T: Drop>(mut stack: Vec<T>) -> Option<T> {
+fn only<T: Drop>(mut stack: Vec<T>) -> Option<T> {
     let last = stack.pop()?;
     if stack.is_empty() { Some(last) } else { None }
 }
 
 // Whether a leaf is true of a number; none where the word names no leaf.
-pub(crate) fn leaf_truth(word: &NumberWord, item: i64) -> Option<bool> {
+fn leaf_truth(word: &NumberWord, item: i64) -> Option<bool> {
     Some(match word {
         NumberWord::Always => true,
         NumberWord::Never => false,
