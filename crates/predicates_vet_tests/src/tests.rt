@@ -1,0 +1,189 @@
+//! Rules and records, and what a run writes for them.
+use predicates_vet::settings::{Report, Settings};
+use predicates_vet::{Counts, read_checks, run_records};
+use std::alloc::{AllocError, Global};
+use std::test::Fail;
+
+// Whether a run over the records writes this, with these counts.
+fn writes(
+    alloc: Global,
+    report: Report,
+    rules: &str,
+    records: &[u8],
+    expected: &[u8],
+    counts: (u64, u64, u64),
+) -> Result<bool, AllocError> {
+    let Ok(checks) = read_checks(alloc, rules.as_bytes()) else {
+        return Ok(false);
+    };
+    let settings = Settings { report, id: None };
+    let mut input = records;
+    let mut output = Vec::new(alloc);
+    let mut messages = Vec::new(alloc);
+    let ended = run_records(
+        alloc,
+        checks.as_slice(),
+        &settings,
+        &mut input,
+        &mut output,
+        &mut messages,
+    );
+    let (records, failed, unreadable) = counts;
+    let counts = Counts {
+        records,
+        failed,
+        unreadable,
+    };
+    Ok(ended == Ok(counts) && output.as_slice() == expected)
+}
+
+// A rule, a record, and the lines below the label of its block, or nothing where the record keeps it.
+const BLOCKS: [(&str, &[u8], &[u8]); 16] = [
+    ("a: /x == 1", b"{\"x\": 1}", b""),
+    (
+        "a: /x == 1",
+        b"{\"x\": 2}",
+        b"record 1: false\na = false\n  rule: /x == 1 = false\n    - found: 2\n",
+    ),
+    (
+        "a: /x != 1",
+        b"{}",
+        b"record 1: false\na = false\n  rule: /x != 1 = false\n    - error: nothing at /x\n",
+    ),
+    ("a: /x <= -2", b"{\"x\": -2}", b""),
+    (
+        "a: /x > 18446744073709551614",
+        b"{\"x\": 18446744073709551615}",
+        b"",
+    ),
+    (
+        "a: /x < 3",
+        b"{\"x\": true}",
+        b"record 1: false\na = false\n  rule: /x < 3 = false\n    - found: true\n    - error: not a whole number\n",
+    ),
+    (
+        "a: /x != null",
+        b"{\"x\": null}",
+        b"record 1: false\na = false\n  rule: /x != null = false\n    - found: null\n",
+    ),
+    (
+        "a: /x == true",
+        b"{\"x\": \"y\"}",
+        b"record 1: false\na = false\n  rule: /x == true = false\n    - found: \"y\"\n    - error: not true or false\n",
+    ),
+    ("a: / contains \"\\\"\"", b"\"q\\\"\"", b""),
+    (
+        "a: / ends_with \"b\"",
+        b"\"ba\"",
+        b"record 1: false\na = false\n  rule: / ends_with \"b\" = false\n    - found: \"ba\"\n",
+    ),
+    ("a: / is_empty", b"[]", b""),
+    (
+        "a: / is_empty",
+        b"4",
+        b"record 1: false\na = false\n  rule: / is_empty = false\n    - found: 4\n    - error: not a string, an array or an object\n",
+    ),
+    (
+        "a: / in [1, \"b\", null]",
+        b"\"c\"",
+        b"record 1: false\na = false\n  rule: / in [1, \"b\", null] = false\n    - found: \"c\"\n",
+    ),
+    (
+        "a: not /x missing",
+        b"{}",
+        b"record 1: false\na = false\n  rule: not /x missing = false\n    predicate: /x missing = true\n",
+    ),
+    (
+        "a: / < 3 xor / > 1",
+        b"2",
+        b"record 1: false\na = false\n  rule: / < 3 xor / > 1 = false\n    part: / < 3 = true\n      - found: 2\n    part: / > 1 = true\n      - found: 2\n",
+    ),
+    (
+        "a: any / (/ == 1)",
+        b"[]",
+        b"record 1: false\na = false\n  rule: any / (/ == 1) = false\n    - len: 0\n",
+    ),
+];
+
+#[test]
+fn blocks_of_records(rt: HostRuntime) -> Result<(), Fail> {
+    for (rule, record, block) in BLOCKS {
+        let failed = if block.is_empty() { 0 } else { 1 };
+        assert!(rt;
+            writes(
+                rt.alloc(),
+                Report::First,
+                rule,
+                record,
+                block,
+                (1, failed, 0)
+            )?,
+            "{rule}"
+        );
+    }
+    Ok(())
+}
+
+// The records, those that break the rule, those that keep it, and the counts.
+const LINES: [(&[u8], &[u8], &[u8], (u64, u64, u64)); 3] = [
+    (b"", b"", b"", (0, 0, 0)),
+    (b"1\n 2 \n1", b" 2 \n", b"1\n1", (3, 1, 0)),
+    (b"1\n[\n\xff\n\n3\r\n", b"3\r\n", b"1\n", (2, 1, 3)),
+];
+
+#[test]
+fn lines_by_their_rule(rt: HostRuntime) -> Result<(), Fail> {
+    for (records, failed, passed, counts) in LINES {
+        let broken = writes(
+            rt.alloc(),
+            Report::Lines(false),
+            "a: / == 1",
+            records,
+            failed,
+            counts,
+        )?;
+        assert!(rt; broken, "{records:?}");
+        let kept = writes(
+            rt.alloc(),
+            Report::Lines(true),
+            "a: / == 1",
+            records,
+            passed,
+            counts,
+        )?;
+        assert!(rt; kept, "{records:?}");
+    }
+    Ok(())
+}
+
+// Whether the rules are not read, for this reason.
+fn is_refused(alloc: Global, rules: &str, message: &str) -> Result<bool, AllocError> {
+    match read_checks(alloc, rules.as_bytes()) {
+        Ok(_) => Ok(false),
+        Err(error) => {
+            let found = format!(in alloc; "{error}")?;
+            Ok(found.as_str() == message)
+        }
+    }
+}
+
+// Rules, and why they are not read.
+const REFUSED: [(&str, &str); 3] = [
+    ("a: / matches \"[\"", "rule a: no regular expression: ["),
+    (
+        "a: / exists\nb: /x ==",
+        "line 2, column 9: expected a literal",
+    ),
+    (
+        "a / exists",
+        "line 1, column 2: expected `:` behind the name of a rule",
+    ),
+];
+
+#[test]
+fn rules_that_are_refused(rt: HostRuntime) -> Result<(), Fail> {
+    for (rules, message) in REFUSED {
+        assert!(rt; is_refused(rt.alloc(), rules, message)?, "{rules}");
+    }
+    Ok(())
+}
