@@ -134,16 +134,22 @@ fn id_json(
     }
 }
 
-// Writes the object of the cases, on a line, in place of what the text held.
+// Writes the object of a record, on a line, in place of what the text held: with all cases, or with
+// the first where there is one.
 fn write_json(
     alloc: Global,
     text: &mut String,
     id: Value,
+    all: bool,
     cases: &[Case],
 ) -> Result<(), AllocError> {
     let mut members = Map::new(alloc);
-    let values = cases_json(alloc, cases)?;
-    put(&mut members, alloc, "broken", Value::Array(values))?;
+    if all {
+        let values = Value::Array(cases_json(alloc, cases)?);
+        put(&mut members, alloc, "cases", values)?;
+    } else if let [case, ..] = cases {
+        put(&mut members, alloc, "case", case_json(alloc, &case.root())?)?;
+    }
     put(&mut members, alloc, "holds", Value::Bool(cases.is_empty()))?;
     put(&mut members, alloc, "record", id)?;
     let object = Value::Object(members).to_string(alloc)?;
@@ -195,6 +201,6 @@ pub(crate) fn write_object(
 {
     let cases = broken(alloc, rules, all, value)?;
     let id = id_json(alloc, settings, number, value)?;
-    write_json(alloc, text, id, cases.as_slice())?;
+    write_json(alloc, text, id, all, cases.as_slice())?;
     Ok(is_none(&cases))
 }

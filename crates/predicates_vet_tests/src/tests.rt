@@ -8,6 +8,7 @@ use std::test::Fail;
 fn writes(
     alloc: Global,
     report: Report,
+    id: Option<&str>,
     rules: &str,
     records: &[u8],
     expected: &[u8],
@@ -16,7 +17,11 @@ fn writes(
     let Ok(checks) = read_checks(alloc, rules.as_bytes()) else {
         return Ok(false);
     };
-    let settings = Settings { report, id: None };
+    let id = match id {
+        Some(path) => Some(String::from_str(alloc, path)?),
+        None => None,
+    };
+    let settings = Settings { report, id };
     let mut input = records;
     let mut output = Vec::new(alloc);
     let mut messages = Vec::new(alloc);
@@ -113,6 +118,7 @@ fn blocks_of_records(rt: HostRuntime) -> Result<(), Fail> {
             writes(
                 rt.alloc(),
                 Report::First,
+                None,
                 rule,
                 record,
                 block,
@@ -137,6 +143,7 @@ fn lines_by_their_rule(rt: HostRuntime) -> Result<(), Fail> {
         let broken = writes(
             rt.alloc(),
             Report::Lines(false),
+            None,
             "a: / == 1",
             records,
             failed,
@@ -146,12 +153,57 @@ fn lines_by_their_rule(rt: HostRuntime) -> Result<(), Fail> {
         let kept = writes(
             rt.alloc(),
             Report::Lines(true),
+            None,
             "a: / == 1",
             records,
             passed,
             counts,
         )?;
         assert!(rt; kept, "{records:?}");
+    }
+    Ok(())
+}
+
+const RULES: &str = "a: /x == 1\nb: /y == 2";
+
+const RECORDS: &[u8] = b"{\"id\": \"r\", \"x\": 3, \"y\": 4}\n{\"x\": 1, \"y\": 2}\n";
+
+// A report on these records, the path of their labels, and what is written.
+const REPORTS: [(Report, Option<&str>, &[u8]); 5] = [
+    (
+        Report::All,
+        None,
+        b"record 1: false\na = false\n  rule: /x == 1 = false\n    - found: 3\nb = false\n  rule: /y == 2 = false\n    - found: 4\n",
+    ),
+    (
+        Report::First,
+        Some("/id"),
+        b"record \"r\": false\na = false\n  rule: /x == 1 = false\n    - found: 3\n",
+    ),
+    (
+        Report::First,
+        Some("/z"),
+        b"record null: false\na = false\n  rule: /x == 1 = false\n    - found: 3\n",
+    ),
+    (
+        Report::Json { all: false },
+        None,
+        b"{\"case\":{\"children\":[{\"case\":{\"children\":[],\"products\":[{\"name\":\"found\",\"value\":\"3\"}],\"result\":false,\"text\":\"/x == 1\"},\"name\":\"rule\"}],\"products\":[],\"result\":false,\"text\":\"a\"},\"holds\":false,\"record\":1}\n{\"holds\":true,\"record\":2}\n",
+    ),
+    (
+        Report::Json { all: true },
+        Some("/id"),
+        b"{\"cases\":[{\"children\":[{\"case\":{\"children\":[],\"products\":[{\"name\":\"found\",\"value\":\"3\"}],\"result\":false,\"text\":\"/x == 1\"},\"name\":\"rule\"}],\"products\":[],\"result\":false,\"text\":\"a\"},{\"children\":[{\"case\":{\"children\":[],\"products\":[{\"name\":\"found\",\"value\":\"4\"}],\"result\":false,\"text\":\"/y == 2\"},\"name\":\"rule\"}],\"products\":[],\"result\":false,\"text\":\"b\"}],\"holds\":false,\"record\":\"r\"}\n{\"cases\":[],\"holds\":true,\"record\":null}\n",
+    ),
+];
+
+#[test]
+fn reports_on_records(rt: HostRuntime) -> Result<(), Fail> {
+    for (report, id, expected) in REPORTS {
+        assert!(rt;
+            writes(rt.alloc(), report, id, RULES, RECORDS, expected, (2, 1, 0))?,
+            "{report:?}"
+        );
     }
     Ok(())
 }
