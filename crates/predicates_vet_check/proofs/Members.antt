@@ -98,15 +98,9 @@ module _ (text : List ℕ) (d : Data) (decides : Bool) (c : Check) where
   pub truth_of_no_array : as_array d ≡ None → HasTruth (IsExactly (over_array text d decides (plan_formula (plan_of c)) (as_array d))) false
   truth_of_no_array e = subst (λ o. HasTruth (IsExactly (over_array text d decides (plan_formula (plan_of c)) o)) false) (sym e) (HasTruth-exactly refl)
 
-  pub answer_of_no_array : (expected : Bool) (found : Option (Tree CaseNode)) → as_array d ≡ None → IsAnswer (IsExactly (misfit_leaf text not_an_array d)) expected found → IsAnswer (IsExactly (over_array text d decides (plan_formula (plan_of c)) (as_array d))) expected found
-  answer_of_no_array expected found e h = subst (λ o. IsAnswer (IsExactly (over_array text d decides (plan_formula (plan_of c)) o)) expected found) (sym e) h
-
 module _ (text path : List ℕ) (q : Quantifier) (g : Data → Formula) (o : Option Data) where
   pub truth_at : (d : Data) {b : Bool} → o ≡ Some d → HasTruth (IsExactly (over_array text d (decides_all q) g (as_array d))) b → HasTruth (IsExactly (range_formula text path q g o)) b
   truth_at d {b} e h = subst (λ z. HasTruth (IsExactly (range_formula text path q g z)) b) (sym e) h
-
-  pub answer_at : (d : Data) (expected : Bool) (found : Option (Tree CaseNode)) → o ≡ Some d → IsAnswer (IsExactly (over_array text d (decides_all q) g (as_array d))) expected found → IsAnswer (IsExactly (range_formula text path q g o)) expected found
-  answer_at d expected found e h = subst (λ z. IsAnswer (IsExactly (range_formula text path q g z)) expected found) (sym e) h
 
   pub truth_nowhere : o ≡ None → HasTruth (IsExactly (range_formula text path q g o)) false
   truth_nowhere e = subst (λ z. HasTruth (IsExactly (range_formula text path q g z)) false) (sym e) (HasTruth-exactly refl)
