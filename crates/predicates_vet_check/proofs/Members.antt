@@ -20,7 +20,7 @@ use Rattle.predicates_rules.specs.declared.expression.Connective.TheVariants.{Or
 use Rattle.predicates_vet_check.specs.declared.check.Check.{Check}
 use Rattle.predicates_vet_check.specs.Checks.{plan_of, Has, HasOf}
 use Rattle.predicates_vet_check.specs.Differ.{IsOfDiffering}
-use Rattle.predicates_vet_check.specs.Plans.{Denies, Joins, plans_of, plan_formula, part_formulas, item_formulas, over_items, over_array, range_formula, misfit_leaf, nothing_leaf, not_an_array, decides_all}
+use Rattle.predicates_vet_check.specs.Plans.{Denies, Joins, plans_of, plan_formula, part_formulas, item_formulas, over_items, over_array, range_formula, nothing_leaf, decides_all}
 
 module _ (F : Formula → Type 0) {g : Formula} (had : F g) where
   pub truth_of_one : {b : Bool} → HasTruth F b → HasTruth (IsExactly g) b
