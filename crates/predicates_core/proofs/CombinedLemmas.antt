@@ -1,10 +1,9 @@
 -- The truth of a combined formula, and the cases that explain it, from those of its parts.
-use Rattle.std.proofs.Common.{◌≡◌, ℕ, Bool, true, false, List, [], ◌∷◌, Option, Some, codes, refl, sym, ap, ◌∙◌, subst}
+use Rattle.std.proofs.Common.{◌≡◌, ℕ, Bool, List, [], ◌∷◌, Option, Some, codes, refl, sym, ap, ◌∙◌, subst}
 use Rattle.std.specs.Prelude.{not}
 use Rattle.predicates_core.specs.Label.{Label, Entry, plain, Fits, FitsEntry, FitsProducts}
 use Rattle.predicates_core.specs.declared.custom.join.Operator.{Operator}
-use Rattle.predicates_core.specs.declared.custom.join.Operator.TheVariants.{And, Or, Xor}
-use Rattle.predicates_core.specs.Formula.{Formula, Formulas, one, more, Join, Not, Named, apply, pair, differ, truth, size, text_of, HasTruth}
+use Rattle.predicates_core.specs.Formula.{Formula, Formulas, one, more, Join, Not, Named, apply, pair, truth, size, text_of, HasTruth}
 use Rattle.predicates_core.specs.Reason.{IsFirstReason}
 use Rattle.predicates_core.specs.Tree.{Tree, empty, branch, forest}
 use Rattle.predicates_core.specs.Describe.{CaseNode, NamedCase}

@@ -4,7 +4,7 @@ use Rattle.std.specs.Prelude.{not}
 use Rattle.predicates_core.specs.Describe.{CaseNode}
 use Rattle.predicates_core.specs.Formula.{Formula, Formulas, one, more, Join, apply, size, truth}
 use Rattle.predicates_core.specs.Label.{Label}
-use Rattle.predicates_core.specs.Laws.{first_with, ShowsFirstAlone, OneChild}
+use Rattle.predicates_core.specs.Laws.{first_with, OneChild}
 use Rattle.predicates_core.specs.Reason.{IsFirstReason}
 use Rattle.predicates_core.specs.Several.{decided_by}
 use Rattle.predicates_core.specs.Shows.{ShowsPart, Shows, ShowsParts, Explains, left_share, right_share}

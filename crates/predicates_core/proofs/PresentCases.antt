@@ -1,6 +1,5 @@
 -- Verdicts and cases of a predicate of a value that may be absent, from those of the inner predicate.
-use Rattle.std.proofs.Common.{◌≡◌, ℕ, List, refl, sym, Bool, false, Option, Some, None}
-use denote.Ref.{Bor}
+use Rattle.std.proofs.Common.{◌≡◌, ℕ, List, sym, Bool, false, Option, Some, None}
 use Rattle.predicates_core.specs.Label.{Entry}
 use Rattle.predicates_core.specs.Formula.{Formula, HasTruth}
 use Rattle.predicates_core.specs.Shows.{IsCaseOf}

@@ -1,14 +1,11 @@
 -- The truth of a node over several formulas, and the cases that explain it, from those of its members.
 use Rattle.std.proofs.Common.{◌≡◌, ◌≢◌, ℕ, suc, ◌+◌, Bool, true, false, List, [], ◌∷◌, ◌++◌, Some, None, codes, map, length, take, drop, set, get_or, ◌<◌, ◌≤◌, refl, sym, ap, ◌∙◌, subst, arith}
-use Rattle.std.specs.Prelude.{not, ◌&&◌, ◌||◌, Result, Ok, Err, IfOk}
+use Rattle.std.specs.Prelude.{not, Result, Ok, Err, IfOk}
 use Rattle.std.specs.List.{AllByRecursion, AllZip}
 use Rattle.std.proofs.lemmas.List.{set-get_or, set_split, length-take-le, take_more, take_all, map-append}
-use Rattle.std.proofs.lemmas.List.Elements.{All-get_or, All-from_recursion}
 use Rattle.std.specs.Fmt.{decimal}
 use mathlib.Core.Bool.{beq}
 use Rattle.predicates_core.specs.Label.{Label, Entry, plain, Fits, FitsEntry}
-use Rattle.predicates_core.specs.declared.custom.join.Operator.{Operator}
-use Rattle.predicates_core.specs.declared.custom.join.Operator.TheVariants.{And, Or}
 use Rattle.predicates_core.specs.Formula.{Formula, Formulas, one, more, Join, apply, truth, size, text_of, HasTruth}
 use Rattle.predicates_core.specs.Reason.{IsFirstReason}
 use Rattle.predicates_core.specs.Tree.{Tree, Forest, empty, branch, forest, add_last}
@@ -322,9 +319,6 @@ each_holds (u ∷ us) all = (all u, each_holds us all)
 pub each_weaker : {U : Type 0} (P Q : U → Type 0) (us : List U) → ((u : U) → P u → Q u) → AllByRecursion P us → AllByRecursion Q us
 each_weaker P Q [] weaker h = tt
 each_weaker P Q (u ∷ us) weaker h = (weaker u h.0, each_weaker P Q us weaker h.1)
-
-pub at_place : {U : Type 0} (P : U → Type 0) (us : List U) (k : ℕ) (u : U) → k < length us → u ≡ get_or us k u → AllByRecursion P us → P u
-at_place P us k u within is h = subst P (sym is) (All-get_or P us k u within (All-from_recursion P us h))
 
 module _ {U : Type 0} (name : List ℕ) (has : U → Formula → Type 0) where
   no_member : (vs : List U) (gs : Formulas) → vs ≡ [] → AreOfEach name has vs gs → ⊥

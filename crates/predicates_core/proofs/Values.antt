@@ -1,11 +1,11 @@
 -- Values of formulas: the truth of each kind, and that a formula takes both values.
 use Rattle.std.proofs.Common.{◌≡◌, ℕ, List, [], ◌∷◌, ◌++◌, Bool, true, false, refl, length, ap, ◌∙◌, arith, length-append}
-use Rattle.std.specs.Prelude.{not, ◌&&◌, ◌||◌}
+use Rattle.std.specs.Prelude.{not}
 use mathlib.Core.Bool.{beq}
 use Rattle.predicates_core.specs.Label.{Label}
 use Rattle.predicates_core.specs.declared.custom.join.Operator.{Operator}
 use Rattle.predicates_core.specs.declared.custom.join.Operator.TheVariants.{And, Or, Xor}
-use Rattle.predicates_core.specs.Formula.{Formula, Formulas, one, more, Leaf, Join, Not, Named, apply, pair, size, size_of_parts, IsValuation, value, value_of_parts, actual, truth}
+use Rattle.predicates_core.specs.Formula.{Formula, Formulas, one, more, Leaf, Join, Not, Named, apply, pair, size, size_of_parts, IsValuation, value, actual, truth}
 use Rattle.predicates_core.proofs.Joins.{joins, pair_joins, joined_value, joined_truth}
 
 -- the truth beside which a part's truth is that of the whole

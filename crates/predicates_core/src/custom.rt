@@ -12,9 +12,9 @@ mod parts;
 mod quantifier;
 mod test_predicate;
 
-pub use children::two_children;
+pub use children::{one_child, two_children};
 pub use join::{Operator, join_case, join_truth, truth_if};
-pub use leaf_cases::{bare_case, showing_case};
+pub use leaf_cases::{absent_case, bare_case, showing_case};
 pub use members::{members_case, members_hold};
 pub use not::not_case;
 pub use parts::{each_child, parts_case, parts_hold};

@@ -1,10 +1,27 @@
-//! The description of two parts.
+//! The descriptions of one part and of two.
 ghost use Rattle.std.specs.Prelude.{IfOk, codes};
-ghost use Rattle.predicates_core.specs.Parts.{FitsParts, two_parts};
+ghost use Rattle.predicates_core.specs.Parts.{FitsParts, part, two_parts};
 ghost use Rattle.predicates_core.specs.Tree.{forest};
 
+use crate::as_static_str::AsStaticStr;
 use crate::reflection::{Child, PredicateReflection, describe};
 use std::alloc::{AllocError, Global};
+
+/// The description of one part under the name, for `children`.
+pub fn one_child<P: PredicateReflection, N: AsStaticStr + Copy>(
+    alloc: Global,
+    name: N,
+    inner: &P,
+) -> Result<Vec<Child>, AllocError>
+    ensures { IfOk result (λ children. FitsParts
+        (part (N.bytes name) (P.output inner.now) (P.parameters_of inner.now)
+        (P.children_of inner.now))
+        (forest children.items)) }
+{
+    let mut children = Vec::new(alloc);
+    children.push(describe(alloc, name, inner)?)?;
+    Ok(children)
+}
 
 /// The descriptions of a left and a right part, for `children`.
 pub fn two_children<P: PredicateReflection, Q: PredicateReflection>(

@@ -1,11 +1,12 @@
 //! The cases of leaves.
-ghost use Rattle.std.specs.Prelude.{IfOk, codes};
+ghost use Rattle.std.specs.Prelude.{IfOk, codes, false};
 ghost use Rattle.predicates_core.specs.Formula.{Leaf};
 ghost use Rattle.predicates_core.specs.Label.{plain, showing};
 ghost use Rattle.predicates_core.specs.Leaves.{IsExactly};
-ghost use Rattle.predicates_core.specs.Shows.{IsAnswer};
+ghost use Rattle.predicates_core.specs.Present.{absent_leaf};
+ghost use Rattle.predicates_core.specs.Shows.{IsAnswer, IsCaseOf};
 
-use crate::node::{leaf_node, printed, showing_item};
+use crate::node::{leaf_node, printed, showing_item, showing_text};
 use crate::reflection::Case;
 use std::alloc::{AllocError, Global};
 use std::fmt;
@@ -76,4 +77,18 @@ fn make_showing_case<P: fmt::Display, Item: fmt::Debug>(
 {
     let case = leaf_node(alloc, printed(alloc, leaf)?, holds);
     Ok(Some(showing_item(alloc, case, item)?))
+}
+
+/// The case of a predicate of a value that is absent: a false leaf with the text of the predicate,
+/// and with the reason as the product `error`.
+pub fn absent_case<P: fmt::Display>(
+    alloc: Global,
+    predicate: &P,
+    reason: &str,
+) -> Result<Case, AllocError>
+    ensures { IfOk result
+        (IsCaseOf (IsExactly (absent_leaf (P.output predicate.now) reason.now)) false) }
+{
+    let node = leaf_node(alloc, printed(alloc, predicate)?, false);
+    Ok(showing_text(alloc, node, "error", reason)?)
 }

@@ -75,11 +75,15 @@ fn first_member<W: fmt::Display, P: Predicate<Item>, Item>(
         (P.formula part.now) members.now) decides) }
 {
     for (index, member) in members.iter().enumerate() {
-        if let Some(case) = part.find_case(alloc, decides, member)? {
-            let text = printed(alloc, whole)?;
-            let node = unary_node(alloc, text, decides, name, case)?;
-            return Ok(Some(showing(node, "index", format!(in alloc; "{index}")?)?));
+        if part.eval(alloc, member)? != decides {
+            continue;
         }
+        let Some(case) = part.find_case(alloc, decides, member)? else {
+            continue;
+        };
+        let text = printed(alloc, whole)?;
+        let node = unary_node(alloc, text, decides, name, case)?;
+        return Ok(Some(showing(node, "index", format!(in alloc; "{index}")?)?));
     }
     Ok(None)
 }

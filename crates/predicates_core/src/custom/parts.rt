@@ -77,11 +77,15 @@ fn first_part<W: fmt::Display, P: Predicate<Item>, Item>(
         (λ p. P.formula p item.now) parts.now) decides) }
 {
     for (index, part) in parts.iter().enumerate() {
-        if let Some(case) = part.find_case(alloc, decides, item)? {
-            let text = printed(alloc, whole)?;
-            let node = unary_node(alloc, text, decides, name, case)?;
-            return Ok(Some(showing(node, "index", format!(in alloc; "{index}")?)?));
+        if part.eval(alloc, item)? != decides {
+            continue;
         }
+        let Some(case) = part.find_case(alloc, decides, item)? else {
+            continue;
+        };
+        let text = printed(alloc, whole)?;
+        let node = unary_node(alloc, text, decides, name, case)?;
+        return Ok(Some(showing(node, "index", format!(in alloc; "{index}")?)?));
     }
     Ok(None)
 }
