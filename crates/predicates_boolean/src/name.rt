@@ -12,8 +12,9 @@ ghost use Rattle.predicates_core.proofs.CombinedLemmas.{named_text_fits, one_nam
 ghost use Rattle.predicates_boolean.specs.Name.{inner_of, name_of};
 
 use predicates_core::as_static_str::AsStaticStr;
+use predicates_core::custom::one_child;
 use predicates_core::node::{printed, unary_node};
-use predicates_core::reflection::{Case, Child, Parameter, PredicateReflection, describe};
+use predicates_core::reflection::{Case, Child, Parameter, PredicateReflection};
 use predicates_core::{Content, Predicate, ReadsContent, Total};
 use std::alloc::{AllocError, Global};
 use std::fmt;
@@ -49,9 +50,7 @@ impl<M: PredicateReflection, Item, N: AsStaticStr> PredicateReflection
     }
 
     fn children(&self, alloc: Global) -> Result<Vec<Child>, AllocError> {
-        let mut children = Vec::new(alloc);
-        children.push(describe(alloc, self.name.text(), &self.inner)?)?;
-        Ok(children)
+        one_child(alloc, self.name.text(), &self.inner)
     }
 }
 

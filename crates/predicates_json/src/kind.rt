@@ -13,8 +13,8 @@ ghost use Rattle.predicates_core.specs.Present.{IsOfPresent, present_text_fits, 
 ghost use Rattle.predicates_core.specs.Present.{has_present};
 ghost use Rattle.predicates_json.specs.KindParts.{inner_of};
 
-use crate::error_case::error_case;
-use predicates_core::reflection::{Case, Child, Parameter, PredicateReflection, describe};
+use predicates_core::custom::{absent_case, one_child};
+use predicates_core::reflection::{Case, Child, Parameter, PredicateReflection};
 use predicates_core::{Predicate, Total};
 use serde_json::{Map, Value};
 use std::alloc::{AllocError, Global};
@@ -131,9 +131,7 @@ impl<P: PredicateReflection, U> PredicateReflection for KindPredicate<P, U> {
     }
 
     fn children(&self, alloc: Global) -> Result<Vec<Child>, AllocError> {
-        let mut children = Vec::new(alloc);
-        children.push(describe(alloc, "predicate", &self.inner)?)?;
-        Ok(children)
+        one_child(alloc, "predicate", &self.inner)
     }
 }
 
@@ -168,7 +166,7 @@ impl<P: Predicate<U>, U: JsonKind> Predicate<Value> for KindPredicate<P, U> {
         match U::held(item) {
             Some(held) => self.inner.find_case(alloc, expected, held),
             None if expected => Ok(None),
-            None => Ok(Some(error_case(alloc, &self.inner, kind(item))?)),
+            None => Ok(Some(absent_case(alloc, &self.inner, kind(item))?)),
         }
     }
 }

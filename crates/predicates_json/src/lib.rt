@@ -33,7 +33,6 @@ ghost use Rattle.predicates_json.specs.Pointer.{IsAt, no_value_text};
 
 mod at;
 mod case;
-mod error_case;
 mod kind;
 mod null;
 mod number;

@@ -9,8 +9,8 @@ ghost use Rattle.serde_json.specs.declared.value.Value.{Value as JsonValue};
 ghost use Rattle.predicates_json.specs.Null.{null_text, null_formula};
 ghost use Rattle.predicates_json.specs.NullLaws.{null_text_fits};
 
-use crate::error_case::error_case;
 use crate::kind::kind;
+use predicates_core::custom::absent_case;
 use predicates_core::node::{leaf_node, printed};
 use predicates_core::reflection::{Case, Child, Parameter, PredicateReflection};
 use predicates_core::{Predicate, Total};
@@ -87,7 +87,7 @@ impl Predicate<Value> for NullPredicate {
         if holds {
             return Ok(Some(leaf_node(alloc, printed(alloc, self)?, true)));
         }
-        Ok(Some(error_case(alloc, self, kind(item))?))
+        Ok(Some(absent_case(alloc, self, kind(item))?))
     }
 }
 

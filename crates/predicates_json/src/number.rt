@@ -14,9 +14,9 @@ ghost use Rattle.predicates_core.specs.Present.{IsOfPresent, present_text_fits, 
 ghost use Rattle.predicates_core.specs.Present.{has_present};
 ghost use Rattle.predicates_json.specs.NumberParts.{inner_of};
 
-use crate::error_case::error_case;
 use crate::kind::kind;
-use predicates_core::reflection::{Case, Child, Parameter, PredicateReflection, describe};
+use predicates_core::custom::{absent_case, one_child};
+use predicates_core::reflection::{Case, Child, Parameter, PredicateReflection};
 use predicates_core::{Predicate, Total};
 use serde_json::{Number, Value};
 use std::alloc::{AllocError, Global};
@@ -141,9 +141,7 @@ impl<P: PredicateReflection, N> PredicateReflection for NumberPredicate<P, N> {
     }
 
     fn children(&self, alloc: Global) -> Result<Vec<Child>, AllocError> {
-        let mut children = Vec::new(alloc);
-        children.push(describe(alloc, "predicate", &self.inner)?)?;
-        Ok(children)
+        one_child(alloc, "predicate", &self.inner)
     }
 }
 
@@ -181,7 +179,7 @@ impl<P: Predicate<N>, N: JsonNumber> Predicate<Value> for NumberPredicate<P, N> 
         match number_of::<N>(item) {
             Some(number) => self.inner.find_case(alloc, expected, &number),
             None if expected => Ok(None),
-            None => Ok(Some(error_case(alloc, &self.inner, no_number::<N>(item))?)),
+            None => Ok(Some(absent_case(alloc, &self.inner, no_number::<N>(item))?)),
         }
     }
 }

@@ -15,9 +15,9 @@ ghost use Rattle.predicates_json.specs.PointerText.{is_pointer_text, has_whole_e
 ghost use Rattle.predicates_json.specs.PointerLaws.{at_text_fits, one_at, has_at};
 
 use crate::at::value_at;
-use crate::error_case::error_case;
+use predicates_core::custom::{absent_case, one_child};
 use predicates_core::node::{printed, unary_node};
-use predicates_core::reflection::{Case, Child, Parameter, PredicateReflection, describe};
+use predicates_core::reflection::{Case, Child, Parameter, PredicateReflection};
 use predicates_core::static_text::StaticText;
 use predicates_core::{Predicate, Total};
 use serde_json::Value;
@@ -93,9 +93,7 @@ impl<P: PredicateReflection, N: JsonPointer> PredicateReflection for PointerPred
     }
 
     fn children(&self, alloc: Global) -> Result<Vec<Child>, AllocError> {
-        let mut children = Vec::new(alloc);
-        children.push(describe(alloc, "value", &self.inner)?)?;
-        Ok(children)
+        one_child(alloc, "value", &self.inner)
     }
 }
 
@@ -116,7 +114,7 @@ impl<P: Predicate<Value>, N: JsonPointer> PointerPredicate<P, N> {
         match value_at(item, self.pointer.text()) {
             Some(value) => self.inner.find_case(alloc, expected, value),
             None if expected => Ok(None),
-            None => Ok(Some(error_case(alloc, &self.inner, "no value")?)),
+            None => Ok(Some(absent_case(alloc, &self.inner, "no value")?)),
         }
     }
 }

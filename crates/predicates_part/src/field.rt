@@ -18,10 +18,10 @@ ghost use Rattle.predicates_part.specs.Field.{HasOnePart, IsOfPart, IsInfallible
 ghost use Rattle.predicates_part.specs.Field.{one_of_part, owned, borrowed};
 ghost use Rattle.predicates_core.specs.Present.{IsOfPresent, absent_leaf, one_present};
 
-use crate::variant::absent_case;
 use predicates_core::as_static_str::AsStaticStr;
+use predicates_core::custom::{absent_case, one_child};
 use predicates_core::node::{printed, unary_node};
-use predicates_core::reflection::{Case, Child, Parameter, PredicateReflection, describe};
+use predicates_core::reflection::{Case, Child, Parameter, PredicateReflection};
 use predicates_core::{Predicate, Total};
 use std::alloc::{AllocError, Global};
 use std::fmt;
@@ -112,9 +112,7 @@ impl<P: PredicateReflection, F, T, U, N: AsStaticStr, Access> PredicateReflectio
     }
 
     fn children(&self, alloc: Global) -> Result<Vec<Child>, AllocError> {
-        let mut children = Vec::new(alloc);
-        children.push(describe(alloc, self.name.text(), &self.inner)?)?;
-        Ok(children)
+        one_child(alloc, self.name.text(), &self.inner)
     }
 }
 

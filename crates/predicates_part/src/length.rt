@@ -11,8 +11,9 @@ ghost use Rattle.predicates_core.specs.Combined.{IsNamed};
 ghost use Rattle.predicates_core.proofs.CombinedLemmas.{named_text_fits, one_named, has_named};
 ghost use Rattle.predicates_part.specs.Length.{inner_of};
 
+use predicates_core::custom::one_child;
 use predicates_core::node::{printed, unary_node};
-use predicates_core::reflection::{Case, Child, Parameter, PredicateReflection, describe};
+use predicates_core::reflection::{Case, Child, Parameter, PredicateReflection};
 use predicates_core::{Predicate, ReadsContent, Total};
 use std::alloc::{AllocError, Global};
 use std::fmt;
@@ -78,9 +79,7 @@ impl<P: PredicateReflection> PredicateReflection for LengthPredicate<P> {
     }
 
     fn children(&self, alloc: Global) -> Result<Vec<Child>, AllocError> {
-        let mut children = Vec::new(alloc);
-        children.push(describe(alloc, "len", &self.inner)?)?;
-        Ok(children)
+        one_child(alloc, "len", &self.inner)
     }
 }
 

@@ -10,8 +10,8 @@ ghost use Rattle.predicates_core.specs.Several.{IsOfMembers, members_formula};
 ghost use Rattle.predicates_core.proofs.Several.{members_text_fits, one_members, has_members};
 ghost use Rattle.predicates_part.specs.Members.{applied_text, inner_of, word};
 
-use predicates_core::custom::{AtLeastOne, Every, Quantifier, members_case, members_hold};
-use predicates_core::reflection::{Case, Child, Parameter, PredicateReflection, describe};
+use predicates_core::custom::{AtLeastOne, Every, Quantifier, members_case, members_hold, one_child};
+use predicates_core::reflection::{Case, Child, Parameter, PredicateReflection};
 use predicates_core::{Predicate, Total};
 use std::alloc::{AllocError, Global};
 use std::fmt;
@@ -72,9 +72,7 @@ impl<Q: Quantifier, P: PredicateReflection> PredicateReflection for MembersPredi
     }
 
     fn children(&self, alloc: Global) -> Result<Vec<Child>, AllocError> {
-        let mut children = Vec::new(alloc);
-        children.push(describe(alloc, "item", &self.inner)?)?;
-        Ok(children)
+        one_child(alloc, "item", &self.inner)
     }
 }
 

@@ -13,8 +13,8 @@ ghost use Rattle.predicates_core.specs.Present.{present_text_fits, one_present};
 ghost use Rattle.predicates_core.specs.Present.{present_formula, has_present};
 ghost use Rattle.predicates_part.specs.Optional.{inner_of, value_of_ok, value_of_err};
 
-use predicates_core::node::{leaf_node, printed, showing_text};
-use predicates_core::reflection::{Case, Child, Parameter, PredicateReflection, describe};
+use predicates_core::custom::{absent_case, one_child};
+use predicates_core::reflection::{Case, Child, Parameter, PredicateReflection};
 use predicates_core::{Predicate, Total};
 use std::alloc::{AllocError, Global};
 use std::fmt;
@@ -129,20 +129,6 @@ impl<V, P> VariantPredicate<V, P> {
     }
 }
 
-/// The case of a value that is absent: a false leaf with the text of the predicate that tests such
-/// a value, and with the reason as the product `error`.
-pub(crate) fn absent_case<P: fmt::Display>(
-    alloc: Global,
-    predicate: &P,
-    reason: &'static str,
-) -> Result<Case, AllocError>
-    ensures { IfOk result (IsCaseOf
-        (IsExactly (absent_leaf (P.output predicate.now) reason.now)) false) }
-{
-    let node = leaf_node(alloc, printed(alloc, predicate)?, false);
-    Ok(showing_text(alloc, node, "error", reason)?)
-}
-
 impl<V, P: fmt::Display> fmt::Display for VariantPredicate<V, P> {
     ghost output = { λ p. P.output (inner_of p) };
 
@@ -164,9 +150,7 @@ impl<V, P: PredicateReflection> PredicateReflection for VariantPredicate<V, P> {
     }
 
     fn children(&self, alloc: Global) -> Result<Vec<Child>, AllocError> {
-        let mut children = Vec::new(alloc);
-        children.push(describe(alloc, "predicate", &self.inner)?)?;
-        Ok(children)
+        one_child(alloc, "predicate", &self.inner)
     }
 }
 

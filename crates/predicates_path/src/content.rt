@@ -13,8 +13,9 @@ ghost use Rattle.predicates_path.specs.ContentLaws.{has_content_formula};
 
 use crate::fault::show_fault;
 use crate::{PathFault, Snapshot};
+use predicates_core::custom::one_child;
 use predicates_core::node::{leaf_node, printed};
-use predicates_core::reflection::{Case, Child, Parameter, PredicateReflection, describe};
+use predicates_core::reflection::{Case, Child, Parameter, PredicateReflection};
 use predicates_core::{Predicate, Total};
 use std::alloc::{AllocError, Global};
 use std::fmt;
@@ -65,9 +66,7 @@ impl<P: PredicateReflection> PredicateReflection for FileContentPredicate<P> {
     }
 
     fn children(&self, alloc: Global) -> Result<Vec<Child>, AllocError> {
-        let mut children = Vec::new(alloc);
-        children.push(describe(alloc, "predicate", &self.inner)?)?;
-        Ok(children)
+        one_child(alloc, "predicate", &self.inner)
     }
 }
 

@@ -6,7 +6,8 @@ ghost use Rattle.predicates_text.specs.ViewFormulas.{IsOfEach, IsViewOf, view_by
 ghost use Rattle.predicates_text.specs.ViewFormulaLaws.{each_text_fits, one_each, has_each};
 ghost use Rattle.predicates_text.specs.ViewTexts.{view_is};
 
-use predicates_core::reflection::{Case, Child, Parameter, PredicateReflection, describe};
+use predicates_core::custom::one_child;
+use predicates_core::reflection::{Case, Child, Parameter, PredicateReflection};
 use predicates_core::{Predicate, ReadsContent, Total};
 use std::alloc::{AllocError, Global};
 use std::fmt;
@@ -89,9 +90,7 @@ impl<V, P: PredicateReflection> PredicateReflection for ViewPredicate<V, P> {
     }
 
     fn children(&self, alloc: Global) -> Result<Vec<Child>, AllocError> {
-        let mut children = Vec::new(alloc);
-        children.push(describe(alloc, "predicate", &self.inner)?)?;
-        Ok(children)
+        one_child(alloc, "predicate", &self.inner)
     }
 }
 
