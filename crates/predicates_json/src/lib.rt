@@ -21,7 +21,7 @@ ghost use Rattle.std.specs.Prelude.{◌≡◌};
 ghost use Rattle.serde_json.specs.declared.value.Value.{Value as JsonValue};
 ghost use Rattle.predicates_json.specs.Kinds.{held_bool, held_string, held_array, held_object};
 ghost use Rattle.predicates_json.specs.KindParts as Kind;
-ghost use Rattle.predicates_json.specs.NumberParts as Numbers;
+ghost use Rattle.predicates_json.specs.NumberParts as Number;
 ghost use Rattle.predicates_json.specs.Pointer as Pointer;
 
 mod at;
@@ -127,7 +127,7 @@ pub trait PredicateJsonExt: Sized {
     fn of_number<N: JsonNumber>(self) -> NumberPredicate<Self, N>
     where
         Self: Predicate<N>,
-        ensures inner { Numbers.inner_of result ≡ self };
+        ensures inner { Number.inner_of result ≡ self };
 }
 
 impl<P> PredicateJsonExt for P {
