@@ -1,4 +1,4 @@
--- The part of a predicate of one kind of values.
+-- The inner predicate of one of a kind of values.
 use Rattle.predicates_json.specs.declared.kind.KindPredicate.{KindPredicate}
 
 abbrev pub inner_of : {P U : Type 0} → KindPredicate P U → P

@@ -1,4 +1,4 @@
-//! Predicates of the integer that a value holds.
+//! Predicates of the number that a value holds.
 //!
 //! ```
 //! let adult = predicate::ge(18i64).of_number();

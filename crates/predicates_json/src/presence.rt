@@ -1,10 +1,8 @@
 //! Whether anything stands at a JSON Pointer.
-ghost use Rattle.std.specs.Prelude.{◌≡◌, ◌↔◌, refl, true, false, [], Some};
+ghost use Rattle.std.specs.Prelude.{◌≡◌, refl, true, false, [], Some};
 ghost use Rattle.predicates_core.specs.Tree.{empty};
-ghost use Rattle.predicates_core.specs.Formula.{Formula};
 ghost use Rattle.predicates_core.specs.Leaves.{IsExactly};
 ghost use Rattle.predicates_core.specs.LeafLaws.{exactly_text_fits, one_exactly};
-ghost use Rattle.serde_json.specs.declared.value.Value.{Value as JsonValue};
 ghost use Rattle.predicates_json.specs.At.{at_pointer};
 ghost use Rattle.predicates_json.specs.Presence.{presence_text, presence_truth, presence_formula};
 ghost use Rattle.predicates_json.specs.Presence.{asks_presence, asked_pointer};
@@ -36,9 +34,6 @@ pub struct PointerPresencePredicate<N = &'static str> {
 pub fn has_pointer<N: JsonPointer>(pointer: N) -> PointerPresencePredicate<N>
     ensures pointer { asked_pointer result ≡ pointer }
     ensures presence { asks_presence result ≡ true }
-    ensures formula { (v : JsonValue) (f : Formula)
-        → ⟦<PointerPresencePredicate<N> as Predicate<Value>>⟧.formula result v f
-        ↔ IsExactly (presence_formula true (N.bytes pointer) v) f }
 {
     PointerPresencePredicate {
         pointer,
@@ -56,9 +51,6 @@ pub fn has_pointer<N: JsonPointer>(pointer: N) -> PointerPresencePredicate<N>
 pub fn lacks_pointer<N: JsonPointer>(pointer: N) -> PointerPresencePredicate<N>
     ensures pointer { asked_pointer result ≡ pointer }
     ensures presence { asks_presence result ≡ false }
-    ensures formula { (v : JsonValue) (f : Formula)
-        → ⟦<PointerPresencePredicate<N> as Predicate<Value>>⟧.formula result v f
-        ↔ IsExactly (presence_formula false (N.bytes pointer) v) f }
 {
     PointerPresencePredicate {
         pointer,
