@@ -6,10 +6,15 @@ use Rattle.predicates_core.specs.LeafLaws.{exactly_text_fits, one_exactly}
 use Rattle.predicates_core.proofs.CombinedLemmas.{pair_text_fits, one_pair, has_pair}
 use Rattle.predicates_core.proofs.CombinedLemmas.{not_text_fits, one_not, has_not}
 use Rattle.predicates_text.specs.Patterns.{starts_pattern, ends_pattern, contains_pattern}
-use Rattle.predicates_text.specs.LeafFormulaLaws.{empty_text_fits, starts_text_fits, ends_text_fits}
-use Rattle.predicates_text.specs.LeafFormulaLaws.{contains_text_fits, one_empty, one_starts, one_ends}
-use Rattle.predicates_text.specs.LeafFormulaLaws.{one_contains, has_empty, has_starts, has_ends}
-use Rattle.predicates_text.specs.LeafFormulaLaws.{has_contains}
+use Rattle.predicates_text.specs.LeafFormulaLaws.{text_leaf_fits as empty_text_fits}
+use Rattle.predicates_text.specs.LeafFormulaLaws.{text_leaf_fits as starts_text_fits}
+use Rattle.predicates_text.specs.LeafFormulaLaws.{text_leaf_fits as ends_text_fits}
+use Rattle.predicates_text.specs.LeafFormulaLaws.{text_leaf_fits as contains_text_fits}
+use Rattle.predicates_text.specs.LeafFormulaLaws.{one_text_leaf as one_empty}
+use Rattle.predicates_text.specs.LeafFormulaLaws.{one_text_leaf as one_starts}
+use Rattle.predicates_text.specs.LeafFormulaLaws.{one_text_leaf as one_ends}
+use Rattle.predicates_text.specs.LeafFormulaLaws.{one_text_leaf as one_contains}
+use Rattle.predicates_text.specs.LeafFormulaLaws.{has_empty, has_starts, has_ends, has_contains}
 use Rattle.predicates_text.specs.ViewFormulas.{trimmed_bytes, even_bytes}
 use Rattle.predicates_explain.specs.Checks.{check_text, check_formula, HasFormula}
 use Rattle.predicates_explain.specs.declared.check.TextCheck.{TextCheck, Empty, Equals, Starts}

@@ -1,9 +1,14 @@
 //! A leaf of the library over texts.
 ghost use Rattle.predicates_core.specs.LeafLaws.{exactly_text_fits, one_exactly};
-ghost use Rattle.predicates_text.specs.LeafFormulaLaws.{empty_text_fits, starts_text_fits};
-ghost use Rattle.predicates_text.specs.LeafFormulaLaws.{ends_text_fits, contains_text_fits};
-ghost use Rattle.predicates_text.specs.LeafFormulaLaws.{counted_text_fits, one_empty, one_starts};
-ghost use Rattle.predicates_text.specs.LeafFormulaLaws.{one_ends, one_contains, one_counted};
+ghost use Rattle.predicates_text.specs.LeafFormulaLaws.{text_leaf_fits as empty_text_fits};
+ghost use Rattle.predicates_text.specs.LeafFormulaLaws.{text_leaf_fits as starts_text_fits};
+ghost use Rattle.predicates_text.specs.LeafFormulaLaws.{text_leaf_fits as ends_text_fits};
+ghost use Rattle.predicates_text.specs.LeafFormulaLaws.{text_leaf_fits as contains_text_fits};
+ghost use Rattle.predicates_text.specs.LeafFormulaLaws.{one_text_leaf as one_empty};
+ghost use Rattle.predicates_text.specs.LeafFormulaLaws.{one_text_leaf as one_starts};
+ghost use Rattle.predicates_text.specs.LeafFormulaLaws.{one_text_leaf as one_ends};
+ghost use Rattle.predicates_text.specs.LeafFormulaLaws.{one_text_leaf as one_contains};
+ghost use Rattle.predicates_text.specs.LeafFormulaLaws.{counted_text_fits, one_counted};
 ghost use Rattle.predicates_testing.specs.OneOf.{lawful_by_type, text_fits_by_type, one_by_type};
 
 use crate::from_words::FromWords;

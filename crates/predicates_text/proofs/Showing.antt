@@ -2,6 +2,7 @@
 use Rattle.std.proofs.Common.{◌≡◌, Bool, List, ℕ, Option, Some, None, Result, Ok, Err}
 use Rattle.std.specs.Prelude.{◌==◌, IfOk}
 use Rattle.std.specs.Str.{chars}
+use Rattle.predicates_core.specs.Label.{Entry}
 use Rattle.predicates_core.specs.Formula.{Formula, HasTruth}
 use Rattle.predicates_core.specs.Tree.{Tree}
 use Rattle.predicates_core.specs.Describe.{CaseNode}
@@ -10,9 +11,9 @@ use Rattle.predicates_core.specs.Leaves.{IsExactly}
 use Rattle.predicates_core.proofs.Leaves.{HasTruth-exactly}
 use Rattle.predicates_text.specs.Places.{is_empty, is_front, is_back, is_part}
 use Rattle.predicates_text.specs.Count.{count_of}
-use Rattle.predicates_text.specs.Leaves.{empty_formula, starts_formula, ends_formula, contains_formula, matches_formula}
-use Rattle.predicates_text.specs.LeafFormulas.{IsEmptyLeaf, IsStartsLeaf, IsEndsLeaf, IsContainsLeaf, IsCountedLeaf}
-use Rattle.predicates_text.specs.LeafFormulaLaws.{one_empty, one_starts, one_ends, one_contains, one_counted, has_empty, has_starts, has_ends, has_contains, has_counted}
+use Rattle.predicates_text.specs.Leaves.{text_leaf, empty_formula, starts_formula, ends_formula, contains_formula, matches_formula}
+use Rattle.predicates_text.specs.LeafFormulas.{IsTextLeaf, IsEmptyLeaf, IsStartsLeaf, IsEndsLeaf, IsContainsLeaf, IsCountedLeaf}
+use Rattle.predicates_text.specs.LeafFormulaLaws.{one_text_leaf, one_counted, has_empty, has_starts, has_ends, has_contains, has_counted}
 
 -- where each formula is the one, what is known of that is known of each
 module _ {has : Formula → Type 0} {g : Formula} where
@@ -25,42 +26,47 @@ module _ {has : Formula → Type 0} {g : Formula} where
   of_one_answer one expected (Ok (Some t)) h = record { truth = of_one_truth one h.truth; explains = λ f is. h.explains f (record { is = one f is }) }
   of_one_answer one expected (Err e) h = tt
 
-module _ {bytes : List ℕ} where
-  pub HasTruth-empty : {b : Bool} → is_empty (chars bytes) ≡ b → HasTruth (IsEmptyLeaf bytes) b
-  HasTruth-empty e = of_one_truth (λ f h. one_empty h (has_empty bytes)) (HasTruth-exactly e)
+-- the leaf that is true as the test says is the one
+is_that : {printed : Entry} {bytes : List ℕ} {fact : Type 0} {test : Bool} → IsTextLeaf printed bytes fact (text_leaf printed bytes test)
+    → (f : Formula) → IsTextLeaf printed bytes fact f → f ≡ text_leaf printed bytes test
+is_that that f h = one_text_leaf h that
 
-module _ {pattern bytes : List ℕ} where
-  pub HasTruth-starts : {b : Bool} → is_front (chars pattern) (chars bytes) ≡ b → HasTruth (IsStartsLeaf pattern bytes) b
-  HasTruth-starts e = of_one_truth (λ f h. one_starts h (has_starts pattern bytes)) (HasTruth-exactly e)
+is_counted : (pattern : List ℕ) (count : ℕ) (bytes : List ℕ) (f : Formula) → IsCountedLeaf pattern count bytes f → f ≡ matches_formula pattern count bytes
+is_counted pattern count bytes f h = one_counted h (has_counted pattern count bytes)
 
-  pub HasTruth-ends : {b : Bool} → is_back (chars pattern) (chars bytes) ≡ b → HasTruth (IsEndsLeaf pattern bytes) b
-  HasTruth-ends e = of_one_truth (λ f h. one_ends h (has_ends pattern bytes)) (HasTruth-exactly e)
+module _ {b : Bool} where
+  pub HasTruth-empty : (bytes : List ℕ) → is_empty (chars bytes) ≡ b → HasTruth (IsEmptyLeaf bytes) b
+  HasTruth-empty bytes e = of_one_truth (is_that (has_empty bytes)) (HasTruth-exactly e)
 
-  pub HasTruth-contains : {b : Bool} → is_part (chars pattern) (chars bytes) ≡ b → HasTruth (IsContainsLeaf pattern bytes) b
-  HasTruth-contains e = of_one_truth (λ f h. one_contains h (has_contains pattern bytes)) (HasTruth-exactly e)
+  pub HasTruth-starts : (pattern bytes : List ℕ) → is_front (chars pattern) (chars bytes) ≡ b → HasTruth (IsStartsLeaf pattern bytes) b
+  HasTruth-starts pattern bytes e = of_one_truth (is_that (has_starts pattern bytes)) (HasTruth-exactly e)
 
-module _ {pattern : List ℕ} {count : ℕ} {bytes : List ℕ} where
-  pub HasTruth-counted : {b : Bool} → (count_of (chars pattern) (chars bytes) == count) ≡ b → HasTruth (IsCountedLeaf pattern count bytes) b
-  HasTruth-counted e = of_one_truth (λ f h. one_counted h (has_counted pattern count bytes)) (HasTruth-exactly e)
+  pub HasTruth-ends : (pattern bytes : List ℕ) → is_back (chars pattern) (chars bytes) ≡ b → HasTruth (IsEndsLeaf pattern bytes) b
+  HasTruth-ends pattern bytes e = of_one_truth (is_that (has_ends pattern bytes)) (HasTruth-exactly e)
 
-pub answer-empty : {E : Type 0} (bytes : List ℕ) (expected : Bool) (r : Result (Option (Tree CaseNode)) E)
-    → IfOk r (IsAnswer (IsExactly (empty_formula bytes)) expected) → IfOk r (IsAnswer (IsEmptyLeaf bytes) expected)
-answer-empty bytes = of_one_answer (λ f h. one_empty h (has_empty bytes))
+  pub HasTruth-contains : (pattern bytes : List ℕ) → is_part (chars pattern) (chars bytes) ≡ b → HasTruth (IsContainsLeaf pattern bytes) b
+  HasTruth-contains pattern bytes e = of_one_truth (is_that (has_contains pattern bytes)) (HasTruth-exactly e)
 
-pub answer-starts : {E : Type 0} (pattern bytes : List ℕ) (expected : Bool) (r : Result (Option (Tree CaseNode)) E)
-    → IfOk r (IsAnswer (IsExactly (starts_formula pattern bytes)) expected) → IfOk r (IsAnswer (IsStartsLeaf pattern bytes) expected)
-answer-starts pattern bytes = of_one_answer (λ f h. one_starts h (has_starts pattern bytes))
+  pub HasTruth-counted : (pattern : List ℕ) (count : ℕ) (bytes : List ℕ) → (count_of (chars pattern) (chars bytes) == count) ≡ b → HasTruth (IsCountedLeaf pattern count bytes) b
+  HasTruth-counted pattern count bytes e = of_one_truth (is_counted pattern count bytes) (HasTruth-exactly e)
 
-pub answer-ends : {E : Type 0} (pattern bytes : List ℕ) (expected : Bool) (r : Result (Option (Tree CaseNode)) E)
-    → IfOk r (IsAnswer (IsExactly (ends_formula pattern bytes)) expected) → IfOk r (IsAnswer (IsEndsLeaf pattern bytes) expected)
-answer-ends pattern bytes = of_one_answer (λ f h. one_ends h (has_ends pattern bytes))
+module _ {E : Type 0} (expected : Bool) (r : Result (Option (Tree CaseNode)) E) where
+  abbrev Answers : (Formula → Type 0) → Type 0
+  Answers F = IfOk r (IsAnswer F expected)
 
-pub answer-contains : {E : Type 0} (pattern bytes : List ℕ) (expected : Bool) (r : Result (Option (Tree CaseNode)) E)
-    → IfOk r (IsAnswer (IsExactly (contains_formula pattern bytes)) expected) → IfOk r (IsAnswer (IsContainsLeaf pattern bytes) expected)
-answer-contains pattern bytes = of_one_answer (λ f h. one_contains h (has_contains pattern bytes))
+  pub answer-empty : (bytes : List ℕ) → Answers (IsExactly (empty_formula bytes)) → Answers (IsEmptyLeaf bytes)
+  answer-empty bytes = of_one_answer (is_that (has_empty bytes)) expected r
 
-pub answer-counted : {E : Type 0} (pattern : List ℕ) (count : ℕ) (bytes : List ℕ) (expected : Bool) (r : Result (Option (Tree CaseNode)) E)
-    → IfOk r (IsAnswer (IsExactly (matches_formula pattern count bytes)) expected) → IfOk r (IsAnswer (IsCountedLeaf pattern count bytes) expected)
-answer-counted pattern count bytes = of_one_answer (λ f h. one_counted h (has_counted pattern count bytes))
+  pub answer-starts : (pattern bytes : List ℕ) → Answers (IsExactly (starts_formula pattern bytes)) → Answers (IsStartsLeaf pattern bytes)
+  answer-starts pattern bytes = of_one_answer (is_that (has_starts pattern bytes)) expected r
 
-pub ruleset leaf_formulas = (HasTruth-empty, HasTruth-starts, HasTruth-ends, HasTruth-contains, HasTruth-counted, answer-empty, answer-starts, answer-ends, answer-contains, answer-counted)
+  pub answer-ends : (pattern bytes : List ℕ) → Answers (IsExactly (ends_formula pattern bytes)) → Answers (IsEndsLeaf pattern bytes)
+  answer-ends pattern bytes = of_one_answer (is_that (has_ends pattern bytes)) expected r
+
+  pub answer-contains : (pattern bytes : List ℕ) → Answers (IsExactly (contains_formula pattern bytes)) → Answers (IsContainsLeaf pattern bytes)
+  answer-contains pattern bytes = of_one_answer (is_that (has_contains pattern bytes)) expected r
+
+  pub answer-counted : (pattern : List ℕ) (count : ℕ) (bytes : List ℕ) → Answers (IsExactly (matches_formula pattern count bytes)) → Answers (IsCountedLeaf pattern count bytes)
+  answer-counted pattern count bytes = of_one_answer (is_counted pattern count bytes) expected r
+
+pub ruleset leaf_formulas = (HasTruth-empty, HasTruth-starts, HasTruth-ends, HasTruth-contains, HasTruth-counted, answer-empty, answer-starts, answer-ends, answer-counted)

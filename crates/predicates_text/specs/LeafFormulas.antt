@@ -2,35 +2,38 @@
 -- text.
 use Rattle.std.specs.Prelude.{◌≡◌, ◌↔◌, ℕ, Bool, IsTrue, List, [], ◌==◌}
 use Rattle.std.specs.Str.{chars}
+use Rattle.predicates_core.specs.Label.{Entry}
 use Rattle.predicates_core.specs.Formula.{Formula}
 use Rattle.predicates_text.specs.Places.{IsFrontOf, IsBackOf, IsPartOf}
 use Rattle.predicates_text.specs.Count.{IsCountOf}
 use Rattle.predicates_text.specs.Leaves.{text_leaf, counted_leaf, empty_text, starts_text}
 use Rattle.predicates_text.specs.Leaves.{ends_text, contains_text}
 
--- f is the leaf that is true exactly where the text has no characters
-pub record IsEmptyLeaf (bytes : List ℕ) (f : Formula) : Type 0 where
-  pub own : Bool
-  pub exactly : IsTrue own ↔ (chars bytes ≡ [])
-  pub is : f ≡ text_leaf empty_text bytes own
+-- f is the leaf that shows the text and is true exactly where the fact holds
+pub record IsTextLeaf (printed : Entry) (bytes : List ℕ) (fact : Type 0) (f : Formula) : Type 0
+  where
+    pub own : Bool
+    pub exactly : IsTrue own ↔ fact
+    pub is : f ≡ text_leaf printed bytes own
 
--- f is the leaf that is true exactly where the pattern is a front of the text
-pub record IsStartsLeaf (pattern bytes : List ℕ) (f : Formula) : Type 0 where
-  pub own : Bool
-  pub exactly : IsTrue own ↔ IsFrontOf (chars pattern) (chars bytes)
-  pub is : f ≡ text_leaf (starts_text pattern) bytes own
+-- the text has no characters
+abbrev pub IsEmptyLeaf : List ℕ → Formula → Type 0
+IsEmptyLeaf bytes = IsTextLeaf empty_text bytes (chars bytes ≡ [])
 
--- f is the leaf that is true exactly where the pattern is a back of the text
-pub record IsEndsLeaf (pattern bytes : List ℕ) (f : Formula) : Type 0 where
-  pub own : Bool
-  pub exactly : IsTrue own ↔ IsBackOf (chars pattern) (chars bytes)
-  pub is : f ≡ text_leaf (ends_text pattern) bytes own
+-- the pattern is a front of the text
+abbrev pub IsStartsLeaf : List ℕ → List ℕ → Formula → Type 0
+IsStartsLeaf pattern bytes = IsTextLeaf (starts_text pattern) bytes
+    (IsFrontOf (chars pattern) (chars bytes))
 
--- f is the leaf that is true exactly where the pattern has a place in the text
-pub record IsContainsLeaf (pattern bytes : List ℕ) (f : Formula) : Type 0 where
-  pub own : Bool
-  pub exactly : IsTrue own ↔ IsPartOf (chars pattern) (chars bytes)
-  pub is : f ≡ text_leaf (contains_text pattern) bytes own
+-- the pattern is a back of the text
+abbrev pub IsEndsLeaf : List ℕ → List ℕ → Formula → Type 0
+IsEndsLeaf pattern bytes = IsTextLeaf (ends_text pattern) bytes
+    (IsBackOf (chars pattern) (chars bytes))
+
+-- the pattern has a place in the text
+abbrev pub IsContainsLeaf : List ℕ → List ℕ → Formula → Type 0
+IsContainsLeaf pattern bytes = IsTextLeaf (contains_text pattern) bytes
+    (IsPartOf (chars pattern) (chars bytes))
 
 -- f is the leaf that shows the greatest number of places of which no two overlap, and is true where
 -- that is the count

@@ -5,7 +5,7 @@ ghost use Rattle.predicates_core.specs.Formula.{Formula};
 ghost use Rattle.predicates_core.specs.Tree.{empty};
 ghost use Rattle.predicates_text.specs.Leaves.{contains_text, contains_formula};
 ghost use Rattle.predicates_text.specs.LeafFormulas.{IsContainsLeaf, IsCountedLeaf};
-ghost use Rattle.predicates_text.specs.LeafFormulaLaws.{contains_text_fits, one_contains, has_contains};
+ghost use Rattle.predicates_text.specs.LeafFormulaLaws.{text_leaf_fits, one_text_leaf, has_contains};
 ghost use Rattle.predicates_text.specs.Patterns.{contains_pattern, matches_pattern, matches_count};
 
 use crate::basics::matches::MatchesPredicate;
@@ -88,9 +88,9 @@ impl Predicate<String> for ContainsPredicate {
 
     ghost infallible = { λ p v. Unit {0} };
 
-    ghost text_fits = { λ p v f. contains_text_fits };
+    ghost text_fits = { λ p v f. text_leaf_fits };
 
-    ghost one_formula = { λ p v f g lawful. one_contains };
+    ghost one_formula = { λ p v f g lawful. one_text_leaf };
 
     #[tactic(auto, using(crate::proofs::Showing::leaf_formulas))]
     fn eval(&self, _alloc: Global, item: &String) -> Result<bool, AllocError> {

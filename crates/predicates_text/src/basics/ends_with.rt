@@ -5,7 +5,7 @@ ghost use Rattle.predicates_core.specs.Formula.{Formula};
 ghost use Rattle.predicates_core.specs.Tree.{empty};
 ghost use Rattle.predicates_text.specs.Leaves.{ends_text, ends_formula};
 ghost use Rattle.predicates_text.specs.LeafFormulas.{IsEndsLeaf};
-ghost use Rattle.predicates_text.specs.LeafFormulaLaws.{ends_text_fits, one_ends, has_ends};
+ghost use Rattle.predicates_text.specs.LeafFormulaLaws.{text_leaf_fits, one_text_leaf, has_ends};
 ghost use Rattle.predicates_text.specs.Patterns.{ends_pattern};
 
 use crate::leaf_case::text_case;
@@ -66,9 +66,9 @@ impl Predicate<String> for EndsWithPredicate {
 
     ghost infallible = { λ p v. Unit {0} };
 
-    ghost text_fits = { λ p v f. ends_text_fits };
+    ghost text_fits = { λ p v f. text_leaf_fits };
 
-    ghost one_formula = { λ p v f g lawful. one_ends };
+    ghost one_formula = { λ p v f g lawful. one_text_leaf };
 
     #[tactic(auto, using(crate::proofs::Showing::leaf_formulas))]
     fn eval(&self, _alloc: Global, item: &String) -> Result<bool, AllocError> {

@@ -5,7 +5,7 @@ ghost use Rattle.predicates_core.specs.Formula.{Formula};
 ghost use Rattle.predicates_core.specs.Tree.{empty};
 ghost use Rattle.predicates_text.specs.Leaves.{empty_text, empty_formula};
 ghost use Rattle.predicates_text.specs.LeafFormulas.{IsEmptyLeaf};
-ghost use Rattle.predicates_text.specs.LeafFormulaLaws.{empty_text_fits, one_empty, has_empty};
+ghost use Rattle.predicates_text.specs.LeafFormulaLaws.{text_leaf_fits, one_text_leaf, has_empty};
 
 use crate::leaf_case::text_case;
 use crate::search;
@@ -60,9 +60,9 @@ impl Predicate<String> for IsEmptyPredicate {
 
     ghost infallible = { λ p v. Unit {0} };
 
-    ghost text_fits = { λ p v f. empty_text_fits };
+    ghost text_fits = { λ p v f. text_leaf_fits };
 
-    ghost one_formula = { λ p v f g lawful. one_empty };
+    ghost one_formula = { λ p v f g lawful. one_text_leaf };
 
     #[tactic(auto, using(crate::proofs::Showing::leaf_formulas))]
     fn eval(&self, _alloc: Global, item: &String) -> Result<bool, AllocError> {

@@ -5,7 +5,7 @@ ghost use Rattle.predicates_core.specs.Formula.{Formula};
 ghost use Rattle.predicates_core.specs.Tree.{empty};
 ghost use Rattle.predicates_text.specs.Leaves.{starts_text, starts_formula};
 ghost use Rattle.predicates_text.specs.LeafFormulas.{IsStartsLeaf};
-ghost use Rattle.predicates_text.specs.LeafFormulaLaws.{starts_text_fits, one_starts, has_starts};
+ghost use Rattle.predicates_text.specs.LeafFormulaLaws.{text_leaf_fits, one_text_leaf, has_starts};
 ghost use Rattle.predicates_text.specs.Patterns.{starts_pattern};
 
 use crate::leaf_case::text_case;
@@ -66,9 +66,9 @@ impl Predicate<String> for StartsWithPredicate {
 
     ghost infallible = { λ p v. Unit {0} };
 
-    ghost text_fits = { λ p v f. starts_text_fits };
+    ghost text_fits = { λ p v f. text_leaf_fits };
 
-    ghost one_formula = { λ p v f g lawful. one_starts };
+    ghost one_formula = { λ p v f g lawful. one_text_leaf };
 
     #[tactic(auto, using(crate::proofs::Showing::leaf_formulas))]
     fn eval(&self, _alloc: Global, item: &String) -> Result<bool, AllocError> {
