@@ -1,4 +1,12 @@
 //! Rules and records, and what a run writes for them.
+mod combined;
+mod faults;
+mod malformed_records;
+mod malformed_rules;
+mod program;
+mod reference;
+mod streams;
+
 use predicates_vet::settings::{Report, Settings};
 use predicates_vet::{Counts, read_checks, run_records};
 use std::alloc::{AllocError, Global};

@@ -1,0 +1,127 @@
+//! Records that are cut at each byte, and records with a byte changed: how many lines hold no record,
+//! and that the other records are told as before.
+use predicates_vet::settings::{Report, Settings};
+use predicates_vet::{Counts, read_checks, run_records};
+use std::alloc::{AllocError, Global};
+use std::test::Fail;
+
+const BEFORE: &[u8] = b"{\"id\": \"p\", \"x\": 1}\n";
+
+const AFTER: &[u8] = b"{\"id\": \"q\", \"x\": 2}\n";
+
+const TOLD_BEFORE: &[u8] =
+    b"record \"p\": false\na = false\n  rule: /x == 5 = false\n    - found: 1\n";
+
+const TOLD_AFTER: &[u8] =
+    b"record \"q\": false\na = false\n  rule: /x == 5 = false\n    - found: 2\n";
+
+const RECORD: &[u8] = b"{\"x\":-1}";
+
+// What a run over the lines writes, and its messages, with its counts.
+fn ran(alloc: Global, middle: &[u8]) -> Result<Option<(Vec<u8>, Vec<u8>, Counts)>, AllocError> {
+    let Ok(checks) = read_checks(alloc, b"a: /x == 5") else {
+        return Ok(None);
+    };
+    let settings = Settings {
+        report: Report::First,
+        id: Some(String::from_str(alloc, "/id")?),
+    };
+    let mut lines = Vec::new(alloc);
+    lines.extend_from_slice(BEFORE)?;
+    lines.extend_from_slice(middle)?;
+    lines.push(b'\n')?;
+    lines.extend_from_slice(AFTER)?;
+    let mut input = lines.as_slice();
+    let mut output = Vec::new(alloc);
+    let mut messages = Vec::new(alloc);
+    let ended = run_records(
+        alloc,
+        checks.as_slice(),
+        &settings,
+        &mut input,
+        &mut output,
+        &mut messages,
+    );
+    match ended {
+        Ok(counts) => Ok(Some((output, messages, counts))),
+        Err(_) => Ok(None),
+    }
+}
+
+fn count_of(bytes: &[u8], byte: u8) -> u64 {
+    let mut count = 0u64;
+    for one in bytes {
+        if *one == byte {
+            count = count.saturating_add(1);
+        }
+    }
+    count
+}
+
+// Whether so many lines hold no record, each with its message, and the records before and after are
+// told as they are without it.
+fn is_told(alloc: Global, middle: &[u8], unreadable: u64) -> Result<bool, AllocError> {
+    let Some((output, messages, counts)) = ran(alloc, middle)? else {
+        return Ok(false);
+    };
+    let read = if unreadable == 0 { 3 } else { 2 };
+    let expected = Counts {
+        records: read,
+        failed: read,
+        unreadable,
+    };
+    let others = TOLD_BEFORE.len().saturating_add(TOLD_AFTER.len());
+    let is_alone = output.len() == others;
+    Ok(
+        counts == expected
+            && output.starts_with(TOLD_BEFORE)
+            && output.ends_with(TOLD_AFTER)
+            && output.len() >= others
+            && is_alone == (unreadable > 0)
+            && count_of(&messages, b'\n') == unreadable
+            && (unreadable == 0 || messages.starts_with(b"vet: record 2: ")),
+    )
+}
+
+#[test]
+fn records_that_are_cut(rt: HostRuntime) -> Result<(), Fail> {
+    for len in 0..RECORD.len() {
+        let right = is_told(rt.alloc(), &RECORD[..len], 1)?;
+        assert!(rt; right, "{len} bytes");
+    }
+    assert!(rt; is_told(rt.alloc(), RECORD, 0)?);
+    Ok(())
+}
+
+// A byte, and how many lines hold no record where it stands in place of each byte of the record.
+const CHANGED: [(u8, [u64; 8]); 9] = [
+    (b' ', [1, 1, 0, 1, 1, 0, 1, 1]),
+    (b'"', [1, 0, 1, 0, 1, 1, 1, 1]),
+    (b'\\', [1, 1, 1, 1, 1, 1, 1, 1]),
+    (b'0', [1, 1, 0, 1, 1, 1, 0, 1]),
+    (b'.', [1, 1, 0, 1, 1, 1, 1, 1]),
+    (b'e', [1, 1, 0, 1, 1, 1, 1, 1]),
+    (b'}', [1, 1, 0, 1, 1, 1, 1, 0]),
+    (b'\n', [2, 2, 2, 2, 2, 2, 2, 2]),
+    (255, [1, 1, 1, 1, 1, 1, 1, 1]),
+];
+
+fn with_byte(alloc: Global, place: usize, byte: u8) -> Result<Vec<u8>, AllocError> {
+    let mut changed = Vec::new(alloc);
+    for (index, old) in RECORD.iter().enumerate() {
+        changed.push(if index == place { byte } else { *old })?;
+    }
+    Ok(changed)
+}
+
+#[test]
+fn records_with_a_byte_changed(rt: HostRuntime) -> Result<(), Fail> {
+    for (byte, counts) in CHANGED {
+        for (place, unreadable) in counts.iter().enumerate() {
+            let changed = with_byte(rt.alloc(), place, byte)?;
+            let right = is_told(rt.alloc(), &changed, *unreadable)?;
+            assert!(rt; right, "{byte} at {place}");
+        }
+    }
+    Ok(())
+}

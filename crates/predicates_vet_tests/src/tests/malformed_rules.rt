@@ -1,0 +1,321 @@
+//! Rules that are cut at each byte, and rules with a byte changed: what they say then, or the place
+//! and the reason of the fault.
+use predicates_vet::settings::{Report, Settings};
+use predicates_vet::{read_checks, run_records};
+use std::alloc::{AllocError, Global};
+use std::str;
+use std::test::Fail;
+
+// Why the rules are not read, or what is written of the record by them.
+fn told(alloc: Global, rules: &[u8], record: &[u8]) -> Result<String, AllocError> {
+    let checks = match read_checks(alloc, rules) {
+        Ok(checks) => checks,
+        Err(error) => return format!(in alloc; "{error}"),
+    };
+    let settings = Settings {
+        report: Report::All,
+        id: None,
+    };
+    let mut input = record;
+    let mut output = Vec::new(alloc);
+    let mut messages = Vec::new(alloc);
+    let ended = run_records(
+        alloc,
+        checks.as_slice(),
+        &settings,
+        &mut input,
+        &mut output,
+        &mut messages,
+    );
+    match (ended, str::from_utf8(&output)) {
+        (Ok(_), Ok(text)) => String::from_str(alloc, text),
+        _ => String::from_str(alloc, "a fault"),
+    }
+}
+
+const WHOLE: &[u8] = b"a: not /x in [1, \"b\"] and /y >= 18";
+
+// The front of the rule, from how many bytes to how many; the column, or 0 for the first one behind
+// the front; and what is expected there.
+const CUT: [(usize, usize, usize, &str); 21] = [
+    (1, 1, 0, "`:` behind the name of a rule"),
+    (2, 3, 0, "a path, `not`, `each`, `any` or `(`"),
+    (4, 5, 4, "a word, an operator, a path or a literal"),
+    (6, 7, 0, "a path, `not`, `each`, `any` or `(`"),
+    (8, 10, 0, "an operator, `exists`, `missing` or `is_empty`"),
+    (11, 11, 11, "a word, an operator, a path or a literal"),
+    (12, 13, 0, "`[`"),
+    (14, 14, 0, "a literal"),
+    (15, 15, 0, "`,` or `]`"),
+    (16, 17, 0, "a literal"),
+    (18, 19, 18, "the quote that ends the text"),
+    (20, 20, 0, "`,` or `]`"),
+    (23, 24, 23, "a word, an operator, a path or a literal"),
+    (25, 26, 0, "a path, `not`, `each`, `any` or `(`"),
+    (27, 29, 0, "an operator, `exists`, `missing` or `is_empty`"),
+    (30, 32, 0, "a literal"),
+    (0, 0, 0, ""),
+    (21, 21, 0, NOT_IN),
+    (22, 22, 0, NOT_IN),
+    (33, 33, 0, AND_OF_ONE),
+    (34, 34, 0, AND_OF_EIGHTEEN),
+];
+
+// What is written of `{"x": 1}` by the fronts that are rules.
+const NOT_IN: &str =
+    "record 1: false\na = false\n  rule: not /x in [1, \"b\"] = false\n    predicate: /x in [1, \"b\"] = true\n      - found: 1\n";
+
+const AND_OF_ONE: &str =
+    "record 1: false\na = false\n  rule: not /x in [1, \"b\"] and /y >= 1 = false\n    - index: 0\n    part: not /x in [1, \"b\"] = false\n      predicate: /x in [1, \"b\"] = true\n        - found: 1\n";
+
+const AND_OF_EIGHTEEN: &str =
+    "record 1: false\na = false\n  rule: not /x in [1, \"b\"] and /y >= 18 = false\n    - index: 0\n    part: not /x in [1, \"b\"] = false\n      predicate: /x in [1, \"b\"] = true\n        - found: 1\n";
+
+// Whether the front of so many bytes, behind a line that has no rule, is told so.
+fn front_is_told(
+    alloc: Global,
+    len: usize,
+    column: usize,
+    expected: &str,
+) -> Result<bool, AllocError> {
+    let mut rules = Vec::new(alloc);
+    rules.extend_from_slice(b" # before\n")?;
+    rules.extend_from_slice(&WHOLE[..len.min(WHOLE.len())])?;
+    let found = told(alloc, &rules, b"{\"x\": 1}")?;
+    if expected.is_empty() || expected.starts_with("record") {
+        return Ok(found.as_str() == expected);
+    }
+    let place = if column == 0 {
+        len.saturating_add(1)
+    } else {
+        column
+    };
+    let message = format!(in alloc; "line 2, column {place}: expected {expected}")?;
+    Ok(found.as_str() == message.as_str())
+}
+
+#[test]
+fn rules_that_are_cut(rt: HostRuntime) -> Result<(), Fail> {
+    let mut count = 0usize;
+    for (from, to, column, expected) in CUT {
+        for len in from..=to {
+            let right = front_is_told(rt.alloc(), len, column, expected)?;
+            assert!(rt; right, "{len} bytes");
+            count = count.saturating_add(1);
+        }
+    }
+    assert_eq!(rt; count, WHOLE.len().saturating_add(1));
+    Ok(())
+}
+
+const SHORT: &[u8] = b"a:/x<=9";
+
+const TOKEN: &str = "a word, an operator, a path or a literal";
+
+const QUOTE: &str = "the quote that ends the text";
+
+const UTF8: &str = "text in UTF-8";
+
+const CONDITION: &str = "an operator, `exists`, `missing` or `is_empty`";
+
+// A place in the short rule from 1, the byte that is put there, the column and what is expected there;
+// or 0, and what is written of `{"x": 10}`.
+const CHANGED: [(usize, u8, usize, &str); 42] = [
+    (1, b'#', 0, ""),
+    (1, b' ', 2, "the name of a rule"),
+    (1, b'"', 1, "the name of a rule"),
+    (
+        1,
+        b'0',
+        0,
+        "0 = false\n  rule: /x <= 9 = false\n    - found: 10\n",
+    ),
+    (1, b'=', 1, "the name of a rule"),
+    (1, 255, 1, UTF8),
+    (2, b'#', 2, "`:` behind the name of a rule"),
+    (2, b' ', 2, "`:` behind the name of a rule"),
+    (2, b'"', 2, "`:` behind the name of a rule"),
+    (2, b'0', 3, "`:` behind the name of a rule"),
+    (2, b'=', 2, "`:` behind the name of a rule"),
+    (2, 255, 1, UTF8),
+    (3, b'#', 3, "a path, `not`, `each`, `any` or `(`"),
+    (3, b' ', 4, TOKEN),
+    (3, b'"', 3, QUOTE),
+    (3, b'0', 3, "a whole number from -2^63 to 2^64 - 1"),
+    (3, b'=', 3, TOKEN),
+    (3, 255, 3, TOKEN),
+    (4, b'#', 4, CONDITION),
+    (
+        4,
+        b' ',
+        0,
+        "a = false\n  rule: / <= 9 = false\n    - found: {\"x\":10}\n    - error: not a whole number\n",
+    ),
+    (
+        4,
+        b'"',
+        0,
+        "a = false\n  rule: /\" <= 9 = false\n    - error: nothing at /\"\n",
+    ),
+    (
+        4,
+        b'0',
+        0,
+        "a = false\n  rule: /0 <= 9 = false\n    - error: nothing at /0\n",
+    ),
+    (4, b'=', 4, TOKEN),
+    (4, 255, 3, UTF8),
+    (5, b'#', 5, CONDITION),
+    (5, b' ', 6, TOKEN),
+    (5, b'"', 6, TOKEN),
+    (5, b'0', 6, TOKEN),
+    (
+        5,
+        b'=',
+        0,
+        "a = false\n  rule: /x == 9 = false\n    - found: 10\n",
+    ),
+    (5, 255, 3, UTF8),
+    (6, b'#', 6, "a literal"),
+    (
+        6,
+        b' ',
+        0,
+        "a = false\n  rule: /x < 9 = false\n    - found: 10\n",
+    ),
+    (6, b'"', 6, QUOTE),
+    (6, b'0', 6, "a whole number from -2^63 to 2^64 - 1"),
+    (
+        6,
+        b'=',
+        0,
+        "a = false\n  rule: /x <= 9 = false\n    - found: 10\n",
+    ),
+    (6, 255, 6, TOKEN),
+    (7, b'#', 7, "a literal"),
+    (7, b' ', 8, "a literal"),
+    (7, b'"', 7, QUOTE),
+    (
+        7,
+        b'0',
+        0,
+        "a = false\n  rule: /x <= 0 = false\n    - found: 10\n",
+    ),
+    (7, b'=', 5, TOKEN),
+    (7, 255, 7, TOKEN),
+];
+
+// The bytes with another one at the place, from 1.
+fn with_byte(alloc: Global, bytes: &[u8], place: usize, byte: u8) -> Result<Vec<u8>, AllocError> {
+    let mut changed = Vec::new(alloc);
+    for (index, old) in bytes.iter().enumerate() {
+        changed.push(if index + 1 == place { byte } else { *old })?;
+    }
+    Ok(changed)
+}
+
+fn change_is_told(
+    alloc: Global,
+    place: usize,
+    byte: u8,
+    column: usize,
+    expected: &str,
+) -> Result<bool, AllocError> {
+    let rules = with_byte(alloc, SHORT, place, byte)?;
+    let found = told(alloc, &rules, b"{\"x\": 10}")?;
+    let whole = if column > 0 {
+        format!(in alloc; "line 1, column {column}: expected {expected}")?
+    } else if expected.is_empty() {
+        String::new(alloc)
+    } else {
+        format!(in alloc; "record 1: false\n{expected}")?
+    };
+    Ok(found.as_str() == whole.as_str())
+}
+
+#[test]
+fn rules_with_a_byte_changed(rt: HostRuntime) -> Result<(), Fail> {
+    for (place, byte, column, expected) in CHANGED {
+        let right = change_is_told(rt.alloc(), place, byte, column, expected)?;
+        assert!(rt; right, "{byte} at {place}");
+    }
+    Ok(())
+}
+
+// Four rules, and what is written of `{}` by each.
+const LINES: [(&[u8], &str); 4] = [
+    (
+        b"adult:  /age >= 18\n",
+        "adult = false\n  rule: /age >= 18 = false\n    - error: nothing at /age\n",
+    ),
+    (
+        b"known:  /name starts_with \"A\" or /name == \"Zoe\"\n",
+        "known = false\n  rule: /name starts_with \"A\" or /name == \"Zoe\" = false\n    part: /name starts_with \"A\" = false\n      - error: nothing at /name\n    part: /name == \"Zoe\" = false\n      - error: nothing at /name\n",
+    ),
+    (
+        b"seated: /seat exists and not /seat in [13, 17]\n",
+        "seated = false\n  rule: /seat exists and not /seat in [13, 17] = false\n    - index: 0\n    part: /seat exists = false\n",
+    ),
+    (
+        b"lines:  each /lines (/quantity >= 1)\n",
+        "lines = false\n  rule: each /lines (/quantity >= 1) = false\n    - error: nothing at /lines\n",
+    ),
+];
+
+const BYTES: [u8; 8] = [b'#', b' ', b'"', b'0', b'(', b'a', b'/', 255];
+
+// Whether a file of the four rules, of which one is the changed one, is refused at its line, within
+// it, or else writes of the others what it wrote.
+fn others_stay(
+    alloc: Global,
+    number: usize,
+    changed: &[u8],
+    refused: &mut usize,
+) -> Result<bool, AllocError> {
+    let mut rules = Vec::new(alloc);
+    let mut before = String::new(alloc);
+    let mut after = String::new(alloc);
+    before.push_str("record 1: false\n")?;
+    for (index, (line, written)) in LINES.iter().enumerate() {
+        if index < number {
+            before.push_str(written)?;
+        } else if index > number {
+            after.push_str(written)?;
+        }
+        rules.extend_from_slice(if index == number { changed } else { line })?;
+    }
+    let found = told(alloc, &rules, b"{}")?;
+    let line = number.saturating_add(1);
+    let head = format!(in alloc; "line {line}, column ")?;
+    if found.starts_with(&head) {
+        *refused = refused.saturating_add(1);
+        return Ok(true);
+    }
+    Ok(
+        found.starts_with(&before)
+            && found.ends_with(&after)
+            && before.len().saturating_add(after.len()) <= found.len(),
+    )
+}
+
+#[test]
+fn a_changed_rule_leaves_the_others(rt: HostRuntime) -> Result<(), Fail> {
+    let alloc = rt.alloc();
+    let (mut refused, mut all) = (0usize, 0usize);
+    for (number, (line, _)) in LINES.iter().enumerate() {
+        for place in 1..line.len() {
+            for byte in BYTES {
+                let changed = with_byte(alloc, line, place, byte)?;
+                let right = others_stay(alloc, number, &changed, &mut refused)?;
+                assert!(rt; right, "{byte} at {place} of rule {number}");
+                all = all.saturating_add(1);
+            }
+        }
+    }
+    // Most changes are faults, and many are not.
+    assert!(rt;
+        refused > all / 2 && refused < all.saturating_sub(all / 10),
+        "{refused} of {all}"
+    );
+    Ok(())
+}

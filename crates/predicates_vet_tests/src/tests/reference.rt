@@ -1,0 +1,309 @@
+//! What a rule says of a value, worked out by plain steps over values of `serde_json`: its truth, and
+//! the lines that say why.
+use serde_json::Value;
+use std::alloc::{AllocError, Global};
+use std::cmp::Ordering;
+
+/// What a test compares a value with.
+#[derive(Clone, Copy)]
+pub enum Against<'a> {
+    Nothing,
+    Whole(i128),
+    Text(&'a str),
+    Truth(bool),
+    Null,
+    /// Values as JSON writes them.
+    OneOf(&'a [&'a str]),
+}
+
+/// A test as a rule writes it, the names and places that its path goes by, its word, and what it
+/// compares with.
+pub type Test<'a> = (&'a str, &'a [&'a str], &'a str, Against<'a>);
+
+/// A rule's text, whether it holds, and the lines below its own.
+#[derive(Drop)]
+pub struct Answer {
+    pub text: String,
+    pub holds: bool,
+    pub below: String,
+}
+
+fn step<'v>(value: &'v Value, name: &str) -> Option<&'v Value> {
+    match name {
+        "0" => value.get(0usize),
+        "1" => value.get(1usize),
+        _ => value.get(name),
+    }
+}
+
+/// What stands there.
+pub fn value_of<'v>(value: &'v Value, names: &[&str]) -> Option<&'v Value> {
+    let mut found = value;
+    for name in names {
+        found = step(found, name)?;
+    }
+    Some(found)
+}
+
+// How the value stands to what it is compared with, if it is of its kind.
+fn order(value: &Value, against: Against<'_>) -> Option<Ordering> {
+    match against {
+        Against::Whole(n) => Some(value.as_number()?.as_i128()?.cmp(&n)),
+        Against::Text(text) => Some(value.as_str()?.as_bytes().cmp(text.as_bytes())),
+        Against::Truth(truth) => Some(value.as_bool()?.cmp(&truth)),
+        Against::Null if value.is_null() => Some(Ordering::Equal),
+        Against::Null => Some(Ordering::Greater),
+        _ => None,
+    }
+}
+
+fn compares(word: &str, order: Ordering) -> bool {
+    match word {
+        "==" => order == Ordering::Equal,
+        "!=" => order != Ordering::Equal,
+        "<" => order == Ordering::Less,
+        "<=" => order != Ordering::Greater,
+        ">" => order == Ordering::Greater,
+        _ => order != Ordering::Less,
+    }
+}
+
+fn has_within(text: &[u8], part: &[u8]) -> bool {
+    for place in 0..=text.len() {
+        if text[place..].starts_with(part) {
+            return true;
+        }
+    }
+    false
+}
+
+fn is_capital(byte: u8) -> bool {
+    b'A' <= byte && byte <= b'Z'
+}
+
+fn are_three_capitals(text: &[u8]) -> bool {
+    match text {
+        [a, b, c] => is_capital(*a) && is_capital(*b) && is_capital(*c),
+        _ => false,
+    }
+}
+
+// Whether the text is as the word wants it; the one pattern is that of three capitals.
+fn fits(word: &str, text: &[u8], against: Against<'_>) -> bool {
+    match (word, against) {
+        ("starts_with", Against::Text(part)) => text.starts_with(part.as_bytes()),
+        ("ends_with", Against::Text(part)) => text.ends_with(part.as_bytes()),
+        ("contains", Against::Text(part)) => has_within(text, part.as_bytes()),
+        _ => are_three_capitals(text),
+    }
+}
+
+fn emptiness(shown: &str) -> Option<bool> {
+    match shown {
+        "\"\"" | "[]" | "{}" => Some(true),
+        _ if shown.starts_with("\"") || shown.starts_with("[") || shown.starts_with("{") => {
+            Some(false)
+        }
+        _ => None,
+    }
+}
+
+fn is_among(against: Against<'_>, shown: &str) -> bool {
+    if let Against::OneOf(all) = against {
+        for one in all {
+            if *one == shown {
+                return true;
+            }
+        }
+    }
+    false
+}
+
+// Whether a value that stands there, and is shown so, answers the test; none where its kind can't.
+fn verdict_of(word: &str, against: Against<'_>, value: &Value, shown: &str) -> Option<bool> {
+    match word {
+        "exists" => Some(true),
+        "missing" => Some(false),
+        "is_empty" => emptiness(shown),
+        "in" => Some(is_among(against, shown)),
+        "starts_with" | "ends_with" | "contains" | "matches" => {
+            Some(fits(word, value.as_str()?.as_bytes(), against))
+        }
+        _ => Some(compares(word, order(value, against)?)),
+    }
+}
+
+fn misfit(against: Against<'_>) -> &'static str {
+    match against {
+        Against::Whole(_) => "not a whole number",
+        Against::Truth(_) => "not true or false",
+        Against::Nothing => "not a string, an array or an object",
+        _ => "not a string",
+    }
+}
+
+fn of_found(alloc: Global, test: Test<'_>, value: &Value) -> Result<(bool, String), AllocError> {
+    let (_, _, word, against) = test;
+    let shown = value.to_string(alloc)?;
+    match verdict_of(word, against, value, &shown) {
+        Some(holds) => Ok((holds, format!(in alloc; "- found: {shown}\n")?)),
+        None => {
+            let error = misfit(against);
+            Ok((
+                false,
+                format!(in alloc; "- found: {shown}\n- error: {error}\n")?,
+            ))
+        }
+    }
+}
+
+fn of_nothing(alloc: Global, test: Test<'_>) -> Result<(bool, String), AllocError> {
+    let (text, _, word, _) = test;
+    match word {
+        "missing" => Ok((true, String::new(alloc))),
+        "exists" => Ok((false, String::new(alloc))),
+        _ => {
+            let path = text.split(' ').next().unwrap_or("");
+            Ok((false, format!(in alloc; "- error: nothing at {path}\n")?))
+        }
+    }
+}
+
+/// What a test says of the value.
+pub fn tested(alloc: Global, test: Test<'_>, value: &Value) -> Result<Answer, AllocError> {
+    let (text, names, _, _) = test;
+    let (holds, below) = match value_of(value, names) {
+        Some(found) => of_found(alloc, test, found)?,
+        None => of_nothing(alloc, test)?,
+    };
+    let text = String::from_str(alloc, text)?;
+    Ok(Answer { text, holds, below })
+}
+
+// Writes each of the lines two places further in.
+fn push_within(to: &mut String, lines: &str) -> Result<(), AllocError> {
+    for line in lines.split('\n') {
+        if !line.is_empty() {
+            to.push_str("  ")?;
+            to.push_str(line)?;
+            to.push_str("\n")?;
+        }
+    }
+    Ok(())
+}
+
+fn push_truth(to: &mut String, text: &str, holds: bool) -> Result<(), AllocError> {
+    to.push_str(text)?;
+    to.push_str(if holds { " = true\n" } else { " = false\n" })
+}
+
+/// Writes the lines of a part under the name.
+pub fn push_part(to: &mut String, name: &str, part: &Answer) -> Result<(), AllocError> {
+    to.push_str(name)?;
+    to.push_str(": ")?;
+    push_truth(to, &part.text, part.holds)?;
+    push_within(to, &part.below)
+}
+
+/// Writes the lines of a rule with this name.
+pub fn push_rule(
+    alloc: Global,
+    to: &mut String,
+    name: &str,
+    rule: &Answer,
+) -> Result<(), AllocError> {
+    push_truth(to, name, rule.holds)?;
+    let mut below = String::new(alloc);
+    push_part(&mut below, "rule", rule)?;
+    push_within(to, &below)
+}
+
+/// What the opposite of a rule says.
+pub fn denied(alloc: Global, text: String, part: &Answer) -> Result<Answer, AllocError> {
+    let mut below = String::new(alloc);
+    push_part(&mut below, "predicate", part)?;
+    Ok(Answer {
+        text,
+        holds: !part.holds,
+        below,
+    })
+}
+
+fn count_true(parts: &[Answer]) -> usize {
+    parts.iter().filter(|part| part.holds).count()
+}
+
+fn first_of(parts: &[Answer], truth: bool) -> Option<usize> {
+    parts.iter().position(|part| part.holds == truth)
+}
+
+// The lines of the first part with this truth, or of all where none has it.
+fn deciding(
+    alloc: Global,
+    name: &str,
+    parts: &[Answer],
+    truth: bool,
+) -> Result<String, AllocError> {
+    if parts.is_empty() {
+        return String::from_str(alloc, "- len: 0\n");
+    }
+    let Some(index) = first_of(parts, truth) else {
+        return each_of(alloc, name, parts);
+    };
+    let mut below = format!(in alloc; "- index: {index}\n")?;
+    if let Some(part) = parts.get(index) {
+        push_part(&mut below, name, part)?;
+    }
+    Ok(below)
+}
+
+fn each_of(alloc: Global, name: &str, parts: &[Answer]) -> Result<String, AllocError> {
+    let mut below = String::new(alloc);
+    for part in parts {
+        push_part(&mut below, name, part)?;
+    }
+    Ok(below)
+}
+
+/// What parts say that the word joins.
+pub fn joined(
+    alloc: Global,
+    text: String,
+    word: &str,
+    parts: &[Answer],
+) -> Result<Answer, AllocError> {
+    let count = count_true(parts);
+    let (holds, below) = match word {
+        "and" => (count == parts.len(), deciding(alloc, "part", parts, false)?),
+        "or" => (count > 0, deciding(alloc, "part", parts, true)?),
+        _ => (count % 2 == 1, each_of(alloc, "part", parts)?),
+    };
+    Ok(Answer { text, holds, below })
+}
+
+/// What the word says of the items of what was found, from what is said of each.
+pub fn ranged(
+    alloc: Global,
+    text: String,
+    word: &str,
+    found: Option<&Value>,
+    parts: &[Answer],
+) -> Result<Answer, AllocError> {
+    let count = count_true(parts);
+    let (holds, below) = match found {
+        Some(Value::Array(_)) if word == "each" => (
+            count == parts.len(),
+            deciding(alloc, "item", parts, false)?,
+        ),
+        Some(Value::Array(_)) => (count > 0, deciding(alloc, "item", parts, true)?),
+        Some(value) => {
+            let shown = value.to_string(alloc)?;
+            (
+                false,
+                format!(in alloc; "- found: {shown}\n- error: not an array\n")?,
+            )
+        }
+        None => (false, String::from_str(alloc, "- error: nothing at /l\n")?),
+    };
+    Ok(Answer { text, holds, below })
+}
