@@ -1,2 +1,1 @@
 pub mod OneOf
-pub mod Level

@@ -11,6 +11,7 @@ mod from_words;
 mod helpers;
 mod kept_leaves;
 mod level;
+mod list_leaf;
 mod lists;
 mod number_leaf;
 mod numbers;

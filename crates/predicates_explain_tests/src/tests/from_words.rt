@@ -31,7 +31,7 @@ fn error_text(alloc: Global, words: &[String]) -> Result<String, AllocError> {
 }
 
 #[test]
-fn errors(rt: HostRuntime) -> Result<(), Fail> {
+fn texts_of_errors(rt: HostRuntime) -> Result<(), Fail> {
     let alloc = rt.alloc();
     for (tokens, expected) in REJECTED {
         let text = error_text(alloc, &texts_of(alloc, tokens)?)?;

@@ -58,7 +58,7 @@ fn answers(alloc: Global, (lo, hi): (i64, i64), input: &[u8], all: bool, expecte
 }
 
 #[test]
-fn rows(rt: HostRuntime) {
+fn lines_between_5_and_10(rt: HostRuntime) {
     for (input, expected, all) in ROWS {
         let holds = answers(rt.alloc(), (5, 10), input.as_bytes(), all, expected);
         assert!(rt; holds, "at {input:?}");
@@ -85,7 +85,7 @@ fn one_byte_at_a_time(rt: HostRuntime) {
 
 // A line of bytes that are no text, between two numbers, the second of them cut short.
 #[test]
-fn no_text(rt: HostRuntime) {
+fn a_line_that_is_no_text(rt: HostRuntime) {
     let expected =
         "7: false\n(var >= 1 && var <= 1) = false\n  right: var <= 1 = false\n    - var: 7\nline 2: not a number\n1: true\n(var >= 1 && var <= 1) = true\n  left: var >= 1 = true\n    - var: 1\n  right: var <= 1 = true\n    - var: 1\n";
     assert!(rt; answers(rt.alloc(), (1, 1), b"7\n\xff7\n1", false, expected));
@@ -145,7 +145,7 @@ const BOUNDS: [(i64, i64, &str, &str); 5] = [
 ];
 
 #[test]
-fn bounds(rt: HostRuntime) {
+fn bounds_that_hold_no_number_one_or_all(rt: HostRuntime) {
     for (lo, hi, input, want) in BOUNDS {
         let holds = answers(rt.alloc(), (lo, hi), input.as_bytes(), true, want);
         assert!(rt; holds, "at {input:?}");
@@ -153,7 +153,7 @@ fn bounds(rt: HostRuntime) {
 }
 
 #[test]
-fn blocks(rt: HostRuntime) -> Result<(), Fail> {
+fn blocks_of_one_item(rt: HostRuntime) -> Result<(), Fail> {
     let alloc = rt.alloc();
     let between = ge(5).and(le(10));
     assert_eq!(rt; explain_one(alloc, &between, "7", &7)?.as_str(), SEVEN);
@@ -184,7 +184,7 @@ const NUMBERS: [(&str, Option<i64>); 9] = [
 ];
 
 #[test]
-fn numbers(rt: HostRuntime) {
+fn which_lines_are_numbers(rt: HostRuntime) {
     for (line, expected) in NUMBERS {
         assert_eq!(rt; number(line.as_bytes()), expected, "at {line:?}");
     }

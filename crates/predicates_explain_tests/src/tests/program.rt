@@ -105,7 +105,7 @@ fn ends(
 }
 
 #[test]
-fn rows(rt: HostRuntime) -> Result<(), Fail> {
+fn statuses_and_outputs_of_words(rt: HostRuntime) -> Result<(), Fail> {
     for (line, input, status, output, message) in ROWS {
         let holds = ends(rt.alloc(), line, input, status, output, message)?;
         assert!(rt; holds, "at {line:?}");

@@ -98,7 +98,7 @@ fn answers(
 }
 
 #[test]
-fn rows(rt: HostRuntime) -> Result<(), Fail> {
+fn lines_of_checks_of_words(rt: HostRuntime) -> Result<(), Fail> {
     for (tokens, input, expected, all) in ROWS {
         let holds = answers(rt.alloc(), tokens, input, expected, all)?;
         assert!(rt; holds, "for {expected:?}");

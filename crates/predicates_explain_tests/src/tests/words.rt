@@ -10,7 +10,7 @@ fn reads(alloc: Global, token: &str, word: Option<Word>) -> Result<bool, AllocEr
 }
 
 #[test]
-fn tokens(rt: HostRuntime) -> Result<(), Fail> {
+fn which_tokens_are_words(rt: HostRuntime) -> Result<(), Fail> {
     let alloc = rt.alloc();
     let equals = Word::Equals(String::from_str(alloc, "a=b")?);
     assert!(rt; reads(alloc, "eq=a=b", Some(equals))?);
@@ -63,7 +63,7 @@ fn describe(alloc: Global, stack: &[TextCheck]) -> Result<(String, usize, usize)
 }
 
 #[test]
-fn operands(rt: HostRuntime) -> Result<(), Fail> {
+fn words_that_lack_operands(rt: HostRuntime) -> Result<(), Fail> {
     let alloc = rt.alloc();
     let mut stack = Vec::new(alloc);
     for (tokens, expected, left) in STEPS {
@@ -120,20 +120,6 @@ fn each_word(rt: HostRuntime) -> Result<(), Fail> {
     Ok(())
 }
 
-#[test]
-fn two_hundred_times_not(rt: HostRuntime) -> Result<(), Fail> {
-    let alloc = rt.alloc();
-    let mut stack = Vec::new(alloc);
-    assert_eq!(rt; apply_tokens(alloc, &mut stack, &["empty"]), Ok(()));
-    for _ in 0..200 {
-        assert_eq!(rt; apply_tokens(alloc, &mut stack, &["not"]), Ok(()));
-    }
-    assert!(rt; is_found(alloc, &stack, "", true)?);
-    let (text, _, _) = describe(alloc, &stack)?;
-    assert_eq!(rt; text.len(), 14 + 200 * 4);
-    Ok(())
-}
-
 // They have no limit by themselves, and drop without recursion.
 #[test]
 fn checks_of_20000_levels(rt: HostRuntime) -> Result<(), Fail> {
@@ -151,7 +137,7 @@ fn checks_of_20000_levels(rt: HostRuntime) -> Result<(), Fail> {
 }
 
 #[test]
-fn faults(rt: HostRuntime) -> Result<(), Fail> {
+fn flags_change_no_fault_of_words(rt: HostRuntime) -> Result<(), Fail> {
     let text = WordFault::Operand.to_string(rt.alloc())?;
     assert_eq!(rt; text.as_str(), "missing operand");
     for fault in [WordFault::Operand, WordFault::Pattern, WordFault::NoMemory] {

@@ -170,7 +170,7 @@ fn a_read_that_fails(rt: HostRuntime) -> Result<(), Fail> {
 
 // A call that runs out of memory gives no snapshot.
 #[test]
-fn want_of_memory(rt: HostRuntime) -> Result<(), Fail> {
+fn out_of_memory(rt: HostRuntime) -> Result<(), Fail> {
     let nothing = (Err(Other), Err(Other), Err(Other));
     let refused = ErrorKind::OutOfMemory;
     assert!(rt; takes(&rt, (Err(refused), Ok(()), Ok(EMPTY)), nothing).is_err());

@@ -11,7 +11,7 @@ use std::alloc::{AllocError, Global};
 use std::test::Fail;
 
 #[test]
-fn copied(rt: HostRuntime) -> Result<(), Fail> {
+fn copies_equal_what_they_copy(rt: HostRuntime) -> Result<(), Fail> {
     let alloc = rt.alloc();
     assert!(rt; are_copied(alloc, exists(), missing())?);
     assert!(rt; are_copied(alloc, is_file(), is_file().follow_links(true))?);
@@ -43,7 +43,7 @@ fn do_texts_differ(alloc: Global) -> Result<bool, Fail> {
 }
 
 #[test]
-fn compared(rt: HostRuntime) -> Result<(), Fail> {
+fn adapters_and_equal_files_are_compared(rt: HostRuntime) -> Result<(), Fail> {
     assert!(rt; is_adapter_copied(rt.alloc())?);
     assert!(rt; do_bytes_differ(rt.alloc())?);
     assert!(rt; do_texts_differ(rt.alloc())?);
@@ -51,7 +51,7 @@ fn compared(rt: HostRuntime) -> Result<(), Fail> {
 }
 
 #[test]
-fn parts(rt: HostRuntime) -> Result<(), Fail> {
+fn parts_that_a_snapshot_holds(rt: HostRuntime) -> Result<(), Fail> {
     let link = snapshot(rt.alloc(), Ok(Symlink), Ok(File), Err(PermissionDenied))?;
     assert_eq!(rt; link.path(), "p");
     assert!(rt; has_parts(&link, (Ok(Symlink), Ok(File), Err(PermissionDenied))));

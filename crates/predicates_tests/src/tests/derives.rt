@@ -22,7 +22,7 @@ fn is_shown<P: fmt::Debug>(alloc: Global, predicate: &P) -> Result<bool, AllocEr
 }
 
 #[test]
-fn copied(rt: HostRuntime) -> Result<(), Fail> {
+fn copies_equal_what_they_copy(rt: HostRuntime) -> Result<(), Fail> {
     let alloc = rt.alloc();
     let (five, six) = (ge(5i32), ge(6i32));
     assert!(rt; are_copied(alloc, always::<Bare>(), never())?);
@@ -45,7 +45,7 @@ fn is_copy_named(alloc: Global) -> Result<bool, AllocError> {
 }
 
 #[test]
-fn copied_names(rt: HostRuntime) -> Result<(), Fail> {
+fn a_copy_is_named_again(rt: HostRuntime) -> Result<(), Fail> {
     assert!(rt; is_copy_named(rt.alloc())?);
     Ok(())
 }
@@ -87,7 +87,7 @@ fn are_sorted_alike(alloc: Global) -> Result<bool, AllocError> {
 }
 
 #[test]
-fn compared(rt: HostRuntime) -> Result<(), Fail> {
+fn clones_and_lists_are_compared(rt: HostRuntime) -> Result<(), Fail> {
     assert!(rt; is_letter_cloned(rt.alloc())?);
     assert!(rt; are_letters_joined(rt.alloc())?);
     assert!(rt; do_lists_differ(rt.alloc())?);
@@ -108,7 +108,7 @@ fn is_box_shown(alloc: Global) -> Result<bool, AllocError> {
 }
 
 #[test]
-fn shown(rt: HostRuntime) -> Result<(), Fail> {
+fn debug_forms_of_a_set_and_of_a_box(rt: HostRuntime) -> Result<(), Fail> {
     assert!(rt; is_set_shown(rt.alloc())?);
     assert!(rt; is_box_shown(rt.alloc())?);
     Ok(())

@@ -15,7 +15,7 @@ use std::cell::Cell;
 use std::test::Fail;
 
 #[test]
-fn functions(rt: HostRuntime) -> Result<(), Fail> {
+fn flags_change_no_function(rt: HostRuntime) -> Result<(), Fail> {
     let alloc = rt.alloc();
     let mut out = String::new(alloc);
     let at_least = function(|n: &i64| *n >= 5);
@@ -39,7 +39,7 @@ fn twice(alloc: Global) -> Result<Vec<String>, AllocError> {
 }
 
 #[test]
-fn memberships_of_texts(rt: HostRuntime) -> Result<(), Fail> {
+fn flags_change_no_membership(rt: HostRuntime) -> Result<(), Fail> {
     let alloc = rt.alloc();
     let mut out = String::new(alloc);
     print_in_combinators(alloc, &mut out, in_iter(alloc, twice(alloc)?)?)?;
@@ -67,7 +67,7 @@ fn print_boxed(
 }
 
 #[test]
-fn boxes(rt: HostRuntime) -> Result<(), Fail> {
+fn flags_change_no_box(rt: HostRuntime) -> Result<(), Fail> {
     let alloc = rt.alloc();
     let mut out = String::new(alloc);
     print_boxed(alloc, &mut out, Box::new(alloc, always())?)?;

@@ -86,7 +86,7 @@ fn is_short_greeting(alloc: Global, item: &str) -> Result<bool, AllocError> {
 }
 
 #[test]
-fn texts(rt: HostRuntime) -> Result<(), Fail> {
+fn a_check_of_texts_by_names_of_the_prelude(rt: HostRuntime) -> Result<(), Fail> {
     for (item, verdict) in [
         (" Hello World", true),
         ("Goodbye\r", true),
@@ -115,7 +115,7 @@ fn refuses_a_folder(alloc: Global) -> Result<bool, AllocError> {
 }
 
 #[test]
-fn paths(rt: HostRuntime) -> Result<(), Fail> {
+fn checks_of_files_by_names_of_the_prelude(rt: HostRuntime) -> Result<(), Fail> {
     assert!(rt; holds_a(rt.alloc())?);
     assert!(rt; refuses_a_folder(rt.alloc())?);
     Ok(())

@@ -1,8 +1,7 @@
 //! Of `predicates_uses`, what no clause says: that the calls answer with ample memory, and how cases
-//! print; the cases of the guide as well.
+//! print.
 mod call_counts;
 mod callers;
-mod guide;
 mod orders;
 mod own;
 mod reason;

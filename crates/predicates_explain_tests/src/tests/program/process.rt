@@ -180,7 +180,7 @@ fn ends(alloc: Global, words: &[&[u8]], status: u8, output: &str, message: &str)
 }
 
 #[test]
-fn rows(rt: HostRuntime) -> Result<(), Fail> {
+fn status_and_outputs_of_a_process(rt: HostRuntime) -> Result<(), Fail> {
     for (words, status, output, message) in ROWS {
         let holds = ends(rt.alloc(), words, status, output, message);
         assert!(rt; holds, "at {words:?}");

@@ -185,7 +185,7 @@ fn is_labelled(alloc: Global, size: usize) -> Result<bool, Fail> {
 
 // Labels of any length, also of none.
 #[test]
-fn labels(rt: HostRuntime) -> Result<(), Fail> {
+fn labels_of_any_length(rt: HostRuntime) -> Result<(), Fail> {
     for size in [0usize, 1, 255, 256, 300, 70_000] {
         assert!(rt; is_labelled(rt.alloc(), size)?, "at {size}");
     }
@@ -217,7 +217,7 @@ const NOTHING: [(&[u8], &str); 5] = [
 
 // Texts and labels of no characters.
 #[test]
-fn nothing(rt: HostRuntime) -> Result<(), Fail> {
+fn operands_and_labels_of_no_characters(rt: HostRuntime) -> Result<(), Fail> {
     for (words, expected) in NOTHING {
         let written = answer(rt.alloc(), words, b"a")?;
         let holds = written.as_slice() == expected.as_bytes();

@@ -104,7 +104,7 @@ fn is_rejected(alloc: Global, order: &Order, lines: &str) -> bool {
 }
 
 #[test]
-fn orders(rt: HostRuntime) -> Result<(), Fail> {
+fn the_policy_allows_one_order_and_rejects_four(rt: HostRuntime) -> Result<(), Fail> {
     let alloc = rt.alloc();
     let allowed = order(alloc, "Ada", 1, None, Some("web/de"))?;
     assert!(rt; allow_order(alloc, &allowed).is_ok());
