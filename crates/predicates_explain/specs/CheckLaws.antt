@@ -6,14 +6,7 @@ use Rattle.predicates_core.specs.LeafLaws.{exactly_text_fits, one_exactly}
 use Rattle.predicates_core.proofs.CombinedLemmas.{pair_text_fits, one_pair, has_pair}
 use Rattle.predicates_core.proofs.CombinedLemmas.{not_text_fits, one_not, has_not}
 use Rattle.predicates_text.specs.Patterns.{starts_pattern, ends_pattern, contains_pattern}
-use Rattle.predicates_text.specs.LeafFormulaLaws.{text_leaf_fits as empty_text_fits}
-use Rattle.predicates_text.specs.LeafFormulaLaws.{text_leaf_fits as starts_text_fits}
-use Rattle.predicates_text.specs.LeafFormulaLaws.{text_leaf_fits as ends_text_fits}
-use Rattle.predicates_text.specs.LeafFormulaLaws.{text_leaf_fits as contains_text_fits}
-use Rattle.predicates_text.specs.LeafFormulaLaws.{one_text_leaf as one_empty}
-use Rattle.predicates_text.specs.LeafFormulaLaws.{one_text_leaf as one_starts}
-use Rattle.predicates_text.specs.LeafFormulaLaws.{one_text_leaf as one_ends}
-use Rattle.predicates_text.specs.LeafFormulaLaws.{one_text_leaf as one_contains}
+use Rattle.predicates_text.specs.LeafFormulaLaws.{text_leaf_fits, one_text_leaf}
 use Rattle.predicates_text.specs.LeafFormulaLaws.{has_empty, has_starts, has_ends, has_contains}
 use Rattle.predicates_text.specs.ViewFormulas.{trimmed_bytes, even_bytes}
 use Rattle.predicates_explain.specs.Checks.{check_text, check_formula, HasFormula}
@@ -23,11 +16,11 @@ use Rattle.predicates_explain.specs.declared.check.TextCheck.{Normalize', Not', 
 
 pub check_text_fits : (c : TextCheck) (bytes : List ℕ) (f : Formula) → HasFormula c bytes f
     → FitsEntry (text_of f) (check_text c)
-check_text_fits (Empty p) bytes f h = empty_text_fits h
+check_text_fits (Empty p) bytes f h = text_leaf_fits h
 check_text_fits (Equals p) bytes f h = exactly_text_fits h
-check_text_fits (Starts p) bytes f h = starts_text_fits h
-check_text_fits (Ends p) bytes f h = ends_text_fits h
-check_text_fits (Contains p) bytes f h = contains_text_fits h
+check_text_fits (Starts p) bytes f h = text_leaf_fits h
+check_text_fits (Ends p) bytes f h = text_leaf_fits h
+check_text_fits (Contains p) bytes f h = text_leaf_fits h
 check_text_fits (Matches p) bytes f h = exactly_text_fits h
 check_text_fits (Trim' _ inner) bytes f h = check_text_fits inner (trimmed_bytes bytes) f h
 check_text_fits (Normalize' _ inner) bytes f h = check_text_fits inner (even_bytes bytes) f h
@@ -38,11 +31,11 @@ check_text_fits (Xor' _ left _ right) bytes f h = pair_text_fits h
 
 pub one_check : (c : TextCheck) (bytes : List ℕ) (f g : Formula) → HasFormula c bytes f
     → HasFormula c bytes g → f ≡ g
-one_check (Empty p) bytes f g h k = one_empty h k
+one_check (Empty p) bytes f g h k = one_text_leaf h k
 one_check (Equals p) bytes f g h k = one_exactly h k
-one_check (Starts p) bytes f g h k = one_starts h k
-one_check (Ends p) bytes f g h k = one_ends h k
-one_check (Contains p) bytes f g h k = one_contains h k
+one_check (Starts p) bytes f g h k = one_text_leaf h k
+one_check (Ends p) bytes f g h k = one_text_leaf h k
+one_check (Contains p) bytes f g h k = one_text_leaf h k
 one_check (Matches p) bytes f g h k = one_exactly h k
 one_check (Trim' _ inner) bytes f g h k = one_check inner (trimmed_bytes bytes) f g h k
 one_check (Normalize' _ inner) bytes f g h k = one_check inner (even_bytes bytes) f g h k
