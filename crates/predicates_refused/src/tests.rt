@@ -19,4 +19,5 @@ mod runs;
 mod stacked;
 mod streams;
 mod sweep;
+mod vet;
 mod words;

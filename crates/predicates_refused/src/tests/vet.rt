@@ -1,0 +1,228 @@
+//! Rules of a file, and runs over records.
+use super::answer::Answer;
+use super::sweep::Memory::{self, GoesOn, Perhaps, Taken};
+use super::sweep::{Call, sweep};
+use predicates_vet::settings::{Report, Settings};
+use predicates_vet::{ReadChecksError, RunFault, read_checks, run_records};
+use predicates_vet_check::RuleCheck;
+use std::alloc::{AllocError, Global};
+use std::test::Fail;
+
+// Rules that are read.
+#[derive(Clone, Copy)]
+struct Reading<'a> {
+    rules: &'a [u8],
+}
+
+// A line for each rule.
+fn lines_of(alloc: Global, checks: &[RuleCheck]) -> Result<String, AllocError> {
+    let mut lines = String::new(alloc);
+    for rule in checks {
+        let (name, text) = (rule.name.as_str(), rule.check.text());
+        let line = format!(in alloc; "{name}: {text}\n")?;
+        lines.push_str(line.as_str())?;
+    }
+    Ok(lines)
+}
+
+impl Call for Reading<'_> {
+    type Operand = ();
+
+    fn operand(&self, _alloc: Global) -> Result<(), AllocError> {
+        Ok(())
+    }
+
+    fn call(&self, alloc: Global, _operand: ()) -> Result<Answer, AllocError> {
+        match read_checks(alloc, self.rules) {
+            Ok(checks) => Ok(Answer::Text(lines_of(alloc, checks.as_slice())?)),
+            Err(ReadChecksError::Unreadable(error)) => {
+                Ok(Answer::Text(format!(in alloc; "{error}")?))
+            }
+            // A pattern is refused for want of memory too.
+            Err(_) => Err(AllocError),
+        }
+    }
+}
+
+// A name, rules, how they are told, and what reading them does with memory.
+const RULES: [(&str, &[u8], &str, Memory); 4] = [
+    (
+        "read_checks of joins and ranges",
+        b"a: /x >= 18 and not /y in [1, \"b\", null] # c\n\nb: each /l (/q == true or /r missing)",
+        "a: /x >= 18 and not /y in [1, \"b\", null]\nb: each /l (/q == true or /r missing)\n",
+        Taken,
+    ),
+    (
+        "read_checks of xor, and an escape",
+        b"a: any / (/ starts_with \"\\u0041\" xor / is_empty)\n",
+        "a: any / (/ starts_with \"A\" xor / is_empty)\n",
+        Taken,
+    ),
+    (
+        "read_checks of a pattern",
+        b"a: / matches \"T[a-z]*\"",
+        "a: / matches \"T[a-z]*\"\n",
+        GoesOn,
+    ),
+    (
+        "read_checks of a fault",
+        b"a: / exists\nb: / >=",
+        "line 2, column 8: expected a literal",
+        Taken,
+    ),
+];
+
+#[test]
+fn rules_of_a_file(rt: HostRuntime) -> Result<(), Fail> {
+    for (name, rules, expected, memory) in RULES {
+        sweep(&rt, name, &Reading { rules }, expected, memory)?;
+    }
+    Ok(())
+}
+
+// A run over records.
+#[derive(Clone, Copy)]
+struct Running<'a> {
+    rules: &'a [u8],
+    report: Report,
+    id: Option<&'a str>,
+    input: &'a [u8],
+}
+
+impl Call for Running<'_> {
+    type Operand = (Vec<RuleCheck>, Settings);
+
+    fn operand(&self, alloc: Global) -> Result<(Vec<RuleCheck>, Settings), AllocError> {
+        let Ok(checks) = read_checks(alloc, self.rules) else {
+            return Err(AllocError);
+        };
+        let id = match self.id {
+            Some(path) => Some(String::from_str(alloc, path)?),
+            None => None,
+        };
+        let report = self.report;
+        Ok((checks, Settings { report, id }))
+    }
+
+    fn call(
+        &self,
+        alloc: Global,
+        operand: (Vec<RuleCheck>, Settings),
+    ) -> Result<Answer, AllocError> {
+        let (checks, settings) = operand;
+        let mut reader = self.input;
+        let mut written = Vec::new(alloc);
+        let mut messages = Vec::new(alloc);
+        let ended = run_records(
+            alloc,
+            checks.as_slice(),
+            &settings,
+            &mut reader,
+            &mut written,
+            &mut messages,
+        );
+        match ended {
+            Ok(counts) => {
+                written.extend_from_slice(&messages)?;
+                Ok(Answer::Run(counts.status() == 0, written))
+            }
+            Err(RunFault::NoMemory) => Err(AllocError),
+            Err(_) => Ok(Answer::OtherFault),
+        }
+    }
+}
+
+const ROW: &[u8] = b"a: /x == 1 or /x == 2\nb: each /l (/ < 3)";
+
+const RECORDS: &[u8] = b"{\"x\": 3, \"l\": [1, 4]}\n{\"x\": 1, \"l\": []}\n[1";
+
+// A name, rules, a report on records, the path of their labels, the records, what is written with the messages
+// behind it, and what the run does with memory.
+const RUNS: [(&str, &[u8], Report, Option<&str>, &[u8], &str, Memory); 8] = [
+    (
+        "run_records: the first rule and a message",
+        ROW,
+        Report::First,
+        None,
+        RECORDS,
+        "false\nrecord 1: false\na = false\n  rule: /x == 1 or /x == 2 = false\n    part: /x == 1 = false\n      - found: 3\n    part: /x == 2 = false\n      - found: 3\nvet: record 3: no JSON: EOF while parsing at line 1 column 2\n",
+        Taken,
+    ),
+    (
+        "run_records: all rules under a label",
+        ROW,
+        Report::All,
+        Some("/x"),
+        b"{\"x\": 3, \"l\": [1, 4]}",
+        "false\nrecord 3: false\na = false\n  rule: /x == 1 or /x == 2 = false\n    part: /x == 1 = false\n      - found: 3\n    part: /x == 2 = false\n      - found: 3\nb = false\n  rule: each /l (/ < 3) = false\n    - index: 1\n    item: / < 3 = false\n      - found: 4\n",
+        Taken,
+    ),
+    (
+        "run_records: broken lines and no text",
+        ROW,
+        Report::Lines(false),
+        None,
+        b"{\"x\": 3}\n{\"x\": 1, \"l\": []}\n\xff",
+        "false\n{\"x\": 3}\nvet: record 3: not UTF-8\n",
+        Taken,
+    ),
+    (
+        "run_records: kept lines",
+        ROW,
+        Report::Lines(true),
+        None,
+        b"{\"x\": 3}\n{\"x\": 1, \"l\": []}\n",
+        "false\n{\"x\": 1, \"l\": []}\n",
+        Taken,
+    ),
+    (
+        "run_records: an object",
+        b"a: /x == 1",
+        Report::Json { all: false },
+        Some("/x"),
+        b"{\"x\": 3}",
+        "false\n{\"case\":{\"children\":[{\"case\":{\"children\":[],\"products\":[{\"name\":\"found\",\"value\":\"3\"}],\"result\":false,\"text\":\"/x == 1\"},\"name\":\"rule\"}],\"products\":[],\"result\":false,\"text\":\"a\"},\"holds\":false,\"record\":3}\n",
+        Taken,
+    ),
+    (
+        "run_records: an object of no case",
+        b"a: /x == 1",
+        Report::Json { all: true },
+        None,
+        b"{\"x\": 1}",
+        "true\n{\"cases\":[],\"holds\":true,\"record\":1}\n",
+        Taken,
+    ),
+    (
+        "run_records: a pattern",
+        b"a: / matches \"T[a-z]*\"",
+        Report::First,
+        None,
+        b"\"Two\"",
+        "true\n",
+        GoesOn,
+    ),
+    (
+        "run_records: nothing",
+        ROW,
+        Report::First,
+        None,
+        b"",
+        "true\n",
+        Perhaps,
+    ),
+];
+
+#[test]
+fn runs_over_records(rt: HostRuntime) -> Result<(), Fail> {
+    for (name, rules, report, id, input, expected, memory) in RUNS {
+        let call = Running {
+            rules,
+            report,
+            id,
+            input,
+        };
+        sweep(&rt, name, &call, expected, memory)?;
+    }
+    Ok(())
+}
