@@ -1,8 +1,5 @@
 //! Predicates that are read from the end of a list of postfix words.
-ghost use Rattle.predicates_boolean.specs.Join.{left_of, right_of};
-ghost use Rattle.predicates_boolean.specs.Not as Not;
-ghost use Rattle.predicates_boolean.specs.Name as Name;
-ghost use Rattle.predicates_testing.specs.OneOf.{lawful_by_type};
+ghost use Rattle.predicates_testing.specs.Level.{all_parts};
 
 use crate::answers::{Answers, ask};
 use crate::level::Level;
@@ -57,18 +54,7 @@ fn joined<P: Predicate<Item> + Drop, Item>(
 }
 
 impl<P: FromWords<W, Item>, W: Word, Item> FromWords<W, Item> for Level<P, Item> {
-    ghost always_lawful = { λ p. lawful_by_type
-        P.always_lawful
-        (lawful_by_type
-        (lawful_by_type
-        (λ q. P.always_lawful (Not.inner_of q))
-        (λ q. P.always_lawful (Name.inner_of q)))
-        (lawful_by_type
-        (λ q. (P.always_lawful (left_of q), P.always_lawful (right_of q)))
-        (lawful_by_type
-        (λ q. (P.always_lawful (left_of q), P.always_lawful (right_of q)))
-        (λ q. (P.always_lawful (left_of q), P.always_lawful (right_of q))))))
-        p.node };
+    ghost always_lawful = { λ p. all_parts P.always_lawful p.node };
 
     fn from_words(alloc: Global, words: &mut Vec<W>) -> Result<Option<Level<P, Item>>, AllocError> {
         let combinator = pop_combinator(words);

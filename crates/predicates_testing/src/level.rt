@@ -1,4 +1,6 @@
 //! A predicate of the level below, or a combinator of the library over such predicates.
+ghost use Rattle.predicates_testing.specs.Level.{level_text_fits, one_of_level};
+
 use crate::one_of::OneOf;
 use predicates::boolean::{
     AndPredicate, NotPredicate, OrPredicate, PredicateBooleanExt, XorPredicate,
@@ -12,20 +14,18 @@ use std::fmt;
 
 type Named<P, Item> = NamePredicate<P, Item, StaticText>;
 
-type NotOrNamed<P, Item> = OneOf<NotPredicate<P, Item>, Named<P, Item>>;
+type One<P, Item> = OneOf<NotPredicate<P, Item>, Named<P, Item>>;
 
-type OrOrXor<P, Item> = OneOf<OrPredicate<P, P, Item>, XorPredicate<P, P, Item>>;
+type Choice<P, Item> = OneOf<OrPredicate<P, P, Item>, XorPredicate<P, P, Item>>;
 
-type Join<P, Item> = OneOf<AndPredicate<P, P, Item>, OrOrXor<P, Item>>;
+type Both<P, Item> = OneOf<AndPredicate<P, P, Item>, Choice<P, Item>>;
 
-type Combinator<P, Item> = OneOf<NotOrNamed<P, Item>, Join<P, Item>>;
-
-type Node<P, Item> = OneOf<P, Combinator<P, Item>>;
+type Combined<P, Item> = OneOf<One<P, Item>, Both<P, Item>>;
 
 /// A predicate of the level below, or a combinator of the library over such predicates.
 #[derive(Drop)]
 pub struct Level<P, Item> {
-    node: Node<P, Item>,
+    node: OneOf<P, Combined<P, Item>>,
 }
 
 impl<P, Item> Level<P, Item> {
@@ -40,47 +40,44 @@ impl<P, Item> Level<P, Item> {
 impl<P: Predicate<Item> + Drop, Item> Level<P, Item> {
     /// The opposite of the part; takes memory for the node.
     pub fn not(alloc: Global, part: P) -> Result<Level<P, Item>, AllocError> {
-        Level::of_not_or_named(alloc, OneOf::First(part.not()))
+        Level::of_one(alloc, OneOf::First(part.not()))
     }
 
     /// The part under a name; takes memory for the node.
     pub fn name(alloc: Global, part: P, name: StaticText) -> Result<Level<P, Item>, AllocError> {
         let named = Box::new(alloc, part.name(name))?;
-        Level::of_not_or_named(alloc, OneOf::Second(named))
+        Level::of_one(alloc, OneOf::Second(named))
     }
 
     /// Both parts; takes memory for the node.
     pub fn and(alloc: Global, left: P, right: P) -> Result<Level<P, Item>, AllocError> {
-        Level::of_join(alloc, OneOf::First(left.and(right)))
+        Level::of_both(alloc, OneOf::First(left.and(right)))
     }
 
     /// At least one part; takes memory for the node.
     pub fn or(alloc: Global, left: P, right: P) -> Result<Level<P, Item>, AllocError> {
-        Level::of_or_or_xor(alloc, OneOf::First(left.or(right)))
+        Level::of_choice(alloc, OneOf::First(left.or(right)))
     }
 
     /// Exactly one part; takes memory for the node.
     pub fn xor(alloc: Global, left: P, right: P) -> Result<Level<P, Item>, AllocError> {
         let xor = Box::new(alloc, left.xor(right))?;
-        Level::of_or_or_xor(alloc, OneOf::Second(xor))
+        Level::of_choice(alloc, OneOf::Second(xor))
     }
 
-    fn of_not_or_named(
-        alloc: Global,
-        node: NotOrNamed<P, Item>,
-    ) -> Result<Level<P, Item>, AllocError> {
-        Level::over(alloc, OneOf::First(node))
+    fn of_one(alloc: Global, one: One<P, Item>) -> Result<Level<P, Item>, AllocError> {
+        Level::over(alloc, OneOf::First(one))
     }
 
-    fn of_or_or_xor(alloc: Global, node: OrOrXor<P, Item>) -> Result<Level<P, Item>, AllocError> {
-        Level::of_join(alloc, OneOf::Second(Box::new(alloc, node)?))
+    fn of_choice(alloc: Global, choice: Choice<P, Item>) -> Result<Level<P, Item>, AllocError> {
+        Level::of_both(alloc, OneOf::Second(Box::new(alloc, choice)?))
     }
 
-    fn of_join(alloc: Global, node: Join<P, Item>) -> Result<Level<P, Item>, AllocError> {
-        Level::over(alloc, OneOf::Second(Box::new(alloc, node)?))
+    fn of_both(alloc: Global, both: Both<P, Item>) -> Result<Level<P, Item>, AllocError> {
+        Level::over(alloc, OneOf::Second(Box::new(alloc, both)?))
     }
 
-    fn over(alloc: Global, node: Combinator<P, Item>) -> Result<Level<P, Item>, AllocError> {
+    fn over(alloc: Global, node: Combined<P, Item>) -> Result<Level<P, Item>, AllocError> {
         Ok(Level {
             node: OneOf::Second(Box::new(alloc, node)?),
         })
@@ -88,7 +85,7 @@ impl<P: Predicate<Item> + Drop, Item> Level<P, Item> {
 }
 
 impl<P: fmt::Display, Item> fmt::Display for Level<P, Item> {
-    ghost output = { λ p. ⟦<Node<P, Item> as fmt::Display>⟧.output p.node };
+    ghost output = { λ p. ⟦<OneOf<P, Combined<P, Item>> as fmt::Display>⟧.output p.node };
 
     fn fmt<W: fmt::Write>(&self, f: &mut fmt::Formatter<W>) -> fmt::Result {
         self.node.fmt(f)
@@ -96,9 +93,9 @@ impl<P: fmt::Display, Item> fmt::Display for Level<P, Item> {
 }
 
 impl<P: PredicateReflection, Item> PredicateReflection for Level<P, Item> {
-    ghost parameters_of = { λ p. ⟦<Node<P, Item> as PredicateReflection>⟧.parameters_of p.node };
+    ghost parameters_of = { λ p. ⟦<OneOf<P, Combined<P, Item>> as PredicateReflection>⟧.parameters_of p.node };
 
-    ghost children_of = { λ p. ⟦<Node<P, Item> as PredicateReflection>⟧.children_of
+    ghost children_of = { λ p. ⟦<OneOf<P, Combined<P, Item>> as PredicateReflection>⟧.children_of
         p.node };
 
     fn parameters(&self, alloc: Global) -> Result<Vec<Parameter>, AllocError> {
@@ -111,15 +108,17 @@ impl<P: PredicateReflection, Item> PredicateReflection for Level<P, Item> {
 }
 
 impl<P: Predicate<Item>, Item> Predicate<Item> for Level<P, Item> {
-    ghost lawful = { λ p. ⟦<Node<P, Item> as Predicate<Item>>⟧.lawful p.node };
+    ghost lawful = { λ p. ⟦<OneOf<P, Combined<P, Item>> as Predicate<Item>>⟧.lawful p.node };
 
-    ghost formula = { λ p. ⟦<Node<P, Item> as Predicate<Item>>⟧.formula p.node };
+    ghost formula = { λ p. ⟦<OneOf<P, Combined<P, Item>> as Predicate<Item>>⟧.formula p.node };
 
-    ghost infallible = { λ p. ⟦<Node<P, Item> as Predicate<Item>>⟧.infallible p.node };
+    ghost infallible = { λ p. ⟦<OneOf<P, Combined<P, Item>> as Predicate<Item>>⟧.infallible p.node };
 
-    ghost text_fits = { λ p. ⟦<Node<P, Item> as Predicate<Item>>⟧.text_fits p.node };
+    ghost text_fits = { λ p v f. level_text_fits P.output (λ q. P.formula q v)
+        (λ q. P.text_fits q v) p.node f };
 
-    ghost one_formula = { λ p. ⟦<Node<P, Item> as Predicate<Item>>⟧.one_formula p.node };
+    ghost one_formula = { λ p v f g. one_of_level P.output (λ q. P.formula q v)
+        (λ q. P.one_formula q v) p.node f g };
 
     fn eval(&self, alloc: Global, item: &Item) -> Result<bool, AllocError> {
         self.node.eval(alloc, item)

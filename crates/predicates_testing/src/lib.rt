@@ -11,7 +11,6 @@ mod from_words;
 mod helpers;
 mod kept_leaves;
 mod level;
-mod list_leaf;
 mod lists;
 mod number_leaf;
 mod numbers;

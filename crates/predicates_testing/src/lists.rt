@@ -1,35 +1,68 @@
 //! What the library's predicates over lists of numbers answer, and the formulas that they have.
 //!
-//! Their words are those of a predicate over numbers, `each` or `any` behind them, and combinators
-//! of such predicates.
-use crate::answers::Answers;
-use crate::from_words::{Word, answer};
+//! Their words are those of a predicate over numbers, and `each` or `any` behind them.
+use crate::answers::{Answers, ask};
+use crate::from_words::FromWords;
 use crate::level::Level;
-use crate::list_leaf::ListLeaf;
-use crate::numbers::{combine, number_formula, only};
+use crate::number_leaf::NumberLeaf;
+use crate::numbers::number_formula;
 use crate::reference::ReferenceFormula;
 use crate::words::NumberWord;
+use predicates::part::PredicatePartExt;
 use std::alloc::{AllocError, Global};
 
-type List = Level<Level<ListLeaf, Vec<i64>>, Vec<i64>>;
+type Member = Level<Level<NumberLeaf, i64>, i64>;
 
-/// What the predicate of the words answers about a list, which is made of the library's own types
-/// at every node; none where the words are not one predicate over lists, or where it is too deep.
-pub fn answer_list(
-    alloc: Global,
-    words: Vec<NumberWord>,
-    list: &Vec<i64>,
-) -> Result<Option<Answers>, AllocError> {
-    answer::<List, NumberWord, Vec<i64>>(alloc, words, list)
+// Whether the last word is `each`; none where it is another than `each` and `any`.
+fn is_each(words: &[NumberWord]) -> Option<bool> {
+    match words {
+        [.., NumberWord::Each] => Some(true),
+        [.., NumberWord::Any] => Some(false),
+        _ => None,
+    }
 }
 
-// The formula of what the words mean of each member, or of one; none where they mean nothing.
-fn members_formula(
+// What a predicate of each member, or of one, answers.
+fn ask_members<P: FromWords<NumberWord, i64>>(
     alloc: Global,
-    of_member: &[NumberWord],
+    member: P,
     is_each: bool,
+    list: &Vec<i64>,
+) -> Result<Answers, AllocError> {
+    if is_each {
+        ask(alloc, &member.of_each(), list)
+    } else {
+        ask(alloc, &member.of_any(), list)
+    }
+}
+
+/// What the predicate of the words answers about a list; none where the words are not one predicate
+/// over lists, or where it is too deep.
+pub fn answer_list(
+    alloc: Global,
+    mut words: Vec<NumberWord>,
+    list: &Vec<i64>,
+) -> Result<Option<Answers>, AllocError> {
+    let Some(is_each) = is_each(words.as_slice()) else {
+        return Ok(None);
+    };
+    words.pop();
+    let member: Option<Member> = Member::from_words(alloc, &mut words)?;
+    match member {
+        Some(member) if words.is_empty() => Ok(Some(ask_members(alloc, member, is_each, list)?)),
+        _ => Ok(None),
+    }
+}
+
+/// The formula that the words mean on a list; none where they are not one predicate over lists.
+pub fn list_formula(
+    alloc: Global,
+    words: &[NumberWord],
     list: &[i64],
 ) -> Result<Option<ReferenceFormula>, AllocError> {
+    let (Some(is_each), [of_member @ .., _]) = (is_each(words), words) else {
+        return Ok(None);
+    };
     if list.is_empty() {
         return Ok(Some(ReferenceFormula::Leaf(is_each)));
     }
@@ -46,37 +79,4 @@ fn members_formula(
         };
     }
     Ok(Some(ReferenceFormula::Members(Box::new(alloc, members)?)))
-}
-
-/// The formula that the words mean on a list; none where they are not one predicate over lists.
-pub fn list_formula(
-    alloc: Global,
-    words: &[NumberWord],
-    list: &[i64],
-) -> Result<Option<ReferenceFormula>, AllocError> {
-    let mut stack = Vec::new(alloc);
-    // Where the words about a member begin, behind the last word about lists.
-    let mut begin = 0;
-    for (place, word) in words.iter().enumerate() {
-        let made = match word.is_each() {
-            Some(is_each) => match words.get(begin..place) {
-                Some(of_member) => members_formula(alloc, of_member, is_each, list)?,
-                None => None,
-            },
-            None if begin == place && word.combinator().is_some() => {
-                combine(alloc, word, &mut stack)?
-            }
-            None => continue,
-        };
-        let Some(made) = made else {
-            return Ok(None);
-        };
-        stack.push(made)?;
-        begin = place.saturating_add(1);
-    }
-    Ok(if begin == words.len() {
-        only(stack)
-    } else {
-        None
-    })
 }

@@ -1,5 +1,6 @@
 //! A leaf of the library over numbers.
-ghost use Rattle.predicates_testing.specs.OneOf.{lawful_by_type};
+ghost use Rattle.predicates_core.specs.LeafLaws.{exactly_text_fits, one_exactly};
+ghost use Rattle.predicates_testing.specs.OneOf.{lawful_by_type, text_fits_by_type, one_by_type};
 
 use crate::at_least::AtLeast;
 use crate::from_words::FromWords;
@@ -15,15 +16,15 @@ use std::fmt;
 
 type Comparison = OneOf<EqPredicate<i64>, OrdPredicate<i64>>;
 
-type ConstantOrComparison = OneOf<BooleanPredicate<i64>, Comparison>;
+type Plain = OneOf<BooleanPredicate<i64>, Comparison>;
 
-type ListMembership = OneOf<InPredicate<i64>, OrdInPredicate<i64>>;
+type Ordered = OneOf<InPredicate<i64>, OrdInPredicate<i64>>;
 
-type SetOrFunction = OneOf<HashableInPredicate<i64>, AtLeast>;
+type Other = OneOf<HashableInPredicate<i64>, AtLeast>;
 
-type MembershipOrFunction = OneOf<ListMembership, SetOrFunction>;
+type Asked = OneOf<Ordered, Other>;
 
-type Leaf = OneOf<ConstantOrComparison, MembershipOrFunction>;
+type Leaf = OneOf<Plain, Asked>;
 
 /// A leaf of the library over numbers.
 #[derive(Drop)]
@@ -39,11 +40,11 @@ fn order(alloc: Global, leaf: OrdPredicate<i64>) -> Result<Leaf, AllocError> {
     comparison(alloc, OneOf::second(alloc, leaf)?)
 }
 
-fn list_membership(alloc: Global, leaf: ListMembership) -> Result<Leaf, AllocError> {
+fn ordered(alloc: Global, leaf: Ordered) -> Result<Leaf, AllocError> {
     OneOf::second(alloc, OneOf::First(leaf))
 }
 
-fn set_or_function(alloc: Global, leaf: SetOrFunction) -> Result<Leaf, AllocError> {
+fn other(alloc: Global, leaf: Other) -> Result<Leaf, AllocError> {
     OneOf::second(alloc, OneOf::second(alloc, leaf)?)
 }
 
@@ -58,15 +59,12 @@ fn leaf_of_word(alloc: Global, word: NumberWord) -> Result<Option<Leaf>, AllocEr
         NumberWord::AtMost(c) => order(alloc, le(c))?,
         NumberWord::AtLeast(c) => order(alloc, ge(c))?,
         NumberWord::Greater(c) => order(alloc, gt(c))?,
-        NumberWord::Called(constant) => set_or_function(
-            alloc,
-            OneOf::second(alloc, AtLeast { constant })?,
-        )?,
-        NumberWord::Listed(list) => list_membership(alloc, OneOf::First(in_iter(alloc, list)?))?,
+        NumberWord::Called(constant) => other(alloc, OneOf::second(alloc, AtLeast { constant })?)?,
+        NumberWord::Listed(list) => ordered(alloc, OneOf::First(in_iter(alloc, list)?))?,
         NumberWord::Sorted(list) => {
-            list_membership(alloc, OneOf::second(alloc, in_iter(alloc, list)?.sort()?)?)?
+            ordered(alloc, OneOf::second(alloc, in_iter(alloc, list)?.sort()?)?)?
         }
-        NumberWord::Hashed(list) => set_or_function(alloc, OneOf::First(in_hash(alloc, list)?))?,
+        NumberWord::Hashed(list) => other(alloc, OneOf::First(in_hash(alloc, list)?))?,
         _ => return Ok(None),
     }))
 }
@@ -100,9 +98,25 @@ impl Predicate<i64> for NumberLeaf {
 
     ghost infallible = { λ p. ⟦<Leaf as Predicate<i64>>⟧.infallible p.leaf };
 
-    ghost text_fits = { λ p. ⟦<Leaf as Predicate<i64>>⟧.text_fits p.leaf };
+    ghost text_fits = { λ p v f. text_fits_by_type
+        (λ q. ⟦<Plain as Predicate<i64>>⟧.formula q v)
+        (λ q. ⟦<Asked as Predicate<i64>>⟧.formula q v) _ _
+        (text_fits_by_type _ _ _ _
+        (λ q g h. exactly_text_fits h)
+        (text_fits_by_type _ _ _ _ (λ q g h. exactly_text_fits h) (λ q g h. exactly_text_fits h)))
+        (text_fits_by_type _ _ _ _
+        (text_fits_by_type _ _ _ _ (λ q g h. exactly_text_fits h) (λ q g h. exactly_text_fits h))
+        (text_fits_by_type _ _ _ _ (λ q g h. exactly_text_fits h) (λ q g h. exactly_text_fits h)))
+        p.leaf f };
 
-    ghost one_formula = { λ p. ⟦<Leaf as Predicate<i64>>⟧.one_formula p.leaf };
+    ghost one_formula = { λ p v f g. one_by_type
+        (one_by_type
+        (λ q h k lawful. one_exactly)
+        (one_by_type (λ q h k lawful. one_exactly) (λ q h k lawful. one_exactly)))
+        (one_by_type
+        (one_by_type (λ q h k lawful. one_exactly) (λ q h k lawful. one_exactly))
+        (one_by_type (λ q h k lawful. one_exactly) (λ q h k lawful. one_exactly)))
+        p.leaf f g };
 
     fn eval(&self, alloc: Global, item: &i64) -> Result<bool, AllocError> {
         self.leaf.eval(alloc, item)

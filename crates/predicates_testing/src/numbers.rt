@@ -39,8 +39,8 @@ pub fn answer_number(
     answer::<Deep, NumberWord, i64>(alloc, words, &item)
 }
 
-/// The only value of a stack that holds one.
-pub fn only<T: Drop>(mut stack: Vec<T>) -> Option<T> {
+// The only value of a stack that holds one.
+fn only<T: Drop>(mut stack: Vec<T>) -> Option<T> {
     let last = stack.pop()?;
     if stack.is_empty() { Some(last) } else { None }
 }
@@ -64,9 +64,9 @@ fn leaf_truth(word: &NumberWord, item: i64) -> Option<bool> {
     })
 }
 
-/// The formula of a combinator over the last ones of the stack; none where there are too few, or
-/// where the word names no combinator.
-pub fn combine(
+// The formula of a combinator over the last ones of the stack; none where there are too few, or
+// where the word names no combinator.
+fn combine(
     alloc: Global,
     word: &NumberWord,
     stack: &mut Vec<ReferenceFormula>,

@@ -1,5 +1,10 @@
 //! A leaf of the library over texts.
-ghost use Rattle.predicates_testing.specs.OneOf.{lawful_by_type};
+ghost use Rattle.predicates_core.specs.LeafLaws.{exactly_text_fits, one_exactly};
+ghost use Rattle.predicates_text.specs.LeafFormulaLaws.{empty_text_fits, starts_text_fits};
+ghost use Rattle.predicates_text.specs.LeafFormulaLaws.{ends_text_fits, contains_text_fits};
+ghost use Rattle.predicates_text.specs.LeafFormulaLaws.{counted_text_fits, one_empty, one_starts};
+ghost use Rattle.predicates_text.specs.LeafFormulaLaws.{one_ends, one_contains, one_counted};
+ghost use Rattle.predicates_testing.specs.OneOf.{lawful_by_type, text_fits_by_type, one_by_type};
 
 use crate::from_words::FromWords;
 use crate::one_of::OneOf;
@@ -17,15 +22,15 @@ use std::fmt;
 
 type Comparison = OneOf<EqPredicate<String>, OrdPredicate<String>>;
 
-type ConstantOrComparison = OneOf<BooleanPredicate<String>, Comparison>;
+type Plain = OneOf<BooleanPredicate<String>, Comparison>;
 
-type End = OneOf<StartsWithPredicate, EndsWithPredicate>;
+type Ending = OneOf<StartsWithPredicate, EndsWithPredicate>;
 
-type Occurrence = OneOf<ContainsPredicate, MatchesPredicate>;
+type Part = OneOf<ContainsPredicate, MatchesPredicate>;
 
-type Pattern = OneOf<End, Occurrence>;
+type Asked = OneOf<IsEmptyPredicate, OneOf<Ending, Part>>;
 
-type Leaf = OneOf<ConstantOrComparison, OneOf<IsEmptyPredicate, Pattern>>;
+type Leaf = OneOf<Plain, Asked>;
 
 /// A leaf of the library over texts.
 #[derive(Drop)]
@@ -41,16 +46,16 @@ fn order(alloc: Global, leaf: OrdPredicate<String>) -> Result<Leaf, AllocError> 
     comparison(alloc, OneOf::second(alloc, leaf)?)
 }
 
-fn pattern(alloc: Global, leaf: Pattern) -> Result<Leaf, AllocError> {
+fn found(alloc: Global, leaf: OneOf<Ending, Part>) -> Result<Leaf, AllocError> {
     OneOf::second(alloc, OneOf::second(alloc, leaf)?)
 }
 
-fn end(alloc: Global, leaf: End) -> Result<Leaf, AllocError> {
-    pattern(alloc, OneOf::First(leaf))
+fn ending(alloc: Global, leaf: Ending) -> Result<Leaf, AllocError> {
+    found(alloc, OneOf::First(leaf))
 }
 
-fn occurrence(alloc: Global, leaf: Occurrence) -> Result<Leaf, AllocError> {
-    pattern(alloc, OneOf::second(alloc, leaf)?)
+fn part(alloc: Global, leaf: Part) -> Result<Leaf, AllocError> {
+    found(alloc, OneOf::second(alloc, leaf)?)
 }
 
 // The leaf that a word names; none where it names an adapter or a combinator.
@@ -65,11 +70,11 @@ fn leaf_of_word(alloc: Global, word: TextWord) -> Result<Option<Leaf>, AllocErro
         TextWord::AtMost(c) => order(alloc, le(c))?,
         TextWord::AtLeast(c) => order(alloc, ge(c))?,
         TextWord::Greater(c) => order(alloc, gt(c))?,
-        TextWord::Starts(p) => end(alloc, OneOf::First(starts_with(p)))?,
-        TextWord::Ends(p) => end(alloc, OneOf::second(alloc, ends_with(p))?)?,
-        TextWord::Contains(p) => occurrence(alloc, OneOf::First(contains(p)))?,
+        TextWord::Starts(p) => ending(alloc, OneOf::First(starts_with(p)))?,
+        TextWord::Ends(p) => ending(alloc, OneOf::second(alloc, ends_with(p))?)?,
+        TextWord::Contains(p) => part(alloc, OneOf::First(contains(p)))?,
         TextWord::Counted(p, count) => {
-            occurrence(alloc, OneOf::second(alloc, contains(p).count(count))?)?
+            part(alloc, OneOf::second(alloc, contains(p).count(count))?)?
         }
         _ => return Ok(None),
     }))
@@ -104,9 +109,29 @@ impl Predicate<String> for TextLeaf {
 
     ghost infallible = { λ p. ⟦<Leaf as Predicate<String>>⟧.infallible p.leaf };
 
-    ghost text_fits = { λ p. ⟦<Leaf as Predicate<String>>⟧.text_fits p.leaf };
+    ghost text_fits = { λ p v f. text_fits_by_type
+        (λ q. ⟦<Plain as Predicate<String>>⟧.formula q v)
+        (λ q. ⟦<Asked as Predicate<String>>⟧.formula q v) _ _
+        (text_fits_by_type _ _ _ _
+        (λ q g h. exactly_text_fits h)
+        (text_fits_by_type _ _ _ _ (λ q g h. exactly_text_fits h) (λ q g h. exactly_text_fits h)))
+        (text_fits_by_type _ _ _ _
+        (λ q g h. empty_text_fits h)
+        (text_fits_by_type _ _ _ _
+        (text_fits_by_type _ _ _ _ (λ q g h. starts_text_fits h) (λ q g h. ends_text_fits h))
+        (text_fits_by_type _ _ _ _ (λ q g h. contains_text_fits h) (λ q g h. counted_text_fits h))))
+        p.leaf f };
 
-    ghost one_formula = { λ p. ⟦<Leaf as Predicate<String>>⟧.one_formula p.leaf };
+    ghost one_formula = { λ p v f g. one_by_type
+        (one_by_type
+        (λ q h k lawful. one_exactly)
+        (one_by_type (λ q h k lawful. one_exactly) (λ q h k lawful. one_exactly)))
+        (one_by_type
+        (λ q h k lawful. one_empty)
+        (one_by_type
+        (one_by_type (λ q h k lawful. one_starts) (λ q h k lawful. one_ends))
+        (one_by_type (λ q h k lawful. one_contains) (λ q h k lawful. one_counted))))
+        p.leaf f g };
 
     fn eval(&self, alloc: Global, item: &String) -> Result<bool, AllocError> {
         self.leaf.eval(alloc, item)

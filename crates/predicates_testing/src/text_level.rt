@@ -1,4 +1,10 @@
 //! A predicate of texts of the level below, or a combinator or an adapter of the library over such.
+ghost use Rattle.predicates_text.specs.ViewFormulaLaws.{each_text_fits, one_each};
+ghost use Rattle.predicates_text.specs.AdapterParts.{inner_of};
+ghost use Rattle.predicates_text.specs.ViewTexts.{has_trimmed, has_even_lines};
+ghost use Rattle.predicates_testing.specs.Level.{level_text_fits, one_of_level};
+ghost use Rattle.predicates_testing.specs.OneOf.{text_fits_by_type, one_by_type};
+
 use crate::level::Level;
 use crate::one_of::OneOf;
 use predicates::str::{NormalizedPredicate, PredicateStrExt, TrimPredicate};
@@ -7,14 +13,12 @@ use predicates_core::reflection::{Case, Child, Parameter, PredicateReflection};
 use std::alloc::{AllocError, Global};
 use std::fmt;
 
-type View<P> = OneOf<TrimPredicate<P>, NormalizedPredicate<P>>;
-
-type Node<P> = OneOf<Level<P, String>, View<P>>;
+type Handed<P> = OneOf<TrimPredicate<P>, NormalizedPredicate<P>>;
 
 /// A predicate of texts of the level below, or a combinator or an adapter of the library over such.
 #[derive(Drop)]
 pub struct TextLevel<P> {
-    node: Node<P>,
+    node: OneOf<Level<P, String>, Handed<P>>,
 }
 
 impl<P> TextLevel<P> {
@@ -38,7 +42,7 @@ impl<P: Predicate<String> + Drop> TextLevel<P> {
         TextLevel::over(alloc, OneOf::Second(normalized))
     }
 
-    fn over(alloc: Global, node: View<P>) -> Result<TextLevel<P>, AllocError> {
+    fn over(alloc: Global, node: Handed<P>) -> Result<TextLevel<P>, AllocError> {
         Ok(TextLevel {
             node: OneOf::Second(Box::new(alloc, node)?),
         })
@@ -46,7 +50,7 @@ impl<P: Predicate<String> + Drop> TextLevel<P> {
 }
 
 impl<P: fmt::Display> fmt::Display for TextLevel<P> {
-    ghost output = { λ p. ⟦<Node<P> as fmt::Display>⟧.output p.node };
+    ghost output = { λ p. ⟦<OneOf<Level<P, String>, Handed<P>> as fmt::Display>⟧.output p.node };
 
     fn fmt<W: fmt::Write>(&self, f: &mut fmt::Formatter<W>) -> fmt::Result {
         self.node.fmt(f)
@@ -54,9 +58,9 @@ impl<P: fmt::Display> fmt::Display for TextLevel<P> {
 }
 
 impl<P: PredicateReflection> PredicateReflection for TextLevel<P> {
-    ghost parameters_of = { λ p. ⟦<Node<P> as PredicateReflection>⟧.parameters_of p.node };
+    ghost parameters_of = { λ p. ⟦<OneOf<Level<P, String>, Handed<P>> as PredicateReflection>⟧.parameters_of p.node };
 
-    ghost children_of = { λ p. ⟦<Node<P> as PredicateReflection>⟧.children_of p.node };
+    ghost children_of = { λ p. ⟦<OneOf<Level<P, String>, Handed<P>> as PredicateReflection>⟧.children_of p.node };
 
     fn parameters(&self, alloc: Global) -> Result<Vec<Parameter>, AllocError> {
         self.node.parameters(alloc)
@@ -68,16 +72,38 @@ impl<P: PredicateReflection> PredicateReflection for TextLevel<P> {
 }
 
 impl<P: Predicate<String>> Predicate<String> for TextLevel<P> {
-    ghost lawful = { λ p. ⟦<Node<P> as Predicate<String>>⟧.lawful p.node };
+    ghost lawful = { λ p. ⟦<OneOf<Level<P, String>, Handed<P>> as Predicate<String>>⟧.lawful p.node };
 
-    ghost formula = { λ p. ⟦<Node<P> as Predicate<String>>⟧.formula
+    ghost formula = { λ p. ⟦<OneOf<Level<P, String>, Handed<P>> as Predicate<String>>⟧.formula
         p.node };
 
-    ghost infallible = { λ p. ⟦<Node<P> as Predicate<String>>⟧.infallible p.node };
+    ghost infallible = { λ p. ⟦<OneOf<Level<P, String>, Handed<P>> as Predicate<String>>⟧.infallible p.node };
 
-    ghost text_fits = { λ p. ⟦<Node<P> as Predicate<String>>⟧.text_fits p.node };
+    ghost text_fits = { λ p v f. text_fits_by_type
+        (λ q. ⟦<Level<P, String> as Predicate<String>>⟧.formula q v)
+        (λ q. ⟦<Handed<P> as Predicate<String>>⟧.formula q v)
+        ⟦<Level<P, String> as fmt::Display>⟧.output
+        ⟦<Handed<P> as fmt::Display>⟧.output
+        (λ l. level_text_fits P.output (λ q. P.formula q v) (λ q. P.text_fits q v) l.node)
+        (text_fits_by_type
+        (λ q. ⟦<TrimPredicate<P> as Predicate<String>>⟧.formula q v)
+        (λ q. ⟦<NormalizedPredicate<P> as Predicate<String>>⟧.formula q v)
+        ⟦<TrimPredicate<P> as fmt::Display>⟧.output
+        ⟦<NormalizedPredicate<P> as fmt::Display>⟧.output
+        (λ q g h. each_text_fits (P.output (inner_of q)) (has_trimmed v)
+        (λ t. P.text_fits (inner_of q) t g) h)
+        (λ q g h. each_text_fits (P.output (inner_of q)) (has_even_lines v)
+        (λ t. P.text_fits (inner_of q) t g) h))
+        p.node f };
 
-    ghost one_formula = { λ p. ⟦<Node<P> as Predicate<String>>⟧.one_formula p.node };
+    ghost one_formula = { λ p v f g. one_by_type
+        (λ l. one_of_level P.output (λ q. P.formula q v) (λ q. P.one_formula q v) l.node)
+        (one_by_type
+        (λ q h k lawful x y. one_each (has_trimmed v)
+        (λ t. P.one_formula (inner_of q) t h k lawful) x y)
+        (λ q h k lawful x y. one_each (has_even_lines v)
+        (λ t. P.one_formula (inner_of q) t h k lawful) x y))
+        p.node f g };
 
     fn eval(&self, alloc: Global, item: &String) -> Result<bool, AllocError> {
         self.node.eval(alloc, item)

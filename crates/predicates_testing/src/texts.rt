@@ -1,5 +1,6 @@
 //! What the library's predicates over texts and bytes answer.
 ghost use Rattle.predicates_text.specs.AdapterParts.{inner_of};
+ghost use Rattle.predicates_testing.specs.Level.{all_parts};
 ghost use Rattle.predicates_testing.specs.OneOf.{lawful_by_type};
 
 use crate::answers::Answers;
@@ -31,7 +32,7 @@ fn pop_adapter(words: &mut Vec<TextWord>) -> Option<Adapter> {
 
 impl<P: FromWords<TextWord, String>> FromWords<TextWord, String> for TextLevel<P> {
     ghost always_lawful = { λ p. lawful_by_type
-        ⟦<Level<P, String> as FromWords<TextWord, String>>⟧.always_lawful
+        (λ l. all_parts P.always_lawful l.node)
         (lawful_by_type
         (λ q. P.always_lawful (inner_of q))
         (λ q. P.always_lawful (inner_of q)))

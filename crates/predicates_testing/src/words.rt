@@ -31,18 +31,6 @@ pub enum NumberWord {
     Xor,
 }
 
-impl NumberWord {
-    /// Whether the word asks for each member of a list and not for one; none where it asks for
-    /// neither.
-    pub fn is_each(&self) -> Option<bool> {
-        match self {
-            NumberWord::Each => Some(true),
-            NumberWord::Any => Some(false),
-            _ => None,
-        }
-    }
-}
-
 fn bare_word(word: &str) -> Option<NumberWord> {
     Some(match word {
         "always" => NumberWord::Always,

@@ -90,6 +90,33 @@ fn explains_combined(alloc: Global, lines: &str) -> Result<bool, AllocError> {
     explains(alloc, &each.and(old.not()), &list, lines)
 }
 
+// Whether exactly one of them is explained by the lines.
+fn explains_exclusive(alloc: Global, lines: &str) -> Result<bool, AllocError> {
+    let list = Vec::from_slice(alloc, &[20, 70])?;
+    let one = predicate::ge(18u32)
+        .of_each()
+        .xor(predicate::ge(65u32).of_any());
+    explains(alloc, &one, &list, lines)
+}
+
+#[test]
+fn members_under_xor(rt: HostRuntime) -> Result<(), Fail> {
+    let lines = "\
+(each(var >= 18) ^ any(var >= 65)) = false
+  left: each(var >= 18) = true
+    item: var >= 18 = true
+      - var: 20
+    item: var >= 18 = true
+      - var: 70
+  right: any(var >= 65) = true
+    - index: 1
+    item: var >= 65 = true
+      - var: 70
+";
+    assert!(rt; explains_exclusive(rt.alloc(), lines)?);
+    Ok(())
+}
+
 #[test]
 fn members_under_other_predicates(rt: HostRuntime) -> Result<(), Fail> {
     let alloc = rt.alloc();
@@ -137,7 +164,7 @@ fn explains_rules(
 }
 
 #[test]
-fn all_of_and_any_of_rules(rt: HostRuntime) -> Result<(), Fail> {
+fn rules(rt: HostRuntime) -> Result<(), Fail> {
     let alloc = rt.alloc();
     let all = "\
 all_of(var >= 1, var >= 5, var >= 9) = false
@@ -257,7 +284,7 @@ fn explains_outcome(
 }
 
 #[test]
-fn parts_of_ok_and_of_err(rt: HostRuntime) -> Result<(), Fail> {
+fn outcomes(rt: HostRuntime) -> Result<(), Fail> {
     for (outcome, ok, err) in [
         (
             Ok(20u32),
@@ -291,7 +318,7 @@ fn explains_length(
 }
 
 #[test]
-fn lengths_of_texts_and_of_lists(rt: HostRuntime) -> Result<(), Fail> {
+fn lengths(rt: HostRuntime) -> Result<(), Fail> {
     let alloc = rt.alloc();
     let lines = "len = true\n  len: var <= 3 = true\n    - var: 2\n";
     assert!(rt; explains_length(alloc, "ä", &[1, 2], lines)?);
