@@ -1,9 +1,7 @@
 //! A leaf of the library over texts.
 ghost use Rattle.predicates_core.specs.LeafLaws.{exactly_text_fits, one_exactly};
-ghost use Rattle.predicates_text.specs.LeafFormulaLaws.{empty_text_fits, starts_text_fits};
-ghost use Rattle.predicates_text.specs.LeafFormulaLaws.{ends_text_fits, contains_text_fits};
-ghost use Rattle.predicates_text.specs.LeafFormulaLaws.{counted_text_fits, one_empty, one_starts};
-ghost use Rattle.predicates_text.specs.LeafFormulaLaws.{one_ends, one_contains, one_counted};
+ghost use Rattle.predicates_text.specs.LeafFormulaLaws.{text_leaf_fits, one_text_leaf};
+ghost use Rattle.predicates_text.specs.LeafFormulaLaws.{counted_text_fits, one_counted};
 ghost use Rattle.predicates_testing.specs.OneOf.{lawful_by_type, text_fits_by_type, one_by_type};
 
 use crate::from_words::FromWords;
@@ -116,10 +114,10 @@ impl Predicate<String> for TextLeaf {
         (λ q g h. exactly_text_fits h)
         (text_fits_by_type _ _ _ _ (λ q g h. exactly_text_fits h) (λ q g h. exactly_text_fits h)))
         (text_fits_by_type _ _ _ _
-        (λ q g h. empty_text_fits h)
+        (λ q g h. text_leaf_fits h)
         (text_fits_by_type _ _ _ _
-        (text_fits_by_type _ _ _ _ (λ q g h. starts_text_fits h) (λ q g h. ends_text_fits h))
-        (text_fits_by_type _ _ _ _ (λ q g h. contains_text_fits h) (λ q g h. counted_text_fits h))))
+        (text_fits_by_type _ _ _ _ (λ q g h. text_leaf_fits h) (λ q g h. text_leaf_fits h))
+        (text_fits_by_type _ _ _ _ (λ q g h. text_leaf_fits h) (λ q g h. counted_text_fits h))))
         p.leaf f };
 
     ghost one_formula = { λ p v f g. one_by_type
@@ -127,10 +125,10 @@ impl Predicate<String> for TextLeaf {
         (λ q h k lawful. one_exactly)
         (one_by_type (λ q h k lawful. one_exactly) (λ q h k lawful. one_exactly)))
         (one_by_type
-        (λ q h k lawful. one_empty)
+        (λ q h k lawful. one_text_leaf)
         (one_by_type
-        (one_by_type (λ q h k lawful. one_starts) (λ q h k lawful. one_ends))
-        (one_by_type (λ q h k lawful. one_contains) (λ q h k lawful. one_counted))))
+        (one_by_type (λ q h k lawful. one_text_leaf) (λ q h k lawful. one_text_leaf))
+        (one_by_type (λ q h k lawful. one_text_leaf) (λ q h k lawful. one_counted))))
         p.leaf f g };
 
     fn eval(&self, alloc: Global, item: &String) -> Result<bool, AllocError> {
