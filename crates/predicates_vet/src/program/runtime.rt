@@ -88,10 +88,14 @@ fn answer<E: Env + Files + Input + Print + Eprint + AllocGlobal>(rt: &E) -> io::
 
 /// Runs the program on the words, the files, the streams and the memory of a process, and answers its
 /// status: 0 where every record keeps every rule, 1 where one breaks a rule, and 2 for wrong words,
-/// rules that can't be read, lines that are no JSON, and faults of reading and writing.
+/// rules that can't be read, lines that are no JSON, out of memory, and faults of reading and writing,
+/// each told in a line on standard error.
 pub fn run_program<E: Env + Files + Input + Print + Eprint + AllocGlobal>(rt: &E) -> u8 {
     match answer(rt) {
         Ok(status) => status,
-        Err(_) => 2,
+        // Where this line can't be written either, the status alone tells.
+        Err(error) => match eprintln!(rt; "vet: {error}") {
+            Ok(()) | Err(_) => 2,
+        },
     }
 }
