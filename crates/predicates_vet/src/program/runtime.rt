@@ -88,8 +88,8 @@ fn answer<E: Env + Files + Input + Print + Eprint + AllocGlobal>(rt: &E) -> io::
 
 /// Runs the program on the words, the files, the streams and the memory of a process, and answers its
 /// status: 0 where every record keeps every rule, 1 where one breaks a rule, and 2 for wrong words,
-/// rules that can't be read, lines that are no JSON, out of memory, and faults of reading and writing,
-/// each told in a line on standard error.
+/// rules that can't be read, lines that are no JSON, faults of reading and writing, and out of
+/// memory, each told in a line on standard error.
 pub fn run_program<E: Env + Files + Input + Print + Eprint + AllocGlobal>(rt: &E) -> u8 {
     match answer(rt) {
         Ok(status) => status,
