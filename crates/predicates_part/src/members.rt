@@ -10,7 +10,9 @@ ghost use Rattle.predicates_core.specs.Several.{IsOfMembers, members_formula};
 ghost use Rattle.predicates_core.proofs.Several.{members_text_fits, one_members, has_members};
 ghost use Rattle.predicates_part.specs.Members.{applied_text, inner_of, word};
 
-use predicates_core::custom::{AtLeastOne, Every, Quantifier, members_case, members_hold, one_child};
+use predicates_core::custom::{
+    AtLeastOne, Every, Quantifier, members_case, members_hold, one_child,
+};
 use predicates_core::reflection::{Case, Child, Parameter, PredicateReflection};
 use predicates_core::{Predicate, Total};
 use std::alloc::{AllocError, Global};
