@@ -90,7 +90,7 @@ impl Read for Opened<'_> {
 
 impl Write for Opened<'_> {
     fn write(&mut self, _buf: &[u8]) -> io::Result<usize> {
-        refuse()
+        Err(Error::from(ErrorKind::Unsupported))
     }
 
     fn flush(&mut self) -> io::Result<()> {
@@ -176,7 +176,7 @@ impl<'a> Input for Process<'a> {
     type Reader = Slow<'a>;
 
     fn read_line<A: Allocator + Clone>(&self, _buf: &mut String<A>) -> io::Result<usize> {
-        refuse()
+        Err(Error::from(ErrorKind::Unsupported))
     }
 
     fn lines<A: Allocator>(&self, alloc: A) -> Lines<Slow<'a>, A> {
