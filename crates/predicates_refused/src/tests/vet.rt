@@ -44,8 +44,8 @@ impl Call for Reading<'_> {
     }
 }
 
-// A name, rules, how they are told, and what reading them does with memory: a library under it may do without
-// a request.
+// A name, rules, how they are told, and what reading them does with memory: a library under it may do
+// without a request.
 const RULES: [(&str, &[u8], &str, Memory); 4] = [
     (
         "read_checks of joins and ranges",
