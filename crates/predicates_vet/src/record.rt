@@ -60,6 +60,9 @@ fn add_case(
     ensures { IfOk result
         (AddsCase (view value.now) rule.now cases.old.items cases.new.items) }
 {
+    if rule.eval(alloc, value)? {
+        return Ok(false);
+    }
     let Some(case) = rule.find_case(alloc, false, value)? else {
         return Ok(false);
     };
