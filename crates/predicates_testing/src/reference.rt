@@ -115,38 +115,67 @@ pub fn combined(
 }
 
 // The leaf k stands at the bit k.
-const LEAVES: [u32; 9] = [1, 2, 4, 8, 16, 32, 64, 128, 256];
+const LEAVES: [u32; 12] = [1, 2, 4, 8, 16, 32, 64, 128, 256, 512, 1024, 2048];
 
-// Whether the truth is the same under all choices of truths that leave the set's leaves as they
-// are.
-fn is_reason(formula: &ReferenceFormula, choices: u32, set: u32) -> bool {
-    let own = formula.own_truths(0);
-    let (truth, _) = formula.value(own);
-    let free = choices.wrapping_sub(1) & !set;
-    let mut turned = free;
-    for _ in 0..choices {
-        if formula.value(own ^ turned).0 != truth {
-            return false;
-        }
-        if turned == 0 {
-            return true;
-        }
-        turned = turned.wrapping_sub(1) & free;
-    }
-    true
+// The truth of a formula under each choice of truths of its leaves, and the choice that they have.
+#[derive(Drop)]
+struct Truths {
+    of_choices: Vec<bool>,
+    choices: u32,
+    own: u32,
 }
 
-// Whether the set is a reason, and none without any one of its leaves.
-fn is_minimal_reason(formula: &ReferenceFormula, choices: u32, set: u32) -> bool {
-    if !is_reason(formula, choices, set) {
-        return false;
+impl Truths {
+    fn new(
+        alloc: Global,
+        formula: &ReferenceFormula,
+        choices: u32,
+    ) -> Result<Truths, AllocError> {
+        let mut of_choices = Vec::new(alloc);
+        for choice in 0..choices {
+            of_choices.push(formula.value(choice).0)?;
+        }
+        Ok(Truths {
+            of_choices,
+            choices,
+            own: formula.own_truths(0),
+        })
     }
-    for leaf in LEAVES {
-        if set & leaf != 0 && is_reason(formula, choices, set ^ leaf) {
+
+    fn under(&self, choice: u32) -> Option<&bool> {
+        self.of_choices.get(choice as usize)
+    }
+
+    // Whether the truth is the same under all choices of truths that leave the set's leaves as they
+    // are.
+    fn has_reason(&self, set: u32) -> bool {
+        let truth = self.under(self.own);
+        let free = self.choices.wrapping_sub(1) & !set;
+        let mut turned = free;
+        for _ in 0..self.choices {
+            if self.under(self.own ^ turned) != truth {
+                return false;
+            }
+            if turned == 0 {
+                return true;
+            }
+            turned = turned.wrapping_sub(1) & free;
+        }
+        true
+    }
+
+    // Whether the set is a reason, and none without any one of its leaves.
+    fn has_minimal_reason(&self, set: u32) -> bool {
+        if !self.has_reason(set) {
             return false;
         }
+        for leaf in LEAVES {
+            if set & leaf != 0 && self.has_reason(set ^ leaf) {
+                return false;
+            }
+        }
+        true
     }
-    true
 }
 
 // The numbers of a set's leaves, in order.
@@ -161,7 +190,7 @@ fn numbers(alloc: Global, set: u32) -> Result<Vec<usize>, AllocError> {
 }
 
 /// The first of all minimal reasons, as the order of lists has it; none for a formula of more than
-/// nine leaves.
+/// twelve leaves.
 pub fn first_reason(
     alloc: Global,
     formula: &ReferenceFormula,
@@ -170,10 +199,10 @@ pub fn first_reason(
     if count > LEAVES.len() {
         return Ok(None);
     }
-    let sets = 1_u32 << count;
+    let truths = Truths::new(alloc, formula, 1_u32 << count)?;
     let mut first: Option<Vec<usize>> = None;
-    for set in 0..sets {
-        if is_minimal_reason(formula, sets, set) {
+    for set in 0..truths.choices {
+        if truths.has_minimal_reason(set) {
             let found = numbers(alloc, set)?;
             let is_before = match &first {
                 Some(best) => found.as_slice() < best.as_slice(),

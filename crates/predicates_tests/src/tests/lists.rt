@@ -82,6 +82,30 @@ fn explains_lists(alloc: Global, lists: [&[u32]; 2], lines: &str) -> Result<bool
     )
 }
 
+// Whether lists of which each member is to have a property in each member are explained by the lines.
+fn explains_each_of_each(alloc: Global, lines: &str) -> Result<bool, AllocError> {
+    let mut list = Vec::new(alloc);
+    for members in [[1, 2], [3, 0]] {
+        list.push(Vec::from_slice(alloc, &members)?)?;
+    }
+    let each = predicate::ge(1u32).of_each().of_each();
+    explains(alloc, &each, &list, lines)
+}
+
+#[test]
+fn members_of_members(rt: HostRuntime) -> Result<(), Fail> {
+    let lines = "\
+each(each(var >= 1)) = false
+  - index: 1
+  item: each(var >= 1) = false
+    - index: 1
+    item: var >= 1 = false
+      - var: 0
+";
+    assert!(rt; explains_each_of_each(rt.alloc(), lines)?);
+    Ok(())
+}
+
 // Whether it is explained under a combinator and under a name.
 fn explains_combined(alloc: Global, lines: &str) -> Result<bool, AllocError> {
     let list = Vec::from_slice(alloc, &[20, 70])?;
@@ -332,17 +356,13 @@ fn lengths(rt: HostRuntime) -> Result<(), Fail> {
 // Members on which the leaves of a predicate below differ.
 const KINDS: [i64; 4] = [1, 2, 9, 6];
 
-// A predicate of three leaves about each member of a list and about one, and one of two leaves; with
-// the length of the lists, how many kinds of members they have, and how many they are.
-const LISTS: [([&str; 2], [usize; 3]); 5] = [
-    (THREE_LEAVES, [0, 4, 1]),
-    (THREE_LEAVES, [1, 4, 4]),
-    (THREE_LEAVES, [2, 4, 16]),
-    (THREE_LEAVES, [3, 4, 64]),
-    (["lt=2 ge=6 or each", "lt=2 ge=6 or any"], [4, 3, 81]),
-];
+// The lengths of lists, and how many lists of each length there are.
+const LISTS: [(usize, usize); 5] = [(0, 1), (1, 4), (2, 16), (3, 64), (4, 256)];
 
-const THREE_LEAVES: [&str; 2] = ["ge=2 lt=5 and eq=9 or each", "ge=2 lt=5 and eq=9 or any"];
+// A predicate of three leaves about each member of a list, and about one.
+const EACH: &str = "ge=2 lt=5 and eq=9 or each";
+
+const ANY: &str = "ge=2 lt=5 and eq=9 or any";
 
 // Whether what the words say of the list is explained by the first of all minimal reasons.
 fn is_explained(alloc: Global, words: &str, list: &Vec<i64>) -> Result<bool, AllocError> {
@@ -356,47 +376,44 @@ fn is_explained(alloc: Global, words: &str, list: &Vec<i64>) -> Result<bool, All
     }
 }
 
-// The list with this number among those of the length and with members of `kinds` kinds.
-fn list_of(
-    alloc: Global,
-    number: usize,
-    length: usize,
-    kinds: usize,
-) -> Result<Vec<i64>, AllocError> {
+// The list with this number among those of the length.
+fn list_of(alloc: Global, number: usize, length: usize) -> Result<Vec<i64>, AllocError> {
     let mut list = Vec::new(alloc);
     let mut rest = number;
     for _ in 0..length {
-        if let Some(kind) = rest.checked_rem(kinds) {
-            list.push(KINDS.get(kind).copied().unwrap_or(0))?;
-        }
-        rest = rest.checked_div(kinds).unwrap_or(0);
+        list.push(KINDS.get(rest % 4).copied().unwrap_or(0))?;
+        rest /= 4;
     }
     Ok(list)
 }
 
-// How many of the lists of the length are explained by first reasons, for each and for any.
+// How many of the lists of the length are explained by first reasons.
 fn explained_lists(
     alloc: Global,
-    [each, any]: [&str; 2],
-    [length, kinds, lists]: [usize; 3],
-) -> Result<(usize, usize), AllocError> {
-    let (mut of_each, mut of_any): (usize, usize) = (0, 0);
+    words: &str,
+    length: usize,
+    lists: usize,
+) -> Result<usize, AllocError> {
+    let mut explained = 0_usize;
     for number in 0..lists {
-        let list = list_of(alloc, number, length, kinds)?;
-        of_each = of_each.saturating_add(usize::from(is_explained(alloc, each, &list)?));
-        of_any = of_any.saturating_add(usize::from(is_explained(alloc, any, &list)?));
+        let list = list_of(alloc, number, length)?;
+        explained = explained.saturating_add(usize::from(is_explained(alloc, words, &list)?));
     }
-    Ok((of_each, of_any))
+    Ok(explained)
 }
 
 #[test]
-fn first_reasons_of_all_lists_of_at_most_four_members(rt: HostRuntime) -> Result<(), Fail> {
-    for (words, numbers) in LISTS {
-        let [_, _, lists] = numbers;
-        assert_eq!(rt;
-            explained_lists(rt.alloc(), words, numbers)?,
-            (lists, lists)
-        );
+fn first_reasons_of_each_member_of_at_most_four(rt: HostRuntime) -> Result<(), Fail> {
+    for (length, lists) in LISTS {
+        assert_eq!(rt; explained_lists(rt.alloc(), EACH, length, lists)?, lists);
+    }
+    Ok(())
+}
+
+#[test]
+fn first_reasons_of_any_member_of_at_most_four(rt: HostRuntime) -> Result<(), Fail> {
+    for (length, lists) in LISTS {
+        assert_eq!(rt; explained_lists(rt.alloc(), ANY, length, lists)?, lists);
     }
     Ok(())
 }

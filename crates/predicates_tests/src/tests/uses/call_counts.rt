@@ -1,4 +1,6 @@
 //! How often a part is evaluated, which no contract says.
+ghost use Rattle.std.specs.Prelude.{◌≡◌};
+
 use predicates::custom::{Test, TestPredicate, leaf};
 use predicates::part::Field;
 use predicates::prelude::*;
@@ -133,36 +135,92 @@ fn nested_parts(rt: HostRuntime) -> Result<(), Fail> {
     Ok(())
 }
 
+// The item itself, read as its part, with a count of the reads.
 #[derive(Drop)]
-struct Itself;
+struct Itself<'a> {
+    reads: &'a Cell<u32>,
+}
 
-impl Field<u32, u32> for Itself {
+impl Field<u32, u32> for Itself<'_> {
     ghost part_of = { λ field number. number };
 
     fn get<'a>(&self, number: &'a u32) -> &'a u32 {
+        self.reads.set(self.reads.get().saturating_add(1));
         number
     }
 }
 
-// A part by a function and by a field, and a value that is there.
-fn counts_of_parts(alloc: Global) -> Result<[(u32, u32, u32); 3], AllocError> {
-    let cell = Cell::new(0);
-    let by_value = counts(
-        alloc,
-        &cell,
-        &true_leaf(&cell).of("n", |number: &u32| *number),
-    )?;
-    let by_field = counts(alloc, &cell, &true_leaf(&cell).of_field("n", Itself))?;
-    let some = counts_on(alloc, &cell, &true_leaf(&cell).of_some(), &Some(5))?;
-    Ok([by_value, by_field, some])
+// A number, and how often it was read.
+#[derive(Drop)]
+struct Numbered {
+    number: u32,
+    reads: Cell<u32>,
 }
 
-// Each of four members, one of them, and each of three rules.
-fn counts_of_lists(alloc: Global) -> Result<[(u32, u32, u32); 3], AllocError> {
+fn number_of(item: &Numbered) -> &u32
+    ensures { result.now ≡ item.now.number }
+{
+    item.reads.set(item.reads.get().saturating_add(1));
+    &item.number
+}
+
+fn number_by_value(item: &Numbered) -> u32
+    ensures { result ≡ item.now.number }
+{
+    *number_of(item)
+}
+
+// A part by a function, by value and by reference, by a field, and a value that is there: how often
+// the inner predicate is evaluated.
+fn counts_of_parts(alloc: Global) -> Result<[(u32, u32, u32); 4], AllocError> {
+    let (cell, reads) = (Cell::new(0), Cell::new(0));
+    let item = Numbered {
+        number: 5,
+        reads: Cell::new(0),
+    };
+    let by_value = true_leaf(&cell).of("n", number_by_value);
+    let by_value = counts_on(alloc, &cell, &by_value, &item)?;
+    let by_reference = true_leaf(&cell).of_ref("n", number_of);
+    let by_reference = counts_on(alloc, &cell, &by_reference, &item)?;
+    let by_field = true_leaf(&cell).of_field("n", Itself { reads: &reads });
+    let by_field = counts(alloc, &cell, &by_field)?;
+    let some = counts_on(alloc, &cell, &true_leaf(&cell).of_some(), &Some(5))?;
+    Ok([by_value, by_reference, by_field, some])
+}
+
+// How often the function is called, or the field read.
+fn counts_of_reads(alloc: Global) -> Result<[(u32, u32, u32); 3], AllocError> {
+    let reads = Cell::new(0);
+    let item = Numbered {
+        number: 5,
+        reads: Cell::new(0),
+    };
+    let by_value = predicate::ge(1u32).of("n", number_by_value);
+    let by_value = counts_on(alloc, &item.reads, &by_value, &item)?;
+    let by_reference = predicate::ge(1u32).of_ref("n", number_of);
+    let by_reference = counts_on(alloc, &item.reads, &by_reference, &item)?;
+    let by_field = predicate::ge(1u32).of_field("n", Itself { reads: &reads });
+    Ok([
+        by_value,
+        by_reference,
+        counts(alloc, &reads, &by_field)?,
+    ])
+}
+
+#[test]
+fn parts_are_read_once(rt: HostRuntime) -> Result<(), Fail> {
+    assert_eq!(rt; counts_of_parts(rt.alloc())?, [(1, 1, 1); 4]);
+    assert_eq!(rt; counts_of_reads(rt.alloc())?, [(1, 1, 1); 3]);
+    Ok(())
+}
+
+// Four members or three rules, of which the first does not decide.
+fn counts_of_all_members(alloc: Global) -> Result<[(u32, u32, u32); 3], AllocError> {
     let cell = Cell::new(0);
     let members = Vec::from_slice(alloc, &[1, 2, 3, 4])?;
     let each = counts_on(alloc, &cell, &true_leaf(&cell).of_each(), &members)?;
-    let any = counts_on(alloc, &cell, &true_leaf(&cell).of_any(), &members)?;
+    let any = true_leaf(&cell).not().of_any();
+    let any = counts_on(alloc, &cell, &any, &members)?;
     let mut rules = Vec::new(alloc);
     for _ in 0..3 {
         rules.push(true_leaf(&cell))?;
@@ -170,17 +228,30 @@ fn counts_of_lists(alloc: Global) -> Result<[(u32, u32, u32); 3], AllocError> {
     Ok([each, any, counts(alloc, &cell, &predicate::all_of(rules))?])
 }
 
+// Four members or three rules, of which the first decides.
+fn counts_of_first_member(alloc: Global) -> Result<[(u32, u32, u32); 4], AllocError> {
+    let cell = Cell::new(0);
+    let members = Vec::from_slice(alloc, &[1, 2, 3, 4])?;
+    let any = counts_on(alloc, &cell, &true_leaf(&cell).of_any(), &members)?;
+    let each = true_leaf(&cell).not().of_each();
+    let each = counts_on(alloc, &cell, &each, &members)?;
+    let (mut rules, mut denied) = (Vec::new(alloc), Vec::new(alloc));
+    for _ in 0..3 {
+        rules.push(true_leaf(&cell))?;
+        denied.push(true_leaf(&cell).not())?;
+    }
+    let any_of = counts(alloc, &cell, &predicate::any_of(rules))?;
+    let all_of = counts(alloc, &cell, &predicate::all_of(denied))?;
+    Ok([any, each, any_of, all_of])
+}
+
 #[test]
-fn parts_and_members(rt: HostRuntime) -> Result<(), Fail> {
-    let [by_value, by_field, some] = counts_of_parts(rt.alloc())?;
-    assert_eq!(rt; by_value, (1, 1, 1));
-    assert_eq!(rt; by_field, (1, 1, 1));
-    assert_eq!(rt; some, (1, 1, 1));
+fn members_and_rules(rt: HostRuntime) -> Result<(), Fail> {
     // A case of all evaluates each before it makes one; that of one evaluates up to the member that
     // decides, and asks it once more.
-    let [each, any, rules] = counts_of_lists(rt.alloc())?;
-    assert_eq!(rt; each, (4, 8, 4));
-    assert_eq!(rt; any, (1, 2, 1));
-    assert_eq!(rt; rules, (3, 6, 3));
+    let all = [(4, 8, 4), (4, 4, 8), (3, 6, 3)];
+    assert_eq!(rt; counts_of_all_members(rt.alloc())?, all);
+    let first = [(1, 2, 1), (1, 1, 2), (1, 2, 1), (1, 1, 2)];
+    assert_eq!(rt; counts_of_first_member(rt.alloc())?, first);
     Ok(())
 }
