@@ -16,7 +16,6 @@ mod reflected;
 mod requirements;
 mod rows;
 mod runs;
-mod stacked;
 mod streams;
 mod sweep;
 mod vet;

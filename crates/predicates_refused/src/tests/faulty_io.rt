@@ -1,8 +1,8 @@
 //! The two worked runs and a filter, byte by byte: with a fault at each byte that is read or written,
 //! and cut short.
 use super::runs::{NUMBERS, SEVEN};
-use super::stacked::stacked;
 use super::streams::{Narrow, Slow};
+use super::words::check_of;
 use predicates_explain::{RunFault, TextCheck, filter_lines, run_between, run_text};
 use std::alloc::{AllocError, Global};
 use std::io::ErrorKind;
@@ -156,9 +156,9 @@ fn numbers(rt: HostRuntime) -> Result<(), Fail> {
 
 #[test]
 fn texts(rt: HostRuntime) -> Result<(), Fail> {
-    let stack = stacked(rt.alloc(), &["empty", "trim", "contains=a", "or"])?;
+    let check = check_of(rt.alloc(), &["empty", "trim", "contains=a", "or"])?;
     let run = Run {
-        check: stack.first(),
+        check: Some(&check),
         wanted: None,
         input: b"  \n",
         whole: BLANK.as_bytes(),
@@ -170,9 +170,9 @@ fn texts(rt: HostRuntime) -> Result<(), Fail> {
 // Of three lines, the last without its line feed, the first and the last hold an `a`.
 #[test]
 fn filters(rt: HostRuntime) -> Result<(), Fail> {
-    let stack = stacked(rt.alloc(), &["contains=a"])?;
+    let check = check_of(rt.alloc(), &["contains=a"])?;
     let run = Run {
-        check: stack.first(),
+        check: Some(&check),
         wanted: Some(true),
         input: b"ab\nb\r\na",
         whole: b"ab\na",

@@ -1,11 +1,12 @@
 //! Predicates of JSON values, and cases as JSON.
 use super::answer::Answer;
-use super::predicate_calls::{over, sweep_calls};
+use super::predicate_calls::{leaf, over, sweep_calls};
 use super::sweep::Memory::Taken;
 use super::sweep::{Call, sweep};
-use predicates::ord::ge;
+use predicates::ord::{eq, ge, le};
+use predicates::part::PredicatePartExt;
 use predicates_core::reflection::{Case, Product};
-use predicates_json::{PredicateJsonExt, case_json};
+use predicates_json::{PredicateJsonExt, case_json, has_pointer, is_null};
 use predicates_testing::text;
 use serde_json::Value;
 use std::alloc::{AllocError, Global};
@@ -33,6 +34,35 @@ fn pointers(rt: HostRuntime) -> Result<(), Fail> {
         sweep_calls(&rt, &adult, &item, over(record, false, lines, children))?;
     }
     Ok(())
+}
+
+// Of a value of the kind, and of one of another.
+#[test]
+fn kinds(rt: HostRuntime) -> Result<(), Fail> {
+    let alloc = rt.alloc();
+    let number = Value::from_str(alloc, "7")?;
+    let named = eq(text(alloc, "Ada")?).of_string();
+    let children = "predicate: var == \"Ada\"\n";
+    let lines = "var == \"Ada\" = true\n  - var: \"Ada\"\n";
+    let item = Value::from_str(alloc, "\"Ada\"")?;
+    sweep_calls(&rt, &named, &item, over("of_string", true, lines, children))?;
+    let lines = "var == \"Ada\" = false\n  - error: is a number\n";
+    let row = over("of_string of a number", false, lines, children);
+    sweep_calls(&rt, &named, &number, row)?;
+    let short = le(2).of_len().of_array();
+    let lines = "len = true\n  len: var <= 2 = true\n    - var: 1\n";
+    let children = "predicate: len\n  len: var <= 2\n";
+    let item = Value::from_str(alloc, "[7]")?;
+    sweep_calls(&rt, &short, &item, over("of_array", true, lines, children))
+}
+
+#[test]
+fn presence(rt: HostRuntime) -> Result<(), Fail> {
+    let record = Value::from_str(rt.alloc(), "{\"seat\":null}")?;
+    let row = leaf("has_pointer", true, "exists(/seat) = true\n");
+    sweep_calls(&rt, &has_pointer("/seat"), &record, row)?;
+    let lines = "var.is_null() = false\n  - error: is an object\n";
+    sweep_calls(&rt, &is_null(), &record, leaf("is_null", false, lines))
 }
 
 // A case of a node over a leaf, as JSON.

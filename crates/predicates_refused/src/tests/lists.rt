@@ -2,9 +2,11 @@
 ghost use Rattle.std.specs.Prelude.{◌≡◌, option_copied, slice_get};
 
 use super::predicate_calls::{Row, over, sweep_calls};
-use predicates::ord::{eq, ge, le};
+use predicates::ord::{OrdPredicate, eq, ge, le};
 use predicates::part::PredicatePartExt;
 use predicates::rules::{all_of, any_of};
+use std::alloc::{AllocError, Global};
+use std::fmt::Write;
 use std::test::Fail;
 
 // Where each of them counts, they are evaluated before the case is made.
@@ -44,35 +46,78 @@ fn members(rt: HostRuntime) -> Result<(), Fail> {
     )
 }
 
-// The least numbers of the rules.
-const RULES: [u32; 2] = [1, 5];
+// The least numbers of rules, a number, whether all hold and one does, and the lines of both.
+const RULES: [(&[u32], u32, [(bool, &str); 2]); 3] = [
+    (
+        &[1, 5],
+        4,
+        [
+            (
+                false,
+                "\
+all_of(var >= 1, var >= 5) = false
+  - index: 1
+  rule: var >= 5 = false
+    - var: 4
+",
+            ),
+            (
+                true,
+                "\
+any_of(var >= 1, var >= 5) = true
+  - index: 0
+  rule: var >= 1 = true
+    - var: 4
+",
+            ),
+        ],
+    ),
+    (
+        &[1],
+        4,
+        [
+            (
+                true,
+                "all_of(var >= 1) = true\n  rule: var >= 1 = true\n    - var: 4\n",
+            ),
+            (
+                true,
+                "any_of(var >= 1) = true\n  - index: 0\n  rule: var >= 1 = true\n    - var: 4\n",
+            ),
+        ],
+    ),
+    (
+        &[],
+        4,
+        [
+            (true, "all_of() = true\n  - len: 0\n"),
+            (false, "any_of() = false\n  - len: 0\n"),
+        ],
+    ),
+];
+
+// A rule for each least number, and the descriptions of all.
+fn rules_of(alloc: Global, least: &[u32]) -> Result<(Vec<OrdPredicate<u32>>, String), AllocError> {
+    let (mut rules, mut children) = (Vec::new(alloc), String::new(alloc));
+    for least in least {
+        rules.push(ge(*least))?;
+        writeln!(children, "rule: var >= {least}")?;
+    }
+    Ok((rules, children))
+}
 
 #[test]
 fn rules(rt: HostRuntime) -> Result<(), Fail> {
     let alloc = rt.alloc();
-    let mut rules = Vec::new(alloc);
-    let mut others = Vec::new(alloc);
-    for least in RULES {
-        rules.push(ge(least))?;
-        others.push(ge(least))?;
+    for (least, number, [(all, of_all), (any, of_any)]) in RULES {
+        let (rules, children) = rules_of(alloc, least)?;
+        let row = over("all_of", all, of_all, children.as_str());
+        sweep_calls(&rt, &all_of(rules), &number, row)?;
+        let (rules, children) = rules_of(alloc, least)?;
+        let row = over("any_of", any, of_any, children.as_str());
+        sweep_calls(&rt, &any_of(rules), &number, row)?;
     }
-    let children = "rule: var >= 1\nrule: var >= 5\n";
-    let lines = "all_of(var >= 1, var >= 5) = false\n  - index: 1\n  \
-        rule: var >= 5 = false\n    - var: 4\n";
-    sweep_calls(
-        &rt,
-        &all_of(rules),
-        &4,
-        over("all_of", false, lines, children),
-    )?;
-    let lines = "any_of(var >= 1, var >= 5) = true\n  - index: 0\n  \
-        rule: var >= 1 = true\n    - var: 4\n";
-    sweep_calls(
-        &rt,
-        &any_of(others),
-        &4,
-        over("any_of", true, lines, children),
-    )
+    Ok(())
 }
 
 fn first_of(list: &Vec<u32>) -> Option<&u32>
@@ -87,10 +132,16 @@ fn absent_parts(rt: HostRuntime) -> Result<(), Fail> {
     let lines = "first = false\n  first: var >= 18 = false\n    - error: no value\n";
     let row = over("of_some_ref on nothing", false, lines, "first: var >= 18\n");
     sweep_calls(&rt, &first, &Vec::new(rt.alloc()), row)?;
+    let lines = "first = true\n  first: var >= 18 = true\n    - var: 20\n";
+    let row = over("of_some_ref", true, lines, "first: var >= 18\n");
+    sweep_calls(&rt, &first, &Vec::from_slice(rt.alloc(), &[20, 3])?, row)?;
     let (children, failed) = ("predicate: var >= 18\n", Err(-1i32));
     let lines = "var >= 18 = false\n  - error: is Err\n";
     let row = over("of_ok on an error", false, lines, children);
     sweep_calls(&rt, &ge(18u32).of_ok(), &failed, row)?;
+    let (lines, found): (_, Result<u32, i32>) = ("var >= 18 = true\n  - var: 20\n", Ok(20));
+    let row = over("of_ok", true, lines, children);
+    sweep_calls(&rt, &ge(18u32).of_ok(), &found, row)?;
     let row: Row<'_> = over(
         "of_err",
         true,

@@ -1,8 +1,8 @@
 //! The calls of `check`, and the filter over lines.
 use super::answer::Answer;
-use super::stacked::stacked;
 use super::sweep::Memory::{Never, Taken};
 use super::sweep::{Call, sweep};
+use super::words::check_of;
 use predicates::boolean::PredicateBooleanExt;
 use predicates::check::{
     Unmet, add_failure, check_all, expect, failures, require, require_as, sift,
@@ -180,12 +180,11 @@ impl Call for Filtering<'_> {
 
 #[test]
 fn filters(rt: HostRuntime) -> Result<(), Fail> {
-    let stack = stacked(rt.alloc(), &["starts=a", "trim"])?;
-    let check = stack.first().ok_or("no check")?;
+    let check = check_of(rt.alloc(), &["starts=a", "trim"])?;
     sweep(
         &rt,
         "filter_lines",
-        &Filtering { check },
+        &Filtering { check: &check },
         "2 1\na\n a",
         Taken,
     )

@@ -1,7 +1,7 @@
 //! Predicates that are made of words, one a row: leaves, combinators, names, adapters and checks.
 use super::predicate_calls::{Row, sweep_calls};
-use super::stacked::stacked;
 use super::sweep::Memory::{self, GoesOn, Never, Perhaps, Taken};
+use super::words::check_of;
 use predicates::str::Utf8Predicate;
 use predicates_testing::{
     FromWords, Level, NumberLeaf, NumberWord, TextLeaf, TextLevel, TextWord, read_number_words,
@@ -74,12 +74,13 @@ const BYTES: [(&[u8], &str); 3] = [
     ),
 ];
 
-// Checks of the words of `explain`.
-const CHECKS: [&str; 4] = [
+// Checks of the words of `explain`. In the last the right part, which takes memory, is not asked.
+const CHECKS: [&str; 5] = [
     r#"empty contains=a xor eq=b not and@a@-m?@((var.is_empty() ^ var.contains(a)) && (! var == "b")) = true\n  left: (var.is_empty() ^ var.contains(a)) = true\n    left: var.is_empty() = false\n      - var: a\n    right: var.contains(a) = true\n      - var: a\n  right: (! var == "b") = true\n    predicate: var == "b" = false\n      - var: "a"\n@@"#,
     r#"starts=a trim ends=a normalize or@ ba\r\n@mmm@(var.starts_with("a") || var.ends_with("a")) = false\n  left: var.starts_with("a") = false\n    - var: ba\n  right: var.ends_with("a") = false\n    - var:  ba\n\n@@"#,
     r"match=T[a-z]*@Two@ggg@var.is_match(T[a-z]*) = true\n  - var: Two\n@@",
     r#"eq= starts= ends= contains= xor xor xor@a@-m?@(var == "" ^ (var.starts_with("") ^ (var.ends_with("") ^ var.contains()))) = true\n  left: var == "" = false\n    - var: "a"\n  right: (var.starts_with("") ^ (var.ends_with("") ^ var.contains())) = true\n    left: var.starts_with("") = true\n      - var: a\n    right: (var.ends_with("") ^ var.contains()) = false\n      left: var.ends_with("") = true\n        - var: a\n      right: var.contains() = true\n        - var: a\n@@"#,
+    r"contains=x match=y and@a@-m-@(var.contains(x) && var.is_match(y)) = false\n  left: var.contains(x) = false\n    - var: a\n@@",
 ];
 
 // A row that was read.
@@ -210,9 +211,8 @@ fn sweep_check<R: Abort + AllocGlobal + Print>(rt: &R, parts: &Parts) -> Result<
     for token in parts.words.as_str().split(' ') {
         tokens.push(token)?;
     }
-    let stack = stacked(rt.alloc(), tokens.as_slice())?;
-    let check = stack.first().ok_or("no check")?;
-    sweep_calls(rt, check, &parts.item, parts.row())
+    let check = check_of(rt.alloc(), tokens.as_slice())?;
+    sweep_calls(rt, &check, &parts.item, parts.row())
 }
 
 #[test]

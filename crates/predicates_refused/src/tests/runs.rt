@@ -1,8 +1,8 @@
 //! Blocks, and runs over lines of an input.
 use super::answer::Answer;
-use super::stacked::stacked;
 use super::sweep::Memory::{self, GoesOn, Never, Perhaps, Taken};
 use super::sweep::{Call, sweep};
+use super::words::check_of;
 use predicates::boolean::PredicateBooleanExt;
 use predicates::ord::{ge, le};
 use predicates_explain::{RunFault, TextCheck, explain_one, explain_total, run_between, run_text};
@@ -144,8 +144,8 @@ const TEXTS: [(&[&str], &[u8], &str, Memory); 4] = [
 #[test]
 fn runs_over_texts(rt: HostRuntime) -> Result<(), Fail> {
     for (words, input, expected, memory) in TEXTS {
-        let stack = stacked(rt.alloc(), words)?;
-        let check = stack.first();
+        let check = check_of(rt.alloc(), words)?;
+        let check = Some(&check);
         let name = format!(in rt.alloc(); "run_text of {words:?}")?;
         sweep(&rt, name.as_str(), &Run { check, input }, expected, memory)?;
     }

@@ -1,12 +1,19 @@
 //! Words of a check of texts.
 use super::answer::Answer;
-use super::stacked::stacked;
 use super::sweep::Memory::{GoesOn, Never, Taken};
 use super::sweep::{Call, sweep};
-use predicates::Predicate;
 use predicates_explain::{TextCheck, Word, WordFault, WordsError, apply_word, read_word};
 use std::alloc::{AllocError, Global};
 use std::test::Fail;
+
+/// The check of the tokens.
+pub fn check_of(alloc: Global, tokens: &[&str]) -> Result<TextCheck, WordsError> {
+    let mut words = Vec::new(alloc);
+    for token in tokens {
+        words.push(String::from_str(alloc, token)?)?;
+    }
+    TextCheck::from_words(alloc, words.as_slice())
+}
 
 #[derive(Drop)]
 struct Reading<'a> {
@@ -49,6 +56,16 @@ fn tokens(rt: HostRuntime) -> Result<(), Fail> {
     Ok(())
 }
 
+// The checks of the tokens, one each.
+fn checks_of(alloc: Global, tokens: &[&str]) -> Result<Vec<TextCheck>, AllocError> {
+    let mut checks = Vec::new(alloc);
+    for token in tokens {
+        let word = read_word(alloc, token)?.ok_or(AllocError)?;
+        apply_word(alloc, &mut checks, word).map_err(|_fault| AllocError)?;
+    }
+    Ok(checks)
+}
+
 // A word, applied to the checks of other tokens.
 #[derive(Drop)]
 struct Applying<'a> {
@@ -61,7 +78,7 @@ impl Call for Applying<'_> {
 
     fn operand(&self, alloc: Global) -> Result<(Vec<TextCheck>, Word), AllocError> {
         let word = read_word(alloc, self.token)?.ok_or(AllocError)?;
-        Ok((stacked(alloc, self.before)?, word))
+        Ok((checks_of(alloc, self.before)?, word))
     }
 
     fn call(&self, alloc: Global, operand: (Vec<TextCheck>, Word)) -> Result<Answer, AllocError> {
@@ -169,36 +186,4 @@ fn checks_from_words(rt: HostRuntime) -> Result<(), Fail> {
         sweep(&rt, expected, &FromWords { words }, expected, Taken)?;
     }
     Ok(())
-}
-
-// Evaluates `contains=x match=y and` on a text without an `x`.
-struct LeftDecides;
-
-impl Call for LeftDecides {
-    type Operand = (Vec<TextCheck>, String);
-
-    fn operand(&self, alloc: Global) -> Result<(Vec<TextCheck>, String), AllocError> {
-        let checks = stacked(alloc, &["contains=x", "match=y", "and"])?;
-        Ok((checks, String::from_str(alloc, "a")?))
-    }
-
-    fn call(&self, alloc: Global, operand: (Vec<TextCheck>, String)) -> Result<Answer, AllocError> {
-        let (checks, item) = operand;
-        match checks.as_slice().first() {
-            Some(check) => Ok(Answer::Verdict(check.eval(alloc, &item)?)),
-            None => Err(AllocError),
-        }
-    }
-}
-
-// The right part, which takes memory, is not asked.
-#[test]
-fn a_left_part_that_decides(rt: HostRuntime) -> Result<(), Fail> {
-    sweep(
-        &rt,
-        "and, decided by its left part",
-        &LeftDecides,
-        "false",
-        Never,
-    )
 }
