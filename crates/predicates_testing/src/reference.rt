@@ -126,11 +126,7 @@ struct Truths {
 }
 
 impl Truths {
-    fn new(
-        alloc: Global,
-        formula: &ReferenceFormula,
-        choices: u32,
-    ) -> Result<Truths, AllocError> {
+    fn new(alloc: Global, formula: &ReferenceFormula, choices: u32) -> Result<Truths, AllocError> {
         let mut of_choices = Vec::new(alloc);
         for choice in 0..choices {
             of_choices.push(formula.value(choice).0)?;

@@ -200,11 +200,7 @@ fn counts_of_reads(alloc: Global) -> Result<[(u32, u32, u32); 3], AllocError> {
     let by_reference = predicate::ge(1u32).of_ref("n", number_of);
     let by_reference = counts_on(alloc, &item.reads, &by_reference, &item)?;
     let by_field = predicate::ge(1u32).of_field("n", Itself { reads: &reads });
-    Ok([
-        by_value,
-        by_reference,
-        counts(alloc, &reads, &by_field)?,
-    ])
+    Ok([by_value, by_reference, counts(alloc, &reads, &by_field)?])
 }
 
 #[test]
