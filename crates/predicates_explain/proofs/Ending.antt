@@ -11,8 +11,8 @@ use Rattle.predicates_explain.specs.Runs.{HasRun}
 use Rattle.predicates_explain.specs.TextAnswers.{IsTextAnswer}
 use Rattle.predicates_explain.specs.CommandLine.{typed, AreBounds, AreCheck, AreRightWords, HasRunOf, between_run, text_run, between_words, text_words, wrong_text}
 use Rattle.predicates_explain.specs.declared.check.TextCheck.{TextCheck}
-use Rattle.predicates_explain.specs.declared.run_fault.RunFault.{RunFault}
-use Rattle.predicates_explain.specs.declared.run_fault.RunFault.TheVariants.{NoMemory as RunNoMemory, Input, Output}
+use Rattle.predicates_lines.specs.declared.run_fault.RunFault.{RunFault}
+use Rattle.predicates_lines.specs.declared.run_fault.RunFault.TheVariants.{NoMemory as RunNoMemory, Input, Output}
 use Rattle.predicates_explain.specs.declared.program.end.End.{End}
 use Rattle.predicates_explain.specs.declared.program.end.End.TheVariants.{Usage, PatternRefused, TooDeep, NoMemory}
 

@@ -1,7 +1,6 @@
 -- How far a filter has come in its input.
-use Rattle.std.proofs.Common.{◌≡◌, ℕ, ◌+◌, ◌<◌, ◌≤◌, Bool, true, false, not, List, [], ◌∷◌, ◌++◌, length, Option, Some, refl, sym, ◌∙◌, ap, arith, append_assoc, append-nil, length-append, if◌then◌else◌, ◌==◌, map}
+use Rattle.std.proofs.Common.{◌≡◌, ℕ, ◌+◌, ◌≤◌, Bool, true, false, not, List, [], ◌∷◌, ◌++◌, length, Option, Some, refl, sym, ◌∙◌, ap, arith, append_assoc, append-nil, length-append, if◌then◌else◌, map}
 use Rattle.std.specs.Prelude.{All, filter, flat_map, is_none}
-use Rattle.std.specs.Io.BufRead.{take_through, drop_through}
 use Rattle.std.specs.Io.KnownBytes.{Appends}
 use Rattle.std.proofs.KnownBytes.{Appends-nil, Appends-trans}
 use Rattle.std.proofs.lemmas.List.{map-append}
@@ -10,31 +9,9 @@ use Rattle.std.proofs.lemmas.List.Filters.{length-filter_both}
 use Rattle.std.proofs.lemmas.List.Elements.{All-nil, All-push, filter-append}
 use Rattle.predicates_core.specs.Text.{Text}
 use Rattle.predicates_core.specs.Formula.{Formula}
-use Rattle.predicates_explain.specs.Runs.{onto_first}
-use Rattle.predicates_explain.specs.Filtered.{ended_lines, is_wanted, Judged, IsVerdict}
+use Rattle.predicates_lines.specs.Lines.{ended_lines}
+use Rattle.predicates_explain.specs.Filtered.{is_wanted, Judged, IsVerdict}
 use Rattle.predicates_explain.specs.declared.filter.Filtered.{Filtered}
-
-ended-one : (byte : ℕ) (b : Bool) → (byte == 10) ≡ b
-    → ended_lines (byte ∷ []) ≡ take_through 10 (byte ∷ []) ∷ ended_lines (drop_through 10 (byte ∷ []))
-ended-one byte true e = simp e
-ended-one byte false e = simp e
-
-ended-more : (byte next : ℕ) (bytes : List ℕ) (b : Bool) → (byte == 10) ≡ b
-    → ended_lines (next ∷ bytes) ≡ take_through 10 (next ∷ bytes) ∷ ended_lines (drop_through 10 (next ∷ bytes))
-    → ended_lines (byte ∷ next ∷ bytes) ≡ take_through 10 (byte ∷ next ∷ bytes) ∷ ended_lines (drop_through 10 (byte ∷ next ∷ bytes))
-ended-more byte next bytes true e step = simp e
-ended-more byte next bytes false e step = simp e (ap (onto_first byte) step)
-
-ended-through : (byte : ℕ) (bytes : List ℕ)
-    → ended_lines (byte ∷ bytes) ≡ take_through 10 (byte ∷ bytes) ∷ ended_lines (drop_through 10 (byte ∷ bytes))
-ended-through byte [] = ended-one byte (byte == 10) refl
-ended-through byte (next ∷ bytes) = ended-more byte next bytes (byte == 10) refl (ended-through next bytes)
-
--- what `read_until` took is the first line with its line feed
-pub ended_from_taken : (bytes taken : List ℕ) → taken ≡ take_through 10 bytes → 0 < length taken
-    → ended_lines bytes ≡ taken ∷ ended_lines (drop_through 10 bytes)
-ended_from_taken [] taken e some = absurd (omega (arith, ap length e))
-ended_from_taken (byte ∷ bytes) taken e some = rw e (ended-through byte bytes)
 
 -- the lines that are taken have their verdicts, and those that are wanted are written
 pub record HasPassed (has : Text → Formula → Type 0) (wanted : Bool)

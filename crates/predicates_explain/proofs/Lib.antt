@@ -7,4 +7,3 @@ pub mod Numerals
 pub mod PartsOfChecks
 pub mod Postfix
 pub mod Progress
-pub mod Splitting

@@ -1,8 +1,10 @@
 -- How far a run has come in its input.
-use Rattle.std.proofs.Common.{◌≡◌, ℕ, ◌+◌, Bool, List, [], ◌∷◌, ◌++◌, length, All, Option, Some, ◌↔◌, IsTrue, refl, sym, ◌∙◌, ap, arith, append_assoc, append-nil, length-append, add-zero}
+use Rattle.std.proofs.Common.{◌≡◌, ℕ, ◌+◌, Bool, List, [], ◌∷◌, ◌++◌, length, All, Option, Some, ◌↔◌, IsTrue, refl, sym, ◌∙◌, ap, arith, append_assoc, append-nil, length-append, add-zero, map}
+use Rattle.std.specs.Io.BufRead.{strip_last}
 use Rattle.std.specs.Io.KnownBytes.{Appends}
 use Rattle.std.proofs.KnownBytes.{Appends-trans}
 use Rattle.std.proofs.lemmas.List.Elements.{All-push, All-pop}
+use Rattle.predicates_lines.specs.Lines.{ended_lines}
 use Rattle.predicates_explain.specs.Runs.{input_lines, AreAnswers}
 
 -- an answer after others
@@ -32,18 +34,22 @@ pub record HasAnswered (IsAnswer : ℕ → List ℕ → List ℕ → Type 0) (Is
   pub items : IsTrue all ↔ All IsItem taken
 
 module _ (IsAnswer : ℕ → List ℕ → List ℕ → Type 0) (IsItem : List ℕ → Type 0) where
-  -- one more line is taken and answered
-  pub has_answered_more : (r0 r1 r2 w0 w1 w2 : Option (List ℕ)) (count : ℕ) (all is_item both : Bool) (line more : List ℕ)
+  -- one more line is taken and answered, without its line feed
+  pub has_answered_more : (r0 r1 r2 w0 w1 w2 : Option (List ℕ)) (count : ℕ) (all is_item both : Bool) (ended line more : List ℕ)
       → HasAnswered IsAnswer IsItem r0 r1 w0 w1 count all
-      → ((bytes : List ℕ) → r1 ≡ Some bytes → (left : List ℕ) × (r2 ≡ Some left) × (input_lines bytes ≡ line ∷ input_lines left))
-      → Appends w1 w2 more → IsAnswer (count + 1) line more
+      → ((bytes : List ℕ) → r1 ≡ Some bytes → (left : List ℕ) × (r2 ≡ Some left) × (ended_lines bytes ≡ ended ∷ ended_lines left))
+      → line ≡ strip_last 10 ended → Appends w1 w2 more → IsAnswer (count + 1) line more
       → (IsTrue is_item ↔ IsItem line) → IsTrue both ↔ (IsTrue all × IsTrue is_item)
       → HasAnswered IsAnswer IsItem r0 r2 w0 w2 (count + 1) both
-  has_answered_more r0 r1 r2 w0 w1 w2 count all is_item both line more h next appends answer item joins = record {
+  has_answered_more r0 r1 r2 w0 w1 w2 count all is_item both ended line more h next bare appends answer item joins = record {
     taken = h.taken ++ line ∷ [];
     written = h.written ++ more;
-    left = λ bytes known. let l = h.left bytes known in let n = next l.0 l.1 in
-        (n.0, n.1, l.2 ∙ ap (λ others. h.taken ++ others) n.2 ∙ sym (append_assoc h.taken (line ∷ []) (input_lines n.0)));
+    left = λ bytes known. let l = h.left bytes known in let n = next l.0 l.1 in (
+      n.0,
+      n.1,
+      l.2 ∙ ap (λ others. h.taken ++ map (λ line. strip_last 10 line) others) n.2
+          ∙ ap (λ first. h.taken ++ first ∷ input_lines n.0) (sym bare) ∙ sym (append_assoc h.taken (line ∷ []) (input_lines n.0)),
+    );
     counts = omega (arith, h.counts, length-append h.taken (line ∷ []));
     appends = Appends-trans _ _ _ _ _ h.appends appends;
     answers = AreAnswers-more IsAnswer 1 h.taken line h.written more h.answers (let same : 1 + length h.taken ≡ count + 1 = omega (arith, h.counts) in rw same answer);

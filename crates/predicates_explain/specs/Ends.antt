@@ -5,9 +5,9 @@ use Rattle.predicates_explain.specs.CommandLine.{AreWrongWords, AreRightWords, H
 use Rattle.predicates_explain.specs.CommandLine.{HasRunOf}
 use Rattle.predicates_explain.specs.Postfix.{FailsFirst, IsFirstProblem}
 use Rattle.predicates_explain.specs.declared.check.TextCheck.{TextCheck}
-use Rattle.predicates_explain.specs.declared.run_fault.RunFault.{RunFault}
-use Rattle.predicates_explain.specs.declared.run_fault.RunFault.TheVariants.{NoMemory as RunNoMemory}
-use Rattle.predicates_explain.specs.declared.run_fault.RunFault.TheVariants.{Input, Output}
+use Rattle.predicates_lines.specs.declared.run_fault.RunFault.{RunFault}
+use Rattle.predicates_lines.specs.declared.run_fault.RunFault.TheVariants.{NoMemory as RunNoMemory}
+use Rattle.predicates_lines.specs.declared.run_fault.RunFault.TheVariants.{Input, Output}
 use Rattle.predicates_explain.specs.declared.program.end.End.{End}
 use Rattle.predicates_explain.specs.declared.program.end.End.TheVariants.{AllItems, NotAllItems}
 use Rattle.predicates_explain.specs.declared.program.end.End.TheVariants.{Usage, PatternRefused, TooDeep}

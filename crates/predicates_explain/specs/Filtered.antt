@@ -1,20 +1,14 @@
 -- Which lines of an input a filter writes.
-use Rattle.std.specs.Prelude.{◌≡◌, ℕ, ◌==◌, Bool, true, false, not, List, [], ◌∷◌, Option, Some, None}
-use Rattle.std.specs.Prelude.{All, map, filter, flat_map, length, string_bytes, is_none, if◌then◌else◌}
+use Rattle.std.specs.Prelude.{◌≡◌, ℕ, Bool, true, false, not, List, [], Option, Some, None}
+use Rattle.std.specs.Prelude.{All, map, filter, flat_map, length, string_bytes, is_none}
 use Rattle.std.specs.Option.{ForSome}
 use Rattle.std.specs.Str.{IsUtf8}
 use Rattle.std.specs.Io.BufRead.{strip_last}
 use Rattle.std.specs.Io.KnownBytes.{Appends}
 use Rattle.predicates_core.specs.Text.{Text}
 use Rattle.predicates_core.specs.Formula.{Formula, HasTruth}
-use Rattle.predicates_explain.specs.Runs.{onto_first}
+use Rattle.predicates_lines.specs.Lines.{ended_lines}
 use Rattle.predicates_explain.specs.declared.filter.Filtered.{Filtered}
-
--- the lines of an input, each with the line feed that ends it; the last may have none
-abbrev pub ended_lines : List ℕ → List (List ℕ)
-ended_lines [] = []
-ended_lines (byte ∷ bytes) = if byte == 10 then (byte ∷ []) ∷ ended_lines bytes else onto_first byte
-    (ended_lines bytes)
 
 -- the truth that each formula has on a text with the line's bytes before its line feed; none where
 -- those are no text

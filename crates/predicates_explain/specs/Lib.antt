@@ -10,7 +10,6 @@ pub mod Filtered
 pub mod Meaning
 pub mod Number
 pub mod Postfix
-pub mod RunFault
 pub mod Runs
 pub mod TextAnswers
 pub mod Tokens

@@ -1,7 +1,6 @@
 //! A run over numbers.
 ghost use Rattle.std.specs.Prelude.{◌≡◌, ℤ, IfOk, OnOk, string_bytes};
 ghost use Rattle.std.specs.Fmt.{signed_decimal};
-ghost use Rattle.std.specs.Io.BufRead.{strip_last};
 ghost use Rattle.predicates_boolean.specs.Join.{left_of, right_of};
 ghost use Rattle.predicates_boolean.specs.declared.boolean.join.JoinPredicate.{JoinPredicate};
 ghost use Rattle.predicates_boolean.specs.declared.boolean.join.AndOperator.{AndOperator};
@@ -13,11 +12,11 @@ ghost use Rattle.predicates_explain.specs.Runs.{HasRun};
 
 use crate::block::complete_block;
 use crate::parse_number;
-use crate::run::{AnswerLine, run_lines};
-use crate::run_fault::RunFault;
+use crate::run::{AnswerLine, drop_last, run_lines};
 use predicates::Total;
 use predicates::boolean::{AndPredicate, PredicateBooleanExt};
 use predicates::ord::{OrdPredicate, ge, le};
+use predicates_lines::RunFault;
 use std::alloc::{AllocError, Global};
 use std::fmt::Write as _;
 use std::io::{BufRead, Write};
@@ -26,16 +25,6 @@ use std::io::{BufRead, Write};
 #[derive(Drop)]
 struct Numbers<'a, P> {
     predicate: &'a P,
-}
-
-// The bytes without one at the end, if it is this one.
-fn drop_last(line: &[u8], byte: u8) -> &[u8]
-    ensures { result.now ≡ strip_last byte line.now }
-{
-    match line {
-        [front @ .., last] if *last == byte => front,
-        _ => line,
-    }
 }
 
 // Writes the number, as the label of its block, in place of what the text held.

@@ -1,15 +1,12 @@
 //! A filter over the lines of an input.
-ghost use Rattle.std.specs.Prelude.{◌≡◌, ℕ, ◌+◌, ◌<◌, ◌^◌, List, [], ◌∷◌, IfOk, OnOk, Some, Ok, true};
-ghost use Rattle.std.specs.Prelude.{false, string_bytes, if◌then◌else◌, is_none};
-ghost use Rattle.std.specs.Option.{ForSome};
-ghost use Rattle.std.specs.Io.BufRead.{strip_last};
+ghost use Rattle.std.specs.Prelude.{◌≡◌, ◌+◌, ◌<◌, ◌^◌, [], IfOk, OnOk, if◌then◌else◌, is_none};
 ghost use Rattle.std.specs.Io.KnownBytes.{Appends};
-ghost use Rattle.predicates_explain.specs.Filtered.{ended_lines, is_wanted, IsVerdict, HasFiltered};
+ghost use Rattle.predicates_explain.specs.Filtered.{is_wanted, IsVerdict, HasFiltered};
 
-use crate::run::{classify_error, flush};
-use crate::run_fault::RunFault;
+use crate::run::drop_last;
 use crate::text::set_item;
 use predicates::Predicate;
+use predicates_lines::{RunFault, flush, next_line, write_bytes};
 use std::alloc::{AllocError, Global};
 use std::io::{BufRead, Write};
 use std::str;
@@ -48,33 +45,6 @@ impl Filtered {
     }
 }
 
-// Takes the next line of the input, with its line feed, in place of what `line` held.
-// The answer is `false` at the end of the input.
-fn next_ended_line<R: BufRead>(input: &mut R, line: &mut Vec<u8>) -> Result<bool, RunFault>
-    ensures more { result ≡ Ok true → ForSome (R.remaining input.old) (λ bytes. (left : List ℕ)
-        × (R.remaining input.new ≡ Some left)
-        × (ended_lines bytes ≡ line.new.items ∷ ended_lines left)) }
-    ensures end { result ≡ Ok false → ForSome (R.remaining input.old) (λ bytes.
-        (R.remaining input.new ≡ Some []) × (ended_lines bytes ≡ [])) }
-{
-    line.clear();
-    match input.read_until(b'\n', line) {
-        Ok(0) => Ok(false),
-        Ok(_) => Ok(true),
-        Err(error) => Err(classify_error(&error, RunFault::Input)),
-    }
-}
-
-// A line without its line feed.
-fn without_line_feed(line: &[u8]) -> &[u8]
-    ensures { result.now ≡ strip_last 10 line.now }
-{
-    match line {
-        [text @ .., b'\n'] => text,
-        _ => line,
-    }
-}
-
 // The verdict on the text of a line; none where that is not UTF-8. The item is used again for the
 // next line.
 fn find_verdict<P: Predicate<String>>(
@@ -86,7 +56,7 @@ fn find_verdict<P: Predicate<String>>(
     requires { P.lawful predicate.now }
     ensures { IfOk result (IsVerdict (P.formula predicate.now) line.now) }
 {
-    match str::from_utf8(without_line_feed(line)) {
+    match str::from_utf8(drop_last(line, b'\n')) {
         Ok(text) => {
             set_item(item, text)?;
             Ok(Some(predicate.eval(alloc, &*item)?))
@@ -106,9 +76,7 @@ fn write_wanted<W: Write>(
         (if is_wanted wanted verdict then line.now else [])) }
 {
     match verdict {
-        Some(verdict) if verdict == wanted => output
-            .write_all(line)
-            .map_err(|error| classify_error(&error, RunFault::Output)),
+        Some(verdict) if verdict == wanted => write_bytes(output, line),
         _ => Ok(()),
     }
 }
@@ -144,7 +112,7 @@ pub fn filter_lines<P: Predicate<String>, R: BufRead, W: Write>(
         not_utf8: 0,
     };
     for taken in 0..u64::MAX {
-        if !next_ended_line(input, &mut line)? {
+        if !next_line(input, &mut line)? {
             flush(output)?;
             return Ok(counts);
         }
@@ -153,7 +121,7 @@ pub fn filter_lines<P: Predicate<String>, R: BufRead, W: Write>(
         counts = counts.count(wanted, verdict);
     }
     // More lines than can be counted.
-    if next_ended_line(input, &mut line)? {
+    if next_line(input, &mut line)? {
         return Err(RunFault::Input);
     }
     flush(output)?;

@@ -1,17 +1,11 @@
 //! A run over the lines of an input, which writes an answer to each.
-ghost use Rattle.std.specs.Prelude.{◌≡◌, ◌≢◌, ◌↔◌, ℕ, List, [], ◌∷◌, IsTrue, IfOk, OnOk, Some, Ok};
-ghost use Rattle.std.specs.Prelude.{true, false, string_bytes};
-ghost use Rattle.std.specs.Option.{ForSome};
-ghost use Rattle.std.specs.IoError.{error_kind};
+ghost use Rattle.std.specs.Prelude.{◌≡◌, ◌↔◌, ℕ, List, IsTrue, IfOk, OnOk, string_bytes};
 ghost use Rattle.std.specs.Io.BufRead.{strip_last};
-ghost use Rattle.std.specs.Io.KnownBytes.{Appends, Keeps};
-ghost use Rattle.predicates_explain.specs.Runs.{input_lines, HasRun};
-ghost use Rattle.predicates_explain.specs.declared.run_fault.RunFault.TheVariants.{NoMemory};
+ghost use Rattle.predicates_explain.specs.Runs.{HasRun};
 
-use crate::run_fault::RunFault;
+use predicates_lines::{RunFault, flush, next_line, write_bytes};
 use std::alloc::{AllocError, Global};
-use std::io;
-use std::io::{BufRead, ErrorKind, Write};
+use std::io::{BufRead, Write};
 
 // Answers lines one by one.
 pub(crate) trait AnswerLine {
@@ -38,62 +32,14 @@ pub(crate) trait AnswerLine {
         ensures item { IfOk result (λ found. IsTrue found ↔ is_item self.now line.now) };
 }
 
-// The fault of a read or a write that failed: out of memory, or the one that is given.
-pub(crate) fn classify_error(error: &io::Error, fault: RunFault) -> RunFault
-    ensures memory { error_kind error.now ≡ ErrorKind.OutOfMemory → result ≡ NoMemory }
-    ensures other { error_kind error.now ≢ ErrorKind.OutOfMemory → result ≡ fault }
+// The bytes without one at the end, if it is this one.
+pub(crate) fn drop_last(line: &[u8], byte: u8) -> &[u8]
+    ensures { result.now ≡ strip_last byte line.now }
 {
-    if error.kind() == ErrorKind::OutOfMemory {
-        RunFault::NoMemory
-    } else {
-        fault
+    match line {
+        [front @ .., last] if *last == byte => front,
+        _ => line,
     }
-}
-
-// Removes one byte at the end, if it is this one.
-fn pop_if_last(line: &mut Vec<u8>, byte: u8)
-    ensures { line.new.items ≡ strip_last byte line.old.items }
-{
-    if line.last() == Some(&byte) {
-        line.pop();
-    }
-}
-
-// Takes the next line of the input, without its line feed, in place of what `line` held.
-// The answer is `false` at the end of the input.
-fn next_line<R: BufRead>(input: &mut R, line: &mut Vec<u8>) -> Result<bool, RunFault>
-    ensures more { result ≡ Ok true → ForSome (R.remaining input.old) (λ bytes. (left : List ℕ)
-        × (R.remaining input.new ≡ Some left)
-        × (input_lines bytes ≡ line.new.items ∷ input_lines left)) }
-    ensures end { result ≡ Ok false → ForSome (R.remaining input.old) (λ bytes.
-        (R.remaining input.new ≡ Some []) × (input_lines bytes ≡ [])) }
-{
-    line.clear();
-    match input.read_until(b'\n', line) {
-        Ok(0) => Ok(false),
-        Ok(_) => {
-            pop_if_last(line, b'\n');
-            Ok(true)
-        }
-        Err(error) => Err(classify_error(&error, RunFault::Input)),
-    }
-}
-
-fn write_text<W: Write>(output: &mut W, text: &str) -> Result<(), RunFault>
-    ensures { OnOk result (Appends (W.contents output.old) (W.contents output.new) text.now) }
-{
-    output
-        .write_all(text.as_bytes())
-        .map_err(|error| classify_error(&error, RunFault::Output))
-}
-
-// Passes on to the system what the writer keeps back.
-pub(crate) fn flush<W: Write>(output: &mut W) -> Result<(), RunFault>
-    ensures { OnOk result (Keeps (W.contents output.old) (W.contents output.new)) }
-{
-    output
-        .flush()
-        .map_err(|error| classify_error(&error, RunFault::Output))
 }
 
 // Answers each line of the input, and says whether every one was an item.
@@ -117,8 +63,9 @@ pub(crate) fn run_lines<C: AnswerLine, R: BufRead, W: Write>(
             flush(output)?;
             return Ok(all);
         }
-        let is_item = check.answer(alloc, taken + 1, &line, &mut text, &mut scratch)?;
-        write_text(output, text.as_str())?;
+        let bare = drop_last(&line, b'\n');
+        let is_item = check.answer(alloc, taken + 1, bare, &mut text, &mut scratch)?;
+        write_bytes(output, text.as_bytes())?;
         all &= is_item;
     }
     // More lines than can be counted.

@@ -6,8 +6,8 @@ ghost use Rattle.predicates_explain.specs.Runs.{HasRun};
 
 use crate::block::complete_block;
 use crate::run::{AnswerLine, run_lines};
-use crate::run_fault::RunFault;
 use predicates::Predicate;
+use predicates_lines::RunFault;
 use std::alloc::{AllocError, Global};
 use std::fmt::Write as _;
 use std::io::{BufRead, Write};

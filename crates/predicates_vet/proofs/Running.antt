@@ -1,7 +1,6 @@
 -- How far a run has come in its input.
-use Rattle.std.proofs.Common.{◌≡◌, ℕ, ◌+◌, ◌<◌, ◌≤◌, Bool, true, false, not, List, [], ◌∷◌, ◌++◌, length, Option, Some, None, refl, sym, ◌∙◌, ap, subst, arith, append_assoc, append-nil, length-append, if◌then◌else◌, ◌==◌, map}
+use Rattle.std.proofs.Common.{◌≡◌, ℕ, ◌+◌, ◌≤◌, Bool, true, false, not, List, [], ◌∷◌, ◌++◌, length, Option, Some, None, refl, sym, ◌∙◌, ap, subst, arith, append_assoc, append-nil, length-append, if◌then◌else◌, map}
 use Rattle.std.specs.Prelude.{filter, flat_map, is_some, option_map}
-use Rattle.std.specs.Io.BufRead.{take_through, drop_through}
 use Rattle.std.specs.Io.KnownBytes.{Appends}
 use Rattle.std.proofs.KnownBytes.{Appends-nil, Appends-trans}
 use Rattle.std.proofs.lemmas.List.{map-append}
@@ -12,33 +11,12 @@ use Rattle.std.specs.Str.{IsUtf8, is_utf8}
 use Rattle.std.proofs.lemmas.Str.{IsUtf8-from_is_utf8, is_utf8-from_IsUtf8}
 use Rattle.serde_json.specs.Read.{read}
 use Rattle.serde_json.specs.Data.{Data}
+use Rattle.predicates_lines.specs.Lines.{ended_lines}
 use Rattle.predicates_vet_check.specs.declared.rule_check.RuleCheck.{RuleCheck}
 use Rattle.predicates_vet.specs.Records.{keeps}
-use Rattle.predicates_vet.specs.Runs.{onto_first, ended_lines, record_on, IsLineWritten, Told, AreTold, breaks, is_false}
+use Rattle.predicates_vet.specs.Runs.{record_on, IsLineWritten, Told, AreTold, breaks, is_false}
 use Rattle.predicates_vet.specs.declared.settings.Settings.{Settings}
 use Rattle.predicates_vet.specs.declared.run.Counts.{Counts}
-
-ended-one : (byte : ℕ) (b : Bool) → (byte == 10) ≡ b
-    → ended_lines (byte ∷ []) ≡ take_through 10 (byte ∷ []) ∷ ended_lines (drop_through 10 (byte ∷ []))
-ended-one byte true e = simp e
-ended-one byte false e = simp e
-
-ended-more : (byte next : ℕ) (bytes : List ℕ) (b : Bool) → (byte == 10) ≡ b
-    → ended_lines (next ∷ bytes) ≡ take_through 10 (next ∷ bytes) ∷ ended_lines (drop_through 10 (next ∷ bytes))
-    → ended_lines (byte ∷ next ∷ bytes) ≡ take_through 10 (byte ∷ next ∷ bytes) ∷ ended_lines (drop_through 10 (byte ∷ next ∷ bytes))
-ended-more byte next bytes true e step = simp e
-ended-more byte next bytes false e step = simp e (ap (onto_first byte) step)
-
-ended-through : (byte : ℕ) (bytes : List ℕ)
-    → ended_lines (byte ∷ bytes) ≡ take_through 10 (byte ∷ bytes) ∷ ended_lines (drop_through 10 (byte ∷ bytes))
-ended-through byte [] = ended-one byte (byte == 10) refl
-ended-through byte (next ∷ bytes) = ended-more byte next bytes (byte == 10) refl (ended-through next bytes)
-
--- what `read_until` took is the first line with its line feed
-pub ended_from_taken : (bytes taken : List ℕ) → taken ≡ take_through 10 bytes → 0 < length taken
-    → ended_lines bytes ≡ taken ∷ ended_lines (drop_through 10 bytes)
-ended_from_taken [] taken e some = absurd (omega (arith, ap length e))
-ended_from_taken (byte ∷ bytes) taken e some = rw e (ended-through byte bytes)
 
 -- one more line counts where it passes the test
 filter-more : (p : Told → Bool) (lines : List Told) (l : Told) (b : Bool) → p l ≡ b

@@ -1,25 +1,15 @@
 -- What a run writes.
-use Rattle.std.specs.Prelude.{nat_lt, ◌≡◌, ℕ, ◌+◌, List, [], ◌∷◌, Bool, false, not, Option, Some, None, if◌then◌else◌, ◌==◌, map, filter, flat_map, length, is_some}
+use Rattle.std.specs.Prelude.{nat_lt, ◌≡◌, ℕ, ◌+◌, List, [], ◌∷◌, Bool, false, not, Option, Some, None, if◌then◌else◌, map, filter, flat_map, length, is_some}
 use Rattle.std.specs.Option.{ForSome}
 use Rattle.std.specs.Str.{is_utf8}
 use Rattle.std.specs.Io.KnownBytes.{Appends}
 use Rattle.serde_json.specs.Data.{Data}
 use Rattle.serde_json.specs.Read.{read}
+use Rattle.predicates_lines.specs.Lines.{ended_lines}
 use Rattle.predicates_vet_check.specs.declared.rule_check.RuleCheck.{RuleCheck}
 use Rattle.predicates_vet.specs.Records.{keeps, IsWritten}
 use Rattle.predicates_vet.specs.declared.settings.Settings.{Settings}
 use Rattle.predicates_vet.specs.declared.run.Counts.{Counts}
-
--- a byte before the first of some lines
-abbrev pub onto_first : ℕ → List (List ℕ) → List (List ℕ)
-onto_first byte [] = (byte ∷ []) ∷ []
-onto_first byte (line ∷ others) = (byte ∷ line) ∷ others
-
--- the lines of an input, each with the line feed that ends it; the last may have none
-abbrev pub ended_lines : List ℕ → List (List ℕ)
-ended_lines [] = []
-ended_lines (byte ∷ bytes) = if byte == 10 then (byte ∷ []) ∷ ended_lines bytes else onto_first byte
-    (ended_lines bytes)
 
 -- the record that stands on a line, if one does: text that JSON reads
 abbrev pub record_on : List ℕ → Option Data

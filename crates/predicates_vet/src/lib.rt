@@ -5,10 +5,9 @@ mod program;
 mod record;
 mod rules_file;
 mod run;
-mod run_fault;
 pub mod settings;
 
+pub use predicates_lines::RunFault;
 pub use program::run_program;
 pub use rules_file::{ReadChecksError, read_checks};
 pub use run::{Counts, run_records};
-pub use run_fault::RunFault;

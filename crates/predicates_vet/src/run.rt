@@ -1,25 +1,22 @@
 //! A run over the records of an input, one on a line.
-ghost use Rattle.std.specs.Prelude.{◌≡◌, ◌≢◌, ◌+◌, ◌<◌, ◌^◌, ◌∷◌, ℕ, List, [], Ok, Some, IfOk, OnOk};
-ghost use Rattle.std.specs.Prelude.{true, false, string_bytes, option_map, if◌then◌else◌, is_some, not};
-ghost use Rattle.std.specs.Option.{ForSome};
-ghost use Rattle.std.specs.IoError.{error_kind};
-ghost use Rattle.std.specs.Io.KnownBytes.{Appends, Keeps};
+ghost use Rattle.std.specs.Prelude.{◌≡◌, ◌+◌, ◌<◌, ◌^◌, ℕ, List, IfOk, option_map, if◌then◌else◌, is_some};
+ghost use Rattle.std.specs.Prelude.{not};
+ghost use Rattle.std.specs.Io.KnownBytes.{Appends};
 ghost use Rattle.serde_json.specs.Read.{read};
 ghost use Rattle.serde_json.specs.View.{view};
 ghost use Rattle.predicates_vet.specs.Records.{keeps, IsWritten};
 ghost use Rattle.predicates_vet.specs.Runs.{is_false, status_of};
-ghost use Rattle.predicates_vet.specs.Runs.{ended_lines, record_on, HasRun, breaks, IsLineWritten};
-ghost use Rattle.predicates_vet.specs.declared.run_fault.RunFault.TheVariants.{NoMemory};
+ghost use Rattle.predicates_vet.specs.Runs.{record_on, HasRun, IsLineWritten};
 
 use crate::record::{keeps, write_broken, write_object};
-use crate::run_fault::RunFault;
 use crate::settings::{Report, Settings};
+use predicates_lines::{RunFault, flush, next_line, write_bytes};
 use predicates_vet_check::RuleCheck;
 use serde_json::Value;
 use std::alloc::{AllocError, Global};
 use std::fmt::Write as _;
-use std::io::{BufRead, ErrorKind, Write};
-use std::{io, str};
+use std::io::{BufRead, Write};
+use std::str;
 
 /// How many lines a run took.
 #[derive(Clone, Copy, Debug, PartialEq, Eq)]
@@ -79,51 +76,6 @@ impl Counts {
             },
         }
     }
-}
-
-// The fault of a read or a write that failed: want of memory, or the one that is given.
-fn classify_error(error: &io::Error, fault: RunFault) -> RunFault
-    ensures memory { error_kind error.now ≡ ErrorKind.OutOfMemory → result ≡ NoMemory }
-    ensures other { error_kind error.now ≢ ErrorKind.OutOfMemory → result ≡ fault }
-{
-    if error.kind() == ErrorKind::OutOfMemory {
-        RunFault::NoMemory
-    } else {
-        fault
-    }
-}
-
-// Takes the next line of the input, with its line feed, in place of what `line` held.
-// The answer is `false` at the end of the input.
-fn next_line<R: BufRead>(input: &mut R, line: &mut Vec<u8>) -> Result<bool, RunFault>
-    ensures more { result ≡ Ok true → ForSome (R.remaining input.old) (λ bytes. (left : List ℕ)
-        × (R.remaining input.new ≡ Some left)
-        × (ended_lines bytes ≡ line.new.items ∷ ended_lines left)) }
-    ensures end { result ≡ Ok false → ForSome (R.remaining input.old) (λ bytes.
-        (R.remaining input.new ≡ Some []) × (ended_lines bytes ≡ [])) }
-{
-    line.clear();
-    match input.read_until(b'\n', line) {
-        Ok(0) => Ok(false),
-        Ok(_) => Ok(true),
-        Err(error) => Err(classify_error(&error, RunFault::Input)),
-    }
-}
-
-fn write_bytes<W: Write>(output: &mut W, bytes: &[u8]) -> Result<(), RunFault>
-    ensures { OnOk result (Appends (W.contents output.old) (W.contents output.new) bytes.now) }
-{
-    output
-        .write_all(bytes)
-        .map_err(|error| classify_error(&error, RunFault::Output))
-}
-
-fn flush<W: Write>(output: &mut W) -> Result<(), RunFault>
-    ensures { OnOk result (Keeps (W.contents output.old) (W.contents output.new)) }
-{
-    output
-        .flush()
-        .map_err(|error| classify_error(&error, RunFault::Output))
 }
 
 // What JSON reads in the source, or none, and then the text says why.

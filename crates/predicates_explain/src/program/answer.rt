@@ -7,8 +7,8 @@ ghost use Rattle.predicates_explain.specs.CommandLine.{typed};
 use super::end::{End, end_of};
 use super::read::{read_bounds, read_check};
 use crate::between::run_between;
-use crate::run_fault::RunFault;
 use crate::text::run_text;
+use predicates_lines::RunFault;
 use std::alloc::Global;
 use std::io::{BufRead, Write};
 

@@ -4,7 +4,7 @@ ghost use Rattle.std.specs.Io.KnownBytes.{Appends};
 ghost use Rattle.predicates_explain.specs.declared.program.end.End.TheVariants.{NoMemory};
 ghost use Rattle.predicates_explain.specs.Ends.{status_of, message_of, end_of_fault};
 
-use crate::run_fault::RunFault;
+use predicates_lines::RunFault;
 use std::alloc::AllocError;
 use std::io::Write;
 

@@ -105,7 +105,7 @@ fn flushed_at_each_end(rt: HostRuntime) -> Result<(), Fail> {
 #[test]
 fn flags_change_no_fault(rt: HostRuntime) -> Result<(), Fail> {
     let shown = RunFault::Output.to_string(rt.alloc())?;
-    assert_eq!(rt; shown.as_str(), "output fault");
+    assert_eq!(rt; shown.as_str(), "output could not be written");
     for fault in [RunFault::NoMemory, RunFault::Input, RunFault::Output] {
         let plain = format!(in rt.alloc(); "{fault} {fault} {fault}")?;
         let flagged = format!(in rt.alloc(); "{fault:#} {fault:40} {fault:.3}")?;

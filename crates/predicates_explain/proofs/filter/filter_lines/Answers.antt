@@ -13,9 +13,9 @@ count-counts-requires-clause-not_utf8 g c = omega (arith, not_utf8_within _ _ c.
 
 pub loop-taken-preserved : goal.loop-taken-preserved
 loop-taken-preserved g c =
-    has_passed_more _ _ _ _ _ _ _ _ _ _ _ c.next_ended_line.new.line.items
+    has_passed_more _ _ _ _ _ _ _ _ _ _ _ c.next_line.new.line.items
     _ c.loop-taken.invariant
-    (c.in_ok-next_ended_line.ensures.more (ap Ok c.if-not-branch.false))
+    (c.in_ok-next_line.ensures.more (ap Ok c.if-not-branch.false))
     (rw c.deref.ensures.value at c.in_ok-verdict.ensures)
     (rw c.deref-in-loop-taken.ensures.value at c.in_ok-write_wanted.ensures)
     c.count-counts.ensures.written c.count-counts.ensures.not_utf8

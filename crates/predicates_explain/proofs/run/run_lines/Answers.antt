@@ -10,10 +10,11 @@ both false is_item = (λ e. absurd (cc), λ h. absurd (cc (h.0)))
 
 pub loop-taken-preserved : goal.loop-taken-preserved
 loop-taken-preserved g c =
-    has_answered_more _ _ _ _ _ _ _ _ _ _ c.in_ok-is_item.is_item _ c.next_line.new.line.items
+    has_answered_more _ _ _ _ _ _ _ _ _ _ c.in_ok-is_item.is_item _ c.next_line.new.line.items _
     _ c.loop-taken.invariant
     (c.in_ok-next_line.ensures.more (ap Ok c.if-not-branch.false))
-    (rw c.as_str.ensures.value at c.in_ok-write_text.ensures)
-    (rw c.deref.ensures.value at c.in_ok-is_item.ensures.text)
-    (rw c.deref.ensures.value at c.in_ok-is_item.ensures.item)
+    (rw c.deref.ensures.value at c.drop_last-bare.ensures)
+    (rw c.as_bytes.ensures.value at c.in_ok-write_bytes.ensures.written)
+    c.in_ok-is_item.ensures.text
+    c.in_ok-is_item.ensures.item
     (both c.loop-taken.all c.in_ok-is_item.is_item)

@@ -1,7 +1,7 @@
 use Rattle.std.proofs.Common.{◌<◌, length, arith}
 use Rattle.std.specs.Io.BufRead.{drop_through}
-use Rattle.predicates_explain.proofs.Filtering.{ended_from_taken}
-use Rattle.predicates_explain.proofs.filter.next_ended_line.Goals as goal
+use Rattle.predicates_lines.proofs.Splitting.{ended_from_taken}
+use Rattle.predicates_lines.proofs.read.next_line.Goals as goal
 
 pub returns-in-Ok-clause-more : goal.returns-in-Ok-clause-more
 returns-in-Ok-clause-more g c _ bytes known =

@@ -1,0 +1,21 @@
+//! An input taken line by line, an output that grows by bytes, and why a run over them ended early.
+//!
+//! ```
+//! let mut line = Vec::new(alloc);
+//! for _ in 0..u64::MAX {
+//!     if !next_line(&mut input, &mut line)? {
+//!         break;
+//!     }
+//!     write_bytes(&mut output, &line)?;
+//! }
+//! flush(&mut output)?;
+//! ```
+#![tactic(auto)]
+
+mod read;
+mod run_fault;
+mod write;
+
+pub use read::next_line;
+pub use run_fault::RunFault;
+pub use write::{flush, write_bytes};
