@@ -17,7 +17,6 @@ mod requirements;
 mod rows;
 mod runs;
 mod stacked;
-mod streams;
 mod sweep;
 mod vet;
 mod words;

@@ -2,8 +2,8 @@
 //! and cut short.
 use super::runs::{NUMBERS, SEVEN};
 use super::stacked::stacked;
-use super::streams::{Narrow, Slow};
 use predicates_explain::{RunFault, TextCheck, filter_lines, run_between, run_text};
+use predicates_fakes::{Narrow, Slow};
 use std::alloc::{AllocError, Global};
 use std::io::ErrorKind;
 use std::process::Abort;
