@@ -16,7 +16,6 @@ mod reflected;
 mod requirements;
 mod rows;
 mod runs;
-mod streams;
 mod sweep;
 mod vet;
 mod words;

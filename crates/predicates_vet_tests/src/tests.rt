@@ -5,7 +5,6 @@ mod malformed_records;
 mod malformed_rules;
 mod program;
 mod reference;
-mod streams;
 
 use predicates_vet::settings::{Report, Settings};
 use predicates_vet::{Counts, read_checks, run_records};

@@ -1,8 +1,9 @@
-//! Readers and writers that behave as a rare one may.
+//! A reader and a writer of one byte at a time, without a fault.
 ghost use Rattle.std.specs.Prelude.{Some};
 
+pub use predicates_fakes::Unflushed;
 use std::io;
-use std::io::{BufRead, Error, ErrorKind, Read, Write};
+use std::io::{BufRead, Read, Write};
 
 // A reader that hands out one byte at a time.
 #[derive(Drop)]
@@ -50,85 +51,5 @@ impl Write for Narrow {
 
     fn flush(&mut self) -> io::Result<()> {
         Ok(())
-    }
-}
-
-// A writer that takes all, and fails where it is to pass it on.
-#[derive(Clone, Copy)]
-pub struct Unflushed;
-
-impl Write for Unflushed {
-    fn write(&mut self, buf: &[u8]) -> io::Result<usize> {
-        Ok(buf.len())
-    }
-
-    fn flush(&mut self) -> io::Result<()> {
-        Err(Error::from(ErrorKind::BrokenPipe))
-    }
-}
-
-// A reader that fails after so many calls, with an error of this kind.
-#[derive(Drop)]
-pub struct FailingReader<'a> {
-    pub bytes: &'a [u8],
-    pub calls: usize,
-    pub kind: ErrorKind,
-}
-
-impl FailingReader<'_> {
-    fn call(&mut self) -> io::Result<()> {
-        if self.calls == 0 {
-            return Err(Error::from(self.kind));
-        }
-        self.calls -= 1;
-        Ok(())
-    }
-}
-
-impl Read for FailingReader<'_> {
-    fn read(&mut self, buf: &mut [u8]) -> io::Result<usize> {
-        self.call()?;
-        self.bytes.read(buf)
-    }
-}
-
-impl BufRead for FailingReader<'_> {
-    fn fill_buf(&mut self) -> io::Result<&[u8]> {
-        self.call()?;
-        Ok(self.bytes)
-    }
-
-    fn consume(&mut self, amount: usize) {
-        let all = self.bytes;
-        let taken = amount.min(all.len());
-        self.bytes = &all[taken..];
-    }
-}
-
-// A writer that fails after so many calls, with an error of this kind.
-#[derive(Drop)]
-pub struct FailingWriter {
-    pub calls: usize,
-    pub kind: ErrorKind,
-}
-
-impl FailingWriter {
-    fn call(&mut self) -> io::Result<()> {
-        if self.calls == 0 {
-            return Err(Error::from(self.kind));
-        }
-        self.calls -= 1;
-        Ok(())
-    }
-}
-
-impl Write for FailingWriter {
-    fn write(&mut self, buf: &[u8]) -> io::Result<usize> {
-        self.call()?;
-        Ok(buf.len())
-    }
-
-    fn flush(&mut self) -> io::Result<()> {
-        self.call()
     }
 }

@@ -1,7 +1,7 @@
 //! Lines of texts, to a writer that passes nothing on, and a deep check.
 use super::read_check;
-use super::streams::Unflushed;
 use predicates_explain::{RunFault, run_text};
+use predicates_fakes::Unflushed;
 use std::alloc::Global;
 use std::test::Fail;
 

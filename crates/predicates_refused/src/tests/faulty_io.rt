@@ -1,9 +1,9 @@
 //! The two worked runs and a filter, byte by byte: with a fault at each byte that is read or written,
 //! and cut short.
 use super::runs::{NUMBERS, SEVEN};
-use super::streams::{Narrow, Slow};
 use super::words::check_of;
 use predicates_explain::{RunFault, TextCheck, filter_lines, run_between, run_text};
+use predicates_fakes::{Narrow, Slow};
 use std::alloc::{AllocError, Global};
 use std::io::ErrorKind;
 use std::process::Abort;

@@ -1,5 +1,5 @@
 //! A run byte by byte: with a fault at each byte that is read, or written as an answer or a message.
-use super::streams::{Narrow, Slow};
+use predicates_fakes::{Narrow, Slow};
 use predicates_vet::settings::{Report, Settings};
 use predicates_vet::{Counts, RunFault, read_checks, run_records};
 use std::alloc::{AllocError, Global};

@@ -1,6 +1,6 @@
 use super::split_words;
-use crate::tests::streams::{FailingReader, FailingWriter};
 use predicates_explain::{End, explain_words};
+use predicates_fakes::{FailingReader, FailingWriter};
 use std::alloc::{AllocError, Global};
 use std::io::ErrorKind;
 use std::test::Fail;

@@ -1,117 +1,9 @@
 //! The whole program, over a process of the test's.
 use super::{BLANK, REFUSED, USAGE};
 use predicates_explain::run_program;
-use std::alloc::{Alloc, Allocator, Global};
-use std::cell::RefCell;
-use std::env::FillError;
-use std::fmt::Display;
-use std::io;
-use std::io::{BufRead, Eprint, Error, ErrorKind, Input, Lines, Print};
-use std::rt::Env;
+use predicates_fakes::{Closed, Process};
+use std::alloc::Global;
 use std::test::Fail;
-
-// Words with the program's name, an input, which of the two outputs fails, and what was written so
-// far.
-struct Process<'a> {
-    alloc: Global,
-    words: &'a [&'a [u8]],
-    input: &'a [u8],
-    closed: Closed,
-    output: RefCell<Vec<u8>>,
-    error: RefCell<Vec<u8>>,
-}
-
-// The output that fails.
-#[derive(Clone, Copy, PartialEq, Eq)]
-enum Closed {
-    Neither,
-    Output,
-    Error,
-}
-
-fn append(to: &RefCell<Vec<u8>>, bytes: &[u8]) -> io::Result<()> {
-    let Ok(mut all) = to.try_borrow_mut() else {
-        return Err(Error::from(ErrorKind::Other));
-    };
-    all.extend_from_slice(bytes)?;
-    Ok(())
-}
-
-impl Alloc for Process<'_> {
-    type A = Global;
-
-    fn alloc(&self) -> Global {
-        self.alloc
-    }
-}
-
-impl Env for Process<'_> {
-    fn arg(&self, i: usize, buf: &mut [u8]) -> Result<usize, FillError> {
-        let Some(word) = self.words.get(i) else {
-            return Err(FillError::NotPresent);
-        };
-        let len = word.len();
-        if len > buf.len() {
-            return Err(FillError::TooLong);
-        }
-        buf[..len].copy_from_slice(word);
-        Ok(len)
-    }
-
-    fn var(&self, _name: &str, _buf: &mut [u8]) -> Result<usize, FillError> {
-        Err(FillError::NotPresent)
-    }
-
-    fn var_at(&self, _i: usize, _buf: &mut [u8]) -> Result<usize, FillError> {
-        Err(FillError::NotPresent)
-    }
-}
-
-impl<'a> Input for Process<'a> {
-    type Reader = &'a [u8];
-
-    fn read_line<A: Allocator + Clone>(&self, _buf: &mut String<A>) -> io::Result<usize> {
-        Err(Error::from(ErrorKind::Unsupported))
-    }
-
-    fn lines<A: Allocator>(&self, alloc: A) -> Lines<&'a [u8], A> {
-        self.input.lines(alloc)
-    }
-
-    fn reader(&self) -> &'a [u8] {
-        self.input
-    }
-}
-
-impl Print for Process<'_> {
-    fn print<D: Display + Drop>(&self, value: D) -> io::Result<()> {
-        append(&self.output, value.to_string(self.alloc)?.as_bytes())
-    }
-
-    fn println<D: Display + Drop>(&self, _value: D) -> io::Result<()> {
-        Err(Error::from(ErrorKind::Unsupported))
-    }
-
-    fn write_all(&self, bytes: &[u8]) -> io::Result<()> {
-        if self.closed == Closed::Output {
-            return Err(Error::from(ErrorKind::BrokenPipe));
-        }
-        append(&self.output, bytes)
-    }
-}
-
-impl Eprint for Process<'_> {
-    fn eprint<D: Display + Drop>(&self, value: D) -> io::Result<()> {
-        if self.closed == Closed::Error {
-            return Err(Error::from(ErrorKind::BrokenPipe));
-        }
-        append(&self.error, value.to_string(self.alloc)?.as_bytes())
-    }
-
-    fn eprintln<D: Display + Drop>(&self, _value: D) -> io::Result<()> {
-        Err(Error::from(ErrorKind::Unsupported))
-    }
-}
 
 // The status, standard output and standard error.
 fn run(alloc: Global, words: &[&[u8]], input: &[u8]) -> (u8, Vec<u8>, Vec<u8>) {
@@ -125,24 +17,11 @@ fn run_closed(
     input: &[u8],
     closed: Closed,
 ) -> (u8, Vec<u8>, Vec<u8>) {
-    let process = Process {
-        alloc,
-        words,
-        input,
-        closed,
-        output: RefCell::new(Vec::new(alloc)),
-        error: RefCell::new(Vec::new(alloc)),
-    };
+    let mut process = Process::new(alloc, words, input);
+    process.closed = closed;
     let status = run_program(&process);
-    let Process {
-        alloc: _,
-        words: _,
-        input: _,
-        closed: _,
-        output,
-        error,
-    } = process;
-    (status, output.into_inner(), error.into_inner())
+    let (output, error) = process.into_written();
+    (status, output, error)
 }
 
 const ROWS: [(&[&[u8]], u8, &str, &str); 12] = [
