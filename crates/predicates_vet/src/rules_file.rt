@@ -19,8 +19,12 @@ pub enum ReadChecksError {
     OutOfMemory,
     /// The text says no rules.
     Unreadable(RulesError),
-    /// A rule has a pattern that is no regular expression, or one that is too large.
-    Pattern { rule: String, pattern: String },
+    /// The rule on this line, from 1, has a pattern that is no regular expression, or too large.
+    Pattern {
+        line: usize,
+        rule: String,
+        pattern: String,
+    },
 }
 
 impl fmt::Display for ReadChecksError {
@@ -28,9 +32,14 @@ impl fmt::Display for ReadChecksError {
         match self {
             ReadChecksError::OutOfMemory => f.write_str("out of memory"),
             ReadChecksError::Unreadable(error) => write!(f, "{error}"),
-            ReadChecksError::Pattern { rule, pattern } => {
-                write!(f, "rule {rule}: no regular expression: {pattern}")
-            }
+            ReadChecksError::Pattern {
+                line,
+                rule,
+                pattern,
+            } => write!(
+                f,
+                "line {line}, rule {rule}: no regular expression: {pattern}"
+            ),
         }
     }
 }
@@ -49,7 +58,34 @@ impl<T: Drop> From<AllocFailed<T>> for ReadChecksError {
     }
 }
 
-fn rule_check(alloc: Global, rule: Rule) -> Result<RuleCheck, ReadChecksError>
+// Whether a rule stands on the line: it is neither blank nor a comment.
+fn has_rule(line: &[u8]) -> bool {
+    match line.iter().find(|byte| !byte.is_ascii_whitespace()) {
+        Some(first) => *first != b'#',
+        None => false,
+    }
+}
+
+// The line, from 1, of the rule that has so many before it.
+fn line_of(text: &[u8], before: usize) -> usize {
+    let mut left = before;
+    for (index, line) in text.split(|byte| *byte == b'\n').enumerate() {
+        if has_rule(line) {
+            if left == 0 {
+                return index.saturating_add(1);
+            }
+            left -= 1;
+        }
+    }
+    0
+}
+
+fn rule_check(
+    alloc: Global,
+    rule: Rule,
+    text: &[u8],
+    before: usize,
+) -> Result<RuleCheck, ReadChecksError>
     ensures { IfOk result (IsCheckOf (rule_of rule)) }
 {
     let Rule { name, expression } = rule;
@@ -57,6 +93,7 @@ fn rule_check(alloc: Global, rule: Rule) -> Result<RuleCheck, ReadChecksError>
         Ok(check) => Ok(RuleCheck { name, check }),
         Err(CheckError::OutOfMemory) => Err(ReadChecksError::OutOfMemory),
         Err(CheckError::Pattern(pattern)) => Err(ReadChecksError::Pattern {
+            line: line_of(text, before),
             rule: name,
             pattern,
         }),
@@ -73,23 +110,28 @@ fn rules_of(alloc: Global, text: &[u8]) -> Result<Vec<Rule>, ReadChecksError>
     }
 }
 
-fn checks_of(alloc: Global, rules: Vec<Rule>) -> Result<Vec<RuleCheck>, ReadChecksError>
+fn checks_of(
+    alloc: Global,
+    rules: Vec<Rule>,
+    text: &[u8],
+) -> Result<Vec<RuleCheck>, ReadChecksError>
     ensures { IfOk result (λ checks. AllZip IsCheckOf (map rule_of rules.items) checks.items) }
 {
     let mut checks = Vec::new(alloc);
     for rule in rules {
-        checks.push(rule_check(alloc, rule)?)?;
+        let before = checks.len();
+        checks.push(rule_check(alloc, rule, text, before)?)?;
     }
     Ok(checks)
 }
 
-/// Reads the rules of a file, as `read_rules`, and makes the check of each. It is refused where the
-/// text says no rules, and where a pattern is no regular expression.
+/// Reads the rules of a file, as `read_rules`, and makes the check of each. It fails where the text
+/// says no rules, and where a pattern is no regular expression.
 pub fn read_checks(alloc: Global, text: &[u8]) -> Result<Vec<RuleCheck>, ReadChecksError>
     // What is read is what the text says.
     ensures { IfOk result (λ checks. (rules : List (List ℕ × Tree))
         × AreRulesOf max_depth text.now rules × AllZip IsCheckOf rules checks.items) }
 {
     let rules = rules_of(alloc, text)?;
-    checks_of(alloc, rules)
+    checks_of(alloc, rules, text)
 }

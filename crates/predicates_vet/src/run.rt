@@ -78,6 +78,44 @@ impl Counts {
     }
 }
 
+// How deep a record may nest.
+const MAX_NESTING: usize = 127;
+
+// Whether arrays and objects nest deeper than a record may.
+fn is_too_deep(source: &[u8]) -> bool {
+    let (mut depth, mut in_text, mut is_escaped) = (0_usize, false, false);
+    for byte in source {
+        match byte {
+            _ if is_escaped => is_escaped = false,
+            b'\\' if in_text => is_escaped = true,
+            b'"' => in_text = !in_text,
+            b'[' | b'{' if !in_text => depth = depth.saturating_add(1),
+            b']' | b'}' if !in_text => depth = depth.saturating_sub(1),
+            _ => {}
+        }
+        if depth > MAX_NESTING {
+            return true;
+        }
+    }
+    false
+}
+
+// Writes why JSON reads nothing in the source.
+fn write_problem(
+    source: &str,
+    error: &serde_json::Error,
+    text: &mut String,
+) -> Result<(), AllocError> {
+    let bytes = source.as_bytes();
+    let read = bytes.get(..error.column()).unwrap_or(bytes);
+    if is_too_deep(read) {
+        write!(text, "no JSON: nested more than {MAX_NESTING} deep")?;
+    } else {
+        write!(text, "no JSON: {error}")?;
+    }
+    Ok(())
+}
+
 // What JSON reads in the source, or none, and then the text says why.
 fn parse(alloc: Global, source: &str, text: &mut String) -> Result<Option<Value>, AllocError>
     ensures { IfOk result (λ found. option_map view found ≡ read source.now) }
@@ -88,7 +126,7 @@ fn parse(alloc: Global, source: &str, text: &mut String) -> Result<Option<Value>
             if error.is_memory() {
                 return Err(AllocError);
             }
-            write!(text, "no JSON: {error}")?;
+            write_problem(source, &error, text)?;
             Ok(None)
         }
     }

@@ -3,6 +3,7 @@ mod combined;
 mod faults;
 mod malformed_records;
 mod malformed_rules;
+mod pieces;
 mod program;
 mod reference;
 
@@ -227,8 +228,15 @@ fn is_refused(alloc: Global, rules: &str, message: &str) -> Result<bool, AllocEr
 }
 
 // Rules, and why they are not read.
-const REFUSED: [(&str, &str); 3] = [
-    ("a: / matches \"[\"", "rule a: no regular expression: ["),
+const REFUSED: [(&str, &str); 4] = [
+    (
+        "a: / matches \"[\"",
+        "line 1, rule a: no regular expression: [",
+    ),
+    (
+        "# a\n\nb: / exists\r\n \t# c\nb: / matches \"[\"",
+        "line 5, rule b: no regular expression: [",
+    ),
     (
         "a: / exists\nb: /x ==",
         "line 2, column 9: expected a literal",

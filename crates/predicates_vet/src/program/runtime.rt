@@ -2,6 +2,7 @@
 use super::command::{command, settings_of};
 use crate::rules_file::read_checks;
 use crate::run::{Counts, run_records};
+use predicates_json::is_pointer;
 use std::io::{BufReader, BufWriter, Error, ErrorKind, Write};
 use std::rt::{Env, Files};
 use std::{env, fs, io, str};
@@ -52,6 +53,12 @@ fn answer<E: Env + Files + Input + Print + Eprint + AllocGlobal>(rt: &E) -> io::
         }
     };
     let settings = settings_of(alloc, &matches)?;
+    if let Some(path) = &settings.id {
+        if !is_pointer(path) {
+            eprintln!(rt; "vet: --id {path}: not a path, which begins with `/`")?;
+            return Ok(2);
+        }
+    }
     let path = matches.get_str("RULES").unwrap_or("");
     let text = match fs::read(rt, path) {
         Ok(text) => text,

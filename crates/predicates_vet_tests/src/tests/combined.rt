@@ -69,7 +69,7 @@ const SECOND: [Test<'static>; 3] = [
 // How many records there are.
 const COUNT: u64 = 14;
 
-const RECORDS: &str =
+pub(super) const RECORDS: &str =
     "{}\nnull\n\"ABC\"\n[1, 2]\n{\"x\": 1}\n{\"x\": -9223372036854775808}\n{\"x\": 18446744073709551615, \"l\": []}\n{\"x\": 1.0, \"l\": [1, \"b\", null, {\"x\": 1}]}\n{\"x\": \"b\", \"l\": {\"x\": 1}}\n{\"x\": \"ABC\", \"l\": [{\"x\": \"ABC\"}, {\"x\": \"b\"}]}\n{\"x\": true, \"l\": [[], {\"x\": {}}, \"ABC\", 0]}\n{\"x\": null, \"a/b~\": 0, \"l\": [{\"x\": null, \"l\": [1, 1]}]}\n{\"x\": [], \"l\": \"AB\"}\n{\"x\": \"\u{e9}\", \"l\": [{\"x\": \"\"}]}";
 
 // What is said of the value by two tests that the word joins.

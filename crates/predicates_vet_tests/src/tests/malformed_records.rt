@@ -125,3 +125,56 @@ fn records_with_a_byte_changed(rt: HostRuntime) -> Result<(), Fail> {
     }
     Ok(())
 }
+
+// Opening and closing brackets, as many of each.
+fn nested(alloc: Global, depth: usize) -> Result<Vec<u8>, AllocError> {
+    let mut record = Vec::new(alloc);
+    for _ in 0..depth {
+        record.push(b'[')?;
+    }
+    for _ in 0..depth {
+        record.push(b']')?;
+    }
+    Ok(record)
+}
+
+// Whether the line holds no record, by this message.
+fn is_rejected(alloc: Global, line: &[u8], message: &[u8]) -> Result<bool, AllocError> {
+    match ran(alloc, line)? {
+        Some((_, messages, counts)) => {
+            Ok(counts.unreadable == 1 && messages.as_slice() == message)
+        }
+        None => Ok(false),
+    }
+}
+
+const TOO_DEEP: &[u8] = b"vet: record 2: no JSON: nested more than 127 deep\n";
+
+#[test]
+fn records_that_nest_too_deep(rt: HostRuntime) -> Result<(), Fail> {
+    let alloc = rt.alloc();
+    let deepest = nested(alloc, 127)?;
+    assert!(rt; is_told(alloc, &deepest, 0)?);
+    for depth in [128, 10_000] {
+        let record = nested(alloc, depth)?;
+        assert!(rt; is_rejected(alloc, &record, TOO_DEEP)?, "{depth}");
+    }
+    Ok(())
+}
+
+// Brackets in a text, and those behind the place of another fault, do not count.
+#[test]
+fn other_brackets(rt: HostRuntime) -> Result<(), Fail> {
+    let alloc = rt.alloc();
+    let mut record = Vec::new(alloc);
+    record.extend_from_slice(b"[\"\\\"")?;
+    record.extend_from_slice(nested(alloc, 128)?.as_slice())?;
+    record.extend_from_slice(b"\"")?;
+    assert!(rt; !is_rejected(alloc, &record, TOO_DEEP)?);
+    assert!(rt; is_told(alloc, &record, 1)?);
+    let mut record = vec![in alloc; b'x']?;
+    record.extend_from_slice(nested(alloc, 128)?.as_slice())?;
+    assert!(rt; !is_rejected(alloc, &record, TOO_DEEP)?);
+    assert!(rt; is_told(alloc, &record, 1)?);
+    Ok(())
+}

@@ -26,7 +26,7 @@ const PASSED: &[&[u8]] = &[b"vet", b"rules", b"--passed"];
 
 const BLOCK: &str = "record 1: false\na = false\n  rule: / == 1 = false\n    - found: 2\n";
 
-const ROWS: [Row; 23] = [
+const ROWS: [Row; 24] = [
     // Every record keeps every rule.
     (
         PLAIN,
@@ -170,7 +170,18 @@ const ROWS: [Row; 23] = [
         Closed::Neither,
         2,
         "",
-        "vet: rules: rule b: no regular expression: (\n",
+        "vet: rules: line 2, rule b: no regular expression: (\n",
+    ),
+    // Labels.
+    (
+        &[b"vet", b"--id", b"id", b"rules"],
+        b"a: / == 1",
+        b"1",
+        None,
+        Closed::Neither,
+        2,
+        "",
+        "vet: --id id: not a path, which begins with `/`\n",
     ),
     // Wrong words.
     (
