@@ -1,4 +1,4 @@
-use Rattle.std.proofs.Common.{rules, ◌≡◌, ◌∙◌, ◌⊎◌, inl, inr, ℕ, ◌+◌, ◌*◌, List, Bool, true, false, not, string_bytes, refl, sym, ap, subst, arith}
+use Rattle.std.proofs.Common.{rules, ◌≡◌, ◌∙◌, ◌⊎◌, inl, inr, ◌+◌, ◌*◌, Bool, true, false, not, string_bytes, refl, sym, ap, subst, arith}
 use mathlib.Core.Bool.{beq}
 use Rattle.predicates_core.specs.Formula.{Formula, apply, HasTruth}
 use Rattle.predicates_core.specs.Asked.{asks}
