@@ -48,7 +48,7 @@ fn print_task(port: &Path, folder: &Folder, lines: usize, task: &Task<'_>) {
     let ratio = median(neighbours.map(|(port, original)| port.seconds / original.seconds).collect());
     let mark = missed(task.name, ratio, task.target);
     println!(
-        "| {} | {:.2} | {:.2} | {ratio:.2}{mark} | {} kB | {} kB |",
+        "|{}|{:.2}|{:.2}|{ratio:.2}{mark}|{} kB|{} kB|",
         task.name,
         speed(&port_runs),
         speed(&original_runs),
@@ -61,7 +61,7 @@ pub fn print(programs: &Programs<'_>, lines: usize) {
     let folder = Folder::new();
     let numbers = folder.write("numbers", numbers(lines));
     let words = folder.write("words", words(lines));
-    println!("| `explain` over {lines} lines | million lines a second, port | original | time, port / original | peak memory, port | original |");
+    println!("|`explain` over {lines} lines|million lines a second, port|original|time, port / original|peak memory, port|original|");
     println!("|---|---|---|---|---|---|");
     let between = ["between", "5", "10"];
     let check = ["text", "empty", "trim", "contains=a", "or"];

@@ -43,7 +43,7 @@ impl Row<'_> {
             let pair = beside(&port, &original, self.items);
             cells.push(cell(&format!("{}, {}", self.name, question.name()), pair, target));
         }
-        println!("| {} | {} |", self.name, cells.join(" | "));
+        println!("|{}|{}|", self.name, cells.join("|"));
     }
 }
 
@@ -53,21 +53,21 @@ pub fn print_alone(name: &str, items: usize, port: &dyn Fn(Question, usize) -> u
         .into_iter()
         .map(|question| time(crate::clock::alone(&|rounds| port(question, rounds)) / items as f64))
         .collect();
-    println!("| {name} | {} |", times.join(" | "));
+    println!("|{name}|{}|", times.join("|"));
 }
 
 /// Prints the tables, or those rows whose name begins so.
 pub fn print(only: &str) {
-    println!("| What | `eval` | `find_case`, other verdict | owned case | rendered |");
+    println!("|What|`eval`|`find_case`, other verdict|owned case|rendered|");
     println!("|---|---|---|---|---|");
     numbers::print(only);
     checks::print(only);
     texts::print(only);
     lists::print(only);
-    println!("\n| Membership | `eval` |");
+    println!("\n|Membership|`eval`|");
     println!("|---|---|");
     members::print(only);
-    println!("\n| Making | time |");
+    println!("\n|Making|time|");
     println!("|---|---|");
     members::print_making(only);
 }
