@@ -38,7 +38,7 @@ fn print_row(only: &str, held: Held, members: &[i64], items: &[i64], kind: &str)
     // A list is searched from front to back.
     let target = if held == Held::Listed { 1.5 } else { 1.1 };
     let cell = cell(&name, beside(&port, &original, items.len()), target);
-    println!("| {name} | {cell} |");
+    println!("|{name}|{cell}|");
 }
 
 pub fn print(only: &str) {
@@ -78,7 +78,7 @@ pub fn print_making(only: &str) {
             let port = |rounds: usize| port::make_member(held, &members, first, rounds);
             let original = |rounds: usize| make_original(held, &members, first, rounds);
             assert_same(&name, Question::Verdict, port(1), original(1));
-            println!("| {name} | {} |", cell(&name, beside(&port, &original, 1), 1.1));
+            println!("|{name}|{}|", cell(&name, beside(&port, &original, 1), 1.1));
         }
     }
 }
