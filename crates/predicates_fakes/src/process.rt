@@ -34,12 +34,17 @@ pub struct Process<'a> {
 }
 
 impl<'a> Process<'a> {
-    /// A process with these words and this input, without files, in which nothing fails.
-    pub fn new(alloc: Global, words: &'a [&'a [u8]], input: &'a [u8]) -> Process<'a> {
+    /// A process with these words, these files and this input, in which nothing fails.
+    pub fn new(
+        alloc: Global,
+        words: &'a [&'a [u8]],
+        files: &'a [(&'a str, &'a [u8])],
+        input: &'a [u8],
+    ) -> Process<'a> {
         Process {
             alloc,
             words,
-            files: &[],
+            files,
             input,
             end: None,
             closed: Closed::Neither,

@@ -269,8 +269,7 @@ fn run(
     closed: Closed,
 ) -> (u8, Vec<u8>, Vec<u8>) {
     let files = [("rules", rules)];
-    let mut process = Process::new(alloc, words, input);
-    process.files = &files;
+    let mut process = Process::new(alloc, words, &files, input);
     process.end = end;
     process.closed = closed;
     let status = run_program(&process);
