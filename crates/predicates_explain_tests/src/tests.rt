@@ -3,7 +3,6 @@ mod filters;
 mod from_words;
 mod numbers;
 mod program;
-mod streams;
 mod text_rows;
 mod texts;
 mod words;

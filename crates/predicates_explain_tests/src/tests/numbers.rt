@@ -1,9 +1,10 @@
 //! What no contract says: that calls succeed, and where faults come from.
-use super::streams::{ByteByByte, Narrow, Unflushed};
 use predicates::boolean::PredicateBooleanExt;
 use predicates::ord::{ge, le, lt};
 use predicates_explain::{RunFault, explain_one, explain_total, number, run_between};
+use predicates_fakes::{Narrow, Slow, Unflushed};
 use std::alloc::Global;
+use std::io::ErrorKind;
 use std::test::Fail;
 
 /// The block of 7 between 5 and 10.
@@ -69,8 +70,13 @@ fn lines_between_5_and_10(rt: HostRuntime) {
 fn answers_by_bytes(alloc: Global, input: &[u8], all: bool, expected: &str) -> bool {
     let mut output = Narrow {
         got: Vec::new(alloc),
+        room: usize::MAX,
+        kind: ErrorKind::BrokenPipe,
     };
-    let mut reader = ByteByByte { bytes: input };
+    let mut reader = Slow {
+        bytes: input,
+        end: None,
+    };
     let answer = run_between(alloc, 5, 10, &mut reader, &mut output);
     answer == Ok(all) && output.got.as_slice() == expected.as_bytes()
 }

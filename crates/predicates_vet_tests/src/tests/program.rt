@@ -260,11 +260,11 @@ const ROWS: [Row; 24] = [
 ];
 
 // The status, standard output and standard error.
-fn run(
+fn run<'a>(
     alloc: Global,
-    words: &[&[u8]],
-    rules: &[u8],
-    input: &[u8],
+    words: &'a [&'a [u8]],
+    rules: &'a [u8],
+    input: &'a [u8],
     end: Option<ErrorKind>,
     closed: Closed,
 ) -> (u8, Vec<u8>, Vec<u8>) {
