@@ -6,13 +6,19 @@ use predicates_explain::{TextCheck, Word, WordFault, WordsError, apply_word, rea
 use std::alloc::{AllocError, Global};
 use std::test::Fail;
 
-/// The check of the tokens.
-pub fn check_of(alloc: Global, tokens: &[&str]) -> Result<TextCheck, WordsError> {
-    let mut words = Vec::new(alloc);
-    for token in tokens {
-        words.push(String::from_str(alloc, token)?)?;
+// The words as texts.
+fn texts_of(alloc: Global, words: &[&str]) -> Result<Vec<String>, AllocError> {
+    let mut texts = Vec::new(alloc);
+    for word in words {
+        texts.push(String::from_str(alloc, word)?)?;
     }
-    TextCheck::from_words(alloc, words.as_slice())
+    Ok(texts)
+}
+
+/// The check of the words.
+pub fn check_of(alloc: Global, words: &[&str]) -> Result<TextCheck, WordsError> {
+    let texts = texts_of(alloc, words)?;
+    TextCheck::from_words(alloc, texts.as_slice())
 }
 
 #[derive(Drop)]
@@ -157,11 +163,7 @@ impl Call for FromWords<'_> {
     type Operand = Vec<String>;
 
     fn operand(&self, alloc: Global) -> Result<Vec<String>, AllocError> {
-        let mut words = Vec::new(alloc);
-        for word in self.words {
-            words.push(String::from_str(alloc, word)?)?;
-        }
-        Ok(words)
+        texts_of(alloc, self.words)
     }
 
     fn call(&self, alloc: Global, operand: Vec<String>) -> Result<Answer, AllocError> {
