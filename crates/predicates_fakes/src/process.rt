@@ -19,13 +19,14 @@ pub enum Closed {
     Error,
 }
 
-/// A process with these words, of which the first is the program's name, these files by name, this
+/// A process with these words, of which the first is the program's name, one file at the path, this
 /// input with the error at its end, and an output that fails; it keeps what is written.
 #[derive(Drop)]
 pub struct Process<'a> {
     pub alloc: Global,
     pub words: &'a [&'a [u8]],
-    pub files: &'a [(&'a str, &'a [u8])],
+    pub path: &'a str,
+    pub file: &'a [u8],
     pub input: &'a [u8],
     pub end: Option<ErrorKind>,
     pub closed: Closed,
@@ -34,17 +35,13 @@ pub struct Process<'a> {
 }
 
 impl<'a> Process<'a> {
-    /// A process with these words, these files and this input, in which nothing fails.
-    pub fn new(
-        alloc: Global,
-        words: &'a [&'a [u8]],
-        files: &'a [(&'a str, &'a [u8])],
-        input: &'a [u8],
-    ) -> Process<'a> {
+    /// A process with these words, without a file, and with this input, in which nothing fails.
+    pub fn new(alloc: Global, words: &'a [&'a [u8]], input: &'a [u8]) -> Process<'a> {
         Process {
             alloc,
             words,
-            files,
+            path: "",
+            file: b"",
             input,
             end: None,
             closed: Closed::Neither,

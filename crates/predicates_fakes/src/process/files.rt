@@ -1,4 +1,4 @@
-//! The files of a process, which are read.
+//! The one file of a process, which is read.
 use super::Process;
 use std::alloc::Allocator;
 use std::fs::{Metadata, OpenFile, OpenOptions};
@@ -62,12 +62,11 @@ impl<'a> Files for Process<'a> {
     type Dir = OpenedFile<'a>;
 
     fn open_file(&self, _how: &OpenOptions, path: &str) -> io::Result<OpenedFile<'a>> {
-        for (name, bytes) in self.files {
-            if *name == path {
-                return Ok(OpenedFile { bytes });
-            }
+        if path == self.path {
+            Ok(OpenedFile { bytes: self.file })
+        } else {
+            Err(Error::from(ErrorKind::NotFound))
         }
-        Err(Error::from(ErrorKind::NotFound))
     }
 
     fn open_dir(&self, _path: &str) -> io::Result<OpenedFile<'a>> {

@@ -268,8 +268,9 @@ fn run<'a>(
     end: Option<ErrorKind>,
     closed: Closed,
 ) -> (u8, Vec<u8>, Vec<u8>) {
-    let files = [("rules", rules)];
-    let mut process = Process::new(alloc, words, &files, input);
+    let mut process = Process::new(alloc, words, input);
+    process.path = "rules";
+    process.file = rules;
     process.end = end;
     process.closed = closed;
     let status = run_program(&process);
