@@ -10,6 +10,7 @@ pub mod Leaves
 pub mod PresentCases
 pub mod Added
 pub mod Forests
+pub mod Found
 pub mod Lines
 pub mod Preorder
 pub mod OwnedFields

@@ -1,5 +1,5 @@
 -- The truth of a node over several formulas, and the cases that explain it, from those of its members.
-use Rattle.std.proofs.Common.{◌≡◌, ◌≢◌, ℕ, suc, ◌+◌, Bool, true, false, List, [], ◌∷◌, ◌++◌, Some, None, codes, map, length, take, drop, set, get_or, ◌<◌, ◌≤◌, refl, sym, ap, ◌∙◌, subst, arith}
+use Rattle.std.proofs.Common.{◌≡◌, ◌≢◌, ℕ, zero, suc, ◌+◌, Bool, true, false, Option, List, [], ◌∷◌, ◌++◌, Some, None, codes, map, length, take, drop, set, get_or, ◌<◌, ◌≤◌, refl, sym, ap, ◌∙◌, subst, arith}
 use Rattle.std.specs.Prelude.{not, Result, Ok, Err, IfOk}
 use Rattle.std.specs.List.{AllByRecursion, AllZip}
 use Rattle.std.proofs.lemmas.List.{set-get_or, set_split, length-take-le, take_more, take_all, map-append}
@@ -10,17 +10,18 @@ use Rattle.predicates_core.specs.Formula.{Formula, Formulas, one, more, Join, ap
 use Rattle.predicates_core.specs.Reason.{IsFirstReason}
 use Rattle.predicates_core.specs.Tree.{Tree, Forest, empty, branch, forest, add_last}
 use Rattle.predicates_core.specs.Describe.{CaseNode, NamedCase, with_product, with_child}
-use Rattle.predicates_core.specs.Shows.{FitsNode, ShowsPart, Shows, ShowsParts, Explains, IsCaseOf, IsNode, left_share, right_share}
+use Rattle.predicates_core.specs.Shows.{FitsNode, ShowsPart, Shows, ShowsParts, Explains, IsCaseOf, IsFound, IsNode, left_share, right_share}
 use Rattle.predicates_core.specs.Leaves.{IsExactly, IsShowing}
-use Rattle.predicates_core.specs.Several.{decided_by, number_of_first, index_product, numbered, AreOfEach, IsOfEach, IsOfMembers, no_members, formulas_of, members_formula}
+use Rattle.predicates_core.specs.Several.{decided_by, number_of_first, index_product, numbered, AreOfEach, IsOfEach, IsOfMembers, is_deciding, IsDecidedBy, no_members, formulas_of, members_formula}
 use Rattle.predicates_core.specs.LeafLaws.{exactly_text_fits, one_exactly, fits_itself}
 use Rattle.predicates_core.proofs.Numbers.{shifted}
 use Rattle.predicates_core.proofs.Joins.{joins}
-use Rattle.predicates_core.proofs.Values.{truth-one, truth-more}
+use Rattle.predicates_core.proofs.Values.{truth-one, truth-more, not-not, same_truths, other_truths}
 use Rattle.predicates_core.proofs.FirstOfJoins.{BothCount, LeftDecides, RightDecides, both_first, left_first, right_first}
 use Rattle.predicates_core.proofs.FirstReasonOf.{first-one, and_both, and_left, and_right, or_both, or_left, or_right, left_whatever}
 use Rattle.predicates_core.proofs.Shown.{not_empty, numbers_of, shows_part, left_share-joined, right_share-joined, left_share-shifted, right_share-shifted, left_share-alone, right_share-alone}
 use Rattle.predicates_core.proofs.CombinedLemmas.{node_fits, node_of_text}
+use Rattle.predicates_core.proofs.Found.{case_by_result}
 use Rattle.predicates_core.proofs.Leaves.{HasTruth-exactly}
 
 -- what is known of a join where one part with the truth `decides` decides the whole
@@ -48,6 +49,12 @@ not_itself false = refl
 pub itself : (b : Bool) → beq b b ≡ true
 itself true = refl
 itself false = refl
+
+unlike : (x y : Bool) → (x ≡ y → ⊥) → x ≡ not y
+unlike true true d = absurd (d refl)
+unlike true false d = refl
+unlike false true d = refl
+unlike false false d = absurd (d refl)
 
 never_empty : {U : Type 0} (front : List U) (u : U) (back : List U) → front ++ u ∷ back ≡ [] → ⊥
 never_empty [] u back e = cc
@@ -257,16 +264,54 @@ module _ (decides : Bool) {U : Type 0} (name : List ℕ) (has : U → Formula �
     pub member_decides : {us : List U} {k : ℕ} {u : U} → IsFirstAt us k u → HasTruth (has u) decides → HasTruth (IsOfMembers decides text name has us) decides
     member_decides a d = record { at = λ f p. (HasTruth-first a d).at f (p.of_some (some_member a.within)) }
 
-    pub case_of_member : {us : List U} {k : ℕ} {u : U} {c t s : Tree CaseNode} {bytes : List ℕ} → IsNode (Some bytes) decides ((name, c) ∷ []) t → IsShowing (codes "index") (Some (decimal k)) t s → Fits text bytes → IsFirstAt us k u → IsCaseOf (has u) decides c → IsCaseOf (IsOfMembers decides text name has us) decides s
+    case_of_member : {us : List U} {k : ℕ} {u : U} {c t s : Tree CaseNode} {bytes : List ℕ} → IsNode (Some bytes) decides ((name, c) ∷ []) t → IsShowing (codes "index") (Some (decimal k)) t s → Fits text bytes → IsFirstAt us k u → IsCaseOf (has u) decides c → IsCaseOf (IsOfMembers decides text name has us) decides s
     case_of_member written shown fits a d =
         let some = IsCaseOf-first written shown fits a d in
         record { truth = member_decides a d.truth; explains = λ f p. some.explains f (p.of_some (some_member a.within)) }
+
+    pub decided_case : {us : List U} {k : ℕ} {u : U} {c t : Tree CaseNode} → IsDecidedBy decides text name k c t → IsFirstAt us k u → IsCaseOf (has u) decides c → IsCaseOf (IsOfMembers decides text name has us) decides t
+    decided_case x a d = case_of_member x.written x.numbers x.fits a d
 
     pub case_of_none : {us : List U} {t : Tree CaseNode} → us ≡ [] → IsCaseOf (IsExactly (no_members text (not decides))) (not decides) t → IsCaseOf (IsOfMembers decides text name has us) (not decides) t
     case_of_none e h = record {
       truth = record { at = λ f p. h.truth.at f (p.of_none e) };
       explains = λ f p. h.explains f (p.of_none e);
     }
+
+  -- ---- where a truth is wanted, but not the one that decides
+
+  -- each of the members has a formula, where the node has one
+  formula_at : (us : List U) (k : ℕ) (u : U) (fs : Formulas) → k < length us → u ≡ get_or us k u → AreOfEach name has us fs → (f : Formula) × has u f
+  formula_at [] k u fs within is of = absurd of
+  formula_at (v ∷ us) zero u (one n f) within is of = (f, subst (λ z. has z f) (sym is) of.1)
+  formula_at (v ∷ us) zero u (more n f fs) within is of = (f, subst (λ z. has z f) (sym is) of.1)
+  formula_at (v ∷ us) (suc k) u (one n f) within is of = absurd (omega (arith, within, ap length of.2))
+  formula_at (v ∷ us) (suc k) u (more n f fs) within is of = formula_at us k u fs (omega (arith, within)) is of.2
+
+  -- nothing is found of the whole, where nothing is found of a member
+  pub member_missing : (text : Entry) {us : List U} {k : ℕ} {u : U} (w : Option Bool) → w ≢ Some decides → IsFirstAt us k u → IsFound (has u) w None → IsFound (IsOfMembers decides text name has us) w None
+  member_missing text (Some e) other a x =
+      let is : not e ≡ decides = ap not (unlike e decides (λ same. other (ap Some same))) ∙ not-not decides in
+      subst (HasTruth _) (sym is) (member_decides a (subst (HasTruth _) is x))
+  member_missing text {us} {k} {u} None other a x = λ f p.
+      let of = (p.of_some (some_member a.within)).of_each in
+      let g = formula_at us k u (p.of_some (some_member a.within)).formulas a.within a.is of in
+      x g.0 g.1
+
+  -- the case of a member that does not decide
+  pub case_of_other : {u : U} {c : Tree CaseNode} (w : Option Bool) → w ≢ Some decides → IsFound (has u) w (Some c) → is_deciding w decides c ≡ false → IsCaseOf (has u) (not decides) c
+  case_of_other {u} {c} (Some e) other x same = subst (λ b. IsCaseOf (has u) b c) (unlike e decides (λ is. other (ap Some is))) x
+  case_of_other {u} {c} None other x same = subst (λ b. IsCaseOf (has u) b c) (other_truths _ _ same) x
+
+  -- the case of the whole where no member decides
+  pub wanted_other : {F : Formula → Type 0} {t : Tree CaseNode} (w : Option Bool) → w ≢ Some decides → IsCaseOf F (not decides) t → IsFound F w (Some t)
+  wanted_other {F} {t} (Some e) other x = subst (λ b. IsCaseOf F b t) (sym (unlike e decides (λ is. other (ap Some is)))) x
+  wanted_other None other x = case_by_result x
+
+  -- the case of the whole where a member decides, and no truth was wanted
+  pub found_decided : {text : Entry} {us : List U} {k : ℕ} {u : U} {c t : Tree CaseNode} (w : Option Bool) → is_deciding w decides c ≡ true → IsDecidedBy decides text name k c t → IsFirstAt us k u → IsFound (has u) w (Some c) → IsFound (IsOfMembers decides text name has us) w (Some t)
+  found_decided (Some e) is d a x = absurd (cc)
+  found_decided {u = u} {c = c} None is d a x = case_by_result (decided_case d a (subst (λ b. IsCaseOf (has u) b c) (same_truths _ _ is) x))
 
   module _ (text : Entry) where
     -- a node over the cases of the members, in order

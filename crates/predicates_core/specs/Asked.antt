@@ -1,11 +1,11 @@
 -- What a join asks of its parts.
-use Rattle.std.specs.Prelude.{◌≡◌, Bool, true, false, not, ◌||◌, Option, None}
-use Rattle.predicates_core.specs.Formula.{Formula, HasTruth}
+use Rattle.std.specs.Prelude.{◌≡◌, Bool, true, false, not, ◌||◌, Option, Some, None, option_map}
+use Rattle.predicates_core.specs.Formula.{Formula, differ}
 use Rattle.predicates_core.specs.declared.custom.join.Operator.{Operator}
 use Rattle.predicates_core.specs.declared.custom.join.Operator.TheVariants.{And, Or, Xor}
 use Rattle.predicates_core.specs.Tree.{Tree}
 use Rattle.predicates_core.specs.Describe.{CaseNode}
-use Rattle.predicates_core.specs.Shows.{IsAnswer}
+use Rattle.predicates_core.specs.Shows.{IsFound}
 
 -- whether the right part counts where the left one has this truth
 abbrev pub asks : Operator → Bool → Bool
@@ -19,12 +19,31 @@ keeps And left right = not left || right
 keeps Or left right = left || not right
 keeps Xor left right = true
 
--- the part has the truth, where it was asked for it
-abbrev pub IsTruthIf : Bool → (Formula → Type 0) → Bool → Type 0
-IsTruthIf true F b = HasTruth F b
-IsTruthIf false F b = Unit {0}
+-- the truth that the left part's case has to have, where one of the whole is wanted
+abbrev pub left_wanted : Operator → Option Bool → Option Bool
+left_wanted And wanted = wanted
+left_wanted Or wanted = wanted
+left_wanted Xor wanted = None
 
--- what is found of a part that has the truth, where it was asked for its case
-abbrev pub IsCaseIf : Bool → (Formula → Type 0) → Bool → Option (Tree CaseNode) → Type 0
-IsCaseIf true F b found = IsAnswer F b found
-IsCaseIf false F b found = found ≡ None
+-- the truth that the right part's case has to have, where the left one has this truth
+abbrev pub right_wanted : Operator → Bool → Option Bool → Option Bool
+right_wanted And left wanted = wanted
+right_wanted Or left wanted = wanted
+right_wanted Xor left wanted = option_map (λ b. differ b left) wanted
+
+-- the truth of a part for which this was found where this was wanted
+abbrev pub shown_verdict : Option Bool → Option (Tree CaseNode) → Bool
+shown_verdict (Some wanted) (Some t) = wanted
+shown_verdict (Some wanted) None = not wanted
+shown_verdict None (Some t) = t.root.result
+shown_verdict None None = false
+
+-- another truth is wanted
+abbrev pub is_other : Option Bool → Bool → Bool
+is_other (Some wanted) b = differ wanted b
+is_other None b = false
+
+-- what is found of a part, where it was asked
+abbrev pub IsFoundIf : Bool → (Formula → Type 0) → Option Bool → Option (Tree CaseNode) → Type 0
+IsFoundIf true F wanted found = IsFound F wanted found
+IsFoundIf false F wanted found = found ≡ None

@@ -3,11 +3,14 @@ use Rattle.std.specs.Prelude.{◌≡◌, ◌≢◌, ℕ, suc, Bool, true, false,
 use Rattle.std.specs.Prelude.{Some, None, option_map, codes}
 use Rattle.std.specs.Fmt.{decimal, ◌++?◌}
 use mathlib.Core.Bool.{beq}
-use Rattle.predicates_core.specs.Label.{Label, Entry, Product, showing, value_of}
+use Rattle.predicates_core.specs.Label.{Label, Entry, Fits, Product, showing, value_of}
 use Rattle.predicates_core.specs.declared.custom.join.Operator.{Operator}
 use Rattle.predicates_core.specs.declared.custom.join.Operator.TheVariants.{And, Or}
 use Rattle.predicates_core.specs.Formula.{Formula, Leaf, Join, Formulas, one, more, truth}
-use Rattle.predicates_core.specs.Leaves.{IsExactly}
+use Rattle.predicates_core.specs.Leaves.{IsExactly, IsShowing}
+use Rattle.predicates_core.specs.Tree.{Tree}
+use Rattle.predicates_core.specs.Describe.{CaseNode}
+use Rattle.predicates_core.specs.Shows.{IsNode}
 
 -- the operator by which one part with the truth decides the whole
 abbrev pub decided_by : Bool → Operator
@@ -50,6 +53,20 @@ pub record IsOfMembers {U : Type 0} (decides : Bool) (text : Entry) (name : List
     (has : U → Formula → Type 0) (members : List U) (f : Formula) : Type 0 where
   pub of_none : members ≡ [] → IsExactly (no_members text (not decides)) f
   pub of_some : members ≢ [] → IsOfEach decides text name has members f
+
+-- no truth is wanted, and the case has the one that decides
+abbrev pub is_deciding : Option Bool → Bool → Tree CaseNode → Bool
+is_deciding (Some wanted) decides t = false
+is_deciding None decides t = beq t.root.result decides
+
+-- the case of a node that the member with the number decides, over the member's case
+pub record IsDecidedBy (decides : Bool) (text : Entry) (name : List ℕ) (number : ℕ)
+    (c t : Tree CaseNode) : Type 0 where
+  pub bytes : List ℕ
+  pub fits : Fits text bytes
+  pub node : Tree CaseNode
+  pub written : IsNode (Some bytes) decides ((name, c) ∷ []) node
+  pub numbers : IsShowing (codes "index") (Some (decimal number)) node t
 
 -- the one formula, where each member has one
 abbrev pub formulas_of : {U : Type 0} → List ℕ → (U → Formula) → U → List U → Formulas

@@ -1,8 +1,8 @@
 //! What custom predicates are made of: `leaf` over a test of an item, and the verdicts and cases of
 //! leaves and of combinators whose formula is that of a combinator of the library.
 //!
-//! The `find_case` of the library's combinators evaluates before it makes a case. So below n nested
-//! combinators a part may be evaluated n + 1 times, as often as its text is printed into the case.
+//! The `find_case` of the library's combinators evaluates once before it asks the parts to `explain`
+//! the verdict. So each leaf is evaluated at most twice, however deep the combinators are nested.
 mod children;
 mod join;
 mod leaf_cases;
@@ -13,10 +13,10 @@ mod quantifier;
 mod test_predicate;
 
 pub use children::{one_child, two_children};
-pub use join::{Operator, join_case, join_truth, truth_if};
+pub use join::{Operator, join_case, join_explained, join_truth};
 pub use leaf_cases::{absent_case, bare_case, showing_case};
-pub use members::{members_case, members_hold};
-pub use not::not_case;
-pub use parts::{each_child, parts_case, parts_hold};
+pub use members::{members_case, members_explained, members_hold};
+pub use not::{not_case, not_explained};
+pub use parts::{each_child, parts_case, parts_explained, parts_hold};
 pub use quantifier::{AtLeastOne, Every, Quantifier};
 pub use test_predicate::{Test, TestPredicate, leaf};

@@ -7,7 +7,7 @@
 ghost use Rattle.std.specs.Prelude.{◌≡◌, ℕ, List, string_bytes, not, IfOk, IsOk};
 ghost use Rattle.predicates_core.specs.Label.{FitsEntry};
 ghost use Rattle.predicates_core.specs.Formula.{Formula, HasTruth, IsLeaf, truth, text_of};
-ghost use Rattle.predicates_core.specs.Shows.{IsAnswer};
+ghost use Rattle.predicates_core.specs.Shows.{IsAnswer, IsFound};
 ghost use Rattle.predicates_core.specs.Leaves.{IsBareAnswer};
 
 use crate::node;
@@ -48,6 +48,34 @@ pub trait Predicate<Item>: PredicateReflection {
     ) -> Result<Option<Case>, AllocError>
         requires { lawful self.now }
         ensures { IfOk result (IsAnswer (formula self.now item.now) expected) };
+
+    /// As `find_case`, for a part of a predicate that was evaluated before: a case that explains the
+    /// verdict where it is the wanted one, or whichever it is where none is wanted.
+    ///
+    /// A predicate over parts that is evaluated once, and then asks this of its parts, has each of its
+    /// leaves evaluated at most twice. So a predicate over parts overrides it by calls of `custom`. For a
+    /// leaf it is enough to override it where its verdict takes long: an operator that needs the case of
+    /// whichever verdict asks twice otherwise.
+    fn explain(
+        &self,
+        alloc: Global,
+        wanted: Option<bool>,
+        item: &Item,
+    ) -> Result<Option<Case>, AllocError>
+        requires { lawful self.now }
+        ensures { IfOk result (IsFound (formula self.now item.now) wanted) }
+    {
+        match wanted {
+            Some(expected) => self.find_case(alloc, expected, item),
+            None => match self.find_case(alloc, true, item)? {
+                Some(case) => Ok(Some(case)),
+                None => {
+                    let found = self.find_case(alloc, false, item)?;
+                    Ok(found)
+                }
+            },
+        }
+    }
 
     // To be proved: what it prints is the text of the root of each of its formulas.
     ghost text_fits: { (p : Self) (v : Item) (f : Formula) → formula p v f

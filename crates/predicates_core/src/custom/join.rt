@@ -1,9 +1,10 @@
 //! The verdict and the case of two parts that an operator joins.
-ghost use Rattle.std.specs.Prelude.{◌≡◌, ℕ, List, Option, IfOk, IsOk};
-ghost use Rattle.predicates_core.specs.Asked.{asks, keeps, IsTruthIf, IsCaseIf};
+ghost use Rattle.std.specs.Prelude.{◌≡◌, ℕ, List, Option, None, if◌then◌else◌, IfOk, IsOk};
+ghost use Rattle.predicates_core.specs.Asked.{asks, keeps, left_wanted, right_wanted, IsFoundIf};
+ghost use Rattle.predicates_core.specs.Asked.{shown_verdict, is_other};
 ghost use Rattle.predicates_core.specs.Combined.{sign, IsPair};
 ghost use Rattle.predicates_core.specs.Formula.{apply, HasTruth};
-ghost use Rattle.predicates_core.specs.Shows.{IsAnswer};
+ghost use Rattle.predicates_core.specs.Shows.{IsAnswer, IsFound};
 
 use crate::Predicate;
 use crate::node::{binary_node_of, printed};
@@ -56,6 +57,29 @@ impl Operator {
         }
     }
 
+    /// The verdict that the left part's case has to have, where one of the whole is wanted.
+    fn left_wanted(self, wanted: Option<bool>) -> Option<bool>
+        ensures { result ≡ left_wanted self wanted }
+    {
+        match self {
+            Operator::And | Operator::Or => wanted,
+            Operator::Xor => None,
+        }
+    }
+
+    /// The verdict that the right part's case has to have, where the left part's is known.
+    fn right_wanted(self, wanted: Option<bool>, left: bool) -> Option<bool>
+        ensures { result ≡ right_wanted self left wanted }
+    {
+        match self {
+            Operator::And | Operator::Or => wanted,
+            Operator::Xor => match wanted {
+                Some(expected) => Some(expected != left),
+                None => None,
+            },
+        }
+    }
+
     /// Whether the left part belongs to the reason where the parts have these truths.
     pub fn keeps(self, left: bool, right: bool) -> bool
         ensures { result ≡ keeps self left right }
@@ -68,45 +92,45 @@ impl Operator {
     }
 }
 
-/// The part's verdict if it is `asked`, and else `false`, for which the part is not evaluated.
-pub fn truth_if<P: Predicate<Item>, Item>(
+// What is found of the part if it is `asked`.
+fn explain_if<P: Predicate<Item>, Item>(
     alloc: Global,
     asked: bool,
     part: &P,
-    item: &Item,
-) -> Result<bool, AllocError>
-    requires { P.lawful part.now }
-    ensures truth { IfOk result (IsTruthIf asked (P.formula part.now item.now)) }
-    ensures infallible { P.infallible part.now item.now → IsOk result }
-{
-    if asked {
-        part.eval(alloc, item)
-    } else {
-        Ok(false)
-    }
-}
-
-// The part's case if it is `asked`.
-fn case_if<P: Predicate<Item>, Item>(
-    alloc: Global,
-    asked: bool,
-    part: &P,
-    holds: bool,
+    wanted: Option<bool>,
     item: &Item,
 ) -> Result<Option<Case>, AllocError>
     requires { P.lawful part.now }
-    ensures { IfOk result (IsCaseIf asked (P.formula part.now item.now) holds) }
+    ensures { IfOk result (IsFoundIf asked (P.formula part.now item.now) wanted) }
 {
     if asked {
-        part.find_case(alloc, holds, item)
+        part.explain(alloc, wanted, item)
     } else {
         Ok(None)
     }
 }
 
+// The case if it is to be `kept`.
+fn kept_if(kept: bool, found: Option<Case>) -> Option<Case>
+    ensures { result ≡ (if kept then found else None) }
+{
+    if kept { found } else { None }
+}
+
+/// The verdict of a part for which this was found where this was wanted.
+pub(super) fn shown_verdict(wanted: Option<bool>, found: &Option<Case>) -> bool
+    ensures { result ≡ shown_verdict wanted found.now }
+{
+    match (wanted, found) {
+        (Some(expected), Some(_)) => expected,
+        (Some(expected), None) => !expected,
+        (None, Some(case)) => case.root().result(),
+        (None, None) => false,
+    }
+}
+
 /// The `eval` of a predicate that joins two parts by an operator. It evaluates the left part first,
 /// and the right one only if that can change the verdict.
-#[tactic(auto, using(crate::proofs::Asked::HasTruth_asked))]
 pub fn join_truth<P: Predicate<Item>, Q: Predicate<Item>, Item>(
     alloc: Global,
     operator: Operator,
@@ -121,12 +145,14 @@ pub fn join_truth<P: Predicate<Item>, Q: Predicate<Item>, Item>(
     ensures infallible { P.infallible left_part.now item.now → Q.infallible right_part.now item.now
         → IsOk result }
 {
-    let left_holds = left_part.eval(alloc, item)?;
-    let right_holds = truth_if(alloc, operator.asks(left_holds), right_part, item)?;
-    Ok(operator.apply(left_holds, right_holds))
+    match operator {
+        Operator::And => Ok(left_part.eval(alloc, item)? && right_part.eval(alloc, item)?),
+        Operator::Or => Ok(left_part.eval(alloc, item)? || right_part.eval(alloc, item)?),
+        Operator::Xor => Ok(left_part.eval(alloc, item)? != right_part.eval(alloc, item)?),
+    }
 }
 
-/// The `find_case` of a predicate that joins two parts by an operator. It evaluates the parts as
+/// The `find_case` of a predicate that joins two parts by an operator. It evaluates them as
 /// `join_truth` does, and then makes the cases of those that belong to the reason.
 pub fn join_case<W: fmt::Display, P: Predicate<Item>, Q: Predicate<Item>, Item>(
     alloc: Global,
@@ -142,15 +168,51 @@ pub fn join_case<W: fmt::Display, P: Predicate<Item>, Q: Predicate<Item>, Item>(
     ensures { IfOk result (IsAnswer (IsPair operator (W.output whole.now)
         (P.formula left_part.now item.now) (Q.formula right_part.now item.now)) expected) }
 {
-    let left_holds = left_part.eval(alloc, item)?;
-    let asks = operator.asks(left_holds);
-    let right_holds = truth_if(alloc, asks, right_part, item)?;
-    if operator.apply(left_holds, right_holds) != expected {
+    if join_truth(alloc, operator, left_part, right_part, item)? != expected {
         return Ok(None);
     }
-    let keeps = operator.keeps(left_holds, right_holds);
-    let left = case_if(alloc, keeps, left_part, left_holds, item)?;
-    let right = case_if(alloc, asks, right_part, right_holds, item)?;
+    let wanted = Some(expected);
+    join_explained(alloc, operator, whole, left_part, right_part, wanted, item)
+}
+
+/// The `explain` of such a predicate. It asks its parts for their cases, the left one first, and the
+/// right one only if that can change the verdict.
+pub fn join_explained<W: fmt::Display, P: Predicate<Item>, Q: Predicate<Item>, Item>(
+    alloc: Global,
+    operator: Operator,
+    whole: &W,
+    left_part: &P,
+    right_part: &Q,
+    wanted: Option<bool>,
+    item: &Item,
+) -> Result<Option<Case>, AllocError>
+    requires left { P.lawful left_part.now }
+    requires right { Q.lawful right_part.now }
+    ensures { IfOk result (IsFound (IsPair operator (W.output whole.now)
+        (P.formula left_part.now item.now) (Q.formula right_part.now item.now)) wanted) }
+{
+    let left_wanted = operator.left_wanted(wanted);
+    let left = left_part.explain(alloc, left_wanted, item)?;
+    let left_holds = shown_verdict(left_wanted, &left);
+    let asks = operator.asks(left_holds);
+    let right_wanted = operator.right_wanted(wanted, left_holds);
+    let right = explain_if(alloc, asks, right_part, right_wanted, item)?;
+    let right_holds = shown_verdict(right_wanted, &right);
+    let holds = operator.apply(left_holds, right_holds);
+    if is_other(wanted, holds) {
+        return Ok(None);
+    }
+    let kept = kept_if(operator.keeps(left_holds, right_holds), left);
     let text = printed(alloc, whole)?;
-    Ok(Some(binary_node_of(alloc, text, expected, left, right)?))
+    Ok(Some(binary_node_of(alloc, text, holds, kept, right)?))
+}
+
+/// Whether another verdict is wanted.
+pub(super) fn is_other(wanted: Option<bool>, holds: bool) -> bool
+    ensures { result ≡ is_other wanted holds }
+{
+    match wanted {
+        Some(expected) => expected != holds,
+        None => false,
+    }
 }

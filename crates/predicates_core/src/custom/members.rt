@@ -1,11 +1,11 @@
 //! Verdicts and cases over the members of a list, by one predicate of a member.
-ghost use Rattle.std.specs.Prelude.{◌≡◌, ◌≢◌, ℕ, [], List, not, IfOk, IsOk, codes};
+ghost use Rattle.std.specs.Prelude.{◌≡◌, ◌≢◌, ℕ, [], List, Some, true, false, not, IfOk, IsOk};
 ghost use Rattle.std.specs.List.{AllByRecursion};
 ghost use Rattle.predicates_core.specs.Formula.{HasTruth};
 ghost use Rattle.predicates_core.specs.Label.{Entry};
 ghost use Rattle.predicates_core.specs.Leaves.{IsExactly};
-ghost use Rattle.predicates_core.specs.Several.{IsOfMembers, no_members};
-ghost use Rattle.predicates_core.specs.Shows.{IsAnswer, IsCaseOf};
+ghost use Rattle.predicates_core.specs.Several.{is_deciding, IsDecidedBy, IsOfMembers, no_members};
+ghost use Rattle.predicates_core.specs.Shows.{IsAnswer, IsCaseOf, IsFound};
 
 use crate::Predicate;
 use crate::node::{leaf_node, printed, showing, showing_text, unary_node};
@@ -50,7 +50,7 @@ pub fn members_case<W: fmt::Display, P: Predicate<Item>, Item>(
         (P.formula part.now) members.now) expected) }
 {
     if expected == decides {
-        return first_member(alloc, whole, part, name, decides, members);
+        return first_member(alloc, whole, part, name, decides, true, members);
     }
     if members.is_empty() {
         return Ok(Some(no_member(alloc, whole, expected)?));
@@ -58,34 +58,86 @@ pub fn members_case<W: fmt::Display, P: Predicate<Item>, Item>(
     if members_hold(alloc, part, decides, members)? == decides {
         return Ok(None);
     }
-    every_member(alloc, whole, part, name, decides, members)
+    every_member(alloc, whole, part, name, decides, Some(expected), members)
 }
 
-// The case of the first member that decides.
-fn first_member<W: fmt::Display, P: Predicate<Item>, Item>(
+/// The `explain` of such a predicate.
+pub fn members_explained<W: fmt::Display, P: Predicate<Item>, Item>(
     alloc: Global,
     whole: &W,
     part: &P,
     name: &'static str,
     decides: bool,
+    wanted: Option<bool>,
     members: &[Item],
 ) -> Result<Option<Case>, AllocError>
     requires { P.lawful part.now }
-    ensures { IfOk result (IsAnswer (IsOfMembers decides (W.output whole.now) name.entry.now
-        (P.formula part.now) members.now) decides) }
+    ensures { IfOk result (IsFound (IsOfMembers decides (W.output whole.now) name.entry.now
+        (P.formula part.now) members.now) wanted) }
 {
-    for (index, member) in members.iter().enumerate() {
-        if part.eval(alloc, member)? != decides {
-            continue;
-        }
-        let Some(case) = part.find_case(alloc, decides, member)? else {
-            continue;
-        };
-        let text = printed(alloc, whole)?;
-        let node = unary_node(alloc, text, decides, name, case)?;
-        return Ok(Some(showing(node, "index", format!(in alloc; "{index}")?)?));
+    if is_wanted(wanted, decides) {
+        return first_member(alloc, whole, part, name, decides, false, members);
     }
-    Ok(None)
+    if members.is_empty() {
+        return Ok(Some(no_member(alloc, whole, !decides)?));
+    }
+    every_member(alloc, whole, part, name, decides, wanted, members)
+}
+
+// Whether the part is known not to decide. It is evaluated only where that is asked.
+pub(super) fn is_passed<P: Predicate<Item>, Item>(
+    alloc: Global,
+    asked: bool,
+    part: &P,
+    decides: bool,
+    item: &Item,
+) -> Result<bool, AllocError>
+    requires { P.lawful part.now }
+    ensures { IfOk result (λ passed. passed ≡ true
+        → HasTruth (P.formula part.now item.now) (not decides)) }
+{
+    if asked {
+        Ok(part.eval(alloc, item)? != decides)
+    } else {
+        Ok(false)
+    }
+}
+
+// Whether this verdict is wanted.
+pub(super) fn is_wanted(wanted: Option<bool>, verdict: bool) -> bool
+    ensures wanted { result ≡ true → wanted ≡ Some verdict }
+    ensures other { result ≡ false → wanted ≢ Some verdict }
+{
+    match wanted {
+        Some(expected) => expected == verdict,
+        None => false,
+    }
+}
+
+// Whether the case is of a part that decides, where no verdict is wanted.
+pub(super) fn is_deciding(wanted: Option<bool>, decides: bool, case: &Case) -> bool
+    ensures { result ≡ is_deciding wanted decides case.now }
+{
+    match wanted {
+        Some(_) => false,
+        None => case.root().result() == decides,
+    }
+}
+
+// The case of a whole that a part decides, from the part's number and case.
+pub(super) fn deciding_case<W: fmt::Display>(
+    alloc: Global,
+    whole: &W,
+    name: &'static str,
+    decides: bool,
+    index: usize,
+    case: Case,
+) -> Result<Case, AllocError>
+    ensures { IfOk result (IsDecidedBy decides (W.output whole.now) name.entry.now index case) }
+{
+    let text = printed(alloc, whole)?;
+    let node = unary_node(alloc, text, decides, name, case)?;
+    Ok(showing(node, "index", format!(in alloc; "{index}")?)?)
 }
 
 // The case of a list without members.
@@ -100,25 +152,57 @@ pub(super) fn no_member<W: fmt::Display>(
     Ok(showing_text(alloc, node, "len", "0")?)
 }
 
-// The case of all members.
+// The case of the first member that decides. Where they are to be evaluated first, no other member is asked for
+// its case.
+fn first_member<W: fmt::Display, P: Predicate<Item>, Item>(
+    alloc: Global,
+    whole: &W,
+    part: &P,
+    name: &'static str,
+    decides: bool,
+    evaluates: bool,
+    members: &[Item],
+) -> Result<Option<Case>, AllocError>
+    requires { P.lawful part.now }
+    ensures { IfOk result (IsAnswer (IsOfMembers decides (W.output whole.now) name.entry.now
+        (P.formula part.now) members.now) decides) }
+{
+    for (index, member) in members.iter().enumerate() {
+        if is_passed(alloc, evaluates, part, decides, member)? {
+            continue;
+        }
+        let Some(case) = part.explain(alloc, Some(decides), member)? else {
+            continue;
+        };
+        return Ok(Some(deciding_case(alloc, whole, name, decides, index, case)?));
+    }
+    Ok(None)
+}
+
+// The case of all members, or of the first that decides, where it is not wanted that none does.
 fn every_member<W: fmt::Display, P: Predicate<Item>, Item>(
     alloc: Global,
     whole: &W,
     part: &P,
     name: &'static str,
     decides: bool,
+    wanted: Option<bool>,
     members: &[Item],
 ) -> Result<Option<Case>, AllocError>
     requires lawful { P.lawful part.now }
     requires some { members.now ≢ [] }
-    ensures { IfOk result (IsAnswer (IsOfMembers decides (W.output whole.now) name.entry.now
-        (P.formula part.now) members.now) (not decides)) }
+    requires other { wanted ≢ Some decides }
+    ensures { IfOk result (IsFound (IsOfMembers decides (W.output whole.now) name.entry.now
+        (P.formula part.now) members.now) wanted) }
 {
     let mut node = leaf_node(alloc, printed(alloc, whole)?, !decides);
-    for member in members {
-        let Some(case) = part.find_case(alloc, !decides, member)? else {
+    for (index, member) in members.iter().enumerate() {
+        let Some(case) = part.explain(alloc, wanted, member)? else {
             return Ok(None);
         };
+        if is_deciding(wanted, decides, &case) {
+            return Ok(Some(deciding_case(alloc, whole, name, decides, index, case)?));
+        }
         node = node.add_child(name, case)?;
     }
     Ok(Some(node))

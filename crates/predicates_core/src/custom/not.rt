@@ -1,7 +1,7 @@
 //! The case of a negation.
-ghost use Rattle.std.specs.Prelude.{IfOk};
+ghost use Rattle.std.specs.Prelude.{◌≡◌, not, option_map, IfOk};
 ghost use Rattle.predicates_core.specs.Combined.{IsNot};
-ghost use Rattle.predicates_core.specs.Shows.{IsAnswer};
+ghost use Rattle.predicates_core.specs.Shows.{IsAnswer, IsFound};
 
 use crate::Predicate;
 use crate::node::{printed, unary_node};
@@ -27,4 +27,34 @@ pub fn not_case<W: fmt::Display, P: Predicate<Item>, Item>(
     };
     let text = printed(alloc, whole)?;
     Ok(Some(unary_node(alloc, text, expected, "predicate", part)?))
+}
+
+// The verdict that the part has to have, where one of the whole is wanted.
+fn opposite_of(wanted: Option<bool>) -> Option<bool>
+    ensures { result ≡ option_map not wanted }
+{
+    match wanted {
+        Some(expected) => Some(!expected),
+        None => None,
+    }
+}
+
+/// The `explain` of such a predicate.
+pub fn not_explained<W: fmt::Display, P: Predicate<Item>, Item>(
+    alloc: Global,
+    whole: &W,
+    inner: &P,
+    wanted: Option<bool>,
+    item: &Item,
+) -> Result<Option<Case>, AllocError>
+    requires { P.lawful inner.now }
+    ensures { IfOk result
+        (IsFound (IsNot (W.output whole.now) (P.formula inner.now item.now)) wanted) }
+{
+    let Some(part) = inner.explain(alloc, opposite_of(wanted), item)? else {
+        return Ok(None);
+    };
+    let text = printed(alloc, whole)?;
+    let outcome = !part.root().result();
+    Ok(Some(unary_node(alloc, text, outcome, "predicate", part)?))
 }

@@ -1,16 +1,16 @@
 //! Verdicts and cases of several predicates of one item.
-ghost use Rattle.std.specs.Prelude.{◌≡◌, ◌≢◌, ℕ, [], List, not, IfOk, IsOk};
+ghost use Rattle.std.specs.Prelude.{◌≡◌, ◌≢◌, ℕ, [], List, Some, not, IfOk, IsOk};
 ghost use Rattle.std.specs.List.{AllByRecursion};
 ghost use Rattle.predicates_core.specs.Formula.{HasTruth};
 ghost use Rattle.predicates_core.specs.Label.{Entry};
 ghost use Rattle.predicates_core.specs.Parts.{FitsParts, part_of_each};
 ghost use Rattle.predicates_core.specs.Several.{IsOfMembers};
-ghost use Rattle.predicates_core.specs.Shows.{IsAnswer};
+ghost use Rattle.predicates_core.specs.Shows.{IsAnswer, IsFound};
 ghost use Rattle.predicates_core.specs.Tree.{forest};
 
 use crate::Predicate;
-use crate::custom::members::no_member;
-use crate::node::{leaf_node, printed, showing, unary_node};
+use crate::custom::members::{deciding_case, is_deciding, is_passed, is_wanted, no_member};
+use crate::node::{leaf_node, printed};
 use crate::reflection::{Case, Child, PredicateReflection, describe};
 use std::alloc::{AllocError, Global};
 use std::fmt;
@@ -52,7 +52,7 @@ pub fn parts_case<W: fmt::Display, P: Predicate<Item>, Item>(
         (λ p. P.formula p item.now) parts.now) expected) }
 {
     if expected == decides {
-        return first_part(alloc, whole, parts, name, decides, item);
+        return first_part(alloc, whole, parts, name, decides, true, item);
     }
     if parts.is_empty() {
         return Ok(Some(no_member(alloc, whole, expected)?));
@@ -60,16 +60,41 @@ pub fn parts_case<W: fmt::Display, P: Predicate<Item>, Item>(
     if parts_hold(alloc, parts, decides, item)? == decides {
         return Ok(None);
     }
-    every_part(alloc, whole, parts, name, decides, item)
+    every_part(alloc, whole, parts, name, decides, Some(expected), item)
 }
 
-// The case of the first part that decides.
+/// The `explain` of such a predicate.
+pub fn parts_explained<W: fmt::Display, P: Predicate<Item>, Item>(
+    alloc: Global,
+    whole: &W,
+    parts: &[P],
+    name: &'static str,
+    decides: bool,
+    wanted: Option<bool>,
+    item: &Item,
+) -> Result<Option<Case>, AllocError>
+    requires { AllByRecursion P.lawful parts.now }
+    ensures { IfOk result (IsFound (IsOfMembers decides (W.output whole.now) name.entry.now
+        (λ p. P.formula p item.now) parts.now) wanted) }
+{
+    if is_wanted(wanted, decides) {
+        return first_part(alloc, whole, parts, name, decides, false, item);
+    }
+    if parts.is_empty() {
+        return Ok(Some(no_member(alloc, whole, !decides)?));
+    }
+    every_part(alloc, whole, parts, name, decides, wanted, item)
+}
+
+// The case of the first part that decides. Where they are to be evaluated first, no other part is asked for
+// its case.
 fn first_part<W: fmt::Display, P: Predicate<Item>, Item>(
     alloc: Global,
     whole: &W,
     parts: &[P],
     name: &'static str,
     decides: bool,
+    evaluates: bool,
     item: &Item,
 ) -> Result<Option<Case>, AllocError>
     requires { AllByRecursion P.lawful parts.now }
@@ -77,38 +102,41 @@ fn first_part<W: fmt::Display, P: Predicate<Item>, Item>(
         (λ p. P.formula p item.now) parts.now) decides) }
 {
     for (index, part) in parts.iter().enumerate() {
-        if part.eval(alloc, item)? != decides {
+        if is_passed(alloc, evaluates, part, decides, item)? {
             continue;
         }
-        let Some(case) = part.find_case(alloc, decides, item)? else {
+        let Some(case) = part.explain(alloc, Some(decides), item)? else {
             continue;
         };
-        let text = printed(alloc, whole)?;
-        let node = unary_node(alloc, text, decides, name, case)?;
-        return Ok(Some(showing(node, "index", format!(in alloc; "{index}")?)?));
+        return Ok(Some(deciding_case(alloc, whole, name, decides, index, case)?));
     }
     Ok(None)
 }
 
-// The case of all parts.
+// The case of all parts, or of the first that decides, where it is not wanted that none does.
 fn every_part<W: fmt::Display, P: Predicate<Item>, Item>(
     alloc: Global,
     whole: &W,
     parts: &[P],
     name: &'static str,
     decides: bool,
+    wanted: Option<bool>,
     item: &Item,
 ) -> Result<Option<Case>, AllocError>
     requires lawful { AllByRecursion P.lawful parts.now }
     requires some { parts.now ≢ [] }
-    ensures { IfOk result (IsAnswer (IsOfMembers decides (W.output whole.now) name.entry.now
-        (λ p. P.formula p item.now) parts.now) (not decides)) }
+    requires other { wanted ≢ Some decides }
+    ensures { IfOk result (IsFound (IsOfMembers decides (W.output whole.now) name.entry.now
+        (λ p. P.formula p item.now) parts.now) wanted) }
 {
     let mut node = leaf_node(alloc, printed(alloc, whole)?, !decides);
-    for part in parts {
-        let Some(case) = part.find_case(alloc, !decides, item)? else {
+    for (index, part) in parts.iter().enumerate() {
+        let Some(case) = part.explain(alloc, wanted, item)? else {
             return Ok(None);
         };
+        if is_deciding(wanted, decides, &case) {
+            return Ok(Some(deciding_case(alloc, whole, name, decides, index, case)?));
+        }
         node = node.add_child(name, case)?;
     }
     Ok(Some(node))
