@@ -1,11 +1,14 @@
 -- Leaves, and the cases that explain them.
-use Rattle.std.proofs.Common.{◌≡◌, ℕ, Bool, List, [], ◌∷◌, Some, refl, sym, ap, ◌∙◌, subst}
+use Rattle.std.proofs.Common.{◌≡◌, ℕ, Bool, true, false, List, [], ◌∷◌, Option, Some, None, refl, sym, ap, ◌∙◌, subst}
+use Rattle.std.specs.Prelude.{Result, Ok, Err, IfOk}
 use Rattle.predicates_core.specs.Label.{Label, Entry, plain, showing, showing_both, with_last, Fits}
 use Rattle.predicates_core.specs.Formula.{Formula, Leaf, truth, HasTruth, with_product}
 use Rattle.predicates_core.specs.Tree.{Tree}
 use Rattle.predicates_core.specs.Describe.{CaseNode}
-use Rattle.predicates_core.specs.Shows.{Shows, Explains, IsCaseOf, IsNode}
+use Rattle.predicates_core.specs.Shows.{Shows, Explains, IsAnswer, IsCaseOf, IsFound, IsNode}
 use Rattle.predicates_core.specs.Leaves.{IsExactly, IsShowing}
+use Rattle.predicates_core.specs.Asked.{is_other}
+use Rattle.predicates_core.proofs.Found.{no_formula, none_wanted, case_wanted}
 use Rattle.predicates_core.proofs.Values.{truth-Leaf}
 use Rattle.predicates_core.proofs.FirstReasonOf.{first-Leaf}
 use Rattle.predicates_core.proofs.CombinedLemmas.{node_fits, node_of_text}
@@ -20,6 +23,17 @@ module _ {label : Label} {own : Bool} where
 
   pub own_truth : {b : Bool} → HasTruth (IsExactly (Leaf label own)) b → own ≡ b
   own_truth h = sym (truth-Leaf label own) ∙ h.at (Leaf label own) (record { is = refl })
+
+-- what is found of a leaf where another truth is wanted, and where its own is
+pub other_leaf : (label : Label) (own : Bool) (w : Option Bool) → is_other w own ≡ true → IsFound (IsExactly (Leaf label own)) w None
+other_leaf label own w other = none_wanted w (HasTruth-exactly refl) other
+
+pub leaf_wanted : {E : Type 0} (label : Label) (own : Bool) (w : Option Bool) (r : Result (Option (Tree CaseNode)) E) → is_other w own ≡ false → IfOk r (IsAnswer (IsExactly (Leaf label own)) own) → IfOk r (IsFound (IsExactly (Leaf label own)) w)
+leaf_wanted label own w (Err e) same x = tt
+leaf_wanted label own w (Ok (Some t)) same x = case_wanted w x same
+leaf_wanted label own w (Ok None) same x =
+    let has : HasTruth (IsExactly (Leaf label own)) own = HasTruth-exactly refl in
+    absurd (no_formula has x (Leaf label own) (record { is = refl }))
 
 -- with one product more, the last, on both sides
 one_more : (label : Label) {own b : Bool} {c t : Tree CaseNode} {name : List ℕ} {value : Entry} → IsShowing name value c t → IsCaseOf (IsExactly (Leaf label own)) b c

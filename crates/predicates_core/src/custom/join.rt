@@ -117,8 +117,8 @@ fn kept_if(kept: bool, found: Option<Case>) -> Option<Case>
     if kept { found } else { None }
 }
 
-/// The verdict of a part for which this was found where this was wanted.
-pub(super) fn shown_verdict(wanted: Option<bool>, found: &Option<Case>) -> bool
+// The verdict of a part for which this was found where this was wanted.
+fn shown_verdict(wanted: Option<bool>, found: &Option<Case>) -> bool
     ensures { result ≡ shown_verdict wanted found.now }
 {
     match (wanted, found) {
@@ -207,8 +207,8 @@ pub fn join_explained<W: fmt::Display, P: Predicate<Item>, Q: Predicate<Item>, I
     Ok(Some(binary_node_of(alloc, text, holds, kept, right)?))
 }
 
-/// Whether another verdict is wanted.
-pub(super) fn is_other(wanted: Option<bool>, holds: bool) -> bool
+/// Whether a verdict is wanted, and another than this one.
+pub fn is_other(wanted: Option<bool>, holds: bool) -> bool
     ensures { result ≡ is_other wanted holds }
 {
     match wanted {

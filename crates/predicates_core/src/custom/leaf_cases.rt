@@ -4,26 +4,33 @@ ghost use Rattle.predicates_core.specs.Formula.{Leaf};
 ghost use Rattle.predicates_core.specs.Label.{plain, showing};
 ghost use Rattle.predicates_core.specs.Leaves.{IsExactly};
 ghost use Rattle.predicates_core.specs.Present.{absent_leaf};
-ghost use Rattle.predicates_core.specs.Shows.{IsAnswer, IsCaseOf};
+ghost use Rattle.predicates_core.specs.Shows.{IsAnswer, IsCaseOf, IsFound};
 
+use crate::custom::is_other;
 use crate::node::{leaf_node, printed, showing_item, showing_text};
 use crate::reflection::Case;
 use std::alloc::{AllocError, Global};
 use std::fmt;
 
-/// The `find_case` of a leaf without products, from its verdict `holds`. It takes memory for the
-/// case alone.
-#[tactic(auto, using(crate::proofs::Leaves::leaves))]
+/// The `explain` of a leaf without products, from its verdict `holds`; its `find_case` where that is
+/// asked for `Some(expected)`. It takes memory for the case alone.
+///
+/// ```
+/// let none = bare_case(alloc, &predicate::always(), true, Some(false))?;
+/// assert!(rt; none.is_none());
+/// let case = bare_case(alloc, &predicate::always(), true, None)?.ok_or("no case")?;
+/// assert!(rt; render(alloc, &case)?.as_str() == "true = true\n");
+/// ```
 pub fn bare_case<P: fmt::Display>(
     alloc: Global,
     leaf: &P,
     holds: bool,
-    expected: bool,
+    wanted: Option<bool>,
 ) -> Result<Option<Case>, AllocError>
     ensures { IfOk result
-        (IsAnswer (IsExactly (Leaf (plain (P.output leaf.now)) holds)) expected) }
+        (IsFound (IsExactly (Leaf (plain (P.output leaf.now)) holds)) wanted) }
 {
-    if holds != expected {
+    if is_other(wanted, holds) {
         return Ok(None);
     }
     make_bare_case(alloc, leaf, holds)
@@ -44,19 +51,18 @@ fn make_bare_case<P: fmt::Display>(
 }
 
 /// The same for a leaf that shows the item's debug form as its product `var`.
-#[tactic(auto, using(crate::proofs::Leaves::leaves))]
 pub fn showing_case<P: fmt::Display, Item: fmt::Debug>(
     alloc: Global,
     leaf: &P,
     holds: bool,
-    expected: bool,
+    wanted: Option<bool>,
     item: &Item,
 ) -> Result<Option<Case>, AllocError>
-    ensures { IfOk result (IsAnswer (IsExactly
+    ensures { IfOk result (IsFound (IsExactly
         (Leaf (showing (P.output leaf.now) (codes "var") (Item.debug_output item.now)) holds))
-        expected) }
+        wanted) }
 {
-    if holds != expected {
+    if is_other(wanted, holds) {
         return Ok(None);
     }
     make_showing_case(alloc, leaf, holds, item)

@@ -86,7 +86,16 @@ impl<T: Test<Item>, Item: fmt::Debug> Predicate<Item> for TestPredicate<T> {
         expected: bool,
         item: &Item,
     ) -> Result<Option<Case>, AllocError> {
-        showing_case(alloc, self, self.test.holds(item), expected, item)
+        self.explain(alloc, Some(expected), item)
+    }
+
+    fn explain(
+        &self,
+        alloc: Global,
+        wanted: Option<bool>,
+        item: &Item,
+    ) -> Result<Option<Case>, AllocError> {
+        showing_case(alloc, self, self.test.holds(item), wanted, item)
     }
 }
 

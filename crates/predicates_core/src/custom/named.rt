@@ -1,0 +1,48 @@
+//! The case of a part under a name.
+ghost use Rattle.std.specs.Prelude.{IfOk};
+ghost use Rattle.predicates_core.specs.Combined.{IsNamed};
+ghost use Rattle.predicates_core.specs.Shows.{IsAnswer, IsFound};
+
+use crate::Predicate;
+use crate::node::unary_node;
+use crate::reflection::Case;
+use std::alloc::{AllocError, Global};
+
+/// The `find_case` of a predicate that holds where its part does, and prints a name in its place.
+pub fn named_case<P: Predicate<Item>, Item>(
+    alloc: Global,
+    name: &'static str,
+    inner: &P,
+    expected: bool,
+    item: &Item,
+) -> Result<Option<Case>, AllocError>
+    requires { P.lawful inner.now }
+    ensures { IfOk result
+        (IsAnswer (IsNamed name.entry.now (P.formula inner.now item.now)) expected) }
+{
+    let Some(part) = inner.find_case(alloc, expected, item)? else {
+        return Ok(None);
+    };
+    let text = String::from_str(alloc, name)?;
+    Ok(Some(unary_node(alloc, text, expected, name, part)?))
+}
+
+/// The `explain` of such a predicate.
+pub fn named_explained<P: Predicate<Item>, Item>(
+    alloc: Global,
+    name: &'static str,
+    inner: &P,
+    wanted: Option<bool>,
+    item: &Item,
+) -> Result<Option<Case>, AllocError>
+    requires { P.lawful inner.now }
+    ensures { IfOk result
+        (IsFound (IsNamed name.entry.now (P.formula inner.now item.now)) wanted) }
+{
+    let Some(part) = inner.explain(alloc, wanted, item)? else {
+        return Ok(None);
+    };
+    let text = String::from_str(alloc, name)?;
+    let outcome = part.root().result();
+    Ok(Some(unary_node(alloc, text, outcome, name, part)?))
+}
