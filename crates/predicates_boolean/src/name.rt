@@ -12,8 +12,7 @@ ghost use Rattle.predicates_core.proofs.CombinedLemmas.{named_text_fits, one_nam
 ghost use Rattle.predicates_boolean.specs.Name.{inner_of, name_of};
 
 use predicates_core::as_static_str::AsStaticStr;
-use predicates_core::custom::one_child;
-use predicates_core::node::{printed, unary_node};
+use predicates_core::custom::{named_case, named_explained, one_child};
 use predicates_core::reflection::{Case, Child, Parameter, PredicateReflection};
 use predicates_core::{Content, Predicate, ReadsContent, Total};
 use std::alloc::{AllocError, Global};
@@ -70,18 +69,22 @@ impl<M: Predicate<Item>, Item, N: AsStaticStr> Predicate<Item> for NamePredicate
         self.inner.eval(alloc, item)
     }
 
-    #[tactic(auto, using(predicates_core::proofs::CombinedLemmas::combined))]
     fn find_case(
         &self,
         alloc: Global,
         expected: bool,
         item: &Item,
     ) -> Result<Option<Case>, AllocError> {
-        let Some(part) = self.inner.find_case(alloc, expected, item)? else {
-            return Ok(None);
-        };
-        let text = printed(alloc, self)?;
-        Ok(Some(unary_node(alloc, text, expected, self.name.text(), part)?))
+        named_case(alloc, self.name.text(), &self.inner, expected, item)
+    }
+
+    fn explain(
+        &self,
+        alloc: Global,
+        wanted: Option<bool>,
+        item: &Item,
+    ) -> Result<Option<Case>, AllocError> {
+        named_explained(alloc, self.name.text(), &self.inner, wanted, item)
     }
 }
 

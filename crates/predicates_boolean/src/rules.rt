@@ -18,7 +18,9 @@ ghost use Rattle.predicates_core.proofs.Several.{members_text_fits, one_by_membe
 ghost use Rattle.predicates_core.proofs.Several.{each_holds, each_weaker};
 ghost use Rattle.predicates_boolean.specs.Rules.{rules_of, word};
 
-use predicates_core::custom::{AtLeastOne, Every, Quantifier, each_child, parts_case, parts_hold};
+use predicates_core::custom::{
+    AtLeastOne, Every, Quantifier, each_child, parts_case, parts_explained, parts_hold,
+};
 use predicates_core::reflection::{Case, Child, Parameter, PredicateReflection};
 use predicates_core::{Content, Predicate, ReadsContent, Total};
 use std::alloc::{AllocError, Global};
@@ -156,6 +158,17 @@ impl<Q: Quantifier, P: Predicate<Item>, Item> Predicate<Item> for RulesPredicate
             expected,
             item,
         )
+    }
+
+    fn explain(
+        &self,
+        alloc: Global,
+        wanted: Option<bool>,
+        item: &Item,
+    ) -> Result<Option<Case>, AllocError> {
+        let rules = self.rules.as_slice();
+        let decides = Q::one_suffices();
+        parts_explained(alloc, self, rules, "rule", decides, wanted, item)
     }
 }
 

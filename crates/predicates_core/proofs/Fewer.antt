@@ -2,7 +2,7 @@
 use Rattle.std.proofs.Common.{◌≡◌, Bool, Option, Some, None, Result, Ok, Err, IfOk, subst}
 use Rattle.predicates_core.specs.Describe.{CaseNode}
 use Rattle.predicates_core.specs.Formula.{Formula, HasTruth}
-use Rattle.predicates_core.specs.Shows.{IsCaseOf, IsAnswer}
+use Rattle.predicates_core.specs.Shows.{IsCaseOf, IsAnswer, IsFound}
 use Rattle.predicates_core.specs.Tree.{Tree}
 
 module _ {A B : Formula → Type 0} {b : Bool} (fewer : (f : Formula) → B f → A f) where
@@ -16,6 +16,12 @@ pub answer_of_fewer : {A B : Formula → Type 0} {E : Type 0} (b : Bool) (r : Re
 answer_of_fewer b (Ok None) fewer h = truth_of_fewer fewer h
 answer_of_fewer b (Ok (Some c)) fewer h = case_of_fewer fewer h
 answer_of_fewer b (Err e) fewer h = tt
+
+pub found_of_fewer : {A B : Formula → Type 0} {E : Type 0} (w : Option Bool) (r : Result (Option (Tree CaseNode)) E) → ((f : Formula) → B f → A f) → IfOk r (IsFound A w) → IfOk r (IsFound B w)
+found_of_fewer (Some b) r fewer h = answer_of_fewer b r fewer h
+found_of_fewer None (Ok None) fewer h = λ f k. h f (fewer f k)
+found_of_fewer None (Ok (Some c)) fewer h = case_of_fewer fewer h
+found_of_fewer None (Err e) fewer h = tt
 
 pub case_with : {F : Formula → Type 0} {a b : Bool} {t : Tree CaseNode} → a ≡ b → IsCaseOf F a t → IsCaseOf F b t
 case_with {F} {t = t} e = subst (λ z. IsCaseOf F z t) e

@@ -1,11 +1,14 @@
 -- Verdicts and cases of a predicate of a value that may be absent, from those of the inner predicate.
-use Rattle.std.proofs.Common.{◌≡◌, ℕ, List, sym, Bool, false, Option, Some, None}
+use Rattle.std.proofs.Common.{◌≡◌, ℕ, List, refl, sym, Bool, true, false, Option, Some, None, Result, IfOk}
 use Rattle.predicates_core.specs.Label.{Entry}
 use Rattle.predicates_core.specs.Formula.{Formula, HasTruth}
-use Rattle.predicates_core.specs.Shows.{IsCaseOf}
+use Rattle.predicates_core.specs.Shows.{IsCaseOf, IsFound}
 use Rattle.predicates_core.specs.Tree.{Tree}
 use Rattle.predicates_core.specs.Describe.{CaseNode}
 use Rattle.predicates_core.specs.Leaves.{IsExactly}
+use Rattle.predicates_core.specs.Asked.{is_other}
+use Rattle.predicates_core.proofs.Found.{none_wanted, case_wanted}
+use Rattle.predicates_core.proofs.Fewer.{found_of_fewer}
 use Rattle.predicates_core.proofs.Leaves.{HasTruth-exactly}
 use Rattle.predicates_core.specs.Present.{IsOfPresent, absent_leaf}
 
@@ -21,5 +24,16 @@ module _ {U : Type 0} {text : Entry} {reason : List ℕ} {has : U → Formula �
 
   pub IsCaseOf-absent : {b : Bool} {t : Tree CaseNode} → held ≡ None → b ≡ false → IsCaseOf (IsExactly (absent_leaf text reason)) false t → IsCaseOf (IsOfPresent text reason has held) b t
   IsCaseOf-absent {b} e isnt h = record { truth = HasTruth-absent e isnt; explains = λ f x. h.explains f (x.of_none e) }
+
+-- what is found of it
+module _ {U : Type 0} (text : Entry) (reason : List ℕ) (has : U → Formula → Type 0) (held : Option U) where
+  pub found_present : {E : Type 0} {u : U} (w : Option Bool) (r : Result (Option (Tree CaseNode)) E) → held ≡ Some u → IfOk r (IsFound (has u) w) → IfOk r (IsFound (IsOfPresent text reason has held) w)
+  found_present {u = u} w r e = found_of_fewer w r (λ f x. x.of_some u e)
+
+  pub none_absent : (w : Option Bool) → held ≡ None → is_other w false ≡ true → IsFound (IsOfPresent text reason has held) w None
+  none_absent w e = none_wanted w (HasTruth-absent e refl)
+
+  pub case_absent : {t : Tree CaseNode} (w : Option Bool) → held ≡ None → is_other w false ≡ false → IsCaseOf (IsExactly (absent_leaf text reason)) false t → IsFound (IsOfPresent text reason has held) w (Some t)
+  case_absent w e same h = case_wanted w (IsCaseOf-absent e refl h) same
 
 pub ruleset present_cases = (HasTruth-present, IsCaseOf-present, HasTruth-absent, IsCaseOf-absent)

@@ -19,7 +19,7 @@ ghost use Rattle.predicates_part.specs.Field.{one_of_part, owned, borrowed};
 ghost use Rattle.predicates_core.specs.Present.{IsOfPresent, absent_leaf, one_present};
 
 use predicates_core::as_static_str::AsStaticStr;
-use predicates_core::custom::{absent_case, one_child};
+use predicates_core::custom::{absent_case, is_other, named_case, named_explained, one_child};
 use predicates_core::node::{printed, unary_node};
 use predicates_core::reflection::{Case, Child, Parameter, PredicateReflection};
 use predicates_core::{Predicate, Total};
@@ -60,25 +60,6 @@ pub struct FieldPredicate<P, F, T, U, N = &'static str, Access = ByValue> {
 }
 
 impl<P: Predicate<U>, F, T, U, N: AsStaticStr, Access> FieldPredicate<P, F, T, U, N, Access> {
-    // The `find_case` of an item with this part.
-    #[tactic(auto, using(crate::proofs::Parts::parts))]
-    fn case_of_part(
-        &self,
-        alloc: Global,
-        expected: bool,
-        part: &U,
-    ) -> Result<Option<Case>, AllocError>
-        requires { P.lawful self.now.inner }
-        ensures { IfOk result
-            (IsAnswer (IsNamed (N.bytes self.now.name) (P.formula self.now.inner part.now)) expected) }
-    {
-        let Some(case) = self.inner.find_case(alloc, expected, part)? else {
-            return Ok(None);
-        };
-        let text = printed(alloc, self)?;
-        Ok(Some(unary_node(alloc, text, expected, self.name.text(), case)?))
-    }
-
     // The case of an item that has no part.
     fn case_without_part(&self, alloc: Global) -> Result<Case, AllocError>
         ensures { IfOk result (IsCaseOf (IsNamed (N.bytes self.now.name)
@@ -145,7 +126,17 @@ impl<P: Predicate<U>, F: Fn(&T) -> U, T, U: Drop, N: AsStaticStr> Predicate<T>
         item: &T,
     ) -> Result<Option<Case>, AllocError> {
         let part = (self.function)(item);
-        self.case_of_part(alloc, expected, &part)
+        named_case(alloc, self.name.text(), &self.inner, expected, &part)
+    }
+
+    fn explain(
+        &self,
+        alloc: Global,
+        wanted: Option<bool>,
+        item: &T,
+    ) -> Result<Option<Case>, AllocError> {
+        let part = (self.function)(item);
+        named_explained(alloc, self.name.text(), &self.inner, wanted, &part)
     }
 }
 
@@ -176,7 +167,18 @@ impl<P: Predicate<U>, F: Fn(&T) -> &U, T, U, N: AsStaticStr> Predicate<T>
         expected: bool,
         item: &T,
     ) -> Result<Option<Case>, AllocError> {
-        self.case_of_part(alloc, expected, (self.function)(item))
+        let part = (self.function)(item);
+        named_case(alloc, self.name.text(), &self.inner, expected, part)
+    }
+
+    fn explain(
+        &self,
+        alloc: Global,
+        wanted: Option<bool>,
+        item: &T,
+    ) -> Result<Option<Case>, AllocError> {
+        let part = (self.function)(item);
+        named_explained(alloc, self.name.text(), &self.inner, wanted, part)
     }
 }
 
@@ -211,8 +213,21 @@ impl<P: Predicate<U>, F: Fn(&T) -> Option<&U>, T, U, N: AsStaticStr> Predicate<T
         item: &T,
     ) -> Result<Option<Case>, AllocError> {
         match (self.function)(item) {
-            Some(part) => self.case_of_part(alloc, expected, part),
+            Some(part) => named_case(alloc, self.name.text(), &self.inner, expected, part),
             None if expected => Ok(None),
+            None => Ok(Some(self.case_without_part(alloc)?)),
+        }
+    }
+
+    fn explain(
+        &self,
+        alloc: Global,
+        wanted: Option<bool>,
+        item: &T,
+    ) -> Result<Option<Case>, AllocError> {
+        match (self.function)(item) {
+            Some(part) => named_explained(alloc, self.name.text(), &self.inner, wanted, part),
+            None if is_other(wanted, false) => Ok(None),
             None => Ok(Some(self.case_without_part(alloc)?)),
         }
     }
@@ -242,7 +257,18 @@ impl<P: Predicate<U>, F: Field<T, U>, T, U, N: AsStaticStr> Predicate<T>
         expected: bool,
         item: &T,
     ) -> Result<Option<Case>, AllocError> {
-        self.case_of_part(alloc, expected, self.function.get(item))
+        let part = self.function.get(item);
+        named_case(alloc, self.name.text(), &self.inner, expected, part)
+    }
+
+    fn explain(
+        &self,
+        alloc: Global,
+        wanted: Option<bool>,
+        item: &T,
+    ) -> Result<Option<Case>, AllocError> {
+        let part = self.function.get(item);
+        named_explained(alloc, self.name.text(), &self.inner, wanted, part)
     }
 }
 

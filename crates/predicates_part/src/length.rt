@@ -11,8 +11,7 @@ ghost use Rattle.predicates_core.specs.Combined.{IsNamed};
 ghost use Rattle.predicates_core.proofs.CombinedLemmas.{named_text_fits, one_named, has_named};
 ghost use Rattle.predicates_part.specs.Length.{inner_of};
 
-use predicates_core::custom::one_child;
-use predicates_core::node::{printed, unary_node};
+use predicates_core::custom::{named_case, named_explained, one_child};
 use predicates_core::reflection::{Case, Child, Parameter, PredicateReflection};
 use predicates_core::{Predicate, ReadsContent, Total};
 use std::alloc::{AllocError, Global};
@@ -101,19 +100,22 @@ impl<P: Predicate<usize>, T: Length> Predicate<T> for LengthPredicate<P> {
         self.inner.eval(alloc, &length)
     }
 
-    #[tactic(auto, using(predicates_core::proofs::CombinedLemmas::combined))]
     fn find_case(
         &self,
         alloc: Global,
         expected: bool,
         item: &T,
     ) -> Result<Option<Case>, AllocError> {
-        let length = item.length();
-        let Some(case) = self.inner.find_case(alloc, expected, &length)? else {
-            return Ok(None);
-        };
-        let text = printed(alloc, self)?;
-        Ok(Some(unary_node(alloc, text, expected, "len", case)?))
+        named_case(alloc, "len", &self.inner, expected, &item.length())
+    }
+
+    fn explain(
+        &self,
+        alloc: Global,
+        wanted: Option<bool>,
+        item: &T,
+    ) -> Result<Option<Case>, AllocError> {
+        named_explained(alloc, "len", &self.inner, wanted, &item.length())
     }
 }
 

@@ -11,7 +11,7 @@ ghost use Rattle.predicates_core.proofs.Several.{members_text_fits, one_members,
 ghost use Rattle.predicates_part.specs.Members.{applied_text, inner_of, word};
 
 use predicates_core::custom::{
-    AtLeastOne, Every, Quantifier, members_case, members_hold, one_child,
+    AtLeastOne, Every, Quantifier, members_case, members_explained, members_hold, one_child,
 };
 use predicates_core::reflection::{Case, Child, Parameter, PredicateReflection};
 use predicates_core::{Predicate, Total};
@@ -112,6 +112,17 @@ impl<Q: Quantifier, P: Predicate<U>, U> Predicate<Vec<U>> for MembersPredicate<Q
             expected,
             members,
         )
+    }
+
+    fn explain(
+        &self,
+        alloc: Global,
+        wanted: Option<bool>,
+        item: &Vec<U>,
+    ) -> Result<Option<Case>, AllocError> {
+        let members = item.as_slice();
+        let decides = Q::one_suffices();
+        members_explained(alloc, self, &self.inner, "item", decides, wanted, members)
     }
 }
 

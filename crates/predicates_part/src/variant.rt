@@ -13,7 +13,7 @@ ghost use Rattle.predicates_core.specs.Present.{present_text_fits, one_present};
 ghost use Rattle.predicates_core.specs.Present.{present_formula, has_present};
 ghost use Rattle.predicates_part.specs.Optional.{inner_of, value_of_ok, value_of_err};
 
-use predicates_core::custom::{absent_case, one_child};
+use predicates_core::custom::{absent_case, is_other, one_child};
 use predicates_core::reflection::{Case, Child, Parameter, PredicateReflection};
 use predicates_core::{Predicate, Total};
 use std::alloc::{AllocError, Global};
@@ -186,6 +186,19 @@ impl<V: Variant<T>, P: Predicate<V::Value>, T> Predicate<T> for VariantPredicate
         match V::value(item) {
             Some(value) => self.inner.find_case(alloc, expected, value),
             None if expected => Ok(None),
+            None => Ok(Some(absent_case(alloc, &self.inner, V::absent())?)),
+        }
+    }
+
+    fn explain(
+        &self,
+        alloc: Global,
+        wanted: Option<bool>,
+        item: &T,
+    ) -> Result<Option<Case>, AllocError> {
+        match V::value(item) {
+            Some(value) => self.inner.explain(alloc, wanted, value),
+            None if is_other(wanted, false) => Ok(None),
             None => Ok(Some(absent_case(alloc, &self.inner, V::absent())?)),
         }
     }

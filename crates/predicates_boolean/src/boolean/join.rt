@@ -8,7 +8,7 @@ ghost use Rattle.predicates_core.specs.Parts.{two_parts};
 ghost use Rattle.predicates_core.specs.Combined.{infix_text, sign, IsPair};
 ghost use Rattle.predicates_core.proofs.CombinedLemmas.{pair_text_fits, one_pair, has_pair};
 
-use predicates_core::custom::{Operator, join_case, join_truth, two_children};
+use predicates_core::custom::{Operator, join_case, join_explained, join_truth, two_children};
 use predicates_core::reflection::{Case, Child, Parameter, PredicateReflection};
 use predicates_core::{Content, Predicate, ReadsContent, Total};
 use std::alloc::{AllocError, Global};
@@ -152,6 +152,15 @@ impl<O: JoinOperator, M1: Predicate<Item>, M2: Predicate<Item>, Item> Predicate<
         item: &Item,
     ) -> Result<Option<Case>, AllocError> {
         join_case(alloc, O::operator(), self, &self.a, &self.b, expected, item)
+    }
+
+    fn explain(
+        &self,
+        alloc: Global,
+        wanted: Option<bool>,
+        item: &Item,
+    ) -> Result<Option<Case>, AllocError> {
+        join_explained(alloc, O::operator(), self, &self.a, &self.b, wanted, item)
     }
 }
 

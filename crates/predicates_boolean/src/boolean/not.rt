@@ -6,7 +6,7 @@ ghost use Rattle.predicates_core.specs.Parts.{part};
 ghost use Rattle.predicates_core.specs.Combined.{not_text, IsNot};
 ghost use Rattle.predicates_core.proofs.CombinedLemmas.{not_text_fits, one_not, has_not};
 
-use predicates_core::custom::{not_case, one_child};
+use predicates_core::custom::{not_case, not_explained, one_child};
 use predicates_core::reflection::{Case, Child, Parameter, PredicateReflection};
 use predicates_core::{Content, Predicate, ReadsContent, Total};
 use std::alloc::{AllocError, Global};
@@ -81,6 +81,15 @@ impl<M: Predicate<Item>, Item> Predicate<Item> for NotPredicate<M, Item> {
         item: &Item,
     ) -> Result<Option<Case>, AllocError> {
         not_case(alloc, self, &self.inner, expected, item)
+    }
+
+    fn explain(
+        &self,
+        alloc: Global,
+        wanted: Option<bool>,
+        item: &Item,
+    ) -> Result<Option<Case>, AllocError> {
+        not_explained(alloc, self, &self.inner, wanted, item)
     }
 }
 

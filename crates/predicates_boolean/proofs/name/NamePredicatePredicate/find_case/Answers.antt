@@ -1,6 +1,4 @@
-use Rattle.std.proofs.Common.{rules}
-use Rattle.predicates_core.proofs.CombinedLemmas.{IsCaseOf-under}
 use Rattle.predicates_boolean.proofs.name.NamePredicatePredicate.find_case.Goals as goal
 
 pub returns : goal.returns
-returns g c = IsCaseOf-under c.in_ok-unary_node.ensures (search rules) (search rules) (search rules)
+returns g c = rw c.text.ensures at c.named_case.ensures

@@ -7,7 +7,7 @@ use Rattle.predicates_part.proofs.Parts.{on_present, on_absent}
 use Rattle.predicates_part.proofs.field.FieldPredicateByOptionPredicate.find_case.Goals as goal
 
 pub returns-in-Some : goal.returns-in-Some
-returns-in-Some g c = answer_of_fewer c.args.expected c.case_of_part.result (on_present {u = c.in-Some.part} c.requires.2 c.function.ensures c.in-Some.is) c.case_of_part.ensures
+returns-in-Some g c = answer_of_fewer c.args.expected c.named_case.result (on_present {u = c.in-Some.part} c.requires.2 c.function.ensures c.in-Some.is) (rw c.text.ensures at c.named_case.ensures)
 
 pub returns-in-None : goal.returns-in-None
 returns-in-None g c = truth_of_fewer (on_absent c.requires.2 c.function.ensures c.in-None.is) (HasTruth-named (HasTruth-exactly (ap not (sym c.if-expected.true))))
