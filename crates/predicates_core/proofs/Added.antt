@@ -1,13 +1,14 @@
 -- One product more at the root: the truth and the first reason stay, and the case has the product too.
-use Rattle.std.proofs.Common.{◌≡◌, refl, sym, ap, ◌∙◌, ℕ, Bool, List, [], ◌∷◌, ◌++◌, Option}
+use Rattle.std.proofs.Common.{◌≡◌, refl, sym, ap, ◌∙◌, ℕ, Bool, List, [], ◌∷◌, ◌++◌, Option, Some, None}
 use Rattle.predicates_core.specs.Label.{Label, Entry, Product, Fits, FitsEntry, FitsProducts}
 use Rattle.predicates_core.specs.Formula.{Formula, Leaf, Join, Not, Named, text_of, truth, value, actual, HasTruth, with_product}
-use Rattle.predicates_core.specs.Shows.{FitsNode, Shows, Explains, IsCaseOf}
+use Rattle.predicates_core.specs.Shows.{FitsNode, Shows, Explains, IsCaseOf, IsFound}
 use Rattle.predicates_core.specs.Tree.{Tree}
 use Rattle.predicates_core.specs.Describe as describe
 use Rattle.predicates_core.specs.Describe.{CaseNode, NamedBytes}
 use Rattle.predicates_core.specs.Leaves.{IsShowing}
 use Rattle.predicates_core.specs.Added.{IsWithProduct}
+use Rattle.predicates_core.proofs.Found.{case_by_result}
 use Rattle.predicates_core.proofs.FirstReasonOf.{with_product_truth, first-with_product}
 
 -- one product more on both sides, where the value fits
@@ -62,3 +63,13 @@ module _ {name : List ℕ} {value : Entry} {part : Formula → Type 0} where
     truth = HasTruth-with_product h.truth;
     explains = λ f p. rw (p.is, s.is) (explains_with_product p.inner c (record { name = name; value = value }) s.bytes s.fits (h.explains p.inner p.of_part));
   }
+
+-- what is found of it
+module _ (name : List ℕ) (value : Entry) (part : Formula → Type 0) where
+  pub none_with_product : (w : Option Bool) → IsFound part w None → IsFound (IsWithProduct name value part) w None
+  none_with_product (Some e) x = HasTruth-with_product x
+  none_with_product None x = λ f p. x p.inner p.of_part
+
+  pub case_with_product : (w : Option Bool) {c t : Tree CaseNode} → IsShowing name value c t → IsFound part w (Some c) → IsFound (IsWithProduct name value part) w (Some t)
+  case_with_product (Some e) s x = IsCaseOf-with_product s x
+  case_with_product None s x = case_by_result (IsCaseOf-with_product s x)

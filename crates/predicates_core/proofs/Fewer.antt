@@ -17,11 +17,15 @@ answer_of_fewer b (Ok None) fewer h = truth_of_fewer fewer h
 answer_of_fewer b (Ok (Some c)) fewer h = case_of_fewer fewer h
 answer_of_fewer b (Err e) fewer h = tt
 
+pub found_fewer : {A B : Formula → Type 0} (w : Option Bool) (found : Option (Tree CaseNode)) → ((f : Formula) → B f → A f) → IsFound A w found → IsFound B w found
+found_fewer (Some b) None fewer h = truth_of_fewer fewer h
+found_fewer (Some b) (Some c) fewer h = case_of_fewer fewer h
+found_fewer None None fewer h = λ f k. h f (fewer f k)
+found_fewer None (Some c) fewer h = case_of_fewer fewer h
+
 pub found_of_fewer : {A B : Formula → Type 0} {E : Type 0} (w : Option Bool) (r : Result (Option (Tree CaseNode)) E) → ((f : Formula) → B f → A f) → IfOk r (IsFound A w) → IfOk r (IsFound B w)
-found_of_fewer (Some b) r fewer h = answer_of_fewer b r fewer h
-found_of_fewer None (Ok None) fewer h = λ f k. h f (fewer f k)
-found_of_fewer None (Ok (Some c)) fewer h = case_of_fewer fewer h
-found_of_fewer None (Err e) fewer h = tt
+found_of_fewer w (Ok found) fewer h = found_fewer w found fewer h
+found_of_fewer w (Err e) fewer h = tt
 
 pub case_with : {F : Formula → Type 0} {a b : Bool} {t : Tree CaseNode} → a ≡ b → IsCaseOf F a t → IsCaseOf F b t
 case_with {F} {t = t} e = subst (λ z. IsCaseOf F z t) e

@@ -117,6 +117,25 @@ impl<P: Predicate<Value>, N: JsonPointer> PointerPredicate<P, N> {
             None => Ok(Some(absent_case(alloc, &self.inner, "no value")?)),
         }
     }
+
+    // The `explain` of the same.
+    fn explain_below(
+        &self,
+        alloc: Global,
+        wanted: Option<bool>,
+        item: &Value,
+    ) -> Result<Option<Case>, AllocError>
+        requires { P.lawful (inner_of self.now) }
+        ensures { IfOk result (IsFound (IsOfPresent (P.output (inner_of self.now)) no_value_text
+            (P.formula (inner_of self.now)) (at_pointer (N.bytes (pointer_of self.now)) item.now))
+            wanted) }
+    {
+        match value_at(item, self.pointer.text()) {
+            Some(value) => self.inner.explain(alloc, wanted, value),
+            None if is_other(wanted, false) => Ok(None),
+            None => Ok(Some(absent_case(alloc, &self.inner, "no value")?)),
+        }
+    }
 }
 
 impl<P: Predicate<Value>, N: JsonPointer> Predicate<Value> for PointerPredicate<P, N> {
@@ -154,6 +173,20 @@ impl<P: Predicate<Value>, N: JsonPointer> Predicate<Value> for PointerPredicate<
         };
         let text = printed(alloc, self)?;
         Ok(Some(unary_node(alloc, text, expected, "value", case)?))
+    }
+
+    fn explain(
+        &self,
+        alloc: Global,
+        wanted: Option<bool>,
+        item: &Value,
+    ) -> Result<Option<Case>, AllocError> {
+        let Some(case) = self.explain_below(alloc, wanted, item)? else {
+            return Ok(None);
+        };
+        let text = printed(alloc, self)?;
+        let outcome = case.root().result();
+        Ok(Some(unary_node(alloc, text, outcome, "value", case)?))
     }
 }
 

@@ -1,13 +1,16 @@
 -- Verdicts and cases of predicates of contents, from those of predicates of bytes.
-use Rattle.std.proofs.Common.{◌≡◌, sym, ℕ, Bool, false, List, Result, Ok, Err, Some, codes}
+use Rattle.std.proofs.Common.{◌≡◌, refl, sym, ℕ, Bool, true, false, List, Option, None, Result, Ok, Err, Some, codes}
 use Rattle.predicates_core.specs.Label.{Entry}
 use Rattle.predicates_core.specs.Formula.{Formula, HasTruth}
-use Rattle.predicates_core.specs.Shows.{IsCaseOf}
+use Rattle.predicates_core.specs.Shows.{IsCaseOf, IsFound}
 use Rattle.predicates_core.specs.Tree.{Tree}
 use Rattle.predicates_core.specs.Describe.{CaseNode}
 use Rattle.predicates_core.specs.Leaves.{IsExactly, IsShowing}
 use Rattle.predicates_core.proofs.Leaves.{HasTruth-exactly}
-use Rattle.predicates_core.proofs.Added.{HasTruth-with_product, IsCaseOf-with_product}
+use Rattle.predicates_core.specs.Asked.{is_other}
+use Rattle.predicates_core.proofs.Added.{HasTruth-with_product, IsCaseOf-with_product, none_with_product, case_with_product}
+use Rattle.predicates_core.proofs.Fewer.{found_fewer}
+use Rattle.predicates_core.proofs.Found.{none_wanted, case_wanted}
 use Rattle.predicates_path.specs.declared.fault.PathFault.{PathFault}
 use Rattle.predicates_path.specs.Snapshot.{Bytes}
 use Rattle.predicates_path.specs.Content.{IsOfContent, without_content}
@@ -30,5 +33,19 @@ module _ {text : Entry} {has : Bytes → Formula → Type 0} {path : List ℕ} {
     truth = HasTruth-no_content e none;
     explains = λ f x. h.explains f (x.of_fault fault e);
   }
+
+-- what is found of them
+module _ (text : Entry) (has : Bytes → Formula → Type 0) (path : List ℕ) (held : Result Bytes PathFault) where
+  pub none_of_content : (w : Option Bool) (v : Bytes) → held ≡ Ok v → IsFound (has v) w None → IsFound (IsOfContent text has path held) w None
+  none_of_content w v e x = found_fewer w None (λ f p. p.of_bytes v e) (none_with_product _ _ _ w x)
+
+  pub case_of_content : (w : Option Bool) (v : Bytes) {c t : Tree CaseNode} → held ≡ Ok v → IsShowing (codes "var") (Some path) c t → IsFound (has v) w (Some c) → IsFound (IsOfContent text has path held) w (Some t)
+  case_of_content w v {c} {t} e s x = found_fewer w (Some t) (λ f p. p.of_bytes v e) (case_with_product _ _ _ w s x)
+
+  pub none_without_content : (w : Option Bool) (fault : PathFault) → held ≡ Err fault → is_other w false ≡ true → IsFound (IsOfContent text has path held) w None
+  none_without_content w fault e = none_wanted w (HasTruth-no_content e refl)
+
+  pub case_without_content : (w : Option Bool) (fault : PathFault) {t : Tree CaseNode} → held ≡ Err fault → is_other w false ≡ false → IsCaseOf (IsExactly (without_content text path fault)) false t → IsFound (IsOfContent text has path held) w (Some t)
+  case_without_content w fault e same h = case_wanted w (IsCaseOf-no_content e refl h) same
 
 pub ruleset content_cases = (HasTruth-content, IsCaseOf-content, HasTruth-no_content, IsCaseOf-no_content)

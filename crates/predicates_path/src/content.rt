@@ -113,6 +113,24 @@ impl<P: Predicate<Vec<u8>>> Predicate<Snapshot> for FileContentPredicate<P> {
             }
         }
     }
+
+    fn explain(
+        &self,
+        alloc: Global,
+        wanted: Option<bool>,
+        item: &Snapshot,
+    ) -> Result<Option<Case>, AllocError> {
+        match item.content_or_fault() {
+            Ok(bytes) => {
+                let Some(case) = self.inner.explain(alloc, wanted, bytes)? else {
+                    return Ok(None);
+                };
+                Ok(Some(item.show_path(alloc, case)?))
+            }
+            Err(_) if is_other(wanted, false) => Ok(None),
+            Err(fault) => Ok(Some(self.no_content(alloc, item, *fault)?)),
+        }
+    }
 }
 
 impl<P: Total<Vec<u8>>> Total<Snapshot> for FileContentPredicate<P> {

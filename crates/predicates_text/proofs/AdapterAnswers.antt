@@ -1,17 +1,19 @@
 -- An adapter answers as its part does on the view.
-use Rattle.std.proofs.Common.{◌≡◌, sym, subst, ℕ, Bool, false, List, [], Option, None, Some, Result, Ok, Err}
+use Rattle.std.proofs.Common.{◌≡◌, refl, sym, subst, ℕ, Bool, true, false, List, Option, None, Some, Result, Ok, Err}
 use Rattle.std.specs.Prelude.{IfOk, codes, string_bytes}
 use Rattle.std.specs.Str.{IsUtf8}
 use Rattle.predicates_core.specs.Text.{Text}
-use Rattle.predicates_core.specs.Label.{Fits}
 use Rattle.predicates_core.specs.Formula.{Formula, HasTruth}
 use Rattle.predicates_core.specs.Tree.{Tree}
 use Rattle.predicates_core.specs.Describe.{CaseNode}
-use Rattle.predicates_core.specs.Shows.{IsNode, IsCaseOf, IsAnswer}
-use Rattle.predicates_core.specs.Leaves.{IsShowing}
-use Rattle.predicates_core.proofs.Leaves.{IsCaseOf-showing, HasTruth-exactly}
-use Rattle.predicates_core.proofs.Added.{HasTruth-with_product, IsCaseOf-with_product}
-use Rattle.predicates_text.specs.ViewFormulas.{IsOfEach, IsDecoded}
+use Rattle.predicates_core.specs.Shows.{IsCaseOf, IsAnswer, IsFound}
+use Rattle.predicates_core.specs.Leaves.{IsExactly, IsShowing}
+use Rattle.predicates_core.specs.Asked.{is_other}
+use Rattle.predicates_core.proofs.Leaves.{HasTruth-exactly}
+use Rattle.predicates_core.proofs.Added.{HasTruth-with_product, IsCaseOf-with_product, none_with_product, case_with_product}
+use Rattle.predicates_core.proofs.Fewer.{found_fewer, found_of_fewer}
+use Rattle.predicates_core.proofs.Found.{none_wanted, case_wanted}
+use Rattle.predicates_text.specs.ViewFormulas.{IsOfEach, IsDecoded, undecoded}
 
 module _ {has : Text → Formula → Type 0} {viewed : Text → Type 0} where
   pub HasTruth-each : {b : Bool} (t : Text) → viewed t → HasTruth (has t) b → HasTruth (IsOfEach has viewed) b
@@ -32,7 +34,10 @@ pub find-each : {E : Type 0} (has : Text → Formula → Type 0) (viewed : Text 
 find-each has viewed t expected (Ok found) is h = answer-each has viewed t expected found is h
 find-each has viewed t expected (Err e) is h = tt
 
-pub ruleset adapters = (eval-each, find-each)
+pub explain-each : {E : Type 0} (has : Text → Formula → Type 0) (viewed : Text → Type 0) (t : Text) (w : Option Bool) (r : Result (Option (Tree CaseNode)) E) → viewed t → IfOk r (IsFound (has t) w) → IfOk r (IsFound (IsOfEach has viewed) w)
+explain-each has viewed t w r is = found_of_fewer w r (λ f p. p.each t is)
+
+pub ruleset adapters = (eval-each, find-each, explain-each)
 
 -- ---- bytes
 
@@ -49,9 +54,21 @@ module _ {text : Option (List ℕ)} {has : Text → Formula → Type 0} {bytes :
   pub HasTruth-undecoded : {b : Bool} → ¬ (IsUtf8 bytes) → b ≡ false → HasTruth (IsDecoded text has bytes) b
   HasTruth-undecoded n e = record { at = λ f p. (HasTruth-exactly (sym e)).at f (p.of_other n) }
 
-  pub IsCaseOf-undecoded : {b : Bool} {c d : Tree CaseNode} {printed : List ℕ} → ¬ (IsUtf8 bytes) → b ≡ false → IsShowing (codes "error") (Some (codes "Invalid UTF-8 string")) c d → IsNode (Some printed) b [] c → Fits text printed → IsCaseOf (IsDecoded text has bytes) b d
-  IsCaseOf-undecoded {b} {c} {d} n e s node fits =
-      let known = IsCaseOf-showing {text = text} {own = false} s node fits (HasTruth-exactly (sym e)) in
-      record { truth = HasTruth-undecoded n e; explains = λ f p. known.explains f (p.of_other n) }
+  pub IsCaseOf-undecoded : {b : Bool} {d : Tree CaseNode} → ¬ (IsUtf8 bytes) → b ≡ false → IsCaseOf (IsExactly (undecoded text)) false d → IsCaseOf (IsDecoded text has bytes) b d
+  IsCaseOf-undecoded n e h = record { truth = HasTruth-undecoded n e; explains = λ f p. h.explains f (p.of_other n) }
+
+-- what is found of them
+module _ (text : Option (List ℕ)) (has : Text → Formula → Type 0) (bytes : List ℕ) where
+  pub none_decoded : (w : Option Bool) (t : Text) → string_bytes t ≡ bytes → IsFound (has t) w None → IsFound (IsDecoded text has bytes) w None
+  none_decoded w t e x = found_fewer w None (λ f p. p.of_text t e) (none_with_product _ _ _ w x)
+
+  pub case_decoded : (w : Option Bool) (t : Text) {c d : Tree CaseNode} → string_bytes t ≡ bytes → IsShowing (codes "var as str") (Some (string_bytes t)) c d → IsFound (has t) w (Some c) → IsFound (IsDecoded text has bytes) w (Some d)
+  case_decoded w t {c} {d} e s x = found_fewer w (Some d) (λ f p. p.of_text t e) (case_with_product _ _ _ w (subst (λ bs. IsShowing (codes "var as str") (Some bs) c d) e s) x)
+
+  pub none_undecoded : (w : Option Bool) → ¬ (IsUtf8 bytes) → is_other w false ≡ true → IsFound (IsDecoded text has bytes) w None
+  none_undecoded w n = none_wanted w (HasTruth-undecoded n refl)
+
+  pub case_undecoded : (w : Option Bool) {d : Tree CaseNode} → ¬ (IsUtf8 bytes) → is_other w false ≡ false → IsCaseOf (IsExactly (undecoded text)) false d → IsFound (IsDecoded text has bytes) w (Some d)
+  case_undecoded w n same h = case_wanted w (IsCaseOf-undecoded n refl h) same
 
 pub ruleset decoding = (HasTruth-decoded, IsCaseOf-decoded, HasTruth-undecoded, IsCaseOf-undecoded)

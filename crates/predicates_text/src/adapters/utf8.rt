@@ -45,6 +45,14 @@ fn decode(alloc: Global, bytes: &Vec<u8>) -> Result<Option<String>, AllocError>
     }
 }
 
+// The case of bytes that are not text.
+fn undecoded_case<P: fmt::Display>(alloc: Global, predicate: &P) -> Result<Case, AllocError>
+    ensures { IfOk result (IsCaseOf (IsExactly (undecoded (P.output predicate.now))) false) }
+{
+    let case = leaf_node(alloc, printed(alloc, predicate)?, false);
+    Ok(showing_text(alloc, case, "error", "Invalid UTF-8 string")?)
+}
+
 impl<P: Predicate<String>> Predicate<Vec<u8>> for ViewPredicate<Utf8View, P> {
     ghost lawful = { λ p. P.lawful (inner_of p) };
 
@@ -76,10 +84,27 @@ impl<P: Predicate<String>> Predicate<Vec<u8>> for ViewPredicate<Utf8View, P> {
             if expected {
                 return Ok(None);
             }
-            let case = leaf_node(alloc, printed(alloc, self)?, expected);
-            return Ok(Some(showing_text(alloc, case, "error", "Invalid UTF-8 string")?));
+            return Ok(Some(undecoded_case(alloc, self)?));
         };
         let Some(case) = self.inner.find_case(alloc, expected, &text)? else {
+            return Ok(None);
+        };
+        Ok(Some(showing(case, "var as str", text)?))
+    }
+
+    fn explain(
+        &self,
+        alloc: Global,
+        wanted: Option<bool>,
+        item: &Vec<u8>,
+    ) -> Result<Option<Case>, AllocError> {
+        let Some(text) = decode(alloc, item)? else {
+            if is_other(wanted, false) {
+                return Ok(None);
+            }
+            return Ok(Some(undecoded_case(alloc, self)?));
+        };
+        let Some(case) = self.inner.explain(alloc, wanted, &text)? else {
             return Ok(None);
         };
         Ok(Some(showing(case, "var as str", text)?))

@@ -125,6 +125,18 @@ impl<V: TextView, P: Predicate<String>> Predicate<String> for ViewPredicate<V, P
         let view = V::view(alloc, item, &mut copy)?;
         self.inner.find_case(alloc, expected, view)
     }
+
+    #[tactic(auto, using(crate::proofs::AdapterAnswers::adapters))]
+    fn explain(
+        &self,
+        alloc: Global,
+        wanted: Option<bool>,
+        item: &String,
+    ) -> Result<Option<Case>, AllocError> {
+        let mut copy = String::new(alloc);
+        let view = V::view(alloc, item, &mut copy)?;
+        self.inner.explain(alloc, wanted, view)
+    }
 }
 
 impl<V: TextView, P: ReadsContent<String>> Total<String> for ViewPredicate<V, P> {
