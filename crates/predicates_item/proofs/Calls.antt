@@ -1,5 +1,5 @@
 -- What a stored function answers is the truth of its leaf, and the leaf's case is that of the call.
-use Rattle.std.proofs.Common.{ℕ, Bool, List, Option, Some, None, Result, Ok, Err, sym, ap, ◌∙◌}
+use Rattle.std.proofs.Common.{ℕ, Bool, List, Option, Result, sym, ap, ◌∙◌}
 use Rattle.std.specs.Prelude.{IfOk}
 use Rattle.std.specs.Fn.{Shared, FnReturnsAt}
 use denote.Ref.{Bor}
@@ -8,7 +8,8 @@ use Rattle.predicates_core.specs.Formula.{Formula, Leaf, HasTruth, truth}
 use Rattle.predicates_core.specs.Describe.{CaseNode}
 use Rattle.predicates_core.specs.Tree.{Tree}
 use Rattle.predicates_core.specs.Leaves.{IsExactly}
-use Rattle.predicates_core.specs.Shows.{IsAnswer}
+use Rattle.predicates_core.specs.Shows.{IsFound}
+use Rattle.predicates_core.proofs.Fewer.{found_of_fewer}
 use Rattle.predicates_core.proofs.Values.{truth-Leaf}
 use Rattle.predicates_item.specs.Function.{HasOneAnswer, IsCall}
 
@@ -21,10 +22,5 @@ module _ {F T : Type 0} {calls : Shared F (Bor T × Unit {0}) Bool} {function : 
     call_is : (f : Formula) → IsCall calls function text item f → IsExactly (Leaf (plain text) b) f
     call_is f k = record { is = k.is ∙ ap (Leaf (plain text)) (sym (truth-Leaf (plain text) k.answer) ∙ ap truth (sym k.is) ∙ h.at f k) }
 
-    answer_of_found : (expected : Bool) (found : Option (Tree CaseNode)) → IsAnswer (IsExactly (Leaf (plain text) b)) expected found → IsAnswer (IsCall calls function text item) expected found
-    answer_of_found expected None a = record { at = λ f k. a.at f (call_is f k) }
-    answer_of_found expected (Some t) a = record { truth = record { at = λ f k. a.truth.at f (call_is f k) }; explains = λ f k. a.explains f (call_is f k) }
-
-    pub answer_of_leaf : {E : Type 0} (expected : Bool) (r : Result (Option (Tree CaseNode)) E) → IfOk r (IsAnswer (IsExactly (Leaf (plain text) b)) expected) → IfOk r (IsAnswer (IsCall calls function text item) expected)
-    answer_of_leaf expected (Ok found) a = answer_of_found expected found a
-    answer_of_leaf expected (Err e) a = tt
+    pub answer_of_leaf : {E : Type 0} (w : Option Bool) (r : Result (Option (Tree CaseNode)) E) → IfOk r (IsFound (IsExactly (Leaf (plain text) b)) w) → IfOk r (IsFound (IsCall calls function text item) w)
+    answer_of_leaf w r = found_of_fewer w r call_is

@@ -99,9 +99,18 @@ impl<Item> Predicate<Item> for BooleanPredicate<Item> {
         &self,
         alloc: Global,
         expected: bool,
+        item: &Item,
+    ) -> Result<Option<Case>, AllocError> {
+        self.explain(alloc, Some(expected), item)
+    }
+
+    fn explain(
+        &self,
+        alloc: Global,
+        wanted: Option<bool>,
         _item: &Item,
     ) -> Result<Option<Case>, AllocError> {
-        bare_case(alloc, self, self.retval, expected)
+        bare_case(alloc, self, self.retval, wanted)
     }
 }
 

@@ -110,13 +110,22 @@ impl<F: Fn(&T) -> bool, T> Predicate<T> for FnPredicate<F, T> {
         Ok((self.function)(item))
     }
 
-    #[tactic(auto, using(crate::proofs::Calls::answer_of_leaf))]
     fn find_case(
         &self,
         alloc: Global,
         expected: bool,
         item: &T,
     ) -> Result<Option<Case>, AllocError> {
-        bare_case(alloc, self, self.eval(alloc, item)?, expected)
+        self.explain(alloc, Some(expected), item)
+    }
+
+    #[tactic(auto, using(crate::proofs::Calls::answer_of_leaf))]
+    fn explain(
+        &self,
+        alloc: Global,
+        wanted: Option<bool>,
+        item: &T,
+    ) -> Result<Option<Case>, AllocError> {
+        bare_case(alloc, self, self.eval(alloc, item)?, wanted)
     }
 }

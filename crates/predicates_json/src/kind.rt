@@ -13,7 +13,7 @@ ghost use Rattle.predicates_core.specs.Present.{IsOfPresent, present_text_fits, 
 ghost use Rattle.predicates_core.specs.Present.{has_present};
 ghost use Rattle.predicates_json.specs.KindParts.{inner_of};
 
-use predicates_core::custom::{absent_case, one_child};
+use predicates_core::custom::{absent_case, is_other, one_child};
 use predicates_core::reflection::{Case, Child, Parameter, PredicateReflection};
 use predicates_core::{Predicate, Total};
 use serde_json::{Map, Value};
@@ -166,6 +166,19 @@ impl<P: Predicate<U>, U: JsonKind> Predicate<Value> for KindPredicate<P, U> {
         match U::held(item) {
             Some(held) => self.inner.find_case(alloc, expected, held),
             None if expected => Ok(None),
+            None => Ok(Some(absent_case(alloc, &self.inner, kind(item))?)),
+        }
+    }
+
+    fn explain(
+        &self,
+        alloc: Global,
+        wanted: Option<bool>,
+        item: &Value,
+    ) -> Result<Option<Case>, AllocError> {
+        match U::held(item) {
+            Some(held) => self.inner.explain(alloc, wanted, held),
+            None if is_other(wanted, false) => Ok(None),
             None => Ok(Some(absent_case(alloc, &self.inner, kind(item))?)),
         }
     }

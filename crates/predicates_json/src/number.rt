@@ -15,7 +15,7 @@ ghost use Rattle.predicates_core.specs.Present.{has_present};
 ghost use Rattle.predicates_json.specs.NumberParts.{inner_of};
 
 use crate::kind::kind;
-use predicates_core::custom::{absent_case, one_child};
+use predicates_core::custom::{absent_case, is_other, one_child};
 use predicates_core::reflection::{Case, Child, Parameter, PredicateReflection};
 use predicates_core::{Predicate, Total};
 use serde_json::{Number, Value};
@@ -179,6 +179,19 @@ impl<P: Predicate<N>, N: JsonNumber> Predicate<Value> for NumberPredicate<P, N> 
         match number_of::<N>(item) {
             Some(number) => self.inner.find_case(alloc, expected, &number),
             None if expected => Ok(None),
+            None => Ok(Some(absent_case(alloc, &self.inner, no_number::<N>(item))?)),
+        }
+    }
+
+    fn explain(
+        &self,
+        alloc: Global,
+        wanted: Option<bool>,
+        item: &Value,
+    ) -> Result<Option<Case>, AllocError> {
+        match number_of::<N>(item) {
+            Some(number) => self.inner.explain(alloc, wanted, &number),
+            None if is_other(wanted, false) => Ok(None),
             None => Ok(Some(absent_case(alloc, &self.inner, no_number::<N>(item))?)),
         }
     }

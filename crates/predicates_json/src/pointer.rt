@@ -5,7 +5,7 @@
 //! ```
 ghost use Rattle.std.specs.Prelude.{◌≡◌, ℕ, List, [], codes, false, Some, IfOk, IfSome, string_bytes};
 ghost use Rattle.predicates_core.specs.Parts.{part};
-ghost use Rattle.predicates_core.specs.Shows.{IsAnswer};
+ghost use Rattle.predicates_core.specs.Shows.{IsAnswer, IsFound};
 ghost use Rattle.predicates_json.specs.At.{at_pointer};
 ghost use Rattle.predicates_core.specs.Present.{IsOfPresent, present_text_fits, one_present, present_formula};
 ghost use Rattle.predicates_core.specs.Present.{has_present};
@@ -15,7 +15,7 @@ ghost use Rattle.predicates_json.specs.PointerText.{is_pointer_text, has_whole_e
 ghost use Rattle.predicates_json.specs.PointerLaws.{at_text_fits, one_at, has_at};
 
 use crate::at::value_at;
-use predicates_core::custom::{absent_case, one_child};
+use predicates_core::custom::{absent_case, is_other, one_child};
 use predicates_core::node::{printed, unary_node};
 use predicates_core::reflection::{Case, Child, Parameter, PredicateReflection};
 use predicates_core::static_text::StaticText;

@@ -116,7 +116,16 @@ impl<N: JsonPointer> Predicate<Value> for PointerPresencePredicate<N> {
         expected: bool,
         item: &Value,
     ) -> Result<Option<Case>, AllocError> {
-        bare_case(alloc, self, self.holds(item), expected)
+        self.explain(alloc, Some(expected), item)
+    }
+
+    fn explain(
+        &self,
+        alloc: Global,
+        wanted: Option<bool>,
+        item: &Value,
+    ) -> Result<Option<Case>, AllocError> {
+        bare_case(alloc, self, self.holds(item), wanted)
     }
 }
 

@@ -13,7 +13,7 @@ ghost use Rattle.predicates_path.specs.ContentLaws.{has_content_formula};
 
 use crate::fault::show_fault;
 use crate::{PathFault, Snapshot};
-use predicates_core::custom::one_child;
+use predicates_core::custom::{is_other, one_child};
 use predicates_core::node::{leaf_node, printed};
 use predicates_core::reflection::{Case, Child, Parameter, PredicateReflection};
 use predicates_core::{Predicate, Total};

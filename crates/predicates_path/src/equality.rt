@@ -133,8 +133,17 @@ impl Predicate<Snapshot> for BinaryFilePredicate {
         expected: bool,
         item: &Snapshot,
     ) -> Result<Option<Case>, AllocError> {
+        self.explain(alloc, Some(expected), item)
+    }
+
+    fn explain(
+        &self,
+        alloc: Global,
+        wanted: Option<bool>,
+        item: &Snapshot,
+    ) -> Result<Option<Case>, AllocError> {
         let holds = item.has_content(self.content.as_slice());
-        bare_case(alloc, self, holds, expected)
+        bare_case(alloc, self, holds, wanted)
     }
 }
 
@@ -158,8 +167,17 @@ impl Predicate<Vec<u8>> for BinaryFilePredicate {
         expected: bool,
         item: &Vec<u8>,
     ) -> Result<Option<Case>, AllocError> {
+        self.explain(alloc, Some(expected), item)
+    }
+
+    fn explain(
+        &self,
+        alloc: Global,
+        wanted: Option<bool>,
+        item: &Vec<u8>,
+    ) -> Result<Option<Case>, AllocError> {
         let holds = has_bytes(self.content.as_slice(), item.as_slice());
-        bare_case(alloc, self, holds, expected)
+        bare_case(alloc, self, holds, wanted)
     }
 }
 

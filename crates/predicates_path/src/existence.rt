@@ -8,6 +8,7 @@ ghost use Rattle.predicates_path.specs.Existence.{asks_presence, existence_text,
 ghost use Rattle.predicates_path.specs.declared.snapshot.Snapshot.{Snapshot};
 
 use crate::Snapshot;
+use predicates_core::custom::is_other;
 use predicates_core::node::{leaf_node, printed};
 use predicates_core::reflection::{Case, Child, Parameter, PredicateReflection};
 use predicates_core::{Predicate, Total};
@@ -96,10 +97,20 @@ impl Predicate<Snapshot> for ExistencePredicate {
         expected: bool,
         item: &Snapshot,
     ) -> Result<Option<Case>, AllocError> {
-        if self.eval(alloc, item)? != expected {
+        self.explain(alloc, Some(expected), item)
+    }
+
+    fn explain(
+        &self,
+        alloc: Global,
+        wanted: Option<bool>,
+        item: &Snapshot,
+    ) -> Result<Option<Case>, AllocError> {
+        let holds = self.eval(alloc, item)?;
+        if is_other(wanted, holds) {
             return Ok(None);
         }
-        let case = leaf_node(alloc, printed(alloc, self)?, expected);
+        let case = leaf_node(alloc, printed(alloc, self)?, holds);
         Ok(Some(item.show_path(alloc, case)?))
     }
 }

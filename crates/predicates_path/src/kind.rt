@@ -15,6 +15,7 @@ ghost use Rattle.predicates_path.specs.Kind.{shown_value, kind_predicate_text, k
 use crate::fault::show_fault;
 use crate::file_type::show_kind;
 use crate::{FileType, PathFault, Snapshot};
+use predicates_core::custom::is_other;
 use predicates_core::node::{leaf_node, printed};
 use predicates_core::reflection::{Case, Child, Parameter, PredicateReflection};
 use predicates_core::{Predicate, Total};
@@ -208,10 +209,20 @@ impl Predicate<Snapshot> for FileTypePredicate {
         expected: bool,
         item: &Snapshot,
     ) -> Result<Option<Case>, AllocError> {
-        if self.eval(alloc, item)? != expected {
+        self.explain(alloc, Some(expected), item)
+    }
+
+    fn explain(
+        &self,
+        alloc: Global,
+        wanted: Option<bool>,
+        item: &Snapshot,
+    ) -> Result<Option<Case>, AllocError> {
+        let holds = self.eval(alloc, item)?;
+        if is_other(wanted, holds) {
             return Ok(None);
         }
-        let case = leaf_node(alloc, printed(alloc, self)?, expected);
+        let case = leaf_node(alloc, printed(alloc, self)?, holds);
         Ok(Some(show_found(alloc, case, self.kind_at(item))?))
     }
 }

@@ -77,8 +77,17 @@ impl Predicate<Snapshot> for StrFilePredicate {
         expected: bool,
         item: &Snapshot,
     ) -> Result<Option<Case>, AllocError> {
+        self.explain(alloc, Some(expected), item)
+    }
+
+    fn explain(
+        &self,
+        alloc: Global,
+        wanted: Option<bool>,
+        item: &Snapshot,
+    ) -> Result<Option<Case>, AllocError> {
         let holds = item.has_content(self.content.as_bytes());
-        bare_case(alloc, self, holds, expected)
+        bare_case(alloc, self, holds, wanted)
     }
 }
 
@@ -103,8 +112,17 @@ impl Predicate<String> for StrFilePredicate {
         expected: bool,
         item: &String,
     ) -> Result<Option<Case>, AllocError> {
+        self.explain(alloc, Some(expected), item)
+    }
+
+    fn explain(
+        &self,
+        alloc: Global,
+        wanted: Option<bool>,
+        item: &String,
+    ) -> Result<Option<Case>, AllocError> {
         let holds = has_bytes(self.content.as_bytes(), item.as_bytes());
-        bare_case(alloc, self, holds, expected)
+        bare_case(alloc, self, holds, wanted)
     }
 }
 

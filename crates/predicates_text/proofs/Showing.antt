@@ -1,14 +1,15 @@
 -- The answers of the tests of texts, where their formulas are stated by a relation.
-use Rattle.std.proofs.Common.{◌≡◌, Bool, List, ℕ, Option, Some, None, Result, Ok, Err}
+use Rattle.std.proofs.Common.{◌≡◌, Bool, List, ℕ, Option, Result}
 use Rattle.std.specs.Prelude.{◌==◌, IfOk}
 use Rattle.std.specs.Str.{chars}
 use Rattle.predicates_core.specs.Label.{Entry}
 use Rattle.predicates_core.specs.Formula.{Formula, HasTruth}
 use Rattle.predicates_core.specs.Tree.{Tree}
 use Rattle.predicates_core.specs.Describe.{CaseNode}
-use Rattle.predicates_core.specs.Shows.{IsAnswer}
+use Rattle.predicates_core.specs.Shows.{IsFound}
 use Rattle.predicates_core.specs.Leaves.{IsExactly}
 use Rattle.predicates_core.proofs.Leaves.{HasTruth-exactly}
+use Rattle.predicates_core.proofs.Fewer.{found_of_fewer}
 use Rattle.predicates_text.specs.Places.{is_empty, is_front, is_back, is_part}
 use Rattle.predicates_text.specs.Count.{count_of}
 use Rattle.predicates_text.specs.Leaves.{text_leaf, empty_formula, starts_formula, ends_formula, contains_formula, matches_formula}
@@ -19,12 +20,6 @@ use Rattle.predicates_text.specs.LeafFormulaLaws.{one_text_leaf, one_counted, ha
 module _ {has : Formula → Type 0} {g : Formula} where
   of_one_truth : {b : Bool} → ((f : Formula) → has f → f ≡ g) → HasTruth (IsExactly g) b → HasTruth has b
   of_one_truth one h = record { at = λ f is. h.at f (record { is = one f is }) }
-
-  of_one_answer : {E : Type 0} → ((f : Formula) → has f → f ≡ g) → (expected : Bool) (r : Result (Option (Tree CaseNode)) E)
-      → IfOk r (IsAnswer (IsExactly g) expected) → IfOk r (IsAnswer has expected)
-  of_one_answer one expected (Ok None) h = of_one_truth one h
-  of_one_answer one expected (Ok (Some t)) h = record { truth = of_one_truth one h.truth; explains = λ f is. h.explains f (record { is = one f is }) }
-  of_one_answer one expected (Err e) h = tt
 
 -- the leaf that is true as the test says is the one
 is_that : {printed : Entry} {bytes : List ℕ} {fact : Type 0} {test : Bool} → IsTextLeaf printed bytes fact (text_leaf printed bytes test)
@@ -50,23 +45,26 @@ module _ {b : Bool} where
   pub HasTruth-counted : (pattern : List ℕ) (count : ℕ) (bytes : List ℕ) → (count_of (chars pattern) (chars bytes) == count) ≡ b → HasTruth (IsCountedLeaf pattern count bytes) b
   HasTruth-counted pattern count bytes e = of_one_truth (is_counted pattern count bytes) (HasTruth-exactly e)
 
-module _ {E : Type 0} (expected : Bool) (r : Result (Option (Tree CaseNode)) E) where
+module _ {E : Type 0} (w : Option Bool) (r : Result (Option (Tree CaseNode)) E) where
   abbrev Answers : (Formula → Type 0) → Type 0
-  Answers F = IfOk r (IsAnswer F expected)
+  Answers F = IfOk r (IsFound F w)
+
+  found_of_one : (has : Formula → Type 0) (g : Formula) → ((f : Formula) → has f → f ≡ g) → Answers (IsExactly g) → Answers has
+  found_of_one has g one = found_of_fewer w r (λ f is. record { is = one f is })
 
   pub answer-empty : (bytes : List ℕ) → Answers (IsExactly (empty_formula bytes)) → Answers (IsEmptyLeaf bytes)
-  answer-empty bytes = of_one_answer (is_that (has_empty bytes)) expected r
+  answer-empty bytes = found_of_one _ _ (is_that (has_empty bytes))
 
   pub answer-starts : (pattern bytes : List ℕ) → Answers (IsExactly (starts_formula pattern bytes)) → Answers (IsStartsLeaf pattern bytes)
-  answer-starts pattern bytes = of_one_answer (is_that (has_starts pattern bytes)) expected r
+  answer-starts pattern bytes = found_of_one _ _ (is_that (has_starts pattern bytes))
 
   pub answer-ends : (pattern bytes : List ℕ) → Answers (IsExactly (ends_formula pattern bytes)) → Answers (IsEndsLeaf pattern bytes)
-  answer-ends pattern bytes = of_one_answer (is_that (has_ends pattern bytes)) expected r
+  answer-ends pattern bytes = found_of_one _ _ (is_that (has_ends pattern bytes))
 
   pub answer-contains : (pattern bytes : List ℕ) → Answers (IsExactly (contains_formula pattern bytes)) → Answers (IsContainsLeaf pattern bytes)
-  answer-contains pattern bytes = of_one_answer (is_that (has_contains pattern bytes)) expected r
+  answer-contains pattern bytes = found_of_one _ _ (is_that (has_contains pattern bytes))
 
   pub answer-counted : (pattern : List ℕ) (count : ℕ) (bytes : List ℕ) → Answers (IsExactly (matches_formula pattern count bytes)) → Answers (IsCountedLeaf pattern count bytes)
-  answer-counted pattern count bytes = of_one_answer (is_counted pattern count bytes) expected r
+  answer-counted pattern count bytes = found_of_one _ _ (is_counted pattern count bytes)
 
 pub ruleset leaf_formulas = (HasTruth-empty, HasTruth-starts, HasTruth-ends, HasTruth-contains, HasTruth-counted, answer-empty, answer-starts, answer-ends, answer-counted)

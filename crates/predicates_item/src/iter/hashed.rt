@@ -98,7 +98,16 @@ impl<T: fmt::Debug + Eq + Hash> Predicate<T> for HashableInPredicate<T> {
         expected: bool,
         item: &T,
     ) -> Result<Option<Case>, AllocError> {
-        showing_case(alloc, self, self.holds(item), expected, item)
+        self.explain(alloc, Some(expected), item)
+    }
+
+    fn explain(
+        &self,
+        alloc: Global,
+        wanted: Option<bool>,
+        item: &T,
+    ) -> Result<Option<Case>, AllocError> {
+        showing_case(alloc, self, self.holds(item), wanted, item)
     }
 }
 

@@ -133,7 +133,16 @@ impl<T: fmt::Debug + PartialEq> Predicate<T> for InPredicate<T> {
         expected: bool,
         item: &T,
     ) -> Result<Option<Case>, AllocError> {
-        showing_case(alloc, self, self.holds(item), expected, item)
+        self.explain(alloc, Some(expected), item)
+    }
+
+    fn explain(
+        &self,
+        alloc: Global,
+        wanted: Option<bool>,
+        item: &T,
+    ) -> Result<Option<Case>, AllocError> {
+        showing_case(alloc, self, self.holds(item), wanted, item)
     }
 }
 

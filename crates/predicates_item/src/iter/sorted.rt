@@ -119,8 +119,17 @@ impl<T: fmt::Debug + Ord> Predicate<T> for OrdInPredicate<T> {
         expected: bool,
         item: &T,
     ) -> Result<Option<Case>, AllocError> {
+        self.explain(alloc, Some(expected), item)
+    }
+
+    fn explain(
+        &self,
+        alloc: Global,
+        wanted: Option<bool>,
+        item: &T,
+    ) -> Result<Option<Case>, AllocError> {
         let holds = self.search_counted(item, &mut Steps::new());
-        showing_case(alloc, self, holds, expected, item)
+        showing_case(alloc, self, holds, wanted, item)
     }
 }
 

@@ -109,7 +109,16 @@ impl<T: fmt::Debug + Ord> Predicate<T> for OrdPredicate<T> {
         expected: bool,
         item: &T,
     ) -> Result<Option<Case>, AllocError> {
-        showing_case(alloc, self, self.holds(item), expected, item)
+        self.explain(alloc, Some(expected), item)
+    }
+
+    fn explain(
+        &self,
+        alloc: Global,
+        wanted: Option<bool>,
+        item: &T,
+    ) -> Result<Option<Case>, AllocError> {
+        showing_case(alloc, self, self.holds(item), wanted, item)
     }
 }
 

@@ -1,19 +1,23 @@
 //! Bytes that may be text.
-ghost use Rattle.std.specs.Prelude.{◌≡◌, Some, IfOk, IfSome, IsOk, MatchOption, codes};
+ghost use Rattle.std.specs.Prelude.{◌≡◌, Some, false, IfOk, IfSome, IsOk, MatchOption, codes};
 ghost use Rattle.std.specs.Prelude.{string_bytes};
 ghost use Rattle.std.specs.Str.{IsUtf8};
-ghost use Rattle.predicates_text.specs.ViewFormulas.{IsDecoded, decoded_formula};
+ghost use Rattle.predicates_core.specs.Leaves.{IsExactly};
+ghost use Rattle.predicates_core.specs.Shows.{IsCaseOf};
+ghost use Rattle.predicates_text.specs.ViewFormulas.{IsDecoded, decoded_formula, undecoded};
 ghost use Rattle.predicates_text.specs.ViewFormulaLaws.{decoded_text_fits, one_decoded};
 ghost use Rattle.predicates_text.specs.ViewFormulaLaws.{has_decoded_formula};
 ghost use Rattle.predicates_text.specs.ViewTexts.{text_or_other};
 ghost use Rattle.predicates_text.specs.AdapterParts.{inner_of};
 
 use crate::adapters::view::{View, ViewPredicate};
+use predicates_core::custom::is_other;
 use predicates_core::node::{leaf_node, printed, showing, showing_text};
 use predicates_core::reflection::Case;
 use predicates_core::{Predicate, ReadsContent, Total};
 use simdutf8::basic::from_utf8;
 use std::alloc::{AllocError, Global};
+use std::fmt;
 
 /// Evaluates its part on the text that the bytes encode, and is false on other bytes. Made by
 /// `PredicateStrExt::from_utf8`.
@@ -107,7 +111,8 @@ impl<P: Predicate<String>> Predicate<Vec<u8>> for ViewPredicate<Utf8View, P> {
         let Some(case) = self.inner.explain(alloc, wanted, &text)? else {
             return Ok(None);
         };
-        Ok(Some(showing(case, "var as str", text)?))
+        let case = showing(case, "var as str", text)?;
+        Ok(Some(case))
     }
 }
 

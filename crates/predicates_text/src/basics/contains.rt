@@ -97,15 +97,24 @@ impl Predicate<String> for ContainsPredicate {
         Ok(search::contains(item, &self.pattern))
     }
 
-    #[tactic(auto, using(crate::proofs::Showing::leaf_formulas))]
     fn find_case(
         &self,
         alloc: Global,
         expected: bool,
         item: &String,
     ) -> Result<Option<Case>, AllocError> {
+        self.explain(alloc, Some(expected), item)
+    }
+
+    #[tactic(auto, using(crate::proofs::Showing::leaf_formulas))]
+    fn explain(
+        &self,
+        alloc: Global,
+        wanted: Option<bool>,
+        item: &String,
+    ) -> Result<Option<Case>, AllocError> {
         let holds = search::contains(item, &self.pattern);
-        text_case(alloc, self, holds, expected, item)
+        text_case(alloc, self, holds, wanted, item)
     }
 }
 

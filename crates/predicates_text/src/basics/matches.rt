@@ -72,15 +72,24 @@ impl Predicate<String> for MatchesPredicate {
         Ok(count::count(item, &self.pattern) == self.count)
     }
 
-    #[tactic(auto, using(crate::proofs::Showing::leaf_formulas))]
     fn find_case(
         &self,
         alloc: Global,
         expected: bool,
         item: &String,
     ) -> Result<Option<Case>, AllocError> {
+        self.explain(alloc, Some(expected), item)
+    }
+
+    #[tactic(auto, using(crate::proofs::Showing::leaf_formulas))]
+    fn explain(
+        &self,
+        alloc: Global,
+        wanted: Option<bool>,
+        item: &String,
+    ) -> Result<Option<Case>, AllocError> {
         let actual = count::count(item, &self.pattern);
-        count_case(alloc, self, actual, self.count, expected, item)
+        count_case(alloc, self, actual, self.count, wanted, item)
     }
 }
 

@@ -121,8 +121,17 @@ impl Predicate<String> for RegexPredicate {
         expected: bool,
         item: &String,
     ) -> Result<Option<Case>, AllocError> {
+        self.explain(alloc, Some(expected), item)
+    }
+
+    fn explain(
+        &self,
+        alloc: Global,
+        wanted: Option<bool>,
+        item: &String,
+    ) -> Result<Option<Case>, AllocError> {
         let holds = has_match(alloc, &self.regex, item)?;
-        text_case(alloc, self, holds, expected, item)
+        text_case(alloc, self, holds, wanted, item)
     }
 }
 

@@ -90,8 +90,17 @@ impl Predicate<String> for RegexMatchesPredicate {
         expected: bool,
         item: &String,
     ) -> Result<Option<Case>, AllocError> {
+        self.explain(alloc, Some(expected), item)
+    }
+
+    fn explain(
+        &self,
+        alloc: Global,
+        wanted: Option<bool>,
+        item: &String,
+    ) -> Result<Option<Case>, AllocError> {
         let actual = match_count(alloc, &self.regex, item)?;
-        count_case(alloc, self, actual, self.count, expected, item)
+        count_case(alloc, self, actual, self.count, wanted, item)
     }
 }
 
