@@ -4,7 +4,7 @@ use Rattle.std.specs.Prelude.{not, IfOk, string_bytes}
 use Rattle.std.proofs.lemmas.Slice.Eq.{bytes_eq-Decides}
 use Rattle.predicates_core.specs.Label.{Label, Entry, Fits}
 use Rattle.predicates_core.specs.Formula.{Formula, Leaf, Join, Not, Named, text_of, value, actual, truth, HasTruth}
-use Rattle.predicates_core.specs.Shows.{FitsNode, Shows, Explains, IsCaseOf, IsAnswer}
+use Rattle.predicates_core.specs.Shows.{FitsNode, Shows, Explains, IsCaseOf, IsAnswer, IsFound}
 use Rattle.predicates_core.specs.Tree.{Tree}
 use Rattle.predicates_core.specs.Describe.{CaseNode}
 use Rattle.predicates_core.specs.Leaves.{IsExactly}
@@ -86,8 +86,14 @@ pub find-printed : {E : Type 0} (bytes : List ℕ) (f : Formula) (expected : Boo
 find-printed bytes f expected (Ok found) h = IsAnswer-printed bytes f expected found h
 find-printed bytes f expected (Err e) h = tt
 
+pub explain-printed : {E : Type 0} (bytes : List ℕ) (f : Formula) (w : Option Bool) (r : Result (Option (Tree CaseNode)) E) → IfOk r (IsFound (IsExactly f) w) → IfOk r (IsFound (IsPrintedAs bytes f) w)
+explain-printed bytes f (Some expected) r h = find-printed bytes f expected r h
+explain-printed bytes f None (Ok (Some t)) h = IsCaseOf-printed bytes f t.root.result t h
+explain-printed bytes f None (Ok None) h = absurd (h f (record { is = refl }))
+explain-printed bytes f None (Err e) h = tt
+
 -- where the kept text fits, the box has the formulas of what is held
 pub has-printed : (formula_of : List ℕ → Formula) (printed : List ℕ) → FitsRoots formula_of printed → HasFormulas formula_of (λ v. IsPrintedAs printed (formula_of (string_bytes v)))
 has-printed formula_of printed roots = record { each = λ v. record { is = sym (as_printed-fits printed (formula_of (string_bytes v)) (roots.each v)) } }
 
-pub ruleset boxes = (eval-printed, find-printed, has-printed)
+pub ruleset boxes = (eval-printed, find-printed, explain-printed, has-printed)

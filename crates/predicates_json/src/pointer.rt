@@ -184,9 +184,9 @@ impl<P: Predicate<Value>, N: JsonPointer> Predicate<Value> for PointerPredicate<
         let Some(case) = self.explain_below(alloc, wanted, item)? else {
             return Ok(None);
         };
-        let text = printed(alloc, self)?;
         let outcome = case.root().result();
-        Ok(Some(unary_node(alloc, text, outcome, "value", case)?))
+        let pointer = printed(alloc, self)?;
+        Ok(Some(unary_node(alloc, pointer, outcome, "value", case)?))
     }
 }
 

@@ -125,10 +125,15 @@ impl<P: Predicate<Vec<u8>>> Predicate<Snapshot> for FileContentPredicate<P> {
                 let Some(case) = self.inner.explain(alloc, wanted, bytes)? else {
                     return Ok(None);
                 };
-                Ok(Some(item.show_path(alloc, case)?))
+                let case = item.show_path(alloc, case)?;
+                Ok(Some(case))
             }
-            Err(_) if is_other(wanted, false) => Ok(None),
-            Err(fault) => Ok(Some(self.no_content(alloc, item, *fault)?)),
+            Err(fault) => {
+                if is_other(wanted, false) {
+                    return Ok(None);
+                }
+                Ok(Some(self.no_content(alloc, item, *fault)?))
+            }
         }
     }
 }

@@ -2,7 +2,7 @@
 ghost use Rattle.std.specs.Prelude.{◌≡◌, refl, IfOk, IsOk, string_bytes, Some, codes};
 ghost use Rattle.predicates_core.specs.Label.{Fits};
 ghost use Rattle.predicates_core.specs.Formula.{HasTruth};
-ghost use Rattle.predicates_core.specs.Shows.{IsAnswer};
+ghost use Rattle.predicates_core.specs.Shows.{IsAnswer, IsFound};
 ghost use Rattle.predicates_core.specs.Leaves.{IsExactly};
 ghost use Rattle.predicates.specs.Boxed.{held_by, kept_text};
 ghost use Rattle.predicates.specs.Printed.{as_printed, IsPrintedAs, HasFormulas};
@@ -94,6 +94,19 @@ fn find_held(
     held.text_find_case(alloc, expected, item)
 }
 
+// What the held predicate explains, by the members of its own type.
+fn explain_held(
+    alloc: Global,
+    held: &Box<dyn TextPredicate>,
+    wanted: Option<bool>,
+    item: &String,
+) -> Result<Option<Case>, AllocError>
+    ensures { IfOk result
+        (IsFound (IsExactly (text_formula held.now (string_bytes item.now))) wanted) }
+{
+    held.text_explain(alloc, wanted, item)
+}
+
 impl Predicate<String> for BoxPredicate {
     ghost formula = { λ p v. IsPrintedAs
         (kept_text p)
@@ -118,6 +131,16 @@ impl Predicate<String> for BoxPredicate {
         item: &String,
     ) -> Result<Option<Case>, AllocError> {
         find_held(alloc, &self.inner, expected, item)
+    }
+
+    #[tactic(auto, using(crate::proofs::OpenRoots::boxes))]
+    fn explain(
+        &self,
+        alloc: Global,
+        wanted: Option<bool>,
+        item: &String,
+    ) -> Result<Option<Case>, AllocError> {
+        explain_held(alloc, &self.inner, wanted, item)
     }
 }
 

@@ -4,7 +4,7 @@ ghost use Rattle.predicates_core.specs.Label.{Product, Fits, FitsProducts};
 ghost use Rattle.predicates_core.specs.Tree.{Forest, empty, forest};
 ghost use Rattle.predicates_core.specs.Parts.{Part, FitsParts};
 ghost use Rattle.predicates_core.specs.Formula.{Formula, HasTruth};
-ghost use Rattle.predicates_core.specs.Shows.{IsAnswer};
+ghost use Rattle.predicates_core.specs.Shows.{IsAnswer, IsFound};
 ghost use Rattle.predicates_core.specs.Text.{Text};
 ghost use Rattle.predicates_core.specs.Leaves.{IsExactly};
 ghost use Rattle.predicates.specs.Printed.{FitsRoots};
@@ -51,6 +51,17 @@ pub trait TextPredicate: Drop {
         ensures { IfOk result
             (IsAnswer (IsExactly (text_formula self.now (string_bytes item.now))) expected) };
 
+    /// As `text_find_case`, for a predicate that was evaluated before: the case of the wanted verdict,
+    /// or of whichever it is where none is wanted.
+    fn text_explain(
+        &self,
+        alloc: Global,
+        wanted: Option<bool>,
+        item: &String,
+    ) -> Result<Option<Case>, AllocError>
+        ensures { IfOk result
+            (IsFound (IsExactly (text_formula self.now (string_bytes item.now))) wanted) };
+
     /// The values that the predicate was made with, in order; with none it does not refuse.
     fn text_parameters(&self, alloc: Global) -> Result<Vec<Parameter>, AllocError>
         ensures fits { IfOk result (λ ps. FitsProducts (text_parameters_of self.now) ps.items) }
@@ -89,6 +100,15 @@ impl<P: ReadsContent<String> + Drop> TextPredicate for P {
         item: &String,
     ) -> Result<Option<Case>, AllocError> {
         self.find_case(alloc, expected, item)
+    }
+
+    fn text_explain(
+        &self,
+        alloc: Global,
+        wanted: Option<bool>,
+        item: &String,
+    ) -> Result<Option<Case>, AllocError> {
+        self.explain(alloc, wanted, item)
     }
 
     fn text_parameters(&self, alloc: Global) -> Result<Vec<Parameter>, AllocError> {
