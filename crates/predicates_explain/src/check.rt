@@ -8,7 +8,7 @@ ghost use Rattle.predicates_explain.specs.Checks.{IsInfallibleCheck, operator_of
 ghost use Rattle.predicates_explain.specs.CheckLaws.{check_text_fits, one_check, has_check_formula};
 ghost use Rattle.predicates_explain.specs.Weight.{IsLeafCheck};
 
-mod find;
+mod explain;
 mod rotate;
 
 use predicates::custom::Operator;
@@ -229,12 +229,6 @@ impl Predicate<String> for TextCheck {
         item: &String,
     ) -> Result<Option<Case>, AllocError> {
         match self {
-            TextCheck::Empty(leaf) => leaf.find_case(alloc, expected, item),
-            TextCheck::Equals(leaf) => leaf.find_case(alloc, expected, item),
-            TextCheck::Starts(leaf) => leaf.find_case(alloc, expected, item),
-            TextCheck::Ends(leaf) => leaf.find_case(alloc, expected, item),
-            TextCheck::Contains(leaf) => leaf.find_case(alloc, expected, item),
-            TextCheck::Matches(leaf) => leaf.find_case(alloc, expected, item),
             TextCheck::Trim(inner) => {
                 let mut copy = String::new(alloc);
                 inner.find_case(alloc, expected, trimmed_view(alloc, item, &mut copy)?)
@@ -243,17 +237,43 @@ impl Predicate<String> for TextCheck {
                 let mut copy = String::new(alloc);
                 inner.find_case(alloc, expected, lines_even_view(alloc, item, &mut copy)?)
             }
-            // A row of them is evaluated in a loop, and has a call for each where there is a case.
-            TextCheck::Not(inner) => {
+            TextCheck::Not(_) | TextCheck::And(_, _) | TextCheck::Or(_, _) | TextCheck::Xor(_, _) => {
                 if self.eval(alloc, item)? != expected {
                     return Ok(None);
                 }
-                self.find_not(alloc, inner, expected, item)
+                self.explain(alloc, Some(expected), item)
             }
+            _ => self.explain(alloc, Some(expected), item),
+        }
+    }
+
+    #[cycle(explain)]
+    fn explain(
+        &self,
+        alloc: Global,
+        wanted: Option<bool>,
+        item: &String,
+    ) -> Result<Option<Case>, AllocError> {
+        match self {
+            TextCheck::Empty(leaf) => leaf.explain(alloc, wanted, item),
+            TextCheck::Equals(leaf) => leaf.explain(alloc, wanted, item),
+            TextCheck::Starts(leaf) => leaf.explain(alloc, wanted, item),
+            TextCheck::Ends(leaf) => leaf.explain(alloc, wanted, item),
+            TextCheck::Contains(leaf) => leaf.explain(alloc, wanted, item),
+            TextCheck::Matches(leaf) => leaf.explain(alloc, wanted, item),
+            TextCheck::Trim(inner) => {
+                let mut copy = String::new(alloc);
+                inner.explain(alloc, wanted, trimmed_view(alloc, item, &mut copy)?)
+            }
+            TextCheck::Normalize(inner) => {
+                let mut copy = String::new(alloc);
+                inner.explain(alloc, wanted, lines_even_view(alloc, item, &mut copy)?)
+            }
+            TextCheck::Not(inner) => self.explain_not(alloc, inner, wanted, item),
             TextCheck::And(left, right)
             | TextCheck::Or(left, right)
             | TextCheck::Xor(left, right) => {
-                self.find_join(alloc, self.operator(), left, right, expected, item)
+                self.explain_join(alloc, self.operator(), left, right, wanted, item)
             }
         }
     }

@@ -58,7 +58,7 @@ impl Operator {
     }
 
     /// The verdict that the left part's case has to have, where one of the whole is wanted.
-    fn left_wanted(self, wanted: Option<bool>) -> Option<bool>
+    pub fn left_wanted(self, wanted: Option<bool>) -> Option<bool>
         ensures { result ≡ left_wanted self wanted }
     {
         match self {
@@ -68,7 +68,7 @@ impl Operator {
     }
 
     /// The verdict that the right part's case has to have, where the left part's is known.
-    fn right_wanted(self, wanted: Option<bool>, left: bool) -> Option<bool>
+    pub fn right_wanted(self, wanted: Option<bool>, left: bool) -> Option<bool>
         ensures { result ≡ right_wanted self left wanted }
     {
         match self {
@@ -110,15 +110,15 @@ fn explain_if<P: Predicate<Item>, Item>(
     }
 }
 
-// The case if it is to be `kept`.
-fn kept_if(kept: bool, found: Option<Case>) -> Option<Case>
+/// The case if it is to be `kept`.
+pub fn kept_if(kept: bool, found: Option<Case>) -> Option<Case>
     ensures { result ≡ (if kept then found else None) }
 {
     if kept { found } else { None }
 }
 
-// The verdict of a part for which this was found where this was wanted.
-fn shown_verdict(wanted: Option<bool>, found: &Option<Case>) -> bool
+/// The verdict of a part for which this was found where this was wanted.
+pub fn shown_verdict(wanted: Option<bool>, found: &Option<Case>) -> bool
     ensures { result ≡ shown_verdict wanted found.now }
 {
     match (wanted, found) {

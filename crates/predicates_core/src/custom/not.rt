@@ -29,8 +29,8 @@ pub fn not_case<W: fmt::Display, P: Predicate<Item>, Item>(
     Ok(Some(unary_node(alloc, text, expected, "predicate", part)?))
 }
 
-// The verdict that the part has to have, where one of the whole is wanted.
-fn opposite_of(wanted: Option<bool>) -> Option<bool>
+/// The verdict that the part has to have, where one of the whole is wanted.
+pub fn opposite_of(wanted: Option<bool>) -> Option<bool>
     ensures { result ≡ option_map not wanted }
 {
     match wanted {
