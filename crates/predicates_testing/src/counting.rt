@@ -1,19 +1,26 @@
 //! A predicate that counts how often it is asked, and prints itself otherwise in a width.
-use predicates_core::Predicate;
 use predicates_core::reflection::{Case, Child, Parameter, PredicateReflection};
+use predicates_core::{Content, Predicate, ReadsContent};
 use std::alloc::{AllocError, Global};
 use std::cell::Cell;
 use std::fmt;
+use std::rc::Rc;
 
-/// Answers as what it holds does, and counts how often `eval` is called. In a width it prints
-/// another text.
+/// Answers as the leaf that it holds does, and counts how often it is asked, by any of the three
+/// calls. In a width it prints another text.
 #[derive(Drop)]
-pub struct Counting<'a, P> {
+pub struct Counting<P> {
     pub held: P,
-    pub evaluated: &'a Cell<usize>,
+    pub asked: Rc<Cell<usize>>,
 }
 
-impl<'a, P: fmt::Display> fmt::Display for Counting<'a, P> {
+impl<P> Counting<P> {
+    fn count(&self) {
+        self.asked.set(self.asked.get().saturating_add(1));
+    }
+}
+
+impl<P: fmt::Display> fmt::Display for Counting<P> {
     ghost output = { λ p. P.output p.held };
 
     fn fmt<W: fmt::Write>(&self, f: &mut fmt::Formatter<W>) -> fmt::Result {
@@ -25,7 +32,7 @@ impl<'a, P: fmt::Display> fmt::Display for Counting<'a, P> {
     }
 }
 
-impl<'a, P: PredicateReflection> PredicateReflection for Counting<'a, P> {
+impl<P: PredicateReflection> PredicateReflection for Counting<P> {
     ghost parameters_of = { λ p. P.parameters_of p.held };
 
     ghost children_of = { λ p. P.children_of p.held };
@@ -39,7 +46,7 @@ impl<'a, P: PredicateReflection> PredicateReflection for Counting<'a, P> {
     }
 }
 
-impl<'a, P: Predicate<Item>, Item> Predicate<Item> for Counting<'a, P> {
+impl<P: Predicate<Item>, Item> Predicate<Item> for Counting<P> {
     ghost lawful = { λ p. P.lawful p.held };
 
     ghost formula = { λ p v. P.formula p.held v };
@@ -51,7 +58,7 @@ impl<'a, P: Predicate<Item>, Item> Predicate<Item> for Counting<'a, P> {
     ghost one_formula = { λ p v f g. P.one_formula p.held v f g };
 
     fn eval(&self, alloc: Global, item: &Item) -> Result<bool, AllocError> {
-        self.evaluated.set(self.evaluated.get().saturating_add(1));
+        self.count();
         self.held.eval(alloc, item)
     }
 
@@ -61,6 +68,25 @@ impl<'a, P: Predicate<Item>, Item> Predicate<Item> for Counting<'a, P> {
         expected: bool,
         item: &Item,
     ) -> Result<Option<Case>, AllocError> {
+        self.count();
         self.held.find_case(alloc, expected, item)
     }
+
+    fn explain(
+        &self,
+        alloc: Global,
+        wanted: Option<bool>,
+        item: &Item,
+    ) -> Result<Option<Case>, AllocError> {
+        self.count();
+        self.held.explain(alloc, wanted, item)
+    }
+}
+
+impl<P: ReadsContent<Item>, Item: Content> ReadsContent<Item> for Counting<P> {
+    ghost content_formula = { λ p bytes. P.content_formula p.held bytes };
+
+    ghost always_lawful = { λ p. P.always_lawful p.held };
+
+    ghost has_formula = { λ p v. P.has_formula p.held v };
 }

@@ -132,4 +132,13 @@ impl<P: Predicate<Item>, Item> Predicate<Item> for Level<P, Item> {
     ) -> Result<Option<Case>, AllocError> {
         self.node.find_case(alloc, expected, item)
     }
+
+    fn explain(
+        &self,
+        alloc: Global,
+        wanted: Option<bool>,
+        item: &Item,
+    ) -> Result<Option<Case>, AllocError> {
+        self.node.explain(alloc, wanted, item)
+    }
 }

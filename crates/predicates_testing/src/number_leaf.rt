@@ -130,6 +130,15 @@ impl Predicate<i64> for NumberLeaf {
     ) -> Result<Option<Case>, AllocError> {
         self.leaf.find_case(alloc, expected, item)
     }
+
+    fn explain(
+        &self,
+        alloc: Global,
+        wanted: Option<bool>,
+        item: &i64,
+    ) -> Result<Option<Case>, AllocError> {
+        self.leaf.explain(alloc, wanted, item)
+    }
 }
 
 impl FromWords<NumberWord, i64> for NumberLeaf {

@@ -83,4 +83,16 @@ impl<A: Predicate<Item>, B: Predicate<Item>, Item> Predicate<Item> for OneOf<A, 
             OneOf::Second(predicate) => predicate.find_case(alloc, expected, item),
         }
     }
+
+    fn explain(
+        &self,
+        alloc: Global,
+        wanted: Option<bool>,
+        item: &Item,
+    ) -> Result<Option<Case>, AllocError> {
+        match self {
+            OneOf::First(predicate) => predicate.explain(alloc, wanted, item),
+            OneOf::Second(predicate) => predicate.explain(alloc, wanted, item),
+        }
+    }
 }

@@ -143,6 +143,15 @@ impl Predicate<String> for TextLeaf {
     ) -> Result<Option<Case>, AllocError> {
         self.leaf.find_case(alloc, expected, item)
     }
+
+    fn explain(
+        &self,
+        alloc: Global,
+        wanted: Option<bool>,
+        item: &String,
+    ) -> Result<Option<Case>, AllocError> {
+        self.leaf.explain(alloc, wanted, item)
+    }
 }
 
 impl FromWords<TextWord, String> for TextLeaf {

@@ -117,4 +117,13 @@ impl<P: Predicate<String>> Predicate<String> for TextLevel<P> {
     ) -> Result<Option<Case>, AllocError> {
         self.node.find_case(alloc, expected, item)
     }
+
+    fn explain(
+        &self,
+        alloc: Global,
+        wanted: Option<bool>,
+        item: &String,
+    ) -> Result<Option<Case>, AllocError> {
+        self.node.explain(alloc, wanted, item)
+    }
 }

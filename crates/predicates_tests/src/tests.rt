@@ -1,3 +1,4 @@
+mod asked_twice;
 mod boxes;
 mod case_children;
 mod cases;

@@ -8,7 +8,7 @@ ghost use Rattle.predicates_core.specs.Combined.{IsPair};
 ghost use Rattle.predicates_core.proofs.CombinedLemmas.{pair_text_fits, one_pair, has_pair};
 ghost use Rattle.predicates_uses.specs.Either.{either_text, left_of, right_of};
 
-use predicates::custom::{Operator, join_case, join_truth, two_children};
+use predicates::custom::{Operator, join_case, join_explained, join_truth, two_children};
 use predicates::reflection::{Case, Child, Parameter, PredicateReflection};
 use predicates::{Predicate, Total};
 use std::alloc::{AllocError, Global};
@@ -94,6 +94,16 @@ impl<P: Predicate<Item>, Q: Predicate<Item>, Item> Predicate<Item> for Either<P,
             expected,
             item,
         )
+    }
+
+    fn explain(
+        &self,
+        alloc: Global,
+        wanted: Option<bool>,
+        item: &Item,
+    ) -> Result<Option<Case>, AllocError> {
+        let operator = Operator::Or;
+        join_explained(alloc, operator, self, &self.left, &self.right, wanted, item)
     }
 }
 

@@ -7,6 +7,7 @@ use predicates_core::Predicate;
 use predicates_testing::Counting;
 use std::alloc::{AllocError, Global};
 use std::cell::Cell;
+use std::rc::Rc;
 use std::test::Fail;
 
 // So many even numbers from 0 on, the greatest first.
@@ -92,10 +93,10 @@ fn a_sorted_list_is_halved(rt: HostRuntime) -> Result<(), Fail> {
     Ok(())
 }
 
-fn true_leaf<'a>(evaluated: &'a Cell<usize>) -> Counting<'a, BooleanPredicate<i64>> {
+fn true_leaf(asked: &Rc<Cell<usize>>) -> Counting<BooleanPredicate<i64>> {
     Counting {
         held: always(),
-        evaluated,
+        asked: asked.clone(),
     }
 }
 
@@ -114,7 +115,7 @@ fn evaluated<P: Predicate<i64>>(
 #[test]
 fn the_right_part_is_evaluated_where_the_left_decides_nothing(rt: HostRuntime) -> Result<(), Fail> {
     let alloc = rt.alloc();
-    let cell = Cell::new(0);
+    let cell = Rc::new(alloc, Cell::new(0))?;
     let both = evaluated(alloc, &never().and(true_leaf(&cell)), &cell)?;
     let either = evaluated(alloc, &always().or(true_leaf(&cell)), &cell)?;
     assert_eq!(rt; (both, either), ((false, 0), (true, 0)));

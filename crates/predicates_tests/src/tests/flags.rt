@@ -12,6 +12,7 @@ use predicates::{BoxPredicate, TextPredicate};
 use predicates_testing::{Counting, print_in_combinators, print_under_flags, text};
 use std::alloc::{AllocError, Global};
 use std::cell::Cell;
+use std::rc::Rc;
 use std::test::Fail;
 
 #[test]
@@ -95,17 +96,17 @@ var.is_match(a+ b*)
 }
 
 // A part that prints another text in a width.
-fn wide<Item>(evaluated: &Cell<usize>) -> Counting<'_, BooleanPredicate<Item>> {
+fn wide<Item>(asked: &Rc<Cell<usize>>) -> Counting<BooleanPredicate<Item>> {
     Counting {
         held: always(),
-        evaluated,
+        asked: asked.clone(),
     }
 }
 
 #[test]
 fn combinators_give_their_parts_no_flags(rt: HostRuntime) -> Result<(), Fail> {
     let alloc = rt.alloc();
-    let cell = Cell::new(0);
+    let cell = Rc::new(alloc, Cell::new(0))?;
     let mut out = String::new(alloc);
     print_under_flags(alloc, &mut out, &wide::<i64>(&cell).and(wide(&cell)))?;
     print_under_flags(alloc, &mut out, &wide::<i64>(&cell).or(wide(&cell)))?;
@@ -121,7 +122,7 @@ fn combinators_give_their_parts_no_flags(rt: HostRuntime) -> Result<(), Fail> {
 #[test]
 fn adapters_give_their_parts_no_flags(rt: HostRuntime) -> Result<(), Fail> {
     let alloc = rt.alloc();
-    let cell = Cell::new(0);
+    let cell = Rc::new(alloc, Cell::new(0))?;
     let mut out = String::new(alloc);
     print_under_flags(alloc, &mut out, &wide::<String>(&cell).trim())?;
     print_under_flags(alloc, &mut out, &wide::<String>(&cell).normalize())?;
