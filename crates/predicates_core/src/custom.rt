@@ -14,9 +14,7 @@ mod quantifier;
 mod test_predicate;
 
 pub use children::{one_child, two_children};
-pub use join::{
-    Operator, is_other, join_case, join_explained, join_truth, kept_if, shown_verdict,
-};
+pub use join::{Operator, is_other, join_case, join_explained, join_truth, kept_if, shown_verdict};
 pub use leaf_cases::{absent_case, bare_case, showing_case};
 pub use members::{members_case, members_explained, members_hold};
 pub use named::{named_case, named_explained};

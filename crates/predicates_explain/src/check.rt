@@ -237,12 +237,13 @@ impl Predicate<String> for TextCheck {
                 let mut copy = String::new(alloc);
                 inner.find_case(alloc, expected, lines_even_view(alloc, item, &mut copy)?)
             }
-            TextCheck::Not(_) | TextCheck::And(_, _) | TextCheck::Or(_, _) | TextCheck::Xor(_, _) => {
-                if self.eval(alloc, item)? != expected {
-                    return Ok(None);
+            TextCheck::Not(_) | TextCheck::And(_, _) | TextCheck::Or(_, _) | TextCheck::Xor(_, _) =>
+                {
+                    if self.eval(alloc, item)? != expected {
+                        return Ok(None);
+                    }
+                    self.explain(alloc, Some(expected), item)
                 }
-                self.explain(alloc, Some(expected), item)
-            }
             _ => self.explain(alloc, Some(expected), item),
         }
     }

@@ -16,9 +16,9 @@ use std::fmt;
 /// asked for `Some(expected)`. It takes memory for the case alone.
 ///
 /// ```
-/// let none = bare_case(alloc, &predicate::always(), true, Some(false))?;
+/// let none = bare_case(alloc, &predicate::always::<i64>(), true, Some(false))?;
 /// assert!(rt; none.is_none());
-/// let case = bare_case(alloc, &predicate::always(), true, None)?.ok_or("no case")?;
+/// let case = bare_case(alloc, &predicate::always::<i64>(), true, None)?.ok_or("no case")?;
 /// assert!(rt; render(alloc, &case)?.as_str() == "true = true\n");
 /// ```
 pub fn bare_case<P: fmt::Display>(

@@ -9,6 +9,12 @@ use crate::reflection::Case;
 use std::alloc::{AllocError, Global};
 
 /// The `find_case` of a predicate that holds where its part does, and prints a name in its place.
+///
+/// ```
+/// let found = named_case(alloc, "adult", &predicate::ge(18), false, &17)?;
+/// let lines = render(alloc, &found.ok_or("no case")?)?;
+/// assert!(rt; lines.as_str() == "adult = false\n  adult: var >= 18 = false\n    - var: 17\n");
+/// ```
 pub fn named_case<P: Predicate<Item>, Item>(
     alloc: Global,
     name: &'static str,
@@ -28,6 +34,12 @@ pub fn named_case<P: Predicate<Item>, Item>(
 }
 
 /// The `explain` of such a predicate.
+///
+/// ```
+/// let found = named_explained(alloc, "adult", &predicate::ge(18), None, &17)?;
+/// let lines = render(alloc, &found.ok_or("no case")?)?;
+/// assert!(rt; lines.as_str() == "adult = false\n  adult: var >= 18 = false\n    - var: 17\n");
+/// ```
 pub fn named_explained<P: Predicate<Item>, Item>(
     alloc: Global,
     name: &'static str,

@@ -1,4 +1,4 @@
-use predicates::custom::leaf;
+use predicates::custom::{bare_case, leaf, named_case, named_explained};
 use predicates::default_find_case;
 use predicates::node::{
     binary_node, leaf_node, printed, showing, showing_item, showing_text, unary_node,
@@ -99,5 +99,24 @@ fn leaves(rt: HostRuntime) -> Result<(), Fail> {
     assert!(rt; none.is_none());
     let case = default_find_case(alloc, &predicate::ge(5), true, &7)?.ok_or("no case")?;
     assert!(rt; render(alloc, &case)?.as_str() == "var >= 5 = true\n");
+
+    let none = bare_case(alloc, &predicate::always::<i64>(), true, Some(false))?;
+    assert!(rt; none.is_none());
+    let case = bare_case(alloc, &predicate::always::<i64>(), true, None)?.ok_or("no case")?;
+    assert!(rt; render(alloc, &case)?.as_str() == "true = true\n");
+    Ok(())
+}
+
+#[test]
+fn names(rt: HostRuntime) -> Result<(), Fail> {
+    let alloc = rt.alloc();
+
+    let found = named_case(alloc, "adult", &predicate::ge(18), false, &17)?;
+    let lines = render(alloc, &found.ok_or("no case")?)?;
+    assert!(rt; lines.as_str() == "adult = false\n  adult: var >= 18 = false\n    - var: 17\n");
+
+    let found = named_explained(alloc, "adult", &predicate::ge(18), None, &17)?;
+    let lines = render(alloc, &found.ok_or("no case")?)?;
+    assert!(rt; lines.as_str() == "adult = false\n  adult: var >= 18 = false\n    - var: 17\n");
     Ok(())
 }

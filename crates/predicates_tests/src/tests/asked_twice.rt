@@ -24,7 +24,8 @@ enum Link {
     Mixed,
 }
 
-// Leaves of a chain, each with its count.
+// The counts of the leaves of a chain.
+#[derive(Drop)]
 struct Leaves {
     counts: Vec<Rc<Cell<usize>>>,
 }
@@ -38,7 +39,7 @@ impl Leaves {
         } else {
             predicate::never()
         };
-        self.counts.push(asked.clone())?;
+        self.counts.push(asked.clone()?)?;
         boxed(alloc, Counting { held, asked })
     }
 
@@ -66,7 +67,7 @@ fn listed(
     first: BoxPredicate,
     second: BoxPredicate,
 ) -> Result<Vec<BoxPredicate>, AllocError> {
-    vec![in alloc; first, second]
+    Ok(vec![in alloc; first, second]?)
 }
 
 // A chain one level deeper.
@@ -150,19 +151,22 @@ fn no_leaf_is_asked_more_than_twice(rt: HostRuntime) -> Result<(), Fail> {
 }
 
 // A leaf of numbers with this verdict, and its count.
-fn counted(asked: &Rc<Cell<usize>>, verdict: bool) -> Counting<BooleanPredicate<i64>> {
+fn counted(
+    asked: &Rc<Cell<usize>>,
+    verdict: bool,
+) -> Result<Counting<BooleanPredicate<i64>>, AllocError> {
     let held = if verdict { always() } else { never() };
-    Counting {
+    Ok(Counting {
         held,
-        asked: asked.clone(),
-    }
+        asked: asked.clone()?,
+    })
 }
 
 #[test]
 fn an_own_combinator_asks_its_leaves_twice(rt: HostRuntime) -> Result<(), Fail> {
     let alloc = rt.alloc();
     let asked = Rc::new(alloc, Cell::new(0))?;
-    let inner = Either::new(counted(&asked, false), never::<i64>());
+    let inner = Either::new(counted(&asked, false)?, never::<i64>());
     let own = Either::new(Either::new(inner, never::<i64>()), always::<i64>()).xor(always::<i64>());
     for expected in [false, true] {
         own.find_case(alloc, expected, &5)?;
@@ -177,7 +181,7 @@ fn lists_ask_of_each_member_twice(rt: HostRuntime) -> Result<(), Fail> {
     let alloc = rt.alloc();
     let asked = Rc::new(alloc, Cell::new(0))?;
     let members = vec![in alloc; 1, 2, 3]?;
-    let each = counted(&asked, true).xor(never()).of_each();
+    let each = counted(&asked, true)?.xor(never()).of_each();
     let joined = each.and(always::<i64>().of_each()).not();
     for expected in [false, true] {
         joined.find_case(alloc, expected, &members)?;

@@ -93,11 +93,11 @@ fn a_sorted_list_is_halved(rt: HostRuntime) -> Result<(), Fail> {
     Ok(())
 }
 
-fn true_leaf(asked: &Rc<Cell<usize>>) -> Counting<BooleanPredicate<i64>> {
-    Counting {
+fn true_leaf(asked: &Rc<Cell<usize>>) -> Result<Counting<BooleanPredicate<i64>>, AllocError> {
+    Ok(Counting {
         held: always(),
-        asked: asked.clone(),
-    }
+        asked: asked.clone()?,
+    })
 }
 
 // Whether the predicate holds of 5, and how often the leaf was evaluated so far.
@@ -116,11 +116,11 @@ fn evaluated<P: Predicate<i64>>(
 fn the_right_part_is_evaluated_where_the_left_decides_nothing(rt: HostRuntime) -> Result<(), Fail> {
     let alloc = rt.alloc();
     let cell = Rc::new(alloc, Cell::new(0))?;
-    let both = evaluated(alloc, &never().and(true_leaf(&cell)), &cell)?;
-    let either = evaluated(alloc, &always().or(true_leaf(&cell)), &cell)?;
+    let both = evaluated(alloc, &never().and(true_leaf(&cell)?), &cell)?;
+    let either = evaluated(alloc, &always().or(true_leaf(&cell)?), &cell)?;
     assert_eq!(rt; (both, either), ((false, 0), (true, 0)));
-    let both = evaluated(alloc, &always().and(true_leaf(&cell)), &cell)?;
-    let either = evaluated(alloc, &never().or(true_leaf(&cell)), &cell)?;
+    let both = evaluated(alloc, &always().and(true_leaf(&cell)?), &cell)?;
+    let either = evaluated(alloc, &never().or(true_leaf(&cell)?), &cell)?;
     assert_eq!(rt; (both, either), ((true, 1), (true, 2)));
     Ok(())
 }

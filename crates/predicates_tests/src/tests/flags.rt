@@ -96,11 +96,11 @@ var.is_match(a+ b*)
 }
 
 // A part that prints another text in a width.
-fn wide<Item>(asked: &Rc<Cell<usize>>) -> Counting<BooleanPredicate<Item>> {
-    Counting {
+fn wide<Item>(asked: &Rc<Cell<usize>>) -> Result<Counting<BooleanPredicate<Item>>, AllocError> {
+    Ok(Counting {
         held: always(),
-        asked: asked.clone(),
-    }
+        asked: asked.clone()?,
+    })
 }
 
 #[test]
@@ -108,10 +108,10 @@ fn combinators_give_their_parts_no_flags(rt: HostRuntime) -> Result<(), Fail> {
     let alloc = rt.alloc();
     let cell = Rc::new(alloc, Cell::new(0))?;
     let mut out = String::new(alloc);
-    print_under_flags(alloc, &mut out, &wide::<i64>(&cell).and(wide(&cell)))?;
-    print_under_flags(alloc, &mut out, &wide::<i64>(&cell).or(wide(&cell)))?;
-    print_under_flags(alloc, &mut out, &wide::<i64>(&cell).xor(wide(&cell)))?;
-    print_under_flags(alloc, &mut out, &wide::<i64>(&cell).not())?;
+    print_under_flags(alloc, &mut out, &wide::<i64>(&cell)?.and(wide(&cell)?))?;
+    print_under_flags(alloc, &mut out, &wide::<i64>(&cell)?.or(wide(&cell)?))?;
+    print_under_flags(alloc, &mut out, &wide::<i64>(&cell)?.xor(wide(&cell)?))?;
+    print_under_flags(alloc, &mut out, &wide::<i64>(&cell)?.not())?;
     assert_eq!(rt;
         out.as_str(),
         "(true && true)\n(true || true)\n(true ^ true)\n(! true)\n"
@@ -124,10 +124,10 @@ fn adapters_give_their_parts_no_flags(rt: HostRuntime) -> Result<(), Fail> {
     let alloc = rt.alloc();
     let cell = Rc::new(alloc, Cell::new(0))?;
     let mut out = String::new(alloc);
-    print_under_flags(alloc, &mut out, &wide::<String>(&cell).trim())?;
-    print_under_flags(alloc, &mut out, &wide::<String>(&cell).normalize())?;
-    print_under_flags(alloc, &mut out, &wide::<String>(&cell).from_utf8())?;
-    let of_file = wide::<String>(&cell).from_utf8().from_file_path();
+    print_under_flags(alloc, &mut out, &wide::<String>(&cell)?.trim())?;
+    print_under_flags(alloc, &mut out, &wide::<String>(&cell)?.normalize())?;
+    print_under_flags(alloc, &mut out, &wide::<String>(&cell)?.from_utf8())?;
+    let of_file = wide::<String>(&cell)?.from_utf8().from_file_path();
     print_under_flags(alloc, &mut out, &of_file)?;
     assert_eq!(rt; out.as_str(), "true\ntrue\ntrue\ntrue\n");
     Ok(())

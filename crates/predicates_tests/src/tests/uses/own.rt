@@ -235,9 +235,9 @@ fn has_cases_of_two(alloc: Global, both: &str, one: &str) -> Result<(bool, bool)
 fn has_cases_of_one(alloc: Global, negated: &str, bare: &str) -> Result<[bool; 3], AllocError> {
     let found = not_case(alloc, &IsTheAnswer, &predicate::lt(3), true, &4)?;
     let is_negated = has_lines(alloc, found, negated)?;
-    let found = bare_case(alloc, &IsTheAnswer, true, true)?;
+    let found = bare_case(alloc, &IsTheAnswer, true, Some(true))?;
     let is_bare = has_lines(alloc, found, bare)?;
-    let found = bare_case(alloc, &IsTheAnswer, true, false)?;
+    let found = bare_case(alloc, &IsTheAnswer, true, Some(false))?;
     Ok([is_negated, is_bare, found.is_none()])
 }
 
