@@ -54,7 +54,7 @@ impl Leaves {
     }
 }
 
-fn boxed<P: ReadsContent<String> + Drop>(
+fn boxed<P: ReadsContent<String> + Drop + 'static>(
     alloc: Global,
     predicate: P,
 ) -> Result<BoxPredicate, AllocError> {

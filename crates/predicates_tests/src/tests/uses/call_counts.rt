@@ -124,14 +124,14 @@ fn counts_of_one(alloc: Global) -> Result<(u32, u32, u32), AllocError> {
     counts(alloc, &cell, &one)
 }
 
-// `and`, `or` and `xor` evaluate before they call `find_case` of a part, so below n of them a part is
-// evaluated up to n + 1 times; `not` and names evaluate once.
+// `and`, `or` and `xor` evaluate once, and then ask for the cases of parts; `not` and names do the
+// second alone.
 #[test]
 fn nested_parts(rt: HostRuntime) -> Result<(), Fail> {
     assert_eq!(rt; counts_of_not(rt.alloc())?, (1, 1, 1));
-    assert_eq!(rt; counts_of_all(rt.alloc())?, (4, 13, 4));
-    assert_eq!(rt; counts_of_first(rt.alloc())?, (1, 4, 1));
-    assert_eq!(rt; counts_of_one(rt.alloc())?, (3, 8, 3));
+    assert_eq!(rt; counts_of_all(rt.alloc())?, (4, 8, 4));
+    assert_eq!(rt; counts_of_first(rt.alloc())?, (1, 2, 1));
+    assert_eq!(rt; counts_of_one(rt.alloc())?, (3, 6, 3));
     Ok(())
 }
 
