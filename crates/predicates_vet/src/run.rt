@@ -239,8 +239,9 @@ fn tell_record<'r, W: Write>(
 /// record stands, as it is no JSON or nests more than 127 deep, is told by a message, and the run goes
 /// on.
 ///
-/// It takes memory for the longest line, for the record on it and for what is written of it, and no
-/// more however long the input is. After a fault nothing is said of how much was written.
+/// It takes memory for the longest line, for the record on it, for what is written of it and for a
+/// matcher of each pattern of the rules, and no more however long the input is. After a fault nothing
+/// is said of how much was written.
 pub fn run_records<R: BufRead, W: Write, M: Write>(
     alloc: Global,
     rules: &[RuleCheck],
