@@ -9,20 +9,27 @@ ghost use Rattle.predicates_core.specs.Lines.{lines};
 ghost use Rattle.predicates_vet.specs.Records.{keeps, broken, shown, label, block, IsBlock, AddsCase};
 ghost use Rattle.predicates_vet.specs.Settings.{id_of};
 
+use crate::job::Job;
 use crate::settings::Settings;
+use crate::workspace::Workspace;
 use predicates_core::Predicate;
 use predicates_core::reflection::{Case, render_onto};
 use predicates_json::{case_json, value_at};
-use predicates_vet_check::RuleCheck;
+use predicates_vet_check::{Matchers, RuleCheck};
 use serde_json::{Map, Value, put};
 use std::alloc::{AllocError, Global};
 
 // Whether the record keeps every rule.
-pub(crate) fn keeps(alloc: Global, rules: &[RuleCheck], value: &Value) -> Result<bool, AllocError>
+pub(crate) fn keeps<'r>(
+    alloc: Global,
+    rules: &'r [RuleCheck],
+    matchers: &mut Matchers<'r>,
+    value: &Value,
+) -> Result<bool, AllocError>
     ensures { IfOk result (λ held. held ≡ keeps rules.now (view value.now)) }
 {
     for rule in rules {
-        let held = rule.eval(alloc, value)?;
+        let held = rule.holds(alloc, matchers, value)?;
         if !held {
             return Ok(false);
         }
@@ -31,9 +38,10 @@ pub(crate) fn keeps(alloc: Global, rules: &[RuleCheck], value: &Value) -> Result
 }
 
 // The cases of the rules that the record breaks: of the first, or of all.
-fn broken(
+fn broken<'r>(
     alloc: Global,
-    rules: &[RuleCheck],
+    rules: &'r [RuleCheck],
+    matchers: &mut Matchers<'r>,
     all: bool,
     value: &Value,
 ) -> Result<Vec<Case>, AllocError>
@@ -42,7 +50,7 @@ fn broken(
 {
     let mut cases = Vec::new(alloc);
     for rule in rules {
-        let added = add_case(alloc, rule, value, &mut cases)?;
+        let added = add_case(alloc, rule, matchers, value, &mut cases)?;
         if added && !all {
             return Ok(cases);
         }
@@ -51,16 +59,17 @@ fn broken(
 }
 
 // Adds the case of the rule where the record breaks it, and says whether it does.
-fn add_case(
+fn add_case<'r>(
     alloc: Global,
-    rule: &RuleCheck,
+    rule: &'r RuleCheck,
+    matchers: &mut Matchers<'r>,
     value: &Value,
     cases: &mut Vec<Case>,
 ) -> Result<bool, AllocError>
     ensures { IfOk result
         (AddsCase (view value.now) rule.now cases.old.items cases.new.items) }
 {
-    if rule.eval(alloc, value)? {
+    if rule.holds(alloc, matchers, value)? {
         return Ok(false);
     }
     let Some(case) = rule.find_case(alloc, false, value)? else {
@@ -169,41 +178,39 @@ fn is_none(cases: &Vec<Case>) -> bool
 
 /// Writes the block of the rules that the record breaks, of all or of the first, in place of what the
 /// text held, and says whether it keeps every rule.
-pub(crate) fn write_broken(
+pub(crate) fn write_broken<'r>(
     alloc: Global,
-    rules: &[RuleCheck],
-    settings: &Settings,
+    job: &Job<'r>,
+    workspace: &mut Workspace<'r>,
     all: bool,
     number: u64,
     value: &Value,
-    text: &mut String,
 ) -> Result<bool, AllocError>
-    ensures block { OnOk result (IsBlock rules.now all
-        (label (id_of settings.now) number (view value.now)) (view value.now)
-        (string_bytes text.new)) }
-    ensures held { IfOk result (λ held. held ≡ keeps rules.now (view value.now)) }
+    ensures block { OnOk result (IsBlock job.now.rules.now all
+        (label (id_of job.now.settings.now) number (view value.now)) (view value.now)
+        (string_bytes workspace.new.text)) }
+    ensures held { IfOk result (λ held. held ≡ keeps job.now.rules.now (view value.now)) }
 {
-    let cases = broken(alloc, rules, all, value)?;
-    let text_of_label = label(alloc, settings, number, value)?;
-    write_block(text, &text_of_label, cases.as_slice())?;
+    let cases = broken(alloc, job.rules, &mut workspace.matchers, all, value)?;
+    let text_of_label = label(alloc, job.settings, number, value)?;
+    write_block(&mut workspace.text, &text_of_label, cases.as_slice())?;
     Ok(is_none(&cases))
 }
 
 /// Writes an object of JSON for the record in place of what the text held, and says whether it keeps
 /// every rule.
-pub(crate) fn write_object(
+pub(crate) fn write_object<'r>(
     alloc: Global,
-    rules: &[RuleCheck],
-    settings: &Settings,
+    job: &Job<'r>,
+    workspace: &mut Workspace<'r>,
     all: bool,
     number: u64,
     value: &Value,
-    text: &mut String,
 ) -> Result<bool, AllocError>
-    ensures { IfOk result (λ held. held ≡ keeps rules.now (view value.now)) }
+    ensures { IfOk result (λ held. held ≡ keeps job.now.rules.now (view value.now)) }
 {
-    let cases = broken(alloc, rules, all, value)?;
-    let id = id_json(alloc, settings, number, value)?;
-    write_json(alloc, text, id, all, cases.as_slice())?;
+    let cases = broken(alloc, job.rules, &mut workspace.matchers, all, value)?;
+    let id = id_json(alloc, job.settings, number, value)?;
+    write_json(alloc, &mut workspace.text, id, all, cases.as_slice())?;
     Ok(is_none(&cases))
 }

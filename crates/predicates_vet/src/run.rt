@@ -8,8 +8,10 @@ ghost use Rattle.predicates_vet.specs.Records.{keeps, IsWritten};
 ghost use Rattle.predicates_vet.specs.Runs.{is_false, status_of};
 ghost use Rattle.predicates_vet.specs.Runs.{record_on, HasRun, IsLineWritten};
 
+use crate::job::Job;
 use crate::record::{keeps, write_broken, write_object};
 use crate::settings::{Report, Settings};
+use crate::workspace::Workspace;
 use predicates_lines::{RunFault, flush, next_line, write_bytes};
 use predicates_vet_check::RuleCheck;
 use serde_json::Value;
@@ -163,83 +165,68 @@ fn write_message<M: Write>(
 
 // Writes what is told of the record on the line, and says whether it keeps every rule; where no record
 // stands there, a message says so.
-fn tell_line<W: Write, M: Write>(
+fn tell_line<'r, W: Write, M: Write>(
     alloc: Global,
-    rules: &[RuleCheck],
-    settings: &Settings,
+    job: &Job<'r>,
+    workspace: &mut Workspace<'r>,
     number: u64,
     line: &[u8],
-    texts: &mut Texts,
     output: &mut W,
     messages: &mut M,
 ) -> Result<Option<bool>, RunFault>
     ensures written { IfOk result (λ _. (written : List ℕ)
-        × IsLineWritten settings.now rules.now number line.now (record_on line.now) written
+        × IsLineWritten job.now.settings.now job.now.rules.now number line.now
+        (record_on line.now) written
         × Appends (W.contents output.old) (W.contents output.new) written) }
-    ensures held { IfOk result (λ held. held ≡ option_map (keeps rules.now) (record_on line.now)) }
+    ensures held { IfOk result (λ held.
+        held ≡ option_map (keeps job.now.rules.now) (record_on line.now)) }
 {
-    match read_record(alloc, line, &mut texts.text)? {
+    match read_record(alloc, line, &mut workspace.text)? {
         Some(record) => {
-            let held = tell_record(
-                alloc,
-                rules,
-                settings,
-                number,
-                line,
-                &record,
-                &mut texts.text,
-                output,
-            )?;
+            let held = tell_record(alloc, job, workspace, number, line, &record, output)?;
             Ok(Some(held))
         }
         None => {
-            write_message(messages, number, &texts.text, &mut texts.message)?;
+            write_message(messages, number, &workspace.text, &mut workspace.message)?;
             Ok(None)
         }
     }
 }
 
-// Texts that take memory once for many lines.
-#[derive(Drop)]
-struct Texts {
-    text: String,
-    message: String,
-}
-
 // Writes what is told of the record, and says whether it keeps every rule.
-fn tell_record<W: Write>(
+fn tell_record<'r, W: Write>(
     alloc: Global,
-    rules: &[RuleCheck],
-    settings: &Settings,
+    job: &Job<'r>,
+    workspace: &mut Workspace<'r>,
     number: u64,
     line: &[u8],
     value: &Value,
-    text: &mut String,
     output: &mut W,
 ) -> Result<bool, RunFault>
     ensures written { IfOk result (λ _. (written : List ℕ)
-        × IsWritten settings.now rules.now number line.now (view value.now) written
+        × IsWritten job.now.settings.now job.now.rules.now number line.now
+        (view value.now) written
         × Appends (W.contents output.old) (W.contents output.new) written) }
-    ensures held { IfOk result (λ held. held ≡ keeps rules.now (view value.now)) }
+    ensures held { IfOk result (λ held. held ≡ keeps job.now.rules.now (view value.now)) }
 {
-    match settings.report {
+    match job.settings.report {
         Report::First => {
-            let held = write_broken(alloc, rules, settings, false, number, value, text)?;
-            write_bytes(output, text.as_bytes())?;
+            let held = write_broken(alloc, job, workspace, false, number, value)?;
+            write_bytes(output, workspace.text.as_bytes())?;
             Ok(held)
         }
         Report::All => {
-            let held = write_broken(alloc, rules, settings, true, number, value, text)?;
-            write_bytes(output, text.as_bytes())?;
+            let held = write_broken(alloc, job, workspace, true, number, value)?;
+            write_bytes(output, workspace.text.as_bytes())?;
             Ok(held)
         }
         Report::Json { all } => {
-            let held = write_object(alloc, rules, settings, all, number, value, text)?;
-            write_bytes(output, text.as_bytes())?;
+            let held = write_object(alloc, job, workspace, all, number, value)?;
+            write_bytes(output, workspace.text.as_bytes())?;
             Ok(held)
         }
         Report::Lines(wanted) => {
-            let held = keeps(alloc, rules, value)?;
+            let held = keeps(alloc, job.rules, &mut workspace.matchers, value)?;
             if held == wanted {
                 write_bytes(output, line)?;
             }
@@ -252,8 +239,9 @@ fn tell_record<W: Write>(
 /// record stands, as it is no JSON or nests more than 127 deep, is told by a message, and the run goes
 /// on.
 ///
-/// It takes memory for the longest line, for the record on it and for what is written of it, and no
-/// more however long the input is. After a fault nothing is said of how much was written.
+/// It takes memory for the longest line, for the record on it, for what is written of it and for a
+/// matcher of each pattern of the rules, and no more however long the input is. After a fault nothing
+/// is said of how much was written.
 pub fn run_records<R: BufRead, W: Write, M: Write>(
     alloc: Global,
     rules: &[RuleCheck],
@@ -266,10 +254,8 @@ pub fn run_records<R: BufRead, W: Write, M: Write>(
         (R.remaining input.new) (W.contents output.old) (W.contents output.new)) }
 {
     let mut line = Vec::new(alloc);
-    let mut texts = Texts {
-        text: String::new(alloc),
-        message: String::new(alloc),
-    };
+    let job = Job { rules, settings };
+    let mut workspace = Workspace::new(alloc);
     let mut counts = Counts {
         records: 0,
         failed: 0,
@@ -282,11 +268,10 @@ pub fn run_records<R: BufRead, W: Write, M: Write>(
         }
         let held = tell_line(
             alloc,
-            rules,
-            settings,
+            &job,
+            &mut workspace,
             taken + 1,
             &line,
-            &mut texts,
             output,
             messages,
         )?;

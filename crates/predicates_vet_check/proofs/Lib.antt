@@ -1,3 +1,4 @@
+mod Alike
 mod Differing
 mod Leaving
 mod Members

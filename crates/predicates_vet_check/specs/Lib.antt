@@ -1,3 +1,5 @@
+pub mod Alike
+pub mod Patterns
 pub mod Queries
 pub mod Plans
 pub mod PlanLaws

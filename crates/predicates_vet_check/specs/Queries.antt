@@ -15,6 +15,7 @@ use Rattle.predicates_rules.specs.declared.condition.State.TheVariants as states
 use Rattle.predicates_rules.specs.declared.condition.Comparison.{Comparison}
 use Rattle.predicates_rules.specs.declared.condition.Comparison.TheVariants as comparisons
 use Rattle.predicates_rules.specs.Trees.{Value, Natural, Negative, Text, Boolean, Null, value_of}
+use Rattle.predicates_vet_check.specs.Patterns.{regex_of}
 use Rattle.predicates_vet_check.specs.declared.question.Question.{Question}
 use Rattle.predicates_vet_check.specs.declared.question.Question.TheVariants as questions
 
@@ -33,7 +34,7 @@ query_of (questions.Compare o v) = Compares o (value_of v)
 query_of (questions.StartsWith s) = Begins (string_bytes s)
 query_of (questions.EndsWith s) = Finishes (string_bytes s)
 query_of (questions.Contains s) = Holds (string_bytes s)
-query_of (questions.Matches r) = Matches (regex_pattern r)
+query_of (questions.Matches p) = Matches (regex_pattern (regex_of p))
 query_of (questions.In vs) = IsAmong (map value_of vs.items)
 
 -- how the value stands to the literal, where it is of its kind; every value but null is above null

@@ -1,6 +1,7 @@
 //! A check of a JSON value, made of a rule's expression.
-ghost use Rattle.std.specs.Prelude.{◌≡◌, refl, [], Some};
+ghost use Rattle.std.specs.Prelude.{◌≡◌, refl, [], IfOk, Some};
 ghost use Rattle.predicates_core.specs.Tree.{empty};
+ghost use Rattle.predicates_core.specs.Formula.{HasTruth};
 ghost use Rattle.predicates_core.specs.Leaves.{IsExactly};
 ghost use Rattle.predicates_core.specs.LeafLaws.{one_exactly};
 ghost use Rattle.serde_json.specs.View.{view};
@@ -11,6 +12,7 @@ ghost use Rattle.predicates_vet_check.specs.Checks.{plan_of};
 mod find;
 mod hold;
 
+use crate::matchers::Matchers;
 use crate::path_test::PathTest;
 use find::{joined_case, not_case, range_case};
 use hold::{joined_hold, not_hold, range_hold};
@@ -70,6 +72,29 @@ impl Check {
             Check::Quantified(text, _, _, _) => text,
         }
     }
+
+    /// Whether it holds of the value, as `eval` says, by the matchers of a run.
+    #[cycle(hold)]
+    pub fn holds<'r>(
+        &'r self,
+        alloc: Global,
+        matchers: &mut Matchers<'r>,
+        item: &Value,
+    ) -> Result<bool, AllocError>
+        ensures { IfOk result (HasTruth (IsExactly
+            (plan_formula (plan_of self.now) (view item.now)))) }
+    {
+        match self {
+            Check::Test(test) => test.holds(alloc, matchers, item),
+            Check::Not(_, inner) => not_hold(alloc, matchers, inner, item),
+            Check::Joined(_, connective, parts) => {
+                joined_hold(alloc, matchers, *connective, parts, item)
+            }
+            Check::Quantified(_, quantifier, path, inner) => {
+                range_hold(alloc, matchers, *quantifier, path, inner, item)
+            }
+        }
+    }
 }
 
 impl Predicate<Value> for Check {
@@ -81,16 +106,10 @@ impl Predicate<Value> for Check {
 
     ghost one_formula = { λ c v f g lawful. one_exactly };
 
-    #[cycle(hold)]
     fn eval(&self, alloc: Global, item: &Value) -> Result<bool, AllocError> {
-        match self {
-            Check::Test(test) => test.eval(alloc, item),
-            Check::Not(_, inner) => not_hold(alloc, inner, item),
-            Check::Joined(_, connective, parts) => joined_hold(alloc, *connective, parts, item),
-            Check::Quantified(_, quantifier, path, inner) => {
-                range_hold(alloc, *quantifier, path, inner, item)
-            }
-        }
+        let mut matchers = Matchers::new(alloc);
+        let held = self.holds(alloc, &mut matchers, item)?;
+        Ok(held)
     }
 
     #[cycle(find)]

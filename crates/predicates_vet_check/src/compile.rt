@@ -1,10 +1,8 @@
 //! The check of a rule's expression.
 ghost use Rattle.std.specs.Prelude.{codes};
-ghost use Rattle.std.specs.Prelude.{IfSome};
 ghost use Rattle.predicates_core.specs.Leaves.{word};
 ghost use Rattle.serde_json.specs.Data.{string};
 ghost use Rattle.serde_json.specs.Written.{compact_text};
-ghost use Rattle.predicates_text.specs.Expressions.{IsReadFrom};
 ghost use Rattle.predicates_vet_check.specs.Queries.{query_of};
 ghost use Rattle.std.specs.Prelude.{◌≡◌, ◌++◌, IfOk, OnOk, map, string_bytes};
 ghost use Rattle.predicates_rules.specs.Trees.{At, value_of, test_of, tree_of, trees_of};
@@ -20,11 +18,11 @@ use crate::check::Check;
 use crate::check_error::CheckError;
 use crate::leaf::path_shown;
 use crate::path_test::PathTest;
+use crate::pattern::Pattern;
 use crate::question::Question;
 use predicates_rules::condition::{Comparison, Condition, Relation, State};
 use predicates_rules::expression::{Connective, Expression, Quantifier};
 use predicates_rules::literal::Literal;
-use regex::Regex;
 use serde_json::Value;
 use std::alloc::{AllocError, Global};
 
@@ -168,16 +166,6 @@ fn text_of_test(alloc: Global, path: &str, condition: &Condition) -> Result<Stri
     Ok(text)
 }
 
-// What is read in the pattern, unless it is refused.
-fn pattern_of(alloc: Global, pattern: &str) -> Option<Regex>
-    ensures { IfSome result (IsReadFrom pattern.now) }
-{
-    match Regex::new(alloc, pattern) {
-        Ok(regex) => Some(regex),
-        Err(_) => None,
-    }
-}
-
 // What a relation to a text asks, with its pattern read.
 fn related(alloc: Global, relation: Relation, text: String) -> Result<Question, CheckError>
     ensures { IfOk result (λ question.
@@ -187,8 +175,8 @@ fn related(alloc: Global, relation: Relation, text: String) -> Result<Question, 
         Relation::StartsWith => Ok(Question::StartsWith(text)),
         Relation::EndsWith => Ok(Question::EndsWith(text)),
         Relation::Contains => Ok(Question::Contains(text)),
-        Relation::Matches => match pattern_of(alloc, &text) {
-            Some(regex) => Ok(Question::Matches(regex)),
+        Relation::Matches => match Pattern::read(alloc, &text) {
+            Some(pattern) => Ok(Question::Matches(pattern)),
             None => Err(CheckError::Pattern(text)),
         },
     }

@@ -9,12 +9,16 @@
 pub mod check;
 mod check_error;
 mod compile;
+mod kept_matcher;
 mod leaf;
+mod matchers;
 mod path_test;
+mod pattern;
 mod question;
 mod rule_check;
 
 pub use check_error::CheckError;
 pub use compile::check_of;
+pub use matchers::Matchers;
 pub use path_test::PathTest;
 pub use rule_check::RuleCheck;

@@ -1,6 +1,7 @@
 //! A test of the value at a path.
 ghost use Rattle.std.specs.Prelude.{◌≡◌, refl, [], Some, string_bytes};
 ghost use Rattle.predicates_core.specs.Tree.{empty};
+ghost use Rattle.predicates_core.specs.Formula.{HasTruth};
 ghost use Rattle.predicates_core.specs.Leaves.{IsExactly};
 ghost use Rattle.predicates_core.specs.LeafLaws.{one_exactly};
 ghost use Rattle.serde_json.specs.Find.{pointer};
@@ -14,6 +15,7 @@ ghost use Rattle.predicates_vet_check.specs.Queries.{misfit_text, nothing_verdic
 ghost use Rattle.predicates_vet_check.specs.Tests.{text_of_test, path_of_test, query_of_test};
 
 use crate::leaf::{bare_leaf, found_at, misfit_at, nothing_at};
+use crate::matchers::Matchers;
 use crate::question::Question;
 use predicates_core::reflection::{Case, Child, Parameter, PredicateReflection};
 use predicates_core::{Predicate, Total};
@@ -54,6 +56,27 @@ impl PredicateReflection for PathTest {
 }
 
 impl PathTest {
+    /// Whether it holds of the value, as `eval` says, by the matchers of a run.
+    #[tactic(auto, using(crate::proofs::Leaving::leavings))]
+    pub fn holds<'r>(
+        &'r self,
+        alloc: Global,
+        matchers: &mut Matchers<'r>,
+        item: &Value,
+    ) -> Result<bool, AllocError>
+        ensures { IfOk result (HasTruth (IsExactly (asked_formula (text_of_test self.now)
+            (path_of_test self.now) (query_of_test self.now)
+            (pointer (path_of_test self.now) (view item.now))))) }
+    {
+        let Some(value) = value_at(item, &self.path) else {
+            return Ok(self.question.holds_of_nothing());
+        };
+        match self.question.verdict(alloc, matchers, value)? {
+            Some(holds) => Ok(holds),
+            None => Ok(false),
+        }
+    }
+
     // The case of a value that was found.
     #[tactic(auto, using(crate::proofs::Leaving::leavings))]
     fn case_of(
@@ -66,7 +89,8 @@ impl PathTest {
             (query_of_test self.now) (view value.now)
             (verdict (query_of_test self.now) (view value.now)))) expected) }
     {
-        match self.question.verdict(alloc, value)? {
+        let mut matchers = Matchers::new(alloc);
+        match self.question.verdict(alloc, &mut matchers, value)? {
             Some(holds) => {
                 let found = self.case_of_found(alloc, value, holds, expected)?;
                 Ok(found)
@@ -155,15 +179,10 @@ impl Predicate<Value> for PathTest {
 
     ghost one_formula = { λ t v f g lawful. one_exactly };
 
-    #[tactic(auto, using(crate::proofs::Leaving::leavings))]
     fn eval(&self, alloc: Global, item: &Value) -> Result<bool, AllocError> {
-        let Some(value) = value_at(item, &self.path) else {
-            return Ok(self.question.holds_of_nothing());
-        };
-        match self.question.verdict(alloc, value)? {
-            Some(holds) => Ok(holds),
-            None => Ok(false),
-        }
+        let mut matchers = Matchers::new(alloc);
+        let held = self.holds(alloc, &mut matchers, item)?;
+        Ok(held)
     }
 
     #[tactic(auto, using(crate::proofs::Leaving::leavings))]

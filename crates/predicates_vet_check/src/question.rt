@@ -1,8 +1,6 @@
 //! What a test asks of the value at its path.
-ghost use Rattle.std.specs.Prelude.{is_some, ◌∷◌, []};
+ghost use Rattle.std.specs.Prelude.{◌∷◌, []};
 ghost use Rattle.predicates_vet_check.specs.Queries.{nothing_verdict, is_of_presence, text_fits, no_item_there, no_member_there};
-ghost use Rattle.regex.specs.Patterns.{find_str};
-ghost use Rattle.regex.specs.Strings.{regex_pattern};
 ghost use Rattle.std.specs.Prelude.{◌≡◌, IfOk, string_bytes, option_map, map};
 ghost use Rattle.serde_json.specs.View.{view, number_view, items_view, members_view};
 ghost use Rattle.serde_json.specs.Find.{as_integer, as_number};
@@ -10,10 +8,11 @@ ghost use Rattle.predicates_rules.specs.Trees.{value_of};
 ghost use Rattle.predicates_vet_check.specs.Queries.{query_of, verdict, order, is_among, empty_verdict};
 ghost use Rattle.predicates_vet_check.specs.Queries.{holds_in, misfit_text};
 
+use crate::matchers::Matchers;
+use crate::pattern::Pattern;
 use predicates_rules::condition::{Comparison, State};
 use predicates_rules::literal::Literal;
 use predicates_text::search;
-use regex::Regex;
 use serde_json::{Map, Number, Value};
 use std::alloc::{AllocError, Global};
 use std::cmp::Ordering;
@@ -32,7 +31,7 @@ pub enum Question {
     /// Whether the text contains another.
     Contains(String),
     /// Whether a regular expression has a match in the text.
-    Matches(Regex),
+    Matches(Pattern),
     /// Whether it is one of these.
     In(Vec<Literal>),
 }
@@ -117,17 +116,15 @@ fn emptiness(value: &Value) -> Option<bool>
     }
 }
 
-fn has_match(alloc: Global, regex: &Regex, text: &str) -> Result<bool, AllocError>
-    ensures { IfOk result (λ found. found ≡ is_some (find_str (regex_pattern regex.now) text.now 0)) }
-{
-    let mut matcher = regex.matcher(alloc)?;
-    Ok(matcher.is_match(text))
-}
-
 impl Question {
     // Whether the value answers it, or none where the value is of a kind that can't. It takes memory for
     // a regular expression alone.
-    pub(crate) fn verdict(&self, alloc: Global, value: &Value) -> Result<Option<bool>, AllocError>
+    pub(crate) fn verdict<'r>(
+        &'r self,
+        alloc: Global,
+        matchers: &mut Matchers<'r>,
+        value: &Value,
+    ) -> Result<Option<bool>, AllocError>
         ensures { IfOk result (λ found. found ≡ verdict (query_of self.now) (view value.now)) }
     {
         match self {
@@ -139,21 +136,26 @@ impl Question {
             }
             Question::In(literals) => Ok(Some(is_one_of(value, literals))),
             _ => match value.as_str() {
-                Some(text) => Ok(Some(self.fits(alloc, text)?)),
+                Some(text) => Ok(Some(self.fits(alloc, matchers, text)?)),
                 None => Ok(None),
             },
         }
     }
 
     // Whether the text is as it asks.
-    fn fits(&self, alloc: Global, text: &str) -> Result<bool, AllocError>
+    fn fits<'r>(
+        &'r self,
+        alloc: Global,
+        matchers: &mut Matchers<'r>,
+        text: &str,
+    ) -> Result<bool, AllocError>
         ensures { IfOk result (λ found. found ≡ text_fits (query_of self.now) text.now) }
     {
         match self {
             Question::StartsWith(pattern) => Ok(search::starts_with(text, pattern)),
             Question::EndsWith(pattern) => Ok(search::ends_with(text, pattern)),
             Question::Contains(pattern) => Ok(search::contains(text, pattern)),
-            Question::Matches(regex) => has_match(alloc, regex, text),
+            Question::Matches(pattern) => matchers.has_match(alloc, pattern, text),
             _ => Ok(false),
         }
     }

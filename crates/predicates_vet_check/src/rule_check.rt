@@ -1,6 +1,7 @@
 //! A rule that a record keeps or breaks.
 ghost use Rattle.std.specs.Prelude.{◌≡◌, refl, [], Some, IfOk};
 ghost use Rattle.predicates_core.specs.Tree.{empty};
+ghost use Rattle.predicates_core.specs.Formula.{HasTruth};
 ghost use Rattle.predicates_core.specs.Leaves.{IsExactly};
 ghost use Rattle.predicates_core.specs.LeafLaws.{one_exactly};
 ghost use Rattle.serde_json.specs.View.{view};
@@ -8,6 +9,7 @@ ghost use Rattle.predicates_vet_check.specs.RuleChecks.{rule_formula, name_of, p
 ghost use Rattle.predicates_vet_check.specs.PlanLaws.{rule_text_fits};
 
 use crate::check::Check;
+use crate::matchers::Matchers;
 use predicates_core::node::unary_node;
 use predicates_core::reflection::{Case, Child, Parameter, PredicateReflection};
 use predicates_core::{Predicate, Total};
@@ -45,6 +47,22 @@ impl PredicateReflection for RuleCheck {
     }
 }
 
+impl RuleCheck {
+    /// Whether it holds of the value, as `eval` says, by the matchers of a run.
+    pub fn holds<'r>(
+        &'r self,
+        alloc: Global,
+        matchers: &mut Matchers<'r>,
+        item: &Value,
+    ) -> Result<bool, AllocError>
+        ensures { IfOk result (HasTruth (IsExactly
+            (rule_formula (name_of self.now) (plan_of_rule self.now) (view item.now)))) }
+    {
+        let holds = self.check.holds(alloc, matchers, item)?;
+        Ok(holds)
+    }
+}
+
 impl Predicate<Value> for RuleCheck {
     ghost formula = { λ r v. IsExactly (rule_formula (name_of r) (plan_of_rule r) (view v)) };
 
@@ -55,8 +73,9 @@ impl Predicate<Value> for RuleCheck {
     ghost one_formula = { λ r v f g lawful. one_exactly };
 
     fn eval(&self, alloc: Global, item: &Value) -> Result<bool, AllocError> {
-        let holds = self.check.eval(alloc, item)?;
-        Ok(holds)
+        let mut matchers = Matchers::new(alloc);
+        let held = self.holds(alloc, &mut matchers, item)?;
+        Ok(held)
     }
 
     fn find_case(

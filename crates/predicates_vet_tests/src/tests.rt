@@ -172,6 +172,31 @@ fn lines_by_their_rule(rt: HostRuntime) -> Result<(), Fail> {
     Ok(())
 }
 
+const PATTERNS: &str =
+    "a: /x matches \"^[A-Z]+$\"\nb: /y matches \"^[0-9]+$\"\nc: /z matches \"^[A-Z]+$\"";
+
+const MATCHED: &[u8] =
+    b"{\"x\": \"A\", \"y\": \"1\", \"z\": \"B\"}\n{\"x\": \"1\", \"y\": \"A\", \"z\": \"1\"}\n{\"x\": \"A\", \"y\": \"A\", \"z\": \"B\"}\n{\"x\": \"A\", \"y\": \"1\", \"z\": \"1\"}\n";
+
+const UNMATCHED: &[u8] =
+    b"record 2: false\na = false\n  rule: /x matches \"^[A-Z]+$\" = false\n    - found: \"1\"\nb = false\n  rule: /y matches \"^[0-9]+$\" = false\n    - found: \"A\"\nc = false\n  rule: /z matches \"^[A-Z]+$\" = false\n    - found: \"1\"\nrecord 3: false\nb = false\n  rule: /y matches \"^[0-9]+$\" = false\n    - found: \"A\"\nrecord 4: false\nc = false\n  rule: /z matches \"^[A-Z]+$\" = false\n    - found: \"1\"\n";
+
+// Each pattern of a run answers for itself, on each record.
+#[test]
+fn patterns_of_one_run(rt: HostRuntime) -> Result<(), Fail> {
+    let told = writes(
+        rt.alloc(),
+        Report::All,
+        None,
+        PATTERNS,
+        MATCHED,
+        UNMATCHED,
+        (4, 3, 0),
+    )?;
+    assert!(rt; told);
+    Ok(())
+}
+
 const RULES: &str = "a: /x == 1\nb: /y == 2";
 
 const RECORDS: &[u8] = b"{\"id\": \"r\", \"x\": 3, \"y\": 4}\n{\"x\": 1, \"y\": 2}\n";

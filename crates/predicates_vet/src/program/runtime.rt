@@ -1,5 +1,6 @@
 //! The program over what its process is given.
 use super::command::{command, settings_of};
+use super::words_fault::fault_line;
 use crate::rules_file::read_checks;
 use crate::run::{Counts, run_records};
 use predicates_json::is_pointer;
@@ -42,15 +43,23 @@ fn end<E: Eprint>(rt: &E, counts: Counts) -> io::Result<u8> {
     Ok(counts.status())
 }
 
+// Prints the help where the words ask for it, and else what is wrong with them; and the status.
+fn tell_words<E: Print + Eprint + AllocGlobal>(rt: &E, error: &clap::Error) -> io::Result<u8> {
+    if !error.use_stderr() {
+        error.print(rt)?;
+        return Ok(0);
+    }
+    let fault = fault_line(rt.alloc(), error)?;
+    eprintln!(rt; "vet: {fault}; try --help")?;
+    Ok(2)
+}
+
 fn answer<E: Env + Files + Input + Print + Eprint + AllocGlobal>(rt: &E) -> io::Result<u8> {
     let alloc = rt.alloc();
     let words: Vec<String> = env::args(rt)?.collect(alloc)?;
     let matches = match command(alloc)?.try_get_matches_from(words.as_slice()) {
         Ok(matches) => matches,
-        Err(error) => {
-            error.print(rt)?;
-            return Ok(if error.use_stderr() { 2 } else { 0 });
-        }
+        Err(error) => return tell_words(rt, &error),
     };
     let settings = settings_of(alloc, &matches)?;
     if let Some(path) = &settings.id {

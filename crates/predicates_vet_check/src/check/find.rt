@@ -16,6 +16,7 @@ ghost use Rattle.predicates_vet_check.specs.Plans.{plan_formula, plans_of, Denie
 use super::hold::{members_hold, parts_differ, parts_hold};
 use crate::check::Check;
 use crate::leaf::{bare_node, copied, misfit_at, nothing_at};
+use crate::matchers::Matchers;
 use predicates_core::Predicate;
 use predicates_core::node::{showing, showing_text, unary_node};
 use predicates_core::reflection::Case;
@@ -99,7 +100,8 @@ fn parts_case(
     if parts.is_empty() {
         return Ok(Some(no_member(alloc, text, expected)?));
     }
-    let held = parts_hold(alloc, parts, decides, item)?;
+    let mut matchers = Matchers::new(alloc);
+    let held = parts_hold(alloc, &mut matchers, parts, decides, item)?;
     if held == decides {
         return Ok(None);
     }
@@ -170,7 +172,8 @@ fn members_case(
     if members.is_empty() {
         return Ok(Some(no_member(alloc, text, expected)?));
     }
-    let held = members_hold(alloc, part, decides, members)?;
+    let mut matchers = Matchers::new(alloc);
+    let held = members_hold(alloc, &mut matchers, part, decides, members)?;
     if held == decides {
         return Ok(None);
     }
@@ -337,7 +340,8 @@ fn differ_case(
     ensures { IfOk result (IsAnswer (IsOfDiffering (Some text.now) (codes "part")
         (Has (view item.now)) parts.now) expected) }
 {
-    let odd = parts_differ(alloc, parts, item)?;
+    let mut matchers = Matchers::new(alloc);
+    let odd = parts_differ(alloc, &mut matchers, parts, item)?;
     if odd == expected {
         let case = differ_shown(alloc, text, parts, expected, item)?;
         return Ok(Some(case));

@@ -11,7 +11,7 @@ ghost use Rattle.predicates_vet_check.specs.Checks.{Has, HasOf, plan_of};
 ghost use Rattle.predicates_vet_check.specs.Differ.{IsOfDiffering};
 
 use crate::check::Check;
-use predicates_core::Predicate;
+use crate::matchers::Matchers;
 use predicates_json::value_at;
 use predicates_rules::expression::{Connective, Quantifier};
 use serde_json::Value;
@@ -19,9 +19,10 @@ use std::alloc::{AllocError, Global};
 
 // As `custom::parts_hold`.
 #[cycle(hold)]
-pub(super) fn parts_hold(
+pub(super) fn parts_hold<'r>(
     alloc: Global,
-    parts: &[Check],
+    matchers: &mut Matchers<'r>,
+    parts: &'r [Check],
     decides: bool,
     item: &Value,
 ) -> Result<bool, AllocError>
@@ -29,7 +30,7 @@ pub(super) fn parts_hold(
         → HasTruth (IsOfMembers decides text name (Has (view item.now)) parts.now) held) }
 {
     for part in parts {
-        if part.eval(alloc, item)? == decides {
+        if part.holds(alloc, matchers, item)? == decides {
             return Ok(decides);
         }
     }
@@ -38,9 +39,10 @@ pub(super) fn parts_hold(
 
 // As `custom::members_hold`.
 #[cycle(hold)]
-pub(super) fn members_hold(
+pub(super) fn members_hold<'r>(
     alloc: Global,
-    part: &Check,
+    matchers: &mut Matchers<'r>,
+    part: &'r Check,
     decides: bool,
     members: &[Value],
 ) -> Result<bool, AllocError>
@@ -48,7 +50,7 @@ pub(super) fn members_hold(
         → HasTruth (IsOfMembers decides text name (HasOf part.now) members.now) held) }
 {
     for member in members {
-        if part.eval(alloc, member)? == decides {
+        if part.holds(alloc, matchers, member)? == decides {
             return Ok(decides);
         }
     }
@@ -57,13 +59,18 @@ pub(super) fn members_hold(
 
 // Whether an odd number of the parts hold.
 #[cycle(hold)]
-pub(super) fn parts_differ(alloc: Global, parts: &[Check], item: &Value) -> Result<bool, AllocError>
+pub(super) fn parts_differ<'r>(
+    alloc: Global,
+    matchers: &mut Matchers<'r>,
+    parts: &'r [Check],
+    item: &Value,
+) -> Result<bool, AllocError>
     ensures { IfOk result (λ held. (text : Entry) (name : List ℕ)
         → HasTruth (IsOfDiffering text name (Has (view item.now)) parts.now) held) }
 {
     let mut odd = false;
     for part in parts {
-        let holds = part.eval(alloc, item)?;
+        let holds = part.holds(alloc, matchers, item)?;
         odd = odd != holds;
     }
     Ok(odd)
@@ -71,20 +78,26 @@ pub(super) fn parts_differ(alloc: Global, parts: &[Check], item: &Value) -> Resu
 
 // Whether the check does not hold.
 #[cycle(hold)]
-pub(super) fn not_hold(alloc: Global, inner: &Check, item: &Value) -> Result<bool, AllocError>
+pub(super) fn not_hold<'r>(
+    alloc: Global,
+    matchers: &mut Matchers<'r>,
+    inner: &'r Check,
+    item: &Value,
+) -> Result<bool, AllocError>
     ensures { IfOk result (λ held. (text : List ℕ) → HasTruth (IsExactly (plan_formula
         (Denies text (plan_of inner.now)) (view item.now))) held) }
 {
-    let holds = inner.eval(alloc, item)?;
+    let holds = inner.holds(alloc, matchers, item)?;
     Ok(!holds)
 }
 
 // Whether as many parts hold as the connective wants.
 #[cycle(hold)]
-pub(super) fn joined_hold(
+pub(super) fn joined_hold<'r>(
     alloc: Global,
+    matchers: &mut Matchers<'r>,
     connective: Connective,
-    parts: &[Check],
+    parts: &'r [Check],
     item: &Value,
 ) -> Result<bool, AllocError>
     ensures { IfOk result (λ held. (text : List ℕ) → HasTruth (IsExactly (plan_formula
@@ -92,15 +105,15 @@ pub(super) fn joined_hold(
 {
     match connective {
         Connective::Or => {
-            let one = parts_hold(alloc, parts, true, item)?;
+            let one = parts_hold(alloc, matchers, parts, true, item)?;
             Ok(one)
         }
         Connective::Xor => {
-            let odd = parts_differ(alloc, parts, item)?;
+            let odd = parts_differ(alloc, matchers, parts, item)?;
             Ok(odd)
         }
         Connective::And => {
-            let all = parts_hold(alloc, parts, false, item)?;
+            let all = parts_hold(alloc, matchers, parts, false, item)?;
             Ok(all)
         }
     }
@@ -108,11 +121,12 @@ pub(super) fn joined_hold(
 
 // Whether the check holds of as many items of what stands at the path as the quantifier wants.
 #[cycle(hold)]
-pub(super) fn range_hold(
+pub(super) fn range_hold<'r>(
     alloc: Global,
+    matchers: &mut Matchers<'r>,
     quantifier: Quantifier,
     path: &str,
-    inner: &Check,
+    inner: &'r Check,
     item: &Value,
 ) -> Result<bool, AllocError>
     ensures { IfOk result (λ held. (text : List ℕ) → HasTruth (IsExactly (plan_formula
@@ -120,7 +134,7 @@ pub(super) fn range_hold(
 {
     match value_at(item, path) {
         Some(value) => {
-            let held = array_hold(alloc, quantifier, inner, value)?;
+            let held = array_hold(alloc, matchers, quantifier, inner, value)?;
             Ok(held)
         }
         None => Ok(false),
@@ -129,10 +143,11 @@ pub(super) fn range_hold(
 
 // The same of the items of the value.
 #[cycle(hold)]
-fn array_hold(
+fn array_hold<'r>(
     alloc: Global,
+    matchers: &mut Matchers<'r>,
     quantifier: Quantifier,
-    inner: &Check,
+    inner: &'r Check,
     value: &Value,
 ) -> Result<bool, AllocError>
     ensures { IfOk result (λ held. (text : List ℕ) → HasTruth (IsExactly (over_array text
@@ -144,11 +159,11 @@ fn array_hold(
     };
     match quantifier {
         Quantifier::Each => {
-            let every = members_hold(alloc, inner, false, items)?;
+            let every = members_hold(alloc, matchers, inner, false, items)?;
             Ok(every)
         }
         Quantifier::Any => {
-            let some = members_hold(alloc, inner, true, items)?;
+            let some = members_hold(alloc, matchers, inner, true, items)?;
             Ok(some)
         }
     }

@@ -26,7 +26,7 @@ const PASSED: &[&[u8]] = &[b"vet", b"rules", b"--passed"];
 
 const BLOCK: &str = "record 1: false\na = false\n  rule: / == 1 = false\n    - found: 2\n";
 
-const ROWS: [Row; 24] = [
+const ROWS: [Row; 25] = [
     // Every record keeps every rule.
     (
         PLAIN,
@@ -192,7 +192,7 @@ const ROWS: [Row; 24] = [
         Closed::Neither,
         2,
         "",
-        "error: the following required arguments were not provided:\n  <RULES>\n\nUsage: vet <RULES>\n\nFor more information, try '--help'.\n",
+        "vet: the following required arguments were not provided: <RULES>; try --help\n",
     ),
     (
         &[b"vet", b"--failed", b"--passed", b"rules"],
@@ -202,7 +202,7 @@ const ROWS: [Row; 24] = [
         Closed::Neither,
         2,
         "",
-        "error: the argument '--failed' cannot be used with '--passed'\n\nUsage: vet --failed <RULES>\n\nFor more information, try '--help'.\n",
+        "vet: the argument '--failed' cannot be used with '--passed'; try --help\n",
     ),
     (
         &[b"vet", b"--json", b"--failed", b"rules"],
@@ -212,7 +212,7 @@ const ROWS: [Row; 24] = [
         Closed::Neither,
         2,
         "",
-        "error: the argument '--json' cannot be used with '--failed'\n\nUsage: vet --json <RULES>\n\nFor more information, try '--help'.\n",
+        "vet: the argument '--json' cannot be used with '--failed'; try --help\n",
     ),
     (
         &[b"vet", b"--some", b"rules"],
@@ -222,7 +222,17 @@ const ROWS: [Row; 24] = [
         Closed::Neither,
         2,
         "",
-        "error: unexpected argument '--some' found\n\n  tip: to pass '--some' as a value, use '-- --some'\n\nUsage: vet [OPTIONS] <RULES>\n\nFor more information, try '--help'.\n",
+        "vet: unexpected argument '--some' found; try --help\n",
+    ),
+    (
+        &[b"vet", b"--so\n\nme", b"rules"],
+        b"",
+        b"1",
+        None,
+        Closed::Neither,
+        2,
+        "",
+        "vet: unexpected argument '--so; try --help\n",
     ),
     // Faults of reading and writing.
     (

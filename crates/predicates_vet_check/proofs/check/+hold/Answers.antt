@@ -15,11 +15,11 @@ pub hold::members_hold-returns-then-branch-decides : goal.hold::members_hold-ret
 hold::members_hold-returns-then-branch-decides t c = λ text name. member_decides c.args.decides name (HasOf c.args.part.now)
     {us = c.args.members.now} {k = c.loop-member.member-index} {u = c.member-item.result}
     (record { within = omega arith; is = c.member-item.is; before = c.loop-member.invariant })
-    (subst (HasTruth _) (same_truths _ _ c.if-branch-decides.true) c.in_ok-eval.ensures.truth)
+    (subst (HasTruth _) (same_truths _ _ c.if-branch-decides.true) c.in_ok-holds.ensures)
 
 pub hold::members_hold-loop-member-preserved : goal.hold::members_hold-loop-member-preserved
 hold::members_hold-loop-member-preserved t c = passes_more _ c.args.members.now c.loop-member.member-index c.member-item.result (omega arith) c.member-item.is c.loop-member.invariant
-    (subst (HasTruth _) (other_truths _ _ c.if-branch-decides.false) c.in_ok-eval.ensures.truth)
+    (subst (HasTruth _) (other_truths _ _ c.if-branch-decides.false) c.in_ok-holds.ensures)
 
 pub hold::members_hold-returns : goal.hold::members_hold-returns
 hold::members_hold-returns t c = λ text name. members_pass c.args.decides name (HasOf c.args.part.now) c.args.members.now
@@ -29,11 +29,11 @@ pub hold::parts_hold-returns-then-branch-decides : goal.hold::parts_hold-returns
 hold::parts_hold-returns-then-branch-decides t c = λ text name. member_decides c.args.decides name (Has (view c.args.item.now))
     {us = c.args.parts.now} {k = c.loop-part.part-index} {u = c.part-item.result}
     (record { within = omega arith; is = c.part-item.is; before = c.loop-part.invariant })
-    (subst (HasTruth _) (same_truths _ _ c.if-branch-decides.true) c.in_ok-eval.ensures.truth)
+    (subst (HasTruth _) (same_truths _ _ c.if-branch-decides.true) c.in_ok-holds.ensures)
 
 pub hold::parts_hold-loop-part-preserved : goal.hold::parts_hold-loop-part-preserved
 hold::parts_hold-loop-part-preserved t c = passes_more _ c.args.parts.now c.loop-part.part-index c.part-item.result (omega arith) c.part-item.is c.loop-part.invariant
-    (subst (HasTruth _) (other_truths _ _ c.if-branch-decides.false) c.in_ok-eval.ensures.truth)
+    (subst (HasTruth _) (other_truths _ _ c.if-branch-decides.false) c.in_ok-holds.ensures)
 
 pub hold::parts_hold-returns : goal.hold::parts_hold-returns
 hold::parts_hold-returns t c = λ text name. members_pass c.args.decides name (Has (view c.args.item.now)) c.args.parts.now
@@ -44,14 +44,14 @@ hold::parts_differ-loop-part-init t c = parity_none (Has (view c.args.item.now))
 
 pub hold::parts_differ-loop-part-preserved : goal.hold::parts_differ-loop-part-preserved
 hold::parts_differ-loop-part-preserved t c = parity_one_more (Has (view c.args.item.now)) c.args.parts.now {k = c.loop-part.part-index} {u = c.part-item.result}
-    (omega arith) c.part-item.is c.loop-part.invariant c.in_ok-holds.ensures.truth
+    (omega arith) c.part-item.is c.loop-part.invariant c.in_ok-holds.ensures
 
 pub hold::parts_differ-returns : goal.hold::parts_differ-returns
 hold::parts_differ-returns t c = λ text name. differing_truth (Has (view c.args.item.now)) text name c.args.parts.now
     (subst (λ us. IsParity (Has (view c.args.item.now)) us c.loop-part.odd) (take_all c.loop-part.part-index c.args.parts.now (omega arith)) c.loop-part.invariant)
 
 pub hold::not_hold-returns : goal.hold::not_hold-returns
-hold::not_hold-returns t c = λ text. truth_of_not text c.args.inner.now (view c.args.item.now) c.in_ok-holds.ensures.truth
+hold::not_hold-returns t c = λ text. truth_of_not text c.args.inner.now (view c.args.item.now) c.in_ok-holds.ensures
 
 pub hold::joined_hold-returns-in_ok-one-in-Or : goal.hold::joined_hold-returns-in_ok-one-in-Or
 hold::joined_hold-returns-in_ok-one-in-Or t c = λ text. truth_of_or text c.args.connective c.args.parts.now (view c.args.item.now) c.in-Or.is (c.in_ok-one-in-Or.ensures (Some text) (codes "part"))
