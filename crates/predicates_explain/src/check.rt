@@ -1,8 +1,10 @@
 //! A check of texts, made of words.
-ghost use Rattle.std.specs.Prelude.{◌≡◌, [], string_bytes};
+ghost use Rattle.std.specs.Prelude.{◌≡◌, [], IfOk, string_bytes};
 ghost use Rattle.std.specs.Fmt.{DisplaysOnOk};
 ghost use Rattle.predicates_core.specs.Combined.{infix_text};
+ghost use Rattle.predicates_core.specs.Formula.{HasTruth};
 ghost use Rattle.predicates_core.specs.Tree.{empty};
+ghost use Rattle.predicates_text.specs.ViewFormulas.{trimmed_bytes, even_bytes};
 ghost use Rattle.predicates_explain.specs.Checks.{check_text, check_formula, HasFormula};
 ghost use Rattle.predicates_explain.specs.Checks.{IsInfallibleCheck, operator_of};
 ghost use Rattle.predicates_explain.specs.CheckLaws.{check_text_fits, one_check, has_check_formula};
@@ -63,6 +65,29 @@ impl TextCheck {
             TextCheck::Or(_, _) => Operator::Or,
             _ => Operator::Xor,
         }
+    }
+
+    // Its verdict on the text without the white space at its ends. Like the next one it is not inlined,
+    // so that `eval` of other checks has a small frame.
+    #[inline(never)]
+    #[cycle(eval)]
+    fn trimmed_holds(&self, alloc: Global, item: &String) -> Result<bool, AllocError>
+        ensures { IfOk result (HasTruth (HasFormula self.now (trimmed_bytes (string_bytes item.now)))) }
+    {
+        let mut copy = String::new(alloc);
+        let holds = self.eval(alloc, trimmed_view(alloc, item, &mut copy)?)?;
+        Ok(holds)
+    }
+
+    // Its verdict on the text with even line endings.
+    #[inline(never)]
+    #[cycle(eval)]
+    fn normalized_holds(&self, alloc: Global, item: &String) -> Result<bool, AllocError>
+        ensures { IfOk result (HasTruth (HasFormula self.now (even_bytes (string_bytes item.now)))) }
+    {
+        let mut copy = String::new(alloc);
+        let holds = self.eval(alloc, lines_even_view(alloc, item, &mut copy)?)?;
+        Ok(holds)
     }
 
     // Drops a check without parts.
@@ -180,6 +205,7 @@ impl Predicate<String> for TextCheck {
     ghost one_formula = { λ c v f g lawful. one_check c (string_bytes v) f g };
 
     // A loop over the part whose answer is that of the whole, or its opposite.
+    #[cycle(eval)]
     #[tactic(auto, using(predicates_core::proofs::CombinedLemmas::combined))]
     fn eval(&self, alloc: Global, item: &String) -> Result<bool, AllocError> {
         let mut check = self;
@@ -192,15 +218,9 @@ impl Predicate<String> for TextCheck {
                 TextCheck::Ends(leaf) => return Ok(leaf.eval(alloc, item)? == wanted),
                 TextCheck::Contains(leaf) => return Ok(leaf.eval(alloc, item)? == wanted),
                 TextCheck::Matches(leaf) => return Ok(leaf.eval(alloc, item)? == wanted),
-                TextCheck::Trim(inner) => {
-                    let mut copy = String::new(alloc);
-                    return Ok(inner.eval(alloc, trimmed_view(alloc, item, &mut copy)?)? == wanted);
-                }
+                TextCheck::Trim(inner) => return Ok(inner.trimmed_holds(alloc, item)? == wanted),
                 TextCheck::Normalize(inner) => {
-                    let mut copy = String::new(alloc);
-                    return Ok(
-                        inner.eval(alloc, lines_even_view(alloc, item, &mut copy)?)? == wanted,
-                    );
+                    return Ok(inner.normalized_holds(alloc, item)? == wanted);
                 }
                 TextCheck::Not(inner) => {
                     wanted = !wanted;

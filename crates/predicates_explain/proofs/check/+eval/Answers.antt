@@ -9,7 +9,7 @@ use Rattle.predicates_core.proofs.Fewer.{truth_of_fewer}
 use Rattle.predicates_core.proofs.CombinedLemmas.{HasTruth-not, HasTruth-pair, HasTruth-left}
 use Rattle.predicates_explain.specs.Checks.{check_text, operator_of, HasFormula, IsInfallibleCheck}
 use Rattle.predicates_explain.specs.Weight.{weight}
-use Rattle.predicates_explain.proofs.check.TextCheckPredicateString.+eval.Goals as goal
+use Rattle.predicates_explain.proofs.check.+eval.Goals as goal
 
 -- `!b == w` and `b == !w`
 across : (b w : Bool) → beq (not b) w ≡ beq b (not w)
@@ -47,15 +47,15 @@ of_three (inl a) of_a of_b of_c = of_a a
 of_three (inr (inl b)) of_a of_b of_c = of_b b
 of_three (inr (inr c)) of_a of_b of_c = of_c c
 
-pub loop-check-preserved-in-Not-1 : goal.loop-check-preserved-in-Not-1
-loop-check-preserved-in-Not-1 t c = (
+pub TextCheckPredicateString::eval-loop-check-preserved-in-Not-1 : goal.TextCheckPredicateString::eval-loop-check-preserved-in-Not-1
+TextCheckPredicateString::eval-loop-check-preserved-in-Not-1 t c = (
   λ b of_part. subst (HasTruth _) (across b c.loop-check.wanted) (c.loop-check.invariant.0 (not b) (rw c.in-Not.is (HasTruth-not (rw c.deref-check.ensures at of_part) refl))),
   search rules,
   search (rules, arith),
 )
 
-pub loop-check-preserved : goal.loop-check-preserved
-loop-check-preserved t c =
+pub TextCheckPredicateString::eval-loop-check-preserved : goal.TextCheckPredicateString::eval-loop-check-preserved
+TextCheckPredicateString::eval-loop-check-preserved t c =
     let op = c.operator-operator.result in
     let a = c.in_ok-left_holds-in-And.left_holds in
     let asked : asks op a ≡ true = search rules in
@@ -71,8 +71,8 @@ loop-check-preserved t c =
       rw c.deref-check-in-And.ensures (omega (arith, weighs, c.loop-check.invariant.2)),
     )
 
-pub returns-then-not-asks-clause-truth : goal.returns-then-not-asks-clause-truth
-returns-then-not-asks-clause-truth t c =
+pub TextCheckPredicateString::eval-returns-then-not-asks-clause-truth : goal.TextCheckPredicateString::eval-returns-then-not-asks-clause-truth
+TextCheckPredicateString::eval-returns-then-not-asks-clause-truth t c =
     let op = c.operator-operator.result in
     let a = c.in_ok-left_holds-in-And.left_holds in
     let ends : asks op a ≡ false = search rules in
