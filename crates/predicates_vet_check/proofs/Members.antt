@@ -3,7 +3,9 @@ use Rattle.std.proofs.Common.{◌≡◌, ℕ, Bool, true, false, List, [], ◌�
 use Rattle.std.specs.Prelude.{not}
 use Rattle.predicates_core.specs.Formula.{Formula, truth, HasTruth}
 use Rattle.predicates_core.specs.Describe.{CaseNode}
-use Rattle.predicates_core.specs.Leaves.{IsExactly}
+use Rattle.std.specs.Fmt.{decimal}
+use Rattle.predicates_core.specs.Label.{Entry, Fits}
+use Rattle.predicates_core.specs.Leaves.{IsExactly, IsShowing}
 use Rattle.predicates_core.specs.Several.{AreOfEach, IsOfMembers}
 use Rattle.predicates_core.specs.Shows.{Explains, IsCaseOf, IsAnswer, IsNode}
 use Rattle.predicates_core.specs.Tree.{Tree}
@@ -12,6 +14,7 @@ use Rattle.predicates_core.proofs.CombinedLemmas.{has_not, HasTruth-not, IsCaseO
 use Rattle.serde_json.specs.Data.{Data}
 use Rattle.serde_json.specs.Find.{as_array}
 use Rattle.predicates_core.proofs.Leaves.{HasTruth-exactly}
+use Rattle.predicates_core.proofs.Several.{IsFirstAt, decided_case}
 use Rattle.predicates_rules.specs.declared.expression.Quantifier.{Quantifier}
 use Rattle.serde_json.specs.View.{view, items_view}
 use Rattle.serde_json.specs.declared.value.Value.{Value}
@@ -21,6 +24,11 @@ use Rattle.predicates_vet_check.specs.declared.check.Check.{Check}
 use Rattle.predicates_vet_check.specs.Checks.{plan_of, Has, HasOf}
 use Rattle.predicates_vet_check.specs.Differ.{IsOfDiffering}
 use Rattle.predicates_vet_check.specs.Plans.{Denies, Joins, plans_of, plan_formula, part_formulas, item_formulas, over_items, over_array, range_formula, nothing_leaf, decides_all}
+
+-- a node over the case of the first member that decides, with its number
+pub case_of_member : (decides : Bool) {U : Type 0} (name : List ℕ) (has : U → Formula → Type 0) {text : Entry} {us : List U} {k : ℕ} {u : U} {c t s : Tree CaseNode} {bytes : List ℕ} → IsNode (Some bytes) decides ((name, c) ∷ []) t → IsShowing (codes "index") (Some (decimal k)) t s → Fits text bytes → IsFirstAt decides name has us k u → IsCaseOf (has u) decides c → IsCaseOf (IsOfMembers decides text name has us) decides s
+case_of_member decides name has {t = t} {bytes = bytes} written shown fits a d =
+    decided_case decides name has (record { bytes = bytes; fits = fits; node = t; written = written; numbers = shown }) a d
 
 module _ (F : Formula → Type 0) {g : Formula} (had : F g) where
   pub truth_of_one : {b : Bool} → HasTruth F b → HasTruth (IsExactly g) b

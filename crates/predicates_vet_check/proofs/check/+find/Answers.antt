@@ -3,13 +3,13 @@ use Rattle.std.proofs.lemmas.List.{take_all}
 use Rattle.predicates_core.specs.Formula.{HasTruth}
 use Rattle.predicates_core.specs.Leaves.{IsShowing}
 use Rattle.predicates_core.proofs.Values.{same_truths, other_truths, not-not}
-use Rattle.predicates_core.proofs.Several.{member_decides, passes_by_cases, IsBuilt, built_none, built_more, case_of_built, case_of_member, members_pass, passes_more, passes_all}
+use Rattle.predicates_core.proofs.Several.{member_decides, passes_by_cases, IsBuilt, built_none, built_more, case_of_built, members_pass, passes_more, passes_all}
 use Rattle.serde_json.specs.Find.{pointer}
 use Rattle.serde_json.specs.View.{view}
 use Rattle.predicates_vet_check.specs.Plans.{decides_all, plan_formula}
 use Rattle.predicates_vet_check.specs.Checks.{Has, HasOf, plan_of}
 use Rattle.predicates_vet_check.proofs.Differing as differing
-use Rattle.predicates_vet_check.proofs.Members.{never_both, answer_nowhere, truth_of_not, case_of_not, answer_of_or, answer_of_xor, answer_of_and, answer_of_items}
+use Rattle.predicates_vet_check.proofs.Members.{case_of_member, never_both, answer_nowhere, truth_of_not, case_of_not, answer_of_or, answer_of_xor, answer_of_and, answer_of_items}
 use Rattle.predicates_vet_check.proofs.check.+find.Goals as goal
 
 -- ---- parts
