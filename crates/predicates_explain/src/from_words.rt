@@ -16,7 +16,7 @@ use crate::words_error::WordsError;
 use std::alloc::{AllocError, Global};
 
 /// How deep a check of `TextCheck::from_words` may be: how many checks lie around its deepest leaf.
-/// A stack of 8 MiB bears four times as many.
+/// A stack of 8 MiB bears twice as many.
 pub const MAX_DEPTH: usize = 2_000;
 
 // The depth of a check around one of this depth, or `None` past the limit.
