@@ -34,18 +34,18 @@ impl Check {
         Starts(predicate::str::starts_with("a"))
     }
 
-    /// `starts_with("a")` under so many `not`.
+    /// `starts_with("a")` under this many `not`.
     pub fn nots(depth: usize) -> Check {
         (0..depth).fold(Check::leaf(), |check, _| Not(Box::new(check.not())))
     }
 
-    /// So many `starts_with("a")` and a last `ends_with("b")`, joined by `and`.
+    /// This many `starts_with("a")` and a last `ends_with("b")`, joined by `and`.
     pub fn row(leaves: usize) -> Check {
         let all = (1..leaves).fold(Check::leaf(), |check, _| And(Box::new(check.and(Check::leaf()))));
         And(Box::new(all.and(Ends(predicate::str::ends_with("b")))))
     }
 
-    /// A full tree of so many levels over `starts_with("a")`, by `and` and `or` in turn.
+    /// A full tree of this many levels over `starts_with("a")`, by `and` and `or` in turn.
     pub fn full(levels: u8, by_and: bool) -> Check {
         if levels == 0 {
             return Check::leaf();

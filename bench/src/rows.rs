@@ -12,7 +12,7 @@ use crate::table::{cell, time};
 use oracle::explain::Naming;
 use std::hint::black_box;
 
-/// A row on both sides: the sum of the answers over so many rounds.
+/// A row on both sides: the sum of the answers over this many rounds.
 pub struct Row<'a> {
     pub name: String,
     /// The greatest ratio that is wanted of `eval`.
@@ -47,7 +47,7 @@ impl Row<'_> {
     }
 }
 
-/// Prints what has nothing beside it. A round has so many items.
+/// Prints what has nothing beside it. A round has this many items.
 pub fn print_alone(name: &str, items: usize, port: &dyn Fn(Question, usize) -> usize) {
     let times: Vec<String> = Question::ALL
         .into_iter()

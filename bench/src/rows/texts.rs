@@ -7,7 +7,7 @@ use oracle::explain::Naming::{self, First};
 use predicates::prelude::*;
 use std::hint::black_box;
 
-// So many bytes of words in which no two neighbours are always the same.
+// This many bytes of words in which no two neighbours are always the same.
 fn prose(len: usize) -> String {
     let words = ["lorem ", "ipsum ", "dolor ", "sit ", "amet, "];
     let mut text = String::new();

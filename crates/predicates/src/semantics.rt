@@ -10,7 +10,7 @@
 //! parameters and children.
 ghost use Rattle.std.specs.Prelude.{◌≡◌, ◌↔◌, string_bytes};
 ghost use Rattle.predicates_core.specs.Formula.{Formula};
-ghost use Rattle.predicates.specs.Boxed.{held_by, kept_text};
+ghost use Rattle.predicates.specs.Boxed.{inner_of, kept_text};
 ghost use Rattle.predicates.specs.Printed.{IsPrintedAs};
 
 use crate::boxed::{BoxPredicate, TextPredicate};
@@ -53,14 +53,14 @@ pub fn boxed_predicate(boxed: &BoxPredicate, item: &String)
         → ⟦<BoxPredicate as Predicate<String>>⟧.formula boxed.now item.now f
         ↔ IsPrintedAs
         (kept_text boxed.now)
-        ((TextPredicate-box (held_by boxed.now)).text_formula
-        (held_by boxed.now).value (string_bytes item.now))
+        ((TextPredicate-box (inner_of boxed.now)).text_formula
+        (inner_of boxed.now).value (string_bytes item.now))
         f }
     ensures lawful { ⟦<BoxPredicate as Predicate<String>>⟧.lawful boxed.now }
     ensures infallible { ⟦<BoxPredicate as Predicate<String>>⟧.infallible boxed.now item.now
-        ↔ (TextPredicate-box (held_by boxed.now)).text_infallible (held_by boxed.now).value item.now }
+        ↔ (TextPredicate-box (inner_of boxed.now)).text_infallible (inner_of boxed.now).value item.now }
     ensures values { ⟦<BoxPredicate as PredicateReflection>⟧.parameters_of boxed.now
-        ≡ (TextPredicate-box (held_by boxed.now)).text_parameters_of (held_by boxed.now).value }
+        ≡ (TextPredicate-box (inner_of boxed.now)).text_parameters_of (inner_of boxed.now).value }
     ensures parts { ⟦<BoxPredicate as PredicateReflection>⟧.children_of boxed.now
-        ≡ (TextPredicate-box (held_by boxed.now)).text_children_of (held_by boxed.now).value }
+        ≡ (TextPredicate-box (inner_of boxed.now)).text_children_of (inner_of boxed.now).value }
 {}

@@ -19,7 +19,7 @@ fn nots(alloc: Global, depth: usize) -> Result<Box<TextCheck>, AllocError> {
     Ok(check)
 }
 
-// So many leaves joined by `and`, and `ends_with("b")` as the last one.
+// This many leaves joined by `and`, and `ends_with("b")` as the last one.
 fn row(alloc: Global, leaves: usize) -> Result<Box<TextCheck>, AllocError> {
     let mut check = leaf(alloc)?;
     for _ in 1..leaves {
@@ -29,7 +29,7 @@ fn row(alloc: Global, leaves: usize) -> Result<Box<TextCheck>, AllocError> {
     Ok(Box::new(alloc, TextCheck::And(check, Box::new(alloc, last)?))?)
 }
 
-// So many `xor` over leaves; the checks made so far stand on the right or on the left.
+// This many `xor` over leaves; the checks made so far stand on the right or on the left.
 fn chain(alloc: Global, xors: usize, on_the_right: bool) -> Result<Box<TextCheck>, AllocError> {
     let mut check = leaf(alloc)?;
     for _ in 0..xors {

@@ -13,7 +13,7 @@ pub(crate) fn text(alloc: Global, bytes: &[u8]) -> Result<String, AllocError> {
     }
 }
 
-// So many texts that the bytes are. The compiler sees neither the texts nor how many there are.
+// This many texts that the bytes are. The compiler sees neither the texts nor how many there are.
 fn copies_of(alloc: Global, bytes: &[u8], copies: usize) -> Result<Vec<String>, AllocError> {
     let mut all = Vec::new(alloc);
     for _ in 0..copies {

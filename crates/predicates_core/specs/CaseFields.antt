@@ -10,7 +10,7 @@ abbrev pub node_of : Node → CaseNode
 node_of n = record
     { text = option_map string_bytes n.text; result = n.result; products = n.products.items }
 
--- the trees of at most so many entries: under the first entry stand the entries of its subtree
+-- the trees of at most this many entries: under the first entry stand the entries of its subtree
 -- without itself, and the rest follow it
 abbrev pub trees_of : ℕ → List Entry → Forest CaseNode
 trees_of zero es = empty

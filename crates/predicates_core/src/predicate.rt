@@ -49,13 +49,13 @@ pub trait Predicate<Item>: PredicateReflection {
         requires { lawful self.now }
         ensures { IfOk result (IsAnswer (formula self.now item.now) expected) };
 
-    /// As `find_case`, for a part of a predicate that was evaluated before: a case that explains the
-    /// verdict where it is the wanted one, or whichever it is where none is wanted.
+    /// As `find_case`, for a part of a predicate that was evaluated before: a case that explains
+    /// the verdict where it is the wanted one, or whichever it is where none is wanted.
     ///
-    /// A predicate over parts that is evaluated once, and then asks this of its parts, has each of its
-    /// leaves evaluated at most twice. So a predicate over parts overrides it by calls of `custom`. For a
-    /// leaf it is enough to override it where its verdict takes long: an operator that needs the case of
-    /// whichever verdict asks twice otherwise.
+    /// A predicate over parts that is evaluated once, and then asks this of its parts, has each of
+    /// its leaves evaluated at most twice. So a predicate over parts overrides it by calls of
+    /// `custom`. For a leaf it is enough to override it where its verdict takes long: an operator
+    /// that needs the case of whichever verdict asks twice otherwise.
     fn explain(
         &self,
         alloc: Global,

@@ -8,15 +8,15 @@ use Rattle.std.proofs.lemmas.Bool.{ltb-true}
 use Rattle.std.proofs.lemmas.Str.{IsUtf8-append, IsUtf8-from_ascii, IsUtf8-string_bytes}
 use Rattle.std.proofs.lemmas.Str.Ascii.{IsAscii-nil, IsAscii-cons}
 use Rattle.predicates_core.specs.Text.{Text}
-use Rattle.predicates_explain.specs.Ends.{IsTokenFault, HasTokensFault}
+use Rattle.predicates_explain.specs.Exits.{IsTokenFault, HasTokensFault}
 use Rattle.predicates_explain.specs.Number.{Reads}
 use Rattle.predicates_explain.specs.Tokens.{token_of}
 use Rattle.predicates_explain.specs.CommandLine.{typed, AreNumbers, token as wrong_token}
 use Rattle.predicates_explain.specs.Postfix.{Makes}
 use Rattle.predicates_explain.proofs.Postfix.{mapped-more, mapped-around}
 use Rattle.predicates_explain.specs.declared.check.TextCheck.{TextCheck}
-use Rattle.predicates_explain.specs.declared.program.end.End.{End}
-use Rattle.predicates_explain.specs.declared.program.end.End.TheVariants.{Usage, PatternRefused, TooDeep, NoMemory}
+use Rattle.predicates_explain.specs.declared.program.exit.Exit.{Exit}
+use Rattle.predicates_explain.specs.declared.program.exit.Exit.TheVariants.{Usage, PatternRefused, TooDeep, NoMemory}
 use Rattle.predicates_explain.specs.declared.word.Word.{Word}
 use Rattle.predicates_explain.specs.declared.word.Word.TheVariants.{Equals, Starts, Ends, Contains, Matches}
 
@@ -54,7 +54,7 @@ pub no_token : (token : List ℕ) → ¬ (IsUtf8 token) → (word : Word) → to
 no_token token other word e = other (subst IsUtf8 (sym e) (token_is_text word))
 
 -- the first token that fails ends the reading of all
-pub first_fault : (tokens before : List (List ℕ)) (failing : List ℕ) (after : List (List ℕ)) (stack : List TextCheck) (end : End)
+pub first_fault : (tokens before : List (List ℕ)) (failing : List ℕ) (after : List (List ℕ)) (stack : List TextCheck) (end : Exit)
     → tokens ≡ before ++ failing ∷ after → Makes before [] stack → IsTokenFault stack failing end → HasTokensFault tokens end
 first_fault tokens before failing after stack Usage e makes fault =
     wrong_token (record { before = before; token = failing; after = after; stack = stack; is = e; makes = makes; fault = fault })

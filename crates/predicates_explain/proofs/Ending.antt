@@ -6,19 +6,19 @@ use Rattle.std.specs.Str.{IsUtf8}
 use Rattle.std.proofs.lemmas.List.{take_all}
 use Rattle.predicates_explain.specs.Answers.{between_formula, IsNumber, IsNumberAnswer}
 use Rattle.predicates_explain.specs.Checks.{HasFormula}
-use Rattle.predicates_explain.specs.Ends.{end_of_ran, EndsBy, HasTokensFault}
+use Rattle.predicates_explain.specs.Exits.{exit_of_ran, EndsBy, HasTokensFault}
 use Rattle.predicates_explain.specs.Runs.{HasRun}
 use Rattle.predicates_explain.specs.TextAnswers.{IsTextAnswer}
 use Rattle.predicates_explain.specs.CommandLine.{typed, AreBounds, AreCheck, AreRightWords, HasRunOf, between_run, text_run, between_words, text_words, wrong_text}
 use Rattle.predicates_explain.specs.declared.check.TextCheck.{TextCheck}
 use Rattle.predicates_lines.specs.declared.run_fault.RunFault.{RunFault}
 use Rattle.predicates_lines.specs.declared.run_fault.RunFault.TheVariants.{NoMemory as RunNoMemory, Input, Output}
-use Rattle.predicates_explain.specs.declared.program.end.End.{End}
-use Rattle.predicates_explain.specs.declared.program.end.End.TheVariants.{Usage, PatternRefused, TooDeep, NoMemory}
+use Rattle.predicates_explain.specs.declared.program.exit.Exit.{Exit}
+use Rattle.predicates_explain.specs.declared.program.exit.Exit.TheVariants.{Usage, PatternRefused, TooDeep, NoMemory}
 
 module _ (words : List (List ℕ)) (untouched : Type 0) (r0 r1 w0 w1 : Option (List ℕ)) where
   ends_by_run : (ran : Result Bool RunFault) → AreRightWords words → IfOk ran (HasRunOf words r0 r1 w0 w1)
-      → EndsBy words untouched r0 r1 w0 w1 (end_of_ran ran)
+      → EndsBy words untouched r0 r1 w0 w1 (exit_of_ran ran)
   ends_by_run (Ok true) right run = run
   ends_by_run (Ok false) right run = run
   ends_by_run (Err RunNoMemory) right run = tt
@@ -36,14 +36,14 @@ module _ (words : List (List ℕ)) (untouched : Type 0) (r0 r1 w0 w1 : Option (L
   as_text (Err fault) check tokens run = run
 
   pub ends_between : (ran : Result Bool RunFault) (lo hi : ℤ) → AreBounds words lo hi
-      → IfOk ran (HasRun (IsNumberAnswer (between_formula lo hi)) IsNumber r0 r1 w0 w1) → EndsBy words untouched r0 r1 w0 w1 (end_of_ran ran)
+      → IfOk ran (HasRun (IsNumberAnswer (between_formula lo hi)) IsNumber r0 r1 w0 w1) → EndsBy words untouched r0 r1 w0 w1 (exit_of_ran ran)
   ends_between ran lo hi bounds run = ends_by_run ran (between_words lo hi bounds) (as_between ran lo hi bounds run)
 
   pub ends_text : (ran : Result Bool RunFault) (check : TextCheck) → AreCheck words check
-      → IfOk ran (HasRun (IsTextAnswer (λ item. HasFormula check (string_bytes item))) IsUtf8 r0 r1 w0 w1) → EndsBy words untouched r0 r1 w0 w1 (end_of_ran ran)
+      → IfOk ran (HasRun (IsTextAnswer (λ item. HasFormula check (string_bytes item))) IsUtf8 r0 r1 w0 w1) → EndsBy words untouched r0 r1 w0 w1 (exit_of_ran ran)
   ends_text ran check tokens run = ends_by_run ran (text_words check tokens) (as_text ran check tokens run)
 
-  pub ends_by_fault : (tokens : List (List ℕ)) (end : End) → words ≡ codes "text" ∷ tokens → untouched → HasTokensFault tokens end
+  pub ends_by_fault : (tokens : List (List ℕ)) (end : Exit) → words ≡ codes "text" ∷ tokens → untouched → HasTokensFault tokens end
       → EndsBy words untouched r0 r1 w0 w1 end
   ends_by_fault tokens Usage is same fault = (wrong_text tokens is fault, same)
   ends_by_fault tokens PatternRefused is same fault = ((tokens, is, fault), same)

@@ -5,7 +5,7 @@ pub mod CheckLaws
 pub mod Checks
 pub mod CommandLine
 pub mod Depths
-pub mod Ends
+pub mod Exits
 pub mod Filtered
 pub mod Meaning
 pub mod Number

@@ -87,7 +87,7 @@ abbrev pub HasBadWord : List (List ℕ) → ℕ → List ℕ → WordProblem →
 HasBadWord tokens place token problem = (first : FailsFirst tokens (IsFirstProblem problem))
     × (place ≡ suc (length first.before)) × (token ≡ first.token)
 
--- the words leave so many checks, none too deep, and not one
+-- the words leave this many checks, none too deep, and not one
 abbrev pub LeaveNotOne : List (List ℕ) → ℕ → Type 0
 LeaveNotOne tokens count = (stack : List TextCheck) × Makes tokens [] stack × AreWithin stack
     × (count ≡ length stack) × (count ≢ 1)

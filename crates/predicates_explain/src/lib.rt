@@ -41,7 +41,7 @@ pub use filter::{Filtered, filter_lines};
 pub use from_words::MAX_DEPTH;
 pub use parse_number::number;
 pub use predicates_lines::RunFault;
-pub use program::{End, explain_words, run_program};
+pub use program::{Exit, run_command_line, run_program};
 pub use text::run_text;
 pub use word::{Word, read_word};
 pub use word_fault::WordFault;

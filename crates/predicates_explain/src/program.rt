@@ -1,10 +1,10 @@
 //! The program `explain`: what its words ask for, what it writes, and how it ends.
 
-mod answer;
-mod end;
+mod command_line;
+mod exit;
 mod read;
 mod runtime;
 
-pub use answer::explain_words;
-pub use end::End;
+pub use command_line::run_command_line;
+pub use exit::Exit;
 pub use runtime::run_program;

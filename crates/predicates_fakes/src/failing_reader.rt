@@ -3,7 +3,7 @@ use crate::call::take_call;
 use std::io;
 use std::io::{BufRead, ErrorKind, Read};
 
-/// Hands out its bytes, and after so many calls fails with an error of the kind.
+/// Hands out its bytes, and after this many calls fails with an error of the kind.
 #[derive(Drop)]
 pub struct FailingReader<'a> {
     pub bytes: &'a [u8],

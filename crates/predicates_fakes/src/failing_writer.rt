@@ -3,7 +3,7 @@ use crate::call::take_call;
 use std::io;
 use std::io::{ErrorKind, Write};
 
-/// Takes all that it is given, and after so many calls fails with an error of the kind.
+/// Takes all that it is given, and after this many calls fails with an error of the kind.
 #[derive(Drop)]
 pub struct FailingWriter {
     pub calls: usize,

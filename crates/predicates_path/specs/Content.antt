@@ -10,8 +10,8 @@ use Rattle.predicates_path.specs.Fault.{fault_text}
 use Rattle.predicates_path.specs.Snapshot.{Bytes}
 
 -- the predicate of bytes
-abbrev pub part_of : {P : Type 0} → FileContentPredicate P → P
-part_of p = p.inner
+abbrev pub inner_of : {P : Type 0} → FileContentPredicate P → P
+inner_of p = p.inner
 
 -- a false leaf that shows the path and the fault
 abbrev pub without_content : Entry → List ℕ → PathFault → Formula

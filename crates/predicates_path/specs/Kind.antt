@@ -2,7 +2,7 @@
 use Rattle.std.specs.Prelude.{ℕ, Bool, false, cond, List, ◌++◌, Result, Ok, Err, Some, codes}
 use Rattle.predicates_core.specs.Label.{showing}
 use Rattle.predicates_core.specs.Formula.{Formula, Leaf}
-use Rattle.predicates_path.specs.declared.kind.FileTypePredicate.{FileTypePredicate}
+use Rattle.predicates_path.specs.declared.file_type_predicate.FileTypePredicate.{FileTypePredicate}
 use Rattle.predicates_path.specs.declared.file_type.FileType.{FileType}
 use Rattle.predicates_path.specs.declared.fault.PathFault.{PathFault}
 use Rattle.predicates_path.specs.declared.snapshot.Snapshot.{Snapshot}

@@ -1,12 +1,11 @@
 //! Predicates of bytes, evaluated on the content at a path.
-ghost use Rattle.std.specs.Prelude.{◌≡◌, ◌↔◌, false, [], codes, IfOk};
+ghost use Rattle.std.specs.Prelude.{◌≡◌, false, [], codes, IfOk};
 ghost use Rattle.predicates_core.specs.Parts.{part};
-ghost use Rattle.predicates_core.specs.Formula.{Formula};
 ghost use Rattle.predicates_core.specs.Leaves.{IsExactly};
 ghost use Rattle.predicates_core.specs.Shows.{IsCaseOf};
 ghost use Rattle.predicates_path.specs.declared.snapshot.Snapshot.{Snapshot};
 ghost use Rattle.predicates_path.specs.Snapshot.{path_of, held_of};
-ghost use Rattle.predicates_path.specs.Content.{IsOfContent, part_of, content_formula};
+ghost use Rattle.predicates_path.specs.Content.{IsOfContent, inner_of, content_formula};
 ghost use Rattle.predicates_path.specs.Content.{without_content};
 ghost use Rattle.predicates_path.specs.ContentLaws.{content_text_fits, one_content};
 ghost use Rattle.predicates_path.specs.ContentLaws.{has_content_formula};
@@ -36,7 +35,7 @@ impl<P: fmt::Display> FileContentPredicate<P> {
         fault: PathFault,
     ) -> Result<Case, AllocError>
         ensures { IfOk result (IsCaseOf
-            (IsExactly (without_content (P.output (part_of self.now)) (path_of item.now) fault))
+            (IsExactly (without_content (P.output (inner_of self.now)) (path_of item.now) fault))
             false) }
     {
         let node = leaf_node(alloc, printed(alloc, self)?, false);
@@ -46,7 +45,7 @@ impl<P: fmt::Display> FileContentPredicate<P> {
 }
 
 impl<P: fmt::Display> fmt::Display for FileContentPredicate<P> {
-    ghost output = { λ p. P.output (part_of p) };
+    ghost output = { λ p. P.output (inner_of p) };
 
     fn fmt<W: fmt::Write>(&self, f: &mut fmt::Formatter<W>) -> fmt::Result {
         let inner = &self.inner;
@@ -58,8 +57,8 @@ impl<P: PredicateReflection> PredicateReflection for FileContentPredicate<P> {
     ghost parameters_of = { λ p. [] };
 
     ghost children_of = { λ p. part
-        (codes "predicate") (P.output (part_of p)) (P.parameters_of (part_of p))
-        (P.children_of (part_of p)) };
+        (codes "predicate") (P.output (inner_of p)) (P.parameters_of (inner_of p))
+        (P.children_of (inner_of p)) };
 
     fn parameters(&self, alloc: Global) -> Result<Vec<Parameter>, AllocError> {
         Ok(Vec::new(alloc))
@@ -71,17 +70,17 @@ impl<P: PredicateReflection> PredicateReflection for FileContentPredicate<P> {
 }
 
 impl<P: Predicate<Vec<u8>>> Predicate<Snapshot> for FileContentPredicate<P> {
-    ghost lawful = { λ p. P.lawful (part_of p) };
+    ghost lawful = { λ p. P.lawful (inner_of p) };
 
-    ghost formula = { λ p s. IsOfContent (P.output (part_of p)) (P.formula (part_of p)) (path_of s)
+    ghost formula = { λ p s. IsOfContent (P.output (inner_of p)) (P.formula (inner_of p)) (path_of s)
         (held_of s) };
 
-    ghost infallible = { λ p s. IfOk (held_of s) (P.infallible (part_of p)) };
+    ghost infallible = { λ p s. IfOk (held_of s) (P.infallible (inner_of p)) };
 
-    ghost text_fits = { λ p s f. content_text_fits (held_of s) (λ v. P.text_fits (part_of p) v) };
+    ghost text_fits = { λ p s f. content_text_fits (held_of s) (λ v. P.text_fits (inner_of p) v) };
 
     ghost one_formula = { λ p s f g lawful. one_content (held_of s)
-        (λ v x y. P.one_formula (part_of p) v x y lawful) };
+        (λ v x y. P.one_formula (inner_of p) v x y lawful) };
 
     #[tactic(auto, using(crate::proofs::ContentCases::content_cases))]
     fn eval(&self, alloc: Global, item: &Snapshot) -> Result<bool, AllocError> {
@@ -139,14 +138,14 @@ impl<P: Predicate<Vec<u8>>> Predicate<Snapshot> for FileContentPredicate<P> {
 }
 
 impl<P: Total<Vec<u8>>> Total<Snapshot> for FileContentPredicate<P> {
-    ghost formula_of = { λ p s. content_formula (P.output (part_of p)) (P.formula_of (part_of p))
+    ghost formula_of = { λ p s. content_formula (P.output (inner_of p)) (P.formula_of (inner_of p))
         (path_of s) (held_of s) };
 
-    ghost always_lawful = { λ p. P.always_lawful (part_of p) };
+    ghost always_lawful = { λ p. P.always_lawful (inner_of p) };
 
     ghost has_formula = { λ p s. has_content_formula
-        (P.output (part_of p)) (P.formula (part_of p)) (P.formula_of (part_of p)) (path_of s)
-        (held_of s) (P.has_formula (part_of p)) };
+        (P.output (inner_of p)) (P.formula (inner_of p)) (P.formula_of (inner_of p)) (path_of s)
+        (held_of s) (P.has_formula (inner_of p)) };
 }
 
 /// Evaluates predicates of bytes on the contents of files.
@@ -162,10 +161,7 @@ pub trait PredicateFileContentExt: Predicate<Vec<u8>> {
     fn from_file_path(self) -> FileContentPredicate<Self>
     where
         Self: Sized,
-        ensures part { part_of result ≡ self }
-        ensures formula { (s : Snapshot) (f : Formula)
-            → ⟦<FileContentPredicate<Self> as Predicate<Snapshot>>⟧.formula result s f
-            ↔ IsOfContent (Self.output self) (Self.formula self) (path_of s) (held_of s) f };
+        ensures inner { inner_of result ≡ self };
 }
 
 impl<P: Predicate<Vec<u8>>> PredicateFileContentExt for P {

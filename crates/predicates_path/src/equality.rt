@@ -1,15 +1,13 @@
 //! Whether a content equals the bytes of a file.
-ghost use Rattle.std.specs.Prelude.{◌≡◌, ◌↔◌, refl, codes, Ok, Err, Some, IfOk, IfSome, IsOkAnd};
-ghost use Rattle.std.specs.Prelude.{MatchOption, MatchResult, string_bytes};
+ghost use Rattle.std.specs.Prelude.{◌≡◌, refl, codes, Ok, Err, Some, IsOkAnd};
+ghost use Rattle.std.specs.Prelude.{MatchOption, MatchResult};
 ghost use Rattle.std.specs.Str.{IsUtf8};
 ghost use Rattle.predicates_core.specs.Tree.{empty};
 ghost use Rattle.predicates_core.specs.Label.{value_of};
-ghost use Rattle.predicates_core.specs.Formula.{Formula};
 ghost use Rattle.predicates_core.specs.Leaves.{IsExactly};
 ghost use Rattle.predicates_core.specs.LeafLaws.{exactly_text_fits, one_exactly};
 ghost use Rattle.predicates_path.specs.declared.snapshot.Snapshot.{Snapshot};
-ghost use Rattle.predicates_core.specs.Text.{Text};
-ghost use Rattle.predicates_path.specs.Snapshot.{Bytes, path_of, content_of};
+ghost use Rattle.predicates_path.specs.Snapshot.{path_of, content_of};
 ghost use Rattle.predicates_path.specs.Equality.{compared_path, compared_bytes, equality_text};
 ghost use Rattle.predicates_path.specs.Equality.{equals_content, equals_bytes};
 ghost use Rattle.predicates_path.specs.TextEquality as text;
@@ -43,12 +41,6 @@ pub fn eq_file(snapshot: Snapshot) -> Result<BinaryFilePredicate, PathFault>
         (λ bytes. IsOkAnd result
         (λ p. (compared_path p ≡ path_of snapshot) × (compared_bytes p ≡ bytes)))
         (λ fault. result ≡ Err fault) }
-    ensures of_snapshots { IfOk result (λ p. (s : Snapshot) (f : Formula)
-        → ⟦<BinaryFilePredicate as Predicate<Snapshot>>⟧.formula p s f
-        ↔ IsExactly (equals_content (compared_path p) (compared_bytes p) s) f) }
-    ensures of_bytes { IfOk result (λ p. (v : Bytes) (f : Formula)
-        → ⟦<BinaryFilePredicate as Predicate<Vec<u8>>>⟧.formula p v f
-        ↔ IsExactly (equals_bytes (compared_path p) (compared_bytes p) v.items) f) }
 {
     let (path, content) = snapshot.into_file();
     Ok(BinaryFilePredicate {
@@ -69,13 +61,6 @@ impl BinaryFilePredicate {
         ensures text { MatchOption result (¬ (IsUtf8 (compared_bytes self)))
             (λ p. (text.compared_path p ≡ compared_path self)
             × (text.compared_text p ≡ compared_bytes self)) }
-        ensures of_snapshots { IfSome result (λ p. (s : Snapshot) (f : Formula)
-            → ⟦<StrFilePredicate as Predicate<Snapshot>>⟧.formula p s f
-            ↔ IsExactly (equals_content (text.compared_path p) (text.compared_text p) s) f) }
-        ensures of_texts { IfSome result (λ p. (v : Text) (f : Formula)
-            → ⟦<StrFilePredicate as Predicate<String>>⟧.formula p v f
-            ↔ IsExactly
-            (equals_bytes (text.compared_path p) (text.compared_text p) (string_bytes v)) f) }
     {
         let BinaryFilePredicate { path, content } = self;
         match String::from_utf8(content) {

@@ -1,7 +1,6 @@
 //! Whether a path leads to anything.
-ghost use Rattle.std.specs.Prelude.{◌≡◌, ◌↔◌, refl, true, false, [], Some};
+ghost use Rattle.std.specs.Prelude.{◌≡◌, refl, true, false, [], Some};
 ghost use Rattle.predicates_core.specs.Tree.{empty};
-ghost use Rattle.predicates_core.specs.Formula.{Formula};
 ghost use Rattle.predicates_core.specs.Leaves.{IsExactly};
 ghost use Rattle.predicates_core.specs.LeafLaws.{exactly_text_fits, one_exactly};
 ghost use Rattle.predicates_path.specs.Existence.{asks_presence, existence_text, existence_formula};
@@ -29,9 +28,6 @@ pub struct ExistencePredicate {
 /// ```
 pub fn exists() -> ExistencePredicate
     ensures presence { asks_presence result ≡ true }
-    ensures formula { (s : Snapshot) (f : Formula)
-        → ⟦<ExistencePredicate as Predicate<Snapshot>>⟧.formula result s f
-        ↔ IsExactly (existence_formula result s) f }
 {
     ExistencePredicate { exists: true }
 }
@@ -44,9 +40,6 @@ pub fn exists() -> ExistencePredicate
 /// ```
 pub fn missing() -> ExistencePredicate
     ensures presence { asks_presence result ≡ false }
-    ensures formula { (s : Snapshot) (f : Formula)
-        → ⟦<ExistencePredicate as Predicate<Snapshot>>⟧.formula result s f
-        ↔ IsExactly (existence_formula result s) f }
 {
     ExistencePredicate { exists: false }
 }

@@ -7,14 +7,14 @@
 //!
 //! Each clause holds for every predicate of the type and every item. The clauses state the
 //! predicate's formulas, what `eval` requires, when `eval` takes no memory, and the predicate's
-//! parameters and children. The calls that make the predicates state the formulas too.
+//! parameters and children.
 ghost use Rattle.std.specs.Prelude.{◌≡◌, ◌↔◌, [], Some, codes, IfOk, string_bytes};
 ghost use Rattle.predicates_core.specs.Formula.{Formula};
 ghost use Rattle.predicates_core.specs.Label.{value_of};
 ghost use Rattle.predicates_core.specs.Leaves.{IsExactly, word};
 ghost use Rattle.predicates_core.specs.Parts.{part};
 ghost use Rattle.predicates_core.specs.Tree.{empty};
-ghost use Rattle.predicates_path.specs.Content.{IsOfContent, part_of};
+ghost use Rattle.predicates_path.specs.Content.{IsOfContent, inner_of};
 ghost use Rattle.predicates_path.specs.Equality.{compared_path, compared_bytes, shown_bytes};
 ghost use Rattle.predicates_path.specs.Equality.{equals_content, equals_bytes};
 ghost use Rattle.predicates_path.specs.Existence.{existence_formula};
@@ -28,7 +28,7 @@ ghost use Rattle.predicates_path.specs.declared.snapshot.Snapshot.{Snapshot};
 use crate::content::FileContentPredicate;
 use crate::equality::BinaryFilePredicate;
 use crate::existence::ExistencePredicate;
-use crate::kind::FileTypePredicate;
+use crate::file_type_predicate::FileTypePredicate;
 use crate::snapshot::Snapshot;
 use crate::text_equality::StrFilePredicate;
 use predicates_core::Predicate;
@@ -105,15 +105,15 @@ pub fn file_text(test: &StrFilePredicate)
 pub fn file_content<P: Predicate<Vec<u8>>>(content: &FileContentPredicate<P>, item: &Snapshot)
     ensures formula { (f : Formula)
         → ⟦<FileContentPredicate<P> as Predicate<Snapshot>>⟧.formula content.now item.now f
-        ↔ IsOfContent (P.output (part_of content.now)) (P.formula (part_of content.now))
+        ↔ IsOfContent (P.output (inner_of content.now)) (P.formula (inner_of content.now))
         (path_of item.now) (held_of item.now) f }
     ensures lawful { ⟦<FileContentPredicate<P> as Predicate<Snapshot>>⟧.lawful content.now
-        ↔ P.lawful (part_of content.now) }
+        ↔ P.lawful (inner_of content.now) }
     ensures infallible { ⟦<FileContentPredicate<P> as Predicate<Snapshot>>⟧.infallible
-        content.now item.now ↔ IfOk (held_of item.now) (P.infallible (part_of content.now)) }
+        content.now item.now ↔ IfOk (held_of item.now) (P.infallible (inner_of content.now)) }
     ensures values { ⟦<FileContentPredicate<P> as PredicateReflection>⟧.parameters_of content.now
         ≡ [] }
     ensures parts { ⟦<FileContentPredicate<P> as PredicateReflection>⟧.children_of content.now
-        ≡ part (codes "predicate") (P.output (part_of content.now))
-        (P.parameters_of (part_of content.now)) (P.children_of (part_of content.now)) }
+        ≡ part (codes "predicate") (P.output (inner_of content.now))
+        (P.parameters_of (inner_of content.now)) (P.children_of (inner_of content.now)) }
 {}

@@ -25,7 +25,7 @@ abbrev pub first_left : List (Sign × ℕ) → ℕ
 first_left [] = 0
 first_left (t ∷ ts) = t.1
 
--- how many bytes are left where so many tokens are
+-- how many bytes are left where this many tokens are
 abbrev pub left_behind : List (Sign × ℕ) → ℕ → ℕ
 left_behind ts left = first_left (drop (length ts - left) ts)
 
@@ -46,7 +46,7 @@ pub data IsLineFault : List ℕ → Stop → Type 0 where
   no_head : {line : List ℕ} {s : Stop} → is_over (after_spaces line) ≡ false → head_at (after_spaces line) ≡ Err s → IsLineFault line s
   no_rule : {line : List ℕ} {s : Stop} (name text : List ℕ) → Heads line name text → IsFault text s → IsLineFault line s
 
--- the column, from 1, where so many bytes of the line are left
+-- the column, from 1, where this many bytes of the line are left
 abbrev pub column_at : List ℕ → ℕ → ℕ
 column_at line left = length line - left + 1
 

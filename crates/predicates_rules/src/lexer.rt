@@ -182,7 +182,7 @@ fn literal(alloc: Global, word: &[u8]) -> Result<Option<Literal>, ReadError>
     }
 }
 
-/// Something else stands where so many bytes are left.
+/// Something else stands where this many bytes are left.
 pub fn stop(expected: Expected, left: usize) -> ReadError
     ensures { result ≡ ReadError.Stopped (stop_at expected left) }
 {
@@ -203,7 +203,7 @@ fn pointer_of(alloc: Global, path: &str) -> Result<String, ReadError>
     }
 }
 
-// The token that is written so, with so many bytes from it on.
+// The token that is written so, with this many bytes from it on.
 #[tactic(auto, unfolding(crate::specs::Scanning::sign_in))]
 fn token_of(alloc: Global, class: Class, left: usize, word: &[u8]) -> Result<Kind, ReadError>
     ensures { Gives sign_of result (sign_in class left word.now) }

@@ -36,7 +36,7 @@ fn behind(tokens: &[Token], count: usize) -> &[Token]
     &tokens[count..]
 }
 
-// How many bytes are left where so many tokens are.
+// How many bytes are left where this many tokens are.
 fn bytes_left(tokens: &[Token], left: usize) -> usize
     ensures { result ≡ left_behind (map placed tokens.now) left }
 {

@@ -1,6 +1,6 @@
 //! A predicate that counts how often it is asked, and prints itself otherwise in a width.
 use predicates_core::reflection::{Case, Child, Parameter, PredicateReflection};
-use predicates_core::{Content, Predicate, ReadsContent};
+use predicates_core::Predicate;
 use std::alloc::{AllocError, Global};
 use std::cell::Cell;
 use std::fmt;
@@ -81,12 +81,4 @@ impl<P: Predicate<Item>, Item> Predicate<Item> for Counting<P> {
         self.count();
         self.held.explain(alloc, wanted, item)
     }
-}
-
-impl<P: ReadsContent<Item>, Item: Content> ReadsContent<Item> for Counting<P> {
-    ghost content_formula = { λ p bytes. P.content_formula p.held bytes };
-
-    ghost always_lawful = { λ p. P.always_lawful p.held };
-
-    ghost has_formula = { λ p v. P.has_formula p.held v };
 }

@@ -13,12 +13,12 @@ use predicates_core::reflection::{Case, Child, Parameter, PredicateReflection};
 use std::alloc::{AllocError, Global};
 use std::fmt;
 
-type Handed<P> = OneOf<TrimPredicate<P>, NormalizedPredicate<P>>;
+type Viewed<P> = OneOf<TrimPredicate<P>, NormalizedPredicate<P>>;
 
 /// A predicate of texts of the level below, or a combinator or an adapter of the library over such.
 #[derive(Drop)]
 pub struct TextLevel<P> {
-    node: OneOf<Level<P, String>, Handed<P>>,
+    node: OneOf<Level<P, String>, Viewed<P>>,
 }
 
 impl<P> TextLevel<P> {
@@ -42,7 +42,7 @@ impl<P: Predicate<String> + Drop> TextLevel<P> {
         TextLevel::over(alloc, OneOf::Second(normalized))
     }
 
-    fn over(alloc: Global, node: Handed<P>) -> Result<TextLevel<P>, AllocError> {
+    fn over(alloc: Global, node: Viewed<P>) -> Result<TextLevel<P>, AllocError> {
         Ok(TextLevel {
             node: OneOf::Second(Box::new(alloc, node)?),
         })
@@ -50,7 +50,7 @@ impl<P: Predicate<String> + Drop> TextLevel<P> {
 }
 
 impl<P: fmt::Display> fmt::Display for TextLevel<P> {
-    ghost output = { λ p. ⟦<OneOf<Level<P, String>, Handed<P>> as fmt::Display>⟧.output p.node };
+    ghost output = { λ p. ⟦<OneOf<Level<P, String>, Viewed<P>> as fmt::Display>⟧.output p.node };
 
     fn fmt<W: fmt::Write>(&self, f: &mut fmt::Formatter<W>) -> fmt::Result {
         self.node.fmt(f)
@@ -58,9 +58,9 @@ impl<P: fmt::Display> fmt::Display for TextLevel<P> {
 }
 
 impl<P: PredicateReflection> PredicateReflection for TextLevel<P> {
-    ghost parameters_of = { λ p. ⟦<OneOf<Level<P, String>, Handed<P>> as PredicateReflection>⟧.parameters_of p.node };
+    ghost parameters_of = { λ p. ⟦<OneOf<Level<P, String>, Viewed<P>> as PredicateReflection>⟧.parameters_of p.node };
 
-    ghost children_of = { λ p. ⟦<OneOf<Level<P, String>, Handed<P>> as PredicateReflection>⟧.children_of p.node };
+    ghost children_of = { λ p. ⟦<OneOf<Level<P, String>, Viewed<P>> as PredicateReflection>⟧.children_of p.node };
 
     fn parameters(&self, alloc: Global) -> Result<Vec<Parameter>, AllocError> {
         self.node.parameters(alloc)
@@ -72,18 +72,18 @@ impl<P: PredicateReflection> PredicateReflection for TextLevel<P> {
 }
 
 impl<P: Predicate<String>> Predicate<String> for TextLevel<P> {
-    ghost lawful = { λ p. ⟦<OneOf<Level<P, String>, Handed<P>> as Predicate<String>>⟧.lawful p.node };
+    ghost lawful = { λ p. ⟦<OneOf<Level<P, String>, Viewed<P>> as Predicate<String>>⟧.lawful p.node };
 
-    ghost formula = { λ p. ⟦<OneOf<Level<P, String>, Handed<P>> as Predicate<String>>⟧.formula
+    ghost formula = { λ p. ⟦<OneOf<Level<P, String>, Viewed<P>> as Predicate<String>>⟧.formula
         p.node };
 
-    ghost infallible = { λ p. ⟦<OneOf<Level<P, String>, Handed<P>> as Predicate<String>>⟧.infallible p.node };
+    ghost infallible = { λ p. ⟦<OneOf<Level<P, String>, Viewed<P>> as Predicate<String>>⟧.infallible p.node };
 
     ghost text_fits = { λ p v f. text_fits_by_type
         (λ q. ⟦<Level<P, String> as Predicate<String>>⟧.formula q v)
-        (λ q. ⟦<Handed<P> as Predicate<String>>⟧.formula q v)
+        (λ q. ⟦<Viewed<P> as Predicate<String>>⟧.formula q v)
         ⟦<Level<P, String> as fmt::Display>⟧.output
-        ⟦<Handed<P> as fmt::Display>⟧.output
+        ⟦<Viewed<P> as fmt::Display>⟧.output
         (λ l. level_text_fits P.output (λ q. P.formula q v) (λ q. P.text_fits q v) l.node)
         (text_fits_by_type
         (λ q. ⟦<TrimPredicate<P> as Predicate<String>>⟧.formula q v)

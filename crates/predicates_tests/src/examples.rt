@@ -6,3 +6,4 @@ mod failures;
 mod lists;
 mod parts;
 mod paths;
+mod texts;

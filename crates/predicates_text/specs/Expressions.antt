@@ -18,10 +18,10 @@ regex_matches_text p = string_bytes p.pattern
 
 -- what `regex` reads in it
 abbrev pub regex_meaning : RegexPredicate → Re
-regex_meaning p = regex_pattern p.regex
+regex_meaning p = regex_pattern p.regex.value
 
 abbrev pub regex_matches_meaning : RegexMatchesPredicate → Re
-regex_matches_meaning p = regex_pattern p.regex
+regex_matches_meaning p = regex_pattern p.regex.value
 
 -- how many matches there have to be
 abbrev pub regex_matches_count : RegexMatchesPredicate → ℕ
@@ -34,7 +34,7 @@ pub record IsReadFrom (pattern : List ℕ) (regex : Regex) : Type 0 where
   pub by_grammar : IsReadFromSource regex
 
 abbrev pub IsReadFromText : RegexPredicate → Type 0
-IsReadFromText p = IsReadFrom (string_bytes p.pattern) p.regex
+IsReadFromText p = IsReadFrom (string_bytes p.pattern) p.regex.value
 
 -- how these tests are printed
 abbrev pub match_text : List ℕ → Entry

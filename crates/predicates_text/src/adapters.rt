@@ -4,12 +4,7 @@
 //! let blank = predicate::str::is_empty().trim();
 //! let utf8 = predicate::str::is_empty().not().from_utf8();
 //! ```
-ghost use Rattle.std.specs.Prelude.{◌≡◌, ◌↔◌, ℕ, Vec};
-ghost use Rattle.std.specs.declared.alloc.Global.{Global};
-ghost use Rattle.predicates_core.specs.Text.{Text};
-ghost use Rattle.predicates_core.specs.Formula.{Formula};
-ghost use Rattle.predicates_text.specs.ViewFormulas.{IsOfEach, IsDecoded, IsTrimmedOf};
-ghost use Rattle.predicates_text.specs.ViewFormulas.{HasEvenLinesOf};
+ghost use Rattle.std.specs.Prelude.{◌≡◌};
 ghost use Rattle.predicates_text.specs.AdapterParts.{inner_of};
 
 mod normalize;
@@ -36,10 +31,7 @@ pub trait PredicateStrExt: Predicate<String> {
     fn trim(self) -> TrimPredicate<Self>
     where
         Self: Sized,
-        ensures inner { inner_of result ≡ self }
-        ensures formula { (v : Text) (f : Formula) →
-            ⟦<TrimPredicate<Self> as Predicate<String>>⟧.formula result v f
-            ↔ IsOfEach (Self.formula self) (IsTrimmedOf v) f };
+        ensures inner { inner_of result ≡ self };
 
     /// The predicate of a text with even line endings: a carriage return, with the line feed behind
     /// it or alone, counts as a line feed. Its `eval` takes memory for that text, but none where
@@ -53,10 +45,7 @@ pub trait PredicateStrExt: Predicate<String> {
     fn normalize(self) -> NormalizedPredicate<Self>
     where
         Self: Sized,
-        ensures inner { inner_of result ≡ self }
-        ensures formula { (v : Text) (f : Formula) →
-            ⟦<NormalizedPredicate<Self> as Predicate<String>>⟧.formula result v f
-            ↔ IsOfEach (Self.formula self) (HasEvenLinesOf v) f };
+        ensures inner { inner_of result ≡ self };
 
     /// The predicate of the text that bytes encode, which is false on other bytes. Its `eval`
     /// takes memory for the text, and none on other bytes.
@@ -69,10 +58,7 @@ pub trait PredicateStrExt: Predicate<String> {
     fn from_utf8(self) -> Utf8Predicate<Self>
     where
         Self: Sized,
-        ensures inner { inner_of result ≡ self }
-        ensures formula { (v : Vec ℕ Global) (f : Formula) →
-            ⟦<Utf8Predicate<Self> as Predicate<Vec<u8>>>⟧.formula result v f
-            ↔ IsDecoded (Self.output self) (Self.formula self) v.items f };
+        ensures inner { inner_of result ≡ self };
 }
 
 impl<P: Predicate<String>> PredicateStrExt for P {

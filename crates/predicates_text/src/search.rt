@@ -28,7 +28,7 @@ pub fn starts_with(text: &str, pattern: &str) -> bool
     ensures front { IsTrue result ↔ IsFrontOf (chars pattern.now) (chars text.now) }
     ensures value { result ≡ is_front (chars pattern.now) (chars text.now) }
 {
-    text.starts_with(pattern)
+    begins_with(text.as_bytes(), pattern.as_bytes())
 }
 
 /// Whether the text ends with the pattern.
@@ -49,6 +49,19 @@ pub fn contains(text: &str, pattern: &str) -> bool
         return text.contains(pattern);
     }
     find(text.as_bytes(), pattern.as_bytes()).is_some()
+}
+
+// Whether the bytes begin with these. The first one mostly decides, and is compared by itself.
+fn begins_with(bytes: &[u8], front: &[u8]) -> bool
+    ensures { IsTrue result ↔ IsFrontOf front.now bytes.now }
+{
+    let [wanted, more @ ..] = front else {
+        return true;
+    };
+    let [first, rest @ ..] = bytes else {
+        return false;
+    };
+    first == wanted && rest.starts_with(more)
 }
 
 // The first occurrence of the pattern. First the two of its bytes that are rarest in texts are

@@ -29,7 +29,7 @@ use Rattle.predicates_text.specs.LeafFormulaLaws.{has_starts}
 use Rattle.predicates_path.specs.Content.{IsOfContent}
 use Rattle.predicates_path.specs.ContentLaws.{has_content_formula}
 use Rattle.predicates_path.specs.Kind.{tested_kind, follows, found_kind, has_kind, kind_formula}
-use Rattle.predicates_path.specs.declared.kind.FileTypePredicate.{FileTypePredicate}
+use Rattle.predicates_path.specs.declared.file_type_predicate.FileTypePredicate.{FileTypePredicate}
 use Rattle.predicates_path.specs.declared.file_type.FileType.TheVariants.{File}
 use Rattle.predicates_path.specs.declared.snapshot.Snapshot.{Snapshot}
 use Rattle.predicates_path.specs.Snapshot.{path_of, held_of, followed_of, plain_of}

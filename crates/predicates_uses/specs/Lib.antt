@@ -1,5 +1,5 @@
 pub mod Answer
 pub mod Either
-pub mod Plainly
-pub mod Last
+pub mod PlainCase
+pub mod RightFirst
 pub mod Script

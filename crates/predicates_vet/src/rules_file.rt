@@ -66,7 +66,7 @@ fn has_rule(line: &[u8]) -> bool {
     }
 }
 
-// The line, from 1, of the rule that has so many before it.
+// The line, from 1, of the rule that has this many before it.
 fn line_of(text: &[u8], before: usize) -> usize {
     let mut left = before;
     for (index, line) in text.split(|byte| *byte == b'\n').enumerate() {

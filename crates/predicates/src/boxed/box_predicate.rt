@@ -4,7 +4,7 @@ ghost use Rattle.predicates_core.specs.Label.{Fits};
 ghost use Rattle.predicates_core.specs.Formula.{HasTruth};
 ghost use Rattle.predicates_core.specs.Shows.{IsAnswer, IsFound};
 ghost use Rattle.predicates_core.specs.Leaves.{IsExactly};
-ghost use Rattle.predicates.specs.Boxed.{held_by, kept_text};
+ghost use Rattle.predicates.specs.Boxed.{inner_of, kept_text};
 ghost use Rattle.predicates.specs.Printed.{as_printed, IsPrintedAs, HasFormulas};
 ghost use Rattle.predicates.specs.PrintedLaws.{printed_text_fits, one_printed};
 
@@ -26,7 +26,7 @@ impl BoxPredicate {
     /// where that is refused, the box is dropped.
     #[tactic(auto, using(crate::proofs::OpenRoots::boxes))]
     pub fn new(alloc: Global, inner: Box<dyn TextPredicate>) -> Result<Self, AllocError>
-        ensures holds { IfOk result (λ made. held_by made ≡ inner) }
+        ensures holds { IfOk result (λ made. inner_of made ≡ inner) }
         ensures text { IfOk result (λ made. Fits (text_output inner) (kept_text made)) }
         ensures same { IfOk result (λ made.
             HasFormulas (text_formula inner) (⟦<BoxPredicate as Predicate<String>>⟧.formula made)) }
@@ -54,10 +54,10 @@ impl fmt::Display for BoxPredicate {
 }
 
 impl PredicateReflection for BoxPredicate {
-    ghost parameters_of = { λ p. (TextPredicate-box (held_by p)).text_parameters_of
-        (held_by p).value };
+    ghost parameters_of = { λ p. (TextPredicate-box (inner_of p)).text_parameters_of
+        (inner_of p).value };
 
-    ghost children_of = { λ p. (TextPredicate-box (held_by p)).text_children_of (held_by p).value };
+    ghost children_of = { λ p. (TextPredicate-box (inner_of p)).text_children_of (inner_of p).value };
 
     fn parameters(&self, alloc: Global) -> Result<Vec<Parameter>, AllocError> {
         self.inner.text_parameters(alloc)
@@ -110,9 +110,9 @@ fn explain_held(
 impl Predicate<String> for BoxPredicate {
     ghost formula = { λ p v. IsPrintedAs
         (kept_text p)
-        ((TextPredicate-box (held_by p)).text_formula (held_by p).value (string_bytes v)) };
+        ((TextPredicate-box (inner_of p)).text_formula (inner_of p).value (string_bytes v)) };
 
-    ghost infallible = { λ p v. (TextPredicate-box (held_by p)).text_infallible (held_by p).value v };
+    ghost infallible = { λ p v. (TextPredicate-box (inner_of p)).text_infallible (inner_of p).value v };
 
     ghost text_fits = { λ p v f. printed_text_fits };
 
@@ -147,7 +147,7 @@ impl Predicate<String> for BoxPredicate {
 impl Total<String> for BoxPredicate {
     ghost formula_of = { λ p v. as_printed
         (kept_text p)
-        ((TextPredicate-box (held_by p)).text_formula (held_by p).value (string_bytes v)) };
+        ((TextPredicate-box (inner_of p)).text_formula (inner_of p).value (string_bytes v)) };
 
     ghost always_lawful = { λ p. tt };
 
@@ -157,7 +157,7 @@ impl Total<String> for BoxPredicate {
 impl ReadsContent<String> for BoxPredicate {
     ghost content_formula = { λ p bytes. as_printed
         (kept_text p)
-        ((TextPredicate-box (held_by p)).text_formula (held_by p).value bytes) };
+        ((TextPredicate-box (inner_of p)).text_formula (inner_of p).value bytes) };
 
     ghost always_lawful = { λ p. tt };
 

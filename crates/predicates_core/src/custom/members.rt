@@ -152,8 +152,8 @@ pub(super) fn no_member<W: fmt::Display>(
     Ok(showing_text(alloc, node, "len", "0")?)
 }
 
-// The case of the first member that decides. Where they are to be evaluated first, no other member is asked for
-// its case.
+// The case of the first member that decides. Where they are to be evaluated first, no other member
+// is asked for its case.
 fn first_member<W: fmt::Display, P: Predicate<Item>, Item>(
     alloc: Global,
     whole: &W,

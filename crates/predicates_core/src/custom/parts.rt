@@ -86,8 +86,8 @@ pub fn parts_explained<W: fmt::Display, P: Predicate<Item>, Item>(
     every_part(alloc, whole, parts, name, decides, wanted, item)
 }
 
-// The case of the first part that decides. Where they are to be evaluated first, no other part is asked for
-// its case.
+// The case of the first part that decides. Where they are to be evaluated first, no other part is
+// asked for its case.
 fn first_part<W: fmt::Display, P: Predicate<Item>, Item>(
     alloc: Global,
     whole: &W,

@@ -4,11 +4,11 @@ ghost use Rattle.std.specs.Prelude.{MatchOption};
 ghost use Rattle.predicates_explain.specs.Depths.{AreTracked};
 ghost use Rattle.predicates_explain.specs.declared.from_words.TheConstants.{MAX_DEPTH};
 ghost use Rattle.predicates_explain.specs.Number.{Reads};
-ghost use Rattle.predicates_explain.specs.Ends.{IsTokenFault, HasTokensFault};
+ghost use Rattle.predicates_explain.specs.Exits.{IsTokenFault, HasTokensFault};
 ghost use Rattle.predicates_explain.specs.CommandLine.{typed, AreNumbers};
 ghost use Rattle.predicates_explain.specs.Postfix.{Makes, AreWithin, depth};
 
-use super::end::End;
+use super::exit::Exit;
 use crate::check::TextCheck;
 use crate::from_words::take_word;
 use crate::parse_number::number;
@@ -22,25 +22,25 @@ fn take_token(
     checks: &mut Vec<TextCheck>,
     depths: &mut Vec<usize>,
     token: &[u8],
-) -> Result<(), End>
+) -> Result<(), Exit>
     requires { AreTracked checks.now.items depths.now.items }
     ensures made { OnOk result (Makes (token.now ∷ []) checks.old.items checks.new.items) }
     ensures tracked { OnOk result (AreTracked checks.new.items depths.new.items) }
     ensures fault { IfErr result (IsTokenFault checks.old.items token.now) }
 {
     let Ok(text) = str::from_utf8(token) else {
-        return Err(End::Usage);
+        return Err(Exit::Usage);
     };
     match take_word(alloc, checks, depths, text)? {
         None => Ok(()),
-        Some(WordProblem::NoSuchWord | WordProblem::TooFewChecks) => Err(End::Usage),
-        Some(WordProblem::BadExpression) => Err(End::PatternRefused),
-        Some(WordProblem::TooDeep) => Err(End::TooDeep),
+        Some(WordProblem::NoSuchWord | WordProblem::TooFewChecks) => Err(Exit::Usage),
+        Some(WordProblem::BadExpression) => Err(Exit::PatternRefused),
+        Some(WordProblem::TooDeep) => Err(Exit::TooDeep),
     }
 }
 
 // The checks that the tokens leave.
-fn read_checks(alloc: Global, tokens: &[Vec<u8>]) -> Result<Vec<TextCheck>, End>
+fn read_checks(alloc: Global, tokens: &[Vec<u8>]) -> Result<Vec<TextCheck>, Exit>
     ensures made { IfOk result (λ checks. Makes (typed tokens.now) [] checks.items) }
     ensures within { IfOk result (λ checks. AreWithin checks.items) }
     ensures fault { IfErr result (HasTokensFault (typed tokens.now)) }
@@ -60,16 +60,16 @@ fn is_one(count: usize) -> bool
 }
 
 // The one check that the tokens leave.
-pub(super) fn read_check(alloc: Global, tokens: &[Vec<u8>]) -> Result<TextCheck, End>
+pub(super) fn read_check(alloc: Global, tokens: &[Vec<u8>]) -> Result<TextCheck, Exit>
     ensures made { IfOk result (λ check. Makes (typed tokens.now) [] (check ∷ [])) }
     ensures within { IfOk result (λ check. depth check ≤ MAX_DEPTH) }
     ensures fault { IfErr result (HasTokensFault (typed tokens.now)) }
 {
     let mut stack = read_checks(alloc, tokens)?;
     if !is_one(stack.len()) {
-        return Err(End::Usage);
+        return Err(Exit::Usage);
     }
-    stack.pop().ok_or(End::Usage)
+    stack.pop().ok_or(Exit::Usage)
 }
 
 // The numbers that two words write.

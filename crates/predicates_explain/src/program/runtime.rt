@@ -1,6 +1,6 @@
 //! The program over what its process is given.
-use super::answer::explain_words;
-use super::end::End;
+use super::command_line::run_command_line;
+use super::exit::Exit;
 use std::alloc::{AllocError, Global};
 use std::env::FillError;
 use std::io::{BufReader, BufWriter, Error, ErrorKind, Write};
@@ -28,7 +28,7 @@ impl<E: Eprint> Write for Stderr<'_, E> {
 }
 
 // The word at the place, or `None` past the last one.
-fn read_word<E: Env>(alloc: Global, rt: &E, place: usize) -> Result<Option<Vec<u8>>, AllocError> {
+fn read_argument<E: Env>(alloc: Global, rt: &E, place: usize) -> Result<Option<Vec<u8>>, AllocError> {
     let mut room = 256usize;
     for _ in 0..usize::BITS {
         let mut word = Vec::new(alloc);
@@ -46,10 +46,10 @@ fn read_word<E: Env>(alloc: Global, rt: &E, place: usize) -> Result<Option<Vec<u
 }
 
 // The words after the program's name.
-fn read_words<E: Env>(alloc: Global, rt: &E) -> Result<Vec<Vec<u8>>, AllocError> {
+fn read_arguments<E: Env>(alloc: Global, rt: &E) -> Result<Vec<Vec<u8>>, AllocError> {
     let mut words = Vec::new(alloc);
     for place in 1..usize::MAX {
-        match read_word(alloc, rt, place)? {
+        match read_argument(alloc, rt, place)? {
             Some(word) => words.push(word)?,
             None => break,
         }
@@ -58,15 +58,15 @@ fn read_words<E: Env>(alloc: Global, rt: &E) -> Result<Vec<Vec<u8>>, AllocError>
 }
 
 // Does what the words ask for, or has no memory for the words and the buffers.
-fn answer<E: Env + Input + Print + AllocGlobal, M: Write>(
+fn try_run<E: Env + Input + Print + AllocGlobal, M: Write>(
     rt: &E,
     messages: &mut M,
-) -> io::Result<End> {
+) -> io::Result<Exit> {
     let alloc = rt.alloc();
-    let words = read_words(alloc, rt)?;
+    let words = read_arguments(alloc, rt)?;
     let mut input = BufReader::new(alloc, rt.reader())?;
     let mut output = BufWriter::new(alloc, io::writer(rt))?;
-    Ok(explain_words(alloc, &words, &mut input, &mut output, messages).0)
+    Ok(run_command_line(alloc, &words, &mut input, &mut output, messages).0)
 }
 
 /// Runs the program on the words, the streams and the memory of a process, and answers the
@@ -74,11 +74,11 @@ fn answer<E: Env + Input + Print + AllocGlobal, M: Write>(
 /// patterns and checks nested too deep, 3 where memory runs out and for faults of the streams.
 pub fn run_program<E: Env + Input + Print + Eprint + AllocGlobal>(rt: &E) -> u8 {
     let mut messages = Stderr { rt };
-    let end = match answer(rt, &mut messages) {
+    let end = match try_run(rt, &mut messages) {
         Ok(end) => end,
         Err(_) => {
-            End::NoMemory.report(&mut messages);
-            End::NoMemory
+            Exit::NoMemory.report(&mut messages);
+            Exit::NoMemory
         }
     };
     end.status()

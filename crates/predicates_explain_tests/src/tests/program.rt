@@ -3,7 +3,7 @@ mod faults;
 mod process;
 mod sizes;
 
-use predicates_explain::{MAX_DEPTH, explain_words};
+use predicates_explain::{MAX_DEPTH, run_command_line};
 use std::alloc::{AllocError, Global};
 use std::test::Fail;
 
@@ -86,7 +86,7 @@ fn ends(
     let mut reader = input;
     let mut written = Vec::new(alloc);
     let mut messages = Vec::new(alloc);
-    let (end, message_written) = explain_words(
+    let (end, message_written) = run_command_line(
         alloc,
         &words,
         &mut reader,

@@ -90,7 +90,7 @@ fn writes<R: Abort + AllocGlobal>(rt: &R, run: Run<'_>) -> Result<(), Fail> {
     Ok(())
 }
 
-// How many bytes are written for the lines that end within so many bytes of the input.
+// How many bytes are written for the lines that end within this many bytes of the input.
 fn answered(lines: &[(usize, usize)], read: usize) -> usize {
     let mut written = 0usize;
     for (line, block) in lines {
@@ -101,7 +101,7 @@ fn answered(lines: &[(usize, usize)], read: usize) -> usize {
     written
 }
 
-// Whether the run over a prefix of the input, whose end is a fault, answers that after so many bytes.
+// Whether the run over a prefix of the input, whose end is a fault, answers that after this many bytes.
 fn fails_behind(
     alloc: Global,
     run: Run<'_>,

@@ -38,7 +38,7 @@ impl Call for Reading<'_> {
             Err(ReadChecksError::Unreadable(error)) => {
                 Ok(Answer::Text(format!(in alloc; "{error}")?))
             }
-            // A pattern is refused for want of memory too.
+            // A pattern fails where memory runs out too.
             Err(_) => Err(AllocError),
         }
     }

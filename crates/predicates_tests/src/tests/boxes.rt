@@ -148,7 +148,7 @@ fn explained_boxed_or_not(rt: HostRuntime) -> Result<(), Fail> {
     Ok(())
 }
 
-// Whether a boxed comparison with so many letters is explained on them, and on `b`.
+// Whether a boxed comparison with this many letters is explained on them, and on `b`.
 fn explains_letters(alloc: Global, length: u32) -> Result<bool, AllocError> {
     let letters = repeated(alloc, "a", length, "")?;
     let is_letters = predicate::eq(letters.clone()?);

@@ -10,7 +10,7 @@ use std::cell::Cell;
 use std::rc::Rc;
 use std::test::Fail;
 
-// So many even numbers from 0 on, the greatest first.
+// This many even numbers from 0 on, the greatest first.
 fn members<'a>(
     alloc: Global,
     calls: &'a Calls,
@@ -48,7 +48,7 @@ fn a_hashed_set_hashes_its_members(rt: HostRuntime) -> Result<(), Fail> {
     Ok(())
 }
 
-// Whether the list finds the item or not, in so many comparisons at most; both by its search, which
+// Whether the list finds the item or not, in this many comparisons at most; both by its search, which
 // counts them as well, and by `eval`.
 fn is_found(
     alloc: Global,

@@ -45,7 +45,7 @@ fn members_in_their_kept_order(rt: HostRuntime) -> Result<(), Fail> {
     Ok(())
 }
 
-// Whether the first parameter has so many bytes.
+// Whether the first parameter has this many bytes.
 fn has_bytes<P: PredicateReflection>(
     alloc: Global,
     predicate: &P,
@@ -58,7 +58,7 @@ fn has_bytes<P: PredicateReflection>(
 }
 
 // The numbers from 0 to the first of the ends hold, and the second one does not; the printed
-// members have so many bytes.
+// members have this many bytes.
 fn holds_numbers<P: Predicate<i64>>(
     alloc: Global,
     predicate: &P,

@@ -1,10 +1,8 @@
 //! Whether a text contains a pattern.
-ghost use Rattle.std.specs.Prelude.{◌≡◌, ◌↔◌, [], string_bytes};
-ghost use Rattle.predicates_core.specs.Text.{Text};
-ghost use Rattle.predicates_core.specs.Formula.{Formula};
+ghost use Rattle.std.specs.Prelude.{◌≡◌, [], string_bytes};
 ghost use Rattle.predicates_core.specs.Tree.{empty};
 ghost use Rattle.predicates_text.specs.Leaves.{contains_text, contains_formula};
-ghost use Rattle.predicates_text.specs.LeafFormulas.{IsContainsLeaf, IsCountedLeaf};
+ghost use Rattle.predicates_text.specs.LeafFormulas.{IsContainsLeaf};
 ghost use Rattle.predicates_text.specs.LeafFormulaLaws.{text_leaf_fits, one_text_leaf, has_contains};
 ghost use Rattle.predicates_text.specs.Patterns.{contains_pattern, matches_pattern, matches_count};
 
@@ -32,9 +30,6 @@ pub struct ContainsPredicate {
 /// ```
 pub fn contains(pattern: String) -> ContainsPredicate
     ensures pattern { contains_pattern result ≡ string_bytes pattern }
-    ensures formula { (v : Text) (f : Formula) →
-        ⟦<ContainsPredicate as Predicate<String>>⟧.formula result v f
-        ↔ IsContainsLeaf (string_bytes pattern) (string_bytes v) f }
 {
     ContainsPredicate { pattern }
 }
@@ -52,9 +47,6 @@ impl ContainsPredicate {
     pub fn count(self, count: usize) -> MatchesPredicate
         ensures pattern { matches_pattern result ≡ contains_pattern self }
         ensures count { matches_count result ≡ count }
-        ensures formula { (v : Text) (f : Formula) →
-            ⟦<MatchesPredicate as Predicate<String>>⟧.formula result v f
-            ↔ IsCountedLeaf (contains_pattern self) count (string_bytes v) f }
     {
         MatchesPredicate::new(self.pattern, count)
     }

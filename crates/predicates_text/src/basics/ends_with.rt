@@ -1,7 +1,5 @@
 //! Whether a text ends with a pattern.
-ghost use Rattle.std.specs.Prelude.{◌≡◌, ◌↔◌, [], string_bytes};
-ghost use Rattle.predicates_core.specs.Text.{Text};
-ghost use Rattle.predicates_core.specs.Formula.{Formula};
+ghost use Rattle.std.specs.Prelude.{◌≡◌, [], string_bytes};
 ghost use Rattle.predicates_core.specs.Tree.{empty};
 ghost use Rattle.predicates_text.specs.Leaves.{ends_text, ends_formula};
 ghost use Rattle.predicates_text.specs.LeafFormulas.{IsEndsLeaf};
@@ -31,9 +29,6 @@ pub struct EndsWithPredicate {
 /// ```
 pub fn ends_with(pattern: String) -> EndsWithPredicate
     ensures pattern { ends_pattern result ≡ string_bytes pattern }
-    ensures formula { (v : Text) (f : Formula) →
-        ⟦<EndsWithPredicate as Predicate<String>>⟧.formula result v f
-        ↔ IsEndsLeaf (string_bytes pattern) (string_bytes v) f }
 {
     EndsWithPredicate { pattern }
 }

@@ -1,7 +1,5 @@
 //! Whether a text has no characters.
-ghost use Rattle.std.specs.Prelude.{◌↔◌, [], string_bytes};
-ghost use Rattle.predicates_core.specs.Text.{Text};
-ghost use Rattle.predicates_core.specs.Formula.{Formula};
+ghost use Rattle.std.specs.Prelude.{[], string_bytes};
 ghost use Rattle.predicates_core.specs.Tree.{empty};
 ghost use Rattle.predicates_text.specs.Leaves.{empty_text, empty_formula};
 ghost use Rattle.predicates_text.specs.LeafFormulas.{IsEmptyLeaf};
@@ -25,11 +23,7 @@ pub struct IsEmptyPredicate;
 /// assert!(rt; is_empty().eval(alloc, &String::new(alloc))?);
 /// assert!(rt; !is_empty().eval(alloc, &" ".to_owned(alloc)?)?);
 /// ```
-pub fn is_empty() -> IsEmptyPredicate
-    ensures { (v : Text) (f : Formula) →
-        ⟦<IsEmptyPredicate as Predicate<String>>⟧.formula result v f
-        ↔ IsEmptyLeaf (string_bytes v) f }
-{
+pub fn is_empty() -> IsEmptyPredicate {
     IsEmptyPredicate
 }
 

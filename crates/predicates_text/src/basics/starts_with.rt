@@ -1,7 +1,5 @@
 //! Whether a text begins with a pattern.
-ghost use Rattle.std.specs.Prelude.{◌≡◌, ◌↔◌, [], string_bytes};
-ghost use Rattle.predicates_core.specs.Text.{Text};
-ghost use Rattle.predicates_core.specs.Formula.{Formula};
+ghost use Rattle.std.specs.Prelude.{◌≡◌, [], string_bytes};
 ghost use Rattle.predicates_core.specs.Tree.{empty};
 ghost use Rattle.predicates_text.specs.Leaves.{starts_text, starts_formula};
 ghost use Rattle.predicates_text.specs.LeafFormulas.{IsStartsLeaf};
@@ -31,9 +29,6 @@ pub struct StartsWithPredicate {
 /// ```
 pub fn starts_with(pattern: String) -> StartsWithPredicate
     ensures pattern { starts_pattern result ≡ string_bytes pattern }
-    ensures formula { (v : Text) (f : Formula) →
-        ⟦<StartsWithPredicate as Predicate<String>>⟧.formula result v f
-        ↔ IsStartsLeaf (string_bytes pattern) (string_bytes v) f }
 {
     StartsWithPredicate { pattern }
 }

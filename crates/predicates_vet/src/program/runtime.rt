@@ -54,7 +54,7 @@ fn tell_words<E: Print + Eprint + AllocGlobal>(rt: &E, error: &clap::Error) -> i
     Ok(2)
 }
 
-fn answer<E: Env + Files + Input + Print + Eprint + AllocGlobal>(rt: &E) -> io::Result<u8> {
+fn try_run<E: Env + Files + Input + Print + Eprint + AllocGlobal>(rt: &E) -> io::Result<u8> {
     let alloc = rt.alloc();
     let words: Vec<String> = env::args(rt)?.collect(alloc)?;
     let matches = match command(alloc)?.try_get_matches_from(words.as_slice()) {
@@ -107,7 +107,7 @@ fn answer<E: Env + Files + Input + Print + Eprint + AllocGlobal>(rt: &E) -> io::
 /// rules that can't be read, lines that are no JSON, faults of reading and writing, and out of
 /// memory, each told in a line on standard error.
 pub fn run_program<E: Env + Files + Input + Print + Eprint + AllocGlobal>(rt: &E) -> u8 {
-    match answer(rt) {
+    match try_run(rt) {
         Ok(status) => status,
         // Where this line can't be written either, the status alone tells.
         Err(error) => match eprintln!(rt; "vet: {error}") {

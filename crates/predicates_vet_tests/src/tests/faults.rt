@@ -40,7 +40,7 @@ const KINDS: [(ErrorKind, RunFault, RunFault); 3] = [
     ),
 ];
 
-// What is written before a fault behind so many bytes of the input: as answers, and as messages.
+// What is written before a fault behind this many bytes of the input: as answers, and as messages.
 fn written_by(alloc: Global, read: usize) -> Result<(Vec<u8>, Vec<u8>), AllocError> {
     let mut answers = Vec::new(alloc);
     let mut told = Vec::new(alloc);
@@ -110,7 +110,7 @@ fn fails_reading(
     Ok(ended == Err(fault) && answers == expected && told == messages)
 }
 
-// Whether the run over the whole input, of which so many bytes are written, answers the fault after
+// Whether the run over the whole input, of which this many bytes are written, answers the fault after
 // these bytes, and told no more than it tells otherwise; or where all have room, ends.
 fn fails_writing(
     alloc: Global,
@@ -135,7 +135,7 @@ fn fails_writing(
     )
 }
 
-// The same where so many bytes of messages are written.
+// The same where this many bytes of messages are written.
 fn fails_telling(
     alloc: Global,
     room: usize,

@@ -58,7 +58,7 @@ fn count_of(bytes: &[u8], byte: u8) -> u64 {
     count
 }
 
-// Whether so many lines hold no record, each with its message, and the records before and after are
+// Whether this many lines hold no record, each with its message, and the records before and after are
 // told as they are without it.
 fn is_told(alloc: Global, middle: &[u8], unreadable: u64) -> Result<bool, AllocError> {
     let Some((output, messages, counts)) = ran(alloc, middle)? else {

@@ -71,7 +71,7 @@ const AND_OF_ONE: &str =
 const AND_OF_EIGHTEEN: &str =
     "record 1: false\na = false\n  rule: not /x in [1, \"b\"] and /y >= 18 = false\n    - index: 0\n    part: not /x in [1, \"b\"] = false\n      predicate: /x in [1, \"b\"] = true\n        - found: 1\n";
 
-// Whether the front of so many bytes, behind a line that has no rule, is told so.
+// Whether the front of this many bytes, behind a line that has no rule, is told so.
 fn front_is_told(
     alloc: Global,
     len: usize,

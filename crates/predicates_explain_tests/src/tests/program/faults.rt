@@ -1,5 +1,5 @@
 use super::split_words;
-use predicates_explain::{End, explain_words};
+use predicates_explain::{Exit, run_command_line};
 use predicates_fakes::{FailingReader, FailingWriter};
 use std::alloc::{AllocError, Global};
 use std::io::ErrorKind;
@@ -17,7 +17,7 @@ const KINDS: [(ErrorKind, &str); 3] = [
 
 const LINES: [&[u8]; 2] = [b"text|empty", b"between|5|10"];
 
-// The status and the message, where a read after so many calls fails.
+// The status and the message, where a read after this many calls fails.
 fn read(
     alloc: Global,
     line: &[u8],
@@ -32,7 +32,7 @@ fn read(
     };
     let mut written = Vec::new(alloc);
     let mut messages = Vec::new(alloc);
-    let (end, _) = explain_words(alloc, &words, &mut reader, &mut written, &mut messages);
+    let (end, _) = run_command_line(alloc, &words, &mut reader, &mut written, &mut messages);
     Ok((end.status(), messages))
 }
 
@@ -51,7 +51,7 @@ fn failing_reads(rt: HostRuntime) -> Result<(), Fail> {
     Ok(())
 }
 
-// The status and the message, where a write after so many calls fails.
+// The status and the message, where a write after this many calls fails.
 fn write(
     alloc: Global,
     line: &[u8],
@@ -62,7 +62,7 @@ fn write(
     let mut reader = b"1\n2".as_slice();
     let mut writer = FailingWriter { calls, kind };
     let mut messages = Vec::new(alloc);
-    let (end, _) = explain_words(alloc, &words, &mut reader, &mut writer, &mut messages);
+    let (end, _) = run_command_line(alloc, &words, &mut reader, &mut writer, &mut messages);
     Ok((end.status(), messages))
 }
 
@@ -92,8 +92,8 @@ fn no_place_for_messages(rt: HostRuntime) -> Result<(), Fail> {
         calls: 0,
         kind: ErrorKind::BrokenPipe,
     };
-    let ended = explain_words(alloc, &words, &mut reader, &mut written, &mut closed);
-    assert_eq!(rt; ended, (End::Usage, false));
+    let ended = run_command_line(alloc, &words, &mut reader, &mut written, &mut closed);
+    assert_eq!(rt; ended, (Exit::Usage, false));
     assert_eq!(rt; written.len(), 0);
     Ok(())
 }

@@ -103,7 +103,7 @@ fn count_lines(alloc: Global, words: &[&[u8]]) -> (u8, usize, bool) {
     (status, lines, written.starts_with(b"line 1: true\n"))
 }
 
-// Every word is read, however many there are; so many checks stand on the stack before they are
+// Every word is read, however many there are; this many checks stand on the stack before they are
 // joined.
 #[test]
 fn many_words(rt: HostRuntime) -> Result<(), Fail> {

@@ -2,7 +2,7 @@
 use super::split_words;
 use crate::tests::numbers::SEVEN;
 use predicates::ord::ge;
-use predicates_explain::{explain_one, explain_total, explain_words};
+use predicates_explain::{explain_one, explain_total, run_command_line};
 use std::alloc::Global;
 use std::test::Fail;
 
@@ -12,14 +12,14 @@ fn answer(alloc: Global, line: &[u8], input: &[u8]) -> Result<Vec<u8>, Fail> {
     let mut reader = input;
     let mut written = Vec::new(alloc);
     let mut messages = Vec::new(alloc);
-    let (end, _) = explain_words(alloc, &words, &mut reader, &mut written, &mut messages);
+    let (end, _) = run_command_line(alloc, &words, &mut reader, &mut written, &mut messages);
     if end.status() != 0 || !reader.is_empty() || !messages.is_empty() {
         return Err("another end".into());
     }
     Ok(written)
 }
 
-// The text, so many times.
+// The text, this many times.
 fn repeat(alloc: Global, text: &str, count: usize) -> Result<Vec<u8>, Fail> {
     let mut all = Vec::new(alloc);
     for _ in 0..count {
@@ -28,7 +28,7 @@ fn repeat(alloc: Global, text: &str, count: usize) -> Result<Vec<u8>, Fail> {
     Ok(all)
 }
 
-// Whether the last of so many lines, of which none is empty, has this label.
+// Whether the last of this many lines, of which none is empty, has this label.
 fn ends_at(alloc: Global, count: usize, last: &str) -> Result<bool, Fail> {
     let input = repeat(alloc, "7\n", count)?;
     let written = answer(alloc, b"text|empty", &input)?;
@@ -57,7 +57,7 @@ fn echoes(alloc: Global, words: &[u8], input: &[u8], begin: &str, end: &str) -> 
     Ok(answer(alloc, words, input)? == expected)
 }
 
-// Whether 7, behind so many zeros, lies between 5 and 10.
+// Whether 7, behind this many zeros, lies between 5 and 10.
 fn is_seven(alloc: Global, zeros: usize, end: &str) -> Result<bool, Fail> {
     let mut number = repeat(alloc, "0", zeros)?;
     number.extend_from_slice(end.as_bytes())?;
@@ -114,7 +114,7 @@ fn is_bad(alloc: Global, line: &[u8], input: &[u8], expected: &str) -> Result<bo
     let mut reader = input;
     let mut written = Vec::new(alloc);
     let mut messages = Vec::new(alloc);
-    let (end, _) = explain_words(alloc, &words, &mut reader, &mut written, &mut messages);
+    let (end, _) = run_command_line(alloc, &words, &mut reader, &mut written, &mut messages);
     Ok(end.status() == 1 && written.as_slice() == expected.as_bytes())
 }
 

@@ -4,7 +4,7 @@ ghost use Rattle.std.specs.Prelude.{◌≡◌};
 use predicates::custom::{Test, TestPredicate, leaf};
 use predicates::part::Field;
 use predicates::prelude::*;
-use predicates_uses::{Either, LastFirst};
+use predicates_uses::{Either, RightFirst};
 use std::alloc::{AllocError, Global};
 use std::cell::Cell;
 use std::fmt;
@@ -76,7 +76,7 @@ fn counts_of_own(alloc: Global) -> Result<[(u32, u32, u32); 3], AllocError> {
     let first = counts(alloc, &cell, &first)?;
     let second = Either::new(predicate::never(), true_leaf(&cell));
     let second = counts(alloc, &cell, &second)?;
-    let last_first = LastFirst::new(predicate::always(), true_leaf(&cell));
+    let last_first = RightFirst::new(predicate::always(), true_leaf(&cell));
     Ok([first, second, counts(alloc, &cell, &last_first)?])
 }
 

@@ -3,7 +3,7 @@ use super::has_lines;
 use predicates::custom::{Operator, bare_case, join_case, leaf, not_case};
 use predicates::prelude::*;
 use predicates_testing::{describe, explains, is_described, render_verdict};
-use predicates_uses::{Either, IsTheAnswer, LastFirst, MultipleOf, is_known};
+use predicates_uses::{Either, IsTheAnswer, RightFirst, MultipleOf, is_known};
 use std::alloc::{AllocError, Global};
 use std::test::Fail;
 
@@ -179,12 +179,12 @@ fn a_combinator_that_evaluates_its_right_part_first(rt: HostRuntime) -> Result<(
     append_row(
         alloc,
         &mut out,
-        &LastFirst::new(IsTheAnswer, predicate::gt(41)),
+        &RightFirst::new(IsTheAnswer, predicate::gt(41)),
     )?;
     append_row(
         alloc,
         &mut out,
-        &LastFirst::new(IsTheAnswer, predicate::lt(42)),
+        &RightFirst::new(IsTheAnswer, predicate::lt(42)),
     )?;
     assert_eq!(rt;
         out.as_str(),

@@ -4,5 +4,5 @@ use Rattle.predicates_text.proofs.search.starts_with.Goals as goal
 
 pub returns : goal.returns
 returns c =
-    let is = starts_chars c.args.pattern.now c.args.text.now c.starts_with.result c.utf8.pattern c.utf8.text c.starts_with.ensures.cases in
+    let is = starts_chars c.args.pattern.now c.args.text.now c.begins_with.result c.utf8.pattern c.utf8.text (rw (c.as_bytes.ensures.value, c.as_bytes-2.ensures.value) at c.begins_with.ensures) in
     record { front = is; value = same_test _ _ is (front_decides _ _) }

@@ -2,7 +2,7 @@ use Rattle.std.proofs.Common.{◌≡◌, true, Some, codes, rules, ap, ◌∙◌
 use Rattle.std.proofs.lemmas.Result.{IfOk-weaker}
 use Rattle.predicates_boolean.specs.Join as Join
 use Rattle.predicates_boolean.specs.Name as Name
-use Rattle.predicates_path.specs.Content.{part_of}
+use Rattle.predicates_path.specs.Content as Content
 use Rattle.predicates_path.specs.Kind.{tested_kind, follows, kind_predicate_text}
 use Rattle.predicates_path.specs.declared.file_type.FileType.TheVariants.{File}
 use Rattle.predicates_text.specs.AdapterParts.{inner_of}
@@ -17,7 +17,7 @@ pub returns : goal.returns
 returns c =
     let both = Name.inner_of c.name-script.result in
     let kind = Join.left_of both in
-    let mark = starts_pattern (inner_of (part_of (Join.right_of both))) in
+    let mark = starts_pattern (inner_of (Content.inner_of (Join.right_of both))) in
     let is_kind : tested_kind kind ≡ File = search rules in
     let follow : follows kind ≡ true = search rules in
     let is_mark : mark ≡ codes "#!" = search rules in

@@ -1,0 +1,150 @@
+//! What `take` finds on a real file system.
+use super::parts::{Parts, has_parts};
+use predicates_path::FileType::{Dir, File, Other, Symlink};
+use predicates_path::PathFault::{NotFound, NotRegular, Other as Fault};
+use predicates_path::Snapshot;
+use std::alloc::{AllocError, Global};
+use std::io::{Read, Write};
+use std::os::unix::fs::symlink;
+use std::os::unix::io::AsRawFd;
+use std::test::Fail;
+use std::{env, fs, io};
+
+// The names in the folder, and what stands under each.
+const ROWS: [(&str, Parts<'static>); 15] = [
+    ("file", (Ok(File), Ok(File), Ok(b"hello"))),
+    ("empty", (Ok(File), Ok(File), Ok(b""))),
+    ("folder", (Ok(Dir), Ok(Dir), Err(NotRegular))),
+    ("to_file", (Ok(Symlink), Ok(File), Ok(b"hello"))),
+    ("to_empty", (Ok(Symlink), Ok(File), Ok(b""))),
+    ("to_folder", (Ok(Symlink), Ok(Dir), Err(NotRegular))),
+    ("to_device", (Ok(Symlink), Ok(Other), Err(NotRegular))),
+    ("to_nothing", (Ok(Symlink), Err(NotFound), Err(NotFound))),
+    ("nothing", (Err(NotFound), Err(NotFound), Err(NotFound))),
+    ("bytes", (Ok(File), Ok(File), Ok(b"\xff\x00\xfe"))),
+    ("lines", (Ok(File), Ok(File), Ok(b"a\n\n\n"))),
+    ("a name ", (Ok(File), Ok(File), Ok(b" "))),
+    ("a name", (Err(NotFound), Err(NotFound), Err(NotFound))),
+    ("file/", (Err(Fault), Err(Fault), Err(Fault))),
+    ("folder/", (Ok(Dir), Ok(Dir), Err(NotRegular))),
+];
+
+// Makes a folder that no other test uses.
+fn new_folder(rt: &HostRuntime) -> io::Result<String> {
+    let parent = env::temp_dir(rt)?;
+    let parent = parent.as_path().as_str();
+    for number in 0..10_000u32 {
+        let folder = format!(in rt.alloc(); "{parent}/predicates_path_{number}")?;
+        match fs::create_dir(rt, folder.as_str()) {
+            Ok(()) => return Ok(folder),
+            Err(error) if error.kind() == io::ErrorKind::AlreadyExists => {}
+            Err(error) => return Err(error),
+        }
+    }
+    Err(io::Error::from(io::ErrorKind::AlreadyExists))
+}
+
+fn fill(rt: &HostRuntime, folder: &str) -> io::Result<()> {
+    let alloc = rt.alloc();
+    fs::write(rt, format!(in alloc; "{folder}/file")?, "hello")?;
+    fs::write(rt, format!(in alloc; "{folder}/empty")?, "")?;
+    fs::write(rt, format!(in alloc; "{folder}/bytes")?, b"\xff\x00\xfe")?;
+    fs::write(rt, format!(in alloc; "{folder}/lines")?, "a\n\n\n")?;
+    fs::write(rt, format!(in alloc; "{folder}/a name ")?, " ")?;
+    fs::create_dir(rt, format!(in alloc; "{folder}/folder")?)?;
+    symlink(rt, "file", format!(in alloc; "{folder}/to_file")?)?;
+    symlink(rt, "empty", format!(in alloc; "{folder}/to_empty")?)?;
+    symlink(rt, "folder", format!(in alloc; "{folder}/to_folder")?)?;
+    symlink(rt, "/dev/null", format!(in alloc; "{folder}/to_device")?)?;
+    symlink(rt, "nothing", format!(in alloc; "{folder}/to_nothing")?)
+}
+
+// Whether what is taken at the path has the path and these parts.
+fn stands(rt: &HostRuntime, path: &str, parts: Parts<'_>) -> io::Result<bool> {
+    let taken = Snapshot::take(rt, rt.alloc(), path)?;
+    Ok(taken.path() == path && has_parts(&taken, parts))
+}
+
+// Whether what is taken under the name in the folder has these parts.
+fn stands_in(rt: &HostRuntime, folder: &str, name: &str, parts: Parts<'_>) -> io::Result<bool> {
+    let path = format!(in rt.alloc(); "{folder}/{name}")?;
+    stands(rt, path.as_str(), parts)
+}
+
+// The first name under which something else was taken, or `none`.
+fn first_wrong(rt: &HostRuntime, folder: &str) -> io::Result<&'static str> {
+    fill(rt, folder)?;
+    for (name, parts) in ROWS {
+        if !stands_in(rt, folder, name, parts)? {
+            return Ok(name);
+        }
+    }
+    Ok("none")
+}
+
+#[test]
+fn what_stands_in_a_folder(rt: HostRuntime) -> Result<(), Fail> {
+    let folder = new_folder(&rt)?;
+    let wrong = first_wrong(&rt, folder.as_str());
+    fs::remove_dir_all(&rt, folder.as_str())?;
+    assert_eq!(rt; wrong?, "none");
+    Ok(())
+}
+
+// This many bytes, which repeat after 251.
+fn bytes(alloc: Global, length: u32) -> Result<Vec<u8>, AllocError> {
+    let mut bytes = Vec::new(alloc);
+    for number in 0..length {
+        bytes.push((number % 251) as u8)?;
+    }
+    Ok(bytes)
+}
+
+// Whether a file in the folder is taken with the content that it is made with.
+fn is_kept(rt: &HostRuntime, folder: &str, content: &[u8]) -> io::Result<bool> {
+    let path = format!(in rt.alloc(); "{folder}/long")?;
+    fs::write(rt, path.as_str(), content)?;
+    stands(rt, path.as_str(), (Ok(File), Ok(File), Ok(content)))
+}
+
+#[test]
+fn a_long_content(rt: HostRuntime) -> Result<(), Fail> {
+    let content = bytes(rt.alloc(), 70_001)?;
+    let folder = new_folder(&rt)?;
+    let kept = is_kept(&rt, folder.as_str(), content.as_slice());
+    fs::remove_dir_all(&rt, folder.as_str())?;
+    assert!(rt; kept?);
+    Ok(())
+}
+
+#[test]
+fn an_empty_path(rt: HostRuntime) -> Result<(), Fail> {
+    let nothing = (Err(NotFound), Err(NotFound), Err(NotFound));
+    assert!(rt; stands(&rt, "", nothing)?);
+    Ok(())
+}
+
+#[test]
+fn a_device(rt: HostRuntime) -> Result<(), Fail> {
+    let device = (Ok(Other), Ok(Other), Err(NotRegular));
+    assert!(rt; stands(&rt, "/dev/null", device)?);
+    Ok(())
+}
+
+// A pipe stands behind a link of the system's.
+const PIPE: Parts<'static> = (Ok(Symlink), Ok(Other), Err(NotRegular));
+
+// Reading a pipe would wait, as nothing is written yet.
+#[test]
+fn a_pipe_left_unread(rt: HostRuntime) -> Result<(), Fail> {
+    let (mut reader, mut writer) = io::pipe(&rt)?;
+    let number = reader.as_raw_fd();
+    let path = format!(in rt.alloc(); "/proc/self/fd/{number}")?;
+    assert!(rt; stands(&rt, path.as_str(), PIPE)?);
+    writer.write_all(b"a")?;
+    assert!(rt; stands(&rt, path.as_str(), PIPE)?);
+    let mut byte = [0];
+    let count = reader.read(&mut byte)?;
+    assert_eq!(rt; (count, byte[0]), (1, b'a'));
+    Ok(())
+}
