@@ -21,9 +21,9 @@ use Rattle.predicates_explain.specs.declared.check.TextCheck.{Xor' as XorCheck}
 
 -- the operator of a check that joins two
 abbrev pub operator_of : TextCheck → Operator
-operator_of (AndCheck _ left _ right) = And
 operator_of (OrCheck _ left _ right) = Or
-operator_of _ = Xor
+operator_of (XorCheck _ left _ right) = Xor
+operator_of _ = And
 
 -- the printed text
 abbrev pub check_text : TextCheck → Entry

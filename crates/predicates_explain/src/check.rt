@@ -61,9 +61,9 @@ impl TextCheck {
         ensures { result ≡ operator_of self.now }
     {
         match self {
-            TextCheck::And(_, _) => Operator::And,
             TextCheck::Or(_, _) => Operator::Or,
-            _ => Operator::Xor,
+            TextCheck::Xor(_, _) => Operator::Xor,
+            _ => Operator::And,
         }
     }
 
@@ -229,8 +229,8 @@ impl Predicate<String> for TextCheck {
                 TextCheck::And(left, right)
                 | TextCheck::Or(left, right)
                 | TextCheck::Xor(left, right) => {
-                    let operator = check.operator();
                     let left_holds = left.eval(alloc, item)?;
+                    let operator = check.operator();
                     if !operator.asks(left_holds) {
                         return Ok(left_holds == wanted);
                     }

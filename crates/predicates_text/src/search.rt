@@ -61,7 +61,7 @@ fn begins_with(bytes: &[u8], front: &[u8]) -> bool
     let [first, rest @ ..] = bytes else {
         return false;
     };
-    first == wanted && rest.starts_with(more)
+    first == wanted && (more.is_empty() || rest.starts_with(more))
 }
 
 // The first occurrence of the pattern. First the two of its bytes that are rarest in texts are
