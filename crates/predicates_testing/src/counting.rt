@@ -1,6 +1,6 @@
 //! A predicate that counts how often it is asked, and prints itself otherwise in a width.
-use predicates_core::reflection::{Case, Child, Parameter, PredicateReflection};
 use predicates_core::Predicate;
+use predicates_core::reflection::{Case, Child, Parameter, PredicateReflection};
 use std::alloc::{AllocError, Global};
 use std::cell::Cell;
 use std::fmt;

@@ -5,16 +5,16 @@ mod answer;
 mod boxed;
 mod either;
 mod files;
-mod right_first;
 mod multiple;
 mod order;
 mod plain_case;
+mod right_first;
 
 pub use answer::IsTheAnswer;
 pub use boxed::eval_boxed;
 pub use either::Either;
 pub use files::{is_copy, no_script};
-pub use right_first::{RightFirst, is_known};
 pub use multiple::MultipleOf;
 pub use order::{Line, Order, Policy, allow_order};
 pub use plain_case::{Around, find_plain_case};
+pub use right_first::{RightFirst, is_known};

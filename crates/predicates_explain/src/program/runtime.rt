@@ -28,7 +28,11 @@ impl<E: Eprint> Write for Stderr<'_, E> {
 }
 
 // The word at the place, or `None` past the last one.
-fn read_argument<E: Env>(alloc: Global, rt: &E, place: usize) -> Result<Option<Vec<u8>>, AllocError> {
+fn read_argument<E: Env>(
+    alloc: Global,
+    rt: &E,
+    place: usize,
+) -> Result<Option<Vec<u8>>, AllocError> {
     let mut room = 256usize;
     for _ in 0..usize::BITS {
         let mut word = Vec::new(alloc);

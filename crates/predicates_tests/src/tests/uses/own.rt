@@ -3,7 +3,7 @@ use super::has_lines;
 use predicates::custom::{Operator, bare_case, join_case, leaf, not_case};
 use predicates::prelude::*;
 use predicates_testing::{describe, explains, is_described, render_verdict};
-use predicates_uses::{Either, IsTheAnswer, RightFirst, MultipleOf, is_known};
+use predicates_uses::{Either, IsTheAnswer, MultipleOf, RightFirst, is_known};
 use std::alloc::{AllocError, Global};
 use std::test::Fail;
 
