@@ -2,7 +2,7 @@
 use Rattle.std.proofs.Common.{◌≡◌, ◌↔◌, ◌<◌, ◌≤◌, List, [], ◌∷◌, ◌++◌, ℕ, Bool, true, false, IsTrue, None, sym, ◌∙◌, ap, refl, length, ◌-◌, take, drop, slice_index, arith, length-append}
 use Rattle.std.specs.Bool.{MatchBool}
 use Rattle.std.specs.Str.{chars, IsUtf8, encode_utf8_all}
-use Rattle.std.specs.Str.Pattern.{HasSuffixMatch, HasMatch, FindsText, FindsTextSuffix}
+use Rattle.std.specs.Str.Pattern.{HasPrefixMatch, HasSuffixMatch, HasMatch, FindsText, FindsTextPrefix, FindsTextSuffix}
 use Rattle.std.proofs.lemmas.Str.{encodes-chars, chars-nil, IsUtf8-take}
 use Rattle.predicates_text.specs.Places.{IsFrontOf, IsBackOf, IsPartOf}
 use Rattle.predicates_text.proofs.Slices.{chars_cut, bytes_cut, cut_around, lacks_around, bytes_around, lacks_bytes, IsCutAround}
@@ -11,28 +11,24 @@ pub empty_chars : (t : List ℕ) → IsUtf8 t → (length t ≡ 0) ↔ (chars t 
 empty_chars [] u = ((λ _. chars-nil), λ _. refl)
 empty_chars (b ∷ bs) u = ((λ e. absurd (omega arith)), λ e. ap length (sym (encodes-chars (b ∷ bs) u) ∙ ap encode_utf8_all e))
 
--- a text begins with another where its bytes do
 pub starts_chars : (p t : List ℕ) (r : Bool) → IsUtf8 p → IsUtf8 t
-    → IsTrue r ↔ IsFrontOf p t → IsTrue r ↔ IsFrontOf (chars p) (chars t)
-starts_chars p t r up ut h = (
+    → MatchBool r (HasPrefixMatch (FindsTextPrefix p) t) (FindsTextPrefix p t None) → IsTrue r ↔ IsFrontOf (chars p) (chars t)
+starts_chars p t true up ut h = ((λ _. (chars (drop h.0 t), chars_cut t p (drop h.0 t) up h.1.1)), λ _. refl)
+starts_chars p t false up ut h =
+    ((λ e. absurd (cc)), λ f. absurd (h (encode_utf8_all f.0) (bytes_cut t (chars p) f.0 ut f.1 ∙ ap (λ l. l ++ encode_utf8_all f.0) (encodes-chars p up))))
+
+-- the same where the bytes of a text are known to be at the front, or not to be
+pub front_chars : (p t : List ℕ) (r : Bool) → IsUtf8 p → IsUtf8 t → IsTrue r ↔ IsFrontOf p t → IsTrue r ↔ IsFrontOf (chars p) (chars t)
+front_chars p t r up ut h = (
   (λ e. let f = h.0 e in (chars f.0, chars_cut t p f.0 up f.1)),
   λ f. h.1 (encode_utf8_all f.0, bytes_cut t (chars p) f.0 ut f.1 ∙ ap (λ l. l ++ encode_utf8_all f.0) (encodes-chars p up)),
 )
 
--- where the first two are the same, the others decide
-pub front_past_first : (s t : List ℕ) (r : Bool) → 1 ≤ length s → 1 ≤ length t → slice_index t 0 ≡ slice_index s 0
-    → IsTrue r ↔ IsFrontOf (drop 1 s) (drop 1 t) → IsTrue r ↔ IsFrontOf s t
-front_past_first [] t r some _ e h = absurd (omega (arith, some))
-front_past_first (a ∷ s) [] r _ some e h = absurd (omega (arith, some))
-front_past_first (a ∷ s) (b ∷ t) r _ _ e h = (
-  (λ x. let f = h.0 x in (f.0, ap (λ l. b ∷ l) f.1 ∙ ap (λ x. x ∷ (s ++ f.0)) e)),
-  λ f. h.1 (f.0, ap (drop 1) f.1),
-)
-
--- where there is none to begin with
-pub front_of_none : (s t : List ℕ) → length s < 1 → IsTrue true ↔ IsFrontOf s t
-front_of_none [] t none = ((λ e. (t, refl)), λ f. refl)
-front_of_none (a ∷ s) t none = absurd (omega (arith, none))
+-- a list of one
+pub of_one : (s : List ℕ) → 1 ≤ length s → length s < 2 → slice_index s 0 ∷ [] ≡ s
+of_one [] some few = absurd (omega (arith, some))
+of_one (a ∷ []) some few = refl
+of_one (a ∷ b ∷ s) some few = absurd (omega (arith, few))
 
 pub ends_chars : (p t : List ℕ) (r : Bool) → IsUtf8 p → IsUtf8 t
     → MatchBool r (HasSuffixMatch (FindsTextSuffix p) t) (FindsTextSuffix p t None) → IsTrue r ↔ IsBackOf (chars p) (chars t)

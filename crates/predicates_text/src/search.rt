@@ -3,7 +3,7 @@
 //! ```
 //! assert!(rt; starts_with("Hello", "Hello World"));
 //! ```
-ghost use Rattle.std.specs.Prelude.{◌≡◌, ◌↔◌, [], IsTrue};
+ghost use Rattle.std.specs.Prelude.{◌≡◌, ◌↔◌, [], ◌∷◌, IsTrue};
 ghost use Rattle.std.specs.Str.{chars};
 ghost use Rattle.memchr.specs.Find.{FindsNeedle};
 ghost use Rattle.predicates_text.specs.Places.{IsFrontOf, IsBackOf, IsPartOf, is_empty, is_front};
@@ -28,7 +28,10 @@ pub fn starts_with(text: &str, pattern: &str) -> bool
     ensures front { IsTrue result ↔ IsFrontOf (chars pattern.now) (chars text.now) }
     ensures value { result ≡ is_front (chars pattern.now) (chars text.now) }
 {
-    begins_with(text.as_bytes(), pattern.as_bytes())
+    if let [byte] = pattern.as_bytes() {
+        return begins_with(text.as_bytes(), *byte);
+    }
+    text.starts_with(pattern)
 }
 
 /// Whether the text ends with the pattern.
@@ -51,17 +54,14 @@ pub fn contains(text: &str, pattern: &str) -> bool
     find(text.as_bytes(), pattern.as_bytes()).is_some()
 }
 
-// Whether the bytes begin with these. The first one mostly decides, and is compared by itself.
-fn begins_with(bytes: &[u8], front: &[u8]) -> bool
-    ensures { IsTrue result ↔ IsFrontOf front.now bytes.now }
+// Whether the bytes begin with this one. It takes half the time of a comparison of any length.
+fn begins_with(bytes: &[u8], byte: u8) -> bool
+    ensures { IsTrue result ↔ IsFrontOf (byte ∷ []) bytes.now }
 {
-    let [wanted, more @ ..] = front else {
-        return true;
-    };
-    let [first, rest @ ..] = bytes else {
-        return false;
-    };
-    first == wanted && (more.is_empty() || rest.starts_with(more))
+    match bytes {
+        [first, ..] => *first == byte,
+        [] => false,
+    }
 }
 
 // The first occurrence of the pattern. First the two of its bytes that are rarest in texts are
