@@ -24,22 +24,14 @@ pub fn is_empty(text: &str) -> bool
 }
 
 /// Whether the text begins with the pattern.
+#[inline(always)] // a call takes as long as a comparison of a few bytes
 pub fn starts_with(text: &str, pattern: &str) -> bool
     ensures front { IsTrue result ↔ IsFrontOf (chars pattern.now) (chars text.now) }
     ensures value { result ≡ is_front (chars pattern.now) (chars text.now) }
 {
     if let [byte] = pattern.as_bytes() {
-        return begins_with_byte(text.as_bytes(), *byte);
+        return begins_with(text.as_bytes(), *byte);
     }
-    begins_with_text(text, pattern)
-}
-
-// Not inlined: a comparison of any length is long, and would make its caller's frame large.
-#[inline(never)]
-fn begins_with_text(text: &str, pattern: &str) -> bool
-    ensures front { IsTrue result ↔ IsFrontOf (chars pattern.now) (chars text.now) }
-    ensures value { result ≡ is_front (chars pattern.now) (chars text.now) }
-{
     text.starts_with(pattern)
 }
 
@@ -64,7 +56,7 @@ pub fn contains(text: &str, pattern: &str) -> bool
 }
 
 // Whether the bytes begin with this one. It takes half the time of a comparison of any length.
-fn begins_with_byte(bytes: &[u8], byte: u8) -> bool
+fn begins_with(bytes: &[u8], byte: u8) -> bool
     ensures { IsTrue result ↔ IsFrontOf (byte ∷ []) bytes.now }
 {
     match bytes {

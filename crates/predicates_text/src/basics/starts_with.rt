@@ -5,6 +5,8 @@ ghost use Rattle.predicates_text.specs.Leaves.{starts_text, starts_formula};
 ghost use Rattle.predicates_text.specs.LeafFormulas.{IsStartsLeaf};
 ghost use Rattle.predicates_text.specs.LeafFormulaLaws.{text_leaf_fits, one_text_leaf, has_starts};
 ghost use Rattle.predicates_text.specs.Patterns.{starts_pattern};
+ghost use Rattle.predicates_text.specs.Places.{is_front};
+ghost use Rattle.std.specs.Str.{chars};
 
 use crate::leaf_case::text_case;
 use crate::search;
@@ -31,6 +33,16 @@ pub fn starts_with(pattern: String) -> StartsWithPredicate
     ensures pattern { starts_pattern result ≡ string_bytes pattern }
 {
     StartsWithPredicate { pattern }
+}
+
+impl StartsWithPredicate {
+    // Whether the text begins with the pattern. Not inlined, so that `explain` has a small frame.
+    #[inline(never)]
+    fn holds(&self, text: &str) -> bool
+        ensures { result ≡ is_front (chars (starts_pattern self.now)) (chars text.now) }
+    {
+        search::starts_with(text, &self.pattern)
+    }
 }
 
 impl fmt::Display for StartsWithPredicate {
@@ -86,7 +98,7 @@ impl Predicate<String> for StartsWithPredicate {
         wanted: Option<bool>,
         item: &String,
     ) -> Result<Option<Case>, AllocError> {
-        let holds = search::starts_with(item, &self.pattern);
+        let holds = self.holds(item);
         text_case(alloc, self, holds, wanted, item)
     }
 }
