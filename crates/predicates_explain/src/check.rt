@@ -1,5 +1,6 @@
 //! A check of texts, made of words.
-ghost use Rattle.std.specs.Prelude.{◌≡◌, [], IfOk, string_bytes};
+ghost use mathlib.Core.Bool.{beq};
+ghost use Rattle.std.specs.Prelude.{◌≡◌, ◌≤◌, ℕ, List, Bool, [], IfOk, string_bytes};
 ghost use Rattle.std.specs.Fmt.{DisplaysOnOk};
 ghost use Rattle.predicates_core.specs.Combined.{infix_text};
 ghost use Rattle.predicates_core.specs.Formula.{HasTruth};
@@ -8,7 +9,7 @@ ghost use Rattle.predicates_text.specs.ViewFormulas.{trimmed_bytes, even_bytes};
 ghost use Rattle.predicates_explain.specs.Checks.{check_text, check_formula, HasFormula};
 ghost use Rattle.predicates_explain.specs.Checks.{IsInfallibleCheck, operator_of};
 ghost use Rattle.predicates_explain.specs.CheckLaws.{check_text_fits, one_check, has_check_formula};
-ghost use Rattle.predicates_explain.specs.Weight.{IsLeafCheck};
+ghost use Rattle.predicates_explain.specs.Weight.{weight, IsLeafCheck};
 
 mod explain;
 mod rotate;
@@ -65,6 +66,22 @@ impl TextCheck {
             TextCheck::Xor(_, _) => Operator::Xor,
             _ => Operator::And,
         }
+    }
+
+    // The check below each `not` that stands before it, and whether it has the same verdict.
+    fn without_nots(&self) -> (&TextCheck, bool)
+        ensures truth { (bytes : List ℕ) (b : Bool) → HasTruth (HasFormula result.0.now bytes) b
+            → HasTruth (HasFormula self.now bytes) (beq b result.1) }
+        ensures infallible { IsInfallibleCheck self.now → IsInfallibleCheck result.0.now }
+        ensures smaller { weight result.0.now ≤ weight self.now }
+    {
+        let mut check = self;
+        let mut is_same = true;
+        while let TextCheck::Not(inner) = check {
+            is_same = !is_same;
+            check = inner;
+        }
+        (check, is_same)
     }
 
     // Its verdict on the text without the white space at its ends. Like the next one it is not inlined,
@@ -223,8 +240,9 @@ impl Predicate<String> for TextCheck {
                     return Ok(inner.normalized_holds(alloc, item)? == wanted);
                 }
                 TextCheck::Not(inner) => {
-                    wanted = !wanted;
-                    check = inner;
+                    let (part, is_same) = inner.without_nots();
+                    wanted = is_same != wanted;
+                    check = part;
                 }
                 TextCheck::And(left, right)
                 | TextCheck::Or(left, right)

@@ -11,12 +11,16 @@ use Rattle.predicates_explain.specs.Checks.{check_text, operator_of, HasFormula,
 use Rattle.predicates_explain.specs.Weight.{weight}
 use Rattle.predicates_explain.proofs.check.+eval.Goals as goal
 
--- `!b == w` and `b == !w`
-across : (b w : Bool) → beq (not b) w ≡ beq b (not w)
-across true true = refl
-across true false = refl
-across false true = refl
-across false false = refl
+-- a part under `not` that is wanted to be w, where its own part has the same verdict or the opposite
+under : (b s w : Bool) → beq (not (beq b s)) w ≡ beq b (not (beq s w))
+under true true true = refl
+under true true false = refl
+under true false true = refl
+under true false false = refl
+under false true true = refl
+under false true false = refl
+under false false true = refl
+under false false false = refl
 
 -- where the right part counts, the whole has its truth or the opposite
 over : (op : Operator) (a b w : Bool) → asks op a ≡ true → beq (apply op a b) w ≡ beq b (not (beq (apply op a false) w))
@@ -48,11 +52,13 @@ of_three (inr (inl b)) of_a of_b of_c = of_b b
 of_three (inr (inr c)) of_a of_b of_c = of_c c
 
 pub TextCheckPredicateString::eval-loop-check-preserved-in-Not-1 : goal.TextCheckPredicateString::eval-loop-check-preserved-in-Not-1
-TextCheckPredicateString::eval-loop-check-preserved-in-Not-1 t c = (
-  λ b of_part. subst (HasTruth _) (across b c.loop-check.wanted) (c.loop-check.invariant.0 (not b) (rw c.in-Not.is (HasTruth-not (rw c.deref-check.ensures at of_part) refl))),
-  search rules,
-  search (rules, arith),
-)
+TextCheckPredicateString::eval-loop-check-preserved-in-Not-1 t c =
+    let bytes = string_bytes c.args.item.now in
+    let s = c.without_nots-is_same.result.1 in (
+      λ b of_part. subst (HasTruth _) (under b s c.loop-check.wanted) (c.loop-check.invariant.0 (not (beq b s)) (rw c.in-Not.is (HasTruth-not (rw c.deref-in-Not.ensures at c.without_nots-is_same.ensures.truth bytes b of_part) refl))),
+      λ h. c.without_nots-is_same.ensures.infallible (rw c.deref-in-Not.ensures (rw c.in-Not.is at c.loop-check.invariant.1 h)),
+      omega (arith, c.without_nots-is_same.ensures.smaller, ap weight c.deref-in-Not.ensures, ap weight c.in-Not.is, c.loop-check.invariant.2),
+    )
 
 pub TextCheckPredicateString::eval-loop-check-preserved : goal.TextCheckPredicateString::eval-loop-check-preserved
 TextCheckPredicateString::eval-loop-check-preserved t c =
@@ -66,9 +72,9 @@ TextCheckPredicateString::eval-loop-check-preserved t c =
     let whole : (f : Formula) → HasFormula check bytes f → IsPair (operator_of check) (check_text check) (HasFormula left bytes) (HasFormula right bytes) f = of_three c.in-And.is (λ e f h. rw e (rw e at h)) (λ e f h. rw e (rw e at h)) (λ e f h. rw e (rw e at h)) in
     let weighs : weight check ≡ 2 * weight left + weight right + 1 = of_three c.in-And.is (λ e. rw e refl) (λ e. rw e refl) (λ e. rw e refl) in
     let infallible : IsInfallibleCheck check → IsInfallibleCheck right = of_three c.in-And.is (λ e h. (rw e at h).1) (λ e h. (rw e at h).1) (λ e h. (rw e at h).1) in (
-      λ b of_part. subst (HasTruth _) (over op a b c.loop-check.wanted asked ∙ ap (λ z. beq b (not (beq z c.loop-check.wanted))) (sym c.apply.ensures)) (c.loop-check.invariant.0 (apply op a b) (truth_of_fewer whole (rw (← c.operator-operator.ensures) (HasTruth-pair op (rw c.deref-in-And.ensures at c.in_ok-left_holds-in-And.ensures.truth) (rw c.deref-check-in-And.ensures at of_part))))),
-      λ h. rw c.deref-check-in-And.ensures (infallible (c.loop-check.invariant.1 h)),
-      rw c.deref-check-in-And.ensures (omega (arith, weighs, c.loop-check.invariant.2)),
+      λ b of_part. subst (HasTruth _) (over op a b c.loop-check.wanted asked ∙ ap (λ z. beq b (not (beq z c.loop-check.wanted))) (sym c.apply.ensures)) (c.loop-check.invariant.0 (apply op a b) (truth_of_fewer whole (rw (← c.operator-operator.ensures) (HasTruth-pair op (rw c.deref-in-And.ensures at c.in_ok-left_holds-in-And.ensures.truth) (rw c.deref-check.ensures at of_part))))),
+      λ h. rw c.deref-check.ensures (infallible (c.loop-check.invariant.1 h)),
+      rw c.deref-check.ensures (omega (arith, weighs, c.loop-check.invariant.2)),
     )
 
 pub TextCheckPredicateString::eval-returns-then-not-asks-clause-truth : goal.TextCheckPredicateString::eval-returns-then-not-asks-clause-truth
