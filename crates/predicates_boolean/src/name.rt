@@ -28,6 +28,20 @@ pub struct NamePredicate<M, Item, N = &'static str> {
     name: N,
 }
 
+impl<M, Item, N> NamePredicate<M, Item, N> {
+    /// The predicate under the name.
+    pub fn new(inner: M, name: N) -> NamePredicate<M, Item, N>
+        ensures inner { inner_of result ≡ inner }
+        ensures name { name_of result ≡ name }
+    {
+        NamePredicate {
+            inner,
+            item: PhantomData,
+            name,
+        }
+    }
+}
+
 impl<M: fmt::Display, Item, N: AsStaticStr> fmt::Display for NamePredicate<M, Item, N> {
     ghost output = { λ p. Some (N.bytes p.name) };
 
@@ -131,10 +145,6 @@ pub trait PredicateNameExt<Item>: Predicate<Item> {
 
 impl<P: Predicate<Item>, Item> PredicateNameExt<Item> for P {
     fn name<N: AsStaticStr>(self, name: N) -> NamePredicate<Self, Item, N> {
-        NamePredicate {
-            inner: self,
-            item: PhantomData,
-            name,
-        }
+        NamePredicate::new(self, name)
     }
 }

@@ -1,4 +1,4 @@
-pub mod Field
+pub mod Part
 pub mod Optional
 pub mod Members
 pub mod Length

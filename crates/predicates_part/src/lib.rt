@@ -14,24 +14,24 @@
 #![tactic(auto)]
 
 ghost use Rattle.std.specs.Prelude.{◌≡◌, option_copied};
-ghost use Rattle.predicates_part.specs.Field.{HasOnePart, owned, borrowed};
-ghost use Rattle.predicates_part.specs.Field.{inner_of, function_of, name_of};
+ghost use Rattle.predicates_part.specs.Part.{HasOnePart, owned, borrowed};
+ghost use Rattle.predicates_part.specs.Part.{inner_of, function_of, name_of};
 ghost use Rattle.predicates_part.specs.Length as Length;
 ghost use Rattle.predicates_part.specs.Members as Members;
 ghost use Rattle.predicates_part.specs.Optional as Optional;
 
-mod field;
 mod length;
 mod members;
+mod part;
 pub mod semantics;
 mod variant;
 
-pub use field::{ByField, ByOption, ByReference, ByValue, Field, FieldPredicate};
 pub use length::{Length, LengthPredicate};
 pub use members::{AnyPredicate, EachPredicate, MembersPredicate};
+pub use part::{ByField, ByOption, ByReference, ByValue, Field, FieldPredicate, PartPredicate};
+use predicates_boolean::name::NamePredicate;
 use predicates_core::Predicate;
 use predicates_core::as_static_str::AsStaticStr;
-use std::marker::PhantomData;
 pub use variant::{
     ErrPredicate, ErrVariant, OkPredicate, OkVariant, SomePredicate, SomeVariant, Variant,
     VariantPredicate,
@@ -218,12 +218,7 @@ impl<P: Predicate<U>, U> PredicatePartExt<U> for P {
         name: N,
         function: F,
     ) -> FieldPredicate<Self, F, T, U, N, ByValue> {
-        FieldPredicate {
-            inner: self,
-            function,
-            name,
-            types: PhantomData,
-        }
+        NamePredicate::new(PartPredicate::new(self, function), name)
     }
 
     fn of_ref<F: Fn(&T) -> &U, T, N: AsStaticStr>(
@@ -231,12 +226,7 @@ impl<P: Predicate<U>, U> PredicatePartExt<U> for P {
         name: N,
         function: F,
     ) -> FieldPredicate<Self, F, T, U, N, ByReference> {
-        FieldPredicate {
-            inner: self,
-            function,
-            name,
-            types: PhantomData,
-        }
+        NamePredicate::new(PartPredicate::new(self, function), name)
     }
 
     fn of_some_ref<F: Fn(&T) -> Option<&U>, T, N: AsStaticStr>(
@@ -244,12 +234,7 @@ impl<P: Predicate<U>, U> PredicatePartExt<U> for P {
         name: N,
         function: F,
     ) -> FieldPredicate<Self, F, T, U, N, ByOption> {
-        FieldPredicate {
-            inner: self,
-            function,
-            name,
-            types: PhantomData,
-        }
+        NamePredicate::new(PartPredicate::new(self, function), name)
     }
 
     fn of_field<F: Field<T, U>, T, N: AsStaticStr>(
@@ -257,12 +242,7 @@ impl<P: Predicate<U>, U> PredicatePartExt<U> for P {
         name: N,
         field: F,
     ) -> FieldPredicate<Self, F, T, U, N, ByField> {
-        FieldPredicate {
-            inner: self,
-            function: field,
-            name,
-            types: PhantomData,
-        }
+        NamePredicate::new(PartPredicate::new(self, field), name)
     }
 
     fn of_some(self) -> SomePredicate<Self> {

@@ -4,7 +4,9 @@ use Rattle.std.specs.Fn.{Shared, FnReturnsAt}
 use Rattle.std.proofs.Common.{subst}
 use denote.Ref.{Bor}
 use Rattle.predicates_core.specs.Formula.{Formula}
-use Rattle.predicates_part.specs.declared.field.FieldPredicate.{FieldPredicate}
+use Rattle.predicates_boolean.specs.Name as Name
+use Rattle.predicates_boolean.specs.declared.name.NamePredicate.{NamePredicate}
+use Rattle.predicates_part.specs.declared.part.PartPredicate.{PartPredicate}
 
 -- the part that a function gives by value, and the one behind a reference that it gives
 abbrev pub owned : {U : Type 0} → U → U
@@ -39,12 +41,20 @@ module _ {F T R U : Type 0} {calls : Shared F (Bor T × Unit {0}) R} {read : R �
   one_of_part {f} {g} one unique h k = unique (read k.given) f g
       (subst (λ u. has u f) (one item h.given k.given h.returns k.returns) h.of_part) k.of_part
 
+module _ {P F U Access : Type 0} where
+  abbrev pub part_inner_of : PartPredicate P F U Access → P
+  part_inner_of p = p.inner
+
+  abbrev pub part_function_of : PartPredicate P F U Access → F
+  part_function_of p = p.function
+
+-- of the part under its name
 module _ {P F T U N Access : Type 0} where
-  abbrev pub inner_of : FieldPredicate P F T U N Access → P
-  inner_of p = p.inner
+  abbrev pub inner_of : NamePredicate (PartPredicate P F U Access) T N → P
+  inner_of p = part_inner_of (Name.inner_of p)
 
-  abbrev pub function_of : FieldPredicate P F T U N Access → F
-  function_of p = p.function
+  abbrev pub function_of : NamePredicate (PartPredicate P F U Access) T N → F
+  function_of p = part_function_of (Name.inner_of p)
 
-  abbrev pub name_of : FieldPredicate P F T U N Access → N
-  name_of p = p.name
+  abbrev pub name_of : NamePredicate (PartPredicate P F U Access) T N → N
+  name_of p = Name.name_of p
