@@ -22,9 +22,10 @@
 //! Of any item: `always`, `never`; `eq`, `ne`, `lt`, `le`, `ge`, `gt`; `in_iter`, `in_hash` and
 //! `InPredicate::sort`; `function` over a function or a closure.
 //!
-//! Over other predicates: `and`, `or`, `xor`, `not`, and `name`; `all_of` and `any_of` over a list of
-//! them. Of parts of an item: `of`, `of_ref`, `of_some_ref` and `of_field`; `of_some`, `of_ok` and
-//! `of_err` of what an `Option` or a `Result` holds; `of_each`, `of_any` and `of_len` of a list.
+//! Over other predicates: `and`, `or`, `xor`, `not`, and `name`; `all_of` and `any_of` over a list
+//! of them. Of parts of an item: `of`, `of_ref`, `of_some_ref` and `of_field`; `of_some`, `of_ok`
+//! and `of_err` of what an `Option` or a `Result` holds; `of_each`, `of_any` and `of_len` of a
+//! list.
 //!
 //! Of texts: `str::is_empty`, `str::starts_with`, `str::ends_with`, `str::contains` and its
 //! `count`, `str::is_match` and its `count`; `trim` and `normalize` over a predicate of texts, and
@@ -38,9 +39,9 @@
 //!
 //! # Checking
 //!
-//! `check::require` makes an error of a predicate that does not hold, `check::failures` says which of
-//! many rules do not, `check::sift` keeps the items of which one holds, and `check::check_all` says
-//! which of many expectations are not met. Each gives the case that explains why.
+//! `check::require` makes an error of a predicate that does not hold, `check::failures` says which
+//! of many rules do not, `check::sift` keeps the items of which one holds, and `check::check_all`
+//! says which of many expectations are not met. Each gives the case that explains why.
 //!
 //! # Memory
 //!

@@ -47,7 +47,8 @@ pub fn as_text_predicate<P: Predicate<String> + ReadsContent<String> + Drop>(
         ≡ P.children_of predicate.now }
 {}
 
-/// The formula of the predicate in the box, with its root text left open where the kept text differs.
+/// The formula of the predicate in the box, with its root text left open where the kept text
+/// differs.
 pub fn boxed_predicate(boxed: &BoxPredicate, item: &String)
     ensures formula { (f : Formula)
         → ⟦<BoxPredicate as Predicate<String>>⟧.formula boxed.now item.now f

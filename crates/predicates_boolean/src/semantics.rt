@@ -55,8 +55,8 @@ pub fn join<O: JoinOperator, A: Predicate<Item>, B: Predicate<Item>, Item>(
         (B.parameters_of (right_of both.now)) (B.children_of (right_of both.now)) }
 {}
 
-/// Its formulas are a join over a formula of each rule, in order, under the name `rule`; without rules
-/// it is one leaf.
+/// Its formulas are a join over a formula of each rule, in order, under the name `rule`; without
+/// rules it is one leaf.
 pub fn rules<Q: Quantifier, P: Predicate<Item>, Item>(rules: &RulesPredicate<Q, P>, item: &Item)
     ensures formula { (f : Formula)
         → ⟦<RulesPredicate<Q, P> as Predicate<Item>>⟧.formula rules.now item.now f

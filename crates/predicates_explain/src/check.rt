@@ -84,8 +84,8 @@ impl TextCheck {
         (check, is_same)
     }
 
-    // Its verdict on the text without the white space at its ends. Like the next one it is not inlined,
-    // so that `eval` of other checks has a small frame.
+    // Its verdict on the text without the white space at its ends. Like the next one it is not
+    // inlined, so that `eval` of other checks has a small frame.
     #[inline(never)]
     #[cycle(eval)]
     fn trimmed_holds(&self, alloc: Global, item: &String) -> Result<bool, AllocError>

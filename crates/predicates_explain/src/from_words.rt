@@ -57,7 +57,8 @@ fn take_depth(depths: &mut Vec<usize>, word: &Word) -> Option<usize>
     }
 }
 
-// Applies the word with the token, and keeps the depths of the checks; or says what is wrong with it.
+// Applies the word with the token, and keeps the depths of the checks; or says what is wrong with
+// it.
 pub(crate) fn take_word(
     alloc: Global,
     checks: &mut Vec<TextCheck>,
@@ -105,8 +106,9 @@ fn take_words(alloc: Global, words: &[String]) -> Result<Vec<TextCheck>, WordsEr
 }
 
 impl TextCheck {
-    /// The one check that the words leave, applied in order as by `apply_word`. It is no deeper than
-    /// `MAX_DEPTH`: what evaluates, explains or prints a check takes stack for each level of it.
+    /// The one check that the words leave, applied in order as by `apply_word`. It is no deeper
+    /// than `MAX_DEPTH`: what evaluates, explains or prints a check takes stack for each level of
+    /// it.
     ///
     /// An error names the first wrong word. It takes memory for the check, a depth for each check
     /// that waits for a word, and a copy of the wrong word.

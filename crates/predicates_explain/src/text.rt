@@ -78,9 +78,9 @@ impl<P: Predicate<String>> AnswerLine for Texts<'_, P> {
 /// and says whether every line was UTF-8.
 ///
 /// Lines end by a line feed; a carriage return before it stays. The label is `line K`, with K from
-/// 1, and a line that is no text is answered by `line K: not UTF-8`. It takes memory for the longest
-/// line and the longest block, which is kept between lines, and what the predicate takes. After a
-/// fault nothing is said of how much was written.
+/// 1, and a line that is no text is answered by `line K: not UTF-8`. It takes memory for the
+/// longest line and the longest block, which is kept between lines, and what the predicate takes.
+/// After a fault nothing is said of how much was written.
 pub fn run_text<P: Predicate<String>, R: BufRead, W: Write>(
     alloc: Global,
     predicate: &P,

@@ -197,9 +197,9 @@ pub trait PredicatePartExt<U>: Predicate<U> {
         Self: Sized,
         ensures inner { Members.inner_of result ≡ self };
 
-    /// The predicate of a list or a text that holds where this one, a predicate of `usize`, holds of
-    /// its length: the number of members, or of bytes. It prints `len`, and takes no memory of its
-    /// own.
+    /// The predicate of a list or a text that holds where this one, a predicate of `usize`, holds
+    /// of its length: the number of members, or of bytes. It prints `len`, and takes no memory of
+    /// its own.
     ///
     /// ```
     /// let short = predicate::le(2).of_len();

@@ -51,8 +51,8 @@ pub struct PartPredicate<P, F, U, Access> {
     types: PhantomData<(U, Access)>,
 }
 
-/// A predicate of a part, under the part's name. Made by `of`, `of_ref`, `of_some_ref` and `of_field`
-/// of `PredicatePartExt`.
+/// A predicate of a part, under the part's name. Made by `of`, `of_ref`, `of_some_ref` and
+/// `of_field` of `PredicatePartExt`.
 pub type FieldPredicate<P, F, T, U, N = &'static str, Access = ByValue> = NamePredicate<
     PartPredicate<P, F, U, Access>,
     T,

@@ -40,8 +40,8 @@ pub fn ask<P: Predicate<Item>, Item>(
     })
 }
 
-/// The verdict, where its case has that result and there is none for the opposite; all else is asked
-/// as well.
+/// The verdict, where its case has that result and there is none for the opposite; all else is
+/// asked as well.
 pub fn verdict<P: Predicate<Item>, Item>(
     alloc: Global,
     predicate: &P,

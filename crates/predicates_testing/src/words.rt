@@ -1,5 +1,5 @@
-//! Predicates over numbers, and over lists of them, as postfix words: operands first, the left one of
-//! two first.
+//! Predicates over numbers, and over lists of them, as postfix words: operands first, the left one
+//! of two first.
 use crate::escapes::unescape;
 use predicates_core::static_text::StaticText;
 use std::alloc::{AllocError, Global};

@@ -10,8 +10,8 @@ use predicates::reflection::Case;
 use std::alloc::{AllocError, Global};
 
 /// Whether the second file has the content of the first. It is refused where the first has no
-/// content, with the fault that stands in its place. It takes no memory, since the test is infallible;
-/// the allocator is there because `eval` is handed one, whether or not it takes any.
+/// content, with the fault that stands in its place. It takes no memory, since the test is
+/// infallible; the allocator is there because `eval` is handed one, whether or not it takes any.
 #[tactic(auto, using(predicates_core::proofs::Leaves::own_truth))]
 pub fn is_copy(alloc: Global, original: Snapshot, copy: &Snapshot) -> Result<bool, PathFault>
     ensures { MatchResult (content_of original)

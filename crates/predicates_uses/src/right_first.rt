@@ -18,9 +18,10 @@ use predicates::{Predicate, Total};
 use std::alloc::{AllocError, Global};
 use std::fmt;
 
-/// Either part holds. The right one is evaluated first, and is shown where the left one does not hold.
-// No contract speaks of the order in which parts are evaluated: the answer is the same in each. What
-// is shown is pinned, and the first reason needs the left part's answer.
+/// Either part holds. The right one is evaluated first, and is shown where the left one does not
+/// hold.
+// No contract speaks of the order in which parts are evaluated: the answer is the same in each.
+// What is shown is pinned, and the first reason needs the left part's answer.
 #[derive(Debug, Clone, Copy, PartialEq, Eq, Drop)]
 pub struct RightFirst<P, Q> {
     left: P,

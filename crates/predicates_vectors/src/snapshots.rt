@@ -88,8 +88,8 @@ fn leaf_truth(predicate: &str, parts: &str) -> Option<bool> {
     })
 }
 
-// The formula of the words: one leaf, or over a content that formula of the content, or a false leaf
-// where a fault stands in its place.
+// The formula of the words: one leaf, or over a content that formula of the content, or a false
+// leaf where a fault stands in its place.
 fn formula(alloc: Global, predicate: &str, parts: &str) -> Result<ReferenceFormula> {
     let Some(words) = predicate.strip_suffix(" from_file_path") else {
         let truth = leaf_truth(predicate, parts).context("an unknown predicate")?;

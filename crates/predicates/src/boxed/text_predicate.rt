@@ -51,8 +51,8 @@ pub trait TextPredicate: Drop {
         ensures { IfOk result
             (IsAnswer (IsExactly (text_formula self.now (string_bytes item.now))) expected) };
 
-    /// As `text_find_case`, for a predicate that was evaluated before: the case of the wanted verdict,
-    /// or of whichever it is where none is wanted.
+    /// As `text_find_case`, for a predicate that was evaluated before: the case of the wanted
+    /// verdict, or of whichever it is where none is wanted.
     fn text_explain(
         &self,
         alloc: Global,

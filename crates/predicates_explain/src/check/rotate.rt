@@ -15,7 +15,8 @@ fn rotate(first: &mut Box<TextCheck>, second: &mut Box<TextCheck>, third: &mut B
     mem::swap(first, third);
 }
 
-// Where the left part has parts, swaps its first one with the right part, and says that it had some.
+// Where the left part has parts, swaps its first one with the right part, and says that it had
+// some.
 pub(crate) fn rotate_left(left: &mut TextCheck, right: &mut Box<TextCheck>) -> bool
     ensures rotated { result ≡ true
         → 2 * weight right.new.value + weight left.new < 2 * weight left.old + weight

@@ -74,8 +74,9 @@ fn try_run<E: Env + Input + Print + AllocGlobal, M: Write>(
 }
 
 /// Runs the program on the words, the streams and the memory of a process, and answers the
-/// process's status: 0 where every line was an item, 1 where some was not, 2 for wrong words, refused
-/// patterns and checks nested too deep, 3 where memory runs out and for faults of the streams.
+/// process's status: 0 where every line was an item, 1 where some was not, 2 for wrong words,
+/// refused patterns and checks nested too deep, 3 where memory runs out and for faults of the
+/// streams.
 pub fn run_program<E: Env + Input + Print + Eprint + AllocGlobal>(rt: &E) -> u8 {
     let mut messages = Stderr { rt };
     let end = match try_run(rt, &mut messages) {

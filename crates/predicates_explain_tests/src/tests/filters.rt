@@ -5,7 +5,8 @@ use predicates_testing::text;
 use std::alloc::{AllocError, Global};
 use std::test::Fail;
 
-// Whether the lines of the input that contain `#`, or those that do not, are these, with the counts.
+// Whether the lines of the input that contain `#`, or those that do not, are these, with the
+// counts.
 fn keeps(
     alloc: Global,
     wanted: bool,

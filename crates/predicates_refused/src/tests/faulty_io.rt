@@ -1,5 +1,5 @@
-//! The two worked runs and a filter, byte by byte: with a fault at each byte that is read or written,
-//! and cut short.
+//! The two worked runs and a filter, byte by byte: with a fault at each byte that is read or
+//! written, and cut short.
 use super::runs::{NUMBERS, SEVEN};
 use super::words::check_of;
 use predicates_explain::{RunFault, TextCheck, filter_lines, run_between, run_text};
@@ -101,7 +101,8 @@ fn answered(lines: &[(usize, usize)], read: usize) -> usize {
     written
 }
 
-// Whether the run over a prefix of the input, whose end is a fault, answers that after this many bytes.
+// Whether the run over a prefix of the input, whose end is a fault, answers that after this many
+// bytes.
 fn fails_behind(
     alloc: Global,
     run: Run<'_>,

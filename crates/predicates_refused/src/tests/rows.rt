@@ -11,8 +11,8 @@ use std::alloc::{AllocError, Global};
 use std::process::Abort;
 use std::test::Fail;
 
-// A row has the words, the item, what `eval`, `find_case` of the verdict and that of the opposite do
-// with memory, and the lines of the case, of the parameters and of the children.
+// A row has the words, the item, what `eval`, `find_case` of the verdict and that of the opposite
+// do with memory, and the lines of the case, of the parameters and of the children.
 
 // Over numbers.
 const NUMBERS: [&str; 20] = [

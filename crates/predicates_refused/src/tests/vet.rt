@@ -44,8 +44,8 @@ impl Call for Reading<'_> {
     }
 }
 
-// A name, rules, how they are told, and what reading them does with memory: a library under it may do
-// without a request.
+// A name, rules, how they are told, and what reading them does with memory: a library under it may
+// do without a request.
 const RULES: [(&str, &[u8], &str, Memory); 4] = [
     (
         "read_checks of joins and ranges",
@@ -137,8 +137,8 @@ const ROW: &[u8] = b"a: /x == 1 or /x == 2\nb: each /l (/ < 3)";
 
 const RECORDS: &[u8] = b"{\"x\": 3, \"l\": [1, 4]}\n{\"x\": 1, \"l\": []}\n[1";
 
-// A name, rules, a report on records, the path of their labels, the records, what is written with the messages
-// behind it, and what the run does with memory.
+// A name, rules, a report on records, the path of their labels, the records, what is written with
+// the messages behind it, and what the run does with memory.
 const RUNS: [(&str, &[u8], Report, Option<&str>, &[u8], &str, Memory); 8] = [
     (
         "run_records: the first rule and a message",

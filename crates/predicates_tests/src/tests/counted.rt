@@ -48,8 +48,8 @@ fn a_hashed_set_hashes_its_members(rt: HostRuntime) -> Result<(), Fail> {
     Ok(())
 }
 
-// Whether the list finds the item or not, in this many comparisons at most; both by its search, which
-// counts them as well, and by `eval`.
+// Whether the list finds the item or not, in this many comparisons at most; both by its search,
+// which counts them as well, and by `eval`.
 fn is_found(
     alloc: Global,
     sorted: &OrdInPredicate<CountingMember<'_>>,

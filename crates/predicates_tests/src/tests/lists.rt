@@ -82,7 +82,8 @@ fn explains_lists(alloc: Global, lists: [&[u32]; 2], lines: &str) -> Result<bool
     )
 }
 
-// Whether lists of which each member is to have a property in each member are explained by the lines.
+// Whether lists of which each member is to have a property in each member are explained by the
+// lines.
 fn explains_each_of_each(alloc: Global, lines: &str) -> Result<bool, AllocError> {
     let mut list = Vec::new(alloc);
     for members in [[1, 2], [3, 0]] {

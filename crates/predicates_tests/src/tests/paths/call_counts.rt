@@ -105,14 +105,16 @@ const KINDS: [(ErrorKind, PathFault); 5] = [
     (ErrorKind::Uncategorized, Other),
 ];
 
-// What `symlink_metadata`, `metadata` and `open_file` answer; the last opens what stands at the path.
+// What `symlink_metadata`, `metadata` and `open_file` answer; the last opens what stands at the
+// path.
 type Calls = (
     Result<(), ErrorKind>,
     Result<(), ErrorKind>,
     Result<&'static str, ErrorKind>,
 );
 
-// Whether the snapshot at `p` has these parts where the calls answer so, and how often each is made.
+// Whether the snapshot at `p` has these parts where the calls answer so, and how often each is
+// made.
 fn takes(rt: &HostRuntime, calls: Calls, parts: Parts<'_>) -> Result<(bool, [u8; 3]), AllocError> {
     let (plain, followed, opened) = calls;
     let files = OneFile {

@@ -9,8 +9,8 @@ use std::test::Fail;
 
 const LENGTHS: [u32; 4] = [0, 1, 300, 70_000];
 
-// Whether a leaf that prints the label, which comes in three parts, has the verdict, and a case that
-// shows the item.
+// Whether a leaf that prints the label, which comes in three parts, has the verdict, and a case
+// that shows the item.
 fn explains_leaf<P: Predicate<String>>(
     alloc: Global,
     leaf: &P,
@@ -26,7 +26,8 @@ fn explains_leaf<P: Predicate<String>>(
     Ok(is_described(alloc, leaf, label.as_str())? && explains(alloc, leaf, item, lines.as_str())?)
 }
 
-// Whether a count that prints the label finds the first of the numbers, where it expects the second.
+// Whether a count that prints the label finds the first of the numbers, where it expects the
+// second.
 fn explains_count<P: Predicate<String>>(
     alloc: Global,
     counted: &P,
