@@ -77,7 +77,7 @@ const TEXTS: [Row; 4] = [
 ];
 
 #[test]
-fn texts(rt: HostRuntime) -> Result<(), Fail> {
+fn strings(rt: HostRuntime) -> Result<(), Fail> {
     let alloc = rt.alloc();
     let named = predicate::str::starts_with(text(alloc, "A")?).of_string();
     for row in TEXTS {

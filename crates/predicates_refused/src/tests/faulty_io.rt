@@ -143,7 +143,7 @@ fn reads<R: Abort + AllocGlobal>(
 }
 
 #[test]
-fn numbers(rt: HostRuntime) -> Result<(), Fail> {
+fn a_run_over_numbers(rt: HostRuntime) -> Result<(), Fail> {
     let run = Run {
         check: None,
         wanted: None,
@@ -156,7 +156,7 @@ fn numbers(rt: HostRuntime) -> Result<(), Fail> {
 }
 
 #[test]
-fn texts(rt: HostRuntime) -> Result<(), Fail> {
+fn a_run_over_texts(rt: HostRuntime) -> Result<(), Fail> {
     let check = check_of(rt.alloc(), &["empty", "trim", "contains=a", "or"])?;
     let run = Run {
         check: Some(&check),
@@ -170,7 +170,7 @@ fn texts(rt: HostRuntime) -> Result<(), Fail> {
 
 // Of three lines, the last without its line feed, the first and the last hold an `a`.
 #[test]
-fn filters(rt: HostRuntime) -> Result<(), Fail> {
+fn a_filter(rt: HostRuntime) -> Result<(), Fail> {
     let check = check_of(rt.alloc(), &["contains=a"])?;
     let run = Run {
         check: Some(&check),
@@ -213,7 +213,7 @@ fn writes_whole<'a>(alloc: Global, input: &'a [u8], whole: &'a [u8]) -> bool {
 }
 
 #[test]
-fn prefixes(rt: HostRuntime) -> Result<(), Fail> {
+fn runs_over_each_prefix(rt: HostRuntime) -> Result<(), Fail> {
     for (input, first, second) in PREFIXES {
         assert!(rt; writes_both(rt.alloc(), input, first, second)?, "{input:?}");
     }

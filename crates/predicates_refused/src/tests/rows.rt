@@ -171,7 +171,7 @@ type Texts = TextLevel<TextLevel<TextLeaf>>;
 type Bytes = Utf8Predicate<Texts>;
 
 #[test]
-fn numbers(rt: HostRuntime) -> Result<(), Fail> {
+fn calls_of_predicates_of_numbers(rt: HostRuntime) -> Result<(), Fail> {
     let alloc = rt.alloc();
     for row in NUMBERS {
         let parts = read_row(alloc, row)?;
@@ -183,7 +183,7 @@ fn numbers(rt: HostRuntime) -> Result<(), Fail> {
 }
 
 #[test]
-fn texts(rt: HostRuntime) -> Result<(), Fail> {
+fn calls_of_predicates_of_texts(rt: HostRuntime) -> Result<(), Fail> {
     let alloc = rt.alloc();
     for row in TEXTS {
         let parts = read_row(alloc, row)?;
@@ -194,7 +194,7 @@ fn texts(rt: HostRuntime) -> Result<(), Fail> {
 }
 
 #[test]
-fn bytes(rt: HostRuntime) -> Result<(), Fail> {
+fn calls_of_predicates_of_bytes(rt: HostRuntime) -> Result<(), Fail> {
     let alloc = rt.alloc();
     for (item, row) in BYTES {
         let parts = read_row(alloc, row)?;
@@ -216,7 +216,7 @@ fn sweep_check<R: Abort + AllocGlobal + Print>(rt: &R, parts: &Parts) -> Result<
 }
 
 #[test]
-fn checks(rt: HostRuntime) -> Result<(), Fail> {
+fn calls_of_checks_of_words(rt: HostRuntime) -> Result<(), Fail> {
     for row in CHECKS {
         sweep_check(&rt, &read_row(rt.alloc(), row)?)?;
     }

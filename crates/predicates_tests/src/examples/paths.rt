@@ -80,7 +80,7 @@ fn contents(rt: HostRuntime) -> Result<(), Fail> {
 }
 
 #[test]
-fn texts(rt: HostRuntime) -> Result<(), Fail> {
+fn contents_as_text(rt: HostRuntime) -> Result<(), Fail> {
     let alloc = rt.alloc();
     let file = file(alloc)?;
 
