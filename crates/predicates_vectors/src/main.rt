@@ -33,7 +33,8 @@ fn replay_worked(rt: &HostRuntime) -> Result<bool> {
     let texts = replay(rt, "worked_texts", &Worked { items: Texts })?;
     let bytes = replay(rt, "worked_bytes", &Worked { items: Bytes })?;
     let paths = replay(rt, "worked_paths", &Worked { items: Paths })?;
-    Ok(numbers && lists && texts && bytes && paths)
+    let runs = replay(rt, "worked_runs", &Runs)?;
+    Ok(numbers && lists && texts && bytes && paths && runs)
 }
 
 // Whether each table of recorded answers about numbers has rows, and all are right.

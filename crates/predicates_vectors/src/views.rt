@@ -9,7 +9,7 @@ use predicates::ord::eq;
 use predicates::str::count::count;
 use predicates::str::{PredicateStrExt, contains, ends_with, lines_even, starts_with, trimmed};
 use predicates_testing::{characters, greatest_choice};
-use std::alloc::{AllocError, Global};
+use std::alloc::Global;
 
 // The text of which a cell holds the bytes as hexadecimal digits.
 fn text_of_digits(alloc: Global, cell: &str) -> Result<String> {
@@ -97,12 +97,13 @@ impl Table for TrimmedTexts {
             bail!("not two cells");
         };
         let alloc = outcome.alloc;
-        let item = text_of_digits(alloc, item)?;
-        let found = digits(alloc, trimmed(alloc, item.as_str())?)?;
-        outcome.compare("trimmed_hex", expected, found.as_str())?;
-        let is_equal = eq(text_of_digits(alloc, expected)?)
-            .trim()
-            .eval(alloc, &item)?;
+        let (item, expected) = (
+            text_of_digits(alloc, item)?,
+            text_of_digits(alloc, expected)?,
+        );
+        let found = trimmed(alloc, item.as_str())?;
+        outcome.compare_text("trimmed", expected.as_str(), found.as_str())?;
+        let is_equal = eq(expected).trim().eval(alloc, &item)?;
         outcome.compare_truth("equal behind trim", "true", is_equal)
     }
 }
@@ -116,11 +117,13 @@ impl Table for EvenTexts {
             bail!("not two cells");
         };
         let alloc = outcome.alloc;
-        let item = text_of_digits(alloc, item)?;
-        let found = digits(alloc, lines_even(alloc, item.as_str())?)?;
-        outcome.compare("even_hex", expected, found.as_str())?;
-        let even = eq(text_of_digits(alloc, expected)?).normalize();
-        let is_equal = even.eval(alloc, &item)?;
+        let (item, expected) = (
+            text_of_digits(alloc, item)?,
+            text_of_digits(alloc, expected)?,
+        );
+        let found = lines_even(alloc, item.as_str())?;
+        outcome.compare_text("even", expected.as_str(), found.as_str())?;
+        let is_equal = eq(expected).normalize().eval(alloc, &item)?;
         outcome.compare_truth("equal behind normalize", "true", is_equal)
     }
 }
@@ -155,12 +158,4 @@ impl Table for DebugForms {
             .context("another comparison")?;
         outcome.compare("debug", expected, found)
     }
-}
-
-// The bytes of a text as hexadecimal digits, which is a point where there are none.
-fn digits(alloc: Global, text: String) -> Result<String, AllocError> {
-    if text.is_empty() {
-        return String::from_str(alloc, ".");
-    }
-    hex::encode(alloc, text.as_bytes())
 }

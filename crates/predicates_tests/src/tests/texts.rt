@@ -1,7 +1,4 @@
 //! What `predicates_text` gives.
-mod counts_of_short_texts;
 mod derives;
 mod patterns;
 mod places;
-mod sizes;
-mod white_space;

@@ -65,35 +65,6 @@ fn is_seven(alloc: Global, zeros: usize, end: &str) -> Result<bool, Fail> {
     Ok(written.as_slice() == SEVEN.as_bytes())
 }
 
-// Words, and what stands before a line of letters `b`.
-const LONG: [(&[u8], &str); 3] = [
-    (
-        b"text|contains=a",
-        "line 1: false\nvar.contains(a) = false\n  - var: ",
-    ),
-    (
-        b"text|contains=b|normalize|trim",
-        "line 1: true\nvar.contains(b) = true\n  - var: ",
-    ),
-    (
-        b"text|match=b$",
-        "line 1: true\nvar.is_match(b$) = true\n  - var: ",
-    ),
-];
-
-#[test]
-fn long_lines(rt: HostRuntime) -> Result<(), Fail> {
-    for size in [256usize, 300, 70_000] {
-        assert!(rt; is_seven(rt.alloc(), size, "7")?, "at {size}");
-        let line = repeat(rt.alloc(), "b", size)?;
-        for (words, begin) in LONG {
-            let holds = echoes(rt.alloc(), words, &line, begin, "\n")?;
-            assert!(rt; holds, "at {size}, {words:?}");
-        }
-    }
-    Ok(())
-}
-
 // Lines of 0 to 300 bytes, so that what is written for them has each length as well.
 #[test]
 fn lines_of_each_length(rt: HostRuntime) -> Result<(), Fail> {
@@ -104,69 +75,6 @@ fn lines_of_each_length(rt: HostRuntime) -> Result<(), Fail> {
         let holds = echoes(rt.alloc(), b"text|contains=a", &input, begin, "")?;
         assert!(rt; holds, "at {size}");
         assert!(rt; is_seven(rt.alloc(), size, "7\r\n")?, "at {size}");
-    }
-    Ok(())
-}
-
-// Whether the program writes this of a line that is no item.
-fn is_bad(alloc: Global, line: &[u8], input: &[u8], expected: &str) -> Result<bool, Fail> {
-    let words = split_words(alloc, line)?;
-    let mut reader = input;
-    let mut written = Vec::new(alloc);
-    let mut messages = Vec::new(alloc);
-    let (end, _) = run_command_line(alloc, &words, &mut reader, &mut written, &mut messages);
-    Ok(end.status() == 1 && written.as_slice() == expected.as_bytes())
-}
-
-const BAD: [(&[u8], &str); 2] = [
-    (b"text|empty", "line 1: not UTF-8\n"),
-    (b"between|5|10", "line 1: not a number\n"),
-];
-
-// Lines that are no items.
-#[test]
-fn long_bad_lines(rt: HostRuntime) -> Result<(), Fail> {
-    for size in [1usize, 255, 256, 300, 70_000] {
-        let mut input = Vec::new(rt.alloc());
-        input.resize(size, 0xff)?;
-        for (line, expected) in BAD {
-            let holds = is_bad(rt.alloc(), line, &input, expected)?;
-            assert!(rt; holds, "at {size}, {line:?}");
-        }
-    }
-    Ok(())
-}
-
-// Whether the operand is true of itself, and false of itself with a line end for its last byte.
-fn is_of_itself(alloc: Global, name: &[u8], size: usize) -> Result<bool, Fail> {
-    let mut operand = repeat(alloc, "b", size)?;
-    let mut line = Vec::new(alloc);
-    line.extend_from_slice(name)?;
-    line.extend_from_slice(&operand)?;
-    let same = answer(alloc, &line, &operand)?;
-    operand.pop();
-    operand.push(b'\n')?;
-    let other = answer(alloc, &line, &operand)?;
-    Ok(same.starts_with(b"line 1: true\nvar") && other.starts_with(b"line 1: false\nvar"))
-}
-
-// Words that take a text, and the longest that is tried.
-const NAMES: [(&[u8], usize); 5] = [
-    (b"text|eq=", 70_000),
-    (b"text|starts=", 70_000),
-    (b"text|ends=", 70_000),
-    (b"text|contains=", 70_000),
-    (b"text|match=", 300),
-];
-
-// Each word that takes a text, with texts of any length, and both verdicts.
-#[test]
-fn operands_of_any_length(rt: HostRuntime) -> Result<(), Fail> {
-    for (name, most) in NAMES {
-        for size in [1usize, 255, 256, 300, 70_000] {
-            let holds = size > most || is_of_itself(rt.alloc(), name, size)?;
-            assert!(rt; holds, "at {size}, {name:?}");
-        }
     }
     Ok(())
 }
@@ -189,41 +97,5 @@ fn labels_of_any_length(rt: HostRuntime) -> Result<(), Fail> {
     for size in [0usize, 1, 255, 256, 300, 70_000] {
         assert!(rt; is_labelled(rt.alloc(), size)?, "at {size}");
     }
-    Ok(())
-}
-
-const NOTHING: [(&[u8], &str); 5] = [
-    (
-        b"text|match=",
-        "line 1: true\nvar.is_match() = true\n  - var: a\n",
-    ),
-    (
-        b"text|eq=",
-        "line 1: false\nvar == \"\" = false\n  - var: \"a\"\n",
-    ),
-    (
-        b"text|starts=",
-        "line 1: true\nvar.starts_with(\"\") = true\n  - var: a\n",
-    ),
-    (
-        b"text|ends=",
-        "line 1: true\nvar.ends_with(\"\") = true\n  - var: a\n",
-    ),
-    (
-        b"text|contains=",
-        "line 1: true\nvar.contains() = true\n  - var: a\n",
-    ),
-];
-
-// Texts and labels of no characters.
-#[test]
-fn operands_and_labels_of_no_characters(rt: HostRuntime) -> Result<(), Fail> {
-    for (words, expected) in NOTHING {
-        let written = answer(rt.alloc(), words, b"a")?;
-        let holds = written.as_slice() == expected.as_bytes();
-        assert!(rt; holds, "at {words:?}");
-    }
-    let block = explain_one(rt.alloc(), &ge(5), "", &7)?;
-    assert_eq!(rt; block.as_str(), ": true\nvar >= 5 = true\n  - var: 7\n");
     Ok(())
 }

@@ -1,6 +1,6 @@
 //! What patterns match, how often, and which are invalid.
 use predicates_core::Predicate;
-use predicates_testing::{describe, render_verdict, repeated, text};
+use predicates_testing::{describe, explains, render_verdict, repeated, text};
 use predicates_text::{RegexMatchesPredicate, RegexPredicate, is_match};
 use std::alloc::Global;
 use std::test::Fail;
@@ -109,6 +109,32 @@ const MATCHES: [(&str, &str, usize); 10] = [
 fn numbers_of_matches(rt: HostRuntime) -> Result<(), Fail> {
     for (of, item, count) in MATCHES {
         assert!(rt; is_counted(rt.alloc(), of, item, count)?, "{of} in {item}");
+    }
+    Ok(())
+}
+
+// Whether the cases of the pattern and of its count show the text, in which it stands this often.
+fn explains_matches(alloc: Global, of: &str, item: &String, count: u32) -> Result<bool, Fail> {
+    let found = pattern(alloc, of)?;
+    let holds = count != 0;
+    let lines = format!(in alloc; "var.is_match({of}) = {holds}\n  - var: {item}\n")?;
+    let counted = count_of(alloc, of, 7)?;
+    let shown = format!(in alloc; "  - var: {item}\n  - actual count: {count}\n")?;
+    let counted_lines = format!(in alloc; "var.is_match({of}) = false\n{shown}")?;
+    Ok(
+        explains(alloc, &found, item, lines.as_str())?
+            && explains(alloc, &counted, item, counted_lines.as_str())?,
+    )
+}
+
+#[test]
+fn patterns_and_texts_of_any_length(rt: HostRuntime) -> Result<(), Fail> {
+    let alloc = rt.alloc();
+    for length in [0, 1, 300, 70_000] {
+        let item = repeated(alloc, "a", length, "")?;
+        assert!(rt; explains_matches(alloc, "b", &item, 0)?, "{length}");
+        assert!(rt; explains_matches(alloc, "a", &item, length)?, "{length}");
+        assert!(rt; explains_matches(alloc, &item, &item, 1)?, "{length}");
     }
     Ok(())
 }
