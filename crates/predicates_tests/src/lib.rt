@@ -4,4 +4,6 @@
 #[cfg(test)]
 mod examples;
 #[cfg(test)]
+mod guests;
+#[cfg(test)]
 mod tests;

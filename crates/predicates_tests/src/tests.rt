@@ -1,4 +1,3 @@
-mod asked_twice;
 mod boxes;
 mod case_children;
 mod cases;
@@ -6,6 +5,7 @@ mod check;
 mod counted;
 mod counting_member;
 mod derives;
+mod evaluations;
 mod flags;
 mod functions;
 mod functions_of_fields;

@@ -1,40 +1,7 @@
-ghost use Rattle.std.specs.Prelude.{◌≡◌, option_copied};
-
-use predicates::part::Field;
+use crate::guests::{Age, Guest, name_of, seat_of};
 use predicates::prelude::*;
 use std::alloc::{AllocError, Global};
 use std::test::Fail;
-
-// A guest with a name, an age and a seat, if there is one.
-#[derive(Drop)]
-struct Guest {
-    name: String,
-    age: u32,
-    seat: Option<u32>,
-}
-
-fn name_of(guest: &Guest) -> &String
-    ensures { result.now ≡ guest.now.name }
-{
-    &guest.name
-}
-
-fn seat_of(guest: &Guest) -> Option<&u32>
-    ensures { option_copied result ≡ guest.now.seat }
-{
-    guest.seat.as_ref()
-}
-
-#[derive(Drop)]
-struct Age;
-
-impl Field<Guest, u32> for Age {
-    ghost part_of = { λ field guest. guest.age };
-
-    fn get<'a>(&self, guest: &'a Guest) -> &'a u32 {
-        &guest.age
-    }
-}
 
 // A guest of 36 in the seat 7, and one of 17 without a seat.
 fn guests(alloc: Global) -> Result<(Guest, Guest), AllocError> {

@@ -1,5 +1,6 @@
 ghost use Rattle.std.specs.Prelude.{◌≡◌};
 
+use crate::guests::{Age, Guest, name_of};
 use predicates::Total;
 use predicates::part::Field;
 use predicates::prelude::*;
@@ -7,35 +8,10 @@ use predicates_testing::{explains, is_described};
 use std::alloc::{AllocError, Global};
 use std::test::Fail;
 
-// A guest with a name, an age and a seat, if there is one.
-#[derive(Drop)]
-struct Guest {
-    name: String,
-    age: u32,
-    seat: Option<u32>,
-}
-
-fn name_of(guest: &Guest) -> &String
-    ensures { result.now ≡ guest.now.name }
-{
-    &guest.name
-}
-
 fn seat_of(guest: &Guest) -> &Option<u32>
     ensures { result.now ≡ guest.now.seat }
 {
     &guest.seat
-}
-
-#[derive(Drop)]
-struct Age;
-
-impl Field<Guest, u32> for Age {
-    ghost part_of = { λ field guest. guest.age };
-
-    fn get<'a>(&self, guest: &'a Guest) -> &'a u32 {
-        &guest.age
-    }
 }
 
 #[derive(Drop)]

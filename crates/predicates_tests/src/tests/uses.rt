@@ -1,6 +1,5 @@
 //! Of `predicates_uses`, what no clause says: that the calls answer with ample memory, and how
 //! cases print.
-mod call_counts;
 mod callers;
 mod orders;
 mod own;
