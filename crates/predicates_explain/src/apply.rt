@@ -6,8 +6,8 @@ ghost use Rattle.predicates_explain.specs.Applied.{operand_count, IsMade, IsAppl
 use crate::check::TextCheck;
 use crate::word::Word;
 use crate::word_fault::WordFault;
-use predicates::ord::eq;
-use predicates::str::{contains, ends_with, is_empty, is_match, starts_with};
+use predicates_item::ord::eq;
+use predicates_text::{contains, ends_with, is_empty, is_match, starts_with};
 use std::alloc::Global;
 
 // The last check, taken off.

@@ -2,8 +2,8 @@
 ghost use Rattle.std.specs.Prelude.{IfOk, OnOk, string_bytes};
 ghost use Rattle.predicates_explain.specs.Blocks.{HasBlocks, IsBlock};
 
-use predicates::reflection::render_onto;
-use predicates::{Predicate, Total};
+use predicates_core::reflection::render_onto;
+use predicates_core::{Predicate, Total};
 use std::alloc::{AllocError, Global};
 
 // Makes the label that the text holds into its block.

@@ -14,14 +14,14 @@ ghost use Rattle.predicates_explain.specs.Weight.{weight, IsLeafCheck};
 mod explain;
 mod rotate;
 
-use predicates::custom::Operator;
-use predicates::ord::EqPredicate;
-use predicates::reflection::{Case, Child, Parameter, PredicateReflection};
-use predicates::str::{
+use predicates_core::custom::Operator;
+use predicates_core::reflection::{Case, Child, Parameter, PredicateReflection};
+use predicates_core::{Predicate, ReadsContent, Total};
+use predicates_item::ord::EqPredicate;
+use predicates_text::{
     ContainsPredicate, EndsWithPredicate, IsEmptyPredicate, RegexPredicate, StartsWithPredicate,
     lines_even_view, trimmed_view,
 };
-use predicates::{Predicate, ReadsContent, Total};
 use rotate::rotate_left;
 use std::alloc::{AllocError, Global};
 use std::fmt;

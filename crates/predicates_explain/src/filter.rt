@@ -5,7 +5,7 @@ ghost use Rattle.predicates_explain.specs.Filtered.{is_wanted, IsVerdict, HasFil
 
 use crate::run::drop_last;
 use crate::text::set_item;
-use predicates::Predicate;
+use predicates_core::Predicate;
 use predicates_lines::{RunFault, flush, next_line, write_bytes};
 use std::alloc::{AllocError, Global};
 use std::io::{BufRead, Write};

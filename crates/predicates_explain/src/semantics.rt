@@ -10,10 +10,10 @@ ghost use Rattle.predicates_core.specs.Tree.{empty};
 ghost use Rattle.predicates_explain.specs.Meaning.{MeansByParts, IsLikeParts};
 
 use crate::check::TextCheck;
-use predicates::Predicate;
-use predicates::ord::EqPredicate;
-use predicates::reflection::PredicateReflection;
-use predicates::str::{
+use predicates_core::Predicate;
+use predicates_core::reflection::PredicateReflection;
+use predicates_item::ord::EqPredicate;
+use predicates_text::{
     ContainsPredicate, EndsWithPredicate, IsEmptyPredicate, RegexPredicate, StartsWithPredicate,
 };
 use std::fmt::Display;

@@ -6,7 +6,7 @@ ghost use Rattle.predicates_explain.specs.Runs.{HasRun};
 
 use crate::block::complete_block;
 use crate::run::{AnswerLine, run_lines};
-use predicates::Predicate;
+use predicates_core::Predicate;
 use predicates_lines::RunFault;
 use std::alloc::{AllocError, Global};
 use std::fmt::Write as _;

@@ -6,10 +6,10 @@ ghost use Rattle.predicates_core.specs.Shows.{IsFound};
 ghost use Rattle.predicates_explain.specs.Checks.{check_text, HasFormula};
 
 use crate::check::TextCheck;
-use predicates::Predicate;
-use predicates::custom::{Operator, is_other, kept_if, opposite_of, shown_verdict};
-use predicates::node::{binary_node_of, printed, unary_node};
-use predicates::reflection::Case;
+use predicates_core::Predicate;
+use predicates_core::custom::{Operator, is_other, kept_if, opposite_of, shown_verdict};
+use predicates_core::node::{binary_node_of, printed, unary_node};
+use predicates_core::reflection::Case;
 use std::alloc::{AllocError, Global};
 
 impl TextCheck {
