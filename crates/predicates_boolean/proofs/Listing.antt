@@ -1,4 +1,5 @@
--- What is written of a list of parts, one more at a time, and that a list without parts has no descriptions.
+-- What is written of a list of parts, one more at a time, and that a list without parts has no
+-- descriptions.
 use Rattle.std.proofs.Common.{◌≡◌, ℕ, ◌+◌, ◌<◌, List, [], ◌∷◌, ◌++◌, Option, Some, None, codes, map, length, take, get_or, Ok, refl, sym, ap, ◌∙◌, subst, append_assoc, append-nil}
 use Rattle.std.proofs.lemmas.List.{take_more, map-append}
 use Rattle.std.specs.declared.fmt.Formatter.{Formatter}

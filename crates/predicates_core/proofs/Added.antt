@@ -1,4 +1,5 @@
--- One product more at the root: the truth and the first reason stay, and the case has the product too.
+-- One product more at the root: the truth and the first reason stay, and the case has the product
+-- too.
 use Rattle.std.proofs.Common.{◌≡◌, refl, sym, ap, ◌∙◌, ℕ, Bool, List, [], ◌∷◌, ◌++◌, Option, Some, None}
 use Rattle.predicates_core.specs.Label.{Label, Entry, Product, Fits, FitsEntry, FitsProducts}
 use Rattle.predicates_core.specs.Formula.{Formula, Leaf, Join, Not, Named, text_of, truth, value, actual, HasTruth, with_product}

@@ -95,7 +95,8 @@ module _ {op : Bool → Bool → Bool} {f l r : Formula} (j : Joins op f l r) (b
         rw p.joined goal;
   }
 
--- where the left part alone decides the whole, as it is; where the right part is free to be `free`, and then the left part counts; and where it is not, the whole is decided
+-- where the left part alone decides the whole, as it is; where the right part is free to be `free`,
+-- and then the left part counts; and where it is not, the whole is decided
 pub record LeftDecides (op : Bool → Bool → Bool) (a b : Bool) : Type 0 where
   pub decides : (y : Bool) → op a y ≡ op a b
   pub free : Bool

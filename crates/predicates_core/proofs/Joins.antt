@@ -1,4 +1,5 @@
--- Formulas that join two parts: their leaves, their values and their reasons are made of the parts'.
+-- Formulas that join two parts: their leaves, their values and their reasons are made of the
+-- parts'.
 use Rattle.std.proofs.Common.{◌≡◌, ℕ, ◌+◌, List, [], ◌∷◌, ◌++◌, Bool, length, take, drop, refl, ap, sym, subst, ◌∙◌, arith, length-append, length-drop}
 use Rattle.std.proofs.lemmas.List.{take-append-drop, length-take-le, take_at, drop_at}
 use Rattle.predicates_core.specs.Label.{Label}

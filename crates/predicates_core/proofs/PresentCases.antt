@@ -1,4 +1,5 @@
--- Verdicts and cases of a predicate of a value that may be absent, from those of the inner predicate.
+-- Verdicts and cases of a predicate of a value that may be absent, from those of the inner
+-- predicate.
 use Rattle.std.proofs.Common.{◌≡◌, ℕ, List, refl, sym, Bool, true, false, Option, Some, None, Result, IfOk}
 use Rattle.predicates_core.specs.Label.{Entry}
 use Rattle.predicates_core.specs.Formula.{Formula, HasTruth}

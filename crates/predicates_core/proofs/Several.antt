@@ -1,4 +1,5 @@
--- The truth of a node over several formulas, and the cases that explain it, from those of its members.
+-- The truth of a node over several formulas, and the cases that explain it, from those of its
+-- members.
 use Rattle.std.proofs.Common.{◌≡◌, ◌≢◌, ℕ, zero, suc, ◌+◌, Bool, true, false, Option, List, [], ◌∷◌, ◌++◌, Some, None, codes, map, length, take, drop, set, get_or, ◌<◌, ◌≤◌, refl, sym, ap, ◌∙◌, subst, arith}
 use Rattle.std.specs.Prelude.{not, Result, Ok, Err, IfOk}
 use Rattle.std.specs.List.{AllByRecursion, AllZip}

@@ -49,8 +49,8 @@ unfoldable mutual
 abbrev pub IsValuation : Formula → List Bool → Type 0
 IsValuation f w = length w ≡ size f
 
--- the formula's truth where its leaves have the truths of w: the first part takes the first of them,
--- and the other parts the rest
+-- the formula's truth where its leaves have the truths of w: the first part takes the first of
+-- them, and the other parts the rest
 unfoldable mutual
   pub value : Formula → List Bool → Bool
   value (Leaf label truth) w = slice_index_or w 0 false

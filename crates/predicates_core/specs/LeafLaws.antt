@@ -1,4 +1,5 @@
--- Laws of leaves that ghost members of implementations cite: what is printed fits, and there is one formula.
+-- Laws of leaves that ghost members of implementations cite: what is printed fits, and there is one
+-- formula.
 use Rattle.std.proofs.Common.{◌≡◌, ℕ, Bool, List, Option, None, Some, refl, sym, ◌∙◌, subst}
 use Rattle.predicates_core.specs.Label.{Label, FitsEntry}
 use Rattle.predicates_core.specs.Formula.{Formula, Leaf, text_of}

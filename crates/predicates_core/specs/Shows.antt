@@ -62,8 +62,8 @@ pub record IsCaseOf (F : Formula → Type 0) (b : Bool) (t : Tree CaseNode) : Ty
 abbrev pub IsAnswer : (Formula → Type 0) → Bool → Option (Tree CaseNode) → Type 0
 IsAnswer F expected found = MatchOption found (HasTruth F (not expected)) (IsCaseOf F expected)
 
--- what is to be answered where a truth is wanted, or the case of whichever the formulas have; none is
--- found then only where there is no formula
+-- what is to be answered where a truth is wanted, or the case of whichever the formulas have; none
+-- is found then only where there is no formula
 abbrev pub IsFound : (Formula → Type 0) → Option Bool → Option (Tree CaseNode) → Type 0
 IsFound F (Some wanted) found = IsAnswer F wanted found
 IsFound F None (Some t) = IsCaseOf F t.root.result t

@@ -1,8 +1,9 @@
 //! What custom predicates are made of: `leaf` over a test of an item, and the verdicts and cases of
 //! leaves and of combinators whose formula is that of a combinator of the library.
 //!
-//! The `find_case` of the library's combinators evaluates once before it asks the parts to `explain`
-//! the verdict. So each leaf is evaluated at most twice, however deep the combinators are nested.
+//! The `find_case` of the library's combinators evaluates once before it asks the parts to
+//! `explain` the verdict. So each leaf is evaluated at most twice, however deep the combinators are
+//! nested.
 mod children;
 mod join;
 mod leaf_cases;

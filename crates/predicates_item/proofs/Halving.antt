@@ -60,7 +60,8 @@ chosen x y e is = is ∙ ap (λ d. cond d x y) e
 pub digits-le : (n : ℕ) → n < 2 ^ 64 → digits n ≤ 64
 digits-le n h = length-digits_of-le 2 64 n (omega arith) h
 
--- What some comparisons have told: `left` members from `base` on are still to be searched, and some member is equal where one of them is, or where one was found, which ends at `found`.
+-- What some comparisons have told: `left` members from `base` on are still to be searched, and some
+-- member is equal where one of them is, or where one was found, which ends at `found`.
 pub record IsLeft {T : Type 0} (eq : T → T → Bool) (item : T) (all : List T) (taken base left found : ℕ) : Type 0 where
   pub within : base + left ≤ length all
   pub same : has_equal eq all item ≡ (nat_lt 0 found || has_equal eq (take left (drop base all)) item)

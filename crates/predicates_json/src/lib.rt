@@ -116,8 +116,8 @@ pub trait PredicateJsonExt: Sized {
         ensures kind { (v : JsonValue) → ⟦<Map<String, Value> as JsonKind>⟧.held_by v ≡ held_object v };
 
     /// The same of a JSON number, read as an `i64`, a `u64` or an `f64`. A number that the type
-    /// cannot represent is of another kind: for the first two a float, even `5.0`, or one that is out
-    /// of range.
+    /// cannot represent is of another kind: for the first two a float, even `5.0`, or one that is
+    /// out of range.
     ///
     /// ```
     /// let adult = predicate::ge(18i64).of_number();

@@ -27,8 +27,8 @@ use std::fmt;
 /// The text of a JSON Pointer (RFC 6901), as `/a/0/b`: a `&'static str`, a `StaticText`, or a
 /// `String` that was read at run time.
 ///
-/// The empty text leads to the whole value, and each `/` one step down, to the item at a place of an
-/// array or to the member of a name. In a name `~1` stands for `/` and `~0` for `~`; another `~`
+/// The empty text leads to the whole value, and each `/` one step down, to the item at a place of
+/// an array or to the member of a name. In a name `~1` stands for `/` and `~0` for `~`; another `~`
 /// stands for itself. A text that is not empty and begins without `/` leads nowhere.
 pub trait JsonPointer {
     // The bytes of the text.
@@ -202,8 +202,8 @@ impl<P: Total<Value>, N: JsonPointer> Total<Value> for PointerPredicate<P, N> {
         (at_pointer (N.bytes (pointer_of p)) v) (P.has_formula (inner_of p))) };
 }
 
-/// Whether the text is a JSON Pointer: empty, or begun with `/`, and with a `0` or a `1` behind each
-/// `~`. `of_pointer` takes any text, so one that was read at run time is tested by this first.
+/// Whether the text is a JSON Pointer: empty, or begun with `/`, and with a `0` or a `1` behind
+/// each `~`. `of_pointer` takes any text, so one that was read at run time is tested by this first.
 ///
 /// ```
 /// assert!(rt; is_pointer("/age"));

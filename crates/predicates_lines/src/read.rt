@@ -7,13 +7,13 @@ ghost use Rattle.predicates_lines.specs.declared.run_fault.RunFault.TheVariants.
 use crate::run_fault::{RunFault, classify_error};
 use std::io::BufRead;
 
-/// Takes the next line of the input, with its line feed, in place of what `line` held. The answer is
-/// `false` at the end of the input.
+/// Takes the next line of the input, with its line feed, in place of what `line` held. The answer
+/// is `false` at the end of the input.
 ///
-/// The last line has no line feed where the input ends without one. Beside what the reader takes, it
-/// takes memory where the line is longer than `line` has room for. It fails where a read fails or
-/// memory is refused; then `line` holds what was taken of the line, and the next call goes on behind
-/// that.
+/// The last line has no line feed where the input ends without one. Beside what the reader takes,
+/// it takes memory where the line is longer than `line` has room for. It fails where a read fails
+/// or memory is refused; then `line` holds what was taken of the line, and the next call goes on
+/// behind that.
 pub fn next_line<R: BufRead>(input: &mut R, line: &mut Vec<u8>) -> Result<bool, RunFault>
     ensures more { result ≡ Ok true → ForSome (R.remaining input.old) (λ bytes. (left : List ℕ)
         × (R.remaining input.new ≡ Some left)

@@ -8,8 +8,8 @@ use std::io::Write;
 
 /// Writes the bytes behind what the output holds.
 ///
-/// It takes no memory but what the writer takes. It fails where a write fails or takes nothing; then a
-/// front of the bytes may have been written.
+/// It takes no memory but what the writer takes. It fails where a write fails or takes nothing;
+/// then a front of the bytes may have been written.
 pub fn write_bytes<W: Write>(output: &mut W, bytes: &[u8]) -> Result<(), RunFault>
     ensures written { OnOk result (Appends (W.contents output.old) (W.contents output.new)
         bytes.now) }

@@ -61,7 +61,7 @@ pub type FieldPredicate<P, F, T, U, N = &'static str, Access = ByValue> = NamePr
 
 impl<P, F, U, Access> PartPredicate<P, F, U, Access> {
     /// The predicate of the part that the function gives.
-    pub fn new(inner: P, function: F) -> PartPredicate<P, F, U, Access>
+    pub(crate) fn new(inner: P, function: F) -> PartPredicate<P, F, U, Access>
         ensures inner { part_inner_of result ≡ inner }
         ensures function { part_function_of result ≡ function }
     {
@@ -115,6 +115,7 @@ impl<P: Predicate<U>, F: Fn(&T) -> U, T, U: Drop> Predicate<T> for PartPredicate
         self.inner.eval(alloc, &part)
     }
 
+    #[inline(always)] // a call would copy the case
     #[tactic(auto, using(crate::proofs::Parts::parts))]
     fn find_case(
         &self,
@@ -126,6 +127,7 @@ impl<P: Predicate<U>, F: Fn(&T) -> U, T, U: Drop> Predicate<T> for PartPredicate
         self.inner.find_case(alloc, expected, &part)
     }
 
+    #[inline(always)] // a call would copy the case
     fn explain(
         &self,
         alloc: Global,
@@ -155,6 +157,7 @@ impl<P: Predicate<U>, F: Fn(&T) -> &U, T, U> Predicate<T> for PartPredicate<P, F
         self.inner.eval(alloc, (self.function)(item))
     }
 
+    #[inline(always)] // a call would copy the case
     #[tactic(auto, using(crate::proofs::Parts::parts))]
     fn find_case(
         &self,
@@ -166,6 +169,7 @@ impl<P: Predicate<U>, F: Fn(&T) -> &U, T, U> Predicate<T> for PartPredicate<P, F
         self.inner.find_case(alloc, expected, part)
     }
 
+    #[inline(always)] // a call would copy the case
     fn explain(
         &self,
         alloc: Global,
@@ -202,6 +206,7 @@ impl<P: Predicate<U>, F: Fn(&T) -> Option<&U>, T, U> Predicate<T>
         }
     }
 
+    #[inline(always)] // a call would copy the case
     fn find_case(
         &self,
         alloc: Global,
@@ -215,6 +220,7 @@ impl<P: Predicate<U>, F: Fn(&T) -> Option<&U>, T, U> Predicate<T>
         }
     }
 
+    #[inline(always)] // a call would copy the case
     fn explain(
         &self,
         alloc: Global,
@@ -246,6 +252,7 @@ impl<P: Predicate<U>, F: Field<T, U>, T, U> Predicate<T> for PartPredicate<P, F,
         self.inner.eval(alloc, self.function.get(item))
     }
 
+    #[inline(always)] // a call would copy the case
     fn find_case(
         &self,
         alloc: Global,
@@ -256,6 +263,7 @@ impl<P: Predicate<U>, F: Field<T, U>, T, U> Predicate<T> for PartPredicate<P, F,
         self.inner.find_case(alloc, expected, part)
     }
 
+    #[inline(always)] // a call would copy the case
     fn explain(
         &self,
         alloc: Global,

@@ -31,8 +31,8 @@ abbrev pub IsFaultOf : Error → Result PathFault AllocError → Type 0
 IsFaultOf error result = MatchResult result (λ fault. fault_of (error_kind error) ≡ Some fault)
     (λ _. fault_of (error_kind error) ≡ None)
 
--- what the system answered is kept as the relation says, and its error as a fault, unless memory ran
--- out
+-- what the system answered is kept as the relation says, and its error as a fault, unless memory
+-- ran out
 abbrev pub IsKeptAs : {T F : Type 0} → (T → F → Type 0) → Result T Error
     → Result (Result F PathFault) AllocError → Type 0
 IsKeptAs IsFound (Ok answer) result = IsOkAnd result (λ found. IsOkAnd found (IsFound answer))

@@ -29,8 +29,8 @@ pub struct FileTypePredicate {
     follow: bool,
 }
 
-/// Holds where a regular file is at the path itself, without following links, and not where the kind
-/// is a fault. It takes no memory.
+/// Holds where a regular file is at the path itself, without following links, and not where the
+/// kind is a fault. It takes no memory.
 ///
 /// ```
 /// assert!(rt; predicate::path::is_file().eval(alloc, &file)?);

@@ -46,8 +46,8 @@ pub fn existence(test: &ExistencePredicate, item: &Snapshot)
     ensures parts { ⟦<ExistencePredicate as PredicateReflection>⟧.children_of test.now ≡ empty }
 {}
 
-/// A leaf that shows the kind that was found, or its fault, true where it is the kind that is tested
-/// for. It always answers, and its parameter is whether links are followed.
+/// A leaf that shows the kind that was found, or its fault, true where it is the kind that is
+/// tested for. It always answers, and its parameter is whether links are followed.
 pub fn file_type(test: &FileTypePredicate, item: &Snapshot)
     ensures formula { (f : Formula)
         → ⟦<FileTypePredicate as Predicate<Snapshot>>⟧.formula test.now item.now f
@@ -100,8 +100,8 @@ pub fn file_text(test: &StrFilePredicate)
     ensures parts { ⟦<StrFilePredicate as PredicateReflection>⟧.children_of test.now ≡ empty }
 {}
 
-/// Its formulas are those of its part on the content, with the path as the last product; where there
-/// is no content, it is one false leaf that shows the fault. The part is its one child.
+/// Its formulas are those of its part on the content, with the path as the last product; where
+/// there is no content, it is one false leaf that shows the fault. The part is its one child.
 pub fn file_content<P: Predicate<Vec<u8>>>(content: &FileContentPredicate<P>, item: &Snapshot)
     ensures formula { (f : Formula)
         → ⟦<FileContentPredicate<P> as Predicate<Snapshot>>⟧.formula content.now item.now f

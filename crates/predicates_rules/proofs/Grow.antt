@@ -1,4 +1,5 @@
--- More depth changes no answer but that it was too little. So each list of tokens spells one expression at most.
+-- More depth changes no answer but that it was too little. So each list of tokens spells one
+-- expression at most.
 use Rattle.std.proofs.Common.{◌≡◌, ℕ, zero, suc, ◌+◌, List, [], ◌∷◌, length, Option, Some, None, Result, Ok, Err, refl, sym, subst, ◌∙◌, ◌⊎◌, inl, inr, ◌≢◌, arith, add_comm, zero-add}
 use Rattle.std.specs.Prelude.{IfErr}
 use Rattle.predicates_rules.specs.declared.expression.Connective.{Connective}

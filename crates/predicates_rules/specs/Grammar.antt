@@ -8,7 +8,8 @@ use Rattle.predicates_rules.specs.declared.condition.Relation.{Relation}
 use Rattle.predicates_rules.specs.declared.condition.State.{State}
 use Rattle.predicates_rules.specs.Trees.{Value, Text, Sign, Join, Not, Quantify, Open, Close, OpenList, CloseList, Comma, Path, Compare, Relate, In, Is, Plain, End, Test, TheValueIs, Compares, Relates, IsAmong, Tree, At, Denied, Quantified, Joined, Trees, none, more}
 
--- How tightly an expression holds together: one joined by c or by what binds tighter, or a single one.
+-- How tightly an expression holds together: one joined by c or by what binds tighter, or a single
+-- one.
 pub data Level : Type 0 where
   By : (c : Connective) → Level
   Single : Level
@@ -19,7 +20,8 @@ tighter Or = By Xor
 tighter Xor = By And
 tighter And = Single
 
--- In each relation the first list is the tokens, and the last one what is left of them behind the phrase.
+-- In each relation the first list is the tokens, and the last one what is left of them behind the
+-- phrase.
 
 -- v , .. , v ]
 pub data Items : List Sign → List Value → List Sign → Type 0 where
@@ -40,8 +42,8 @@ pub data IsTest : List Sign → Test → List Sign → Type 0 where
   among : {ts rest : List Sign} {vs : List Value} → Items ts vs rest → IsTest (In ∷ OpenList ∷ ts) (IsAmong vs) rest
 
 mutual
-  -- An expression of a level, which nests at most n deep. What `not` denies and what stands in parentheses is
-  -- one deeper; what is joined is not.
+  -- An expression of a level, which nests at most n deep. What `not` denies and what stands in
+  -- parentheses is one deeper; what is joined is not.
   pub data Spells : ℕ → Level → List Sign → Tree → List Sign → Type 0 where
     -- PATH ..
     test : {n : ℕ} {path : List ℕ} {t : Test} {ts rest : List Sign} → IsTest ts t rest → Spells n Single (Path path ∷ ts) (At path t) rest

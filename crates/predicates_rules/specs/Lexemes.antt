@@ -111,8 +111,8 @@ is_space b = b == 32 || b == 9 || b == 13
 abbrev pub class_of : ℕ → Class
 class_of b = if is_letter b then Letter else if is_digit b || b == 45 then Digit else if is_symbol b then Symbol else if is_mark b then Mark else if b == 47 then Slash else if b == 34 then Quote else Other
 
--- Which bytes belong together. A path ends at a space, a mark, an operator and a comment; the name of a rule has
--- letters, digits, _ - . and bytes beyond ASCII.
+-- Which bytes belong together. A path ends at a space, a mark, an operator and a comment; the name
+-- of a rule has letters, digits, _ - . and bytes beyond ASCII.
 abbrev pub continues : Class → ℕ → Bool
 continues Letter b = is_letter b || is_digit b
 continues Digit b = is_letter b || is_digit b || b == 43 || b == 45 || b == 46
@@ -122,8 +122,8 @@ continues Space b = is_space b
 continues Name b = is_letter b || is_digit b || b == 45 || b == 46 || nat_le 128 b
 continues c b = false
 
--- How many bytes of a text there are up to the quote that closes it, with that quote. A backslash takes the next
--- byte with it.
+-- How many bytes of a text there are up to the quote that closes it, with that quote. A backslash
+-- takes the next byte with it.
 abbrev pub text_end : Bool → List ℕ → Option ℕ
 text_end escaped [] = None
 text_end escaped (b ∷ text) = if not escaped && b == 34 then Some 1 else option_map suc (text_end (not escaped && b == 92) text)
@@ -132,7 +132,8 @@ abbrev pub class_len : Class → List ℕ → Option ℕ
 class_len Quote text = option_map suc (text_end false text)
 class_len c text = Some (suc (prefix_len (continues c) text))
 
--- how many bytes the token at the front takes: as many as belong to it; none is known of a text that isn't closed
+-- how many bytes the token at the front takes: as many as belong to it; none is known of a text
+-- that isn't closed
 abbrev pub token_len : List ℕ → Option ℕ
 token_len [] = Some 0
 token_len (b ∷ text) = class_len (class_of b) text

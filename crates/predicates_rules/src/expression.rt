@@ -2,8 +2,8 @@
 
 use crate::condition::Condition;
 
-/// How deep a rule may nest: by parentheses, `not`, `each` and `any`. What is joined in a row is not
-/// nested, so a row may be longer.
+/// How deep a rule may nest: by parentheses, `not`, `each` and `any`. What is joined in a row is
+/// not nested, so a row may be longer.
 pub const MAX_DEPTH: u32 = 100;
 
 /// What joins expressions, the weakest first.

@@ -10,10 +10,11 @@
 //!              PATH starts_with T      and ends_with, contains, matches
 //! ```
 //!
-//! A path is a JSON pointer, and `/` alone the record. It ends at a space, a parenthesis, a bracket, a
-//! comma, an operator and a `#`. A literal L is a text as JSON writes it, a whole number from -2^63 to
-//! 2^64 - 1 with no zero in front, `true`, `false` or `null`, and T is such a text. Numbers with a
-//! fraction or an exponent are refused, as are lists and objects. Names of rules may repeat.
+//! A path is a JSON pointer, and `/` alone the record. It ends at a space, a parenthesis, a
+//! bracket, a comma, an operator and a `#`. A literal L is a text as JSON writes it, a whole number
+//! from -2^63 to 2^64 - 1 with no zero in front, `true`, `false` or `null`, and T is such a text.
+//! Numbers with a fraction or an exponent are refused, as are lists and objects. Names of rules may
+//! repeat.
 #![tactic(auto)]
 
 pub mod condition;

@@ -89,9 +89,9 @@ fn rules_of(alloc: Global, lines: &[&[u8]]) -> Result<Vec<Rule>, RulesError>
 /// Reads the rules of a file, one on a line: `NAME: EXPRESSION`.
 ///
 /// `#` begins a comment, blank lines are skipped, tabs and carriage returns count as spaces. A name
-/// has letters, digits, `_`, `-`, `.` and any characters beyond ASCII, and may stand on more than one
-/// line. What nests deeper than 100 is refused as `TooDeep`. Takes memory for the lines, the tokens
-/// of a line and the rules.
+/// has letters, digits, `_`, `-`, `.` and any characters beyond ASCII, and may stand on more than
+/// one line. What nests deeper than 100 is refused as `TooDeep`. Takes memory for the lines, the
+/// tokens of a line and the rules.
 ///
 /// ```
 /// let rules = read_rules(alloc, b"adult: /age >= 18 and not /name is_empty")?;

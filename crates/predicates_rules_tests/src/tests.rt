@@ -197,7 +197,8 @@ fn repeated(alloc: Global, times: u32, part: &str) -> Result<String, AllocError>
     Ok(text)
 }
 
-// How a rule of one text many times ends: the number of parts that it joins, or whether it is too deep.
+// How a rule of one text many times ends: the number of parts that it joins, or whether it is too
+// deep.
 #[derive(Clone, Copy, PartialEq, Eq, Debug)]
 enum Ending {
     Joins(usize),

@@ -107,8 +107,8 @@ impl<'p> Searcher<'p> {
         }
     }
 
-    // The first occurrence of the pattern. It is mostly where the rare byte first occurs, so that is
-    // tried first.
+    // The first occurrence of the pattern. It is mostly where the rare byte first occurs, so that
+    // is tried first.
     fn find(&self, text: &[u8], pattern: &[u8]) -> Option<usize>
         requires { self.now.finder ≡ pattern.now }
         ensures { FindsNeedle text.now pattern.now 0 result }

@@ -59,7 +59,8 @@ pub record IsBlock (rules : List RuleCheck) (all : Bool) (labelled d : Data) (wr
   pub fits : IfSome (found_text labelled) (λ given. text ≡ given)
   pub is : written ≡ block text cases
 
--- what is written for the record of this number, which stands on the line; of an object of JSON nothing is said
+-- what is written for the record of this number, which stands on the line; of an object of JSON
+-- nothing is said
 abbrev pub IsReport : Report → Option (List ℕ) → List RuleCheck → ℕ → List ℕ → Data → List ℕ → Type 0
 IsReport First id rules place line d written = IsBlock rules false (label id place d) d written
 IsReport All id rules place line d written = IsBlock rules true (label id place d) d written

@@ -1,4 +1,5 @@
-//! Checks records of JSON, one on a line, against rules as text: which records break a rule, and why.
+//! Checks records of JSON, one on a line, against rules as text: which records break a rule, and
+//! why.
 #![tactic(auto)]
 
 mod job;

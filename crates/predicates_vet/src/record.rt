@@ -176,8 +176,8 @@ fn is_none(cases: &Vec<Case>) -> bool
     cases.is_empty()
 }
 
-/// Writes the block of the rules that the record breaks, of all or of the first, in place of what the
-/// text held, and says whether it keeps every rule.
+/// Writes the block of the rules that the record breaks, of all or of the first, in place of what
+/// the text held, and says whether it keeps every rule.
 pub(crate) fn write_broken<'r>(
     alloc: Global,
     job: &Job<'r>,
@@ -197,8 +197,8 @@ pub(crate) fn write_broken<'r>(
     Ok(is_none(&cases))
 }
 
-/// Writes an object of JSON for the record in place of what the text held, and says whether it keeps
-/// every rule.
+/// Writes an object of JSON for the record in place of what the text held, and says whether it
+/// keeps every rule.
 pub(crate) fn write_object<'r>(
     alloc: Global,
     job: &Job<'r>,

@@ -32,8 +32,8 @@ pub struct Counts {
 }
 
 impl Counts {
-    /// The status of a process after the run: 2 where no record stands on a line, else 1 where a record
-    /// breaks a rule, else 0.
+    /// The status of a process after the run: 2 where no record stands on a line, else 1 where a
+    /// record breaks a rule, else 0.
     pub fn status(self) -> u8
         ensures { result ≡ status_of self }
     {
@@ -46,7 +46,8 @@ impl Counts {
         }
     }
 
-    // Counts one line more: whether its record keeps every rule, or none where no record stands on it.
+    // Counts one line more: whether its record keeps every rule, or none where no record stands on
+    // it.
     fn count(self, held: Option<bool>) -> Counts
         requires records { self.records + 1 < 2 ^ 64 }
         requires failed { self.failed + 1 < 2 ^ 64 }
@@ -163,8 +164,8 @@ fn write_message<M: Write>(
     write_bytes(messages, line.as_bytes())
 }
 
-// Writes what is told of the record on the line, and says whether it keeps every rule; where no record
-// stands there, a message says so.
+// Writes what is told of the record on the line, and says whether it keeps every rule; where no
+// record stands there, a message says so.
 fn tell_line<'r, W: Write, M: Write>(
     alloc: Global,
     job: &Job<'r>,
@@ -235,13 +236,13 @@ fn tell_record<'r, W: Write>(
     }
 }
 
-/// Writes what is told of each record of the input, in order, and counts the lines. A line on which no
-/// record stands, as it is no JSON or nests more than 127 deep, is told by a message, and the run goes
-/// on.
+/// Writes what is told of each record of the input, in order, and counts the lines. A line on which
+/// no record stands, as it is no JSON or nests more than 127 deep, is told by a message, and the
+/// run goes on.
 ///
 /// It takes memory for the longest line, for the record on it, for what is written of it and for a
-/// matcher of each pattern of the rules, and no more however long the input is. After a fault nothing
-/// is said of how much was written.
+/// matcher of each pattern of the rules, and no more however long the input is. After a fault
+/// nothing is said of how much was written.
 pub fn run_records<R: BufRead, W: Write, M: Write>(
     alloc: Global,
     rules: &[RuleCheck],

@@ -1,4 +1,5 @@
--- The truth of a row of which an odd number holds, and the case that explains it, from those of its parts.
+-- The truth of a row of which an odd number holds, and the case that explains it, from those of its
+-- parts.
 use Rattle.std.proofs.Common.{◌≡◌, ◌≢◌, ℕ, suc, ◌+◌, ◌<◌, Bool, true, false, List, [], ◌∷◌, ◌++◌, Some, map, length, take, get_or, refl, sym, ap, ◌∙◌, subst, arith}
 use Rattle.std.specs.Prelude.{not, ◌==◌}
 use Rattle.std.proofs.lemmas.Bool.Decides.{nat_tests}

@@ -23,8 +23,8 @@ use serde_json::Value;
 use std::alloc::{AllocError, Global};
 use std::fmt;
 
-/// A check of a JSON value, with a variant for each form of a rule's expression. It has no parameters
-/// and no children, and what is over a path or over parts has its printed text with it.
+/// A check of a JSON value, with a variant for each form of a rule's expression. It has no
+/// parameters and no children, and what is over a path or over parts has its printed text with it.
 #[derive(Drop)]
 pub enum Check {
     /// A test of the value at a path.
@@ -33,8 +33,8 @@ pub enum Check {
     Not(String, Box<Check>),
     /// As many parts hold as the connective wants. A row without parts holds under `And` alone.
     Joined(String, Connective, Vec<Check>),
-    /// The check holds of each item of the array at the path, or of one. What is no array is a false
-    /// leaf that says so.
+    /// The check holds of each item of the array at the path, or of one. What is no array is a
+    /// false leaf that says so.
     Quantified(String, Quantifier, String, Box<Check>),
 }
 

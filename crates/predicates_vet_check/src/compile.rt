@@ -261,8 +261,8 @@ fn text_of_range(
     format!(in alloc; "{word}{shown} ({inner})")
 }
 
-/// The check of a rule's expression. It takes memory for the check and its texts, and is refused where
-/// a pattern is.
+/// The check of a rule's expression. It takes memory for the check and its texts, and is refused
+/// where a pattern is.
 #[cycle(compile)]
 pub fn check_of(alloc: Global, expression: Expression) -> Result<Check, CheckError>
     ensures { IfOk result (λ check. IsPlan (tree_of expression) (plan_of check)) }

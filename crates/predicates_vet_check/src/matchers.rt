@@ -8,8 +8,8 @@ use crate::kept_matcher::KeptMatcher;
 use crate::pattern::Pattern;
 use std::alloc::{AllocError, Global};
 
-/// The matchers of a run: one for each pattern that it has asked about so far. Patterns of one source
-/// share theirs.
+/// The matchers of a run: one for each pattern that it has asked about so far. Patterns of one
+/// source share theirs.
 #[derive(Drop)]
 pub struct Matchers<'r> {
     kept: Vec<KeptMatcher<'r>>,
@@ -41,8 +41,8 @@ impl<'r> Matchers<'r> {
         self.first_match(alloc, pattern, text)
     }
 
-    // The same of a pattern that is new, whose matcher is kept. A matcher is large, so it is made in a
-    // frame of its own.
+    // The same of a pattern that is new, whose matcher is kept. A matcher is large, so it is made
+    // in a frame of its own.
     #[inline(never)]
     fn first_match(
         &mut self,

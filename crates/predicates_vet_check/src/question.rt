@@ -117,8 +117,8 @@ fn emptiness(value: &Value) -> Option<bool>
 }
 
 impl Question {
-    // Whether the value answers it, or none where the value is of a kind that can't. It takes memory for
-    // a regular expression alone.
+    // Whether the value answers it, or none where the value is of a kind that can't. It takes
+    // memory for a regular expression alone.
     pub(crate) fn verdict<'r>(
         &'r self,
         alloc: Global,

@@ -17,8 +17,8 @@ use serde_json::Value;
 use std::alloc::{AllocError, Global};
 use std::fmt;
 
-/// A rule of a file: what it is called, and the check that it makes. It prints its name, and the check
-/// stands under `rule`.
+/// A rule of a file: what it is called, and the check that it makes. It prints its name, and the
+/// check stands under `rule`.
 #[derive(Drop)]
 pub struct RuleCheck {
     pub name: String,

@@ -1,5 +1,5 @@
-//! Tests of what no clause of `predicates_vet` says: texts that are printed, messages, and that calls
-//! succeed.
+//! Tests of what no clause of `predicates_vet` says: texts that are printed, messages, and that
+//! calls succeed.
 #![tactic(auto)]
 
 #[cfg(test)]

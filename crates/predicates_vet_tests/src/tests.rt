@@ -50,7 +50,8 @@ fn writes(
     Ok(ended == Ok(counts) && output.as_slice() == expected)
 }
 
-// A rule, a record, and the lines below the label of its block, or nothing where the record keeps it.
+// A rule, a record, and the lines below the label of its block, or nothing where the record keeps
+// it.
 const BLOCKS: [(&str, &[u8], &[u8]); 16] = [
     ("a: /x == 1", b"{\"x\": 1}", b""),
     (

@@ -175,8 +175,8 @@ pub fn join_case<W: fmt::Display, P: Predicate<Item>, Q: Predicate<Item>, Item>(
     join_explained(alloc, operator, whole, left_part, right_part, wanted, item)
 }
 
-/// The `explain` of such a predicate. It asks its parts for their cases, the left one first, and the
-/// right one only if that can change the verdict.
+/// The `explain` of such a predicate. It asks its parts for their cases, the left one first, and
+/// the right one only if that can change the verdict.
 pub fn join_explained<W: fmt::Display, P: Predicate<Item>, Q: Predicate<Item>, Item>(
     alloc: Global,
     operator: Operator,

@@ -12,8 +12,8 @@ use crate::reflection::Case;
 use std::alloc::{AllocError, Global};
 use std::fmt;
 
-/// The `explain` of a leaf without products, from its verdict `holds`; its `find_case` where that is
-/// asked for `Some(expected)`. It takes memory for the case alone.
+/// The `explain` of a leaf without products, from its verdict `holds`; its `find_case` where that
+/// is asked for `Some(expected)`. It takes memory for the case alone.
 ///
 /// ```
 /// let none = bare_case(alloc, &predicate::always::<i64>(), true, Some(false))?;

@@ -11,9 +11,9 @@ use std::alloc::{AllocError, Global};
 use std::process::Abort;
 use std::test::Fail;
 
-// A row is written as those of `predicates_vectors`, with `@` between its cells: the words, the item,
-// what `eval`, `find_case` of the verdict and that of the opposite do with memory, and the lines of
-// the case, of the parameters and of the children.
+// A row is written as those of `predicates_vectors`, with `@` between its cells: the words, the
+// item, what `eval`, `find_case` of the verdict and that of the opposite do with memory, and the
+// lines of the case, of the parameters and of the children.
 
 // Over numbers.
 const NUMBERS: [&str; 20] = [

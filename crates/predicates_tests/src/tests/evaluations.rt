@@ -65,17 +65,17 @@ fn counts_of_own(alloc: Global) -> Result<[(usize, usize, usize); 3], AllocError
     let first = counts(alloc, &cell, &first)?;
     let second = Either::new(never(), true_leaf(&cell)?);
     let second = counts(alloc, &cell, &second)?;
-    let last_first = RightFirst::new(always(), true_leaf(&cell)?);
-    Ok([first, second, counts(alloc, &cell, &last_first)?])
+    let right_first = RightFirst::new(always(), true_leaf(&cell)?);
+    Ok([first, second, counts(alloc, &cell, &right_first)?])
 }
 
 #[test]
 fn the_right_part_counts_where_the_left_decides_nothing(rt: HostRuntime) -> Result<(), Fail> {
-    let [first, second, last_first] = counts_of_own(rt.alloc())?;
+    let [first, second, right_first] = counts_of_own(rt.alloc())?;
     assert_eq!(rt; first, (0, 0, 0));
     // As the library's combinators, it evaluates before it makes a case.
     assert_eq!(rt; second, (1, 2, 1));
-    assert_eq!(rt; last_first, (1, 1, 1));
+    assert_eq!(rt; right_first, (1, 1, 1));
     Ok(())
 }
 

@@ -26,8 +26,8 @@ use std::fmt;
 #[derive(Drop)]
 pub struct RegexPredicate {
     pattern: String,
-    // In a box, as it has over a thousand bytes, and a type that may hold any predicate has the size
-    // of the largest.
+    // In a box, as it has over a thousand bytes, and a type that may hold any predicate has the
+    // size of the largest.
     regex: Box<Regex>,
 }
 
@@ -37,9 +37,9 @@ fn boxed(alloc: Global, regex: Regex) -> Result<Box<Regex>, AllocError>
     Ok(Box::new(alloc, regex)?)
 }
 
-/// The predicate of the texts in which the pattern has a match anywhere. The error says why there is
-/// none: the syntax is invalid, the pattern is too large, or memory ran out; the pattern is dropped
-/// then. `eval` takes memory too, and returns an error where it gets none.
+/// The predicate of the texts in which the pattern has a match anywhere. The error says why there
+/// is none: the syntax is invalid, the pattern is too large, or memory ran out; the pattern is
+/// dropped then. `eval` takes memory too, and returns an error where it gets none.
 ///
 /// ```
 /// let word = is_match(alloc, "T[a-z]*".to_owned(alloc)?)?;
@@ -60,7 +60,8 @@ pub fn is_match(alloc: Global, pattern: String) -> Result<RegexPredicate, RegexE
 
 impl RegexPredicate {
     /// The predicate of the texts in which the pattern has `count` matches, searched from the left
-    /// and without overlap. It takes no memory; `eval` does, and returns an error where it gets none.
+    /// and without overlap. It takes no memory; `eval` does, and returns an error where it gets
+    /// none.
     ///
     /// ```
     /// let three = is_match(alloc, "T[a-z]*".to_owned(alloc)?)?.count(3);

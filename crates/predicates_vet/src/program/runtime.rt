@@ -102,10 +102,10 @@ fn try_run<E: Env + Files + Input + Print + Eprint + AllocGlobal>(rt: &E) -> io:
     }
 }
 
-/// Runs the program on the words, the files, the streams and the memory of a process, and answers its
-/// status: 0 where every record keeps every rule, 1 where one breaks a rule, and 2 for wrong words,
-/// rules that can't be read, lines that are no JSON, faults of reading and writing, and out of
-/// memory, each told in a line on standard error.
+/// Runs the program on the words, the files, the streams and the memory of a process, and answers
+/// its status: 0 where every record keeps every rule, 1 where one breaks a rule, and 2 for wrong
+/// words, rules that can't be read, lines that are no JSON, faults of reading and writing, and out
+/// of memory, each told in a line on standard error.
 pub fn run_program<E: Env + Files + Input + Print + Eprint + AllocGlobal>(rt: &E) -> u8 {
     match try_run(rt) {
         Ok(status) => status,

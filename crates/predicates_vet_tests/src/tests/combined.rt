@@ -207,7 +207,8 @@ fn broken(
     Ok((all, one))
 }
 
-// The blocks of all values, with all rules that they break, and with the first; and how many break one.
+// The blocks of all values, with all rules that they break, and with the first; and how many break
+// one.
 fn blocks(
     alloc: Global,
     first: Test<'_>,

@@ -1,4 +1,5 @@
-//! A run byte by byte: with a fault at each byte that is read, or written as an answer or a message.
+//! A run byte by byte: with a fault at each byte that is read, or written as an answer or a
+//! message.
 use predicates_fakes::{Narrow, Slow};
 use predicates_vet::settings::{Report, Settings};
 use predicates_vet::{Counts, RunFault, read_checks, run_records};
@@ -93,8 +94,8 @@ fn ran(
     Ok(Some((ended, answers, told)))
 }
 
-// Whether the run over the front of the input, with a fault behind it, answers that fault, after what
-// stands for the lines in the front.
+// Whether the run over the front of the input, with a fault behind it, answers that fault, after
+// what stands for the lines in the front.
 fn fails_reading(
     alloc: Global,
     read: usize,
@@ -110,8 +111,8 @@ fn fails_reading(
     Ok(ended == Err(fault) && answers == expected && told == messages)
 }
 
-// Whether the run over the whole input, of which this many bytes are written, answers the fault after
-// these bytes, and told no more than it tells otherwise; or where all have room, ends.
+// Whether the run over the whole input, of which this many bytes are written, answers the fault
+// after these bytes, and told no more than it tells otherwise; or where all have room, ends.
 fn fails_writing(
     alloc: Global,
     room: usize,

@@ -1,5 +1,5 @@
-//! Records that are cut at each byte, and records with a byte changed: how many lines hold no record,
-//! and that the other records are told as before.
+//! Records that are cut at each byte, and records with a byte changed: how many lines hold no
+//! record, and that the other records are told as before.
 use predicates_vet::settings::{Report, Settings};
 use predicates_vet::{Counts, read_checks, run_records};
 use std::alloc::{AllocError, Global};
@@ -58,8 +58,8 @@ fn count_of(bytes: &[u8], byte: u8) -> u64 {
     count
 }
 
-// Whether this many lines hold no record, each with its message, and the records before and after are
-// told as they are without it.
+// Whether this many lines hold no record, each with its message, and the records before and after
+// are told as they are without it.
 fn is_told(alloc: Global, middle: &[u8], unreadable: u64) -> Result<bool, AllocError> {
     let Some((output, messages, counts)) = ran(alloc, middle)? else {
         return Ok(false);

@@ -118,8 +118,8 @@ const UTF8: &str = "text in UTF-8";
 
 const CONDITION: &str = "an operator, `exists`, `missing` or `is_empty`";
 
-// A place in the short rule from 1, the byte that is put there, the column and what is expected there;
-// or 0, and what is written of `{"x": 10}`.
+// A place in the short rule from 1, the byte that is put there, the column and what is expected
+// there; or 0, and what is written of `{"x": 10}`.
 const CHANGED: [(usize, u8, usize, &str); 42] = [
     (1, b'#', 0, ""),
     (1, b' ', 2, "the name of a rule"),

@@ -1,4 +1,5 @@
-//! An input that is cut at each line: with `--id` the outputs of both pieces join to that of the whole.
+//! An input that is cut at each line: with `--id` the outputs of both pieces join to that of the
+//! whole.
 use super::combined::RECORDS;
 use predicates_vet::settings::{Report, Settings};
 use predicates_vet::{read_checks, run_records};

@@ -5,8 +5,8 @@ use std::alloc::Global;
 use std::io::ErrorKind;
 use std::test::Fail;
 
-// Words, the rules, an input and the error at its end, the output that fails, and the status, standard
-// output and standard error.
+// Words, the rules, an input and the error at its end, the output that fails, and the status,
+// standard output and standard error.
 type Row = (
     &'static [&'static [u8]],
     &'static [u8],

@@ -1,5 +1,5 @@
-//! What a rule says of a value, worked out by plain steps over values of `serde_json`: its truth, and
-//! the lines that say why.
+//! What a rule says of a value, worked out by plain steps over values of `serde_json`: its truth,
+//! and the lines that say why.
 use serde_json::Value;
 use std::alloc::{AllocError, Global};
 use std::cmp::Ordering;

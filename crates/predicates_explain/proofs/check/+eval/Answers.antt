@@ -11,7 +11,8 @@ use Rattle.predicates_explain.specs.Checks.{check_text, operator_of, HasFormula,
 use Rattle.predicates_explain.specs.Weight.{weight}
 use Rattle.predicates_explain.proofs.check.+eval.Goals as goal
 
--- a part under `not` that is wanted to be w, where its own part has the same verdict or the opposite
+-- a part under `not` that is wanted to be w, where its own part has the same verdict or the
+-- opposite
 under : (b s w : Bool) → beq (not (beq b s)) w ≡ beq b (not (beq s w))
 under true true true = refl
 under true true false = refl
