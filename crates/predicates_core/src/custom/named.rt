@@ -1,7 +1,7 @@
 //! The case of a part under a name.
-ghost use Rattle.std.specs.Prelude.{IfOk};
+ghost use Rattle.std.specs.Prelude.{[], ◌∷◌, Some, IfOk};
 ghost use Rattle.predicates_core.specs.Combined.{IsNamed};
-ghost use Rattle.predicates_core.specs.Shows.{IsAnswer, IsFound};
+ghost use Rattle.predicates_core.specs.Shows.{IsAnswer, IsFound, IsNode};
 
 use crate::Predicate;
 use crate::node::unary_node;
@@ -29,8 +29,7 @@ pub fn named_case<P: Predicate<Item>, Item>(
     let Some(part) = inner.find_case(alloc, expected, item)? else {
         return Ok(None);
     };
-    let text = String::from_str(alloc, name)?;
-    Ok(Some(unary_node(alloc, text, expected, name, part)?))
+    Ok(Some(named_node(alloc, name, expected, part)?))
 }
 
 /// The `explain` of such a predicate.
@@ -54,7 +53,21 @@ pub fn named_explained<P: Predicate<Item>, Item>(
     let Some(part) = inner.explain(alloc, wanted, item)? else {
         return Ok(None);
     };
-    let text = String::from_str(alloc, name)?;
     let outcome = part.root().result();
-    Ok(Some(unary_node(alloc, text, outcome, name, part)?))
+    Ok(Some(named_node(alloc, name, outcome, part)?))
+}
+
+// The node that prints the name, over the part. It is not inlined, so that a caller that gets no
+// case uses no stack for it.
+#[inline(never)]
+fn named_node(
+    alloc: Global,
+    name: &'static str,
+    outcome: bool,
+    part: Case,
+) -> Result<Case, AllocError>
+    ensures { IfOk result (IsNode (Some name.entry.now) outcome ((name.entry.now, part) ∷ [])) }
+{
+    let text = String::from_str(alloc, name)?;
+    unary_node(alloc, text, outcome, name, part)
 }
