@@ -1,5 +1,5 @@
 -- What is found of two parts that are asked in turn.
-use Rattle.std.proofs.Common.{◌≡◌, ℕ, Bool, true, false, List, Option, Some, None, cond, refl, sym, ap, ◌∙◌, subst}
+use Rattle.std.proofs.Common.{◌≡◌, ℕ, Bool, true, false, List, Option, Some, None, cond, refl, sym, subst}
 use Rattle.std.specs.Prelude.{not}
 use mathlib.Core.Bool.{beq}
 use Rattle.predicates_core.specs.Label.{Fits}

@@ -2,10 +2,10 @@
 use Rattle.std.proofs.Common.{◌≡◌, ℕ, Bool, true, false, List, [], ◌∷◌, Option, Some, None, codes, option_map, refl, sym, ◌∙◌, subst}
 use Rattle.std.specs.Prelude.{not}
 use Rattle.predicates_core.specs.Label.{Fits}
-use Rattle.predicates_core.specs.Formula.{Formula, Leaf, Join, Not, Named, differ, value, actual, truth, HasTruth}
+use Rattle.predicates_core.specs.Formula.{Formula, Leaf, Join, Not, Named, differ, truth, HasTruth}
 use Rattle.predicates_core.specs.Tree.{Tree}
 use Rattle.predicates_core.specs.Describe.{CaseNode}
-use Rattle.predicates_core.specs.Shows.{Shows, Explains, IsCaseOf, IsAnswer, IsFound, IsNode}
+use Rattle.predicates_core.specs.Shows.{Shows, IsCaseOf, IsAnswer, IsFound, IsNode}
 use Rattle.predicates_core.specs.Combined.{IsNot, IsNamed}
 use Rattle.predicates_core.specs.Asked.{shown_verdict, is_other}
 use Rattle.predicates_core.proofs.Values.{not-not, truth-Leaf}

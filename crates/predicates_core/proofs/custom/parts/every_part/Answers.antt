@@ -1,6 +1,5 @@
 use Rattle.std.proofs.Common.{arith, subst, take}
 use Rattle.std.proofs.lemmas.List.{take_all}
-use Rattle.predicates_core.specs.Formula.{Formula}
 use Rattle.predicates_core.proofs.Several.{member_missing, case_of_other, passes_by_cases, IsBuilt, built_none, built_more, case_of_built, wanted_other, found_decided}
 use Rattle.predicates_core.proofs.custom.parts.every_part.Goals as goal
 
