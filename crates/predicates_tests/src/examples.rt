@@ -5,5 +5,3 @@ mod comparisons;
 mod failures;
 mod lists;
 mod parts;
-mod paths;
-mod texts;

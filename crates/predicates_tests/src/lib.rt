@@ -1,4 +1,4 @@
-//! Tests of what `predicates` gives, by calls as a caller writes them, and of `predicates_uses`.
+//! Tests of what `predicates` gives, by calls as a caller writes them.
 #![tactic(auto)]
 
 #[cfg(test)]

@@ -1,5 +1,3 @@
-//! Of `predicates_uses`, what no clause says: that the calls answer with ample memory, and how
-//! cases print.
 mod callers;
 mod orders;
 mod own;

@@ -1,0 +1,3 @@
+mod paths;
+mod text_memberships;
+mod texts;
