@@ -3,6 +3,7 @@ pub mod CommandLine
 pub mod Depths
 pub mod Ending
 pub mod Filtering
+pub mod Joined
 pub mod Numerals
 pub mod PartsOfChecks
 pub mod Postfix

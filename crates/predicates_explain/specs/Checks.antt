@@ -1,6 +1,9 @@
 -- What a check of texts prints, and its formula on a text, by the word that it stands for.
-use Rattle.std.specs.Prelude.{ℕ, List}
-use Rattle.predicates_core.specs.Label.{Entry, plain}
+use Rattle.std.specs.Prelude.{ℕ, List, Bool, Option, Some, None}
+use Rattle.predicates_core.specs.Describe.{CaseNode, NamedCase}
+use Rattle.predicates_core.specs.Label.{Entry, Fits, plain}
+use Rattle.predicates_core.specs.Shows.{IsNode}
+use Rattle.predicates_core.specs.Tree.{Tree}
 use Rattle.predicates_core.specs.declared.custom.join.Operator.{Operator}
 use Rattle.predicates_core.specs.declared.custom.join.Operator.TheVariants.{And, Or, Xor}
 use Rattle.predicates_core.specs.Formula.{Formula, pair, Not}
@@ -98,3 +101,9 @@ IsInfallibleCheck (NotCheck _ inner) = IsInfallibleCheck inner
 IsInfallibleCheck (AndCheck _ left _ right) = IsInfallibleCheck left × IsInfallibleCheck right
 IsInfallibleCheck (OrCheck _ left _ right) = IsInfallibleCheck left × IsInfallibleCheck right
 IsInfallibleCheck (XorCheck _ left _ right) = IsInfallibleCheck left × IsInfallibleCheck right
+
+-- there is a case: a node over the parts, with the text of the check
+abbrev pub IsNodeOf : TextCheck → Bool → List NamedCase → Option (Tree CaseNode) → Type 0
+IsNodeOf c holds parts None = ⊥
+IsNodeOf c holds parts (Some t) = (bytes : List ℕ) × Fits (check_text c) bytes
+    × IsNode (Some bytes) holds parts t

@@ -286,35 +286,15 @@ impl Predicate<String> for TextCheck {
         }
     }
 
-    #[cycle(explain)]
     fn explain(
         &self,
         alloc: Global,
         wanted: Option<bool>,
         item: &String,
     ) -> Result<Option<Case>, AllocError> {
-        match self {
-            TextCheck::Empty(leaf) => leaf.explain(alloc, wanted, item),
-            TextCheck::Equals(leaf) => leaf.explain(alloc, wanted, item),
-            TextCheck::Starts(leaf) => leaf.explain(alloc, wanted, item),
-            TextCheck::Ends(leaf) => leaf.explain(alloc, wanted, item),
-            TextCheck::Contains(leaf) => leaf.explain(alloc, wanted, item),
-            TextCheck::Matches(leaf) => leaf.explain(alloc, wanted, item),
-            TextCheck::Trim(inner) => {
-                let mut copy = String::new(alloc);
-                inner.explain(alloc, wanted, trimmed_view(alloc, item, &mut copy)?)
-            }
-            TextCheck::Normalize(inner) => {
-                let mut copy = String::new(alloc);
-                inner.explain(alloc, wanted, lines_even_view(alloc, item, &mut copy)?)
-            }
-            TextCheck::Not(inner) => self.explain_not(alloc, inner, wanted, item),
-            TextCheck::And(left, right)
-            | TextCheck::Or(left, right)
-            | TextCheck::Xor(left, right) => {
-                self.explain_join(alloc, self.operator(), left, right, wanted, item)
-            }
-        }
+        let mut found = None;
+        self.explain_into(alloc, wanted, item, &mut found)?;
+        Ok(found)
     }
 }
 
