@@ -67,22 +67,37 @@ fn own(found: &Found<'_>) -> usize {
     1
 }
 
-fn by_hand(members: &[i64], question: Question, naming: Naming, rounds: usize) -> usize {
+fn holds<P: Predicate<i64>>(least: &P, members: &[i64]) -> bool {
+    members.iter().all(|member| least.eval(member))
+}
+
+/// The sum of the answers about all lists over all rounds.
+fn by_hand(lists: &[Vec<i64>], question: Question, naming: Naming, rounds: usize) -> usize {
     let least = predicate::ge(black_box(LEAST));
-    let verdict = members.iter().all(|member| least.eval(member));
-    let (mut lines, mut text) = (String::new(), String::new());
     let mut sum = 0;
+    if question == Question::Verdict {
+        for _ in 0..rounds {
+            for members in black_box(lists) {
+                sum += usize::from(holds(&least, members));
+            }
+        }
+        return sum;
+    }
+    let opposite = question == Question::OtherCase;
+    let expected: Vec<bool> = lists.iter().map(|members| holds(&least, members) != opposite).collect();
+    let (mut lines, mut text) = (String::new(), String::new());
     for _ in 0..rounds {
-        let members = black_box(members);
-        match question {
-            Question::Verdict => sum += usize::from(members.iter().all(|member| least.eval(member))),
-            Question::OtherCase => sum += usize::from(find(&least, members, !verdict).is_some()),
-            Question::Case => sum += find(&least, members, verdict).as_ref().map_or(0, own),
-            Question::Lines => {
-                if let Some(found) = find(&least, members, verdict) {
-                    write_found(&found, naming, &mut lines, &mut text);
+        for (members, &expected) in black_box(lists).iter().zip(&expected) {
+            let found = find(&least, members, expected);
+            match question {
+                Question::Case => sum += found.as_ref().map_or(0, own),
+                Question::Lines => {
+                    if let Some(found) = &found {
+                        write_found(found, naming, &mut lines, &mut text);
+                    }
+                    sum += black_box(&text).len();
                 }
-                sum += black_box(&text).len();
+                _ => sum += usize::from(found.is_some()),
             }
         }
     }
@@ -96,13 +111,14 @@ pub fn print(only: &str) {
             if name.contains(only) {
                 let mut members = vec![LEAST; count - 1];
                 members.push(last);
+                let lists = [members];
                 Row {
                     name,
                     target: 1.0,
                     naming: (Naming::Address, Naming::Address),
                     items: 1,
-                    port: &|question, rounds| port::each(LEAST, &members, question, rounds),
-                    original: &|question, naming, rounds| by_hand(&members, question, naming, rounds),
+                    port: &|question, rounds| port::each(LEAST, &lists[0], question, rounds),
+                    original: &|question, naming, rounds| by_hand(&lists, question, naming, rounds),
                 }
                 .print();
             }
