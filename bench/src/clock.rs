@@ -27,11 +27,10 @@ pub fn spent() -> f64 {
 /// One side of a comparison: the sum of its answers over a number of rounds.
 pub type Asked<'a> = dyn Fn(usize) -> usize + 'a;
 
-/// Medians of nanoseconds, and the median of the ratios of neighbours.
+/// The median of the port's nanoseconds, and that of the ratios of neighbours.
 #[derive(Clone, Copy)]
 pub struct Pair {
     pub port: f64,
-    pub original: f64,
     pub ratio: f64,
 }
 
@@ -91,7 +90,7 @@ pub fn beside(port: &Asked<'_>, original: &Asked<'_>, answers: usize) -> Pair {
     if let Some((of_port, of_original)) = counted() {
         eprintln!("answers: {answers}");
         black_box((port(of_port), original(of_original)));
-        return Pair { port: 0.0, original: 0.0, ratio: 0.0 };
+        return Pair { port: 0.0, ratio: 0.0 };
     }
     let (mut port, mut original) = (Side::new(port), Side::new(original));
     let wanted = port.wanted().max(original.wanted());
@@ -101,7 +100,6 @@ pub fn beside(port: &Asked<'_>, original: &Asked<'_>, answers: usize) -> Pair {
     let times: Vec<(f64, f64)> = (0..pairs).map(|_| (port.one_round(), original.one_round())).collect();
     Pair {
         port: median(times.iter().map(|t| t.0).collect()) / answers as f64,
-        original: median(times.iter().map(|t| t.1).collect()) / answers as f64,
         ratio: median(times.iter().map(|t| t.0 / t.1).collect()),
     }
 }
