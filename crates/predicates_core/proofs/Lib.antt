@@ -1,3 +1,8 @@
+pub use Rattle.predicates_reflection.proofs.Forests
+pub use Rattle.predicates_reflection.proofs.Lines
+pub use Rattle.predicates_reflection.proofs.Preorder
+pub use Rattle.predicates_reflection.proofs.OwnedFields
+pub use Rattle.predicates_reflection.proofs.StaticReads
 pub mod Numbers
 pub mod Joins
 pub mod Values
@@ -9,12 +14,7 @@ pub mod CombinedLemmas
 pub mod Leaves
 pub mod PresentCases
 pub mod Added
-pub mod Forests
 pub mod Found
-pub mod Lines
-pub mod Preorder
-pub mod OwnedFields
-pub mod StaticReads
 pub mod Existence
 pub mod Alike
 pub mod OneCase

@@ -1,6 +1,12 @@
-pub mod Tree
-pub mod Describe
-pub mod Label
+pub use Rattle.predicates_reflection.specs.Tree
+pub use Rattle.predicates_reflection.specs.Describe
+pub use Rattle.predicates_reflection.specs.Label
+pub use Rattle.predicates_reflection.specs.Parts
+pub use Rattle.predicates_reflection.specs.CaseFields
+pub use Rattle.predicates_reflection.specs.ChildDepth
+pub use Rattle.predicates_reflection.specs.Lines
+pub use Rattle.predicates_reflection.specs.CaseViews
+pub use Rattle.predicates_reflection.specs.Ownership
 pub mod Formula
 pub mod Reason
 pub mod Shows
@@ -13,11 +19,5 @@ pub mod Present
 pub mod Several
 pub mod Laws
 pub mod Added
-pub mod Parts
 pub mod Text
-pub mod CaseFields
-pub mod ChildDepth
-pub mod Lines
-pub mod CaseViews
-pub mod Ownership
 pub mod Custom

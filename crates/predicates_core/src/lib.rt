@@ -12,12 +12,10 @@
 //! ```
 #![tactic(auto)]
 
-pub mod as_static_str;
 pub mod custom;
 pub mod laws;
 pub mod node;
 mod predicate;
-pub mod reflection;
-pub mod static_text;
 
 pub use predicate::{Content, Predicate, ReadsContent, Total, default_find_case};
+pub use predicates_reflection::{as_static_str, reflection, static_text};

@@ -6,31 +6,14 @@
 //! ```
 //!
 //! A call fails only where memory runs out, and then drops its arguments.
-ghost use Rattle.std.specs.Prelude.{◌≡◌, [], ◌∷◌, codes, Some, IfOk, IfSome, string_bytes};
+ghost use Rattle.std.specs.Prelude.{◌≡◌, [], ◌∷◌, codes, Some, IfOk, string_bytes};
 ghost use Rattle.predicates_core.specs.Shows.{IsNode, found_parts};
 ghost use Rattle.predicates_core.specs.Leaves.{IsShowing};
 
 use crate::reflection::{Case, Product};
+pub use predicates_reflection::printing::printed;
 use std::alloc::{AllocError, Global};
 use std::fmt;
-
-// The bytes that a printed text has room for at first.
-const ROOM: usize = 64;
-
-/// What the value prints, in a text with room for 64 bytes at first, so that a short one takes
-/// memory once.
-///
-/// ```
-/// let text = printed(alloc, &predicate::ge(5))?;
-/// assert!(rt; text.as_str() == "var >= 5");
-/// ```
-pub fn printed<T: fmt::Display>(alloc: Global, value: &T) -> Result<String, AllocError>
-    ensures { IfOk result (λ text. IfSome (T.output value.now) (λ bytes. string_bytes text ≡ bytes)) }
-{
-    let mut text = String::with_capacity(alloc, ROOM)?;
-    text.write(value)?;
-    Ok(text)
-}
 
 /// A node without products and children. It takes no memory.
 ///

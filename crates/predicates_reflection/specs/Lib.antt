@@ -1,0 +1,9 @@
+pub mod Tree
+pub mod Describe
+pub mod Label
+pub mod Parts
+pub mod CaseFields
+pub mod ChildDepth
+pub mod Lines
+pub mod CaseViews
+pub mod Ownership
