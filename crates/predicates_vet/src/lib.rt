@@ -3,7 +3,6 @@
 #![tactic(auto)]
 
 mod job;
-mod program;
 mod record;
 mod rules_file;
 mod run;
@@ -11,6 +10,5 @@ pub mod settings;
 mod workspace;
 
 pub use predicates_lines::RunFault;
-pub use program::run_program;
 pub use rules_file::{ReadChecksError, read_checks};
 pub use run::{Counts, run_records};

@@ -146,8 +146,33 @@ fn id_json(
     }
 }
 
-// Writes the object of a record, on a line, in place of what the text held: with all cases, or with
-// the first where there is one.
+// Puts the cases among the members: all, or the first where there is one.
+fn put_cases(
+    alloc: Global,
+    members: &mut Map<String, Value>,
+    all: bool,
+    cases: &[Case],
+) -> Result<(), AllocError> {
+    if all {
+        let values = cases_json(alloc, cases)?;
+        put(members, alloc, "cases", Value::Array(values))?;
+    } else if let [case, ..] = cases {
+        let value = case_json(alloc, &case.root())?;
+        put(members, alloc, "case", value)?;
+    }
+    Ok(())
+}
+
+// The object of a record, with all cases, or with the first.
+fn object_of(alloc: Global, id: Value, all: bool, cases: &[Case]) -> Result<Value, AllocError> {
+    let mut members = Map::new(alloc);
+    put_cases(alloc, &mut members, all, cases)?;
+    put(&mut members, alloc, "holds", Value::Bool(cases.is_empty()))?;
+    put(&mut members, alloc, "record", id)?;
+    Ok(Value::Object(members))
+}
+
+// Writes the object of a record, on a line, in place of what the text held.
 fn write_json(
     alloc: Global,
     text: &mut String,
@@ -155,16 +180,7 @@ fn write_json(
     all: bool,
     cases: &[Case],
 ) -> Result<(), AllocError> {
-    let mut members = Map::new(alloc);
-    if all {
-        let values = Value::Array(cases_json(alloc, cases)?);
-        put(&mut members, alloc, "cases", values)?;
-    } else if let [case, ..] = cases {
-        put(&mut members, alloc, "case", case_json(alloc, &case.root())?)?;
-    }
-    put(&mut members, alloc, "holds", Value::Bool(cases.is_empty()))?;
-    put(&mut members, alloc, "record", id)?;
-    let object = Value::Object(members).to_string(alloc)?;
+    let object = object_of(alloc, id, all, cases)?.to_string(alloc)?;
     text.clear();
     text.push_str(&object)?;
     text.push_str("\n")

@@ -1,10 +1,12 @@
 //! A run over the records of an input, one on a line.
 ghost use Rattle.std.specs.Prelude.{◌≡◌, ◌+◌, ◌<◌, ◌^◌, ℕ, List, IfOk, option_map, if◌then◌else◌, is_some};
-ghost use Rattle.std.specs.Prelude.{not};
+ghost use Rattle.std.specs.Prelude.{not, cond, []};
+ghost use mathlib.Core.Bool.{beq};
 ghost use Rattle.std.specs.Io.KnownBytes.{Appends};
 ghost use Rattle.serde_json.specs.Read.{read};
 ghost use Rattle.serde_json.specs.View.{view};
-ghost use Rattle.predicates_vet.specs.Records.{keeps, IsWritten};
+ghost use Rattle.predicates_vet.specs.Records.{keeps, label, IsBlock, IsWritten};
+ghost use Rattle.predicates_vet.specs.Settings.{id_of};
 ghost use Rattle.predicates_vet.specs.Runs.{is_false, status_of};
 ghost use Rattle.predicates_vet.specs.Runs.{record_on, HasRun, IsLineWritten};
 
@@ -194,6 +196,69 @@ fn tell_line<'r, W: Write, M: Write>(
     }
 }
 
+// Writes the block of the rules that the record breaks, of all or of the first, and says whether it
+// keeps every rule.
+fn tell_block<'r, W: Write>(
+    alloc: Global,
+    job: &Job<'r>,
+    workspace: &mut Workspace<'r>,
+    all: bool,
+    number: u64,
+    value: &Value,
+    output: &mut W,
+) -> Result<bool, RunFault>
+    ensures written { IfOk result (λ _. (written : List ℕ)
+        × IsBlock job.now.rules.now all
+        (label (id_of job.now.settings.now) number (view value.now)) (view value.now) written
+        × Appends (W.contents output.old) (W.contents output.new) written) }
+    ensures held { IfOk result (λ held. held ≡ keeps job.now.rules.now (view value.now)) }
+{
+    let held = write_broken(alloc, job, workspace, all, number, value)?;
+    write_bytes(output, workspace.text.as_bytes())?;
+    Ok(held)
+}
+
+// The same with an object of JSON.
+fn tell_object<'r, W: Write>(
+    alloc: Global,
+    job: &Job<'r>,
+    workspace: &mut Workspace<'r>,
+    all: bool,
+    number: u64,
+    value: &Value,
+    output: &mut W,
+) -> Result<bool, RunFault>
+    ensures written { IfOk result (λ _. (written : List ℕ)
+        × Appends (W.contents output.old) (W.contents output.new) written) }
+    ensures held { IfOk result (λ held. held ≡ keeps job.now.rules.now (view value.now)) }
+{
+    let held = write_object(alloc, job, workspace, all, number, value)?;
+    write_bytes(output, workspace.text.as_bytes())?;
+    Ok(held)
+}
+
+// Writes the line where it is as wanted whether the record on it keeps every rule, and says whether
+// it does.
+fn tell_wanted<'r, W: Write>(
+    alloc: Global,
+    job: &Job<'r>,
+    workspace: &mut Workspace<'r>,
+    wanted: bool,
+    line: &[u8],
+    value: &Value,
+    output: &mut W,
+) -> Result<bool, RunFault>
+    ensures written { IfOk result (λ _. Appends (W.contents output.old) (W.contents output.new)
+        (cond (beq (keeps job.now.rules.now (view value.now)) wanted) line.now [])) }
+    ensures held { IfOk result (λ held. held ≡ keeps job.now.rules.now (view value.now)) }
+{
+    let held = keeps(alloc, job.rules, &mut workspace.matchers, value)?;
+    if held == wanted {
+        write_bytes(output, line)?;
+    }
+    Ok(held)
+}
+
 // Writes what is told of the record, and says whether it keeps every rule.
 fn tell_record<'r, W: Write>(
     alloc: Global,
@@ -211,28 +276,10 @@ fn tell_record<'r, W: Write>(
     ensures held { IfOk result (λ held. held ≡ keeps job.now.rules.now (view value.now)) }
 {
     match job.settings.report {
-        Report::First => {
-            let held = write_broken(alloc, job, workspace, false, number, value)?;
-            write_bytes(output, workspace.text.as_bytes())?;
-            Ok(held)
-        }
-        Report::All => {
-            let held = write_broken(alloc, job, workspace, true, number, value)?;
-            write_bytes(output, workspace.text.as_bytes())?;
-            Ok(held)
-        }
-        Report::Json { all } => {
-            let held = write_object(alloc, job, workspace, all, number, value)?;
-            write_bytes(output, workspace.text.as_bytes())?;
-            Ok(held)
-        }
-        Report::Lines(wanted) => {
-            let held = keeps(alloc, job.rules, &mut workspace.matchers, value)?;
-            if held == wanted {
-                write_bytes(output, line)?;
-            }
-            Ok(held)
-        }
+        Report::First => tell_block(alloc, job, workspace, false, number, value, output),
+        Report::All => tell_block(alloc, job, workspace, true, number, value, output),
+        Report::Json { all } => tell_object(alloc, job, workspace, all, number, value, output),
+        Report::Lines(wanted) => tell_wanted(alloc, job, workspace, wanted, line, value, output),
     }
 }
 

@@ -1,7 +1,7 @@
 //! Checks records of JSON, one on a line of standard input, against the rules of a file.
 #![tactic(auto)]
 
-use predicates_vet::run_program;
+use predicates_vet_program::run_program;
 use std::process::ExitCode;
 
 fn main(rt: HostRuntime) -> ExitCode {

@@ -4,7 +4,7 @@ use clap::error::ErrorKind;
 use std::alloc::{AllocError, Global};
 
 /// What the error says, in one line: its first paragraph.
-pub(super) fn fault_line(alloc: Global, error: &Error) -> Result<String, AllocError> {
+pub(crate) fn fault_line(alloc: Global, error: &Error) -> Result<String, AllocError> {
     if error.kind() == ErrorKind::OutOfMemory {
         return Err(AllocError);
     }

@@ -1,6 +1,9 @@
 //! The program `vet`: what its words ask for, what it writes, and how it ends.
+#![tactic(auto)]
+
 mod command;
 mod runtime;
+mod stderr;
 mod words_fault;
 
 pub use runtime::run_program;

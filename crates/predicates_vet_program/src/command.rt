@@ -1,0 +1,97 @@
+//! The command line of `vet`.
+use clap::{Arg, ArgAction, ArgMatches, Command};
+use predicates_vet::settings::{Report, Settings};
+use std::alloc::{AllocError, Global};
+
+// An argument, and what help says of it.
+fn argument<'a>(alloc: Global, name: &'a str, help: &'a str, action: ArgAction) -> Arg<'a> {
+    Arg::new(alloc, name).help(help).action(action)
+}
+
+// One that is written behind its name.
+fn option<'a>(alloc: Global, name: &'a str, help: &'a str, action: ArgAction) -> Arg<'a> {
+    argument(alloc, name, help, action).long(name)
+}
+
+fn flag<'a>(alloc: Global, name: &'a str, help: &'a str) -> Arg<'a> {
+    option(alloc, name, help, ArgAction::SetTrue)
+}
+
+// One that can't stand with those that say how to explain.
+fn unexplained<'a>(arg: Arg<'a>) -> Result<Arg<'a>, AllocError> {
+    arg.conflicts_with("json")?.conflicts_with("all")
+}
+
+fn failed<'a>(alloc: Global) -> Result<Arg<'a>, AllocError> {
+    let help = "Write the records that break a rule, as they stand";
+    let failed = flag(alloc, "failed", help).conflicts_with("passed")?;
+    unexplained(failed)
+}
+
+fn passed<'a>(alloc: Global) -> Result<Arg<'a>, AllocError> {
+    let help = "Write the records that keep every rule, as they stand";
+    unexplained(flag(alloc, "passed", help))
+}
+
+fn all<'a>(alloc: Global) -> Arg<'a> {
+    let help = "Explain each rule that a record breaks, not the first alone";
+    flag(alloc, "all", help)
+}
+
+fn json<'a>(alloc: Global) -> Arg<'a> {
+    flag(alloc, "json", "Write one JSON object for each record")
+}
+
+fn id<'a>(alloc: Global) -> Arg<'a> {
+    let help = "Label a record by its value at the path, not by its number";
+    option(alloc, "id", help, ArgAction::Set).value_name("PATH")
+}
+
+fn rules<'a>(alloc: Global) -> Arg<'a> {
+    let help = "The file of rules, one on a line as `adult: /age >= 18`";
+    argument(alloc, "RULES", help, ArgAction::Set).required(true)
+}
+
+/// What may be written behind `vet`.
+pub(crate) fn command<'a>(alloc: Global) -> Result<Command<'a>, AllocError> {
+    let about =
+        "Checks records of JSON, one on a line of standard input, and says why they break a rule";
+    let (failed, passed) = (failed(alloc)?, passed(alloc)?);
+    Command::new(alloc, "vet")
+        .about(about)
+        .arg(rules(alloc))?
+        .arg(failed)?
+        .arg(passed)?
+        .arg(all(alloc))?
+        .arg(json(alloc))?
+        .arg(id(alloc))
+}
+
+fn report_of(matches: &ArgMatches<'_>) -> Report {
+    if matches.get_flag("failed") {
+        Report::Lines(false)
+    } else if matches.get_flag("passed") {
+        Report::Lines(true)
+    } else if matches.get_flag("json") {
+        Report::Json {
+            all: matches.get_flag("all"),
+        }
+    } else if matches.get_flag("all") {
+        Report::All
+    } else {
+        Report::First
+    }
+}
+
+/// How the words want a run to report.
+pub(crate) fn settings_of(alloc: Global, matches: &ArgMatches<'_>) -> Result<Settings, AllocError> {
+    let id = match matches.get_str("id") {
+        Some(path) if path == "/" => Some(String::new(alloc)),
+        Some(path) => Some(String::from_str(alloc, path)?),
+        None => None,
+    };
+    Ok(Settings {
+        report: report_of(matches),
+        id,
+    })
+}

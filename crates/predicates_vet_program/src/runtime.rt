@@ -1,0 +1,140 @@
+//! The program over what its process is given.
+use crate::command::{command, settings_of};
+use crate::stderr::Stderr;
+use crate::words_fault::fault_line;
+use clap::ArgMatches;
+use predicates_json::is_pointer;
+use predicates_vet::settings::Settings;
+use predicates_vet::{Counts, RunFault, read_checks, run_records};
+use predicates_vet_check::RuleCheck;
+use std::fmt::Display;
+use std::io::{BufReader, BufWriter};
+use std::rt::{Env, Files};
+use std::{env, fs, io};
+
+// The totals of a run, and the status that they give.
+fn end<E: Eprint>(rt: &E, counts: Counts) -> io::Result<u8> {
+    let Counts {
+        records,
+        failed,
+        unreadable,
+    } = counts;
+    if unreadable > 0 {
+        eprintln!(rt; "{records} records, {failed} failed, {unreadable} lines unreadable")?;
+    } else {
+        eprintln!(rt; "{records} records, {failed} failed")?;
+    }
+    Ok(counts.status())
+}
+
+// Tells what went wrong; and the status.
+fn tell<E: Eprint, T: Display>(rt: &E, fault: &T) -> io::Result<u8> {
+    eprintln!(rt; "vet: {fault}")?;
+    Ok(2)
+}
+
+// Tells what is wrong with the rules at the path; and the status.
+fn tell_rules<E: Eprint, T: Display>(rt: &E, path: &str, fault: &T) -> io::Result<u8> {
+    eprintln!(rt; "vet: {path}: {fault}")?;
+    Ok(2)
+}
+
+fn tell_no_path<E: Eprint>(rt: &E, path: &str) -> io::Result<u8> {
+    eprintln!(rt; "vet: --id {path}: not a path, which begins with `/`")?;
+    Ok(2)
+}
+
+// Prints the help where the words ask for it, and else what is wrong with them; and the status.
+fn tell_words<E: Print + Eprint + AllocGlobal>(rt: &E, error: &clap::Error) -> io::Result<u8> {
+    if !error.use_stderr() {
+        error.print(rt)?;
+        return Ok(0);
+    }
+    let fault = fault_line(rt.alloc(), error)?;
+    eprintln!(rt; "vet: {fault}; try --help")?;
+    Ok(2)
+}
+
+// How a run over the streams of the process ends.
+fn run_streams<E: Input + Print + Eprint + AllocGlobal>(
+    rt: &E,
+    rules: &[RuleCheck],
+    settings: &Settings,
+) -> io::Result<Result<Counts, RunFault>> {
+    let alloc = rt.alloc();
+    let mut input = BufReader::new(alloc, rt.reader())?;
+    let mut output = BufWriter::new(alloc, io::writer(rt))?;
+    let mut messages = Stderr { rt };
+    Ok(run_records(
+        alloc,
+        rules,
+        settings,
+        &mut input,
+        &mut output,
+        &mut messages,
+    ))
+}
+
+// Runs by these rules; and the status.
+fn run_by<E: Input + Print + Eprint + AllocGlobal>(
+    rt: &E,
+    rules: &[RuleCheck],
+    settings: &Settings,
+) -> io::Result<u8> {
+    match run_streams(rt, rules, settings)? {
+        Ok(counts) => end(rt, counts),
+        Err(fault) => tell(rt, &fault),
+    }
+}
+
+// Runs by the rules of the file at the path; and the status.
+fn run_by_file<E: Files + Input + Print + Eprint + AllocGlobal>(
+    rt: &E,
+    path: &str,
+    settings: &Settings,
+) -> io::Result<u8> {
+    let text = match fs::read(rt, path) {
+        Ok(text) => text,
+        Err(error) => return tell_rules(rt, path, &error),
+    };
+    match read_checks(rt.alloc(), &text) {
+        Ok(rules) => run_by(rt, &rules, settings),
+        Err(error) => tell_rules(rt, path, &error),
+    }
+}
+
+// Runs as the words want it; and the status.
+fn run_as<E: Files + Input + Print + Eprint + AllocGlobal>(
+    rt: &E,
+    matches: &ArgMatches<'_>,
+) -> io::Result<u8> {
+    let settings = settings_of(rt.alloc(), matches)?;
+    if let Some(path) = &settings.id {
+        if !is_pointer(path) {
+            return tell_no_path(rt, path);
+        }
+    }
+    run_by_file(rt, matches.get_str("RULES").unwrap_or(""), &settings)
+}
+
+fn try_run<E: Env + Files + Input + Print + Eprint + AllocGlobal>(rt: &E) -> io::Result<u8> {
+    let alloc = rt.alloc();
+    let words: Vec<String> = env::args(rt)?.collect(alloc)?;
+    let parsed = command(alloc)?.try_get_matches_from(words.as_slice());
+    match parsed {
+        Ok(matches) => run_as(rt, &matches),
+        Err(error) => tell_words(rt, &error),
+    }
+}
+
+/// Runs the program on the words, the files, the streams and the memory of a process, and answers
+/// its status: 0 where every record keeps every rule, 1 where one breaks a rule, and 2 for wrong
+/// words, rules that can't be read, lines that are no JSON, faults of reading and writing, and out
+/// of memory, each told in a line on standard error.
+pub fn run_program<E: Env + Files + Input + Print + Eprint + AllocGlobal>(rt: &E) -> u8 {
+    match try_run(rt) {
+        Ok(status) => status,
+        // Where this line can't be written either, the status alone tells.
+        Err(error) => tell(rt, &error).unwrap_or(2),
+    }
+}
