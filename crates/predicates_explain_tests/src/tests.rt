@@ -9,6 +9,7 @@ mod words;
 
 use predicates_explain::TextCheck;
 use std::alloc::{AllocError, Global};
+use std::fmt;
 use std::test::Fail;
 
 // The tokens as texts.
@@ -23,4 +24,14 @@ fn texts_of(alloc: Global, tokens: &[&str]) -> Result<Vec<String>, AllocError> {
 // The one check that the tokens leave.
 fn read_check(alloc: Global, tokens: &[&str]) -> Result<TextCheck, Fail> {
     Ok(TextCheck::from_words(alloc, &texts_of(alloc, tokens)?)?)
+}
+
+// Whether this is printed of the value.
+fn is_shown<T: fmt::Display + Drop>(
+    alloc: Global,
+    value: T,
+    expected: &str,
+) -> Result<bool, AllocError> {
+    let text = value.to_string(alloc)?;
+    Ok(text.as_str() == expected)
 }

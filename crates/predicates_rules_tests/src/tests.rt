@@ -9,24 +9,25 @@ use std::test::Fail;
 const SAMPLE: &str =
     "adult:  /age >= 18\nknown:  /name starts_with \"A\" or /name == \"Zoe\"\nseated: /seat exists and not /seat in [13, 17]\nlines:  each /lines (/quantity >= 1 and /sku matches \"^[A-Z]{3}$\")\n";
 
+// A line for each of the rules.
+fn lines_of(alloc: Global, rules: &[Rule]) -> Result<String, AllocError> {
+    let mut out = String::new(alloc);
+    for rule in rules {
+        writeln!(out, "{rule:?}")?;
+    }
+    Ok(out)
+}
+
 // What the rules of a text are, or why there are none.
 fn shown(alloc: Global, text: &str) -> Result<String, AllocError> {
     match read_rules(alloc, text.as_bytes()) {
-        Ok(rules) => {
-            let mut out = String::new(alloc);
-            for rule in &rules {
-                let line = format!(in alloc; "{:?}\n", rule)?;
-                out.push_str(&line)?;
-            }
-            Ok(out)
-        }
-        Err(error) => format!(in alloc; "{error}"),
+        Ok(rules) => lines_of(alloc, rules.as_slice()),
+        Err(error) => error.to_string(alloc),
     }
 }
 
 fn shows(alloc: Global, text: &str, expected: &str) -> Result<bool, AllocError> {
-    let found = shown(alloc, text)?;
-    Ok(found.as_str() == expected)
+    Ok(shown(alloc, text)?.as_str() == expected)
 }
 
 // A text, and the rules that it says, as `Debug` shows them.
@@ -65,7 +66,7 @@ const READ: [(&str, &str); 9] = [
 
 #[test]
 fn reads_rules(rt: HostRuntime) -> Result<(), Fail> {
-    for (text, expected) in READ {
+    for (text, expected) in &READ {
         let same = shows(rt.alloc(), text, expected)?;
         assert!(rt; same, "{text}");
     }
@@ -161,29 +162,38 @@ const REFUSED: [(&str, &str); 26] = [
 
 #[test]
 fn says_what_was_expected(rt: HostRuntime) -> Result<(), Fail> {
-    for (text, expected) in REFUSED {
+    for (text, expected) in &REFUSED {
         let same = shows(rt.alloc(), text, expected)?;
         assert!(rt; same, "{text}");
     }
     Ok(())
 }
 
-// Why bytes have no rules.
-fn fault(alloc: Global, text: &[u8]) -> Result<String, AllocError> {
+// Whether this is why bytes have no rules, or they have some and it is `none`.
+fn has_fault(alloc: Global, text: &[u8], expected: &str) -> Result<bool, AllocError> {
     match read_rules(alloc, text) {
-        Ok(_) => String::from_str(alloc, "none"),
-        Err(error) => format!(in alloc; "{error}"),
+        Ok(_) => Ok(expected == "none"),
+        Err(error) => Ok(error.to_string(alloc)?.as_str() == expected),
     }
 }
 
+const NO_UTF8: [(&[u8], &str); 3] = [
+    (
+        b"a\xff: /b exists",
+        "line 1, column 1: expected text in UTF-8",
+    ),
+    (
+        b"a: /b\xff exists",
+        "line 1, column 4: expected text in UTF-8",
+    ),
+    (b"# \xff", "none"),
+];
+
 #[test]
 fn refuses_what_is_no_utf8(rt: HostRuntime) -> Result<(), Fail> {
-    let name = fault(rt.alloc(), b"a\xff: /b exists")?;
-    assert!(rt; name.as_str() == "line 1, column 1: expected text in UTF-8");
-    let path = fault(rt.alloc(), b"a: /b\xff exists")?;
-    assert!(rt; path.as_str() == "line 1, column 4: expected text in UTF-8");
-    let comment = fault(rt.alloc(), b"# \xff")?;
-    assert!(rt; comment.as_str() == "none");
+    for (text, expected) in &NO_UTF8 {
+        assert!(rt; has_fault(rt.alloc(), text, expected)?, "{expected}");
+    }
     Ok(())
 }
 
@@ -250,15 +260,20 @@ const SIZES: [(u32, &str, Ending); 9] = [
 
 #[test]
 fn reads_long_rules_and_refuses_deep_ones(rt: HostRuntime) -> Result<(), Fail> {
-    for (times, part, expected) in SIZES {
-        let found = ends_as(rt.alloc(), times, part)?;
-        assert!(rt; found == expected, "{times} times {part}");
+    for (times, part, expected) in &SIZES {
+        let is_expected = ends_as(rt.alloc(), *times, part)? == *expected;
+        assert!(rt; is_expected, "{times} times {part}");
     }
-    let deep = fault(
-        rt.alloc(),
-        b"a: /b exists\nb: ((((((((((((((((((((((((((((((((((((((((((((((((((((((((((((((((((((((((((((((((((((((((((((((((((((((",
-    )?;
-    assert!(rt; deep.as_str() == "line 2, column 105: nested more than 100 deep");
+    Ok(())
+}
+
+const DEEP: &[u8] =
+    b"a: /b exists\nb: ((((((((((((((((((((((((((((((((((((((((((((((((((((((((((((((((((((((((((((((((((((((((((((((((((((((";
+
+#[test]
+fn says_where_a_rule_is_too_deep(rt: HostRuntime) -> Result<(), Fail> {
+    let message = "line 2, column 105: nested more than 100 deep";
+    assert!(rt; has_fault(rt.alloc(), DEEP, message)?);
     Ok(())
 }
 

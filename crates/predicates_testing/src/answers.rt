@@ -4,7 +4,7 @@ use crate::kept_leaves::kept_leaves;
 use crate::printed::keeps_text;
 use crate::reference::{ReferenceFormula, first_reason};
 use predicates_core::Predicate;
-use predicates_core::reflection::Case;
+use predicates_core::reflection::{Case, PredicateReflection};
 use std::alloc::{AllocError, Global};
 
 /// What a predicate answers about itself and about one item.
@@ -28,16 +28,27 @@ pub fn ask<P: Predicate<Item>, Item>(
 ) -> Result<Answers, AllocError>
     requires { P.lawful predicate.now }
 {
+    // What takes no memory to drop first.
+    let verdict = predicate.eval(alloc, item)?;
+    let keeps_text = keeps_text(alloc, predicate)?;
+    let text = predicate.to_string(alloc)?;
+    let description = described(alloc, predicate)?;
+    let case_true = predicate.find_case(alloc, true, item)?;
+    let case_false = predicate.find_case(alloc, false, item)?;
+    Ok(Answers {
+        verdict,
+        case_true,
+        case_false,
+        text,
+        keeps_text,
+        description,
+    })
+}
+
+fn described<P: PredicateReflection>(alloc: Global, predicate: &P) -> Result<String, AllocError> {
     let parameters = predicate.parameters(alloc)?;
     let children = predicate.children(alloc)?;
-    Ok(Answers {
-        verdict: predicate.eval(alloc, item)?,
-        case_true: predicate.find_case(alloc, true, item)?,
-        case_false: predicate.find_case(alloc, false, item)?,
-        text: predicate.to_string(alloc)?,
-        keeps_text: keeps_text(alloc, predicate)?,
-        description: description(alloc, parameters.as_slice(), children.as_slice())?,
-    })
+    description(alloc, parameters.as_slice(), children.as_slice())
 }
 
 /// The verdict, where its case has that result and there is none for the opposite; all else is

@@ -38,28 +38,67 @@ fn letter_for(letter: char) -> Option<char> {
     })
 }
 
+// The place behind a character of the digits, and what it adds.
+fn step_in_digits(base: u32, number: u32, c: char) -> Option<(Place, Meant)> {
+    if c == '}' {
+        let meant = if base == DECIMAL {
+            Meant::Times(number)
+        } else {
+            Meant::One(char::from_u32(number)?)
+        };
+        return Some((Place::Plain, meant));
+    }
+    let digit = if base == DECIMAL {
+        c.to_digit(10)?
+    } else {
+        c.to_digit(16)?
+    };
+    let number = number.wrapping_mul(base).wrapping_add(digit);
+    Some((Place::Digits(base, number), Meant::Nothing))
+}
+
+// The place behind a character that stands behind a backslash, and what it adds.
+fn step_behind_backslash(c: char) -> Option<(Place, Meant)> {
+    match c {
+        'x' => Some((Place::Bracket(HEXADECIMAL), Meant::Nothing)),
+        '*' => Some((Place::Bracket(DECIMAL), Meant::Nothing)),
+        c => Some((Place::Plain, Meant::One(letter_for(c)?))),
+    }
+}
+
 // The place behind a character, and what it adds; none where the character may not stand there.
 fn step(place: Place, c: char) -> Option<(Place, Meant)> {
-    Some(match (place, c) {
-        (Place::Plain, '\\') => (Place::Escape, Meant::Nothing),
-        (Place::Plain, c) => (Place::Plain, Meant::One(c)),
-        (Place::Escape, 'x') => (Place::Bracket(HEXADECIMAL), Meant::Nothing),
-        (Place::Escape, '*') => (Place::Bracket(DECIMAL), Meant::Nothing),
-        (Place::Escape, c) => (Place::Plain, Meant::One(letter_for(c)?)),
-        (Place::Bracket(base), '{') => (Place::Digits(base, 0), Meant::Nothing),
-        (Place::Bracket(_), _) => return None,
-        (Place::Digits(DECIMAL, number), '}') => (Place::Plain, Meant::Times(number)),
-        (Place::Digits(_, number), '}') => { (Place::Plain, Meant::One(char::from_u32(number)?)) }
-        (Place::Digits(base, number), c) => {
-            let digit = if base == DECIMAL {
-                c.to_digit(10)?
-            } else {
-                c.to_digit(16)?
-            };
-            let number = number.wrapping_mul(base).wrapping_add(digit);
-            (Place::Digits(base, number), Meant::Nothing)
+    match place {
+        Place::Plain if c == '\\' => Some((Place::Escape, Meant::Nothing)),
+        Place::Plain => Some((Place::Plain, Meant::One(c))),
+        Place::Escape => step_behind_backslash(c),
+        Place::Bracket(base) if c == '{' => Some((Place::Digits(base, 0), Meant::Nothing)),
+        Place::Bracket(_) => None,
+        Place::Digits(base, number) => step_in_digits(base, number, c),
+    }
+}
+
+// The last character this many times in place of once; false where there is none.
+fn repeat_last(text: &mut String, times: u32) -> Result<bool, AllocError> {
+    let Some(last) = text.pop() else {
+        return Ok(false);
+    };
+    for _ in 0..times {
+        text.push(last)?;
+    }
+    Ok(true)
+}
+
+// Adds what is meant; false where it can't be.
+fn add_meant(text: &mut String, meant: Meant) -> Result<bool, AllocError> {
+    match meant {
+        Meant::Nothing => Ok(true),
+        Meant::One(c) => {
+            text.push(c)?;
+            Ok(true)
         }
-    })
+        Meant::Times(times) => repeat_last(text, times),
+    }
 }
 
 /// The text that is meant; none where an escape is unknown or has no end.
@@ -70,17 +109,8 @@ pub fn unescape(alloc: Global, written: &str) -> Result<Option<String>, AllocErr
         let Some((next, meant)) = step(place, c) else {
             return Ok(None);
         };
-        match meant {
-            Meant::Nothing => {}
-            Meant::One(c) => text.push(c)?,
-            Meant::Times(times) => {
-                let Some(last) = text.pop() else {
-                    return Ok(None);
-                };
-                for _ in 0..times {
-                    text.push(last)?;
-                }
-            }
+        if !add_meant(&mut text, meant)? {
+            return Ok(None);
         }
         place = next;
     }

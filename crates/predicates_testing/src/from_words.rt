@@ -38,6 +38,11 @@ fn pop_combinator<W: Word>(words: &mut Vec<W>) -> Option<Combinator> {
     Some(found)
 }
 
+/// What was made, where it was.
+pub fn some<T>(made: Result<T, AllocError>) -> Result<Option<T>, AllocError> {
+    Ok(Some(made?))
+}
+
 // What a combinator of two makes of them; none where it takes one.
 fn joined<P: Predicate<Item> + Drop, Item>(
     alloc: Global,
@@ -46,10 +51,38 @@ fn joined<P: Predicate<Item> + Drop, Item>(
     right: P,
 ) -> Result<Option<Level<P, Item>>, AllocError> {
     match combinator {
-        Combinator::And => Ok(Some(Level::and(alloc, left, right)?)),
-        Combinator::Or => Ok(Some(Level::or(alloc, left, right)?)),
-        Combinator::Xor => Ok(Some(Level::xor(alloc, left, right)?)),
+        Combinator::And => some(Level::and(alloc, left, right)),
+        Combinator::Or => some(Level::or(alloc, left, right)),
+        Combinator::Xor => some(Level::xor(alloc, left, right)),
         Combinator::Not | Combinator::Named(_) => Ok(None),
+    }
+}
+
+// The combinator of two over the predicate at the words' end and the right one.
+fn beside<P: FromWords<W, Item>, W: Word, Item>(
+    alloc: Global,
+    words: &mut Vec<W>,
+    combinator: Combinator,
+    right: P,
+) -> Result<Option<Level<P, Item>>, AllocError> {
+    match P::from_words(alloc, words)? {
+        Some(left) => joined(alloc, combinator, left, right),
+        None => Ok(None),
+    }
+}
+
+// The combinator over the part, if there is one. The right one of two is read before the left one.
+fn over<P: FromWords<W, Item>, W: Word, Item>(
+    alloc: Global,
+    words: &mut Vec<W>,
+    combinator: Option<Combinator>,
+    part: P,
+) -> Result<Option<Level<P, Item>>, AllocError> {
+    match combinator {
+        None => Ok(Some(Level::below(part))),
+        Some(Combinator::Not) => some(Level::not(alloc, part)),
+        Some(Combinator::Named(name)) => some(Level::name(alloc, part, name)),
+        Some(combinator) => beside(alloc, words, combinator, part),
     }
 }
 
@@ -58,24 +91,15 @@ impl<P: FromWords<W, Item>, W: Word, Item> FromWords<W, Item> for Level<P, Item>
 
     fn from_words(alloc: Global, words: &mut Vec<W>) -> Result<Option<Level<P, Item>>, AllocError> {
         let combinator = pop_combinator(words);
-        let Some(part) = P::from_words(alloc, words)? else {
-            return Ok(None);
-        };
-        match combinator {
-            None => Ok(Some(Level::below(part))),
-            Some(Combinator::Not) => Ok(Some(Level::not(alloc, part)?)),
-            Some(Combinator::Named(name)) => Ok(Some(Level::name(alloc, part, name)?)),
-            // The right one of two is read before the left one.
-            Some(combinator) => match P::from_words(alloc, words)? {
-                Some(left) => joined(alloc, combinator, left, part),
-                None => Ok(None),
-            },
+        match P::from_words(alloc, words)? {
+            Some(part) => over(alloc, words, combinator, part),
+            None => Ok(None),
         }
     }
 }
 
-// The predicate of the words; none where the words are not one predicate.
-fn whole<P: FromWords<W, Item>, W: Drop, Item>(
+/// The predicate of the words; none where the words are not one predicate.
+pub fn whole<P: FromWords<W, Item>, W: Drop, Item>(
     alloc: Global,
     mut words: Vec<W>,
 ) -> Result<Option<P>, AllocError> {
@@ -90,7 +114,7 @@ pub fn answer<P: FromWords<W, Item>, W: Drop, Item>(
     item: &Item,
 ) -> Result<Option<Answers>, AllocError> {
     match whole::<P, W, Item>(alloc, words)? {
-        Some(predicate) => Ok(Some(ask(alloc, &predicate, item)?)),
+        Some(predicate) => some(ask(alloc, &predicate, item)),
         None => Ok(None),
     }
 }

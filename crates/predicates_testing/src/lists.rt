@@ -2,7 +2,7 @@
 //!
 //! Their words are those of a predicate over numbers, and `each` or `any` behind them.
 use crate::answers::{Answers, ask};
-use crate::from_words::FromWords;
+use crate::from_words::{FromWords, some, whole};
 use crate::level::Level;
 use crate::number_leaf::NumberLeaf;
 use crate::numbers::number_formula;
@@ -47,11 +47,26 @@ pub fn answer_list(
         return Ok(None);
     };
     words.pop();
-    let member: Option<Member> = Member::from_words(alloc, &mut words)?;
-    match member {
-        Some(member) if words.is_empty() => Ok(Some(ask_members(alloc, member, is_each, list)?)),
-        _ => Ok(None),
+    match whole::<Member, NumberWord, i64>(alloc, words)? {
+        Some(member) => some(ask_members(alloc, member, is_each, list)),
+        None => Ok(None),
     }
+}
+
+// A member's formula and that of the members behind it.
+fn joined(
+    alloc: Global,
+    is_each: bool,
+    member: ReferenceFormula,
+    rest: ReferenceFormula,
+) -> Result<ReferenceFormula, AllocError> {
+    let member = Box::new(alloc, member)?;
+    let rest = Box::new(alloc, rest)?;
+    Ok(if is_each {
+        ReferenceFormula::And(member, rest)
+    } else {
+        ReferenceFormula::Or(member, rest)
+    })
 }
 
 /// The formula that the words mean on a list; none where they are not one predicate over lists.
@@ -71,12 +86,7 @@ pub fn list_formula(
         let Some(member) = number_formula(alloc, of_member, *number)? else {
             return Ok(None);
         };
-        let (member, rest) = (Box::new(alloc, member)?, Box::new(alloc, members)?);
-        members = if is_each {
-            ReferenceFormula::And(member, rest)
-        } else {
-            ReferenceFormula::Or(member, rest)
-        };
+        members = joined(alloc, is_each, member, members)?;
     }
     Ok(Some(ReferenceFormula::Members(Box::new(alloc, members)?)))
 }

@@ -32,41 +32,64 @@ pub struct NumberLeaf {
     leaf: Leaf,
 }
 
-fn comparison(alloc: Global, leaf: Comparison) -> Result<Leaf, AllocError> {
-    Ok(OneOf::First(OneOf::second(alloc, leaf)?))
+fn made(leaf: Leaf) -> Option<NumberLeaf> {
+    Some(NumberLeaf { leaf })
 }
 
-fn order(alloc: Global, leaf: OrdPredicate<i64>) -> Result<Leaf, AllocError> {
+fn constant(leaf: BooleanPredicate<i64>) -> Option<NumberLeaf> {
+    made(OneOf::First(OneOf::First(leaf)))
+}
+
+fn comparison(alloc: Global, leaf: Comparison) -> Result<Option<NumberLeaf>, AllocError> {
+    Ok(made(OneOf::First(OneOf::second(alloc, leaf)?)))
+}
+
+fn order(alloc: Global, leaf: OrdPredicate<i64>) -> Result<Option<NumberLeaf>, AllocError> {
     comparison(alloc, OneOf::second(alloc, leaf)?)
 }
 
-fn ordered(alloc: Global, leaf: Ordered) -> Result<Leaf, AllocError> {
-    OneOf::second(alloc, OneOf::First(leaf))
+fn asked(alloc: Global, leaf: Asked) -> Result<Option<NumberLeaf>, AllocError> {
+    Ok(made(OneOf::second(alloc, leaf)?))
 }
 
-fn other(alloc: Global, leaf: Other) -> Result<Leaf, AllocError> {
-    OneOf::second(alloc, OneOf::second(alloc, leaf)?)
+fn other(alloc: Global, leaf: Other) -> Result<Option<NumberLeaf>, AllocError> {
+    asked(alloc, OneOf::second(alloc, leaf)?)
+}
+
+fn called(alloc: Global, constant: i64) -> Result<Option<NumberLeaf>, AllocError> {
+    other(alloc, OneOf::second(alloc, AtLeast { constant })?)
+}
+
+fn listed(alloc: Global, list: Vec<i64>) -> Result<Option<NumberLeaf>, AllocError> {
+    asked(alloc, OneOf::First(OneOf::First(in_iter(alloc, list)?)))
+}
+
+fn sorted(alloc: Global, list: Vec<i64>) -> Result<Option<NumberLeaf>, AllocError> {
+    let sorted = in_iter(alloc, list)?.sort()?;
+    asked(alloc, OneOf::First(OneOf::second(alloc, sorted)?))
+}
+
+fn hashed(alloc: Global, list: Vec<i64>) -> Result<Option<NumberLeaf>, AllocError> {
+    other(alloc, OneOf::First(in_hash(alloc, list)?))
 }
 
 // The leaf that a word names; none where it names a combinator.
-fn leaf_of_word(alloc: Global, word: NumberWord) -> Result<Option<Leaf>, AllocError> {
-    Ok(Some(match word {
-        NumberWord::Always => OneOf::First(OneOf::First(always())),
-        NumberWord::Never => OneOf::First(OneOf::First(never())),
-        NumberWord::Equal(c) => comparison(alloc, OneOf::First(eq(c)))?,
-        NumberWord::Unequal(c) => comparison(alloc, OneOf::First(ne(c)))?,
-        NumberWord::Less(c) => order(alloc, lt(c))?,
-        NumberWord::AtMost(c) => order(alloc, le(c))?,
-        NumberWord::AtLeast(c) => order(alloc, ge(c))?,
-        NumberWord::Greater(c) => order(alloc, gt(c))?,
-        NumberWord::Called(constant) => other(alloc, OneOf::second(alloc, AtLeast { constant })?)?,
-        NumberWord::Listed(list) => ordered(alloc, OneOf::First(in_iter(alloc, list)?))?,
-        NumberWord::Sorted(list) => {
-            ordered(alloc, OneOf::second(alloc, in_iter(alloc, list)?.sort()?)?)?
-        }
-        NumberWord::Hashed(list) => other(alloc, OneOf::First(in_hash(alloc, list)?))?,
-        _ => return Ok(None),
-    }))
+fn leaf_of_word(alloc: Global, word: NumberWord) -> Result<Option<NumberLeaf>, AllocError> {
+    match word {
+        NumberWord::Always => Ok(constant(always())),
+        NumberWord::Never => Ok(constant(never())),
+        NumberWord::Equal(c) => comparison(alloc, OneOf::First(eq(c))),
+        NumberWord::Unequal(c) => comparison(alloc, OneOf::First(ne(c))),
+        NumberWord::Less(c) => order(alloc, lt(c)),
+        NumberWord::AtMost(c) => order(alloc, le(c)),
+        NumberWord::AtLeast(c) => order(alloc, ge(c)),
+        NumberWord::Greater(c) => order(alloc, gt(c)),
+        NumberWord::Called(c) => called(alloc, c),
+        NumberWord::Listed(list) => listed(alloc, list),
+        NumberWord::Sorted(list) => sorted(alloc, list),
+        NumberWord::Hashed(list) => hashed(alloc, list),
+        _ => Ok(None),
+    }
 }
 
 impl fmt::Display for NumberLeaf {
@@ -151,9 +174,9 @@ impl FromWords<NumberWord, i64> for NumberLeaf {
         alloc: Global,
         words: &mut Vec<NumberWord>,
     ) -> Result<Option<NumberLeaf>, AllocError> {
-        let Some(word) = words.pop() else {
-            return Ok(None);
-        };
-        Ok(leaf_of_word(alloc, word)?.map(|leaf| NumberLeaf { leaf }))
+        match words.pop() {
+            Some(word) => leaf_of_word(alloc, word),
+            None => Ok(None),
+        }
     }
 }

@@ -1,6 +1,6 @@
 //! What the library's predicates over numbers answer, and the formulas that they have.
 use crate::answers::Answers;
-use crate::from_words::{Combinator, Word, answer};
+use crate::from_words::{Combinator, FromWords, Word, answer};
 use crate::level::Level;
 use crate::number_leaf::NumberLeaf;
 use crate::reference::{ReferenceFormula, combined};
@@ -21,13 +21,31 @@ impl Word for NumberWord {
     }
 }
 
-type Deep2 = Level<Level<NumberLeaf, i64>, i64>;
+// What the predicate of the words answers, of at most two combinators over a predicate that is read.
+// A type of many levels is made in steps, since a call at all of them at once is dear to check.
+fn answer_two<P: FromWords<NumberWord, i64>>(
+    alloc: Global,
+    words: Vec<NumberWord>,
+    item: i64,
+) -> Result<Option<Answers>, AllocError> {
+    answer::<Level<Level<P, i64>, i64>, NumberWord, i64>(alloc, words, &item)
+}
 
-type Deep4 = Level<Level<Deep2, i64>, i64>;
+fn answer_four<P: FromWords<NumberWord, i64>>(
+    alloc: Global,
+    words: Vec<NumberWord>,
+    item: i64,
+) -> Result<Option<Answers>, AllocError> {
+    answer_two::<Level<Level<P, i64>, i64>>(alloc, words, item)
+}
 
-type Deep6 = Level<Level<Deep4, i64>, i64>;
-
-type Deep = Level<Deep6, i64>;
+fn answer_six<P: FromWords<NumberWord, i64>>(
+    alloc: Global,
+    words: Vec<NumberWord>,
+    item: i64,
+) -> Result<Option<Answers>, AllocError> {
+    answer_four::<Level<Level<P, i64>, i64>>(alloc, words, item)
+}
 
 /// What the predicate of the words answers, which is made of the library's own types at every
 /// node; none where the words are not one predicate.
@@ -36,7 +54,7 @@ pub fn answer_number(
     words: Vec<NumberWord>,
     item: i64,
 ) -> Result<Option<Answers>, AllocError> {
-    answer::<Deep, NumberWord, i64>(alloc, words, &item)
+    answer_six::<Level<NumberLeaf, i64>>(alloc, words, item)
 }
 
 // The only value of a stack that holds one.
@@ -64,6 +82,23 @@ fn leaf_truth(word: &NumberWord, item: i64) -> Option<bool> {
     })
 }
 
+// The formula of a combinator over the last ones of the stack, of which the last is given; none
+// where there are too few.
+fn combine_last(
+    alloc: Global,
+    combinator: Combinator,
+    stack: &mut Vec<ReferenceFormula>,
+    last: ReferenceFormula,
+) -> Result<Option<ReferenceFormula>, AllocError> {
+    match combinator {
+        Combinator::Not | Combinator::Named(_) => combined(alloc, combinator, last, None),
+        _ => match stack.pop() {
+            Some(left) => combined(alloc, combinator, left, Some(last)),
+            None => Ok(None),
+        },
+    }
+}
+
 // The formula of a combinator over the last ones of the stack; none where there are too few, or
 // where the word names no combinator.
 fn combine(
@@ -71,15 +106,25 @@ fn combine(
     word: &NumberWord,
     stack: &mut Vec<ReferenceFormula>,
 ) -> Result<Option<ReferenceFormula>, AllocError> {
-    let (Some(combinator), Some(last)) = (word.combinator(), stack.pop()) else {
+    let Some(combinator) = word.combinator() else {
         return Ok(None);
     };
-    match combinator {
-        Combinator::Not | Combinator::Named(_) => combined(alloc, combinator, last, None),
-        _ => match stack.pop() {
-            Some(left) => combined(alloc, combinator, left, Some(last)),
-            None => Ok(None),
-        },
+    match stack.pop() {
+        Some(last) => combine_last(alloc, combinator, stack, last),
+        None => Ok(None),
+    }
+}
+
+// The formula of a word on a number, over the last ones of the stack.
+fn formula_of_word(
+    alloc: Global,
+    word: &NumberWord,
+    item: i64,
+    stack: &mut Vec<ReferenceFormula>,
+) -> Result<Option<ReferenceFormula>, AllocError> {
+    match leaf_truth(word, item) {
+        Some(truth) => Ok(Some(ReferenceFormula::Leaf(truth))),
+        None => combine(alloc, word, stack),
     }
 }
 
@@ -91,12 +136,8 @@ pub fn number_formula(
 ) -> Result<Option<ReferenceFormula>, AllocError> {
     let mut stack: Vec<ReferenceFormula> = Vec::new(alloc);
     for word in words {
-        let made = match leaf_truth(word, item) {
-            Some(truth) => ReferenceFormula::Leaf(truth),
-            None => match combine(alloc, word, &mut stack)? {
-                Some(made) => made,
-                None => return Ok(None),
-            },
+        let Some(made) = formula_of_word(alloc, word, item, &mut stack)? else {
+            return Ok(None);
         };
         stack.push(made)?;
     }

@@ -13,14 +13,13 @@ fn is_text(shown: Result<String, AllocError>, expected: &str) -> Result<bool, Al
 
 // Whether the text is printed, also under each flag, in a width and cut short.
 fn prints<T: fmt::Display>(alloc: Global, value: &T, expected: &str) -> Result<bool, AllocError> {
-    Ok(
-        is_text(value.to_string(alloc), expected)?
-            && is_text(format!(in alloc; "{value:#}"), expected)?
-            && is_text(format!(in alloc; "{value:40}"), expected)?
-            && is_text(format!(in alloc; "{value:<40}"), expected)?
-            && is_text(format!(in alloc; "{value:.3}"), expected)?
-            && is_text(format!(in alloc; "{value:*^+#0400.1}"), expected)?,
-    )
+    let plain = is_text(value.to_string(alloc), expected)?;
+    let other = is_text(format!(in alloc; "{value:#}"), expected)?;
+    let wide = is_text(format!(in alloc; "{value:40}"), expected)?;
+    let left = is_text(format!(in alloc; "{value:<40}"), expected)?;
+    let cut = is_text(format!(in alloc; "{value:.3}"), expected)?;
+    let all = is_text(format!(in alloc; "{value:*^+#0400.1}"), expected)?;
+    Ok(plain && other && wide && left && cut && all)
 }
 
 /// Whether each flag, a width and a precision leave the printed text as it is.

@@ -97,19 +97,37 @@ pub fn combined(
     first: ReferenceFormula,
     second: Option<ReferenceFormula>,
 ) -> Result<Option<ReferenceFormula>, AllocError> {
-    let first = Box::new(alloc, first)?;
-    let Some(second) = second else {
-        return Ok(match combinator {
-            Combinator::Not => Some(ReferenceFormula::Not(first)),
-            Combinator::Named(_) => Some(ReferenceFormula::Named(first)),
-            _ => None,
-        });
-    };
-    let second = Box::new(alloc, second)?;
+    match second {
+        Some(second) => over_two(alloc, combinator, first, second),
+        None => over_one(alloc, combinator, first),
+    }
+}
+
+fn over_one(
+    alloc: Global,
+    combinator: Combinator,
+    part: ReferenceFormula,
+) -> Result<Option<ReferenceFormula>, AllocError> {
+    let part = Box::new(alloc, part)?;
     Ok(match combinator {
-        Combinator::And => Some(ReferenceFormula::And(first, second)),
-        Combinator::Or => Some(ReferenceFormula::Or(first, second)),
-        Combinator::Xor => Some(ReferenceFormula::Xor(first, second)),
+        Combinator::Not => Some(ReferenceFormula::Not(part)),
+        Combinator::Named(_) => Some(ReferenceFormula::Named(part)),
+        _ => None,
+    })
+}
+
+fn over_two(
+    alloc: Global,
+    combinator: Combinator,
+    left: ReferenceFormula,
+    right: ReferenceFormula,
+) -> Result<Option<ReferenceFormula>, AllocError> {
+    let left = Box::new(alloc, left)?;
+    let right = Box::new(alloc, right)?;
+    Ok(match combinator {
+        Combinator::And => Some(ReferenceFormula::And(left, right)),
+        Combinator::Or => Some(ReferenceFormula::Or(left, right)),
+        Combinator::Xor => Some(ReferenceFormula::Xor(left, right)),
         _ => None,
     })
 }
@@ -185,6 +203,14 @@ fn numbers(alloc: Global, set: u32) -> Result<Vec<usize>, AllocError> {
     Ok(numbers)
 }
 
+// The one that comes before the other.
+fn earlier(best: Option<Vec<usize>>, found: Vec<usize>) -> Vec<usize> {
+    match best {
+        Some(best) if best.as_slice() <= found.as_slice() => best,
+        _ => found,
+    }
+}
+
 /// The first of all minimal reasons, as the order of lists has it; none for a formula of more than
 /// twelve leaves.
 pub fn first_reason(
@@ -200,13 +226,7 @@ pub fn first_reason(
     for set in 0..truths.choices {
         if truths.has_minimal_reason(set) {
             let found = numbers(alloc, set)?;
-            let is_before = match &first {
-                Some(best) => found.as_slice() < best.as_slice(),
-                None => true,
-            };
-            if is_before {
-                first = Some(found);
-            }
+            first = Some(earlier(first, found));
         }
     }
     Ok(first)

@@ -36,46 +36,61 @@ pub struct TextLeaf {
     leaf: Leaf,
 }
 
-fn comparison(alloc: Global, leaf: Comparison) -> Result<Leaf, AllocError> {
-    Ok(OneOf::First(OneOf::second(alloc, leaf)?))
+fn made(leaf: Leaf) -> Option<TextLeaf> {
+    Some(TextLeaf { leaf })
 }
 
-fn order(alloc: Global, leaf: OrdPredicate<String>) -> Result<Leaf, AllocError> {
+fn constant(leaf: BooleanPredicate<String>) -> Option<TextLeaf> {
+    made(OneOf::First(OneOf::First(leaf)))
+}
+
+fn comparison(alloc: Global, leaf: Comparison) -> Result<Option<TextLeaf>, AllocError> {
+    Ok(made(OneOf::First(OneOf::second(alloc, leaf)?)))
+}
+
+fn order(alloc: Global, leaf: OrdPredicate<String>) -> Result<Option<TextLeaf>, AllocError> {
     comparison(alloc, OneOf::second(alloc, leaf)?)
 }
 
-fn found(alloc: Global, leaf: OneOf<Ending, Part>) -> Result<Leaf, AllocError> {
-    OneOf::second(alloc, OneOf::second(alloc, leaf)?)
+fn asked(alloc: Global, leaf: Asked) -> Result<Option<TextLeaf>, AllocError> {
+    Ok(made(OneOf::second(alloc, leaf)?))
 }
 
-fn ending(alloc: Global, leaf: Ending) -> Result<Leaf, AllocError> {
-    found(alloc, OneOf::First(leaf))
+fn ending(alloc: Global, leaf: Ending) -> Result<Option<TextLeaf>, AllocError> {
+    asked(alloc, OneOf::second(alloc, OneOf::First(leaf))?)
 }
 
-fn part(alloc: Global, leaf: Part) -> Result<Leaf, AllocError> {
-    found(alloc, OneOf::second(alloc, leaf)?)
+fn ends(alloc: Global, pattern: String) -> Result<Option<TextLeaf>, AllocError> {
+    ending(alloc, OneOf::second(alloc, ends_with(pattern))?)
+}
+
+fn part(alloc: Global, leaf: Part) -> Result<Option<TextLeaf>, AllocError> {
+    let part = OneOf::second(alloc, leaf)?;
+    asked(alloc, OneOf::second(alloc, part)?)
+}
+
+fn counted(alloc: Global, pattern: String, count: usize) -> Result<Option<TextLeaf>, AllocError> {
+    part(alloc, OneOf::second(alloc, contains(pattern).count(count))?)
 }
 
 // The leaf that a word names; none where it names an adapter or a combinator.
-fn leaf_of_word(alloc: Global, word: TextWord) -> Result<Option<Leaf>, AllocError> {
-    Ok(Some(match word {
-        TextWord::Always => OneOf::First(OneOf::First(always())),
-        TextWord::Never => OneOf::First(OneOf::First(never())),
-        TextWord::Empty => OneOf::second(alloc, OneOf::First(is_empty()))?,
-        TextWord::Equal(c) => comparison(alloc, OneOf::First(eq(c)))?,
-        TextWord::Unequal(c) => comparison(alloc, OneOf::First(ne(c)))?,
-        TextWord::Less(c) => order(alloc, lt(c))?,
-        TextWord::AtMost(c) => order(alloc, le(c))?,
-        TextWord::AtLeast(c) => order(alloc, ge(c))?,
-        TextWord::Greater(c) => order(alloc, gt(c))?,
-        TextWord::Starts(p) => ending(alloc, OneOf::First(starts_with(p)))?,
-        TextWord::Ends(p) => ending(alloc, OneOf::second(alloc, ends_with(p))?)?,
-        TextWord::Contains(p) => part(alloc, OneOf::First(contains(p)))?,
-        TextWord::Counted(p, count) => {
-            part(alloc, OneOf::second(alloc, contains(p).count(count))?)?
-        }
-        _ => return Ok(None),
-    }))
+fn leaf_of_word(alloc: Global, word: TextWord) -> Result<Option<TextLeaf>, AllocError> {
+    match word {
+        TextWord::Always => Ok(constant(always())),
+        TextWord::Never => Ok(constant(never())),
+        TextWord::Empty => asked(alloc, OneOf::First(is_empty())),
+        TextWord::Equal(c) => comparison(alloc, OneOf::First(eq(c))),
+        TextWord::Unequal(c) => comparison(alloc, OneOf::First(ne(c))),
+        TextWord::Less(c) => order(alloc, lt(c)),
+        TextWord::AtMost(c) => order(alloc, le(c)),
+        TextWord::AtLeast(c) => order(alloc, ge(c)),
+        TextWord::Greater(c) => order(alloc, gt(c)),
+        TextWord::Starts(p) => ending(alloc, OneOf::First(starts_with(p))),
+        TextWord::Ends(p) => ends(alloc, p),
+        TextWord::Contains(p) => part(alloc, OneOf::First(contains(p))),
+        TextWord::Counted(p, count) => counted(alloc, p, count),
+        _ => Ok(None),
+    }
 }
 
 impl fmt::Display for TextLeaf {
@@ -168,9 +183,9 @@ impl FromWords<TextWord, String> for TextLeaf {
         alloc: Global,
         words: &mut Vec<TextWord>,
     ) -> Result<Option<TextLeaf>, AllocError> {
-        let Some(word) = words.pop() else {
-            return Ok(None);
-        };
-        Ok(leaf_of_word(alloc, word)?.map(|leaf| TextLeaf { leaf }))
+        match words.pop() {
+            Some(word) => leaf_of_word(alloc, word),
+            None => Ok(None),
+        }
     }
 }

@@ -81,6 +81,40 @@ fn part_count(word: &TextWord) -> u8 {
     }
 }
 
+// The text as the parts see it.
+fn seen_as(text: Result<String, AllocError>) -> Result<Option<SeenItem>, AllocError> {
+    Ok(Some(SeenItem::Text(text?)))
+}
+
+// What the parts of a word over a text see; none where it is one over bytes.
+fn seen_of_text(
+    alloc: Global,
+    word: &TextWord,
+    text: &str,
+) -> Result<Option<SeenItem>, AllocError> {
+    match word {
+        TextWord::Trim => seen_as(String::from_str(alloc, text.trim())),
+        TextWord::Normalize => seen_as(even(alloc, text)),
+        TextWord::FromUtf8 => Ok(None),
+        _ => seen_as(String::from_str(alloc, text)),
+    }
+}
+
+// What the parts of a word over bytes see; none where it is one over a text.
+fn seen_of_bytes(
+    alloc: Global,
+    word: &TextWord,
+    bytes: &[u8],
+) -> Result<Option<SeenItem>, AllocError> {
+    match word {
+        TextWord::FromUtf8 => {
+            seen_as(String::from_str(alloc, str::from_utf8(bytes).unwrap_or("")))
+        }
+        TextWord::Trim | TextWord::Normalize => Ok(None),
+        _ => Ok(Some(SeenItem::Bytes(Vec::from_slice(alloc, bytes)?))),
+    }
+}
+
 // The item that the word's parts see, which for bytes that are no text is empty; none where the
 // word is not one of such items.
 fn seen_by_parts(
@@ -88,22 +122,47 @@ fn seen_by_parts(
     word: &TextWord,
     item: &SeenItem,
 ) -> Result<Option<SeenItem>, AllocError> {
-    let seen = match (word, item) {
-        (TextWord::Trim, SeenItem::Text(text)) => {
-            SeenItem::Text(String::from_str(alloc, text.as_str().trim())?)
-        }
-        (TextWord::Normalize, SeenItem::Text(text)) => {
-            SeenItem::Text(even(alloc, text.as_str())?)
-        }
-        (TextWord::FromUtf8, SeenItem::Bytes(bytes)) => {
-            let text = str::from_utf8(bytes.as_slice()).unwrap_or("");
-            SeenItem::Text(String::from_str(alloc, text)?)
-        }
-        (TextWord::Trim | TextWord::Normalize | TextWord::FromUtf8, _) => return Ok(None),
-        (_, SeenItem::Text(text)) => SeenItem::Text(text.clone()?),
-        (_, SeenItem::Bytes(bytes)) => SeenItem::Bytes(bytes.clone()?),
+    match item {
+        SeenItem::Text(text) => seen_of_text(alloc, word, text.as_str()),
+        SeenItem::Bytes(bytes) => seen_of_bytes(alloc, word, bytes.as_slice()),
+    }
+}
+
+fn is_no_text(item: &SeenItem) -> bool {
+    match item {
+        SeenItem::Text(_) => false,
+        SeenItem::Bytes(bytes) => str::from_utf8(bytes.as_slice()).is_err(),
+    }
+}
+
+// The formula of a word over one part or two; none where they are not as many.
+fn formula_over(
+    alloc: Global,
+    word: &TextWord,
+    item: &SeenItem,
+    first: ReferenceFormula,
+    second: Option<ReferenceFormula>,
+) -> Result<Option<ReferenceFormula>, AllocError> {
+    match word.combinator() {
+        Some(combinator) => combined(alloc, combinator, first, second),
+        None if is_no_text(item) => Ok(Some(ReferenceFormula::Leaf(false))),
+        None => Ok(Some(first)),
+    }
+}
+
+// The formula of a leaf; none where the word names none over such items.
+fn leaf_formula(
+    alloc: Global,
+    word: &TextWord,
+    item: &SeenItem,
+) -> Result<Option<ReferenceFormula>, AllocError> {
+    let SeenItem::Text(text) = item else {
+        return Ok(None);
     };
-    Ok(Some(seen))
+    match leaf_truth(alloc, word, text.as_str())? {
+        Some(truth) => Ok(Some(ReferenceFormula::Leaf(truth))),
+        None => Ok(None),
+    }
 }
 
 // The formula of the word over those of its parts; none where they are not as many.
@@ -114,16 +173,9 @@ fn combine(
     first: Option<ReferenceFormula>,
     second: Option<ReferenceFormula>,
 ) -> Result<Option<ReferenceFormula>, AllocError> {
-    match (first, word.combinator(), item) {
-        (Some(first), Some(combinator), _) => combined(alloc, combinator, first, second),
-        (Some(_), None, SeenItem::Bytes(bytes)) if str::from_utf8(bytes.as_slice()).is_err() => {
-            Ok(Some(ReferenceFormula::Leaf(false)))
-        }
-        (Some(part), None, _) => Ok(Some(part)),
-        (None, _, SeenItem::Text(text)) => {
-            Ok(leaf_truth(alloc, word, text.as_str())?.map(ReferenceFormula::Leaf))
-        }
-        (None, _, SeenItem::Bytes(_)) => Ok(None),
+    match first {
+        Some(first) => formula_over(alloc, word, item, first, second),
+        None => leaf_formula(alloc, word, item),
     }
 }
 

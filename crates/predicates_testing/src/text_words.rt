@@ -84,31 +84,57 @@ fn counted_word(before: Option<TextWord>, count: &str) -> Option<TextWord> {
     }
 }
 
+fn named_word(name: Option<StaticText>) -> Option<TextWord> {
+    Some(TextWord::Named(name?))
+}
+
+fn word_of_text(name: &str, text: Option<String>) -> Option<TextWord> {
+    match text {
+        Some(text) => word_with_text(name, text),
+        None => None,
+    }
+}
+
 fn read_text_word(alloc: Global, word: &str) -> Result<Option<TextWord>, AllocError> {
     let Some((name, value)) = word.split_once('=') else {
         return Ok(bare_word(word));
     };
     if name == "name" {
-        return Ok(read_name(alloc, value)?.map(TextWord::Named));
+        Ok(named_word(read_name(alloc, value)?))
+    } else {
+        Ok(word_of_text(name, unescape(alloc, value)?))
     }
-    Ok(match unescape(alloc, value)? {
-        Some(text) => word_with_text(name, text),
-        None => None,
-    })
+}
+
+// Adds the word that was read, if it was.
+fn add_read(words: &mut Vec<TextWord>, read: Option<TextWord>) -> Result<bool, AllocError> {
+    match read {
+        Some(read) => {
+            words.push(read)?;
+            Ok(true)
+        }
+        None => Ok(false),
+    }
+}
+
+// Adds a word; false where it is unknown.
+fn add_word(alloc: Global, words: &mut Vec<TextWord>, word: &str) -> Result<bool, AllocError> {
+    match word.strip_prefix("count=") {
+        Some(count) => {
+            let counted = counted_word(words.pop(), count);
+            add_read(words, counted)
+        }
+        None => add_read(words, read_text_word(alloc, word)?),
+    }
 }
 
 /// The words of a line that spaces part; none where one of them is unknown.
 pub fn read_text_words(alloc: Global, line: &str) -> Result<Option<Vec<TextWord>>, AllocError> {
     let mut words: Vec<TextWord> = Vec::new(alloc);
     for word in line.split(' ') {
-        let read = match word.strip_prefix("count=") {
-            Some(count) => counted_word(words.pop(), count),
-            None => read_text_word(alloc, word)?,
-        };
-        let Some(read) = read else {
+        if !add_word(alloc, &mut words, word)? {
             return Ok(None);
-        };
-        words.push(read)?;
+        }
     }
     Ok(Some(words))
 }

@@ -4,7 +4,7 @@ ghost use Rattle.predicates_testing.specs.Level.{all_parts};
 ghost use Rattle.predicates_testing.specs.OneOf.{lawful_by_type};
 
 use crate::answers::Answers;
-use crate::from_words::{FromWords, answer};
+use crate::from_words::{FromWords, answer, some};
 use crate::level::Level;
 use crate::text_leaf::TextLeaf;
 use crate::text_level::TextLevel;
@@ -30,6 +30,32 @@ fn pop_adapter(words: &mut Vec<TextWord>) -> Option<Adapter> {
     Some(found)
 }
 
+// The adapter over the predicate at the words' end.
+fn adapted<P: FromWords<TextWord, String>>(
+    alloc: Global,
+    words: &mut Vec<TextWord>,
+    adapter: Adapter,
+) -> Result<Option<TextLevel<P>>, AllocError> {
+    let Some(part) = P::from_words(alloc, words)? else {
+        return Ok(None);
+    };
+    match adapter {
+        Adapter::Trim => some(TextLevel::trim(alloc, part)),
+        Adapter::Normalize => some(TextLevel::normalize(alloc, part)),
+    }
+}
+
+// The predicate at the words' end, under no adapter.
+fn plain<P: FromWords<TextWord, String>>(
+    alloc: Global,
+    words: &mut Vec<TextWord>,
+) -> Result<Option<TextLevel<P>>, AllocError> {
+    match Level::<P, String>::from_words(alloc, words)? {
+        Some(level) => Ok(Some(TextLevel::of_level(level))),
+        None => Ok(None),
+    }
+}
+
 impl<P: FromWords<TextWord, String>> FromWords<TextWord, String> for TextLevel<P> {
     ghost always_lawful = { λ p. lawful_by_type
         (λ l. all_parts P.always_lawful l.node)
@@ -42,20 +68,10 @@ impl<P: FromWords<TextWord, String>> FromWords<TextWord, String> for TextLevel<P
         alloc: Global,
         words: &mut Vec<TextWord>,
     ) -> Result<Option<TextLevel<P>>, AllocError> {
-        Ok(match pop_adapter(words) {
-            Some(Adapter::Trim) => match P::from_words(alloc, words)? {
-                Some(part) => Some(TextLevel::trim(alloc, part)?),
-                None => None,
-            },
-            Some(Adapter::Normalize) => match P::from_words(alloc, words)? {
-                Some(part) => Some(TextLevel::normalize(alloc, part)?),
-                None => None,
-            },
-            None => match Level::<P, String>::from_words(alloc, words)? {
-                Some(level) => Some(TextLevel::of_level(level)),
-                None => None,
-            },
-        })
+        match pop_adapter(words) {
+            Some(adapter) => adapted(alloc, words, adapter),
+            None => plain(alloc, words),
+        }
     }
 }
 
@@ -85,11 +101,22 @@ impl<P: FromWords<TextWord, String>> FromWords<TextWord, Vec<u8>> for Utf8Predic
     }
 }
 
-type Text2 = TextLevel<TextLevel<TextLeaf>>;
+// A type of many levels is made in steps, since a call at all of them at once is dear to check.
+fn answer_two<P: FromWords<TextWord, String>>(
+    alloc: Global,
+    words: Vec<TextWord>,
+    item: &String,
+) -> Result<Option<Answers>, AllocError> {
+    answer::<TextLevel<TextLevel<P>>, TextWord, String>(alloc, words, item)
+}
 
-type Text = TextLevel<TextLevel<TextLevel<Text2>>>;
-
-type Bytes = Level<Level<Utf8Predicate<Text2>, Vec<u8>>, Vec<u8>>;
+fn answer_four<P: FromWords<TextWord, String>>(
+    alloc: Global,
+    words: Vec<TextWord>,
+    item: &String,
+) -> Result<Option<Answers>, AllocError> {
+    answer_two::<TextLevel<TextLevel<P>>>(alloc, words, item)
+}
 
 /// What the predicate of the words answers on a text, which is made of the library's own types at
 /// every node; none where the words are not one predicate of texts.
@@ -98,7 +125,23 @@ pub fn answer_text(
     words: Vec<TextWord>,
     item: &String,
 ) -> Result<Option<Answers>, AllocError> {
-    answer::<Text, TextWord, String>(alloc, words, item)
+    answer_four::<TextLevel<TextLeaf>>(alloc, words, item)
+}
+
+fn answer_over<P: FromWords<TextWord, Vec<u8>>>(
+    alloc: Global,
+    words: Vec<TextWord>,
+    item: &Vec<u8>,
+) -> Result<Option<Answers>, AllocError> {
+    answer::<Level<Level<P, Vec<u8>>, Vec<u8>>, TextWord, Vec<u8>>(alloc, words, item)
+}
+
+fn answer_utf8<P: FromWords<TextWord, String>>(
+    alloc: Global,
+    words: Vec<TextWord>,
+    item: &Vec<u8>,
+) -> Result<Option<Answers>, AllocError> {
+    answer_over::<Utf8Predicate<P>>(alloc, words, item)
 }
 
 /// What the predicate of the words answers on bytes, which is made of the library's own types at
@@ -108,5 +151,5 @@ pub fn answer_bytes(
     words: Vec<TextWord>,
     item: &Vec<u8>,
 ) -> Result<Option<Answers>, AllocError> {
-    answer::<Bytes, TextWord, Vec<u8>>(alloc, words, item)
+    answer_utf8::<TextLevel<TextLevel<TextLeaf>>>(alloc, words, item)
 }

@@ -101,30 +101,55 @@ pub fn read_name(alloc: Global, written: &str) -> Result<Option<StaticText>, All
     Ok(None)
 }
 
+fn named_word(name: Option<StaticText>) -> Option<NumberWord> {
+    Some(NumberWord::Named(name?))
+}
+
+fn list_word(name: &str, list: Option<Vec<i64>>) -> Option<NumberWord> {
+    let list = list?;
+    Some(match name {
+        "in_iter" => NumberWord::Listed(list),
+        "sorted" => NumberWord::Sorted(list),
+        _ => NumberWord::Hashed(list),
+    })
+}
+
+fn number_word(name: &str, value: &str) -> Option<NumberWord> {
+    match value.parse::<i64>() {
+        Ok(constant) => compared_word(name, constant),
+        Err(_) => None,
+    }
+}
+
 fn read_number_word(alloc: Global, word: &str) -> Result<Option<NumberWord>, AllocError> {
     let Some((name, value)) = word.split_once('=') else {
         return Ok(bare_word(word));
     };
-    Ok(match name {
-        "name" => read_name(alloc, value)?.map(NumberWord::Named),
-        "in_iter" => read_numbers(alloc, value)?.map(NumberWord::Listed),
-        "sorted" => read_numbers(alloc, value)?.map(NumberWord::Sorted),
-        "in_hash" => read_numbers(alloc, value)?.map(NumberWord::Hashed),
-        _ => match value.parse::<i64>() {
-            Ok(constant) => compared_word(name, constant),
-            Err(_) => None,
-        },
-    })
+    match name {
+        "name" => Ok(named_word(read_name(alloc, value)?)),
+        "in_iter" | "sorted" | "in_hash" => Ok(list_word(name, read_numbers(alloc, value)?)),
+        _ => Ok(number_word(name, value)),
+    }
+}
+
+// Adds a word; false where it is unknown.
+fn add_word(alloc: Global, words: &mut Vec<NumberWord>, word: &str) -> Result<bool, AllocError> {
+    match read_number_word(alloc, word)? {
+        Some(word) => {
+            words.push(word)?;
+            Ok(true)
+        }
+        None => Ok(false),
+    }
 }
 
 /// The words of a line that spaces part; none where one of them is unknown.
 pub fn read_number_words(alloc: Global, line: &str) -> Result<Option<Vec<NumberWord>>, AllocError> {
     let mut words = Vec::new(alloc);
     for word in line.split(' ') {
-        let Some(word) = read_number_word(alloc, word)? else {
+        if !add_word(alloc, &mut words, word)? {
             return Ok(None);
-        };
-        words.push(word)?;
+        }
     }
     Ok(Some(words))
 }

@@ -1,3 +1,4 @@
+mod asked;
 mod paths;
 mod text_memberships;
 mod texts;

@@ -18,25 +18,36 @@ fn shown_numbers(alloc: Global, numbers: &[usize]) -> Result<String> {
     Ok(text)
 }
 
-// Compares the leaves that the case keeps, and those that the reference program finds, where there
-// are at most nine.
+fn compare_numbers(
+    outcome: &mut Outcome,
+    column: &'static str,
+    expected: &str,
+    numbers: &[usize],
+) -> Result<()> {
+    let found = shown_numbers(outcome.alloc, numbers)?;
+    outcome.compare_text(column, expected, found.as_str())
+}
+
+// Compares the leaves that the reference program finds, where there are at most nine.
+fn compare_first(outcome: &mut Outcome, formula: &ReferenceFormula, kept: &str) -> Result<()> {
+    match first_reason(outcome.alloc, formula)? {
+        Some(first) => compare_numbers(outcome, "first reason", kept, first.as_slice()),
+        None => Ok(()),
+    }
+}
+
+// Compares the leaves that the case keeps, and then those that the reference program finds.
 fn compare_kept(
     outcome: &mut Outcome,
     answers: &Answers,
     formula: &ReferenceFormula,
     kept: &str,
 ) -> Result<()> {
-    let alloc = outcome.alloc;
-    let Some(leaves) = answers.kept_leaves(alloc, formula)? else {
+    let Some(leaves) = answers.kept_leaves(outcome.alloc, formula)? else {
         return outcome.compare_text("kept", kept, "no case that is cut from the formula");
     };
-    let found = shown_numbers(alloc, leaves.as_slice())?;
-    outcome.compare_text("kept", kept, found.as_str())?;
-    let Some(first) = first_reason(alloc, formula)? else {
-        return Ok(());
-    };
-    let found = shown_numbers(alloc, first.as_slice())?;
-    outcome.compare_text("first reason", kept, found.as_str())
+    compare_numbers(outcome, "kept", kept, leaves.as_slice())?;
+    compare_first(outcome, formula, kept)
 }
 
 // Compares the verdict and the kept leaves, both also with those of the formula, and the printed
@@ -64,10 +75,24 @@ impl<K: Items> Table for Recorded<K> {
             bail!("not six cells");
         };
         let (answers, formula) = self.items.ask(outcome.alloc, predicate, item)?;
-        compare_verdict(outcome, &answers, &formula, [verdict, kept])?;
-        outcome.compare_case("case_true", case_true, &answers.case_true)?;
-        outcome.compare_case("case_false", case_false, &answers.case_false)
+        compare_recorded(
+            outcome,
+            &answers,
+            &formula,
+            [verdict, kept, case_true, case_false],
+        )
     }
+}
+
+fn compare_recorded(
+    outcome: &mut Outcome,
+    answers: &Answers,
+    formula: &ReferenceFormula,
+    [verdict, kept, case_true, case_false]: [&str; 4],
+) -> Result<()> {
+    compare_verdict(outcome, answers, formula, [verdict, kept])?;
+    outcome.compare_case("case_true", case_true, &answers.case_true)?;
+    outcome.compare_case("case_false", case_false, &answers.case_false)
 }
 
 /// Worked rows: a name, a predicate, an item, the verdict, the kept leaves, the verdict's case, and
@@ -82,12 +107,26 @@ impl<K: Items> Table for Worked<K> {
             bail!("not seven cells");
         };
         let (answers, formula) = self.items.ask(outcome.alloc, predicate, item)?;
-        compare_verdict(outcome, &answers, &formula, [verdict, kept])?;
-        let (of_verdict, opposite) = answers.cases();
-        outcome.compare_case("case", case, of_verdict)?;
-        outcome.compare_case("case for the opposite", "none", opposite)?;
-        let (text, below) = (answers.text.as_str(), answers.description.as_str());
-        let found = format!(in outcome.alloc; "{text}\n{below}")?;
-        outcome.compare("description", description, found.as_str())
+        compare_worked(
+            outcome,
+            &answers,
+            &formula,
+            [verdict, kept, case, description],
+        )
     }
+}
+
+fn compare_worked(
+    outcome: &mut Outcome,
+    answers: &Answers,
+    formula: &ReferenceFormula,
+    [verdict, kept, case, description]: [&str; 4],
+) -> Result<()> {
+    compare_verdict(outcome, answers, formula, [verdict, kept])?;
+    let (of_verdict, opposite) = answers.cases();
+    outcome.compare_case("case", case, of_verdict)?;
+    outcome.compare_case("case for the opposite", "none", opposite)?;
+    let (text, below) = (answers.text.as_str(), answers.description.as_str());
+    let found = format!(in outcome.alloc; "{text}\n{below}")?;
+    outcome.compare("description", description, found.as_str())
 }

@@ -1,6 +1,6 @@
 //! The kinds of items that predicates are asked about.
 use crate::cells::{bytes, text};
-use anyhow::{Context, Result};
+use anyhow::{Context, Result, bail};
 use predicates_testing::{
     Answers, ReferenceFormula, TextWord, answer_bytes, answer_list, answer_number, answer_text,
     bytes_formula, list_formula, number_formula, read_number_words, read_numbers, read_text_words,
@@ -21,6 +21,15 @@ const NO_FORMULA: &str = "no formula";
 
 const NO_PREDICATE: &str = "no predicate, or too deep";
 
+// Both, where both are there.
+fn asked(answers: Option<Answers>, formula: Option<ReferenceFormula>) -> Asked {
+    match (answers, formula) {
+        (Some(answers), Some(formula)) => Ok((answers, formula)),
+        (None, _) => bail!(NO_PREDICATE),
+        (_, None) => bail!(NO_FORMULA),
+    }
+}
+
 /// Whole numbers in decimal.
 pub struct Numbers;
 
@@ -28,9 +37,8 @@ impl Items for Numbers {
     fn ask(&self, alloc: Global, predicate: &str, item: &str) -> Asked {
         let words = read_number_words(alloc, predicate)?.context("an unknown word")?;
         let item = item.parse::<i64>().context("no number")?;
-        let formula = number_formula(alloc, words.as_slice(), item)?.context(NO_FORMULA)?;
-        let answers = answer_number(alloc, words, item)?.context(NO_PREDICATE)?;
-        Ok((answers, formula))
+        let formula = number_formula(alloc, words.as_slice(), item)?;
+        asked(answer_number(alloc, words, item)?, formula)
     }
 }
 
@@ -41,9 +49,8 @@ impl Items for Lists {
     fn ask(&self, alloc: Global, predicate: &str, item: &str) -> Asked {
         let words = read_number_words(alloc, predicate)?.context("an unknown word")?;
         let list = read_numbers(alloc, item)?.context("no list of numbers")?;
-        let formula = list_formula(alloc, words.as_slice(), list.as_slice())?.context(NO_FORMULA)?;
-        let answers = answer_list(alloc, words, &list)?.context(NO_PREDICATE)?;
-        Ok((answers, formula))
+        let formula = list_formula(alloc, words.as_slice(), list.as_slice())?;
+        asked(answer_list(alloc, words, &list)?, formula)
     }
 }
 
@@ -57,9 +64,9 @@ pub struct Texts;
 impl Items for Texts {
     fn ask(&self, alloc: Global, predicate: &str, item: &str) -> Asked {
         let item = text(alloc, item)?;
-        let formula = text_formula(alloc, words(alloc, predicate)?, item.as_str())?;
         let answers = answer_text(alloc, words(alloc, predicate)?, &item)?;
-        Ok((answers.context(NO_PREDICATE)?, formula.context(NO_FORMULA)?))
+        let formula = text_formula(alloc, words(alloc, predicate)?, item.as_str())?;
+        asked(answers, formula)
     }
 }
 
@@ -69,8 +76,8 @@ pub struct Bytes;
 impl Items for Bytes {
     fn ask(&self, alloc: Global, predicate: &str, item: &str) -> Asked {
         let item = bytes(alloc, item)?;
-        let formula = bytes_formula(alloc, words(alloc, predicate)?, item.as_slice())?;
         let answers = answer_bytes(alloc, words(alloc, predicate)?, &item)?;
-        Ok((answers.context(NO_PREDICATE)?, formula.context(NO_FORMULA)?))
+        let formula = bytes_formula(alloc, words(alloc, predicate)?, item.as_slice())?;
+        asked(answers, formula)
     }
 }

@@ -10,17 +10,21 @@ use std::alloc::Global;
 /// Rows of a line and the number that is read from it, or `none`.
 pub struct NumberLines;
 
+fn compare_number(outcome: &mut Outcome, expected: &str, number: i64) -> Result<()> {
+    let found = number.to_string(outcome.alloc)?;
+    outcome.compare("number", expected, found.as_str())
+}
+
 impl Table for NumberLines {
     fn replay(&self, cells: &[&str], outcome: &mut Outcome) -> Result<()> {
         let [line, expected] = cells else {
             bail!("not two cells");
         };
         let line = text(outcome.alloc, line)?;
-        let found = match number(line.as_bytes()) {
-            Some(n) => n.to_string(outcome.alloc)?,
-            None => String::from_str(outcome.alloc, "none")?,
-        };
-        outcome.compare("number", expected, found.as_str())
+        match number(line.as_bytes()) {
+            Some(number) => compare_number(outcome, expected, number),
+            None => outcome.compare("number", expected, "none"),
+        }
     }
 }
 
@@ -54,15 +58,28 @@ fn run_check(alloc: Global, check: &TextCheck, mut input: &[u8]) -> Result<(bool
     }
 }
 
+fn run_checked(outcome: &mut Outcome, check: &TextCheck, input: &[u8]) -> Result<(bool, Vec<u8>)> {
+    let is_kept = keeps_text(outcome.alloc, check)?;
+    outcome.compare_truth("same text under flags", "true", is_kept)?;
+    run_check(outcome.alloc, check, input)
+}
+
+// The run of the program's words, and whether each line was an item.
+fn run_words(outcome: &mut Outcome, words: &str, input: &[u8]) -> Result<(bool, String)> {
+    let (all, written) = run(outcome, words, input)?;
+    match String::from_utf8(written) {
+        Ok(written) => Ok((all, written)),
+        Err(_) => bail!("written bytes that are no text"),
+    }
+}
+
 // The run of the program's words.
 fn run(outcome: &mut Outcome, words: &str, input: &[u8]) -> Result<(bool, Vec<u8>)> {
     match words.split_once(' ') {
         Some(("between", bounds)) => run_bounds(outcome.alloc, bounds, input),
         Some(("text", words)) => {
             let check = read_check(outcome.alloc, words)?;
-            let is_kept = keeps_text(outcome.alloc, &check)?;
-            outcome.compare_truth("same text under flags", "true", is_kept)?;
-            run_check(outcome.alloc, &check, input)
+            run_checked(outcome, &check, input)
         }
         _ => bail!("another command"),
     }
@@ -77,10 +94,7 @@ impl Table for Runs {
             bail!("not four cells");
         };
         let input = bytes(outcome.alloc, input)?;
-        let (all, written) = run(outcome, words, input.as_slice())?;
-        let written = String::from_utf8(written)
-            .ok()
-            .context("written bytes that are no text")?;
+        let (all, written) = run_words(outcome, words, input.as_slice())?;
         outcome.compare("output", output, written.as_str())?;
         outcome.compare_text("status", status, if all { "0" } else { "1" })
     }

@@ -17,10 +17,15 @@ fn read_members(alloc: Global, cell: &str) -> Result<Vec<i64>> {
         return read_numbers(alloc, cell)?.context("no numbers");
     };
     let front = read_numbers(alloc, front)?.context("no numbers")?;
-    let [first, second] = front.as_slice() else {
+    let last = last.parse::<i64>().context("no number")?;
+    members_to(alloc, front.as_slice(), last)
+}
+
+// The members from the first of the two on, as far apart as they are, up to the last one.
+fn members_to(alloc: Global, front: &[i64], last: i64) -> Result<Vec<i64>> {
+    let [first, second] = front else {
         bail!("not two members before the points");
     };
-    let last = last.parse::<i64>().context("no number")?;
     let step = second.saturating_sub(*first);
     let mut members: Vec<i64> = Vec::new(alloc);
     let mut member = *first;
@@ -79,6 +84,20 @@ impl<'a> Expected<'a> {
     }
 }
 
+// The line of the members that are shown.
+fn shown_members(
+    alloc: Global,
+    members: &[i64],
+    values: &str,
+    brackets: [char; 2],
+) -> Result<String> {
+    if values != "long" {
+        return Ok(format!(in alloc; "values={values}\n")?);
+    }
+    let listed = text_of_members(alloc, members, brackets)?;
+    Ok(format!(in alloc; "values={listed}\n")?)
+}
+
 // Compares the verdict, and the members that are shown, whose cell is `long` for a list that is too
 // long to be written.
 fn compare_membership(
@@ -94,12 +113,7 @@ fn compare_membership(
         brackets,
     } = expected;
     outcome.compare_truth(column, verdict, answers.verdict)?;
-    let listed = if values == "long" {
-        text_of_members(outcome.alloc, members, brackets)?
-    } else {
-        String::from_str(outcome.alloc, values)?
-    };
-    let lines = format!(in outcome.alloc; "values={listed}\n")?;
+    let lines = shown_members(outcome.alloc, members, values, brackets)?;
     outcome.compare_text(column, lines.as_str(), answers.description.as_str())
 }
 
@@ -120,7 +134,25 @@ fn compare_search(
     Ok(())
 }
 
-// The list, its case, and that there is none for the opposite.
+// Compares the case of the list, and that there is none for the opposite.
+fn compare_listed(
+    outcome: &mut Outcome,
+    answers: &Answers,
+    members: &[i64],
+    expected: Expected<'_>,
+    case: &str,
+) -> Result<()> {
+    compare_membership(outcome, answers, members, expected)?;
+    let (of_verdict, opposite) = answers.cases();
+    outcome.compare_case("case_in_iter", case, of_verdict)?;
+    outcome.compare_case("the other case", "none", opposite)
+}
+
+fn ask_listed(alloc: Global, members: Vec<i64>, item: i64) -> Result<Answers> {
+    let listed = in_iter(alloc, members)?;
+    Ok(ask(alloc, &listed, &item)?)
+}
+
 fn replay_listed(
     outcome: &mut Outcome,
     members: &Vec<i64>,
@@ -128,15 +160,38 @@ fn replay_listed(
     expected: Expected<'_>,
     case: &str,
 ) -> Result<()> {
-    let alloc = outcome.alloc;
-    let answers = ask(alloc, &in_iter(alloc, members.clone()?)?, &item)?;
-    compare_membership(outcome, &answers, members.as_slice(), expected)?;
-    let (of_verdict, opposite) = answers.cases();
-    outcome.compare_case("case_in_iter", case, of_verdict)?;
-    outcome.compare_case("the other case", "none", opposite)
+    let answers = ask_listed(outcome.alloc, members.clone()?, item)?;
+    compare_listed(outcome, &answers, members.as_slice(), expected, case)
 }
 
-// The sorted list, and its search.
+fn sorted_of(alloc: Global, members: Vec<i64>) -> Result<OrdInPredicate<i64>> {
+    Ok(in_iter(alloc, members)?.sort()?)
+}
+
+fn replay_asked(
+    outcome: &mut Outcome,
+    sorted: &OrdInPredicate<i64>,
+    members: &[i64],
+    item: i64,
+    expected: Expected<'_>,
+) -> Result<()> {
+    let answers = ask(outcome.alloc, sorted, &item)?;
+    compare_membership(outcome, &answers, members, expected)
+}
+
+// Compares the sorted list, and its search.
+fn compare_sorted(
+    outcome: &mut Outcome,
+    sorted: &OrdInPredicate<i64>,
+    members: &[i64],
+    item: i64,
+    expected: Expected<'_>,
+    most: &str,
+) -> Result<()> {
+    replay_asked(outcome, sorted, members, item, expected)?;
+    compare_search(outcome, sorted, item, expected.verdict, most)
+}
+
 fn replay_sorted(
     outcome: &mut Outcome,
     members: &Vec<i64>,
@@ -144,10 +199,13 @@ fn replay_sorted(
     expected: Expected<'_>,
     most: &str,
 ) -> Result<()> {
-    let sorted = in_iter(outcome.alloc, members.clone()?)?.sort()?;
-    let answers = ask(outcome.alloc, &sorted, &item)?;
-    compare_membership(outcome, &answers, members.as_slice(), expected)?;
-    compare_search(outcome, &sorted, item, expected.verdict, most)
+    let sorted = sorted_of(outcome.alloc, members.clone()?)?;
+    compare_sorted(outcome, &sorted, members.as_slice(), item, expected, most)
+}
+
+fn ask_hashed(alloc: Global, members: Vec<i64>, item: i64) -> Result<Answers> {
+    let hashed = in_hash(alloc, members)?;
+    Ok(ask(alloc, &hashed, &item)?)
 }
 
 fn replay_hashed(
@@ -156,9 +214,21 @@ fn replay_hashed(
     item: i64,
     expected: Expected<'_>,
 ) -> Result<()> {
-    let alloc = outcome.alloc;
-    let answers = ask(alloc, &in_hash(alloc, members.clone()?)?, &item)?;
+    let answers = ask_hashed(outcome.alloc, members.clone()?, item)?;
     compare_membership(outcome, &answers, members.as_slice(), expected)
+}
+
+// The three memberships of the members, with the cells of each.
+fn replay_all(
+    outcome: &mut Outcome,
+    members: &Vec<i64>,
+    item: i64,
+    [listed, sorted, hashed]: [Expected<'_>; 3],
+    [case, most]: [&str; 2],
+) -> Result<()> {
+    replay_listed(outcome, members, item, listed, case)?;
+    replay_sorted(outcome, members, item, sorted, most)?;
+    replay_hashed(outcome, members, item, hashed)
 }
 
 impl Table for MembershipTable {
@@ -180,11 +250,11 @@ impl Table for MembershipTable {
         };
         let item = item.parse::<i64>().context("no number")?;
         let members = read_members(outcome.alloc, members)?;
-        let expected = Expected::new("in_iter", listed, listed_values, OF_LIST);
-        replay_listed(outcome, &members, item, expected, case)?;
-        let expected = Expected::new("sorted", sorted, sorted_values, OF_LIST);
-        replay_sorted(outcome, &members, item, expected, most)?;
-        let expected = Expected::new("in_hash", hashed, hashed_values, OF_SET);
-        replay_hashed(outcome, &members, item, expected)
+        let expected = [
+            Expected::new("in_iter", listed, listed_values, OF_LIST),
+            Expected::new("sorted", sorted, sorted_values, OF_LIST),
+            Expected::new("in_hash", hashed, hashed_values, OF_SET),
+        ];
+        replay_all(outcome, &members, item, expected, [case, most])
     }
 }

@@ -32,7 +32,16 @@ impl Table for PrintedTable {
             bail!("not three cells");
         };
         let answers = answer(outcome.alloc, predicate)?.context("no predicate, or too deep")?;
-        outcome.compare("text", printed, answers.text.as_str())?;
-        outcome.compare("description", description, answers.description.as_str())
+        compare_printed(outcome, &answers, printed, description)
     }
+}
+
+fn compare_printed(
+    outcome: &mut Outcome,
+    answers: &Answers,
+    printed: &str,
+    description: &str,
+) -> Result<()> {
+    outcome.compare("text", printed, answers.text.as_str())?;
+    outcome.compare("description", description, answers.description.as_str())
 }

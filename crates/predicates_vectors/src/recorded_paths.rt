@@ -78,6 +78,12 @@ fn stated_products(alloc: Global, given: &str, is_kind_of_device: bool) -> Resul
     Ok(text)
 }
 
+// The lines that the cell stands for.
+fn expected_products(alloc: Global, cell: &str, is_kind_of_device: bool) -> Result<String> {
+    let given = text(alloc, cell)?;
+    stated_products(alloc, given.as_str(), is_kind_of_device)
+}
+
 // The lines of the root's products.
 fn root_products(alloc: Global, case: &Option<Case>) -> Result<String> {
     let Some(case) = case else {
@@ -101,12 +107,27 @@ fn compare_of_path(
     outcome.compare_truth("verdict", verdict, answers.verdict)?;
     outcome.compare_text("text", printed, answers.text.as_str())?;
     outcome.compare_truth("same text under flags", "true", answers.keeps_text)?;
+    compare_products(outcome, answers, products, is_kind_of_device)
+}
+
+// Compares the products of the verdict's case, and that there is none for the opposite.
+fn compare_products(
+    outcome: &mut Outcome,
+    answers: &Answers,
+    products: &str,
+    is_kind_of_device: bool,
+) -> Result<()> {
     let (of_verdict, opposite) = answers.cases();
-    let given = text(outcome.alloc, products)?;
-    let expected = stated_products(outcome.alloc, given.as_str(), is_kind_of_device)?;
+    let expected = expected_products(outcome.alloc, products, is_kind_of_device)?;
     let found = root_products(outcome.alloc, of_verdict)?;
     outcome.compare_text("products", expected.as_str(), found.as_str())?;
     outcome.compare_case("case for the opposite", "none", opposite)
+}
+
+fn answer_at(alloc: Global, predicate: &str, what: &str) -> Result<Answers> {
+    let item = snapshot(alloc, what)?;
+    let same = same_as(snapshot(alloc, "regular file a")?)?;
+    answer(alloc, predicate, &item, same)?.context("an unknown predicate")
 }
 
 impl Table for PathTable {
@@ -114,10 +135,7 @@ impl Table for PathTable {
         let [predicate, what, verdict, printed, products] = cells else {
             bail!("not five cells");
         };
-        let alloc = outcome.alloc;
-        let item = snapshot(alloc, what)?;
-        let same = same_as(snapshot(alloc, "regular file a")?)?;
-        let answers = answer(alloc, predicate, &item, same)?.context("an unknown predicate")?;
+        let answers = answer_at(outcome.alloc, predicate, what)?;
         let is_kind_of_device = *what == DEVICE && predicate.starts_with("is_");
         compare_of_path(
             outcome,

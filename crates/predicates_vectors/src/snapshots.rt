@@ -1,10 +1,10 @@
 //! Snapshots of any parts.
 use crate::cells::{bytes, text};
 use crate::items::{Asked, Items};
-use crate::path_predicates::{answer, same_as};
+use crate::path_predicates::{answer, asked, same_as};
 use anyhow::{Context, Result};
 use predicates::path::{BinaryFilePredicate, FileType, PathFault, Snapshot};
-use predicates_testing::{Answers, ReferenceFormula, ask, bytes_formula, read_text_words};
+use predicates_testing::{Answers, ReferenceFormula, bytes_formula, read_text_words};
 use std::alloc::Global;
 
 /// Snapshots at the path `p`, as the kind there, the kind that it leads to and the content; or
@@ -31,18 +31,31 @@ fn read_kind(word: &str) -> Option<Result<FileType, PathFault>> {
     })
 }
 
+fn read_content(alloc: Global, word: &str) -> Result<Result<Vec<u8>, PathFault>> {
+    match read_fault(word) {
+        Some(fault) => Ok(Err(fault)),
+        None => Ok(Ok(bytes(alloc, word)?)),
+    }
+}
+
 /// The snapshot at the path of the three parts.
 pub fn read_snapshot(alloc: Global, path: &str, parts: &str) -> Result<Snapshot> {
     let (plain, rest) = parts.split_once(' ').context("one part alone")?;
     let (followed, content) = rest.split_once(' ').context("two parts alone")?;
     let plain = read_kind(plain).context("an unknown kind")?;
     let followed = read_kind(followed).context("an unknown kind")?;
-    let content = match read_fault(content) {
-        Some(fault) => Err(fault),
-        None => Ok(bytes(alloc, content)?),
-    };
+    let content = read_content(alloc, content)?;
     let path = String::from_str(alloc, path)?;
     Ok(Snapshot::from_parts(path, plain, followed, content))
+}
+
+fn answer_bytes(alloc: Global, digits: &str, same: BinaryFilePredicate) -> Result<Option<Answers>> {
+    asked(alloc, same, &bytes(alloc, digits)?)
+}
+
+fn answer_text(alloc: Global, written: &str, same: BinaryFilePredicate) -> Result<Option<Answers>> {
+    let item = text(alloc, written)?;
+    asked(alloc, same.utf8().context("no text")?, &item)
 }
 
 // What the comparison with the file answers on bytes or a text; none where the item is neither.
@@ -52,16 +65,11 @@ fn answer_content(
     item: &str,
     same: BinaryFilePredicate,
 ) -> Result<Option<Answers>> {
-    Ok(match (predicate, item.split_once(' ')) {
-        ("eq_file a", Some(("bytes", digits))) => {
-            Some(ask(alloc, &same, &bytes(alloc, digits)?)?)
-        }
-        ("eq_file a utf8", Some(("text", written))) => {
-            let same = same.utf8().context("no text")?;
-            Some(ask(alloc, &same, &text(alloc, written)?)?)
-        }
-        _ => None,
-    })
+    match (predicate, item.split_once(' ')) {
+        ("eq_file a", Some(("bytes", digits))) => answer_bytes(alloc, digits, same),
+        ("eq_file a utf8", Some(("text", written))) => answer_text(alloc, written, same),
+        _ => Ok(None),
+    }
 }
 
 // Whether a leaf of the words holds, by the words of the item's parts; none of other words.
@@ -88,13 +96,7 @@ fn leaf_truth(predicate: &str, parts: &str) -> Option<bool> {
     })
 }
 
-// The formula of the words: one leaf, or over a content that formula of the content, or a false
-// leaf where a fault stands in its place.
-fn formula(alloc: Global, predicate: &str, parts: &str) -> Result<ReferenceFormula> {
-    let Some(words) = predicate.strip_suffix(" from_file_path") else {
-        let truth = leaf_truth(predicate, parts).context("an unknown predicate")?;
-        return Ok(ReferenceFormula::Leaf(truth));
-    };
+fn formula_of_content(alloc: Global, words: &str, parts: &str) -> Result<ReferenceFormula> {
     let (_, content) = parts.rsplit_once(' ').context("one part alone")?;
     if read_fault(content).is_some() {
         return Ok(ReferenceFormula::Leaf(false));
@@ -104,16 +106,36 @@ fn formula(alloc: Global, predicate: &str, parts: &str) -> Result<ReferenceFormu
     bytes_formula(alloc, words, content.as_slice())?.context("no formula")
 }
 
+// The formula of the words: one leaf, or over a content that formula of the content, or a false
+// leaf where a fault stands in its place.
+fn formula(alloc: Global, predicate: &str, parts: &str) -> Result<ReferenceFormula> {
+    match predicate.strip_suffix(" from_file_path") {
+        Some(words) => formula_of_content(alloc, words, parts),
+        None => {
+            let truth = leaf_truth(predicate, parts).context("an unknown predicate")?;
+            Ok(ReferenceFormula::Leaf(truth))
+        }
+    }
+}
+
+// What the comparison with the file, or else another predicate of the words, answers.
+fn answer_any(alloc: Global, predicate: &str, item: &str) -> Result<Answers> {
+    let same = same_as(read_snapshot(alloc, "p", "file file 61")?)?;
+    match answer_content(alloc, predicate, item, same)? {
+        Some(answers) => Ok(answers),
+        None => answer_path(alloc, predicate, item),
+    }
+}
+
+fn answer_path(alloc: Global, predicate: &str, item: &str) -> Result<Answers> {
+    let same = same_as(read_snapshot(alloc, "p", "file file 61")?)?;
+    let item = read_snapshot(alloc, "p", item)?;
+    answer(alloc, predicate, &item, same)?.context("an unknown predicate")
+}
+
 impl Items for Paths {
     fn ask(&self, alloc: Global, predicate: &str, item: &str) -> Asked {
         let formula = formula(alloc, predicate, item)?;
-        let same = same_as(read_snapshot(alloc, "p", "file file 61")?)?;
-        if let Some(answers) = answer_content(alloc, predicate, item, same)? {
-            return Ok((answers, formula));
-        }
-        let same = same_as(read_snapshot(alloc, "p", "file file 61")?)?;
-        let item = read_snapshot(alloc, "p", item)?;
-        let answers = answer(alloc, predicate, &item, same)?.context("an unknown predicate")?;
-        Ok((answers, formula))
+        Ok((answer_any(alloc, predicate, item)?, formula))
     }
 }

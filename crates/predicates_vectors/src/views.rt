@@ -24,6 +24,13 @@ pub struct TextPairs;
 // The greatest number of characters of which every choice of places is tried.
 const SHORT: usize = 7;
 
+// Whether a predicate holds of a text.
+fn holds<P: Predicate<String> + Drop>(alloc: Global, predicate: P, item: &String) -> Result<bool>
+    requires { P.lawful predicate }
+{
+    Ok(predicate.eval(alloc, item)?)
+}
+
 // The three tests of parts, with their cells.
 fn compare_parts(
     outcome: &mut Outcome,
@@ -33,11 +40,11 @@ fn compare_parts(
 ) -> Result<()> {
     let [starts, ends, contained] = cells;
     let alloc = outcome.alloc;
-    let found = starts_with(pattern.clone()?).eval(alloc, item)?;
+    let found = holds(alloc, starts_with(pattern.clone()?), item)?;
     outcome.compare_truth("starts", starts, found)?;
-    let found = ends_with(pattern.clone()?).eval(alloc, item)?;
+    let found = holds(alloc, ends_with(pattern.clone()?), item)?;
     outcome.compare_truth("ends", ends, found)?;
-    let found = contains(pattern.clone()?).eval(alloc, item)?;
+    let found = holds(alloc, contains(pattern.clone()?), item)?;
     outcome.compare_truth("contains", contained, found)
 }
 
@@ -52,10 +59,10 @@ fn compare_counts(
     let found = count(item.as_str(), pattern.as_str());
     outcome.compare_number("count", expected, found)?;
     let number = expected.parse::<usize>().context("no number")?;
-    let exact = contains(pattern.clone()?).count(number).eval(alloc, item)?;
+    let exact = holds(alloc, contains(pattern.clone()?).count(number), item)?;
     outcome.compare_truth("counted", "true", exact)?;
-    let more = contains(pattern.clone()?).count(number.saturating_add(1));
-    let more = more.eval(alloc, item)?;
+    let more = number.saturating_add(1);
+    let more = holds(alloc, contains(pattern.clone()?).count(more), item)?;
     outcome.compare_truth("counted as one more", "false", more)
 }
 
@@ -82,10 +89,24 @@ impl Table for TextPairs {
         };
         let pattern = text(outcome.alloc, pattern)?;
         let item = text(outcome.alloc, item)?;
-        compare_parts(outcome, &pattern, &item, [starts, ends, contained])?;
-        compare_counts(outcome, &pattern, &item, expected_count)?;
-        compare_choices(outcome, &pattern, &item, expected_count)
+        compare_pair(
+            outcome,
+            &pattern,
+            &item,
+            [starts, ends, contained, expected_count],
+        )
     }
+}
+
+fn compare_pair(
+    outcome: &mut Outcome,
+    pattern: &String,
+    item: &String,
+    [starts, ends, contained, expected_count]: [&str; 4],
+) -> Result<()> {
+    compare_parts(outcome, pattern, item, [starts, ends, contained])?;
+    compare_counts(outcome, pattern, item, expected_count)?;
+    compare_choices(outcome, pattern, item, expected_count)
 }
 
 /// Rows of a text and what is left without the white space at its ends.
@@ -96,16 +117,16 @@ impl Table for TrimmedTexts {
         let [item, expected] = cells else {
             bail!("not two cells");
         };
-        let alloc = outcome.alloc;
-        let (item, expected) = (
-            text_of_digits(alloc, item)?,
-            text_of_digits(alloc, expected)?,
-        );
-        let found = trimmed(alloc, item.as_str())?;
-        outcome.compare_text("trimmed", expected.as_str(), found.as_str())?;
-        let is_equal = eq(expected).trim().eval(alloc, &item)?;
-        outcome.compare_truth("equal behind trim", "true", is_equal)
+        let item = text_of_digits(outcome.alloc, item)?;
+        compare_trimmed(outcome, &item, text_of_digits(outcome.alloc, expected)?)
     }
+}
+
+fn compare_trimmed(outcome: &mut Outcome, item: &String, expected: String) -> Result<()> {
+    let found = trimmed(outcome.alloc, item.as_str())?;
+    outcome.compare_text("trimmed", expected.as_str(), found.as_str())?;
+    let is_equal = holds(outcome.alloc, eq(expected).trim(), item)?;
+    outcome.compare_truth("equal behind trim", "true", is_equal)
 }
 
 /// Rows of a text and the same with even line endings.
@@ -116,16 +137,16 @@ impl Table for EvenTexts {
         let [item, expected] = cells else {
             bail!("not two cells");
         };
-        let alloc = outcome.alloc;
-        let (item, expected) = (
-            text_of_digits(alloc, item)?,
-            text_of_digits(alloc, expected)?,
-        );
-        let found = lines_even(alloc, item.as_str())?;
-        outcome.compare_text("even", expected.as_str(), found.as_str())?;
-        let is_equal = eq(expected).normalize().eval(alloc, &item)?;
-        outcome.compare_truth("equal behind normalize", "true", is_equal)
+        let item = text_of_digits(outcome.alloc, item)?;
+        compare_even(outcome, &item, text_of_digits(outcome.alloc, expected)?)
     }
+}
+
+fn compare_even(outcome: &mut Outcome, item: &String, expected: String) -> Result<()> {
+    let found = lines_even(outcome.alloc, item.as_str())?;
+    outcome.compare_text("even", expected.as_str(), found.as_str())?;
+    let is_equal = holds(outcome.alloc, eq(expected).normalize(), item)?;
+    outcome.compare_truth("equal behind normalize", "true", is_equal)
 }
 
 /// Rows of bytes and whether they are a text.

@@ -8,9 +8,54 @@ mod program;
 mod reference;
 
 use predicates_vet::settings::{Report, Settings};
-use predicates_vet::{Counts, read_checks, run_records};
+use predicates_vet::{Counts, ReadChecksError, RunFault, read_checks, run_records};
 use std::alloc::{AllocError, Global};
 use std::test::Fail;
+
+// What a run writes, its messages, and how it ends.
+type Run = (Vec<u8>, Vec<u8>, Result<Counts, RunFault>);
+
+// The messages of a run by the rules over the records, and how it ends.
+fn run_onto(
+    alloc: Global,
+    settings: &Settings,
+    rules: &[u8],
+    mut records: &[u8],
+    output: &mut Vec<u8>,
+) -> Result<(Vec<u8>, Result<Counts, RunFault>), ReadChecksError> {
+    let checks = read_checks(alloc, rules)?;
+    let mut messages = Vec::new(alloc);
+    let ended = run_records(
+        alloc,
+        &checks,
+        settings,
+        &mut records,
+        output,
+        &mut messages,
+    );
+    Ok((messages, ended))
+}
+
+// The run by the rules over the records.
+fn run_of(
+    alloc: Global,
+    settings: &Settings,
+    rules: &[u8],
+    records: &[u8],
+) -> Result<Run, ReadChecksError> {
+    let mut output = Vec::new(alloc);
+    let (messages, ended) = run_onto(alloc, settings, rules, records, &mut output)?;
+    Ok((output, messages, ended))
+}
+
+// Settings with this path of the labels.
+fn settings_of(alloc: Global, report: Report, id: Option<&str>) -> Result<Settings, AllocError> {
+    let id = match id {
+        Some(path) => Some(String::from_str(alloc, path)?),
+        None => None,
+    };
+    Ok(Settings { report, id })
+}
 
 // Whether a run over the records writes this, with these counts.
 fn writes(
@@ -20,34 +65,18 @@ fn writes(
     rules: &str,
     records: &[u8],
     expected: &[u8],
-    counts: (u64, u64, u64),
+    (records_read, failed, unreadable): (u64, u64, u64),
 ) -> Result<bool, AllocError> {
-    let Ok(checks) = read_checks(alloc, rules.as_bytes()) else {
-        return Ok(false);
-    };
-    let id = match id {
-        Some(path) => Some(String::from_str(alloc, path)?),
-        None => None,
-    };
-    let settings = Settings { report, id };
-    let mut input = records;
-    let mut output = Vec::new(alloc);
-    let mut messages = Vec::new(alloc);
-    let ended = run_records(
-        alloc,
-        checks.as_slice(),
-        &settings,
-        &mut input,
-        &mut output,
-        &mut messages,
-    );
-    let (records, failed, unreadable) = counts;
     let counts = Counts {
-        records,
+        records: records_read,
         failed,
         unreadable,
     };
-    Ok(ended == Ok(counts) && output.as_slice() == expected)
+    let settings = settings_of(alloc, report, id)?;
+    match run_of(alloc, &settings, rules.as_bytes(), records) {
+        Ok((output, _, ended)) => Ok(ended == Ok(counts) && output.as_slice() == expected),
+        Err(_) => Ok(false),
+    }
 }
 
 // A rule, a record, and the lines below the label of its block, or nothing where the record keeps

@@ -1,5 +1,5 @@
 //! Checks of words: policies that are read and asked, each error's text, and the limit of depth.
-use super::{read_check, texts_of};
+use super::{is_shown, read_check, texts_of};
 use predicates::Predicate;
 use predicates::prelude::*;
 use predicates_explain::{MAX_DEPTH, TextCheck, WordsError};
@@ -30,15 +30,20 @@ fn error_text(alloc: Global, words: &[String]) -> Result<String, AllocError> {
     }
 }
 
+// Whether this is the text of the words' error.
+fn is_told(alloc: Global, words: Vec<String>, expected: &str) -> Result<bool, AllocError> {
+    let text = error_text(alloc, &words)?;
+    Ok(text.as_str() == expected)
+}
+
 #[test]
 fn texts_of_errors(rt: HostRuntime) -> Result<(), Fail> {
     let alloc = rt.alloc();
     for (tokens, expected) in REJECTED {
-        let text = error_text(alloc, &texts_of(alloc, tokens)?)?;
-        assert_eq!(rt; text.as_str(), expected);
+        let right = is_told(alloc, texts_of(alloc, tokens)?, expected)?;
+        assert!(rt; right, "{expected}");
     }
-    let text = WordsError::NoMemory.to_string(alloc)?;
-    assert_eq!(rt; text.as_str(), "out of memory");
+    assert!(rt; is_shown(alloc, WordsError::NoMemory, "out of memory")?);
     Ok(())
 }
 
@@ -54,20 +59,27 @@ fn nested(alloc: Global, token: &str, levels: usize) -> Result<Vec<String>, Allo
     Ok(words)
 }
 
+// Whether the deepest check that is read holds of no characters.
+fn deepest_holds(alloc: Global, token: &str) -> Result<bool, Fail> {
+    let words = nested(alloc, token, MAX_DEPTH)?;
+    let check = TextCheck::from_words(alloc, &words)?;
+    Ok(check.eval(alloc, &String::new(alloc))?)
+}
+
+const TOO_DEEP: [(&str, &str); 2] = [
+    ("not", "word 2002, \"not\": check nested too deep"),
+    ("or", "word 4003, \"or\": check nested too deep"),
+];
+
 #[test]
 fn limit_of_depth(rt: HostRuntime) -> Result<(), Fail> {
     let alloc = rt.alloc();
-    let rows = [
-        ("not", "word 2002, \"not\": check nested too deep"),
-        ("or", "word 4003, \"or\": check nested too deep"),
-    ];
-    for (token, expected) in rows {
-        let deepest = nested(alloc, token, MAX_DEPTH)?;
-        assert_eq!(rt; error_text(alloc, &deepest)?.as_str(), "read");
-        let check = TextCheck::from_words(alloc, &deepest)?;
-        assert!(rt; check.eval(alloc, &String::new(alloc))?);
-        let deeper = nested(alloc, token, MAX_DEPTH + 5)?;
-        assert_eq!(rt; error_text(alloc, &deeper)?.as_str(), expected);
+    for (token, expected) in TOO_DEEP {
+        let is_read = is_told(alloc, nested(alloc, token, MAX_DEPTH)?, "read")?;
+        assert!(rt; is_read, "{token}");
+        assert!(rt; deepest_holds(alloc, token)?, "{token}");
+        let is_refused = is_told(alloc, nested(alloc, token, MAX_DEPTH + 5)?, expected)?;
+        assert!(rt; is_refused, "{token}");
     }
     Ok(())
 }
@@ -80,17 +92,24 @@ fn outcome(alloc: Global, policy: &TextCheck, item: &str) -> Result<String, Allo
     }
 }
 
+const POLICY: [&str; 6] = ["empty", "trim", "not", "contains=#", "not", "and"];
+
+// Whether this is said of the item.
+fn says(alloc: Global, item: &str, expected: &str) -> Result<bool, Fail> {
+    let policy = read_check(alloc, &POLICY)?;
+    let text = outcome(alloc, &policy, item)?;
+    Ok(text.as_str() == expected)
+}
+
 #[test]
 fn policies(rt: HostRuntime) -> Result<(), Fail> {
-    let alloc = rt.alloc();
-    let policy = read_check(alloc, &["empty", "trim", "not", "contains=#", "not", "and"])?;
-    assert_eq!(rt; outcome(alloc, &policy, "a line")?.as_str(), "met");
+    assert!(rt; says(rt.alloc(), "a line", "met")?);
     let lines = "\
 ((! var.is_empty()) && (! var.contains(#))) = false
   right: (! var.contains(#)) = false
     predicate: var.contains(#) = true
       - var: a # b
 ";
-    assert_eq!(rt; outcome(alloc, &policy, "a # b")?.as_str(), lines);
+    assert!(rt; says(rt.alloc(), "a # b", lines)?);
     Ok(())
 }

@@ -1,9 +1,12 @@
 //! What no contract says: that calls succeed, and where faults come from.
+use super::is_shown;
+use predicates::Total;
 use predicates::boolean::PredicateBooleanExt;
 use predicates::ord::{ge, le, lt};
 use predicates_explain::{RunFault, explain_one, explain_total, number, run_between};
 use predicates_fakes::{Narrow, Slow, Unflushed};
-use std::alloc::Global;
+use predicates_testing::keeps_text;
+use std::alloc::{AllocError, Global};
 use std::io::ErrorKind;
 use std::test::Fail;
 
@@ -110,12 +113,9 @@ fn flushed_at_each_end(rt: HostRuntime) -> Result<(), Fail> {
 
 #[test]
 fn flags_change_no_fault(rt: HostRuntime) -> Result<(), Fail> {
-    let shown = RunFault::Output.to_string(rt.alloc())?;
-    assert_eq!(rt; shown.as_str(), "output could not be written");
+    assert!(rt; is_shown(rt.alloc(), RunFault::Output, "output could not be written")?);
     for fault in [RunFault::NoMemory, RunFault::Input, RunFault::Output] {
-        let plain = format!(in rt.alloc(); "{fault} {fault} {fault}")?;
-        let flagged = format!(in rt.alloc(); "{fault:#} {fault:40} {fault:.3}")?;
-        assert_eq!(rt; flagged, plain);
+        assert!(rt; keeps_text(rt.alloc(), &fault)?);
     }
     Ok(())
 }
@@ -158,22 +158,44 @@ fn bounds_that_hold_no_number_one_or_all(rt: HostRuntime) {
     }
 }
 
-#[test]
-fn blocks_of_one_item(rt: HostRuntime) -> Result<(), Fail> {
-    let alloc = rt.alloc();
-    let between = ge(5).and(le(10));
-    assert_eq!(rt; explain_one(alloc, &between, "7", &7)?.as_str(), SEVEN);
-    let outside = lt(5).or(le(10).not());
-    assert_eq!(rt;
-        explain_total(alloc, &outside, "line 3", &11)?.as_str(),
-        "\
+/// Whether the block of the item under the label is this one.
+pub fn is_one<P: Total<i64> + Drop>(
+    alloc: Global,
+    predicate: P,
+    label: &str,
+    item: i64,
+    block: &str,
+) -> Result<bool, AllocError> {
+    let text = explain_one(alloc, &predicate, label, &item)?;
+    Ok(text.as_str() == block)
+}
+
+/// The same of the block that is always made.
+pub fn is_total<P: Total<i64> + Drop>(
+    alloc: Global,
+    predicate: P,
+    label: &str,
+    item: i64,
+    block: &str,
+) -> Result<bool, AllocError> {
+    let text = explain_total(alloc, &predicate, label, &item)?;
+    Ok(text.as_str() == block)
+}
+
+const OUTSIDE: &str = "\
 line 3: true
 (var < 5 || (! var <= 10)) = true
   right: (! var <= 10) = true
     predicate: var <= 10 = false
       - var: 11
-"
-    );
+";
+
+#[test]
+fn blocks_of_one_item(rt: HostRuntime) -> Result<(), Fail> {
+    let between = ge(5i64).and(le(10i64));
+    assert!(rt; is_one(rt.alloc(), between, "7", 7, SEVEN)?);
+    let outside = lt(5i64).or(le(10i64).not());
+    assert!(rt; is_total(rt.alloc(), outside, "line 3", 11, OUTSIDE)?);
     Ok(())
 }
 

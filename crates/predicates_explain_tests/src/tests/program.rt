@@ -113,16 +113,26 @@ fn statuses_and_outputs_of_words(rt: HostRuntime) -> Result<(), Fail> {
     Ok(())
 }
 
-// One level past the limit, also before a word that is wrong by itself.
-#[test]
-fn deep_checks(rt: HostRuntime) -> Result<(), Fail> {
-    let alloc = rt.alloc();
+// A check of one level past the limit, and then these words.
+fn deep_line(alloc: Global, end: &[u8]) -> Result<Vec<u8>, AllocError> {
     let mut line = Vec::from_slice(alloc, b"text|empty")?;
     for _ in 0..=MAX_DEPTH {
         line.extend_from_slice(b"|not")?;
     }
-    assert!(rt; ends(alloc, &line, b"7", 2, "", DEEP)?);
-    line.extend_from_slice(b"|match=(")?;
-    assert!(rt; ends(alloc, &line, b"7", 2, "", DEEP)?);
+    line.extend_from_slice(end)?;
+    Ok(line)
+}
+
+// Whether such a check is rejected.
+fn is_too_deep(alloc: Global, end: &[u8]) -> Result<bool, AllocError> {
+    let line = deep_line(alloc, end)?;
+    ends(alloc, &line, b"7", 2, "", DEEP)
+}
+
+// Also before a word that is wrong by itself.
+#[test]
+fn deep_checks(rt: HostRuntime) -> Result<(), Fail> {
+    assert!(rt; is_too_deep(rt.alloc(), b"")?);
+    assert!(rt; is_too_deep(rt.alloc(), b"|match=(")?);
     Ok(())
 }

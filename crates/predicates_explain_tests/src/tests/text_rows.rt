@@ -106,31 +106,33 @@ fn lines_of_checks_of_words(rt: HostRuntime) -> Result<(), Fail> {
     Ok(())
 }
 
-// Whether a predicate in a box answers true of `b`, and what is written goes to the output.
-fn is_true_in_a_box(alloc: Global, output: &mut Vec<u8>) -> Result<bool, Fail> {
+const IN_A_BOX: &[u8] =
+    b"line 1: true\n(! var.is_empty()) = true\n  predicate: var.is_empty() = false\n    - var: b\n";
+
+const OF_A_FUNCTION: &[u8] = b"line 1: true\nshort(var) = true\n";
+
+// Whether a predicate in a box answers true of `b`, and this is written.
+fn answers_in_a_box(alloc: Global) -> Result<bool, Fail> {
     let boxed = BoxPredicate::new(alloc, Box::new(alloc, predicate::str::is_empty())?)?;
     let mut reader = b"b".as_slice();
-    let answer = run_text(alloc, &boxed.not(), &mut reader, output);
-    Ok(answer == Ok(true))
+    let mut output = Vec::new(alloc);
+    let answer = run_text(alloc, &boxed.not(), &mut reader, &mut output);
+    Ok(answer == Ok(true) && output.as_slice() == IN_A_BOX)
 }
 
 // The same of one with a stored function.
-fn is_true_of_a_function(alloc: Global, output: &mut Vec<u8>) -> bool {
+fn answers_of_a_function(alloc: Global) -> bool {
     let short = predicate::function(|text: &String| text.len() < 2).fn_name("short");
     let mut reader = b"b".as_slice();
-    let answer = run_text(alloc, &short, &mut reader, output);
-    answer == Ok(true)
+    let mut output = Vec::new(alloc);
+    let answer = run_text(alloc, &short, &mut reader, &mut output);
+    answer == Ok(true) && output.as_slice() == OF_A_FUNCTION
 }
 
 // Any predicate of texts will do: one in a box, and one with a stored function.
 #[test]
 fn other_predicates(rt: HostRuntime) -> Result<(), Fail> {
-    let mut output = Vec::new(rt.alloc());
-    assert!(rt; is_true_in_a_box(rt.alloc(), &mut output)?);
-    assert!(rt; is_true_of_a_function(rt.alloc(), &mut output));
-    assert_eq!(rt;
-        output.as_slice(),
-        b"line 1: true\n(! var.is_empty()) = true\n  predicate: var.is_empty() = false\n    - var: b\nline 1: true\nshort(var) = true\n".as_slice()
-    );
+    assert!(rt; answers_in_a_box(rt.alloc())?);
+    assert!(rt; answers_of_a_function(rt.alloc()));
     Ok(())
 }

@@ -1,6 +1,8 @@
+use super::is_shown;
 use predicates::Predicate;
 use predicates::reflection::PredicateReflection;
 use predicates_explain::{TextCheck, Word, WordFault, apply_word, read_word};
+use predicates_testing::keeps_text;
 use std::alloc::{AllocError, Global};
 use std::test::Fail;
 
@@ -9,15 +11,24 @@ fn reads(alloc: Global, token: &str, word: Option<Word>) -> Result<bool, AllocEr
     Ok(read_word(alloc, token)? == word)
 }
 
+// Whether the token is the word of this text.
+fn reads_equals(alloc: Global, token: &str, text: &str) -> Result<bool, AllocError> {
+    let equals = Word::Equals(String::from_str(alloc, text)?);
+    reads(alloc, token, Some(equals))
+}
+
+// Whether the token is the word of this pattern.
+fn reads_matches(alloc: Global, token: &str, pattern: &str) -> Result<bool, AllocError> {
+    let matches = Word::Matches(String::from_str(alloc, pattern)?);
+    reads(alloc, token, Some(matches))
+}
+
 #[test]
 fn which_tokens_are_words(rt: HostRuntime) -> Result<(), Fail> {
     let alloc = rt.alloc();
-    let equals = Word::Equals(String::from_str(alloc, "a=b")?);
-    assert!(rt; reads(alloc, "eq=a=b", Some(equals))?);
-    let equals = Word::Equals(String::new(alloc));
-    assert!(rt; reads(alloc, "eq=", Some(equals))?);
-    let matches = Word::Matches(String::from_str(alloc, "T[a-z]*")?);
-    assert!(rt; reads(alloc, "match=T[a-z]*", Some(matches))?);
+    assert!(rt; reads_equals(alloc, "eq=a=b", "a=b")?);
+    assert!(rt; reads_equals(alloc, "eq=", "")?);
+    assert!(rt; reads_matches(alloc, "match=T[a-z]*", "T[a-z]*")?);
     assert!(rt; reads(alloc, "normalize", Some(Word::Normalize))?);
     assert!(rt; reads(alloc, "xor", Some(Word::Xor))?);
     for token in ["eq", "empty=", "xors", "", "=", "Empty", "starts", "or "] {
@@ -54,26 +65,43 @@ const STEPS: [(&[&str], Result<(), WordFault>, usize); 10] = [
     (&["contains=a", "and"], Ok(()), 1),
 ];
 
-// The text of the first check, and how many parameters and children it has.
-fn describe(alloc: Global, stack: &[TextCheck]) -> Result<(String, usize, usize), Fail> {
+// Whether the first check prints this text.
+fn prints(alloc: Global, stack: &[TextCheck], expected: &str) -> Result<bool, Fail> {
+    let check = stack.first().ok_or("no check")?;
+    let text = check.to_string(alloc)?;
+    Ok(text.as_str() == expected)
+}
+
+// How many parameters and children the first check has.
+fn counts(alloc: Global, stack: &[TextCheck]) -> Result<(usize, usize), Fail> {
     let check = stack.first().ok_or("no check")?;
     let parameters = check.parameters(alloc)?.len();
     let children = check.children(alloc)?.len();
-    Ok((check.to_string(alloc)?, parameters, children))
+    Ok((parameters, children))
+}
+
+// Whether the steps answer so, one after the other, on a stack that they leave.
+fn steps_answer(alloc: Global, stack: &mut Vec<TextCheck>) -> bool {
+    for (tokens, expected, left) in STEPS {
+        let answer = apply_tokens(alloc, stack, tokens);
+        if answer != expected || stack.len() != left {
+            return false;
+        }
+    }
+    true
 }
 
 #[test]
 fn words_that_lack_operands(rt: HostRuntime) -> Result<(), Fail> {
     let alloc = rt.alloc();
     let mut stack = Vec::new(alloc);
-    for (tokens, expected, left) in STEPS {
-        let answer = apply_tokens(alloc, &mut stack, tokens);
-        let holds = answer == expected && stack.len() == left;
-        assert!(rt; holds, "at {tokens:?}");
-    }
-    let (text, parameters, children) = describe(alloc, &stack)?;
-    assert_eq!(rt; text.as_str(), "(var.is_empty() && var.contains(a))");
-    assert_eq!(rt; (parameters, children), (0, 0));
+    let right = steps_answer(alloc, &mut stack);
+    let text = "(var.is_empty() && var.contains(a))";
+    let is_printed = prints(alloc, &stack, text)?;
+    let found = counts(alloc, &stack)?;
+    assert!(rt; right);
+    assert!(rt; is_printed);
+    assert_eq!(rt; found, (0, 0));
     Ok(())
 }
 
@@ -96,54 +124,71 @@ const EACH: [&str; 12] = [
 fn is_found(alloc: Global, stack: &[TextCheck], text: &str, verdict: bool) -> Result<bool, Fail> {
     let check = stack.first().ok_or("no check")?;
     let item = String::from_str(alloc, text)?;
-    Ok(
-        check.eval(alloc, &item)? == verdict
-            && check.find_case(alloc, verdict, &item)?.is_some()
-            && check.find_case(alloc, !verdict, &item)?.is_none(),
-    )
+    let found = check.eval(alloc, &item)?;
+    let is_explained = check.find_case(alloc, verdict, &item)?.is_some();
+    let is_denied = check.find_case(alloc, !verdict, &item)?.is_some();
+    Ok(found == verdict && is_explained && !is_denied)
+}
+
+// What the check of all these words prints.
+const ALL: &str =
+    "(var == \"Hello\" || (var.starts_with(\"He\") || (! (var.ends_with(\"lo\") && (var.contains(ll) && var.is_match(^H))))))";
+
+// The stack of the words.
+fn stack_of_each(alloc: Global) -> Result<Vec<TextCheck>, WordFault> {
+    let mut stack = Vec::new(alloc);
+    apply_tokens(alloc, &mut stack, &EACH)?;
+    Ok(stack)
+}
+
+// Whether the words leave one check, which prints this.
+fn leaves_one(alloc: Global) -> Result<bool, Fail> {
+    let stack = stack_of_each(alloc).ok().ok_or("a fault")?;
+    let is_printed = prints(alloc, &stack, ALL)?;
+    Ok(is_printed && stack.len() == 1)
+}
+
+// Whether the check that they leave has this verdict on the text.
+fn each_finds(alloc: Global, text: &str, verdict: bool) -> Result<bool, Fail> {
+    let stack = stack_of_each(alloc).ok().ok_or("a fault")?;
+    is_found(alloc, &stack, text, verdict)
 }
 
 #[test]
 fn each_word(rt: HostRuntime) -> Result<(), Fail> {
-    let alloc = rt.alloc();
-    let mut stack = Vec::new(alloc);
-    let answer = apply_tokens(alloc, &mut stack, &EACH);
-    assert!(rt; answer == Ok(()) && stack.len() == 1);
-    let (text, _, _) = describe(alloc, &stack)?;
-    assert_eq!(rt;
-        text.as_str(),
-        "(var == \"Hello\" || (var.starts_with(\"He\") || (! (var.ends_with(\"lo\") && (var.contains(ll) && var.is_match(^H))))))"
-    );
+    assert!(rt; leaves_one(rt.alloc())?);
     for (item, verdict) in [("Hello", true), (" Hello", false), ("lo", true)] {
-        assert!(rt; is_found(alloc, &stack, item, verdict)?, "at {item}");
+        assert!(rt; each_finds(rt.alloc(), item, verdict)?, "at {item}");
     }
     Ok(())
 }
 
+// How many checks are left of `empty` and so many times the tokens.
+fn count_left(alloc: Global, tokens: &[&str], times: usize) -> Result<usize, WordFault> {
+    let mut stack = Vec::new(alloc);
+    apply_tokens(alloc, &mut stack, &["empty"])?;
+    for _ in 0..times {
+        apply_tokens(alloc, &mut stack, tokens)?;
+    }
+    Ok(stack.len())
+}
+
+const LEVELS: [&[&str]; 3] = [&["not"], &["empty", "xor"], &["trim"]];
+
 // They have no limit by themselves, and drop without recursion.
 #[test]
 fn checks_of_20000_levels(rt: HostRuntime) -> Result<(), Fail> {
-    let alloc = rt.alloc();
-    let rows: [&[&str]; 3] = [&["not"], &["empty", "xor"], &["trim"]];
-    for tokens in rows {
-        let mut stack = Vec::new(alloc);
-        assert_eq!(rt; apply_tokens(alloc, &mut stack, &["empty"]), Ok(()));
-        for _ in 0..20_000 {
-            assert_eq!(rt; apply_tokens(alloc, &mut stack, tokens), Ok(()));
-        }
-        assert_eq!(rt; stack.len(), 1);
+    for tokens in LEVELS {
+        assert_eq!(rt; count_left(rt.alloc(), tokens, 20_000), Ok(1));
     }
     Ok(())
 }
 
 #[test]
 fn flags_change_no_fault_of_words(rt: HostRuntime) -> Result<(), Fail> {
-    let text = WordFault::Operand.to_string(rt.alloc())?;
-    assert_eq!(rt; text.as_str(), "missing operand");
+    assert!(rt; is_shown(rt.alloc(), WordFault::Operand, "missing operand")?);
     for fault in [WordFault::Operand, WordFault::Pattern, WordFault::NoMemory] {
-        let plain = format!(in rt.alloc(); "{fault} {fault} {fault}")?;
-        let flagged = format!(in rt.alloc(); "{fault:#} {fault:40} {fault:.3}")?;
-        assert_eq!(rt; flagged, plain);
+        assert!(rt; keeps_text(rt.alloc(), &fault)?);
     }
     Ok(())
 }

@@ -25,8 +25,8 @@ const SIGNED: [Row; 12] = [
 fn signed_numbers(rt: HostRuntime) -> Result<(), Fail> {
     let alloc = rt.alloc();
     let adult = predicate::ge(18i64).of_number();
-    for row in SIGNED {
-        assert!(rt; is_leaf(alloc, &adult, "var >= 18", row)?);
+    for row in &SIGNED {
+        assert!(rt; is_leaf(alloc, &adult, "var >= 18", *row)?);
     }
     Ok(())
 }
@@ -43,8 +43,8 @@ const UNSIGNED: [Row; 5] = [
 fn unsigned_numbers(rt: HostRuntime) -> Result<(), Fail> {
     let alloc = rt.alloc();
     let adult = predicate::ge(18u64).of_number();
-    for row in UNSIGNED {
-        assert!(rt; is_leaf(alloc, &adult, "var >= 18", row)?);
+    for row in &UNSIGNED {
+        assert!(rt; is_leaf(alloc, &adult, "var >= 18", *row)?);
     }
     Ok(())
 }
@@ -63,8 +63,8 @@ fn floats(rt: HostRuntime) -> Result<(), Fail> {
     let half = predicate::function(|number: &f64| *number >= 0.5)
         .fn_name("half")
         .of_number();
-    for row in FLOATS {
-        assert!(rt; is_leaf(alloc, &half, "half(var)", row)?);
+    for row in &FLOATS {
+        assert!(rt; is_leaf(alloc, &half, "half(var)", *row)?);
     }
     Ok(())
 }
@@ -80,8 +80,8 @@ const TEXTS: [Row; 4] = [
 fn strings(rt: HostRuntime) -> Result<(), Fail> {
     let alloc = rt.alloc();
     let named = predicate::str::starts_with(text(alloc, "A")?).of_string();
-    for row in TEXTS {
-        assert!(rt; is_leaf(alloc, &named, "var.starts_with(\"A\")", row)?);
+    for row in &TEXTS {
+        assert!(rt; is_leaf(alloc, &named, "var.starts_with(\"A\")", *row)?);
     }
     Ok(())
 }
@@ -96,8 +96,8 @@ const TRUTHS: [Row; 3] = [
 fn truths(rt: HostRuntime) -> Result<(), Fail> {
     let alloc = rt.alloc();
     let set = predicate::eq(true).of_bool();
-    for row in TRUTHS {
-        assert!(rt; is_leaf(alloc, &set, "var == true", row)?);
+    for row in &TRUTHS {
+        assert!(rt; is_leaf(alloc, &set, "var == true", *row)?);
     }
     Ok(())
 }
@@ -114,8 +114,8 @@ fn arrays(rt: HostRuntime) -> Result<(), Fail> {
     let long = predicate::function(|items: &Vec<Value>| items.len() > 1)
         .fn_name("long")
         .of_array();
-    for row in ARRAYS {
-        assert!(rt; is_leaf(alloc, &long, "long(var)", row)?);
+    for row in &ARRAYS {
+        assert!(rt; is_leaf(alloc, &long, "long(var)", *row)?);
     }
     Ok(())
 }
@@ -132,8 +132,8 @@ fn objects(rt: HostRuntime) -> Result<(), Fail> {
     let some = predicate::function(|members: &Map<String, Value>| !members.is_empty())
         .fn_name("some")
         .of_object();
-    for row in OBJECTS {
-        assert!(rt; is_leaf(alloc, &some, "some(var)", row)?);
+    for row in &OBJECTS {
+        assert!(rt; is_leaf(alloc, &some, "some(var)", *row)?);
     }
     Ok(())
 }
@@ -150,8 +150,8 @@ const NULLS: [Row; 6] = [
 #[test]
 fn nulls(rt: HostRuntime) -> Result<(), Fail> {
     let alloc = rt.alloc();
-    for row in NULLS {
-        assert!(rt; is_leaf(alloc, &is_null(), "var.is_null()", row)?);
+    for row in &NULLS {
+        assert!(rt; is_leaf(alloc, &is_null(), "var.is_null()", *row)?);
     }
     Ok(())
 }

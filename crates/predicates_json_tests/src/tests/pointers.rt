@@ -58,8 +58,8 @@ fn stands(alloc: Global, place: (&str, &str)) -> Result<bool, Error> {
 
 #[test]
 fn places(rt: HostRuntime) -> Result<(), Fail> {
-    for place in PLACES {
-        assert!(rt; stands(rt.alloc(), place)?);
+    for place in &PLACES {
+        assert!(rt; stands(rt.alloc(), *place)?);
     }
     Ok(())
 }
@@ -93,21 +93,28 @@ fn tells_age(alloc: Global, row: (&str, &str, &str)) -> Result<bool, Error> {
 
 #[test]
 fn ages(rt: HostRuntime) -> Result<(), Fail> {
-    for row in AGES {
-        assert!(rt; tells_age(rt.alloc(), row)?);
+    for row in &AGES {
+        assert!(rt; tells_age(rt.alloc(), *row)?);
     }
     Ok(())
+}
+
+fn explains_presence(alloc: Global, json: &str, lines: &str) -> Result<bool, Error> {
+    explains_json(alloc, &has_pointer("/seat"), json, lines)
+}
+
+fn explains_absence(alloc: Global, json: &str, lines: &str) -> Result<bool, Error> {
+    let free = lacks_pointer(StaticText::new("/seat"));
+    explains_json(alloc, &free, json, lines)
 }
 
 #[test]
 fn presence(rt: HostRuntime) -> Result<(), Fail> {
     let alloc = rt.alloc();
-    let seated = has_pointer("/seat");
-    assert!(rt; explains_json(alloc, &seated, "{\"seat\":null}", "exists(/seat) = true\n")?);
-    assert!(rt; explains_json(alloc, &seated, "{}", "exists(/seat) = false\n")?);
-    let free = lacks_pointer(StaticText::new("/seat"));
-    assert!(rt; explains_json(alloc, &free, "{}", "missing(/seat) = true\n")?);
-    assert!(rt; explains_json(alloc, &free, "{\"seat\":13}", "missing(/seat) = false\n")?);
+    assert!(rt; explains_presence(alloc, "{\"seat\":null}", "exists(/seat) = true\n")?);
+    assert!(rt; explains_presence(alloc, "{}", "exists(/seat) = false\n")?);
+    assert!(rt; explains_absence(alloc, "{}", "missing(/seat) = true\n")?);
+    assert!(rt; explains_absence(alloc, "{\"seat\":13}", "missing(/seat) = false\n")?);
     Ok(())
 }
 
@@ -126,8 +133,8 @@ const TEXTS: [(&str, bool); 10] = [
 
 #[test]
 fn texts_of_pointers(rt: HostRuntime) -> Result<(), Fail> {
-    for (text, expected) in TEXTS {
-        assert_eq!(rt; is_pointer(text), expected);
+    for (text, expected) in &TEXTS {
+        assert_eq!(rt; is_pointer(text), *expected);
     }
     Ok(())
 }

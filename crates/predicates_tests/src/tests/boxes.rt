@@ -22,67 +22,88 @@ fn any(alloc: Global) -> Result<BoxPredicate, AllocError> {
     BoxPredicate::new(alloc, Box::new(alloc, any)?)
 }
 
-// The lines of the cases of three boxes on the text, in order.
-fn lines_of_three(alloc: Global, item: &str) -> Result<String, AllocError> {
+fn three_boxes(alloc: Global) -> Result<Vec<BoxPredicate>, AllocError> {
     let mut boxes = Vec::new(alloc);
     boxes.push(is_empty(alloc)?)?;
     boxes.push(contains_a(alloc)?)?;
     boxes.push(any(alloc)?)?;
-    let item = text(alloc, item)?;
+    Ok(boxes)
+}
+
+// The lines of the boxes' cases on the text, in order.
+fn lines_of(alloc: Global, boxes: &[BoxPredicate], item: &String) -> Result<String, AllocError> {
     let mut out = String::new(alloc);
-    for check in boxes.iter() {
-        render_verdict(alloc, &mut out, check, &item)?;
+    for check in boxes {
+        render_verdict(alloc, &mut out, check, item)?;
     }
     Ok(out)
 }
 
+// Whether the cases of three boxes on the text have these lines.
+fn explains_three(alloc: Global, item: &str, lines: &str) -> Result<bool, AllocError> {
+    let item = text(alloc, item)?;
+    let boxes = three_boxes(alloc)?;
+    Ok(lines_of(alloc, boxes.as_slice(), &item)?.as_str() == lines)
+}
+
 #[test]
 fn boxes_in_a_loop(rt: HostRuntime) -> Result<(), Fail> {
-    assert_eq!(rt;
-        lines_of_three(rt.alloc(), "b")?.as_str(),
-        "\
+    let alloc = rt.alloc();
+    let lines = "\
 var.is_empty() = false
   - var: b
 var.contains(a) = false
   - var: b
 any = true
   any: true = true
-"
-    );
-    assert!(rt;
-        is_described(
-            rt.alloc(),
-            &any(rt.alloc())?,
-            "any\nany: true\n  value=true\n"
-        )?
-    );
+";
+    assert!(rt; explains_three(alloc, "b", lines)?);
+    assert!(rt; is_described(alloc, &any(alloc)?, "any\nany: true\n  value=true\n")?);
     Ok(())
 }
 
-// Whether a constant in a box holds, with its value and the debug form of a box.
-fn is_constant_boxed(alloc: Global) -> Result<bool, AllocError> {
+// A constant in a box.
+fn constant(alloc: Global) -> Result<BoxPredicate, AllocError> {
     let made: Box<dyn TextPredicate> = Box::new(alloc, predicate::always())?;
-    let boxed = BoxPredicate::new(alloc, made)?;
-    let shown = format!(in alloc; "{boxed:?}")?;
-    Ok(
-        explains(alloc, &boxed, &text(alloc, "b")?, "true = true\n")?
-            && is_described(alloc, &boxed, "true\nvalue=true\n")?
-            && shown.as_str() == "BoxPredicate",
-    )
+    BoxPredicate::new(alloc, made)
+}
+
+fn explains_constant(alloc: Global) -> Result<bool, AllocError> {
+    let item = text(alloc, "b")?;
+    explains(alloc, &constant(alloc)?, &item, "true = true\n")
+}
+
+fn describes_constant(alloc: Global) -> Result<bool, AllocError> {
+    is_described(alloc, &constant(alloc)?, "true\nvalue=true\n")
+}
+
+// Whether it has the debug form of a box.
+fn is_constant_shown(alloc: Global) -> Result<bool, AllocError> {
+    let boxed = constant(alloc)?;
+    Ok(format!(in alloc; "{boxed:?}")?.as_str() == "BoxPredicate")
 }
 
 #[test]
 fn a_constant_in_a_box(rt: HostRuntime) -> Result<(), Fail> {
-    assert!(rt; is_constant_boxed(rt.alloc())?);
+    assert!(rt; explains_constant(rt.alloc())?);
+    assert!(rt; describes_constant(rt.alloc())?);
+    assert!(rt; is_constant_shown(rt.alloc())?);
     Ok(())
 }
 
-// Whether a box under others is explained with the lines, and describes its parts so.
-fn is_under_others(alloc: Global, lines: &str, described: &str) -> Result<bool, AllocError> {
-    let blank = is_empty(alloc)?.trim().name("blank");
-    let either = blank.or(contains_a(alloc)?);
-    let is_explained = explains(alloc, &either, &text(alloc, "  ")?, lines)?;
-    Ok(is_explained && is_described(alloc, &either, described)?)
+// Whether a box under others is explained with the lines.
+fn explains_under_others(alloc: Global, lines: &str) -> Result<bool, AllocError> {
+    let item = text(alloc, "  ")?;
+    let part = contains_a(alloc)?;
+    let either = is_empty(alloc)?.trim().name("blank").or(part);
+    explains(alloc, &either, &item, lines)
+}
+
+// Whether it describes its parts so.
+fn describes_under_others(alloc: Global, lines: &str) -> Result<bool, AllocError> {
+    let part = contains_a(alloc)?;
+    let either = is_empty(alloc)?.trim().name("blank").or(part);
+    is_described(alloc, &either, lines)
 }
 
 #[test]
@@ -99,18 +120,23 @@ left: blank
     predicate: var.is_empty()
 right: var.contains(a)
 ";
-    assert!(rt; is_under_others(rt.alloc(), lines, described)?);
+    assert!(rt; explains_under_others(rt.alloc(), lines)?);
+    assert!(rt; describes_under_others(rt.alloc(), described)?);
     Ok(())
 }
 
-// Whether `xor` under `trim` and a name in a box holds of the item, with the lines.
+// `xor` under `trim` and a name, in a box.
+fn boxed_xor(alloc: Global) -> Result<BoxPredicate, AllocError> {
+    let part = predicate::str::contains(text(alloc, "a")?);
+    let either = predicate::str::is_empty().xor(part).trim();
+    let named = either.name(StaticText::new("either"));
+    BoxPredicate::new(alloc, Box::new(alloc, named)?)
+}
+
+// Whether it is explained by the lines.
 fn is_xor_boxed(alloc: Global, item: &str, lines: &str) -> Result<bool, AllocError> {
-    let either = predicate::str::is_empty()
-        .xor(predicate::str::contains(text(alloc, "a")?))
-        .trim()
-        .name(StaticText::new("either"));
-    let boxed = BoxPredicate::new(alloc, Box::new(alloc, either)?)?;
-    explains(alloc, &boxed, &text(alloc, item)?, lines)
+    let item = text(alloc, item)?;
+    explains(alloc, &boxed_xor(alloc)?, &item, lines)
 }
 
 #[test]
@@ -129,15 +155,16 @@ either = true
 
 // Whether a comparison alone has the lines of its case on `4`.
 fn explains_alone(alloc: Global, lines: &str) -> Result<bool, AllocError> {
-    let alone = predicate::gt(text(alloc, "5")?);
-    explains(alloc, &alone, &text(alloc, "4")?, lines)
+    let item = text(alloc, "4")?;
+    explains(alloc, &predicate::gt(text(alloc, "5")?), &item, lines)
 }
 
 // Whether it has them in a box.
 fn explains_boxed(alloc: Global, lines: &str) -> Result<bool, AllocError> {
+    let item = text(alloc, "4")?;
     let alone = predicate::gt(text(alloc, "5")?);
     let boxed = BoxPredicate::new(alloc, Box::new(alloc, alone)?)?;
-    explains(alloc, &boxed, &text(alloc, "4")?, lines)
+    explains(alloc, &boxed, &item, lines)
 }
 
 #[test]
@@ -148,17 +175,33 @@ fn explained_boxed_or_not(rt: HostRuntime) -> Result<(), Fail> {
     Ok(())
 }
 
-// Whether a boxed comparison with this many letters is explained on them, and on `b`.
+// A boxed comparison with the letters.
+fn boxed_letters(alloc: Global, letters: &String) -> Result<BoxPredicate, AllocError> {
+    let is_letters = predicate::eq(letters.clone()?);
+    BoxPredicate::new(alloc, Box::new(alloc, is_letters)?)
+}
+
+// Whether one with this many letters is explained on them.
 fn explains_letters(alloc: Global, length: u32) -> Result<bool, AllocError> {
     let letters = repeated(alloc, "a", length, "")?;
-    let is_letters = predicate::eq(letters.clone()?);
-    let boxed = BoxPredicate::new(alloc, Box::new(alloc, is_letters)?)?;
-    let label = format!(in alloc; "var == \"{letters}\"")?;
-    let equal = format!(in alloc; "{label} = true\n  - var: \"{letters}\"\n")?;
-    let other = format!(in alloc; "{label} = false\n  - var: \"b\"\n")?;
-    Ok(
-        explains(alloc, &boxed, &letters, equal.as_str())?
-            && explains(alloc, &boxed, &text(alloc, "b")?, other.as_str())?,
+    let lines = format!(in alloc; "var == \"{letters}\" = true\n  - var: \"{letters}\"\n")?;
+    explains(
+        alloc,
+        &boxed_letters(alloc, &letters)?,
+        &letters,
+        lines.as_str(),
+    )
+}
+
+// Whether it is on `b`.
+fn explains_other(alloc: Global, length: u32) -> Result<bool, AllocError> {
+    let (letters, other) = (repeated(alloc, "a", length, "")?, text(alloc, "b")?);
+    let lines = format!(in alloc; "var == \"{letters}\" = false\n  - var: \"b\"\n")?;
+    explains(
+        alloc,
+        &boxed_letters(alloc, &letters)?,
+        &other,
+        lines.as_str(),
     )
 }
 
@@ -166,6 +209,7 @@ fn explains_letters(alloc: Global, length: u32) -> Result<bool, AllocError> {
 fn boxes_of_long_texts(rt: HostRuntime) -> Result<(), Fail> {
     for length in [0, 1, 300, 70_000] {
         assert!(rt; explains_letters(rt.alloc(), length)?, "{length}");
+        assert!(rt; explains_other(rt.alloc(), length)?, "{length}");
     }
     Ok(())
 }

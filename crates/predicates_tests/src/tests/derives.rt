@@ -21,18 +21,36 @@ fn is_shown<P: fmt::Debug>(alloc: Global, predicate: &P) -> Result<bool, AllocEr
     Ok(is_plain && !format!(in alloc; "{predicate:#?}")?.is_empty())
 }
 
+fn leaves_are_copied(alloc: Global) -> Result<[bool; 3], AllocError> {
+    Ok([
+        are_copied(alloc, always::<Bare>(), never())?,
+        are_copied(alloc, eq(5i32), ne(5))?,
+        are_copied(alloc, ge(5i32), lt(5))?,
+    ])
+}
+
+fn joins_are_copied(alloc: Global) -> Result<[bool; 3], AllocError> {
+    let (five, six) = (ge(5i32), ge(6i32));
+    Ok([
+        are_copied(alloc, five.and(never()), six.and(never()))?,
+        are_copied(alloc, five.or(never()), five.or(always()))?,
+        are_copied(alloc, five.xor(never()), six.xor(never()))?,
+    ])
+}
+
+fn wrappers_are_copied(alloc: Global) -> Result<[bool; 2], AllocError> {
+    let (five, six) = (ge(5i32), ge(6i32));
+    Ok([
+        are_copied(alloc, five.not(), six.not())?,
+        are_copied(alloc, five.name("big"), five.name("large"))?,
+    ])
+}
+
 #[test]
 fn copies_equal_what_they_copy(rt: HostRuntime) -> Result<(), Fail> {
-    let alloc = rt.alloc();
-    let (five, six) = (ge(5i32), ge(6i32));
-    assert!(rt; are_copied(alloc, always::<Bare>(), never())?);
-    assert!(rt; are_copied(alloc, eq(5i32), ne(5))?);
-    assert!(rt; are_copied(alloc, five, lt(5))?);
-    assert!(rt; are_copied(alloc, five.and(never()), six.and(never()))?);
-    assert!(rt; are_copied(alloc, five.or(never()), five.or(always()))?);
-    assert!(rt; are_copied(alloc, five.xor(never()), six.xor(never()))?);
-    assert!(rt; are_copied(alloc, five.not(), six.not())?);
-    assert!(rt; are_copied(alloc, five.name("big"), five.name("large"))?);
+    assert_eq!(rt; leaves_are_copied(rt.alloc())?, [true; 3]);
+    assert_eq!(rt; joins_are_copied(rt.alloc())?, [true; 3]);
+    assert_eq!(rt; wrappers_are_copied(rt.alloc())?, [true; 2]);
     Ok(())
 }
 
@@ -54,44 +72,63 @@ fn is_letter(alloc: Global, letter: &str) -> Result<EqPredicate<String>, AllocEr
     Ok(eq(text(alloc, letter)?))
 }
 
+// Whether the values differ, each is equal to itself, and both are shown.
+fn do_differ<T: fmt::Debug + Eq + Drop>(
+    alloc: Global,
+    left: T,
+    right: T,
+) -> Result<bool, AllocError> {
+    differ(alloc, &left, &right)
+}
+
 // Whether comparisons with texts are cloned, though a text is not copied.
 fn is_letter_cloned(alloc: Global) -> Result<bool, AllocError> {
     let letter = is_letter(alloc, "a")?;
-    Ok(letter.clone()? == letter && differ(alloc, &letter, &is_letter(alloc, "b")?)?)
+    Ok(letter.clone()? == letter)
+}
+
+fn do_letters_differ(alloc: Global) -> Result<bool, AllocError> {
+    do_differ(alloc, is_letter(alloc, "a")?, is_letter(alloc, "b")?)
 }
 
 // Whether combinators of what is not copied are compared.
-fn are_letters_joined(alloc: Global) -> Result<bool, AllocError> {
-    let both = always().and(is_letter(alloc, "a")?);
-    let one = always().xor(is_letter(alloc, "a")?);
-    Ok(
-        differ(alloc, &both, &always().and(is_letter(alloc, "b")?))?
-            && differ(alloc, &one, &never().xor(is_letter(alloc, "a")?))?,
-    )
+fn do_joins_differ(alloc: Global) -> Result<bool, AllocError> {
+    let (left, right) = (is_letter(alloc, "a")?, is_letter(alloc, "b")?);
+    do_differ(alloc, always().and(left), always().and(right))
+}
+
+fn do_exclusive_joins_differ(alloc: Global) -> Result<bool, AllocError> {
+    let (left, right) = (is_letter(alloc, "a")?, is_letter(alloc, "a")?);
+    do_differ(alloc, always().xor(left), never().xor(right))
 }
 
 fn do_lists_differ(alloc: Global) -> Result<bool, AllocError> {
-    differ(
-        alloc,
-        &in_iter(alloc, [3i64, 1])?,
-        &in_iter(alloc, [1i64, 3])?,
-    )
+    let left = in_iter(alloc, [3i64, 1])?;
+    do_differ(alloc, left, in_iter(alloc, [1i64, 3])?)
 }
 
-// Whether two lists are equal once sorted, and differ from another one.
+// Whether two lists are equal once sorted.
 fn are_sorted_alike(alloc: Global) -> Result<bool, AllocError> {
     let first = in_iter(alloc, [3i64, 1])?.sort()?;
     let second = in_iter(alloc, [1i64, 3])?.sort()?;
-    let third = in_iter(alloc, [1i64, 3, 3])?.sort()?;
-    Ok(first == second && differ(alloc, &first, &third)?)
+    Ok(first == second)
+}
+
+fn do_sorted_lists_differ(alloc: Global) -> Result<bool, AllocError> {
+    let left = in_iter(alloc, [3i64, 1])?.sort()?;
+    do_differ(alloc, left, in_iter(alloc, [1i64, 3, 3])?.sort()?)
 }
 
 #[test]
 fn clones_and_lists_are_compared(rt: HostRuntime) -> Result<(), Fail> {
-    assert!(rt; is_letter_cloned(rt.alloc())?);
-    assert!(rt; are_letters_joined(rt.alloc())?);
-    assert!(rt; do_lists_differ(rt.alloc())?);
-    assert!(rt; are_sorted_alike(rt.alloc())?);
+    let alloc = rt.alloc();
+    assert!(rt; is_letter_cloned(alloc)?);
+    assert!(rt; do_letters_differ(alloc)?);
+    assert!(rt; do_joins_differ(alloc)?);
+    assert!(rt; do_exclusive_joins_differ(alloc)?);
+    assert!(rt; do_lists_differ(alloc)?);
+    assert!(rt; are_sorted_alike(alloc)?);
+    assert!(rt; do_sorted_lists_differ(alloc)?);
     Ok(())
 }
 

@@ -8,40 +8,71 @@ use predicates_testing::verdict;
 use std::alloc::{AllocError, Global};
 use std::test::Fail;
 
-// Whether the comparisons with 5 answer whether the item is less or equal.
-fn compares(alloc: Global, item: &i64, less: bool, equal: bool) -> Result<bool, AllocError> {
-    laws::complements(&5, item);
-    Ok(
-        lt(5i64).eval(alloc, item)? == less
-            && lt(5i64).not().eval(alloc, item)? == !less
-            && ge(5i64).eval(alloc, item)? == !less
-            && gt(5i64).eval(alloc, item)? == !(less || equal)
-            && le(5i64).eval(alloc, item)? == (less || equal)
-            && eq(5i64).eval(alloc, item)? == equal
-            && ne(5i64).eval(alloc, item)? == !equal,
-    )
+// What the predicate answers of the item, and ends here.
+fn holds<P: Predicate<i64> + Drop>(
+    alloc: Global,
+    predicate: P,
+    item: i64,
+) -> Result<bool, AllocError>
+    requires { P.lawful predicate }
+{
+    predicate.eval(alloc, &item)
 }
+
+// What the comparisons with 5 answer: `lt`, `lt` denied, `ge`, `gt`, `le`, `eq` and `ne`.
+fn comparisons(alloc: Global, item: i64) -> Result<[bool; 7], AllocError> {
+    laws::complements(&5, &item);
+    Ok([
+        holds(alloc, lt(5i64), item)?,
+        holds(alloc, lt(5i64).not(), item)?,
+        holds(alloc, ge(5i64), item)?,
+        holds(alloc, gt(5i64), item)?,
+        holds(alloc, le(5i64), item)?,
+        holds(alloc, eq(5i64), item)?,
+        holds(alloc, ne(5i64), item)?,
+    ])
+}
+
+const ITEMS: [(i64, [bool; 7]); 3] = [
+    (4, [true, false, false, false, true, false, true]),
+    (5, [false, true, true, false, true, true, false]),
+    (6, [false, true, true, true, false, false, true]),
+];
 
 #[test]
 fn opposite_comparisons(rt: HostRuntime) -> Result<(), Fail> {
-    for (item, less, equal) in [(4, true, false), (5, false, true), (6, false, false)] {
-        assert!(rt; compares(rt.alloc(), &item, less, equal)?, "{item}");
+    for (item, expected) in &ITEMS {
+        assert!(rt; comparisons(rt.alloc(), *item)? == *expected, "{item}");
     }
     Ok(())
 }
 
-// Whether the list, the sorted list and the set of the members answer the verdict on the item.
-fn among(alloc: Global, members: [i64; 5], item: &i64, verdict: bool) -> Result<bool, AllocError> {
-    laws::memberships(&members, item);
-    let listed = in_iter(alloc, members)?.eval(alloc, item)?;
-    let sorted = in_iter(alloc, members)?.sort()?.eval(alloc, item)?;
-    let hashed = in_hash(alloc, members)?.eval(alloc, item)?;
-    Ok(listed == verdict && sorted == verdict && hashed == verdict)
+const MEMBERS: [i64; 5] = [5, 1, 5, 3, 1];
+
+fn is_listed(alloc: Global, item: i64) -> Result<bool, AllocError> {
+    holds(alloc, in_iter(alloc, MEMBERS)?, item)
+}
+
+fn is_sorted(alloc: Global, item: i64) -> Result<bool, AllocError> {
+    holds(alloc, in_iter(alloc, MEMBERS)?.sort()?, item)
+}
+
+fn is_hashed(alloc: Global, item: i64) -> Result<bool, AllocError> {
+    holds(alloc, in_hash(alloc, MEMBERS)?, item)
+}
+
+// What the list, the sorted list and the set of the members answer.
+fn among(alloc: Global, item: i64) -> Result<[bool; 3], AllocError> {
+    laws::memberships(&MEMBERS, &item);
+    Ok([
+        is_listed(alloc, item)?,
+        is_sorted(alloc, item)?,
+        is_hashed(alloc, item)?,
+    ])
 }
 
 #[test]
 fn one_list_three_times(rt: HostRuntime) -> Result<(), Fail> {
-    let members = [5i64, 1, 5, 3, 1];
     for (item, expected) in [
         (0, false),
         (1, true),
@@ -50,24 +81,38 @@ fn one_list_three_times(rt: HostRuntime) -> Result<(), Fail> {
         (5, true),
         (6, false),
     ] {
-        assert!(rt; among(rt.alloc(), members, &item, expected)?, "{item}");
+        assert!(rt; among(rt.alloc(), item)? == [expected; 3], "{item}");
     }
     Ok(())
+}
+
+fn call_laws_of_joins() {
+    laws::de_morgan(&lt(3i64), &lt(5i64), &9);
+    laws::exclusive_or(&lt(3i64), &lt(5i64), &4);
+    laws::first_reasons();
+    laws::one_child();
+}
+
+fn call_laws_of_one() {
+    let both = lt(3i64).and(lt(5i64));
+    laws::double_negation(&both, &9);
+    laws::named(&both, &9, "small");
+    laws::one_case(&both, &4);
+    laws::one_verdict(&both, &4);
+}
+
+fn call_law_of_functions() {
+    let both = lt(3i64).and(lt(5i64));
+    laws::same_function(&both.not(), &lt(3i64).not().or(lt(5i64).not()), &4);
 }
 
 // The tables show the verdicts and the kept leaves of these formulas.
 #[test]
 fn equal_functions(rt: HostRuntime) -> Result<(), Fail> {
+    call_laws_of_joins();
+    call_laws_of_one();
+    call_law_of_functions();
     let both = lt(3i64).and(lt(5i64));
-    laws::double_negation(&both, &9);
-    laws::named(&both, &9, "small");
-    laws::de_morgan(&lt(3i64), &lt(5i64), &9);
-    laws::exclusive_or(&lt(3i64), &lt(5i64), &4);
-    laws::first_reasons();
-    laws::one_child();
-    laws::one_case(&both, &4);
-    laws::one_verdict(&both, &4);
-    laws::same_function(&both.not(), &lt(3i64).not().or(lt(5i64).not()), &4);
     assert_eq!(rt; verdict(rt.alloc(), &both, &4)?, Some(false));
     Ok(())
 }

@@ -34,35 +34,48 @@ fn explains_function(alloc: Global, name: &'static str) -> Result<bool, AllocErr
     explains(alloc, &named, &3, lines.as_str())
 }
 
+// Whether a comparison under the name describes itself by it.
+fn describes_name(alloc: Global, name: &'static str) -> Result<bool, AllocError> {
+    let lines = format!(in alloc; "{name}\n{name}: var < 3\n")?;
+    is_described(alloc, &lt(3i32).name(name), lines.as_str())
+}
+
 // Whether a comparison and a function of the name show it.
-fn is_shown(alloc: Global, name: &'static str) -> Result<bool, AllocError> {
-    let described = format!(in alloc; "{name}\n{name}: var < 3\n")?;
-    Ok(
-        is_described(alloc, &lt(3i32).name(name), described.as_str())?
-            && explains_name(alloc, name, 1, true)?
-            && explains_name(alloc, name, 3, false)?
-            && explains_function(alloc, name)?,
-    )
+fn is_shown(alloc: Global, name: &'static str) -> Result<[bool; 4], AllocError> {
+    Ok([
+        describes_name(alloc, name)?,
+        explains_name(alloc, name, 1, true)?,
+        explains_name(alloc, name, 3, false)?,
+        explains_function(alloc, name)?,
+    ])
 }
 
 #[test]
 fn names_of_no_bytes_and_of_300(rt: HostRuntime) -> Result<(), Fail> {
     assert!(rt; LONG.len() == 300);
     for name in ["", LONG] {
-        assert!(rt; is_shown(rt.alloc(), name)?, "{name}");
+        assert!(rt; is_shown(rt.alloc(), name)? == [true; 4], "{name}");
     }
     Ok(())
 }
 
+// The lines of the case of the verdict that the item is the long text, or of none.
+fn lines_of_default_case(
+    alloc: Global,
+    item: &'static str,
+    verdict: bool,
+) -> Result<Option<String>, AllocError> {
+    match default_find_case(alloc, &eq(LONG), verdict, &item)? {
+        Some(case) => Ok(Some(render(alloc, &case)?)),
+        None => Ok(None),
+    }
+}
+
 // Whether the case of the verdict has the lines, with none for the opposite.
 fn has_default_case(alloc: Global, item: &'static str, verdict: bool) -> Result<bool, AllocError> {
-    let long = eq(LONG);
+    let is_none = lines_of_default_case(alloc, item, !verdict)?.is_none();
     let lines = format!(in alloc; "var == {LONG:?} = {verdict}\n")?;
-    let is_none = default_find_case(alloc, &long, !verdict, &item)?.is_none();
-    match default_find_case(alloc, &long, verdict, &item)? {
-        Some(case) => Ok(is_none && render(alloc, &case)? == lines),
-        None => Ok(false),
-    }
+    Ok(is_none && lines_of_default_case(alloc, item, verdict)? == Some(lines))
 }
 
 #[test]

@@ -15,50 +15,56 @@ fn print<P: PredicateReflection + Drop>(
     Ok(predicate.to_string(alloc)?.as_str() == text)
 }
 
-fn print_numbers(alloc: Global) -> Result<bool, AllocError> {
-    Ok(
-        print(alloc, predicate::always::<i64>(), "true")?
-            && print(alloc, predicate::never::<i64>(), "false")?
-            && print(alloc, predicate::function(|n: &i64| *n < 3), "fn(var)")?
-            && print(alloc, predicate::eq(3i64), "var == 3")?
-            && print(alloc, predicate::ne(3i64), "var != 3")?
-            && print(alloc, predicate::lt(3i64), "var < 3")?
-            && print(alloc, predicate::le(3i64), "var <= 3")?
-            && print(alloc, predicate::ge(3i64), "var >= 3")?
-            && print(alloc, predicate::gt(3i64), "var > 3")?,
-    )
+fn print_constants(alloc: Global) -> Result<[bool; 3], AllocError> {
+    Ok([
+        print(alloc, predicate::always::<i64>(), "true")?,
+        print(alloc, predicate::never::<i64>(), "false")?,
+        print(alloc, predicate::function(|n: &i64| *n < 3), "fn(var)")?,
+    ])
 }
 
-fn print_texts(alloc: Global) -> Result<bool, AllocError> {
+fn print_comparisons(alloc: Global) -> Result<[bool; 6], AllocError> {
+    Ok([
+        print(alloc, predicate::eq(3i64), "var == 3")?,
+        print(alloc, predicate::ne(3i64), "var != 3")?,
+        print(alloc, predicate::lt(3i64), "var < 3")?,
+        print(alloc, predicate::le(3i64), "var <= 3")?,
+        print(alloc, predicate::ge(3i64), "var >= 3")?,
+        print(alloc, predicate::gt(3i64), "var > 3")?,
+    ])
+}
+
+fn print_texts(alloc: Global) -> Result<[bool; 4], AllocError> {
     let starts = predicate::str::starts_with(text(alloc, "a")?);
+    let starts = print(alloc, starts, "var.starts_with(\"a\")")?;
     let ends = predicate::str::ends_with(text(alloc, "a")?);
+    let ends = print(alloc, ends, "var.ends_with(\"a\")")?;
     let part = predicate::str::contains(text(alloc, "a")?);
-    Ok(
-        print(alloc, predicate::str::is_empty(), "var.is_empty()")?
-            && print(alloc, starts, "var.starts_with(\"a\")")?
-            && print(alloc, ends, "var.ends_with(\"a\")")?
-            && print(alloc, part, "var.contains(a)")?,
-    )
+    let part = print(alloc, part, "var.contains(a)")?;
+    let empty = print(alloc, predicate::str::is_empty(), "var.is_empty()")?;
+    Ok([starts, ends, part, empty])
 }
 
-fn print_paths(alloc: Global) -> Result<bool, AllocError> {
-    Ok(
-        print(alloc, predicate::path::exists(), "exists(var)")?
-            && print(alloc, predicate::path::missing(), "missing(var)")?
-            && print(alloc, predicate::path::is_file(), "var is file")?
-            && print(alloc, predicate::path::is_dir(), "var is dir")?
-            && print(alloc, predicate::path::is_symlink(), "var is symlink")?,
-    )
+fn print_paths(alloc: Global) -> Result<[bool; 5], AllocError> {
+    Ok([
+        print(alloc, predicate::path::exists(), "exists(var)")?,
+        print(alloc, predicate::path::missing(), "missing(var)")?,
+        print(alloc, predicate::path::is_file(), "var is file")?,
+        print(alloc, predicate::path::is_dir(), "var is dir")?,
+        print(alloc, predicate::path::is_symlink(), "var is symlink")?,
+    ])
 }
 
-// Whether a list and a set of equal members describe them.
-fn describe_members(alloc: Global) -> Result<bool, AllocError> {
+// Whether a list of equal members describes them.
+fn describe_list(alloc: Global) -> Result<bool, AllocError> {
     let listed = predicate::in_iter(alloc, [3i64, 3])?;
+    is_described(alloc, &listed, "var in values\nvalues=[3, 3]\n")
+}
+
+// Whether a set of them does.
+fn describe_set(alloc: Global) -> Result<bool, AllocError> {
     let hashed = predicate::in_hash(alloc, [3i64, 3])?;
-    Ok(
-        is_described(alloc, &listed, "var in values\nvalues=[3, 3]\n")?
-            && is_described(alloc, &hashed, "var in values\nvalues={3}\n")?,
-    )
+    is_described(alloc, &hashed, "var in values\nvalues={3}\n")
 }
 
 fn print_pattern(alloc: Global) -> Result<bool, Fail> {
@@ -68,21 +74,24 @@ fn print_pattern(alloc: Global) -> Result<bool, Fail> {
 
 #[test]
 fn each_name_prints_its_own_text(rt: HostRuntime) -> Result<(), Fail> {
-    assert!(rt; print_numbers(rt.alloc())?);
-    assert!(rt; print_texts(rt.alloc())?);
-    assert!(rt; print_paths(rt.alloc())?);
-    assert!(rt; describe_members(rt.alloc())?);
+    assert_eq!(rt; print_constants(rt.alloc())?, [true; 3]);
+    assert_eq!(rt; print_comparisons(rt.alloc())?, [true; 6]);
+    assert_eq!(rt; print_texts(rt.alloc())?, [true; 4]);
+    assert_eq!(rt; print_paths(rt.alloc())?, [true; 5]);
+    assert!(rt; describe_list(rt.alloc())?);
+    assert!(rt; describe_set(rt.alloc())?);
     assert!(rt; print_pattern(rt.alloc())?);
     Ok(())
 }
 
 // A check of a text, by what the prelude names alone.
 fn is_short_greeting(alloc: Global, item: &str) -> Result<bool, AllocError> {
-    let hello = predicate::str::starts_with(text(alloc, "Hello")?);
-    let bye = predicate::str::ends_with(text(alloc, "bye\n")?);
-    let short = predicate::lt(text(alloc, "z")?);
-    let greeting = hello.trim().or(bye.normalize()).and(short).name("greeting");
-    greeting.eval(alloc, &text(alloc, item)?)
+    let (hello, bye) = (text(alloc, "Hello")?, text(alloc, "bye\n")?);
+    let (last, item) = (text(alloc, "z")?, text(alloc, item)?);
+    let hello = predicate::str::starts_with(hello).trim();
+    let bye = predicate::str::ends_with(bye).normalize();
+    let greeting = hello.or(bye).and(predicate::lt(last)).name("greeting");
+    greeting.eval(alloc, &item)
 }
 
 #[test]

@@ -1,6 +1,7 @@
 //! Memberships among texts.
+use super::asked::verdict_of;
 use predicates::iter::{in_hash, in_iter};
-use predicates_testing::{text, verdict};
+use predicates_testing::text;
 use std::alloc::{AllocError, Global};
 use std::test::Fail;
 
@@ -12,22 +13,30 @@ fn letters(alloc: Global) -> Result<Vec<String>, AllocError> {
     Ok(letters)
 }
 
-// The verdicts of the list, the sorted list and the set of the letters; none where a verdict has
-// not just its own case.
-fn among_letters(alloc: Global, item: &str) -> Result<[Option<bool>; 3], AllocError> {
-    let item = text(alloc, item)?;
-    let hashed = verdict(alloc, &in_hash(alloc, letters(alloc)?)?, &item)?;
+// The verdict of the list, of the sorted list and of the set of the letters; none where a verdict
+// has not just its own case.
+fn is_listed(alloc: Global, item: &str) -> Result<Option<bool>, AllocError> {
     let listed = in_iter(alloc, letters(alloc)?)?;
-    let is_listed = verdict(alloc, &listed, &item)?;
-    let sorted = verdict(alloc, &listed.sort()?, &item)?;
-    Ok([is_listed, sorted, hashed])
+    verdict_of(alloc, listed, text(alloc, item)?)
+}
+
+fn is_sorted(alloc: Global, item: &str) -> Result<Option<bool>, AllocError> {
+    let sorted = in_iter(alloc, letters(alloc)?)?.sort()?;
+    verdict_of(alloc, sorted, text(alloc, item)?)
+}
+
+fn is_hashed(alloc: Global, item: &str) -> Result<Option<bool>, AllocError> {
+    let hashed = in_hash(alloc, letters(alloc)?)?;
+    verdict_of(alloc, hashed, text(alloc, item)?)
 }
 
 #[test]
 fn letters_among_a_c_e(rt: HostRuntime) -> Result<(), Fail> {
+    let alloc = rt.alloc();
     for (item, expected) in [("a", Some(true)), ("b", Some(false)), ("c", Some(true))] {
-        let found = among_letters(rt.alloc(), item)?;
-        assert_eq!(rt; found, [expected, expected, expected], "{item}");
+        assert_eq!(rt; is_listed(alloc, item)?, expected, "{item}");
+        assert_eq!(rt; is_sorted(alloc, item)?, expected, "{item}");
+        assert_eq!(rt; is_hashed(alloc, item)?, expected, "{item}");
     }
     Ok(())
 }

@@ -7,9 +7,14 @@ use predicates_uses::{Around, eval_boxed, find_plain_case, is_copy, no_script};
 use std::alloc::{AllocError, Global};
 use std::test::Fail;
 
+// Whether the file is a script.
+fn is_script(alloc: Global, file: Snapshot) -> Result<bool, AllocError> {
+    Ok(no_script(alloc, &file)?.is_none())
+}
+
 // Whether these lines explain why the file is no script.
-fn is_refused(alloc: Global, file: &Snapshot, lines: &str) -> Result<bool, AllocError> {
-    has_lines(alloc, no_script(alloc, file)?, lines)
+fn is_refused(alloc: Global, file: Snapshot, lines: &str) -> Result<bool, AllocError> {
+    has_lines(alloc, no_script(alloc, &file)?, lines)
 }
 
 // A link to what was followed so.
@@ -23,14 +28,27 @@ fn link(
     Ok(Snapshot::from_parts(path, Ok(FileType::Symlink), followed, content))
 }
 
+// A link to a script.
+fn linked(alloc: Global) -> Result<Snapshot, AllocError> {
+    let content = Vec::from_slice(alloc, b"#!/bin/sh\n")?;
+    link(alloc, "link", Ok(FileType::File), Ok(content))
+}
+
+// A link to nothing.
+fn lost(alloc: Global) -> Result<Snapshot, AllocError> {
+    link(
+        alloc,
+        "lost",
+        Err(PathFault::NotFound),
+        Err(PathFault::NotFound),
+    )
+}
+
 // Behind a link, and with white space before the mark.
 #[test]
 fn checks_scripts(rt: HostRuntime) -> Result<(), Fail> {
     let alloc = rt.alloc();
-    let content = Vec::from_slice(alloc, b"#!/bin/sh\n")?;
-    let linked = link(alloc, "link", Ok(FileType::File), Ok(content))?;
-    assert!(rt; no_script(alloc, &linked)?.is_none());
-    let spaced = file(alloc, "a", b" #!")?;
+    assert!(rt; is_script(alloc, linked(alloc)?)?);
     let lines = "\
 script = false
   script: (var is file && var.starts_with(\"#!\")) = false
@@ -39,16 +57,14 @@ script = false
       - var as str:  #!
       - var: a
 ";
-    assert!(rt; is_refused(alloc, &spaced, lines)?);
-    let nothing = Err(PathFault::NotFound);
-    let lost = link(alloc, "lost", nothing, Err(PathFault::NotFound))?;
+    assert!(rt; is_refused(alloc, file(alloc, "a", b" #!")?, lines)?);
     let lines = "\
 script = false
   script: (var is file && var.starts_with(\"#!\")) = false
     left: var is file = false
       - error: not found
 ";
-    assert!(rt; is_refused(alloc, &lost, lines)?);
+    assert!(rt; is_refused(alloc, lost(alloc)?, lines)?);
     Ok(())
 }
 
@@ -75,9 +91,7 @@ fn checks_files(rt: HostRuntime) -> Result<(), Fail> {
     assert!(rt; is_copied(alloc, file(alloc, "p", b"a")?, Ok(true))?);
     assert!(rt; is_copied(alloc, file(alloc, "p", b"b")?, Ok(false))?);
     assert!(rt; is_copied(alloc, folder(alloc)?, Err(PathFault::NotRegular))?);
-    let marked = file(alloc, "run.sh", b"#!/bin/sh\n")?;
-    assert!(rt; no_script(alloc, &marked)?.is_none());
-    let bare = file(alloc, "run.sh", b"echo")?;
+    assert!(rt; is_script(alloc, file(alloc, "run.sh", b"#!/bin/sh\n")?)?);
     let lines = "\
 script = false
   script: (var is file && var.starts_with(\"#!\")) = false
@@ -86,7 +100,7 @@ script = false
       - var as str: echo
       - var: run.sh
 ";
-    assert!(rt; is_refused(alloc, &bare, lines)?);
+    assert!(rt; is_refused(alloc, file(alloc, "run.sh", b"echo")?, lines)?);
     Ok(())
 }
 

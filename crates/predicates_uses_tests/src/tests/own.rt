@@ -1,6 +1,8 @@
 //! Custom predicates: a leaf, combinators and an adapter.
 use super::has_lines;
 use predicates::custom::{Operator, bare_case, join_case, leaf, not_case};
+use predicates::iter::InPredicate;
+use predicates::ord::OrdPredicate;
 use predicates::prelude::*;
 use predicates_testing::{describe, explains, is_described, render_verdict};
 use predicates_uses::{Either, IsTheAnswer, MultipleOf, RightFirst, is_known};
@@ -20,32 +22,65 @@ fn append_row<P: Predicate<u32>>(
     render_verdict(alloc, out, predicate, &41)
 }
 
+// Whether these are all that it writes.
+fn has_row<P: Predicate<u32> + Drop>(
+    alloc: Global,
+    predicate: P,
+    lines: &str,
+) -> Result<bool, AllocError>
+    requires { P.lawful predicate }
+{
+    let mut out = String::new(alloc);
+    append_row(alloc, &mut out, &predicate)?;
+    Ok(out.as_str() == lines)
+}
+
+// Whether the leaf, or a list beside it, is explained by the lines.
+fn explains_leaf_or_list(alloc: Global, number: u32, lines: &str) -> Result<bool, AllocError> {
+    let either = IsTheAnswer.or(predicate::in_iter(alloc, [41u32, 43])?);
+    explains(alloc, &either, &number, lines)
+}
+
 #[test]
 fn a_leaf_of_the_callers_own(rt: HostRuntime) -> Result<(), Fail> {
     let alloc = rt.alloc();
-    let either = IsTheAnswer.or(predicate::in_iter(alloc, [41u32, 43])?);
     let lines = "\
 (var.is_the_answer() || var in values) = true
   right: var in values = true
     - var: 41
 ";
-    assert!(rt; explains(alloc, &either, &41, lines)?);
+    assert!(rt; explains_leaf_or_list(alloc, 41, lines)?);
     let lines = "var.is_the_answer() = false\n  - var: 41\n";
     assert!(rt; explains(alloc, &IsTheAnswer, &41, lines)?);
     assert!(rt; is_described(alloc, &IsTheAnswer, "var.is_the_answer()\n")?);
     Ok(())
 }
 
+type Own = Either<IsTheAnswer, InPredicate<u32>>;
+
+// The leaf, or a list, by a combinator of the caller's own.
+fn own(alloc: Global) -> Result<Own, AllocError> {
+    let list = predicate::in_iter(alloc, [41u32, 43])?;
+    Ok(Either::new(IsTheAnswer, list))
+}
+
+fn explains_own(alloc: Global, number: u32, lines: &str) -> Result<bool, AllocError> {
+    explains(alloc, &own(alloc)?, &number, lines)
+}
+
+fn describes_own(alloc: Global, lines: &str) -> Result<bool, AllocError> {
+    is_described(alloc, &own(alloc)?, lines)
+}
+
 #[test]
 fn a_combinator_of_the_callers_own(rt: HostRuntime) -> Result<(), Fail> {
     let alloc = rt.alloc();
-    let either = Either::new(IsTheAnswer, predicate::in_iter(alloc, [41u32, 43])?);
     let lines = "\
 either(var.is_the_answer(), var in values) = true
   right: var in values = true
     - var: 41
 ";
-    assert!(rt; explains(alloc, &either, &41, lines)?);
+    assert!(rt; explains_own(alloc, 41, lines)?);
     let lines = "\
 either(var.is_the_answer(), var in values) = false
   left: var.is_the_answer() = false
@@ -53,29 +88,19 @@ either(var.is_the_answer(), var in values) = false
   right: var in values = false
     - var: 40
 ";
-    assert!(rt; explains(alloc, &either, &40, lines)?);
+    assert!(rt; explains_own(alloc, 40, lines)?);
     let lines = "\
 either(var.is_the_answer(), var in values)
 left: var.is_the_answer()
 right: var in values
   values=[41, 43]
 ";
-    assert!(rt; is_described(alloc, &either, lines)?);
+    assert!(rt; describes_own(alloc, lines)?);
     Ok(())
 }
 
-fn append_leaves(alloc: Global, out: &mut String) -> Result<(), AllocError> {
-    append_row(alloc, out, &IsTheAnswer.not())?;
-    append_row(alloc, out, &IsTheAnswer.name("answer"))
-}
-
-fn append_eithers(alloc: Global, out: &mut String) -> Result<(), AllocError> {
-    let either = Either::new(IsTheAnswer, predicate::lt(10));
-    append_row(alloc, out, &either.not())?;
-    append_row(alloc, out, &either.name("answer"))
-}
-
-const UNDER_NOT_AND_A_NAME: &str = "\
+const UNDER_NOT: [&str; 2] = [
+    "\
 (! var.is_the_answer())
 predicate: var.is_the_answer()
 (! var.is_the_answer()) = false
@@ -84,14 +109,8 @@ predicate: var.is_the_answer()
 (! var.is_the_answer()) = true
   predicate: var.is_the_answer() = false
     - var: 41
-answer
-answer: var.is_the_answer()
-answer = true
-  answer: var.is_the_answer() = true
-    - var: 42
-answer = false
-  answer: var.is_the_answer() = false
-    - var: 41
+",
+    "\
 (! either(var.is_the_answer(), var < 10))
 predicate: either(var.is_the_answer(), var < 10)
   left: var.is_the_answer()
@@ -106,6 +125,21 @@ predicate: either(var.is_the_answer(), var < 10)
       - var: 41
     right: var < 10 = false
       - var: 41
+",
+];
+
+const UNDER_A_NAME: [&str; 2] = [
+    "\
+answer
+answer: var.is_the_answer()
+answer = true
+  answer: var.is_the_answer() = true
+    - var: 42
+answer = false
+  answer: var.is_the_answer() = false
+    - var: 41
+",
+    "\
 answer
 answer: either(var.is_the_answer(), var < 10)
   left: var.is_the_answer()
@@ -120,38 +154,50 @@ answer = false
       - var: 41
     right: var < 10 = false
       - var: 41
-";
+",
+];
+
+// The leaf, or a number below ten.
+fn answer_or_small() -> Either<IsTheAnswer, OrdPredicate<u32>> {
+    Either::new(IsTheAnswer, predicate::lt(10u32))
+}
 
 #[test]
 fn under_not_and_under_a_name(rt: HostRuntime) -> Result<(), Fail> {
     let alloc = rt.alloc();
-    let mut out = String::new(alloc);
-    append_leaves(alloc, &mut out)?;
-    append_eithers(alloc, &mut out)?;
-    assert_eq!(rt; out.as_str(), UNDER_NOT_AND_A_NAME);
+    let [leaf, either] = UNDER_NOT;
+    assert!(rt; has_row(alloc, IsTheAnswer.not(), leaf)?);
+    assert!(rt; has_row(alloc, answer_or_small().not(), either)?);
+    let [leaf, either] = UNDER_A_NAME;
+    assert!(rt; has_row(alloc, IsTheAnswer.name("answer"), leaf)?);
+    assert!(rt; has_row(alloc, answer_or_small().name("answer"), either)?);
     Ok(())
+}
+
+fn is_multiple(alloc: Global, lines: &str) -> Result<bool, AllocError> {
+    has_row(alloc, leaf(MultipleOf { divisor: 42 }), lines)
+}
+
+fn is_multiple_or_greater(alloc: Global, lines: &str) -> Result<bool, AllocError> {
+    let multiple = leaf(MultipleOf { divisor: 42 });
+    has_row(
+        alloc,
+        multiple.or(predicate::gt(41u32)).name("answer"),
+        lines,
+    )
 }
 
 #[test]
 fn a_leaf_made_of_a_test(rt: HostRuntime) -> Result<(), Fail> {
-    let alloc = rt.alloc();
-    let mut out = String::new(alloc);
-    append_row(alloc, &mut out, &leaf(MultipleOf { divisor: 42 }))?;
-    append_row(
-        alloc,
-        &mut out,
-        &leaf(MultipleOf { divisor: 42 })
-            .or(predicate::gt(41))
-            .name("answer"),
-    )?;
-    assert_eq!(rt;
-        out.as_str(),
-        "\
+    let lines = "\
 var % 42 == 0
 var % 42 == 0 = true
   - var: 42
 var % 42 == 0 = false
   - var: 41
+";
+    assert!(rt; is_multiple(rt.alloc(), lines)?);
+    let lines = "\
 answer
 answer: (var % 42 == 0 || var > 41)
   left: var % 42 == 0
@@ -166,29 +212,15 @@ answer = false
       - var: 41
     right: var > 41 = false
       - var: 41
-"
-    );
+";
+    assert!(rt; is_multiple_or_greater(rt.alloc(), lines)?);
     Ok(())
 }
 
 // The parts are evaluated in the other order, and are shown in the same one.
 #[test]
 fn a_combinator_that_evaluates_its_right_part_first(rt: HostRuntime) -> Result<(), Fail> {
-    let alloc = rt.alloc();
-    let mut out = String::new(alloc);
-    append_row(
-        alloc,
-        &mut out,
-        &RightFirst::new(IsTheAnswer, predicate::gt(41)),
-    )?;
-    append_row(
-        alloc,
-        &mut out,
-        &RightFirst::new(IsTheAnswer, predicate::lt(42)),
-    )?;
-    assert_eq!(rt;
-        out.as_str(),
-        "\
+    let lines = "\
 either(var.is_the_answer(), var > 41)
 left: var.is_the_answer()
 right: var > 41
@@ -200,6 +232,10 @@ either(var.is_the_answer(), var > 41) = false
     - var: 41
   right: var > 41 = false
     - var: 41
+";
+    let greater = RightFirst::new(IsTheAnswer, predicate::gt(41u32));
+    assert!(rt; has_row(rt.alloc(), greater, lines)?);
+    let lines = "\
 either(var.is_the_answer(), var < 42)
 left: var.is_the_answer()
 right: var < 42
@@ -209,8 +245,9 @@ either(var.is_the_answer(), var < 42) = true
 either(var.is_the_answer(), var < 42) = true
   right: var < 42 = true
     - var: 41
-"
-    );
+";
+    let less = RightFirst::new(IsTheAnswer, predicate::lt(42u32));
+    assert!(rt; has_row(rt.alloc(), less, lines)?);
     Ok(())
 }
 
@@ -222,23 +259,30 @@ fn known_numbers(rt: HostRuntime) -> Result<(), Fail> {
     Ok(())
 }
 
-// By `and` and by `xor`.
-fn has_cases_of_two(alloc: Global, both: &str, one: &str) -> Result<(bool, bool), AllocError> {
+// Of two leaves, by the operator, whether the case for the verdict has the lines.
+fn has_case_of_two(
+    alloc: Global,
+    operator: Operator,
+    verdict: bool,
+    lines: &str,
+) -> Result<bool, AllocError> {
     let (low, small) = (predicate::lt(3), predicate::lt(5));
-    let found = join_case(alloc, Operator::And, &IsTheAnswer, &low, &small, false, &4)?;
-    let is_both = has_lines(alloc, found, both)?;
-    let found = join_case(alloc, Operator::Xor, &IsTheAnswer, &low, &small, true, &4)?;
-    Ok((is_both, has_lines(alloc, found, one)?))
+    let found = join_case(alloc, operator, &IsTheAnswer, &low, &small, verdict, &4)?;
+    has_lines(alloc, found, lines)
 }
 
-// By `not`, and bare, of the verdict alone.
-fn has_cases_of_one(alloc: Global, negated: &str, bare: &str) -> Result<[bool; 3], AllocError> {
+// By `not`.
+fn has_case_of_not(alloc: Global, lines: &str) -> Result<bool, AllocError> {
     let found = not_case(alloc, &IsTheAnswer, &predicate::lt(3), true, &4)?;
-    let is_negated = has_lines(alloc, found, negated)?;
+    has_lines(alloc, found, lines)
+}
+
+// Bare, of the verdict alone.
+fn has_bare_case(alloc: Global, lines: &str) -> Result<[bool; 2], AllocError> {
     let found = bare_case(alloc, &IsTheAnswer, true, Some(true))?;
-    let is_bare = has_lines(alloc, found, bare)?;
+    let is_bare = has_lines(alloc, found, lines)?;
     let found = bare_case(alloc, &IsTheAnswer, true, Some(false))?;
-    Ok([is_negated, is_bare, found.is_none()])
+    Ok([is_bare, found.is_none()])
 }
 
 // The calls that make a case for a custom predicate, under the text of the leaf.
@@ -252,10 +296,11 @@ var.is_the_answer() = true
   right: var < 5 = true
     - var: 4
 ";
-    assert_eq!(rt; has_cases_of_two(rt.alloc(), both, one)?, (true, true));
+    assert!(rt; has_case_of_two(rt.alloc(), Operator::And, false, both)?);
+    assert!(rt; has_case_of_two(rt.alloc(), Operator::Xor, true, one)?);
     let negated = "var.is_the_answer() = true\n  predicate: var < 3 = false\n    - var: 4\n";
     let bare = "var.is_the_answer() = true\n";
-    let found = has_cases_of_one(rt.alloc(), negated, bare)?;
-    assert_eq!(rt; found, [true, true, true]);
+    assert!(rt; has_case_of_not(rt.alloc(), negated)?);
+    assert_eq!(rt; has_bare_case(rt.alloc(), bare)?, [true; 2]);
     Ok(())
 }

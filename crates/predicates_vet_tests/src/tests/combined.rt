@@ -7,6 +7,7 @@ use super::writes;
 use predicates_vet::settings::Report;
 use serde_json::Value;
 use std::alloc::{AllocError, Global};
+use std::fmt::Write;
 use std::test::Fail;
 
 const TESTS: [Test<'static>; 22] = [
@@ -72,6 +73,26 @@ const COUNT: u64 = 14;
 pub(super) const RECORDS: &str =
     "{}\nnull\n\"ABC\"\n[1, 2]\n{\"x\": 1}\n{\"x\": -9223372036854775808}\n{\"x\": 18446744073709551615, \"l\": []}\n{\"x\": 1.0, \"l\": [1, \"b\", null, {\"x\": 1}]}\n{\"x\": \"b\", \"l\": {\"x\": 1}}\n{\"x\": \"ABC\", \"l\": [{\"x\": \"ABC\"}, {\"x\": \"b\"}]}\n{\"x\": true, \"l\": [[], {\"x\": {}}, \"ABC\", 0]}\n{\"x\": null, \"a/b~\": 0, \"l\": [{\"x\": null, \"l\": [1, 1]}]}\n{\"x\": [], \"l\": \"AB\"}\n{\"x\": \"\u{e9}\", \"l\": [{\"x\": \"\"}]}";
 
+// Two answers, in order.
+fn two(alloc: Global, left: Answer, right: Answer) -> Result<Vec<Answer>, AllocError> {
+    let mut parts = Vec::new(alloc);
+    parts.push(left)?;
+    parts.push(right)?;
+    Ok(parts)
+}
+
+// What two tests say of the value.
+fn parts_of(
+    alloc: Global,
+    first: Test<'_>,
+    second: Test<'_>,
+    value: &Value,
+) -> Result<Vec<Answer>, AllocError> {
+    let left = tested(alloc, first, value)?;
+    let right = tested(alloc, second, value)?;
+    two(alloc, left, right)
+}
+
 // What is said of the value by two tests that the word joins.
 fn pair(
     alloc: Global,
@@ -82,10 +103,25 @@ fn pair(
 ) -> Result<Answer, AllocError> {
     let (left, right) = (first.0, second.0);
     let text = format!(in alloc; "{left} {word} {right}")?;
-    let mut parts = Vec::new(alloc);
-    parts.push(tested(alloc, first, value)?)?;
-    parts.push(tested(alloc, second, value)?)?;
+    let parts = parts_of(alloc, first, second, value)?;
     joined(alloc, text, word, &parts)
+}
+
+// What is said of each item.
+fn pairs(
+    alloc: Global,
+    word: &str,
+    first: Test<'_>,
+    second: Test<'_>,
+    found: Option<&Value>,
+) -> Result<Vec<Answer>, AllocError> {
+    let mut parts = Vec::new(alloc);
+    if let Some(Value::Array(items)) = found {
+        for item in items {
+            parts.push(pair(alloc, word, first, second, item)?)?;
+        }
+    }
+    Ok(parts)
 }
 
 // What is said of the items at `/l`.
@@ -100,25 +136,20 @@ fn over_items(
     let (left, right) = (first.0, second.0);
     let text = format!(in alloc; "{quantifier} /l ({left} {word} {right})")?;
     let found = value_of(value, &["l"]);
-    let mut parts = Vec::new(alloc);
-    if let Some(Value::Array(items)) = found {
-        for item in items {
-            parts.push(pair(alloc, word, first, second, item)?)?;
-        }
-    }
+    let parts = pairs(alloc, word, first, second, found)?;
     ranged(alloc, text, quantifier, found, &parts)
 }
 
-fn denied_row(alloc: Global, part: &Answer) -> Result<Answer, AllocError> {
+fn denied_row(alloc: Global, part: Answer) -> Result<Answer, AllocError> {
     let inner = part.text.as_str();
     let text = format!(in alloc; "not ({inner})")?;
-    denied(alloc, text, part)
+    denied(alloc, text, &part)
 }
 
-fn denied_range(alloc: Global, part: &Answer) -> Result<Answer, AllocError> {
+fn denied_range(alloc: Global, part: Answer) -> Result<Answer, AllocError> {
     let inner = part.text.as_str();
     let text = format!(in alloc; "not {inner}")?;
-    denied(alloc, text, part)
+    denied(alloc, text, &part)
 }
 
 // Two parts that the word joins, of which the first may be joined itself.
@@ -132,10 +163,34 @@ fn both(
     let (open, close) = if is_row { ("(", ")") } else { ("", "") };
     let (a, b) = (left.text.as_str(), right.text.as_str());
     let text = format!(in alloc; "{open}{a}{close} {word} {b}")?;
-    let mut parts = Vec::new(alloc);
-    parts.push(left)?;
-    parts.push(right)?;
+    let parts = two(alloc, left, right)?;
     joined(alloc, text, word, &parts)
+}
+
+// A range, joined with the opposite of another.
+fn both_ranges(
+    alloc: Global,
+    first: Test<'_>,
+    second: Test<'_>,
+    value: &Value,
+) -> Result<Answer, AllocError> {
+    let right = over_items(alloc, "any", "xor", first, second, value)?;
+    let right = denied_range(alloc, right)?;
+    let left = over_items(alloc, "any", "or", first, second, value)?;
+    both(alloc, "xor", false, left, right)
+}
+
+// A row, joined with the opposite of another.
+fn both_rows(
+    alloc: Global,
+    first: Test<'_>,
+    second: Test<'_>,
+    value: &Value,
+) -> Result<Answer, AllocError> {
+    let right = pair(alloc, "and", second, first, value)?;
+    let right = denied_row(alloc, right)?;
+    let left = pair(alloc, "or", first, second, value)?;
+    both(alloc, "and", true, left, right)
 }
 
 const NAMES: [&str; 10] = ["a", "b", "c", "d", "e", "f", "g", "h", "i", "j"];
@@ -152,25 +207,25 @@ fn said(
         "a" => pair(alloc, "and", first, second, value),
         "b" => pair(alloc, "or", first, second, value),
         "c" => pair(alloc, "xor", first, second, value),
-        "d" => denied_row(alloc, &pair(alloc, "and", first, second, value)?),
-        "e" => denied_row(alloc, &pair(alloc, "xor", first, second, value)?),
+        "d" => denied_row(alloc, pair(alloc, "and", first, second, value)?),
+        "e" => denied_row(alloc, pair(alloc, "xor", first, second, value)?),
         "f" => over_items(alloc, "each", "or", first, second, value),
         "g" => over_items(alloc, "any", "and", first, second, value),
         "h" => {
             let part = over_items(alloc, "each", "xor", first, second, value)?;
-            denied_range(alloc, &part)
+            denied_range(alloc, part)
         }
-        "i" => {
-            let left = over_items(alloc, "any", "or", first, second, value)?;
-            let right = over_items(alloc, "any", "xor", first, second, value)?;
-            both(alloc, "xor", false, left, denied_range(alloc, &right)?)
-        }
-        _ => {
-            let left = pair(alloc, "or", first, second, value)?;
-            let right = pair(alloc, "and", second, first, value)?;
-            both(alloc, "and", true, left, denied_row(alloc, &right)?)
-        }
+        "i" => both_ranges(alloc, first, second, value),
+        _ => both_rows(alloc, first, second, value),
     }
+}
+
+// Writes the rule of this name.
+fn push_named(rules: &mut String, name: &str, text: &str) -> Result<(), AllocError> {
+    rules.push_str(name)?;
+    rules.push_str(": ")?;
+    rules.push_str(text)?;
+    rules.push_str("\n")
 }
 
 // The file of these rules. A rule's text depends on no value.
@@ -178,12 +233,27 @@ fn rules_of(alloc: Global, first: Test<'_>, second: Test<'_>) -> Result<String, 
     let mut rules = String::new(alloc);
     for name in NAMES {
         let rule = said(alloc, name, first, second, &Value::Null)?;
-        rules.push_str(name)?;
-        rules.push_str(": ")?;
-        rules.push_str(&rule.text)?;
-        rules.push_str("\n")?;
+        push_named(&mut rules, name, &rule.text)?;
     }
     Ok(rules)
+}
+
+// Writes the lines of the rule where it does not hold, and keeps those of the first one.
+fn push_broken(
+    alloc: Global,
+    all: &mut String,
+    one: &mut String,
+    name: &str,
+    rule: &Answer,
+) -> Result<(), AllocError> {
+    if rule.holds {
+        return Ok(());
+    }
+    push_rule(alloc, all, name, rule)?;
+    if one.is_empty() {
+        one.push_str(all)?;
+    }
+    Ok(())
 }
 
 // The lines of the rules that the value breaks: of all, and of the first.
@@ -197,14 +267,15 @@ fn broken(
     let mut one = String::new(alloc);
     for name in NAMES {
         let rule = said(alloc, name, first, second, value)?;
-        if !rule.holds {
-            push_rule(alloc, &mut all, name, &rule)?;
-            if one.is_empty() {
-                one.push_str(&all)?;
-            }
-        }
+        push_broken(alloc, &mut all, &mut one, name, &rule)?;
     }
     Ok((all, one))
+}
+
+// Writes the block of the record of this number.
+fn push_block(to: &mut String, number: usize, lines: &str) -> Result<(), AllocError> {
+    writeln!(to, "record {number}: false")?;
+    to.push_str(lines)
 }
 
 // The blocks of all values, with all rules that they break, and with the first; and how many break
@@ -223,11 +294,8 @@ fn blocks(
         if !lines.is_empty() {
             failed = failed.saturating_add(1);
             let number = index.saturating_add(1);
-            let head = format!(in alloc; "record {number}: false\n")?;
-            all.push_str(&head)?;
-            all.push_str(&lines)?;
-            one.push_str(&head)?;
-            one.push_str(&first_lines)?;
+            push_block(&mut all, number, &lines)?;
+            push_block(&mut one, number, &first_lines)?;
         }
     }
     Ok((all, one, failed))
@@ -265,12 +333,18 @@ fn agrees(
     Ok(whole && short)
 }
 
+// The values of the records.
+fn values(alloc: Global) -> Result<Vec<Value>, Fail> {
+    let mut values = Vec::new(alloc);
+    for line in RECORDS.split('\n') {
+        values.push(Value::from_str(alloc, line)?)?;
+    }
+    Ok(values)
+}
+
 #[test]
 fn pairs_of_tests(rt: HostRuntime) -> Result<(), Fail> {
-    let mut values = Vec::new(rt.alloc());
-    for line in RECORDS.split('\n') {
-        values.push(Value::from_str(rt.alloc(), line)?)?;
-    }
+    let values = values(rt.alloc())?;
     for first in TESTS {
         for second in SECOND {
             let same = agrees(rt.alloc(), first, second, &values)?;

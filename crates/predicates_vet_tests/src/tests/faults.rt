@@ -54,7 +54,9 @@ fn written_by(alloc: Global, read: usize) -> Result<(Vec<u8>, Vec<u8>), AllocErr
     Ok((answers, told))
 }
 
-// How a run over the bytes ends, and what was written, as answers and as messages.
+// How a run ends, and what was written, as answers and as messages.
+type Ran = (Result<Counts, RunFault>, Vec<u8>, Vec<u8>);
+
 fn ran(
     alloc: Global,
     bytes: &[u8],
@@ -62,9 +64,9 @@ fn ran(
     room: usize,
     message_room: usize,
     kind: ErrorKind,
-) -> Result<Option<(Result<Counts, RunFault>, Vec<u8>, Vec<u8>)>, AllocError> {
+) -> Option<Ran> {
     let Ok(checks) = read_checks(alloc, b"a: /x == 1") else {
-        return Ok(None);
+        return None;
     };
     let settings = Settings {
         report: Report::First,
@@ -83,15 +85,13 @@ fn ran(
     };
     let ended = run_records(
         alloc,
-        checks.as_slice(),
+        &checks,
         &settings,
         &mut input,
         &mut output,
         &mut messages,
     );
-    let Narrow { got: answers, .. } = output;
-    let Narrow { got: told, .. } = messages;
-    Ok(Some((ended, answers, told)))
+    Some((ended, output.got, messages.got))
 }
 
 // Whether the run over the front of the input, with a fault behind it, answers that fault, after
@@ -103,37 +103,45 @@ fn fails_reading(
     fault: RunFault,
 ) -> Result<bool, AllocError> {
     let front = &INPUT[..read.min(INPUT.len())];
-    let Some((ended, answers, told)) = ran(alloc, front, Some(kind), usize::MAX, usize::MAX, kind)?
-    else {
-        return Ok(false);
-    };
     let (expected, messages) = written_by(alloc, read)?;
-    Ok(ended == Err(fault) && answers == expected && told == messages)
+    Ok(
+        match ran(alloc, front, Some(kind), usize::MAX, usize::MAX, kind) {
+            Some((ended, answers, told)) => {
+                ended == Err(fault) && answers == expected && told == messages
+            }
+            None => false,
+        },
+    )
 }
 
-// Whether the run over the whole input, of which this many bytes are written, answers the fault
-// after these bytes, and told no more than it tells otherwise; or where all have room, ends.
+// Whether a run that has room for so many bytes in one place answers the fault after these bytes,
+// and writes no more in the other than it writes otherwise; or where all have room, ends.
+fn is_cut(ran: Ran, whole: &[u8], other_whole: &[u8], room: usize, fault: RunFault) -> bool {
+    let (ended, cut, other) = ran;
+    let kept = room.min(whole.len());
+    let expected = if kept < whole.len() {
+        Err(fault)
+    } else {
+        Ok(COUNTS)
+    };
+    ended == expected
+        && cut.as_slice() == &whole[..kept]
+        && other_whole.starts_with(&other)
+        && (kept < whole.len() || other.as_slice() == other_whole)
+}
+
+// Whether the run over the whole input does so, where this many bytes of answers are written.
 fn fails_writing(
     alloc: Global,
     room: usize,
     kind: ErrorKind,
     fault: RunFault,
 ) -> Result<bool, AllocError> {
-    let Some((ended, answers, told)) = ran(alloc, INPUT, None, room, usize::MAX, kind)? else {
-        return Ok(false);
-    };
     let (whole, messages) = written_by(alloc, usize::MAX)?;
-    let expected = if room < whole.len() {
-        Err(fault)
-    } else {
-        Ok(COUNTS)
-    };
-    Ok(
-        ended == expected
-            && answers.as_slice() == &whole[..room.min(whole.len())]
-            && messages.starts_with(&told)
-            && (room < whole.len() || told == messages),
-    )
+    Ok(match ran(alloc, INPUT, None, room, usize::MAX, kind) {
+        Some(ran) => is_cut(ran, &whole, &messages, room, fault),
+        None => false,
+    })
 }
 
 // The same where this many bytes of messages are written.
@@ -143,21 +151,13 @@ fn fails_telling(
     kind: ErrorKind,
     fault: RunFault,
 ) -> Result<bool, AllocError> {
-    let Some((ended, answers, told)) = ran(alloc, INPUT, None, usize::MAX, room, kind)? else {
-        return Ok(false);
-    };
     let (whole, messages) = written_by(alloc, usize::MAX)?;
-    let expected = if room < messages.len() {
-        Err(fault)
-    } else {
-        Ok(COUNTS)
-    };
-    Ok(
-        ended == expected
-            && told.as_slice() == &messages[..room.min(messages.len())]
-            && whole.starts_with(&answers)
-            && (room < messages.len() || answers == whole),
-    )
+    Ok(match ran(alloc, INPUT, None, usize::MAX, room, kind) {
+        Some((ended, answers, told)) => {
+            is_cut((ended, told, answers), &messages, &whole, room, fault)
+        }
+        None => false,
+    })
 }
 
 const COUNTS: Counts = Counts {
@@ -177,15 +177,21 @@ fn reads_that_fail(rt: HostRuntime) -> Result<(), Fail> {
     Ok(())
 }
 
+// How many bytes of answers and of messages there are.
+fn lengths(alloc: Global) -> Result<(usize, usize), AllocError> {
+    let (whole, messages) = written_by(alloc, usize::MAX)?;
+    Ok((whole.len(), messages.len()))
+}
+
 #[test]
 fn writes_that_fail(rt: HostRuntime) -> Result<(), Fail> {
+    let (answers, messages) = lengths(rt.alloc())?;
     for (kind, _, fault) in KINDS {
-        let (whole, messages) = written_by(rt.alloc(), usize::MAX)?;
-        for room in 0..=whole.len() {
+        for room in 0..=answers {
             let right = fails_writing(rt.alloc(), room, kind, fault)?;
             assert!(rt; right, "{kind:?} at {room}");
         }
-        for room in 0..=messages.len() {
+        for room in 0..=messages {
             let right = fails_telling(rt.alloc(), room, kind, fault)?;
             assert!(rt; right, "{kind:?} at {room} of the messages");
         }

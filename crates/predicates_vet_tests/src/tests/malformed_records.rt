@@ -1,7 +1,8 @@
 //! Records that are cut at each byte, and records with a byte changed: how many lines hold no
 //! record, and that the other records are told as before.
-use predicates_vet::settings::{Report, Settings};
-use predicates_vet::{Counts, read_checks, run_records};
+use super::{run_of, settings_of};
+use predicates_vet::Counts;
+use predicates_vet::settings::Report;
 use std::alloc::{AllocError, Global};
 use std::test::Fail;
 
@@ -17,31 +18,23 @@ const TOLD_AFTER: &[u8] =
 
 const RECORD: &[u8] = b"{\"x\":-1}";
 
-// What a run over the lines writes, and its messages, with its counts.
-fn ran(alloc: Global, middle: &[u8]) -> Result<Option<(Vec<u8>, Vec<u8>, Counts)>, AllocError> {
-    let Ok(checks) = read_checks(alloc, b"a: /x == 5") else {
-        return Ok(None);
-    };
-    let settings = Settings {
-        report: Report::First,
-        id: Some(String::from_str(alloc, "/id")?),
-    };
+// The line between the two others.
+fn between(alloc: Global, middle: &[u8]) -> Result<Vec<u8>, AllocError> {
     let mut lines = Vec::new(alloc);
     lines.extend_from_slice(BEFORE)?;
     lines.extend_from_slice(middle)?;
     lines.push(b'\n')?;
     lines.extend_from_slice(AFTER)?;
-    let mut input = lines.as_slice();
-    let mut output = Vec::new(alloc);
-    let mut messages = Vec::new(alloc);
-    let ended = run_records(
-        alloc,
-        checks.as_slice(),
-        &settings,
-        &mut input,
-        &mut output,
-        &mut messages,
-    );
+    Ok(lines)
+}
+
+// What a run over the lines writes, and its messages, with its counts.
+fn ran(alloc: Global, middle: &[u8]) -> Result<Option<(Vec<u8>, Vec<u8>, Counts)>, AllocError> {
+    let lines = between(alloc, middle)?;
+    let settings = settings_of(alloc, Report::First, Some("/id"))?;
+    let Ok((output, messages, ended)) = run_of(alloc, &settings, b"a: /x == 5", &lines) else {
+        return Ok(None);
+    };
     match ended {
         Ok(counts) => Ok(Some((output, messages, counts))),
         Err(_) => Ok(None),

@@ -1,35 +1,29 @@
 //! Rules that are cut at each byte, and rules with a byte changed: what they say then, or the place
 //! and the reason of the fault.
+use super::run_of;
 use predicates_vet::settings::{Report, Settings};
-use predicates_vet::{read_checks, run_records};
 use std::alloc::{AllocError, Global};
 use std::str;
 use std::test::Fail;
 
+// The bytes as a text.
+fn text_of(alloc: Global, bytes: &[u8]) -> Result<String, AllocError> {
+    match str::from_utf8(bytes) {
+        Ok(text) => String::from_str(alloc, text),
+        Err(_) => String::from_str(alloc, "no text"),
+    }
+}
+
 // Why the rules are not read, or what is written of the record by them.
 fn told(alloc: Global, rules: &[u8], record: &[u8]) -> Result<String, AllocError> {
-    let checks = match read_checks(alloc, rules) {
-        Ok(checks) => checks,
-        Err(error) => return format!(in alloc; "{error}"),
-    };
     let settings = Settings {
         report: Report::All,
         id: None,
     };
-    let mut input = record;
-    let mut output = Vec::new(alloc);
-    let mut messages = Vec::new(alloc);
-    let ended = run_records(
-        alloc,
-        checks.as_slice(),
-        &settings,
-        &mut input,
-        &mut output,
-        &mut messages,
-    );
-    match (ended, str::from_utf8(&output)) {
-        (Ok(_), Ok(text)) => String::from_str(alloc, text),
-        _ => String::from_str(alloc, "a fault"),
+    match run_of(alloc, &settings, rules, record) {
+        Ok((output, _, Ok(_))) => text_of(alloc, &output),
+        Ok(_) => String::from_str(alloc, "a fault"),
+        Err(error) => format!(in alloc; "{error}"),
     }
 }
 

@@ -1,8 +1,8 @@
 //! An input that is cut at each line: with `--id` the outputs of both pieces join to that of the
 //! whole.
 use super::combined::RECORDS;
-use predicates_vet::settings::{Report, Settings};
-use predicates_vet::{read_checks, run_records};
+use super::{run_onto, settings_of};
+use predicates_vet::settings::Report;
 use std::alloc::{AllocError, Global};
 use std::test::Fail;
 
@@ -12,39 +12,39 @@ const RULES: &[u8] = b"a: /x exists\nb: any /l (/ == 1)";
 fn write_run(
     alloc: Global,
     report: Report,
-    mut records: &[u8],
+    records: &[u8],
     written: &mut Vec<u8>,
 ) -> Result<bool, AllocError> {
-    let Ok(checks) = read_checks(alloc, RULES) else {
-        return Ok(false);
-    };
-    let settings = Settings {
-        report,
-        id: Some(String::from_str(alloc, "/x")?),
-    };
-    let mut messages = Vec::new(alloc);
-    let ended = run_records(
-        alloc,
-        checks.as_slice(),
-        &settings,
-        &mut records,
-        written,
-        &mut messages,
-    );
-    Ok(ended.is_ok() && messages.is_empty())
+    let settings = settings_of(alloc, report, Some("/x"))?;
+    match run_onto(alloc, &settings, RULES, records, written) {
+        Ok((messages, Ok(_))) => Ok(messages.is_empty()),
+        _ => Ok(false),
+    }
+}
+
+// What runs over the pieces write, one behind the other; none where a run fails or tells a message.
+fn written(alloc: Global, report: Report, pieces: &[&[u8]]) -> Result<Option<Vec<u8>>, AllocError> {
+    let mut written = Vec::new(alloc);
+    for piece in pieces {
+        if !write_run(alloc, report, piece, &mut written)? {
+            return Ok(None);
+        }
+    }
+    Ok(Some(written))
 }
 
 // Whether the outputs of the pieces before and from this byte on join to that of the whole.
 fn is_joined(alloc: Global, report: Report, cut: usize) -> Result<bool, AllocError> {
     let records = RECORDS.as_bytes();
-    let (mut whole, mut joined) = (Vec::new(alloc), Vec::new(alloc));
     let (Some(first), Some(second)) = (records.get(..cut), records.get(cut..)) else {
         return Ok(false);
     };
-    let ran = write_run(alloc, report, records, &mut whole)?;
-    let ran_first = write_run(alloc, report, first, &mut joined)?;
-    let ran_second = write_run(alloc, report, second, &mut joined)?;
-    Ok(ran && ran_first && ran_second && !whole.is_empty() && whole == joined)
+    let whole = written(alloc, report, &[records])?;
+    let joined = written(alloc, report, &[first, second])?;
+    Ok(match (whole, joined) {
+        (Some(whole), Some(joined)) => !whole.is_empty() && whole == joined,
+        _ => false,
+    })
 }
 
 #[test]

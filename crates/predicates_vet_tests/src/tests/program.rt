@@ -1,6 +1,6 @@
 //! The whole program, over a process of the test's.
 use predicates_fakes::{Closed, Process};
-use predicates_vet::run_program;
+use predicates_vet_program::run_program;
 use std::alloc::Global;
 use std::io::ErrorKind;
 use std::test::Fail;

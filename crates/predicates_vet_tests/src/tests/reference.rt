@@ -265,6 +265,16 @@ fn each_of(alloc: Global, name: &str, parts: &[Answer]) -> Result<String, AllocE
     Ok(below)
 }
 
+// Whether parts hold that the word joins, and their lines.
+fn join(alloc: Global, word: &str, parts: &[Answer]) -> Result<(bool, String), AllocError> {
+    let count = count_true(parts);
+    match word {
+        "and" => Ok((count == parts.len(), deciding(alloc, "part", parts, false)?)),
+        "or" => Ok((count > 0, deciding(alloc, "part", parts, true)?)),
+        _ => Ok((count % 2 == 1, each_of(alloc, "part", parts)?)),
+    }
+}
+
 /// What parts say that the word joins.
 pub fn joined(
     alloc: Global,
@@ -272,13 +282,32 @@ pub fn joined(
     word: &str,
     parts: &[Answer],
 ) -> Result<Answer, AllocError> {
-    let count = count_true(parts);
-    let (holds, below) = match word {
-        "and" => (count == parts.len(), deciding(alloc, "part", parts, false)?),
-        "or" => (count > 0, deciding(alloc, "part", parts, true)?),
-        _ => (count % 2 == 1, each_of(alloc, "part", parts)?),
-    };
+    let (holds, below) = join(alloc, word, parts)?;
     Ok(Answer { text, holds, below })
+}
+
+// What is said of a value that is no array.
+fn no_array(alloc: Global, value: &Value) -> Result<String, AllocError> {
+    let shown = value.to_string(alloc)?;
+    format!(in alloc; "- found: {shown}\n- error: not an array\n")
+}
+
+// Whether items of what was found hold as the word wants it, and their lines.
+fn range(
+    alloc: Global,
+    word: &str,
+    found: Option<&Value>,
+    parts: &[Answer],
+) -> Result<(bool, String), AllocError> {
+    let count = count_true(parts);
+    match found {
+        Some(Value::Array(_)) if word == "each" => {
+            Ok((count == parts.len(), deciding(alloc, "item", parts, false)?))
+        }
+        Some(Value::Array(_)) => Ok((count > 0, deciding(alloc, "item", parts, true)?)),
+        Some(value) => Ok((false, no_array(alloc, value)?)),
+        None => Ok((false, String::from_str(alloc, "- error: nothing at /l\n")?)),
+    }
 }
 
 /// What the word says of the items of what was found, from what is said of each.
@@ -289,21 +318,6 @@ pub fn ranged(
     found: Option<&Value>,
     parts: &[Answer],
 ) -> Result<Answer, AllocError> {
-    let count = count_true(parts);
-    let (holds, below) = match found {
-        Some(Value::Array(_)) if word == "each" => (
-            count == parts.len(),
-            deciding(alloc, "item", parts, false)?,
-        ),
-        Some(Value::Array(_)) => (count > 0, deciding(alloc, "item", parts, true)?),
-        Some(value) => {
-            let shown = value.to_string(alloc)?;
-            (
-                false,
-                format!(in alloc; "- found: {shown}\n- error: not an array\n")?,
-            )
-        }
-        None => (false, String::from_str(alloc, "- error: nothing at /l\n")?),
-    };
+    let (holds, below) = range(alloc, word, found, parts)?;
     Ok(Answer { text, holds, below })
 }

@@ -2,7 +2,7 @@ use super::split_words;
 use predicates_explain::{Exit, run_command_line};
 use predicates_fakes::{FailingReader, FailingWriter};
 use std::alloc::{AllocError, Global};
-use std::io::ErrorKind;
+use std::io::{BufRead, ErrorKind, Write};
 use std::test::Fail;
 
 const NO_MEMORY: &str = "explain: no memory\n";
@@ -17,63 +17,45 @@ const KINDS: [(ErrorKind, &str); 3] = [
 
 const LINES: [&[u8]; 2] = [b"text|empty", b"between|5|10"];
 
-// The status and the message, where a read after this many calls fails.
-fn read(
+// Whether the words end with the message and the status of a fault, over this input and output.
+fn is_fault<R: BufRead + Drop, W: Write + Drop>(
     alloc: Global,
     line: &[u8],
-    calls: usize,
-    kind: ErrorKind,
-) -> Result<(u8, Vec<u8>), AllocError> {
+    mut reader: R,
+    mut writer: W,
+    message: &str,
+) -> Result<bool, AllocError> {
     let words = split_words(alloc, line)?;
-    let mut reader = FailingReader {
-        bytes: b"1\n2",
-        calls,
-        kind,
-    };
-    let mut written = Vec::new(alloc);
     let mut messages = Vec::new(alloc);
-    let (end, _) = run_command_line(alloc, &words, &mut reader, &mut written, &mut messages);
-    Ok((end.status(), messages))
+    let (end, _) = run_command_line(alloc, &words, &mut reader, &mut writer, &mut messages);
+    Ok(end.status() == 3 && messages.as_slice() == message.as_bytes())
 }
 
 // Each read in turn wants memory, or fails.
 #[test]
 fn failing_reads(rt: HostRuntime) -> Result<(), Fail> {
+    let (alloc, bytes) = (rt.alloc(), b"1\n2".as_slice());
     for line in LINES {
         for (kind, message) in KINDS {
             for calls in 0..4usize {
-                let (status, messages) = read(rt.alloc(), line, calls, kind)?;
-                let holds = status == 3 && messages.as_slice() == message.as_bytes();
+                let reader = FailingReader { bytes, calls, kind };
+                let holds = is_fault(alloc, line, reader, Vec::new(alloc), message)?;
                 assert!(rt; holds, "at {line:?}, {message}, {calls}");
             }
         }
     }
     Ok(())
-}
-
-// The status and the message, where a write after this many calls fails.
-fn write(
-    alloc: Global,
-    line: &[u8],
-    calls: usize,
-    kind: ErrorKind,
-) -> Result<(u8, Vec<u8>), AllocError> {
-    let words = split_words(alloc, line)?;
-    let mut reader = b"1\n2".as_slice();
-    let mut writer = FailingWriter { calls, kind };
-    let mut messages = Vec::new(alloc);
-    let (end, _) = run_command_line(alloc, &words, &mut reader, &mut writer, &mut messages);
-    Ok((end.status(), messages))
 }
 
 // Each write and the flush in turn want memory, or fail.
 #[test]
 fn failing_writes(rt: HostRuntime) -> Result<(), Fail> {
+    let (alloc, reader) = (rt.alloc(), b"1\n2".as_slice());
     for line in LINES {
         for (kind, message) in KINDS {
             for calls in 0..3usize {
-                let (status, messages) = write(rt.alloc(), line, calls, kind)?;
-                let holds = status == 3 && messages.as_slice() == message.as_bytes();
+                let writer = FailingWriter { calls, kind };
+                let holds = is_fault(alloc, line, reader, writer, message)?;
                 assert!(rt; holds, "at {line:?}, {message}, {calls}");
             }
         }
@@ -81,11 +63,9 @@ fn failing_writes(rt: HostRuntime) -> Result<(), Fail> {
     Ok(())
 }
 
-// A message that can't be written leaves the status as it is.
-#[test]
-fn no_place_for_messages(rt: HostRuntime) -> Result<(), Fail> {
-    let alloc = rt.alloc();
-    let words = split_words(alloc, b"text|and")?;
+// How the words end where no message can be written, and how many bytes of output there are.
+fn ended_without_message(alloc: Global, line: &[u8]) -> Result<((Exit, bool), usize), AllocError> {
+    let words = split_words(alloc, line)?;
     let mut reader = b"1".as_slice();
     let mut written = Vec::new(alloc);
     let mut closed = FailingWriter {
@@ -93,7 +73,13 @@ fn no_place_for_messages(rt: HostRuntime) -> Result<(), Fail> {
         kind: ErrorKind::BrokenPipe,
     };
     let ended = run_command_line(alloc, &words, &mut reader, &mut written, &mut closed);
-    assert_eq!(rt; ended, (Exit::Usage, false));
-    assert_eq!(rt; written.len(), 0);
+    Ok((ended, written.len()))
+}
+
+// A message that can't be written leaves the status as it is.
+#[test]
+fn no_place_for_messages(rt: HostRuntime) -> Result<(), Fail> {
+    let ended = ended_without_message(rt.alloc(), b"text|and")?;
+    assert_eq!(rt; ended, ((Exit::Usage, false), 0));
     Ok(())
 }

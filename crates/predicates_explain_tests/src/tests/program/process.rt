@@ -2,7 +2,7 @@
 use super::{BLANK, REFUSED, USAGE};
 use predicates_explain::run_program;
 use predicates_fakes::{Closed, Process};
-use std::alloc::Global;
+use std::alloc::{AllocError, Global};
 use std::test::Fail;
 
 // The status, standard output and standard error.
@@ -82,16 +82,21 @@ fn is_read_whole(alloc: Global, word: &[u8], item: &[u8]) -> bool {
     written.starts_with(b"line 1: false\n") || item.len() == 1
 }
 
+// Whether a word of this many letters is read whole.
+fn is_long_word_read(alloc: Global, size: usize) -> Result<bool, AllocError> {
+    let mut item = Vec::new(alloc);
+    item.resize(size, b'a')?;
+    let mut word = Vec::new(alloc);
+    word.extend_from_slice(b"contains=")?;
+    word.extend_from_slice(&item)?;
+    Ok(is_read_whole(alloc, &word, &item))
+}
+
 // A word is read whole, however long it is.
 #[test]
 fn long_words(rt: HostRuntime) -> Result<(), Fail> {
     for size in [1usize, 246, 247, 248, 300, 70_000] {
-        let mut item = Vec::new(rt.alloc());
-        item.resize(size, b'a')?;
-        let mut word = Vec::new(rt.alloc());
-        word.extend_from_slice(b"contains=")?;
-        word.extend_from_slice(&item)?;
-        assert!(rt; is_read_whole(rt.alloc(), &word, &item), "at {size}");
+        assert!(rt; is_long_word_read(rt.alloc(), size)?, "at {size}");
     }
     Ok(())
 }
@@ -103,41 +108,61 @@ fn count_lines(alloc: Global, words: &[&[u8]]) -> (u8, usize, bool) {
     (status, lines, written.starts_with(b"line 1: true\n"))
 }
 
+// The words of this many checks, joined, and then one word more, if any.
+fn joined_words(
+    alloc: Global,
+    count: usize,
+    more: &[&'static [u8]],
+) -> Result<Vec<&'static [u8]>, AllocError> {
+    let mut words = Vec::new(alloc);
+    words.extend_from_slice(&[b"explain".as_slice(), b"text"])?;
+    words.resize(count.saturating_add(2), b"empty")?;
+    words.resize(count.saturating_add(count).saturating_add(1), b"or")?;
+    words.extend_from_slice(more)?;
+    Ok(words)
+}
+
+// What is counted of such words.
+fn count_joined(
+    alloc: Global,
+    count: usize,
+    more: &[&'static [u8]],
+) -> Result<(u8, usize, bool), AllocError> {
+    let words = joined_words(alloc, count, more)?;
+    Ok(count_lines(alloc, &words))
+}
+
 // Every word is read, however many there are; this many checks stand on the stack before they are
 // joined.
 #[test]
 fn many_words(rt: HostRuntime) -> Result<(), Fail> {
     for count in [1usize, 8, 9, 300] {
-        let mut words = Vec::new(rt.alloc());
-        words.push(b"explain".as_slice())?;
-        words.push(b"text")?;
-        for _ in 0..count {
-            words.push(b"empty")?;
-        }
-        for _ in 1..count {
-            words.push(b"or")?;
-        }
-        let found = count_lines(rt.alloc(), &words);
+        let found = count_joined(rt.alloc(), count, &[])?;
         // The label, the nodes that decide, and the product of the last.
         let lines = if count == 1 { 3 } else { 4 };
         assert_eq!(rt; found, (0, lines, true), "at {count}");
-        words.push(b"and")?;
-        assert_eq!(rt; count_lines(rt.alloc(), &words).0, 2, "at {count}");
+        let (status, _, _) = count_joined(rt.alloc(), count, &[b"and"])?;
+        assert_eq!(rt; status, 2, "at {count}");
     }
     Ok(())
 }
 
+// Whether the words end so on the line `7`, where an output fails and nothing is written to the
+// other one but this.
+fn ends_closed(alloc: Global, words: &[&[u8]], closed: Closed, status: u8, message: &[u8]) -> bool {
+    let (found, written, messages) = run_closed(alloc, words, b"7\n", closed);
+    found == status && written.is_empty() && messages.as_slice() == message
+}
+
+const BETWEEN: [&[u8]; 4] = [b"explain", b"between", b"5", b"10"];
+
 // A fault of standard output is reported, and one of standard error leaves the status as it is.
 #[test]
 fn closed_outputs(rt: HostRuntime) -> Result<(), Fail> {
-    let alloc = rt.alloc();
-    let words = [b"explain".as_slice(), b"between", b"5", b"10"];
-    let (status, _, messages) = run_closed(alloc, &words, b"7\n", Closed::Output);
-    let holds = status == 3
-        && messages.as_slice() == b"explain: input or output fault\n".as_slice();
+    let message = b"explain: input or output fault\n";
+    let holds = ends_closed(rt.alloc(), &BETWEEN, Closed::Output, 3, message);
     assert!(rt; holds, "of standard output");
-    let (status, written, messages) = run_closed(alloc, &words[..2], b"7\n", Closed::Error);
-    let holds = status == 2 && written.is_empty() && messages.is_empty();
+    let holds = ends_closed(rt.alloc(), &BETWEEN[..2], Closed::Error, 2, b"");
     assert!(rt; holds, "of standard error");
     Ok(())
 }

@@ -1,9 +1,10 @@
 //! Large and empty operands.
 use super::split_words;
-use crate::tests::numbers::SEVEN;
+use crate::tests::numbers::{SEVEN, is_one, is_total};
 use predicates::ord::ge;
-use predicates_explain::{explain_one, explain_total, run_command_line};
-use std::alloc::Global;
+use predicates_explain::run_command_line;
+use predicates_testing::repeated;
+use std::alloc::{AllocError, Global};
 use std::test::Fail;
 
 // What is written for the input, where every line is an item.
@@ -37,13 +38,19 @@ fn ends_at(alloc: Global, count: usize, last: &str) -> Result<bool, Fail> {
     Ok(written.ends_with(end.as_bytes()))
 }
 
+// Whether the program writes the block of 7 as often as the line stands there.
+fn repeats(alloc: Global, count: usize) -> Result<bool, Fail> {
+    let input = repeat(alloc, "7\n", count)?;
+    let written = answer(alloc, b"between|5|10", &input)?;
+    let expected = repeat(alloc, SEVEN, count)?;
+    Ok(written == expected)
+}
+
 #[test]
 fn many_lines(rt: HostRuntime) -> Result<(), Fail> {
-    let alloc = rt.alloc();
-    let written = answer(alloc, b"between|5|10", &repeat(alloc, "7\n", 300)?)?;
-    assert!(rt; written == repeat(alloc, SEVEN, 300)?);
+    assert!(rt; repeats(rt.alloc(), 300)?);
     for (count, last) in [(300, "line 300"), (70_000, "line 70000")] {
-        assert!(rt; ends_at(alloc, count, last)?, "at {count}");
+        assert!(rt; ends_at(rt.alloc(), count, last)?, "at {count}");
     }
     Ok(())
 }
@@ -65,36 +72,37 @@ fn is_seven(alloc: Global, zeros: usize, end: &str) -> Result<bool, Fail> {
     Ok(written.as_slice() == SEVEN.as_bytes())
 }
 
+// Whether a line of this many letters is shown whole.
+fn is_shown_whole(alloc: Global, size: usize) -> Result<bool, Fail> {
+    let begin = "line 1: false\nvar.contains(a) = false\n  - var: ";
+    let mut input = repeat(alloc, "b", size)?;
+    input.push(b'\n')?;
+    echoes(alloc, b"text|contains=a", &input, begin, "")
+}
+
 // Lines of 0 to 300 bytes, so that what is written for them has each length as well.
 #[test]
 fn lines_of_each_length(rt: HostRuntime) -> Result<(), Fail> {
-    let begin = "line 1: false\nvar.contains(a) = false\n  - var: ";
     for size in 0..301usize {
-        let mut input = repeat(rt.alloc(), "b", size)?;
-        input.push(b'\n')?;
-        let holds = echoes(rt.alloc(), b"text|contains=a", &input, begin, "")?;
-        assert!(rt; holds, "at {size}");
+        assert!(rt; is_shown_whole(rt.alloc(), size)?, "at {size}");
         assert!(rt; is_seven(rt.alloc(), size, "7\r\n")?, "at {size}");
     }
     Ok(())
 }
 
 // Whether both blocks stand under a label of this size.
-fn is_labelled(alloc: Global, size: usize) -> Result<bool, Fail> {
-    let mut label = String::new(alloc);
-    for _ in 0..size {
-        label.push_str("b")?;
-    }
-    let one = explain_one(alloc, &ge(5), label.as_str(), &7)?;
-    let total = explain_total(alloc, &ge(5), label.as_str(), &7)?;
-    label.push_str(": true\nvar >= 5 = true\n  - var: 7\n")?;
-    Ok(one == label && total == label)
+fn is_labelled(alloc: Global, size: u32) -> Result<bool, AllocError> {
+    let label = repeated(alloc, "b", size, "")?;
+    let block = repeated(alloc, "b", size, ": true\nvar >= 5 = true\n  - var: 7\n")?;
+    let one = is_one(alloc, ge(5i64), &label, 7, &block)?;
+    let total = is_total(alloc, ge(5i64), &label, 7, &block)?;
+    Ok(one && total)
 }
 
 // Labels of any length, also of none.
 #[test]
 fn labels_of_any_length(rt: HostRuntime) -> Result<(), Fail> {
-    for size in [0usize, 1, 255, 256, 300, 70_000] {
+    for size in [0u32, 1, 255, 256, 300, 70_000] {
         assert!(rt; is_labelled(rt.alloc(), size)?, "at {size}");
     }
     Ok(())

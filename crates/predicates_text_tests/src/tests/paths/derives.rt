@@ -1,12 +1,13 @@
 //! The traits that types derive, and the parts of a snapshot and of a description.
 use super::helpers::{file, same_bytes, same_text, snapshot};
 use super::parts::has_parts;
+use crate::tests::asked::are_apart;
 use predicates::constant::always;
 use predicates::str::PredicateStrExt;
 use predicates_path::FileType::{File, Symlink};
 use predicates_path::PathFault::{NotRegular, PermissionDenied};
-use predicates_path::{PredicateFileContentExt, exists, is_file, missing};
-use predicates_testing::{are_copied, differ, is_described};
+use predicates_path::{BinaryFilePredicate, PredicateFileContentExt, exists, is_file, missing};
+use predicates_testing::{are_copied, is_described};
 use std::alloc::{AllocError, Global};
 use std::test::Fail;
 
@@ -33,20 +34,32 @@ fn is_adapter_copied(alloc: Global) -> Result<bool, AllocError> {
     )
 }
 
-fn do_bytes_differ(alloc: Global) -> Result<bool, Fail> {
-    let (a, b) = (same_bytes(alloc, b"a")?, same_bytes(alloc, b"b")?);
-    Ok(differ(alloc, &a, &b)? && differ(alloc, &a.from_file_path(), &b.from_file_path())?)
+// Comparisons with files of two contents.
+fn files(alloc: Global) -> Result<(BinaryFilePredicate, BinaryFilePredicate), Fail> {
+    Ok((same_bytes(alloc, b"a")?, same_bytes(alloc, b"b")?))
 }
 
-fn do_texts_differ(alloc: Global) -> Result<bool, Fail> {
-    Ok(differ(alloc, &same_text(alloc, b"a")?, &same_text(alloc, b"b")?)?)
+fn are_bytes_apart(alloc: Global) -> Result<bool, Fail> {
+    let (a, b) = files(alloc)?;
+    Ok(are_apart(alloc, a, b)?)
+}
+
+fn are_contents_apart(alloc: Global) -> Result<bool, Fail> {
+    let (a, b) = files(alloc)?;
+    Ok(are_apart(alloc, a.from_file_path(), b.from_file_path())?)
+}
+
+fn are_texts_apart(alloc: Global) -> Result<bool, Fail> {
+    let (a, b) = (same_text(alloc, b"a")?, same_text(alloc, b"b")?);
+    Ok(are_apart(alloc, a, b)?)
 }
 
 #[test]
 fn adapters_and_equal_files_are_compared(rt: HostRuntime) -> Result<(), Fail> {
     assert!(rt; is_adapter_copied(rt.alloc())?);
-    assert!(rt; do_bytes_differ(rt.alloc())?);
-    assert!(rt; do_texts_differ(rt.alloc())?);
+    assert!(rt; are_bytes_apart(rt.alloc())?);
+    assert!(rt; are_contents_apart(rt.alloc())?);
+    assert!(rt; are_texts_apart(rt.alloc())?);
     Ok(())
 }
 

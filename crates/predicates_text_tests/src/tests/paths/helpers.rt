@@ -1,11 +1,10 @@
-//! Snapshots, and what a predicate answers of them.
-use predicates_core::Predicate;
+//! Snapshots, and comparisons with them.
 use predicates_path::FileType::File;
 use predicates_path::PathFault::NotFound;
 use predicates_path::{
     BinaryFilePredicate, FileType, PathFault, Snapshot, StrFilePredicate, eq_file,
 };
-use predicates_testing::{explains, text};
+use predicates_testing::text;
 use std::alloc::{AllocError, Global};
 use std::test::Fail;
 
@@ -38,20 +37,6 @@ pub fn file_at(alloc: Global, path: &str) -> Result<Snapshot, AllocError> {
 pub fn nothing_at(alloc: Global, path: &str) -> Result<Snapshot, AllocError> {
     let gone = Err(NotFound);
     Ok(Snapshot::from_parts(text(alloc, path)?, Err(NotFound), Err(NotFound), gone))
-}
-
-/// Whether it answers whether the item is the text, with a case of one line.
-pub fn explains_equality<P: Predicate<Item>, Item>(
-    alloc: Global,
-    predicate: &P,
-    item: &Item,
-    text: &str,
-    verdict: bool,
-) -> Result<bool, AllocError>
-    requires { P.lawful predicate.now }
-{
-    let lines = format!(in alloc; "var is {text} = {verdict}\n")?;
-    explains(alloc, predicate, item, lines.as_str())
 }
 
 /// The comparison with a file of these bytes.

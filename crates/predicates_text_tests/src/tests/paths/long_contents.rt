@@ -1,9 +1,10 @@
 //! A long content, handed on as a whole, or refused where its last character is cut.
 use super::helpers::file;
+use crate::tests::asked::shows;
 use predicates::boolean::PredicateBooleanExt;
 use predicates::str::{PredicateStrExt, is_empty};
 use predicates_path::PredicateFileContentExt;
-use predicates_testing::{explains, repeated};
+use predicates_testing::repeated;
 use std::alloc::{AllocError, Global};
 use std::test::Fail;
 
@@ -12,7 +13,7 @@ const LENGTH: u32 = 69_999;
 // Whether nested predicates have these lines on the content.
 fn is_explained(alloc: Global, content: &[u8], lines: &str) -> Result<bool, AllocError> {
     let some = is_empty().not().normalize().from_utf8().from_file_path();
-    explains(alloc, &some, &file(alloc, content)?, lines)
+    shows(alloc, some, file(alloc, content)?, lines)
 }
 
 fn is_handed_on(alloc: Global) -> Result<bool, AllocError> {

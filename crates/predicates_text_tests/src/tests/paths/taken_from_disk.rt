@@ -44,19 +44,34 @@ fn new_folder(rt: &HostRuntime) -> io::Result<String> {
     Err(io::Error::from(io::ErrorKind::AlreadyExists))
 }
 
+// The files in the folder, and the content of each.
+const FILES: [(&str, &[u8]); 5] = [
+    ("file", b"hello"),
+    ("empty", b""),
+    ("bytes", b"\xff\x00\xfe"),
+    ("lines", b"a\n\n\n"),
+    ("a name ", b" "),
+];
+
+// The links in the folder, and where each leads.
+const LINKS: [(&str, &str); 5] = [
+    ("to_file", "file"),
+    ("to_empty", "empty"),
+    ("to_folder", "folder"),
+    ("to_device", "/dev/null"),
+    ("to_nothing", "nothing"),
+];
+
 fn fill(rt: &HostRuntime, folder: &str) -> io::Result<()> {
     let alloc = rt.alloc();
-    fs::write(rt, format!(in alloc; "{folder}/file")?, "hello")?;
-    fs::write(rt, format!(in alloc; "{folder}/empty")?, "")?;
-    fs::write(rt, format!(in alloc; "{folder}/bytes")?, b"\xff\x00\xfe")?;
-    fs::write(rt, format!(in alloc; "{folder}/lines")?, "a\n\n\n")?;
-    fs::write(rt, format!(in alloc; "{folder}/a name ")?, " ")?;
+    for (name, content) in FILES {
+        fs::write(rt, format!(in alloc; "{folder}/{name}")?, content)?;
+    }
     fs::create_dir(rt, format!(in alloc; "{folder}/folder")?)?;
-    symlink(rt, "file", format!(in alloc; "{folder}/to_file")?)?;
-    symlink(rt, "empty", format!(in alloc; "{folder}/to_empty")?)?;
-    symlink(rt, "folder", format!(in alloc; "{folder}/to_folder")?)?;
-    symlink(rt, "/dev/null", format!(in alloc; "{folder}/to_device")?)?;
-    symlink(rt, "nothing", format!(in alloc; "{folder}/to_nothing")?)
+    for (name, place) in LINKS {
+        symlink(rt, place, format!(in alloc; "{folder}/{name}")?)?;
+    }
+    Ok(())
 }
 
 // Whether what is taken at the path has the path and these parts.

@@ -1,5 +1,6 @@
 //! Which traits the tests of texts derive, at types that have it.
-use predicates_testing::{differ, text};
+use crate::tests::asked::are_apart;
+use predicates_testing::text;
 use predicates_text::{
     ContainsPredicate, PredicateStrExt, contains, ends_with, is_empty, starts_with,
 };
@@ -19,40 +20,51 @@ fn is_shown_as<T: fmt::Debug>(alloc: Global, value: &T, form: &str) -> Result<bo
     Ok(format!(in alloc; "{value:?}")?.as_str() == form)
 }
 
-fn part(alloc: Global, pattern: &str) -> Result<ContainsPredicate, AllocError> {
-    Ok(contains(text(alloc, pattern)?))
+// Two patterns.
+fn letters(alloc: Global) -> Result<(String, String), AllocError> {
+    Ok((text(alloc, "a")?, text(alloc, "b")?))
 }
 
-// Whether leaves of two patterns differ.
-fn do_leaves_differ(alloc: Global) -> Result<bool, AllocError> {
-    let (starts, ends) = (starts_with(text(alloc, "a")?), ends_with(text(alloc, "a")?));
-    Ok(
-        differ(alloc, &starts, &starts_with(text(alloc, "b")?))?
-            && differ(alloc, &ends, &ends_with(text(alloc, "b")?))?
-            && differ(alloc, &part(alloc, "a")?, &part(alloc, "b")?)?
-            && differ(
-                alloc,
-                &part(alloc, "a")?.count(1),
-                &part(alloc, "a")?.count(2),
-            )?,
-    )
+// Leaves of two patterns.
+fn parts(alloc: Global) -> Result<(ContainsPredicate, ContainsPredicate), AllocError> {
+    let (a, b) = letters(alloc)?;
+    Ok((contains(a), contains(b)))
 }
 
-// Whether adapters over such leaves differ.
-fn do_adapters_differ(alloc: Global) -> Result<bool, AllocError> {
-    Ok(
-        differ(alloc, &part(alloc, "a")?.trim(), &part(alloc, "b")?.trim())?
-            && differ(
-                alloc,
-                &part(alloc, "a")?.normalize(),
-                &part(alloc, "b")?.normalize(),
-            )?
-            && differ(
-                alloc,
-                &part(alloc, "a")?.from_utf8(),
-                &part(alloc, "b")?.from_utf8(),
-            )?,
-    )
+fn are_starts_apart(alloc: Global) -> Result<bool, AllocError> {
+    let (a, b) = letters(alloc)?;
+    are_apart(alloc, starts_with(a), starts_with(b))
+}
+
+fn are_ends_apart(alloc: Global) -> Result<bool, AllocError> {
+    let (a, b) = letters(alloc)?;
+    are_apart(alloc, ends_with(a), ends_with(b))
+}
+
+fn are_parts_apart(alloc: Global) -> Result<bool, AllocError> {
+    let (a, b) = parts(alloc)?;
+    are_apart(alloc, a, b)
+}
+
+fn are_counts_apart(alloc: Global) -> Result<bool, AllocError> {
+    let once = contains(text(alloc, "a")?).count(1);
+    let twice = contains(text(alloc, "a")?).count(2);
+    are_apart(alloc, once, twice)
+}
+
+fn are_trimmed_apart(alloc: Global) -> Result<bool, AllocError> {
+    let (a, b) = parts(alloc)?;
+    are_apart(alloc, a.trim(), b.trim())
+}
+
+fn are_normalized_apart(alloc: Global) -> Result<bool, AllocError> {
+    let (a, b) = parts(alloc)?;
+    are_apart(alloc, a.normalize(), b.normalize())
+}
+
+fn are_decoded_apart(alloc: Global) -> Result<bool, AllocError> {
+    let (a, b) = parts(alloc)?;
+    are_apart(alloc, a.from_utf8(), b.from_utf8())
 }
 
 #[test]
@@ -78,8 +90,18 @@ fn adapters_are_shown(rt: HostRuntime) -> Result<(), Fail> {
 }
 
 #[test]
-fn compared(rt: HostRuntime) -> Result<(), Fail> {
-    assert!(rt; do_leaves_differ(rt.alloc())?);
-    assert!(rt; do_adapters_differ(rt.alloc())?);
+fn leaves_are_compared(rt: HostRuntime) -> Result<(), Fail> {
+    assert!(rt; are_starts_apart(rt.alloc())?);
+    assert!(rt; are_ends_apart(rt.alloc())?);
+    assert!(rt; are_parts_apart(rt.alloc())?);
+    assert!(rt; are_counts_apart(rt.alloc())?);
+    Ok(())
+}
+
+#[test]
+fn adapters_are_compared(rt: HostRuntime) -> Result<(), Fail> {
+    assert!(rt; are_trimmed_apart(rt.alloc())?);
+    assert!(rt; are_normalized_apart(rt.alloc())?);
+    assert!(rt; are_decoded_apart(rt.alloc())?);
     Ok(())
 }

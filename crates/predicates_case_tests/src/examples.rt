@@ -1,0 +1,3 @@
+//! The examples that stand at the calls that make cases and reports, word for word.
+mod cases;
+mod failures;

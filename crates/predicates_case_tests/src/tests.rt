@@ -1,0 +1,3 @@
+mod case_children;
+mod cases;
+mod check;

@@ -1,0 +1,5 @@
+mod counted;
+mod counting_member;
+mod functions;
+mod functions_of_fields;
+mod memberships;

@@ -1,0 +1,141 @@
+ghost use Rattle.std.specs.Prelude.{◌≡◌, IfOk};
+ghost use Rattle.std.specs.Ordering.{int_eq};
+ghost use Rattle.predicates_item.specs.In.{members_of};
+ghost use Rattle.predicates_item.specs.HashableIn as HashableIn;
+ghost use Rattle.predicates_item.specs.Members.{first_of_equals};
+
+use predicates::iter::{HashableInPredicate, InPredicate, in_hash, in_iter};
+use predicates_core::Predicate;
+use predicates_core::reflection::PredicateReflection;
+use predicates_testing::{is_described, verdict};
+use std::alloc::{AllocError, Global};
+use std::test::Fail;
+
+// What a caller can prove of the members of a list.
+fn of_vec(alloc: Global, members: Vec<i64>) -> Result<InPredicate<i64>, AllocError>
+    ensures { IfOk result (λ p. members_of p ≡ members.items) }
+{
+    in_iter(alloc, members)
+}
+
+// What a caller can prove of the members of a set: the first of equal ones is kept.
+fn first_of_vec(alloc: Global, members: Vec<i64>) -> Result<HashableInPredicate<i64>, AllocError>
+    ensures { IfOk result (λ p.
+        HashableIn.members_of p ≡ first_of_equals int_eq members.items) }
+{
+    in_hash(alloc, members)
+}
+
+fn is_list_described(alloc: Global) -> Result<bool, AllocError> {
+    let listed = of_vec(alloc, Vec::from_slice(alloc, &[3, 1, 3])?)?;
+    is_described(alloc, &listed, "var in values\nvalues=[3, 1, 3]\n")
+}
+
+fn is_sorted_list_described(alloc: Global) -> Result<bool, AllocError> {
+    let sorted = of_vec(alloc, Vec::from_slice(alloc, &[3, 1, 3])?)?.sort()?;
+    is_described(alloc, &sorted, "var in values\nvalues=[1, 3, 3]\n")
+}
+
+fn is_set_described(alloc: Global) -> Result<bool, AllocError> {
+    let hashed = first_of_vec(alloc, Vec::from_slice(alloc, &[3, 1, 3])?)?;
+    is_described(alloc, &hashed, "var in values\nvalues={3, 1}\n")
+}
+
+#[test]
+fn members_in_their_kept_order(rt: HostRuntime) -> Result<(), Fail> {
+    assert!(rt; is_list_described(rt.alloc())?);
+    assert!(rt; is_sorted_list_described(rt.alloc())?);
+    assert!(rt; is_set_described(rt.alloc())?);
+    Ok(())
+}
+
+// Whether the first parameter has this many bytes.
+fn has_bytes<P: PredicateReflection>(
+    alloc: Global,
+    predicate: &P,
+    bytes: usize,
+) -> Result<bool, AllocError> {
+    match predicate.parameters(alloc)?.first() {
+        Some(values) => Ok(values.value().len() == bytes),
+        None => Ok(false),
+    }
+}
+
+// The numbers from 0 to the first of the ends hold, and the second one does not.
+fn has_ends<P: Predicate<i64>>(
+    alloc: Global,
+    predicate: &P,
+    ends: (i64, i64),
+) -> Result<bool, AllocError>
+    requires { P.lawful predicate.now }
+{
+    let (last, next) = ends;
+    let of_next = verdict(alloc, predicate, &next)?;
+    let of_last = verdict(alloc, predicate, &last)?;
+    let of_half = verdict(alloc, predicate, &(next / 2))?;
+    let some = Some(last >= 0);
+    Ok(of_next == Some(false) && of_last == some && of_half == some)
+}
+
+// The same, where the printed members have this many bytes.
+fn holds_numbers<P: Predicate<i64>>(
+    alloc: Global,
+    predicate: &P,
+    ends: (i64, i64),
+    bytes: usize,
+) -> Result<bool, AllocError>
+    requires { P.lawful predicate.now }
+{
+    let has_ends = has_ends(alloc, predicate, ends)?;
+    Ok(has_bytes(alloc, predicate, bytes)? && has_ends)
+}
+
+// Whether the list of the numbers below the second end does so.
+fn is_listed(alloc: Global, ends: (i64, i64), bytes: usize) -> Result<bool, AllocError> {
+    let listed = in_iter(alloc, 0..ends.1)?;
+    holds_numbers(alloc, &listed, ends, bytes)
+}
+
+// Whether the sorted list of these numbers does so.
+fn is_sorted(alloc: Global, ends: (i64, i64), bytes: usize) -> Result<bool, AllocError> {
+    let sorted = in_iter(alloc, 0..ends.1)?.sort()?;
+    holds_numbers(alloc, &sorted, ends, bytes)
+}
+
+// Whether the set of these numbers does so.
+fn is_hashed(alloc: Global, ends: (i64, i64), bytes: usize) -> Result<bool, AllocError> {
+    let hashed = in_hash(alloc, 0..ends.1)?;
+    holds_numbers(alloc, &hashed, ends, bytes)
+}
+
+// Whether the list, the sorted list and the set do so.
+fn holds_below(alloc: Global, ends: (i64, i64), bytes: usize) -> Result<bool, AllocError> {
+    let is_listed = is_listed(alloc, ends, bytes)?;
+    let is_sorted = is_sorted(alloc, ends, bytes)?;
+    let is_hashed = is_hashed(alloc, ends, bytes)?;
+    Ok(is_listed && is_sorted && is_hashed)
+}
+
+// The ends, and the bytes: a number has as many as digits, and a comma and a space stand between
+// two.
+const ENDS: [(i64, i64, usize); 4] = [
+    (-1, 0, 2),
+    (0, 1, 3),
+    (299, 300, 10 + 2 * 90 + 3 * 200 + 2 * 299 + 2),
+    (
+        69_999,
+        70_000,
+        10 + 2 * 90 + 3 * 900 + 4 * 9_000 + 5 * 60_000 + 2 * 69_999 + 2,
+    ),
+];
+
+#[test]
+fn no_members_and_many(rt: HostRuntime) -> Result<(), Fail> {
+    for (last, next, bytes) in ENDS {
+        assert!(rt;
+            holds_below(rt.alloc(), (last, next), bytes)?,
+            "below {next}"
+        );
+    }
+    Ok(())
+}
