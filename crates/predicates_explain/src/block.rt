@@ -1,10 +1,21 @@
 //! The block of text that explains a verdict.
-ghost use Rattle.std.specs.Prelude.{IfOk, OnOk, string_bytes};
-ghost use Rattle.predicates_explain.specs.Blocks.{HasBlocks, IsBlock};
+ghost use Rattle.std.specs.Prelude.{◌≡◌, IfOk, OnOk, string_bytes};
+ghost use Rattle.predicates_explain.specs.Blocks.{heading, HasBlocks, IsBlock};
 
 use predicates_core::reflection::render_onto;
 use predicates_core::{Predicate, Total};
 use std::alloc::{AllocError, Global};
+
+// Puts the verdict behind the label that the text holds, and ends the line.
+fn write_verdict(text: &mut String, holds: bool) -> Result<(), AllocError>
+    ensures { OnOk result (string_bytes text.new ≡ heading (string_bytes text.old) holds) }
+{
+    if holds {
+        text.push_str(": true\n")
+    } else {
+        text.push_str(": false\n")
+    }
+}
 
 // Makes the label that the text holds into its block.
 #[tactic(auto, using(crate::proofs::BlockLemmas::blocks))]
@@ -19,17 +30,13 @@ pub(crate) fn complete_block<P: Predicate<Item>, Item>(
         (HasBlocks (P.formula predicate.now item.now) (string_bytes text.old)
         (string_bytes text.new)) }
 {
-    // A check that joins others is evaluated by `find_case`, so a case for `true` is asked first.
-    if let Some(case) = predicate.find_case(alloc, true, item)? {
-        text.push_str(": true\n")?;
-        return render_onto(text, &case);
-    }
-    text.push_str(": false\n")?;
+    let holds = predicate.eval(alloc, item)?;
+    write_verdict(text, holds)?;
     // There is a case, unless the predicate has no formula on the item.
-    if let Some(case) = predicate.find_case(alloc, false, item)? {
-        render_onto(text, &case)?;
-    }
-    Ok(())
+    let Some(case) = predicate.explain(alloc, Some(holds), item)? else {
+        return Ok(());
+    };
+    render_onto(text, &case)
 }
 
 /// The label with the verdict, and the lines of a case that explains it: `11: false`, and the case

@@ -8,7 +8,7 @@ ghost use Rattle.predicates_json.specs.Null.{null_text, null_formula};
 ghost use Rattle.predicates_json.specs.NullLaws.{null_text_fits};
 
 use crate::kind::kind;
-use predicates_core::custom::absent_case;
+use predicates_core::custom::{absent_case, is_other};
 use predicates_core::node::{leaf_node, printed};
 use predicates_core::reflection::{Case, Child, Parameter, PredicateReflection};
 use predicates_core::{Predicate, Total};
@@ -67,15 +67,24 @@ impl Predicate<Value> for NullPredicate {
         Ok(item.is_null())
     }
 
-    #[tactic(auto, using(crate::proofs::NullCases::null_cases))]
     fn find_case(
         &self,
         alloc: Global,
         expected: bool,
         item: &Value,
     ) -> Result<Option<Case>, AllocError> {
+        self.explain(alloc, Some(expected), item)
+    }
+
+    #[tactic(auto, using(crate::proofs::NullCases::null_cases))]
+    fn explain(
+        &self,
+        alloc: Global,
+        wanted: Option<bool>,
+        item: &Value,
+    ) -> Result<Option<Case>, AllocError> {
         let holds = item.is_null();
-        if holds != expected {
+        if is_other(wanted, holds) {
             return Ok(None);
         }
         if holds {
