@@ -22,7 +22,7 @@ mod sifted;
 mod unmet;
 
 pub use expectation::{Expectation, Failure, check_all, expect};
-pub use requirement::{require, require_as};
+pub use requirement::{require, require_as, required_change};
 pub use rules::{add_failure, failures};
 pub use sifted::{Rejection, Sifted, sift};
 pub use unmet::Unmet;

@@ -1,12 +1,14 @@
 //! Assertions whose error says why.
 ghost use Rattle.std.specs.Prelude.{◌≡◌, true, false, [], ◌++◌, codes, IfErr, IfOk, IsOk, OnOk};
+ghost use Rattle.std.specs.Prelude.{Some};
+ghost use Rattle.predicates_core.specs.Change.{IsFoundChange};
 ghost use Rattle.predicates_core.specs.Formula.{Formula, HasTruth, truth};
 ghost use Rattle.predicates_core.specs.Shows.{IsAnswer};
 ghost use Rattle.predicates_check.specs.Unmet.{TellsWhy};
 
 use crate::Unmet;
-use predicates_core::Predicate;
 use predicates_core::reflection::{Case, render, render_onto};
+use predicates_core::{Predicate, PredicateChange};
 use std::alloc::{AllocError, Global};
 
 // The case where the predicate does not hold. Where it holds, only `eval` is called.
@@ -79,4 +81,25 @@ pub fn require_as<P: Predicate<Item>, Item>(
     lines.push_str(": ")?;
     render_onto(&mut lines, &case)?;
     Err(Unmet::Fails(lines))
+}
+
+/// What has to change for the predicate to hold of the item, as the case of its first change; none
+/// where it holds.
+///
+/// Each part is evaluated, also where an earlier one decides. It takes memory for the case.
+///
+/// ```
+/// let policy = predicate::ge(5).and(predicate::ne(3));
+/// let case = required_change(alloc, &policy, &3)?.ok_or("met")?;
+/// assert!(rt; case.root().children().count() == 2);
+/// ```
+pub fn required_change<P: PredicateChange<Item>, Item>(
+    alloc: Global,
+    predicate: &P,
+    item: &Item,
+) -> Result<Option<Case>, AllocError>
+    requires { P.lawful predicate.now }
+    ensures { IfOk result (IsFoundChange (P.formula predicate.now item.now) (Some false)) }
+{
+    predicate.find_change(alloc, Some(false), item)
 }

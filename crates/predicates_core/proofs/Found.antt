@@ -29,7 +29,7 @@ pub case_of_none : {F : Formula → Type 0} {b : Bool} {t : Tree CaseNode} → (
 case_of_none none = record { truth = truth_of_none none; explains = λ f h. absurd (none f h) }
 
 -- a case has the truth as its result
-result_shown : (f : Formula) (t : Tree CaseNode) (s : List ℕ) → Shows f t s → t.root.result ≡ truth f
+pub result_shown : (f : Formula) (t : Tree CaseNode) (s : List ℕ) → Shows f t s → t.root.result ≡ truth f
 unfolding Shows
 result_shown (Leaf label own) t s h = h.0.result ∙ sym (truth-Leaf label own)
 result_shown (Join op label fs) t s h = h.0.result
@@ -54,13 +54,13 @@ pub case_found : {F : Formula → Type 0} (w : Option Bool) (t : Tree CaseNode) 
 case_found (Some e) t x = x
 case_found None t x = x
 
-is_opposite : (e h : Bool) → differ e h ≡ true → h ≡ not e
+pub is_opposite : (e h : Bool) → differ e h ≡ true → h ≡ not e
 is_opposite true true e = absurd (cc)
 is_opposite true false e = refl
 is_opposite false true e = refl
 is_opposite false false e = absurd (cc)
 
-is_same : (e h : Bool) → differ e h ≡ false → h ≡ e
+pub is_same : (e h : Bool) → differ e h ≡ false → h ≡ e
 is_same true true e = refl
 is_same true false e = absurd (cc)
 is_same false true e = absurd (cc)

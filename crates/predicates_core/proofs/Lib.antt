@@ -23,3 +23,8 @@ pub mod Asked
 pub mod Fewer
 pub mod Several
 pub mod EachPart
+pub mod Turned
+pub mod FirstChange
+pub mod FirstChangeOf
+pub mod ChangeCases
+pub mod SeveralChanges

@@ -38,7 +38,7 @@ decided true = record { passes = λ x. refl; settles = λ x. refl; both = or_bot
 decided false = record { passes = λ x. refl; settles = λ x. refl; both = and_both; left = and_left; right = and_right }
 
 -- none of the formulas is shown where none has a share
-shows_none : (fs : Formulas) → ShowsParts fs empty []
+pub shows_none : (fs : Formulas) → ShowsParts fs empty []
 unfolding Shows left_share right_share
 shows_none (one name f) = refl
 shows_none (more name f fs) = (empty, refl, shows_none fs)
@@ -61,14 +61,14 @@ never_empty : {U : Type 0} (front : List U) (u : U) (back : List U) → front ++
 never_empty [] u back e = cc
 never_empty (v ∷ front) u back e = cc
 
-all_zip_last : {A B : Type 0} (R : A → B → Type 0) {x : A} {y : B} (xs : List A) (ys : List B) → AllZip R xs ys → R x y → AllZip R (xs ++ x ∷ []) (ys ++ y ∷ [])
+pub all_zip_last : {A B : Type 0} (R : A → B → Type 0) {x : A} {y : B} (xs : List A) (ys : List B) → AllZip R xs ys → R x y → AllZip R (xs ++ x ∷ []) (ys ++ y ∷ [])
 all_zip_last R [] [] h r = (r, tt)
 all_zip_last R [] (y ∷ ys) h r = absurd h
 all_zip_last R (x ∷ xs) [] h r = absurd h
 all_zip_last R (x ∷ xs) (y ∷ ys) h r = (h.0, all_zip_last R xs ys h.1 r)
 
 -- a case behind others is the last child
-forest-add_last : (cs : List NamedCase) (name : List ℕ) (c : Tree CaseNode) → add_last (forest cs) name c ≡ forest (cs ++ (name, c) ∷ [])
+pub forest-add_last : (cs : List NamedCase) (name : List ℕ) (c : Tree CaseNode) → add_last (forest cs) name c ≡ forest (cs ++ (name, c) ∷ [])
 forest-add_last [] name c = refl
 forest-add_last (d ∷ cs) name c = ap (branch d.0 d.1.root d.1.children) (forest-add_last cs name c)
 
@@ -83,7 +83,7 @@ passes_more P us k u within is h p = subst (AllByRecursion P) (ap (λ z. take k 
 pub passes_all : {U : Type 0} (P : U → Type 0) (us : List U) (k : ℕ) → length us ≤ k → AllByRecursion P (take k us) → AllByRecursion P us
 passes_all P us k all h = subst (AllByRecursion P) (take_all k us all) h
 
-some_member : {U : Type 0} {us : List U} {k : ℕ} → k < length us → us ≢ []
+pub some_member : {U : Type 0} {us : List U} {k : ℕ} → k < length us → us ≢ []
 some_member {us} within e = omega (arith, within, ap length e)
 
 module _ (decides : Bool) {U : Type 0} (name : List ℕ) (has : U → Formula → Type 0) where
@@ -101,7 +101,7 @@ module _ (decides : Bool) {U : Type 0} (name : List ℕ) (has : U → Formula �
   passes_by_cases (u ∷ us) [] h = absurd h
   passes_by_cases (u ∷ us) (c ∷ cs) h = (h.0.truth, passes_by_cases us cs h.1)
 
-  every_truth : (label : Label) (us : List U) (fs : Formulas) → AreOfEach name has us fs → EachPasses us → truth (Join (decided_by decides) label fs) ≡ not decides
+  pub every_truth : (label : Label) (us : List U) (fs : Formulas) → AreOfEach name has us fs → EachPasses us → truth (Join (decided_by decides) label fs) ≡ not decides
   every_truth label [] fs of h = absurd of
   every_truth label (u ∷ us) (one n f) of h = truth-one (decided_by decides) label n f ∙ h.0.at f of.1
   every_truth label (u ∷ us) (more n f fs) of h =
@@ -115,7 +115,7 @@ module _ (decides : Bool) {U : Type 0} (name : List ℕ) (has : U → Formula �
   first_truth label (v ∷ front) u back (more n f fs) of h d =
       truth-more (decided_by decides) label n f fs ∙ ap (λ z. apply (decided_by decides) z (truth (Join (decided_by decides) label fs))) (h.0.at f of.1) ∙ (decided decides).passes _ ∙ first_truth label front u back fs of.2 h.1 d
 
-  every_number : (us : List U) (fs : Formulas) → AreOfEach name has us fs → EachPasses us → number_of_first decides fs ≡ None
+  pub every_number : (us : List U) (fs : Formulas) → AreOfEach name has us fs → EachPasses us → number_of_first decides fs ≡ None
   every_number [] fs of h = absurd of
   every_number (u ∷ us) (one n f) of h = rw (h.0.at f of.1, not_itself decides) refl
   every_number (u ∷ us) (more n f fs) of h = rw (h.0.at f of.1, not_itself decides, every_number us fs of.2 h.1) refl

@@ -10,6 +10,7 @@ pub use Rattle.predicates_reflection.specs.Ownership
 pub mod Formula
 pub mod Reason
 pub mod Shows
+pub mod Change
 pub mod Combined
 pub mod Asked
 pub mod Alike
@@ -17,6 +18,7 @@ pub mod Leaves
 pub mod LeafLaws
 pub mod Present
 pub mod Several
+pub mod Turning
 pub mod Laws
 pub mod Added
 pub mod Text

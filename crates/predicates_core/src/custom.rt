@@ -4,9 +4,11 @@
 //! The `find_case` of the library's combinators evaluates once before it asks the parts to
 //! `explain` the verdict. So each leaf is evaluated at most twice, however deep the combinators are
 //! nested.
+mod changes;
 mod children;
 mod join;
 mod leaf_cases;
+mod list_changes;
 mod members;
 mod named;
 mod not;
@@ -14,9 +16,11 @@ mod parts;
 mod quantifier;
 mod test_predicate;
 
+pub use changes::{join_change, leaf_change, named_change, not_change};
 pub use children::{one_child, two_children};
 pub use join::{Operator, is_other, join_case, join_explained, join_truth, kept_if, shown_verdict};
 pub use leaf_cases::{absent_case, bare_case, showing_case};
+pub use list_changes::{members_change, parts_change};
 pub use members::{members_case, members_explained, members_hold};
 pub use named::{named_case, named_explained};
 pub use not::{not_case, not_explained, opposite_of};

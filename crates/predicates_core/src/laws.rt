@@ -4,6 +4,7 @@
 //! // From here on a proof knows that each formula has exactly one first reason.
 //! laws::first_reasons();
 //! ```
+ghost use Rattle.predicates_core.specs.Change.{EachMeetsEach, FirstChanges, NoChangeIsEmpty};
 ghost use Rattle.predicates_core.specs.Laws.{FirstReasons, NoneIsEmpty, OneChild};
 
 /// Each formula has exactly one first reason, and that has at least one leaf. So a case that is cut
@@ -17,4 +18,17 @@ pub fn first_reasons()
 /// So a false `and` and a true `or` of any number of parts show one part.
 pub fn one_child()
     ensures { OneChild }
+{}
+
+/// Each formula has exactly one first change, and that has at least one leaf. So what would turn a
+/// verdict can always be shown.
+pub fn first_changes()
+    ensures one { FirstChanges }
+    ensures some { NoChangeIsEmpty }
+{}
+
+/// Each reason of a formula has a leaf of each of its changes. So what leaves one reason as it is
+/// turns no verdict.
+pub fn each_meets_each()
+    ensures { EachMeetsEach }
 {}

@@ -12,10 +12,12 @@
 //! ```
 #![tactic(auto)]
 
+mod change;
 pub mod custom;
 pub mod laws;
 pub mod node;
 mod predicate;
 
+pub use change::PredicateChange;
 pub use predicate::{Content, Predicate, ReadsContent, Total, default_find_case};
 pub use predicates_reflection::{as_static_str, reflection, static_text};

@@ -60,7 +60,7 @@ pub fn named_explained<P: Predicate<Item>, Item>(
 // The node that prints the name, over the part. It is not inlined, so that a caller that gets no
 // case uses less stack.
 #[inline(never)]
-fn named_node(
+pub(super) fn named_node(
     alloc: Global,
     name: &'static str,
     outcome: bool,

@@ -7,9 +7,9 @@ ghost use Rattle.predicates_core.specs.Tree.{empty};
 ghost use Rattle.predicates_core.specs.Custom.{test_of};
 ghost use Rattle.predicates_core.specs.LeafLaws.{exactly_text_fits, one_exactly};
 
-use crate::custom::showing_case;
+use crate::custom::{leaf_change, showing_case};
 use crate::reflection::{Case, Child, Parameter, PredicateReflection};
-use crate::{Predicate, Total};
+use crate::{Predicate, PredicateChange, Total};
 use std::alloc::{AllocError, Global};
 use std::fmt;
 
@@ -96,6 +96,17 @@ impl<T: Test<Item>, Item: fmt::Debug> Predicate<Item> for TestPredicate<T> {
         item: &Item,
     ) -> Result<Option<Case>, AllocError> {
         showing_case(alloc, self, self.test.holds(item), wanted, item)
+    }
+}
+
+impl<T: Test<Item>, Item: fmt::Debug> PredicateChange<Item> for TestPredicate<T> {
+    fn find_change(
+        &self,
+        alloc: Global,
+        wanted: Option<bool>,
+        item: &Item,
+    ) -> Result<Option<Case>, AllocError> {
+        leaf_change(alloc, self, wanted, item)
     }
 }
 

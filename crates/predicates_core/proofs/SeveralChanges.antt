@@ -1,0 +1,399 @@
+-- The cases that show what would turn a node over several formulas, from those of its members.
+use Rattle.std.proofs.Common.{◌≡◌, ◌≢◌, ◌⊎◌, ℕ, zero, suc, ◌+◌, ◌<◌, ◌≤◌, Bool, true, false, List, [], ◌∷◌, ◌++◌, Option, Some, None, codes, map, length, take, get_or, option_map, refl, sym, ap, ◌∙◌, subst, arith, inl, inr, ⊎_elim}
+use Rattle.std.specs.Prelude.{not, MatchOption, Result, Ok, Err, IfOk}
+use Rattle.std.specs.List.{AllByRecursion, AllZip}
+use Rattle.std.proofs.lemmas.List.{take_more, length-take-le, map-append}
+use Rattle.std.specs.Fmt.{decimal}
+use mathlib.Core.Bool.{beq}
+use Rattle.predicates_core.specs.Label.{Label, Entry, plain, Fits, FitsText}
+use Rattle.predicates_core.specs.Formula.{Formula, Formulas, IsLeaf, one, more, Leaf, Join, apply, truth, size, HasTruth}
+use Rattle.predicates_core.specs.Tree.{Tree, Forest, empty, branch, forest, add_last}
+use Rattle.predicates_core.specs.Describe.{CaseNode, NamedCase, with_product, with_child}
+use Rattle.predicates_core.specs.Shows.{FitsNode, ShowsPart, Shows, ShowsParts, IsCaseOf, IsNode}
+use Rattle.predicates_core.specs.Change.{IsFirstChange, ExplainsChange, IsChangeOf, IsFoundChange}
+use Rattle.predicates_core.specs.Leaves.{IsExactly}
+use Rattle.predicates_core.specs.Asked.{is_other}
+use Rattle.predicates_core.specs.Several.{decided_by, number_of_first, index_product, numbered, AreOfEach, IsOfEach, IsOfMembers, IsDecidedBy, no_members}
+use Rattle.predicates_core.specs.Turning.{IsNextNode}
+use Rattle.predicates_core.proofs.Numbers.{shifted}
+use Rattle.predicates_core.proofs.Joins.{joins}
+use Rattle.predicates_core.proofs.Values.{truth-one, truth-more, not-not, same_truths, other_truths}
+use Rattle.predicates_core.proofs.Shown.{shows_part, left_share-joined, right_share-joined, left_share-shifted, right_share-shifted, left_share-alone, right_share-alone}
+use Rattle.predicates_core.proofs.CombinedLemmas.{node_fits, node_of_text}
+use Rattle.predicates_core.proofs.Several.{decided, shows_none, itself, not_itself, some_member, all_zip_last, forest-add_last, EachPasses, every_truth, every_number, passes_more, passes_all, members_pass, member_decides}
+use Rattle.predicates_core.proofs.FirstChange.{LeftTurns, RightTurns, BothTurn, left_first, right_first, both_first}
+use Rattle.predicates_core.proofs.FirstChangeOf.{change-one}
+use Rattle.predicates_core.proofs.ChangeCases.{some_change, change_numbers, leaf_case, change_by_result}
+use Rattle.predicates_core.proofs.Found.{no_formula}
+
+-- what turns a join where one part with the truth `decides` decides the whole
+record Turns (decides : Bool) : Type 0 where
+  pub all : BothTurn (apply (decided_by decides)) decides decides
+  pub only : LeftTurns (apply (decided_by decides)) decides (not decides)
+  pub later : RightTurns (apply (decided_by decides)) (not decides) decides
+  pub any : LeftTurns (apply (decided_by decides)) (not decides) (not decides)
+
+turns : (decides : Bool) → Turns decides
+turns true = record { all = record { left_stays = refl; right_stays = refl; turn = refl }; only = refl; later = record { left_stays = refl; turns = refl }; any = refl }
+turns false = record { all = record { left_stays = refl; right_stays = refl; turn = refl }; only = refl; later = record { left_stays = refl; turns = refl }; any = refl }
+
+abbrev Case : Type 0
+Case = Tree CaseNode
+
+-- the cases of those that have one, in order
+abbrev somes : List (Option Case) → List Case
+somes [] = []
+somes (None ∷ os) = somes os
+somes (Some c ∷ os) = c ∷ somes os
+
+-- the number of the first that has one
+abbrev first_some : List (Option Case) → Option ℕ
+first_some [] = None
+first_some (None ∷ os) = option_map suc (first_some os)
+first_some (Some c ∷ os) = Some 0
+
+somes-last : (os : List (Option Case)) (c : Case) → somes (os ++ Some c ∷ []) ≡ somes os ++ c ∷ []
+somes-last [] c = refl
+somes-last (None ∷ os) c = somes-last os c
+somes-last (Some d ∷ os) c = ap (λ cs. d ∷ cs) (somes-last os c)
+
+somes-none : (os : List (Option Case)) → somes (os ++ None ∷ []) ≡ somes os
+somes-none [] = refl
+somes-none (None ∷ os) = somes-none os
+somes-none (Some d ∷ os) = ap (λ cs. d ∷ cs) (somes-none os)
+
+before : (m : Option ℕ) (k : ℕ) → option_map suc m ≡ Some k → (j : ℕ) × (m ≡ Some j) × (k ≡ suc j)
+before None k e = absurd (cc)
+before (Some j) k e = (j, refl, cc)
+
+first_some-kept : (os : List (Option Case)) (o : Option Case) (k : ℕ) → first_some os ≡ Some k → first_some (os ++ o ∷ []) ≡ Some k
+first_some-kept [] o k e = absurd (cc)
+first_some-kept (Some d ∷ os) o k e = e
+first_some-kept (None ∷ os) o k e = let b = before (first_some os) k e in ap (option_map suc) (first_some-kept os o b.0 b.1) ∙ ap Some (sym b.2)
+
+module _ (decides : Bool) {U : Type 0} (name : List ℕ) (has : U → Formula → Type 0) where
+  -- a member that decides has its change, and another none
+  abbrev IsTurnOf : U → Option Case → Type 0
+  IsTurnOf u o = MatchOption o (HasTruth (has u) (not decides)) (IsChangeOf (has u) decides)
+
+  abbrev AreTurns : List U → List (Option Case) → Type 0
+  AreTurns us os = AllZip IsTurnOf us os
+
+  -- leaves that are the first change of the node over the formulas, and that the cases show
+  abbrev AreTurned : Label → Formulas → List NamedCase → Type 0
+  AreTurned label fs cases = (leaves : List ℕ) × IsFirstChange (Join (decided_by decides) label fs) leaves × ShowsParts fs (forest cases) leaves
+
+  abbrev named : List Case → List NamedCase
+  named cs = map (λ c. (name, c)) cs
+
+  -- a formula that is shown under its own name is shown under the name
+  part_turned : {n : List ℕ} {f : Formula} {c : Case} (rest : Forest CaseNode) → n ≡ name → (x : ExplainsChange f c) → ShowsPart (Shows f) n x.leaves (branch name c.root c.children rest) rest
+  part_turned {n} {f} {c} rest e x = subst (λ z. ShowsPart (Shows f) n x.leaves (branch z c.root c.children rest) rest) e (shows_part (Shows f) n rest x.leaves c (some_change f x.leaves x.first) x.shown)
+
+  -- the first part alone is turned
+  left_turned : (label : Label) (n : List ℕ) (f : Formula) (fs : Formulas) (c : Case) → LeftTurns (apply (decided_by decides)) (truth f) (truth (Join (decided_by decides) label fs)) → n ≡ name → ExplainsChange f c → AreTurned label (more n f fs) ((name, c) ∷ [])
+  unfolding Shows
+  left_turned label n f fs c t e x =
+      let numbers = change_numbers f x.leaves x.first in (
+        x.leaves,
+        left_first (joins (decided_by decides) label n f fs) t x.leaves x.first,
+        (
+          empty,
+          subst (λ s. ShowsPart (Shows f) n s (branch name c.root c.children empty) empty) (sym (left_share-alone (size f) x.leaves numbers)) (part_turned empty e x),
+          subst (ShowsParts fs empty) (sym (right_share-alone (size f) x.leaves numbers)) (shows_none fs),
+        ),
+      )
+
+  one_turned : (label : Label) (n : List ℕ) (f : Formula) (c : Case) → n ≡ name → ExplainsChange f c → AreTurned label (one n f) ((name, c) ∷ [])
+  unfolding Shows
+  one_turned label n f c e x = (x.leaves, change-one (decided_by decides) label n f x.leaves x.first, part_turned empty e x)
+
+  -- the node over the formulas has the truth, the number of its first member that decides, and these
+  -- cases show what turns it
+  abbrev IsAllTurned : Label → Formulas → ℕ → List Case → Type 0
+  IsAllTurned label fs k cs = (truth (Join (decided_by decides) label fs) ≡ decides) × (number_of_first decides fs ≡ Some k) × AreTurned label fs (named cs)
+
+  truth_of_more : (label : Label) (n : List ℕ) (f : Formula) (fs : Formulas) (a b : Bool) → truth f ≡ a → truth (Join (decided_by decides) label fs) ≡ b → truth (Join (decided_by decides) label (more n f fs)) ≡ apply (decided_by decides) a b
+  truth_of_more label n f fs a b ea eb = truth-more (decided_by decides) label n f fs ∙ (λ i. apply (decided_by decides) (ea i) (eb i))
+
+  module _ (label : Label) (n : List ℕ) (f : Formula) (fs : Formulas) (is : n ≡ name) where
+    -- the first alone decides
+    only_first : (c : Case) → truth f ≡ decides → truth (Join (decided_by decides) label fs) ≡ not decides → ExplainsChange f c → IsAllTurned label (more n f fs) 0 (c ∷ [])
+    only_first c d rest x = (
+      truth_of_more label n f fs decides (not decides) d rest ∙ (decided decides).settles (not decides),
+      rw (d, itself decides) refl,
+      left_turned label n f fs c (rw (d, rest) (turns decides).only) is x,
+    )
+
+    -- the first decides, and so do others
+    and_first : (c : Case) (k : ℕ) (cs : List Case) → truth f ≡ decides → ExplainsChange f c → IsAllTurned label fs k cs → IsAllTurned label (more n f fs) 0 (c ∷ cs)
+    unfolding Shows
+    and_first c k cs d x ih =
+        let numbers = change_numbers f x.leaves x.first in
+        let children = forest (named cs) in
+        let other = ih.2.0 in (
+          truth_of_more label n f fs decides decides d ih.0 ∙ (decided decides).settles decides,
+          rw (d, itself decides) refl,
+          (
+            x.leaves ++ shifted (size f) other,
+            both_first (joins (decided_by decides) label n f fs) (rw (d, ih.0) (turns decides).all) x.leaves other x.first ih.2.1,
+            (
+              children,
+              subst (λ s. ShowsPart (Shows f) n s (branch name c.root c.children children) children) (sym (left_share-joined 0 (size f) x.leaves other numbers)) (part_turned children is x),
+              subst (ShowsParts fs children) (sym (right_share-joined 0 (size f) x.leaves other numbers)) ih.2.2,
+            ),
+          ),
+        )
+
+    -- only others decide
+    only_others : (k : ℕ) (cs : List Case) → truth f ≡ not decides → IsAllTurned label fs k cs → IsAllTurned label (more n f fs) (suc k) cs
+    unfolding Shows
+    only_others k cs d ih =
+        let children = forest (named cs) in
+        let other = ih.2.0 in (
+          truth_of_more label n f fs (not decides) decides d ih.0 ∙ (decided decides).passes decides,
+          rw (d, not_itself decides, ih.1) refl,
+          (
+            shifted (size f) other,
+            right_first (joins (decided_by decides) label n f fs) (rw (d, ih.0) (turns decides).later) other ih.2.1,
+            (
+              children,
+              subst (λ s. ShowsPart (Shows f) n s children children) (sym (left_share-shifted (size f) other)) refl,
+              subst (ShowsParts fs children) (sym (right_share-shifted (size f) other)) ih.2.2,
+            ),
+          ),
+        )
+
+  -- either a member decides, or none does
+  abbrev SomeTurns : List U → List (Option Case) → Type 0
+  SomeTurns us os = ((k : ℕ) × (first_some os ≡ Some k)) ⊎ ((somes os ≡ []) × EachPasses decides name has us)
+
+  some_turns : (us : List U) (os : List (Option Case)) → AreTurns us os → SomeTurns us os
+  some_turns [] [] h = inr (refl, tt)
+  some_turns [] (o ∷ os) h = absurd h
+  some_turns (u ∷ us) [] h = absurd h
+  some_turns (u ∷ us) (Some c ∷ os) h = inl (0, refl)
+  some_turns (u ∷ us) (None ∷ os) h = ⊎_elim
+      (λ a. inl (suc a.0, ap (option_map suc) a.1))
+      (λ b. inr (b.0, (h.0, b.1)))
+      (some_turns us os h.1)
+
+  no_turns : (us : List U) (os : List (Option Case)) → us ≡ [] → AreTurns us os → os ≡ []
+  no_turns [] [] e h = refl
+  no_turns [] (o ∷ os) e h = absurd h
+  no_turns (u ∷ us) os e h = absurd (cc)
+
+  -- of the members that decide, all are turned
+  all_turned : (label : Label) (us : List U) (fs : Formulas) (os : List (Option Case)) (k : ℕ) → AreOfEach name has us fs → AreTurns us os → first_some os ≡ Some k → IsAllTurned label fs k (somes os)
+  all_turned label [] fs os k of h some = absurd of
+  all_turned label (u ∷ us) fs [] k of h some = absurd h
+  all_turned label (u ∷ us) (one n f) (None ∷ os) k of h some =
+      let none : first_some os ≡ None = ap first_some (no_turns us os of.2 h.1) in
+      absurd (cc)
+  all_turned label (u ∷ us) (one n f) (Some c ∷ os) k of h some =
+      let none : somes os ≡ [] = ap somes (no_turns us os of.2 h.1) in
+      let d : truth f ≡ decides = h.0.truth.at f of.1 in
+      subst (λ cs. IsAllTurned label (one n f) k (c ∷ cs)) (sym none) (
+        truth-one (decided_by decides) label n f ∙ d,
+        rw (d, itself decides) some,
+        one_turned label n f c of.0 (h.0.explains f of.1),
+      )
+  all_turned label (u ∷ us) (more n f fs) (None ∷ os) k of h some =
+      let b = before (first_some os) k some in
+      subst (λ m. IsAllTurned label (more n f fs) m (somes os)) (sym b.2) (only_others label n f fs of.0 b.0 (somes os) (h.0.at f of.1) (all_turned label us fs os b.0 of.2 h.1 b.1))
+  all_turned label (u ∷ us) (more n f fs) (Some c ∷ os) k of h some =
+      let at : 0 ≡ k = cc in
+      let d : truth f ≡ decides = h.0.truth.at f of.1 in
+      let x : ExplainsChange f c = h.0.explains f of.1 in
+      subst (λ m. IsAllTurned label (more n f fs) m (c ∷ somes os)) at (⊎_elim
+      (λ a. and_first label n f fs of.0 c a.0 (somes os) d x (all_turned label us fs os a.0 of.2 h.1 a.1))
+      (λ b. subst (λ cs. IsAllTurned label (more n f fs) 0 (c ∷ cs)) (sym b.0) (only_first label n f fs of.0 c d (every_truth decides name has label us fs of.2 b.1) x))
+      (some_turns us os h.1))
+
+  -- no member decides, and the first is turned
+  first_turned : (label : Label) (u : U) (us : List U) (fs : Formulas) (c : Case) → AreOfEach name has (u ∷ us) fs → IsChangeOf (has u) (not decides) c → EachPasses decides name has us → AreTurned label fs ((name, c) ∷ [])
+  first_turned label u us (one n f) c of x h = one_turned label n f c of.0 (x.explains f of.1)
+  first_turned label u us (more n f fs) c of x h =
+      left_turned label n f fs c (rw (x.truth.at f of.1, every_truth decides name has label us fs of.2 h) (turns decides).any) of.0 (x.explains f of.1)
+
+  module _ (text : Entry) where
+    -- a node over the changes of the members that decide, with the number of the first
+    pub record IsTurning (us : List U) (t : Case) : Type 0 where
+      pub turns : List (Option Case)
+      pub are : AreTurns us turns
+      pub number : ℕ
+      pub is_first : first_some turns ≡ Some number
+      pub bytes : List ℕ
+      pub fits : Fits text bytes
+      pub printed : t.root.text ≡ Some bytes
+      pub outcome : t.root.result ≡ decides
+      pub shown : List ℕ
+      pub shows : Fits (Some (decimal number)) shown
+      pub products : t.root.products ≡ (codes "index", shown) ∷ []
+      pub children : t.children ≡ forest (named (somes turns))
+
+    -- what is found of the first members
+    abbrev pub IsTurned : List U → Option Case → Type 0
+    IsTurned us None = EachPasses decides name has us
+    IsTurned us (Some t) = IsTurning us t
+
+    change_of_turning : {us : List U} {t : Case} → us ≢ [] → IsTurning us t → IsChangeOf (IsOfMembers decides text name has us) decides t
+    unfolding Shows
+    change_of_turning {us} {t} some b = record {
+      truth = record { at = λ f p. let q = p.of_some some in ap truth q.is ∙ (all_turned (numbered text decides q.formulas) us q.formulas b.turns b.number q.of_each b.are b.is_first).0 };
+      explains = λ f p.
+          let q = p.of_some some in
+          let fs = q.formulas in
+          let label = numbered text decides fs in
+          let x = all_turned label us fs b.turns b.number q.of_each b.are b.is_first in
+          let fit : FitsNode label (truth (Join (decided_by decides) label fs)) t.root = record {
+            text = (b.bytes, b.printed, b.fits);
+            result = b.outcome ∙ sym x.0;
+            products = rw (b.products, x.1) (refl, b.shows, tt);
+          } in
+          subst (λ g. ExplainsChange g t) (sym q.is) (record {
+            leaves = x.2.0;
+            first = x.2.1;
+            shown = (fit, subst (λ ch. ShowsParts fs ch x.2.0) (sym b.children) x.2.2);
+          });
+    }
+
+    -- ---- one member more
+
+    pub turned_passed : (us : List U) {k : ℕ} {u : U} (o : Option Case) → k < length us → u ≡ get_or us k u → IsTurned (take k us) o → HasTruth (has u) (not decides) → IsTurned (take (k + 1) us) o
+    turned_passed us {k} {u} None within is h x = passes_more _ us k u within is h x
+    turned_passed us {k} {u} (Some t) within is h x = record {
+      turns = h.turns ++ None ∷ [];
+      are = subst (λ z. AreTurns z (h.turns ++ None ∷ [])) (ap (λ z. take k us ++ z ∷ []) is ∙ sym (take_more us k u within)) (all_zip_last _ (take k us) h.turns h.are x);
+      number = h.number;
+      is_first = first_some-kept h.turns None h.number h.is_first;
+      bytes = h.bytes;
+      fits = h.fits;
+      printed = h.printed;
+      outcome = h.outcome;
+      shown = h.shown;
+      shows = h.shows;
+      products = h.products;
+      children = h.children ∙ ap (λ cs. forest (named cs)) (sym (somes-none h.turns));
+    }
+
+    turned_more : (us : List U) {k : ℕ} {u : U} {c s : Case} (t : Case) → k < length us → u ≡ get_or us k u → IsTurned (take k us) (Some t) → IsChangeOf (has u) decides c → s ≡ with_child t name c → IsTurned (take (k + 1) us) (Some s)
+    turned_more us {k} {u} {c} {s} t within is h x e = rw e (record {
+      turns = h.turns ++ Some c ∷ [];
+      are = subst (λ z. AreTurns z (h.turns ++ Some c ∷ [])) (ap (λ z. take k us ++ z ∷ []) is ∙ sym (take_more us k u within)) (all_zip_last _ (take k us) h.turns h.are x);
+      number = h.number;
+      is_first = first_some-kept h.turns (Some c) h.number h.is_first;
+      bytes = h.bytes;
+      fits = h.fits;
+      printed = h.printed;
+      outcome = h.outcome;
+      shown = h.shown;
+      shows = h.shows;
+      products = h.products;
+      children = ap (λ f. add_last f name c) h.children ∙ forest-add_last (named (somes h.turns)) name c ∙ ap forest (sym (map-append (λ d. (name, d)) (somes h.turns) (c ∷ [])) ∙ ap named (sym (somes-last h.turns c)));
+    })
+
+    -- the passed members, none of which has a change, and the first that has one
+    abbrev nones : List U → List (Option Case)
+    nones [] = []
+    nones (u ∷ us) = None ∷ nones us
+
+    are_nones : (us : List U) → EachPasses decides name has us → AreTurns us (nones us)
+    are_nones [] h = tt
+    are_nones (u ∷ us) h = (h.0, are_nones us h.1)
+
+    somes-nones : (us : List U) (c : Case) → somes (nones us ++ Some c ∷ []) ≡ c ∷ []
+    somes-nones [] c = refl
+    somes-nones (u ∷ us) c = somes-nones us c
+
+    first-nones : (us : List U) (c : Case) → first_some (nones us ++ Some c ∷ []) ≡ Some (length us)
+    first-nones [] c = refl
+    first-nones (u ∷ us) c = ap (option_map suc) (first-nones us c)
+
+    turned_first : (us : List U) {k : ℕ} {u : U} {c t : Case} → k < length us → u ≡ get_or us k u → EachPasses decides name has (take k us) → IsChangeOf (has u) decides c → IsDecidedBy decides text name k c t → IsTurned (take (k + 1) us) (Some t)
+    turned_first us {k} {u} {c} {t} within is h x d =
+        let os = nones (take k us) ++ Some c ∷ [] in
+        rw d.numbers.is (record {
+          turns = os;
+          are = subst (λ z. AreTurns z os) (ap (λ z. take k us ++ z ∷ []) is ∙ sym (take_more us k u within)) (all_zip_last _ (take k us) (nones (take k us)) (are_nones (take k us) h) x);
+          number = k;
+          is_first = first-nones (take k us) c ∙ ap Some (length-take-le k us (omega (arith, within)));
+          bytes = d.bytes;
+          fits = d.fits;
+          printed = d.written.text.1 ∙ ap Some d.written.text.2;
+          outcome = d.written.result;
+          shown = d.numbers.bytes;
+          shows = d.numbers.fits;
+          products = ap (λ ps. ps ++ (codes "index", d.numbers.bytes) ∷ []) d.written.products;
+          children = d.written.children ∙ ap (λ cs. forest (named cs)) (sym (somes-nones (take k us) c));
+        })
+
+    pub turned_next : (us : List U) {k : ℕ} {u : U} {c s : Case} (o : Option Case) → k < length us → u ≡ get_or us k u → IsTurned (take k us) o → IsChangeOf (has u) decides c → IsNextNode decides text name k o c s → IsTurned (take (k + 1) us) (Some s)
+    turned_next us None within is h x d = turned_first us within is h x d
+    turned_next us (Some t) within is h x e = turned_more us t within is h x e
+
+    -- ---- the whole
+
+    nothing_turned : (us : List U) → EachPasses decides name has us → HasTruth (IsOfMembers decides text name has us) (not decides)
+    nothing_turned us h = members_pass decides name has us h
+
+    pub found_turned : (us : List U) (o : Option Case) → IsTurned us o → IsFoundChange (IsOfMembers decides text name has us) (Some decides) o
+    found_turned us None h = nothing_turned us h
+    found_turned [] (Some t) h = absurd (no_first h.turns (no_turns [] h.turns refl h.are) h.is_first)
+      where
+        no_first : {m : ℕ} (os : List (Option Case)) → os ≡ [] → first_some os ≡ Some m → ⊥
+        no_first [] e f = cc
+        no_first (o ∷ os) e f = cc
+    found_turned (u ∷ us) (Some t) h = change_of_turning (λ e. cc) h
+
+    -- no member decides: the first one's change is the whole's
+    pub change_of_first : (u : U) (us : List U) {c t : Case} {bytes : List ℕ} → IsNode (Some bytes) (not decides) ((name, c) ∷ []) t → Fits text bytes → IsChangeOf (has u) (not decides) c → EachPasses decides name has us → IsChangeOf (IsOfMembers decides text name has (u ∷ us)) (not decides) t
+    unfolding Shows
+    change_of_first u us {c} {t} written fits x h =
+        let node : IsNode text (not decides) ((name, c) ∷ []) t = node_of_text written fits in
+        let passes : EachPasses decides name has (u ∷ us) = (x.truth, h) in
+        record {
+          truth = members_pass decides name has (u ∷ us) passes;
+          explains = λ f p.
+              let q = p.of_some (λ e. cc) in
+              let fs = q.formulas in
+              let label = numbered text decides fs in
+              let y = first_turned label u us fs c q.of_each x h in
+              let is : truth (Join (decided_by decides) label fs) ≡ not decides = every_truth decides name has label (u ∷ us) fs q.of_each passes in
+              let bare : label ≡ plain text = ap (λ k. record { text = text; products = index_product k }) (every_number decides name has (u ∷ us) fs q.of_each passes) in
+              let fit : FitsNode label (truth (Join (decided_by decides) label fs)) t.root = subst (λ l. FitsNode l (truth (Join (decided_by decides) label fs)) t.root) (sym bare) (node_fits text (not decides) _ _ t node is) in
+              subst (λ g. ExplainsChange g t) (sym q.is) (record {
+                leaves = y.0;
+                first = y.1;
+                shown = (fit, subst (λ ch. ShowsParts fs ch y.0) (sym node.children) y.2);
+              });
+        }
+
+    pub change_of_no_member : {us : List U} {t : Case} → us ≡ [] → IsCaseOf (IsExactly (no_members text (not decides))) (not decides) t → IsChangeOf (IsOfMembers decides text name has us) (not decides) t
+    change_of_no_member e h =
+        let x = leaf_case (λ f p. subst IsLeaf (sym p.is) tt) h in
+        record {
+          truth = record { at = λ f p. x.truth.at f (p.of_none e) };
+          explains = λ f p. x.explains f (p.of_none e);
+        }
+
+    -- ---- whether a member behind the first decides
+
+    pub first_decides : (us : List U) {u : U} {rest : List U} → us ≡ u ∷ rest → HasTruth (has u) (not (not decides)) → HasTruth (IsOfMembers decides text name has us) (not (not decides))
+    first_decides us {u} {rest} e h = rw (e, not-not decides) (member_decides decides name has {us = u ∷ rest} {k = 0} {u = u} (record { within = omega arith; is = refl; before = tt }) (subst (HasTruth (has u)) (not-not decides) h))
+
+    pub later_decides : (us : List U) {u v : U} {rest : List U} {k : ℕ} {b : Bool} → us ≡ u ∷ rest → HasTruth (has u) (not decides) → k < length rest → v ≡ get_or rest k v → EachPasses decides name has (take k rest) → HasTruth (has v) b → beq b decides ≡ true → HasTruth (IsOfMembers decides text name has us) (not (not decides))
+    later_decides us {u} {v} {rest} {k} {b} e x within is h y same = rw (e, not-not decides) (member_decides decides name has {us = u ∷ rest} {k = suc k} {u = v} (record { within = omega (arith, within); is = is; before = (x, h) }) (subst (HasTruth (has v)) (same_truths b decides same) y))
+
+    pub change_of_only_first : (us : List U) {u : U} {rest : List U} {k : ℕ} {c t : Case} {bytes : List ℕ} → us ≡ u ∷ rest → length rest ≤ k → EachPasses decides name has (take k rest) → IsNode (Some bytes) (not decides) ((name, c) ∷ []) t → Fits text bytes → IsChangeOf (has u) (not decides) c → IsChangeOf (IsOfMembers decides text name has us) (not decides) t
+    change_of_only_first us {u} {rest} {k} e all h written fits x = rw e (change_of_first u rest written fits x (passes_all _ rest k all h))
+
+    -- ---- what is wanted
+
+    pub whichever_decides : (us : List U) {w : Option Bool} {c : Case} → w ≡ None → IsChangeOf (IsOfMembers decides text name has us) decides c → IsFoundChange (IsOfMembers decides text name has us) w (Some c)
+    whichever_decides us is x = rw is (change_by_result x)
+
+    pub whichever_passes : {E : Type 0} (us : List U) {w : Option Bool} (r : Result (Option Case) E) → w ≡ None → HasTruth (IsOfMembers decides text name has us) (not decides) → IfOk r (IsFoundChange (IsOfMembers decides text name has us) (Some (not decides))) → IfOk r (IsFoundChange (IsOfMembers decides text name has us) w)
+    whichever_passes us (Err e) is h x = tt
+    whichever_passes us (Ok (Some t)) is h x = rw is (change_by_result x)
+    whichever_passes us (Ok None) is h x = rw is (λ f p. no_formula h x f p)

@@ -1,0 +1,6 @@
+use Rattle.std.proofs.Common.{take}
+use Rattle.predicates_core.proofs.SeveralChanges.{IsTurned}
+use Rattle.predicates_core.proofs.custom.list_changes.deciding_members.Given as goal
+
+abbrev pub invariant-loop-index : goal.invariant-loop-index
+invariant-loop-index g l = IsTurned l.decides l.name (g.P.Predicate.formula l.part) (g.W.Display.output l.whole) (take l.index l.members) l.found

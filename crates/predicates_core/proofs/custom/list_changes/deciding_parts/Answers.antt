@@ -1,0 +1,21 @@
+use Rattle.std.proofs.Common.{arith, subst}
+use Rattle.std.proofs.lemmas.List.{take_all}
+use Rattle.predicates_core.proofs.SeveralChanges.{IsTurned, turned_passed, turned_next, found_turned}
+use Rattle.predicates_core.proofs.custom.list_changes.deciding_parts.Goals as goal
+
+pub loop-index-init : goal.loop-index-init
+loop-index-init g c = tt
+
+pub loop-index-preserved-in_default : goal.loop-index-preserved-in_default
+loop-index-preserved-in_default g c = turned_passed c.args.decides c.args.name.now (λ p. g.P.Predicate.formula p c.args.item.now) (g.W.Display.output c.args.whole.now) c.args.parts.now
+    {k = c.loop-index.index} {u = c.index-parts-index.result} c.loop-index.found (omega arith) c.index-parts-index.is c.loop-index.invariant
+    (rw c.in_default.is at c.in_ok-case.ensures)
+
+pub loop-index-preserved : goal.loop-index-preserved
+loop-index-preserved g c = turned_next c.args.decides c.args.name.now (λ p. g.P.Predicate.formula p c.args.item.now) (g.W.Display.output c.args.whole.now) c.args.parts.now
+    {k = c.loop-index.index} {u = c.index-parts-index.result} c.loop-index.found (omega arith) c.index-parts-index.is c.loop-index.invariant
+    (rw c.in-Some.is at c.in_ok-case.ensures) c.in_ok-node_with.ensures
+
+pub returns : goal.returns
+returns g c = found_turned c.args.decides c.args.name.now (λ p. g.P.Predicate.formula p c.args.item.now) (g.W.Display.output c.args.whole.now) c.args.parts.now c.loop-index.found
+    (subst (λ us. IsTurned c.args.decides c.args.name.now (λ p. g.P.Predicate.formula p c.args.item.now) (g.W.Display.output c.args.whole.now) us c.loop-index.found) (take_all c.loop-index.index c.args.parts.now (omega arith)) c.loop-index.invariant)

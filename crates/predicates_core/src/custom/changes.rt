@@ -1,0 +1,138 @@
+//! What would turn the verdict of a leaf, of one part and of two.
+//!
+//! ```
+//! join_change(alloc, Operator::And, self, &self.a, &self.b, wanted, item)
+//! ```
+ghost use Rattle.std.specs.Prelude.{◌≡◌, IfOk};
+ghost use Rattle.predicates_core.specs.Change.{IsFoundChange};
+ghost use Rattle.predicates_core.specs.Combined.{IsNamed, IsNot, IsPair};
+ghost use Rattle.predicates_core.specs.Formula.{Formula, IsLeaf};
+ghost use Rattle.predicates_core.specs.Turning.{IsRightChange};
+
+use crate::custom::join::{Operator, is_other, kept_if, shown_verdict};
+use crate::custom::named::named_node;
+use crate::custom::not::opposite_of;
+use crate::node::{binary_node_of, printed, unary_node};
+use crate::reflection::Case;
+use crate::{Predicate, PredicateChange};
+use std::alloc::{AllocError, Global};
+use std::fmt;
+
+/// The `find_change` of a predicate whose formula is a single leaf.
+pub fn leaf_change<P: Predicate<Item>, Item>(
+    alloc: Global,
+    leaf: &P,
+    wanted: Option<bool>,
+    item: &Item,
+) -> Result<Option<Case>, AllocError>
+    requires lawful { P.lawful leaf.now }
+    requires leaf { (f : Formula) → P.formula leaf.now item.now f → IsLeaf f }
+    ensures { IfOk result (IsFoundChange (P.formula leaf.now item.now) wanted) }
+{
+    leaf.explain(alloc, wanted, item)
+}
+
+/// The `find_change` of a predicate that holds where its part does not.
+pub fn not_change<W: fmt::Display, P: PredicateChange<Item>, Item>(
+    alloc: Global,
+    whole: &W,
+    inner: &P,
+    wanted: Option<bool>,
+    item: &Item,
+) -> Result<Option<Case>, AllocError>
+    requires { P.lawful inner.now }
+    ensures { IfOk result
+        (IsFoundChange (IsNot (W.output whole.now) (P.formula inner.now item.now)) wanted) }
+{
+    let Some(part) = inner.find_change(alloc, opposite_of(wanted), item)? else {
+        return Ok(None);
+    };
+    let text = printed(alloc, whole)?;
+    let outcome = !part.root().result();
+    Ok(Some(unary_node(alloc, text, outcome, "predicate", part)?))
+}
+
+/// The `find_change` of a predicate that holds where its part does, and prints a name in its place.
+pub fn named_change<P: PredicateChange<Item>, Item>(
+    alloc: Global,
+    name: &'static str,
+    inner: &P,
+    wanted: Option<bool>,
+    item: &Item,
+) -> Result<Option<Case>, AllocError>
+    requires { P.lawful inner.now }
+    ensures { IfOk result
+        (IsFoundChange (IsNamed name.entry.now (P.formula inner.now item.now)) wanted) }
+{
+    let Some(part) = inner.find_change(alloc, wanted, item)? else {
+        return Ok(None);
+    };
+    let outcome = part.root().result();
+    Ok(Some(named_node(alloc, name, outcome, part)?))
+}
+
+// A part's verdict, and what would turn it.
+#[derive(Drop)]
+struct PartChange {
+    holds: bool,
+    change: Option<Case>,
+}
+
+// The right part's verdict, and its change where that belongs to the whole's.
+fn right_change<P: PredicateChange<Item>, Item>(
+    alloc: Global,
+    operator: Operator,
+    part: &P,
+    item: &Item,
+) -> Result<PartChange, AllocError>
+    requires { P.lawful part.now }
+    ensures { IfOk result (λ right. IsRightChange operator (P.formula part.now item.now)
+        right.holds right.change) }
+{
+    match operator {
+        Operator::And => {
+            let change = part.find_change(alloc, Some(false), item)?;
+            let holds = change.is_none();
+            Ok(PartChange { holds, change })
+        }
+        Operator::Or => {
+            let change = part.find_change(alloc, Some(true), item)?;
+            let holds = change.is_some();
+            Ok(PartChange { holds, change })
+        }
+        Operator::Xor => {
+            let holds = part.eval(alloc, item)?;
+            let change = None;
+            Ok(PartChange { holds, change })
+        }
+    }
+}
+
+/// The `find_change` of a predicate that joins two parts by an operator. Both are always evaluated,
+/// the left one first.
+pub fn join_change<W: fmt::Display, P: PredicateChange<Item>, Q: PredicateChange<Item>, Item>(
+    alloc: Global,
+    operator: Operator,
+    whole: &W,
+    left_part: &P,
+    right_part: &Q,
+    wanted: Option<bool>,
+    item: &Item,
+) -> Result<Option<Case>, AllocError>
+    requires left { P.lawful left_part.now }
+    requires right { Q.lawful right_part.now }
+    ensures { IfOk result (IsFoundChange (IsPair operator (W.output whole.now)
+        (P.formula left_part.now item.now) (Q.formula right_part.now item.now)) wanted) }
+{
+    let left_wanted = operator.left_wanted(wanted);
+    let left = left_part.find_change(alloc, left_wanted, item)?;
+    let left_holds = shown_verdict(left_wanted, &left);
+    let right = right_change(alloc, operator, right_part, item)?;
+    let holds = operator.apply(left_holds, right.holds);
+    if is_other(wanted, holds) {
+        return Ok(None);
+    }
+    let kept = kept_if(operator.keeps(left_holds, right.holds), left);
+    let text = printed(alloc, whole)?;
+    Ok(Some(binary_node_of(alloc, text, holds, kept, right.change)?))
+}

@@ -1,0 +1,194 @@
+//! What would turn the verdict of several predicates of one item, and of one predicate over a list.
+//!
+//! Where parts decide the verdict, each of them has to turn; where none does, the first may.
+ghost use Rattle.std.specs.Prelude.{IfOk, Some, not};
+ghost use Rattle.std.specs.List.{AllByRecursion};
+ghost use Rattle.predicates_core.specs.Change.{IsFoundChange};
+ghost use Rattle.predicates_core.specs.Several.{IsOfMembers};
+ghost use Rattle.predicates_core.specs.Turning.{IsNextNode};
+
+use crate::PredicateChange;
+use crate::custom::members::{deciding_case, no_member};
+use crate::node::{printed, unary_node};
+use crate::reflection::Case;
+use std::alloc::{AllocError, Global};
+use std::fmt;
+
+/// The `find_change` of a predicate that one part with the verdict `decides` decides.
+pub fn parts_change<W: fmt::Display, P: PredicateChange<Item>, Item>(
+    alloc: Global,
+    whole: &W,
+    parts: &[P],
+    name: &'static str,
+    decides: bool,
+    wanted: Option<bool>,
+    item: &Item,
+) -> Result<Option<Case>, AllocError>
+    requires { AllByRecursion P.lawful parts.now }
+    ensures { IfOk result (IsFoundChange (IsOfMembers decides (W.output whole.now) name.entry.now
+        (λ p. P.formula p item.now) parts.now) wanted) }
+{
+    match wanted {
+        Some(expected) => {
+            if expected == decides {
+                deciding_parts(alloc, whole, parts, name, decides, item)
+            } else {
+                passing_parts(alloc, whole, parts, name, decides, item)
+            }
+        }
+        None => match deciding_parts(alloc, whole, parts, name, decides, item)? {
+            Some(case) => Ok(Some(case)),
+            None => passing_parts(alloc, whole, parts, name, decides, item),
+        },
+    }
+}
+
+// What would turn all the parts that decide, where one does.
+fn deciding_parts<W: fmt::Display, P: PredicateChange<Item>, Item>(
+    alloc: Global,
+    whole: &W,
+    parts: &[P],
+    name: &'static str,
+    decides: bool,
+    item: &Item,
+) -> Result<Option<Case>, AllocError>
+    requires { AllByRecursion P.lawful parts.now }
+    ensures { IfOk result (IsFoundChange (IsOfMembers decides (W.output whole.now) name.entry.now
+        (λ p. P.formula p item.now) parts.now) (Some decides)) }
+{
+    let mut found: Option<Case> = None;
+    for (index, part) in parts.iter().enumerate() {
+        let Some(case) = part.find_change(alloc, Some(decides), item)? else {
+            continue;
+        };
+        found = Some(node_with(alloc, whole, name, decides, index, found, case)?);
+    }
+    Ok(found)
+}
+
+// The node over the cases so far with one more, or the first node, over this one.
+fn node_with<W: fmt::Display>(
+    alloc: Global,
+    whole: &W,
+    name: &'static str,
+    decides: bool,
+    index: usize,
+    found: Option<Case>,
+    case: Case,
+) -> Result<Case, AllocError>
+    ensures { IfOk result
+        (IsNextNode decides (W.output whole.now) name.entry.now index found case) }
+{
+    match found {
+        Some(node) => node.add_child(name, case),
+        None => deciding_case(alloc, whole, name, decides, index, case),
+    }
+}
+
+// What would turn the first part, where none decides.
+fn passing_parts<W: fmt::Display, P: PredicateChange<Item>, Item>(
+    alloc: Global,
+    whole: &W,
+    parts: &[P],
+    name: &'static str,
+    decides: bool,
+    item: &Item,
+) -> Result<Option<Case>, AllocError>
+    requires { AllByRecursion P.lawful parts.now }
+    ensures { IfOk result (IsFoundChange (IsOfMembers decides (W.output whole.now) name.entry.now
+        (λ p. P.formula p item.now) parts.now) (Some (not decides))) }
+{
+    let Some((first, rest)) = parts.split_first() else {
+        return Ok(Some(no_member(alloc, whole, !decides)?));
+    };
+    let Some(case) = first.find_change(alloc, Some(!decides), item)? else {
+        return Ok(None);
+    };
+    for part in rest {
+        if part.eval(alloc, item)? == decides {
+            return Ok(None);
+        }
+    }
+    let text = printed(alloc, whole)?;
+    Ok(Some(unary_node(alloc, text, !decides, name, case)?))
+}
+
+/// The `find_change` of a predicate of a list that one member with the verdict `decides` decides.
+pub fn members_change<W: fmt::Display, P: PredicateChange<Item>, Item>(
+    alloc: Global,
+    whole: &W,
+    part: &P,
+    name: &'static str,
+    decides: bool,
+    wanted: Option<bool>,
+    members: &[Item],
+) -> Result<Option<Case>, AllocError>
+    requires { P.lawful part.now }
+    ensures { IfOk result (IsFoundChange (IsOfMembers decides (W.output whole.now) name.entry.now
+        (P.formula part.now) members.now) wanted) }
+{
+    match wanted {
+        Some(expected) => {
+            if expected == decides {
+                deciding_members(alloc, whole, part, name, decides, members)
+            } else {
+                passing_members(alloc, whole, part, name, decides, members)
+            }
+        }
+        None => match deciding_members(alloc, whole, part, name, decides, members)? {
+            Some(case) => Ok(Some(case)),
+            None => passing_members(alloc, whole, part, name, decides, members),
+        },
+    }
+}
+
+// What would turn all the members that decide, where one does.
+fn deciding_members<W: fmt::Display, P: PredicateChange<Item>, Item>(
+    alloc: Global,
+    whole: &W,
+    part: &P,
+    name: &'static str,
+    decides: bool,
+    members: &[Item],
+) -> Result<Option<Case>, AllocError>
+    requires { P.lawful part.now }
+    ensures { IfOk result (IsFoundChange (IsOfMembers decides (W.output whole.now) name.entry.now
+        (P.formula part.now) members.now) (Some decides)) }
+{
+    let mut found: Option<Case> = None;
+    for (index, member) in members.iter().enumerate() {
+        let Some(case) = part.find_change(alloc, Some(decides), member)? else {
+            continue;
+        };
+        found = Some(node_with(alloc, whole, name, decides, index, found, case)?);
+    }
+    Ok(found)
+}
+
+// What would turn the first member, where none decides.
+fn passing_members<W: fmt::Display, P: PredicateChange<Item>, Item>(
+    alloc: Global,
+    whole: &W,
+    part: &P,
+    name: &'static str,
+    decides: bool,
+    members: &[Item],
+) -> Result<Option<Case>, AllocError>
+    requires { P.lawful part.now }
+    ensures { IfOk result (IsFoundChange (IsOfMembers decides (W.output whole.now) name.entry.now
+        (P.formula part.now) members.now) (Some (not decides))) }
+{
+    let Some((first, rest)) = members.split_first() else {
+        return Ok(Some(no_member(alloc, whole, !decides)?));
+    };
+    let Some(case) = part.find_change(alloc, Some(!decides), first)? else {
+        return Ok(None);
+    };
+    for member in rest {
+        if part.eval(alloc, member)? == decides {
+            return Ok(None);
+        }
+    }
+    let text = printed(alloc, whole)?;
+    Ok(Some(unary_node(alloc, text, !decides, name, case)?))
+}
