@@ -8,6 +8,8 @@ use Rattle.predicates_core.specs.Shows.{FitsNode, Shows, Explains, IsCaseOf, IsA
 use Rattle.predicates_core.specs.Tree.{Tree}
 use Rattle.predicates_core.specs.Describe.{CaseNode}
 use Rattle.predicates_core.specs.Leaves.{IsExactly}
+use Rattle.predicates_core.specs.Change.{ExplainsChange, IsChangeOf, IsFoundChange}
+use Rattle.predicates_core.proofs.FirstChangeOf.{same_first_change, same_function_changes}
 use Rattle.predicates_core.proofs.FirstReasonOf.{same_first, same_function_reasons, same_function_truth}
 use Rattle.predicates.specs.Printed.{opened, opened_label, fits, as_printed, IsPrintedAs, FitsRoots, HasFormulas}
 
@@ -57,11 +59,21 @@ explains-opened f t h = record {
   shown = shows-opened f t h.leaves h.shown;
 }
 
+changes-opened : (f : Formula) (t : Tree CaseNode) → ExplainsChange f t → ExplainsChange (opened f) t
+changes-opened f t h = record {
+  leaves = h.leaves;
+  first = same_first_change (same_function_changes f (opened f) (actual-opened f) (λ w _. value-opened f w)) h.leaves h.first;
+  shown = shows-opened f t h.leaves h.shown;
+}
+
 truth-as_printed : (bytes : List ℕ) (f : Formula) → truth (as_printed bytes f) ≡ truth f
 truth-as_printed bytes f = elim (fits (text_of f) bytes) as (λ b. truth (cond b f (opened f)) ≡ truth f) [ true ↦ refl | false ↦ sym (truth-opened f) ]
 
 explains-as_printed : (bytes : List ℕ) (f : Formula) (t : Tree CaseNode) → Explains f t → Explains (as_printed bytes f) t
 explains-as_printed bytes f t h = elim (fits (text_of f) bytes) as (λ b. Explains (cond b f (opened f)) t) [ true ↦ h | false ↦ explains-opened f t h ]
+
+changes-as_printed : (bytes : List ℕ) (f : Formula) (t : Tree CaseNode) → ExplainsChange f t → ExplainsChange (as_printed bytes f) t
+changes-as_printed bytes f t h = elim (fits (text_of f) bytes) as (λ b. ExplainsChange (cond b f (opened f)) t) [ true ↦ h | false ↦ changes-opened f t h ]
 
 -- ---- from what is held to the box
 
@@ -72,6 +84,12 @@ IsCaseOf-printed : (bytes : List ℕ) (f : Formula) (b : Bool) (t : Tree CaseNod
 IsCaseOf-printed bytes f b t h = record {
   truth = HasTruth-printed bytes f b h.truth;
   explains = λ g p. rw p.is (explains-as_printed bytes f t (h.explains f (record { is = refl })));
+}
+
+IsChangeOf-printed : (bytes : List ℕ) (f : Formula) (b : Bool) (t : Tree CaseNode) → IsChangeOf (IsExactly f) b t → IsChangeOf (IsPrintedAs bytes f) b t
+IsChangeOf-printed bytes f b t h = record {
+  truth = HasTruth-printed bytes f b h.truth;
+  explains = λ g p. rw p.is (changes-as_printed bytes f t (h.explains f (record { is = refl })));
 }
 
 IsAnswer-printed : (bytes : List ℕ) (f : Formula) (expected : Bool) (found : Option (Tree CaseNode)) → IsAnswer (IsExactly f) expected found → IsAnswer (IsPrintedAs bytes f) expected found
@@ -92,8 +110,15 @@ explain-printed bytes f None (Ok (Some t)) h = IsCaseOf-printed bytes f t.root.r
 explain-printed bytes f None (Ok None) h = absurd (h f (record { is = refl }))
 explain-printed bytes f None (Err e) h = tt
 
+pub change-printed : {E : Type 0} (bytes : List ℕ) (f : Formula) (w : Option Bool) (r : Result (Option (Tree CaseNode)) E) → IfOk r (IsFoundChange (IsExactly f) w) → IfOk r (IsFoundChange (IsPrintedAs bytes f) w)
+change-printed bytes f (Some wanted) (Ok (Some t)) h = IsChangeOf-printed bytes f wanted t h
+change-printed bytes f (Some wanted) (Ok None) h = HasTruth-printed bytes f (not wanted) h
+change-printed bytes f None (Ok (Some t)) h = IsChangeOf-printed bytes f t.root.result t h
+change-printed bytes f None (Ok None) h = absurd (h f (record { is = refl }))
+change-printed bytes f w (Err e) h = tt
+
 -- where the kept text fits, the box has the formulas of what is held
 pub has-printed : (formula_of : List ℕ → Formula) (printed : List ℕ) → FitsRoots formula_of printed → HasFormulas formula_of (λ v. IsPrintedAs printed (formula_of (string_bytes v)))
 has-printed formula_of printed roots = record { each = λ v. record { is = sym (as_printed-fits printed (formula_of (string_bytes v)) (roots.each v)) } }
 
-pub ruleset boxes = (eval-printed, find-printed, explain-printed, has-printed)
+pub ruleset boxes = (eval-printed, find-printed, explain-printed, change-printed, has-printed)

@@ -59,8 +59,8 @@ pub use boxed::{BoxPredicate, TextPredicate};
 pub use predicates_boolean::{boolean, name, rules};
 pub use predicates_check as check;
 pub use predicates_core::{
-    Content, Predicate, ReadsContent, Total, as_static_str, custom, default_find_case, node,
-    reflection, static_text,
+    Content, Predicate, PredicateChange, ReadsContent, Total, as_static_str, custom,
+    default_find_case, node, reflection, static_text,
 };
 pub use predicates_item::{constant, function, iter, ord};
 pub use predicates_part as part;

@@ -16,7 +16,7 @@ ghost use Rattle.predicates.specs.Printed.{IsPrintedAs};
 use crate::boxed::{BoxPredicate, TextPredicate};
 pub use predicates_boolean::semantics::{join, named, not, rules};
 use predicates_core::reflection::PredicateReflection;
-use predicates_core::{Predicate, ReadsContent};
+use predicates_core::{Predicate, PredicateChange, ReadsContent};
 pub use predicates_item::semantics::{
     constant, equality, equality_reflection, hashed, listed, order, order_reflection, sorted,
     stored_function,
@@ -32,7 +32,7 @@ pub use predicates_text::semantics::{
 
 /// As a `TextPredicate`, a predicate keeps its formula on each text, its printed text, its
 /// parameters and its children.
-pub fn as_text_predicate<P: Predicate<String> + ReadsContent<String> + Drop>(
+pub fn as_text_predicate<P: PredicateChange<String> + ReadsContent<String> + Drop>(
     predicate: &P,
     item: &String,
 )

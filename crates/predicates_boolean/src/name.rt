@@ -12,9 +12,9 @@ ghost use Rattle.predicates_core.proofs.CombinedLemmas.{named_text_fits, one_nam
 ghost use Rattle.predicates_boolean.specs.Name.{inner_of, name_of};
 
 use predicates_core::as_static_str::AsStaticStr;
-use predicates_core::custom::{named_case, named_explained, one_child};
+use predicates_core::custom::{named_case, named_change, named_explained, one_child};
 use predicates_core::reflection::{Case, Child, Parameter, PredicateReflection};
-use predicates_core::{Content, Predicate, ReadsContent, Total};
+use predicates_core::{Content, Predicate, PredicateChange, ReadsContent, Total};
 use std::alloc::{AllocError, Global};
 use std::fmt;
 use std::marker::PhantomData;
@@ -99,6 +99,18 @@ impl<M: Predicate<Item>, Item, N: AsStaticStr> Predicate<Item> for NamePredicate
         item: &Item,
     ) -> Result<Option<Case>, AllocError> {
         named_explained(alloc, self.name.text(), &self.inner, wanted, item)
+    }
+}
+
+impl<M: PredicateChange<Item>, Item, N: AsStaticStr> PredicateChange<Item>
+    for NamePredicate<M, Item, N> {
+    fn find_change(
+        &self,
+        alloc: Global,
+        wanted: Option<bool>,
+        item: &Item,
+    ) -> Result<Option<Case>, AllocError> {
+        named_change(alloc, self.name.text(), &self.inner, wanted, item)
     }
 }
 

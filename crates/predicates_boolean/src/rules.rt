@@ -19,10 +19,11 @@ ghost use Rattle.predicates_core.proofs.Several.{each_holds, each_weaker};
 ghost use Rattle.predicates_boolean.specs.Rules.{rules_of, word};
 
 use predicates_core::custom::{
-    AtLeastOne, Every, Quantifier, each_child, parts_case, parts_explained, parts_hold,
+    AtLeastOne, Every, Quantifier, each_child, parts_case, parts_change, parts_explained,
+    parts_hold,
 };
 use predicates_core::reflection::{Case, Child, Parameter, PredicateReflection};
-use predicates_core::{Content, Predicate, ReadsContent, Total};
+use predicates_core::{Content, Predicate, PredicateChange, ReadsContent, Total};
 use std::alloc::{AllocError, Global};
 use std::fmt;
 use std::marker::PhantomData;
@@ -169,6 +170,19 @@ impl<Q: Quantifier, P: Predicate<Item>, Item> Predicate<Item> for RulesPredicate
         let rules = self.rules.as_slice();
         let decides = Q::one_suffices();
         parts_explained(alloc, self, rules, "rule", decides, wanted, item)
+    }
+}
+
+impl<Q: Quantifier, P: PredicateChange<Item>, Item> PredicateChange<Item> for RulesPredicate<Q, P> {
+    fn find_change(
+        &self,
+        alloc: Global,
+        wanted: Option<bool>,
+        item: &Item,
+    ) -> Result<Option<Case>, AllocError> {
+        let rules = self.rules.as_slice();
+        let decides = Q::one_suffices();
+        parts_change(alloc, self, rules, "rule", decides, wanted, item)
     }
 }
 

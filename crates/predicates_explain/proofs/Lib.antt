@@ -4,6 +4,7 @@ pub mod Depths
 pub mod Ending
 pub mod Filtering
 pub mod Joined
+pub mod LeafChecks
 pub mod Numerals
 pub mod PartsOfChecks
 pub mod Postfix

@@ -11,12 +11,13 @@ ghost use Rattle.predicates_explain.specs.Checks.{IsInfallibleCheck, operator_of
 ghost use Rattle.predicates_explain.specs.CheckLaws.{check_text_fits, one_check, has_check_formula};
 ghost use Rattle.predicates_explain.specs.Weight.{weight, IsLeafCheck};
 
+mod change;
 mod explain;
 mod rotate;
 
 use predicates_core::custom::Operator;
 use predicates_core::reflection::{Case, Child, Parameter, PredicateReflection};
-use predicates_core::{Predicate, ReadsContent, Total};
+use predicates_core::{Predicate, PredicateChange, ReadsContent, Total};
 use predicates_item::ord::EqPredicate;
 use predicates_text::{
     ContainsPredicate, EndsWithPredicate, IsEmptyPredicate, RegexPredicate, StartsWithPredicate,
@@ -294,6 +295,19 @@ impl Predicate<String> for TextCheck {
     ) -> Result<Option<Case>, AllocError> {
         let mut found = None;
         self.explain_into(alloc, wanted, item, &mut found)?;
+        Ok(found)
+    }
+}
+
+impl PredicateChange<String> for TextCheck {
+    fn find_change(
+        &self,
+        alloc: Global,
+        wanted: Option<bool>,
+        item: &String,
+    ) -> Result<Option<Case>, AllocError> {
+        let mut found = None;
+        self.change_into(alloc, wanted, item, &mut found)?;
         Ok(found)
     }
 }

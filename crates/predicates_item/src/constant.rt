@@ -11,9 +11,9 @@ ghost use Rattle.predicates_core.specs.Leaves.{IsExactly, word};
 ghost use Rattle.predicates_item.specs.Constant.{answer_of};
 ghost use Rattle.predicates_core.specs.LeafLaws.{exactly_text_fits, one_exactly};
 
-use predicates_core::custom::bare_case;
+use predicates_core::custom::{bare_case, leaf_change};
 use predicates_core::reflection::{Case, Child, Parameter, PredicateReflection};
-use predicates_core::{Content, Predicate, ReadsContent, Total};
+use predicates_core::{Content, Predicate, PredicateChange, ReadsContent, Total};
 use std::alloc::{AllocError, Global};
 use std::fmt;
 use std::marker::PhantomData;
@@ -111,6 +111,17 @@ impl<Item> Predicate<Item> for BooleanPredicate<Item> {
         _item: &Item,
     ) -> Result<Option<Case>, AllocError> {
         bare_case(alloc, self, self.retval, wanted)
+    }
+}
+
+impl<Item> PredicateChange<Item> for BooleanPredicate<Item> {
+    fn find_change(
+        &self,
+        alloc: Global,
+        wanted: Option<bool>,
+        item: &Item,
+    ) -> Result<Option<Case>, AllocError> {
+        leaf_change(alloc, self, wanted, item)
     }
 }
 

@@ -8,10 +8,10 @@ ghost use Rattle.predicates_core.specs.Tree.{empty};
 ghost use Rattle.predicates_item.specs.Function.{HasOneAnswer, IsCall, call_text, call_text_fits};
 ghost use Rattle.predicates_item.specs.Function.{one_call, function_of, name_of};
 
-use predicates_core::Predicate;
-use predicates_core::custom::bare_case;
+use predicates_core::custom::{bare_case, leaf_change};
 use predicates_core::reflection::{Case, Child, Parameter, PredicateReflection};
 use predicates_core::static_text::StaticText;
+use predicates_core::{Predicate, PredicateChange};
 use std::alloc::{AllocError, Global};
 use std::fmt;
 use std::marker::PhantomData;
@@ -127,5 +127,16 @@ impl<F: Fn(&T) -> bool, T> Predicate<T> for FnPredicate<F, T> {
         item: &T,
     ) -> Result<Option<Case>, AllocError> {
         bare_case(alloc, self, self.eval(alloc, item)?, wanted)
+    }
+}
+
+impl<F: Fn(&T) -> bool, T> PredicateChange<T> for FnPredicate<F, T> {
+    fn find_change(
+        &self,
+        alloc: Global,
+        wanted: Option<bool>,
+        item: &T,
+    ) -> Result<Option<Case>, AllocError> {
+        leaf_change(alloc, self, wanted, item)
     }
 }

@@ -15,7 +15,7 @@ ghost use Rattle.predicates_json.specs.KindParts.{inner_of};
 
 use predicates_core::custom::{absent_case, is_other, one_child};
 use predicates_core::reflection::{Case, Child, Parameter, PredicateReflection};
-use predicates_core::{Predicate, Total};
+use predicates_core::{Predicate, PredicateChange, Total};
 use serde_json::{Map, Value};
 use std::alloc::{AllocError, Global};
 use std::fmt;
@@ -180,6 +180,22 @@ impl<P: Predicate<U>, U: JsonKind> Predicate<Value> for KindPredicate<P, U> {
             Some(held) => self.inner.explain(alloc, wanted, held),
             None if is_other(wanted, false) => Ok(None),
             None => Ok(Some(absent_case(alloc, &self.inner, kind(item))?)),
+        }
+    }
+}
+
+impl<P: PredicateChange<U>, U: JsonKind> PredicateChange<Value> for KindPredicate<P, U> {
+    fn find_change(
+        &self,
+        alloc: Global,
+        wanted: Option<bool>,
+        item: &Value,
+    ) -> Result<Option<Case>, AllocError> {
+        let inner = &self.inner;
+        match U::held(item) {
+            Some(held) => inner.find_change(alloc, wanted, held),
+            None if is_other(wanted, false) => Ok(None),
+            None => Ok(Some(absent_case(alloc, inner, kind(item))?)),
         }
     }
 }

@@ -8,10 +8,10 @@ ghost use Rattle.predicates_json.specs.Null.{null_text, null_formula};
 ghost use Rattle.predicates_json.specs.NullLaws.{null_text_fits};
 
 use crate::kind::kind;
-use predicates_core::custom::{absent_case, is_other};
+use predicates_core::custom::{absent_case, is_other, leaf_change};
 use predicates_core::node::{leaf_node, printed};
 use predicates_core::reflection::{Case, Child, Parameter, PredicateReflection};
-use predicates_core::{Predicate, Total};
+use predicates_core::{Predicate, PredicateChange, Total};
 use serde_json::Value;
 use std::alloc::{AllocError, Global};
 use std::fmt;
@@ -91,6 +91,17 @@ impl Predicate<Value> for NullPredicate {
             return Ok(Some(leaf_node(alloc, printed(alloc, self)?, true)));
         }
         Ok(Some(absent_case(alloc, self, kind(item))?))
+    }
+}
+
+impl PredicateChange<Value> for NullPredicate {
+    fn find_change(
+        &self,
+        alloc: Global,
+        wanted: Option<bool>,
+        item: &Value,
+    ) -> Result<Option<Case>, AllocError> {
+        leaf_change(alloc, self, wanted, item)
     }
 }
 

@@ -17,7 +17,7 @@ ghost use Rattle.predicates_json.specs.NumberParts.{inner_of};
 use crate::kind::kind;
 use predicates_core::custom::{absent_case, is_other, one_child};
 use predicates_core::reflection::{Case, Child, Parameter, PredicateReflection};
-use predicates_core::{Predicate, Total};
+use predicates_core::{Predicate, PredicateChange, Total};
 use serde_json::{Number, Value};
 use std::alloc::{AllocError, Global};
 use std::fmt;
@@ -193,6 +193,22 @@ impl<P: Predicate<N>, N: JsonNumber> Predicate<Value> for NumberPredicate<P, N> 
             Some(number) => self.inner.explain(alloc, wanted, &number),
             None if is_other(wanted, false) => Ok(None),
             None => Ok(Some(absent_case(alloc, &self.inner, no_number::<N>(item))?)),
+        }
+    }
+}
+
+impl<P: PredicateChange<N>, N: JsonNumber> PredicateChange<Value> for NumberPredicate<P, N> {
+    fn find_change(
+        &self,
+        alloc: Global,
+        wanted: Option<bool>,
+        item: &Value,
+    ) -> Result<Option<Case>, AllocError> {
+        let inner = &self.inner;
+        match number_of::<N>(item) {
+            Some(number) => inner.find_change(alloc, wanted, &number),
+            None if is_other(wanted, false) => Ok(None),
+            None => Ok(Some(absent_case(alloc, inner, no_number::<N>(item))?)),
         }
     }
 }

@@ -6,6 +6,7 @@
 ghost use Rattle.std.specs.Prelude.{◌≡◌, ℕ, List, [], codes, false, Some, IfOk, IfSome, string_bytes};
 ghost use Rattle.predicates_core.specs.Parts.{part};
 ghost use Rattle.predicates_core.specs.Shows.{IsAnswer, IsFound};
+ghost use Rattle.predicates_core.specs.Change.{IsFoundChange};
 ghost use Rattle.predicates_json.specs.At.{at_pointer};
 ghost use Rattle.predicates_core.specs.Present.{IsOfPresent, present_text_fits, one_present, present_formula};
 ghost use Rattle.predicates_core.specs.Present.{has_present};
@@ -19,7 +20,7 @@ use predicates_core::custom::{absent_case, is_other, one_child};
 use predicates_core::node::{printed, unary_node};
 use predicates_core::reflection::{Case, Child, Parameter, PredicateReflection};
 use predicates_core::static_text::StaticText;
-use predicates_core::{Predicate, Total};
+use predicates_core::{Predicate, PredicateChange, Total};
 use serde_json::Value;
 use std::alloc::{AllocError, Global};
 use std::fmt;
@@ -187,6 +188,44 @@ impl<P: Predicate<Value>, N: JsonPointer> Predicate<Value> for PointerPredicate<
         let outcome = case.root().result();
         let pointer = printed(alloc, self)?;
         Ok(Some(unary_node(alloc, pointer, outcome, "value", case)?))
+    }
+}
+
+impl<P: PredicateChange<Value>, N: JsonPointer> PointerPredicate<P, N> {
+    // The `find_change` of the value at the pointer, or of none.
+    fn change_below(
+        &self,
+        alloc: Global,
+        wanted: Option<bool>,
+        item: &Value,
+    ) -> Result<Option<Case>, AllocError>
+        requires { P.lawful (inner_of self.now) }
+        ensures { IfOk result (IsFoundChange (IsOfPresent (P.output (inner_of self.now))
+            no_value_text (P.formula (inner_of self.now))
+            (at_pointer (N.bytes (pointer_of self.now)) item.now)) wanted) }
+    {
+        let inner = &self.inner;
+        match value_at(item, self.pointer.text()) {
+            Some(value) => inner.find_change(alloc, wanted, value),
+            None if is_other(wanted, false) => Ok(None),
+            None => Ok(Some(absent_case(alloc, inner, "no value")?)),
+        }
+    }
+}
+
+impl<P: PredicateChange<Value>, N: JsonPointer> PredicateChange<Value> for PointerPredicate<P, N> {
+    fn find_change(
+        &self,
+        alloc: Global,
+        wanted: Option<bool>,
+        item: &Value,
+    ) -> Result<Option<Case>, AllocError> {
+        let Some(change) = self.change_below(alloc, wanted, item)? else {
+            return Ok(None);
+        };
+        let outcome = change.root().result();
+        let pointer = printed(alloc, self)?;
+        Ok(Some(unary_node(alloc, pointer, outcome, "value", change)?))
     }
 }
 

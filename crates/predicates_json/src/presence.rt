@@ -9,9 +9,9 @@ ghost use Rattle.predicates_json.specs.Presence.{asks_presence, asked_pointer};
 
 use crate::JsonPointer;
 use crate::at::value_at;
-use predicates_core::custom::bare_case;
+use predicates_core::custom::{bare_case, leaf_change};
 use predicates_core::reflection::{Case, Child, Parameter, PredicateReflection};
-use predicates_core::{Predicate, Total};
+use predicates_core::{Predicate, PredicateChange, Total};
 use serde_json::Value;
 use std::alloc::{AllocError, Global};
 use std::fmt;
@@ -126,6 +126,17 @@ impl<N: JsonPointer> Predicate<Value> for PointerPresencePredicate<N> {
         item: &Value,
     ) -> Result<Option<Case>, AllocError> {
         bare_case(alloc, self, self.holds(item), wanted)
+    }
+}
+
+impl<N: JsonPointer> PredicateChange<Value> for PointerPresencePredicate<N> {
+    fn find_change(
+        &self,
+        alloc: Global,
+        wanted: Option<bool>,
+        item: &Value,
+    ) -> Result<Option<Case>, AllocError> {
+        leaf_change(alloc, self, wanted, item)
     }
 }
 

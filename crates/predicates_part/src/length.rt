@@ -11,9 +11,9 @@ ghost use Rattle.predicates_core.specs.Combined.{IsNamed};
 ghost use Rattle.predicates_core.proofs.CombinedLemmas.{named_text_fits, one_named, has_named};
 ghost use Rattle.predicates_part.specs.Length.{inner_of};
 
-use predicates_core::custom::{named_case, named_explained, one_child};
+use predicates_core::custom::{named_case, named_change, named_explained, one_child};
 use predicates_core::reflection::{Case, Child, Parameter, PredicateReflection};
-use predicates_core::{Predicate, ReadsContent, Total};
+use predicates_core::{Predicate, PredicateChange, ReadsContent, Total};
 use std::alloc::{AllocError, Global};
 use std::fmt;
 
@@ -116,6 +116,17 @@ impl<P: Predicate<usize>, T: Length> Predicate<T> for LengthPredicate<P> {
         item: &T,
     ) -> Result<Option<Case>, AllocError> {
         named_explained(alloc, "len", &self.inner, wanted, &item.length())
+    }
+}
+
+impl<P: PredicateChange<usize>, T: Length> PredicateChange<T> for LengthPredicate<P> {
+    fn find_change(
+        &self,
+        alloc: Global,
+        wanted: Option<bool>,
+        item: &T,
+    ) -> Result<Option<Case>, AllocError> {
+        named_change(alloc, "len", &self.inner, wanted, &item.length())
     }
 }
 

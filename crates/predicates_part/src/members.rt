@@ -11,10 +11,11 @@ ghost use Rattle.predicates_core.proofs.Several.{members_text_fits, one_members,
 ghost use Rattle.predicates_part.specs.Members.{applied_text, inner_of, word};
 
 use predicates_core::custom::{
-    AtLeastOne, Every, Quantifier, members_case, members_explained, members_hold, one_child,
+    AtLeastOne, Every, Quantifier, members_case, members_change, members_explained, members_hold,
+    one_child,
 };
 use predicates_core::reflection::{Case, Child, Parameter, PredicateReflection};
-use predicates_core::{Predicate, Total};
+use predicates_core::{Predicate, PredicateChange, Total};
 use std::alloc::{AllocError, Global};
 use std::fmt;
 use std::marker::PhantomData;
@@ -123,6 +124,19 @@ impl<Q: Quantifier, P: Predicate<U>, U> Predicate<Vec<U>> for MembersPredicate<Q
         let members = item.as_slice();
         let decides = Q::one_suffices();
         members_explained(alloc, self, &self.inner, "item", decides, wanted, members)
+    }
+}
+
+impl<Q: Quantifier, P: PredicateChange<U>, U> PredicateChange<Vec<U>> for MembersPredicate<Q, P> {
+    fn find_change(
+        &self,
+        alloc: Global,
+        wanted: Option<bool>,
+        item: &Vec<U>,
+    ) -> Result<Option<Case>, AllocError> {
+        let members = item.as_slice();
+        let suffices = Q::one_suffices();
+        members_change(alloc, self, &self.inner, "item", suffices, wanted, members)
     }
 }
 

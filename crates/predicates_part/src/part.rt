@@ -15,7 +15,7 @@ ghost use Rattle.predicates_part.specs.Part.{part_inner_of, part_function_of};
 use predicates_boolean::name::NamePredicate;
 use predicates_core::custom::{absent_case, is_other};
 use predicates_core::reflection::{Case, Child, Parameter, PredicateReflection};
-use predicates_core::{Predicate, Total};
+use predicates_core::{Predicate, PredicateChange, Total};
 use std::alloc::{AllocError, Global};
 use std::fmt;
 use std::marker::PhantomData;
@@ -139,6 +139,20 @@ impl<P: Predicate<U>, F: Fn(&T) -> U, T, U: Drop> Predicate<T> for PartPredicate
     }
 }
 
+impl<P: PredicateChange<U>, F: Fn(&T) -> U, T, U: Drop> PredicateChange<T>
+    for PartPredicate<P, F, U, ByValue> {
+    #[inline(always)] // a call would copy the case
+    fn find_change(
+        &self,
+        alloc: Global,
+        wanted: Option<bool>,
+        item: &T,
+    ) -> Result<Option<Case>, AllocError> {
+        let part = (self.function)(item);
+        self.inner.find_change(alloc, wanted, &part)
+    }
+}
+
 impl<P: Predicate<U>, F: Fn(&T) -> &U, T, U> Predicate<T> for PartPredicate<P, F, U, ByReference> {
     ghost lawful = { λ p. P.lawful p.inner × F.IsAlwaysCallable p.function
         × HasOnePart F.Fn borrowed p.function };
@@ -178,6 +192,20 @@ impl<P: Predicate<U>, F: Fn(&T) -> &U, T, U> Predicate<T> for PartPredicate<P, F
     ) -> Result<Option<Case>, AllocError> {
         let part = (self.function)(item);
         self.inner.explain(alloc, wanted, part)
+    }
+}
+
+impl<P: PredicateChange<U>, F: Fn(&T) -> &U, T, U> PredicateChange<T>
+    for PartPredicate<P, F, U, ByReference> {
+    #[inline(always)] // a call would copy the case
+    fn find_change(
+        &self,
+        alloc: Global,
+        wanted: Option<bool>,
+        item: &T,
+    ) -> Result<Option<Case>, AllocError> {
+        let part = (self.function)(item);
+        self.inner.find_change(alloc, wanted, part)
     }
 }
 
@@ -235,6 +263,24 @@ impl<P: Predicate<U>, F: Fn(&T) -> Option<&U>, T, U> Predicate<T>
     }
 }
 
+impl<P: PredicateChange<U>, F: Fn(&T) -> Option<&U>, T, U> PredicateChange<T>
+    for PartPredicate<P, F, U, ByOption> {
+    #[inline(always)] // a call would copy the case
+    fn find_change(
+        &self,
+        alloc: Global,
+        wanted: Option<bool>,
+        item: &T,
+    ) -> Result<Option<Case>, AllocError> {
+        let inner = &self.inner;
+        match (self.function)(item) {
+            Some(part) => inner.find_change(alloc, wanted, part),
+            None if is_other(wanted, false) => Ok(None),
+            None => Ok(Some(absent_case(alloc, inner, "no value")?)),
+        }
+    }
+}
+
 impl<P: Predicate<U>, F: Field<T, U>, T, U> Predicate<T> for PartPredicate<P, F, U, ByField> {
     ghost lawful = { λ p. P.lawful p.inner };
 
@@ -272,6 +318,20 @@ impl<P: Predicate<U>, F: Field<T, U>, T, U> Predicate<T> for PartPredicate<P, F,
     ) -> Result<Option<Case>, AllocError> {
         let part = self.function.get(item);
         self.inner.explain(alloc, wanted, part)
+    }
+}
+
+impl<P: PredicateChange<U>, F: Field<T, U>, T, U> PredicateChange<T>
+    for PartPredicate<P, F, U, ByField> {
+    #[inline(always)] // a call would copy the case
+    fn find_change(
+        &self,
+        alloc: Global,
+        wanted: Option<bool>,
+        item: &T,
+    ) -> Result<Option<Case>, AllocError> {
+        let part = self.function.get(item);
+        self.inner.find_change(alloc, wanted, part)
     }
 }
 

@@ -15,7 +15,7 @@ ghost use Rattle.predicates_part.specs.Optional.{inner_of, value_of_ok, value_of
 
 use predicates_core::custom::{absent_case, is_other, one_child};
 use predicates_core::reflection::{Case, Child, Parameter, PredicateReflection};
-use predicates_core::{Predicate, Total};
+use predicates_core::{Predicate, PredicateChange, Total};
 use std::alloc::{AllocError, Global};
 use std::fmt;
 use std::marker::PhantomData;
@@ -200,6 +200,22 @@ impl<V: Variant<T>, P: Predicate<V::Value>, T> Predicate<T> for VariantPredicate
             Some(value) => self.inner.explain(alloc, wanted, value),
             None if is_other(wanted, false) => Ok(None),
             None => Ok(Some(absent_case(alloc, &self.inner, V::absent())?)),
+        }
+    }
+}
+
+impl<V: Variant<T>, P: PredicateChange<V::Value>, T> PredicateChange<T> for VariantPredicate<V, P> {
+    fn find_change(
+        &self,
+        alloc: Global,
+        wanted: Option<bool>,
+        item: &T,
+    ) -> Result<Option<Case>, AllocError> {
+        let inner = &self.inner;
+        match V::value(item) {
+            Some(value) => inner.find_change(alloc, wanted, value),
+            None if is_other(wanted, false) => Ok(None),
+            None => Ok(Some(absent_case(alloc, inner, V::absent())?)),
         }
     }
 }

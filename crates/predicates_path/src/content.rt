@@ -15,7 +15,7 @@ use crate::{PathFault, Snapshot};
 use predicates_core::custom::{is_other, one_child};
 use predicates_core::node::{leaf_node, printed};
 use predicates_core::reflection::{Case, Child, Parameter, PredicateReflection};
-use predicates_core::{Predicate, Total};
+use predicates_core::{Predicate, PredicateChange, Total};
 use std::alloc::{AllocError, Global};
 use std::fmt;
 
@@ -126,6 +126,31 @@ impl<P: Predicate<Vec<u8>>> Predicate<Snapshot> for FileContentPredicate<P> {
                 };
                 let case = item.show_path(alloc, case)?;
                 Ok(Some(case))
+            }
+            Err(fault) => {
+                if is_other(wanted, false) {
+                    return Ok(None);
+                }
+                Ok(Some(self.no_content(alloc, item, *fault)?))
+            }
+        }
+    }
+}
+
+impl<P: PredicateChange<Vec<u8>>> PredicateChange<Snapshot> for FileContentPredicate<P> {
+    fn find_change(
+        &self,
+        alloc: Global,
+        wanted: Option<bool>,
+        item: &Snapshot,
+    ) -> Result<Option<Case>, AllocError> {
+        match item.content_or_fault() {
+            Ok(bytes) => {
+                let Some(change) = self.inner.find_change(alloc, wanted, bytes)? else {
+                    return Ok(None);
+                };
+                let change = item.show_path(alloc, change)?;
+                Ok(Some(change))
             }
             Err(fault) => {
                 if is_other(wanted, false) {

@@ -15,9 +15,9 @@ ghost use Rattle.predicates_path.specs.TextEquality as text;
 use crate::snapshot::has_bytes;
 use crate::text_equality::StrFilePredicate;
 use crate::{PathFault, Snapshot};
-use predicates_core::custom::bare_case;
+use predicates_core::custom::{bare_case, leaf_change};
 use predicates_core::reflection::{Case, Child, Parameter, PredicateReflection};
-use predicates_core::{Predicate, Total};
+use predicates_core::{Predicate, PredicateChange, Total};
 use std::alloc::{AllocError, Global};
 use std::fmt;
 
@@ -132,6 +132,17 @@ impl Predicate<Snapshot> for BinaryFilePredicate {
     }
 }
 
+impl PredicateChange<Snapshot> for BinaryFilePredicate {
+    fn find_change(
+        &self,
+        alloc: Global,
+        wanted: Option<bool>,
+        item: &Snapshot,
+    ) -> Result<Option<Case>, AllocError> {
+        leaf_change(alloc, self, wanted, item)
+    }
+}
+
 impl Predicate<Vec<u8>> for BinaryFilePredicate {
     ghost formula = { λ p v. IsExactly (equals_bytes (compared_path p) (compared_bytes p) v.items) };
 
@@ -163,6 +174,17 @@ impl Predicate<Vec<u8>> for BinaryFilePredicate {
     ) -> Result<Option<Case>, AllocError> {
         let holds = has_bytes(self.content.as_slice(), item.as_slice());
         bare_case(alloc, self, holds, wanted)
+    }
+}
+
+impl PredicateChange<Vec<u8>> for BinaryFilePredicate {
+    fn find_change(
+        &self,
+        alloc: Global,
+        wanted: Option<bool>,
+        item: &Vec<u8>,
+    ) -> Result<Option<Case>, AllocError> {
+        leaf_change(alloc, self, wanted, item)
     }
 }
 

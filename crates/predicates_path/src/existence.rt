@@ -7,10 +7,10 @@ ghost use Rattle.predicates_path.specs.Existence.{asks_presence, existence_text,
 ghost use Rattle.predicates_path.specs.declared.snapshot.Snapshot.{Snapshot};
 
 use crate::Snapshot;
-use predicates_core::custom::is_other;
+use predicates_core::custom::{is_other, leaf_change};
 use predicates_core::node::{leaf_node, printed};
 use predicates_core::reflection::{Case, Child, Parameter, PredicateReflection};
-use predicates_core::{Predicate, Total};
+use predicates_core::{Predicate, PredicateChange, Total};
 use std::alloc::{AllocError, Global};
 use std::fmt;
 
@@ -105,6 +105,17 @@ impl Predicate<Snapshot> for ExistencePredicate {
         }
         let case = leaf_node(alloc, printed(alloc, self)?, holds);
         Ok(Some(item.show_path(alloc, case)?))
+    }
+}
+
+impl PredicateChange<Snapshot> for ExistencePredicate {
+    fn find_change(
+        &self,
+        alloc: Global,
+        wanted: Option<bool>,
+        item: &Snapshot,
+    ) -> Result<Option<Case>, AllocError> {
+        leaf_change(alloc, self, wanted, item)
     }
 }
 

@@ -14,10 +14,10 @@ ghost use Rattle.predicates_path.specs.Kind.{shown_value, kind_predicate_text, k
 use crate::fault::show_fault;
 use crate::file_type::show_kind;
 use crate::{FileType, PathFault, Snapshot};
-use predicates_core::custom::is_other;
+use predicates_core::custom::{is_other, leaf_change};
 use predicates_core::node::{leaf_node, printed};
 use predicates_core::reflection::{Case, Child, Parameter, PredicateReflection};
-use predicates_core::{Predicate, Total};
+use predicates_core::{Predicate, PredicateChange, Total};
 use std::alloc::{AllocError, Global};
 use std::fmt;
 
@@ -208,6 +208,17 @@ impl Predicate<Snapshot> for FileTypePredicate {
         }
         let case = leaf_node(alloc, printed(alloc, self)?, holds);
         Ok(Some(show_found(alloc, case, self.kind_at(item))?))
+    }
+}
+
+impl PredicateChange<Snapshot> for FileTypePredicate {
+    fn find_change(
+        &self,
+        alloc: Global,
+        wanted: Option<bool>,
+        item: &Snapshot,
+    ) -> Result<Option<Case>, AllocError> {
+        leaf_change(alloc, self, wanted, item)
     }
 }
 

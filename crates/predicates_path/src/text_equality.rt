@@ -9,9 +9,9 @@ ghost use Rattle.predicates_path.specs.TextEquality.{compared_path, compared_tex
 
 use crate::Snapshot;
 use crate::snapshot::has_bytes;
-use predicates_core::custom::bare_case;
+use predicates_core::custom::{bare_case, leaf_change};
 use predicates_core::reflection::{Case, Child, Parameter, PredicateReflection};
-use predicates_core::{Predicate, ReadsContent, Total};
+use predicates_core::{Predicate, PredicateChange, ReadsContent, Total};
 use std::alloc::{AllocError, Global};
 use std::fmt;
 
@@ -91,6 +91,17 @@ impl Predicate<Snapshot> for StrFilePredicate {
     }
 }
 
+impl PredicateChange<Snapshot> for StrFilePredicate {
+    fn find_change(
+        &self,
+        alloc: Global,
+        wanted: Option<bool>,
+        item: &Snapshot,
+    ) -> Result<Option<Case>, AllocError> {
+        leaf_change(alloc, self, wanted, item)
+    }
+}
+
 impl Predicate<String> for StrFilePredicate {
     ghost formula = { λ p v. IsExactly
         (equals_bytes (compared_path p) (compared_text p) (string_bytes v)) };
@@ -123,6 +134,17 @@ impl Predicate<String> for StrFilePredicate {
     ) -> Result<Option<Case>, AllocError> {
         let holds = has_bytes(self.content.as_bytes(), item.as_bytes());
         bare_case(alloc, self, holds, wanted)
+    }
+}
+
+impl PredicateChange<String> for StrFilePredicate {
+    fn find_change(
+        &self,
+        alloc: Global,
+        wanted: Option<bool>,
+        item: &String,
+    ) -> Result<Option<Case>, AllocError> {
+        leaf_change(alloc, self, wanted, item)
     }
 }
 

@@ -5,9 +5,10 @@ ghost use Rattle.predicates_core.specs.Leaves.{IsExactly};
 ghost use Rattle.predicates_core.specs.LeafLaws.{exactly_text_fits, one_exactly};
 ghost use Rattle.predicates_uses.specs.Answer.{answer_text, answer_formula};
 
+use predicates::custom::leaf_change;
 use predicates::node::{leaf_node, printed, showing_item};
 use predicates::reflection::{Case, Child, Parameter, PredicateReflection};
-use predicates::{Predicate, Total};
+use predicates::{Predicate, PredicateChange, Total};
 use std::alloc::{AllocError, Global};
 use std::fmt;
 
@@ -63,6 +64,17 @@ impl Predicate<u32> for IsTheAnswer {
         }
         let case = leaf_node(alloc, printed(alloc, self)?, expected);
         Ok(Some(showing_item(alloc, case, item)?))
+    }
+}
+
+impl PredicateChange<u32> for IsTheAnswer {
+    fn find_change(
+        &self,
+        alloc: Global,
+        wanted: Option<bool>,
+        item: &u32,
+    ) -> Result<Option<Case>, AllocError> {
+        leaf_change(alloc, self, wanted, item)
     }
 }
 

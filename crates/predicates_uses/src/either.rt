@@ -8,9 +8,11 @@ ghost use Rattle.predicates_core.specs.Combined.{IsPair};
 ghost use Rattle.predicates_core.proofs.CombinedLemmas.{pair_text_fits, one_pair, has_pair};
 ghost use Rattle.predicates_uses.specs.Either.{either_text, left_of, right_of};
 
-use predicates::custom::{Operator, join_case, join_explained, join_truth, two_children};
+use predicates::custom::{
+    Operator, join_case, join_change, join_explained, join_truth, two_children,
+};
 use predicates::reflection::{Case, Child, Parameter, PredicateReflection};
-use predicates::{Predicate, Total};
+use predicates::{Predicate, PredicateChange, Total};
 use std::alloc::{AllocError, Global};
 use std::fmt;
 
@@ -104,6 +106,19 @@ impl<P: Predicate<Item>, Q: Predicate<Item>, Item> Predicate<Item> for Either<P,
     ) -> Result<Option<Case>, AllocError> {
         let operator = Operator::Or;
         join_explained(alloc, operator, self, &self.left, &self.right, wanted, item)
+    }
+}
+
+impl<P: PredicateChange<Item>, Q: PredicateChange<Item>, Item> PredicateChange<Item>
+    for Either<P, Q> {
+    fn find_change(
+        &self,
+        alloc: Global,
+        wanted: Option<bool>,
+        item: &Item,
+    ) -> Result<Option<Case>, AllocError> {
+        let operator = Operator::Or;
+        join_change(alloc, operator, self, &self.left, &self.right, wanted, item)
     }
 }
 

@@ -10,11 +10,11 @@ ghost use Rattle.predicates_uses.specs.Either.{either_text};
 ghost use Rattle.predicates_uses.specs.RightFirst.{left_of, right_of};
 
 use crate::IsTheAnswer;
-use predicates::custom::two_children;
+use predicates::custom::{Operator, join_change, two_children};
 use predicates::node::{binary_node, unary_node};
 use predicates::ord::lt;
 use predicates::reflection::{Case, Child, Parameter, PredicateReflection};
-use predicates::{Predicate, Total};
+use predicates::{Predicate, PredicateChange, Total};
 use std::alloc::{AllocError, Global};
 use std::fmt;
 
@@ -118,6 +118,19 @@ impl<P: Predicate<Item>, Q: Predicate<Item>, Item> Predicate<Item> for RightFirs
                 Ok(Some(binary_node(alloc, text, expected, left, right)?))
             }
         }
+    }
+}
+
+impl<P: PredicateChange<Item>, Q: PredicateChange<Item>, Item> PredicateChange<Item>
+    for RightFirst<P, Q> {
+    fn find_change(
+        &self,
+        alloc: Global,
+        wanted: Option<bool>,
+        item: &Item,
+    ) -> Result<Option<Case>, AllocError> {
+        let operator = Operator::Or;
+        join_change(alloc, operator, self, &self.left, &self.right, wanted, item)
     }
 }
 

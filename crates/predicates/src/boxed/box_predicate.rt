@@ -3,6 +3,7 @@ ghost use Rattle.std.specs.Prelude.{◌≡◌, refl, IfOk, IsOk, string_bytes, S
 ghost use Rattle.predicates_core.specs.Label.{Fits};
 ghost use Rattle.predicates_core.specs.Formula.{HasTruth};
 ghost use Rattle.predicates_core.specs.Shows.{IsAnswer, IsFound};
+ghost use Rattle.predicates_core.specs.Change.{IsFoundChange};
 ghost use Rattle.predicates_core.specs.Leaves.{IsExactly};
 ghost use Rattle.predicates.specs.Boxed.{inner_of, kept_text};
 ghost use Rattle.predicates.specs.Printed.{as_printed, IsPrintedAs, HasFormulas};
@@ -10,7 +11,7 @@ ghost use Rattle.predicates.specs.PrintedLaws.{printed_text_fits, one_printed};
 
 use crate::boxed::TextPredicate;
 use predicates_core::reflection::{Case, Child, Parameter, PredicateReflection};
-use predicates_core::{Predicate, ReadsContent, Total};
+use predicates_core::{Predicate, PredicateChange, ReadsContent, Total};
 use std::alloc::{AllocError, Global};
 use std::fmt;
 
@@ -107,6 +108,19 @@ fn explain_held(
     held.text_explain(alloc, wanted, item)
 }
 
+// What would turn the held predicate, by the members of its own type.
+fn change_held(
+    alloc: Global,
+    held: &Box<dyn TextPredicate>,
+    wanted: Option<bool>,
+    item: &String,
+) -> Result<Option<Case>, AllocError>
+    ensures { IfOk result
+        (IsFoundChange (IsExactly (text_formula held.now (string_bytes item.now))) wanted) }
+{
+    held.text_find_change(alloc, wanted, item)
+}
+
 impl Predicate<String> for BoxPredicate {
     ghost formula = { λ p v. IsPrintedAs
         (kept_text p)
@@ -141,6 +155,18 @@ impl Predicate<String> for BoxPredicate {
         item: &String,
     ) -> Result<Option<Case>, AllocError> {
         explain_held(alloc, &self.inner, wanted, item)
+    }
+}
+
+impl PredicateChange<String> for BoxPredicate {
+    #[tactic(auto, using(crate::proofs::OpenRoots::boxes))]
+    fn find_change(
+        &self,
+        alloc: Global,
+        wanted: Option<bool>,
+        item: &String,
+    ) -> Result<Option<Case>, AllocError> {
+        change_held(alloc, &self.inner, wanted, item)
     }
 }
 

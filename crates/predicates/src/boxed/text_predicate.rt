@@ -5,19 +5,21 @@ ghost use Rattle.predicates_core.specs.Tree.{Forest, empty, forest};
 ghost use Rattle.predicates_core.specs.Parts.{Part, FitsParts};
 ghost use Rattle.predicates_core.specs.Formula.{Formula, HasTruth};
 ghost use Rattle.predicates_core.specs.Shows.{IsAnswer, IsFound};
+ghost use Rattle.predicates_core.specs.Change.{IsFoundChange};
 ghost use Rattle.predicates_core.specs.Text.{Text};
 ghost use Rattle.predicates_core.specs.Leaves.{IsExactly};
 ghost use Rattle.predicates.specs.Printed.{FitsRoots};
 
 use predicates_core::reflection::{Case, Child, Parameter};
-use predicates_core::{Predicate, ReadsContent};
+use predicates_core::{Predicate, PredicateChange, ReadsContent};
 use std::alloc::{AllocError, Global};
 
-/// A predicate of texts, seen without its type. Every predicate whose formula is a function of the
-/// text's bytes is one: all but those that hold a stored function, a `leaf` over a test, a part by
-/// `of_field` or another box.
+/// A predicate of texts, seen without its type. Every predicate that shows what would turn it, and
+/// whose formula is a function of the text's bytes, is one: all but those that hold a stored
+/// function, a `leaf` over a test, a part by `of_field` or another box.
 ///
-/// What it promises is what `Predicate<String>` and `PredicateReflection` promise of the predicate.
+/// What it promises is what `PredicateChange<String>` and `PredicateReflection` promise of the
+/// predicate.
 pub trait TextPredicate: Drop {
     // The formula on a text with the bytes.
     ghost text_formula: { Self → List ℕ → Formula };
@@ -62,6 +64,17 @@ pub trait TextPredicate: Drop {
         ensures { IfOk result
             (IsFound (IsExactly (text_formula self.now (string_bytes item.now))) wanted) };
 
+    /// What would turn the verdict, where it is the wanted one, or whichever it is where none is
+    /// wanted; refused only where memory is.
+    fn text_find_change(
+        &self,
+        alloc: Global,
+        wanted: Option<bool>,
+        item: &String,
+    ) -> Result<Option<Case>, AllocError>
+        ensures { IfOk result
+            (IsFoundChange (IsExactly (text_formula self.now (string_bytes item.now))) wanted) };
+
     /// The values that the predicate was made with, in order; with none it does not refuse.
     fn text_parameters(&self, alloc: Global) -> Result<Vec<Parameter>, AllocError>
         ensures fits { IfOk result (λ ps. FitsProducts (text_parameters_of self.now) ps.items) }
@@ -78,7 +91,7 @@ pub trait TextPredicate: Drop {
         ensures root { IfOk result (λ text. FitsRoots (text_formula self.now) (string_bytes text)) };
 }
 
-impl<P: ReadsContent<String> + Drop> TextPredicate for P {
+impl<P: ReadsContent<String> + PredicateChange<String> + Drop> TextPredicate for P {
     ghost text_formula = { P.content_formula };
 
     ghost text_infallible = { P.infallible };
@@ -109,6 +122,15 @@ impl<P: ReadsContent<String> + Drop> TextPredicate for P {
         item: &String,
     ) -> Result<Option<Case>, AllocError> {
         self.explain(alloc, wanted, item)
+    }
+
+    fn text_find_change(
+        &self,
+        alloc: Global,
+        wanted: Option<bool>,
+        item: &String,
+    ) -> Result<Option<Case>, AllocError> {
+        self.find_change(alloc, wanted, item)
     }
 
     fn text_parameters(&self, alloc: Global) -> Result<Vec<Parameter>, AllocError> {

@@ -8,9 +8,11 @@ ghost use Rattle.predicates_core.specs.Parts.{two_parts};
 ghost use Rattle.predicates_core.specs.Combined.{infix_text, sign, IsPair};
 ghost use Rattle.predicates_core.proofs.CombinedLemmas.{pair_text_fits, one_pair, has_pair};
 
-use predicates_core::custom::{Operator, join_case, join_explained, join_truth, two_children};
+use predicates_core::custom::{
+    Operator, join_case, join_change, join_explained, join_truth, two_children,
+};
 use predicates_core::reflection::{Case, Child, Parameter, PredicateReflection};
-use predicates_core::{Content, Predicate, ReadsContent, Total};
+use predicates_core::{Content, Predicate, PredicateChange, ReadsContent, Total};
 use std::alloc::{AllocError, Global};
 use std::fmt;
 use std::marker::PhantomData;
@@ -161,6 +163,19 @@ impl<O: JoinOperator, M1: Predicate<Item>, M2: Predicate<Item>, Item> Predicate<
         item: &Item,
     ) -> Result<Option<Case>, AllocError> {
         join_explained(alloc, O::operator(), self, &self.a, &self.b, wanted, item)
+    }
+}
+
+impl<O: JoinOperator, M1: PredicateChange<Item>, M2: PredicateChange<Item>, Item> PredicateChange<
+    Item,
+> for JoinPredicate<O, M1, M2, Item> {
+    fn find_change(
+        &self,
+        alloc: Global,
+        wanted: Option<bool>,
+        item: &Item,
+    ) -> Result<Option<Case>, AllocError> {
+        join_change(alloc, O::operator(), self, &self.a, &self.b, wanted, item)
     }
 }
 

@@ -6,9 +6,9 @@ ghost use Rattle.predicates_core.specs.Parts.{part};
 ghost use Rattle.predicates_core.specs.Combined.{not_text, IsNot};
 ghost use Rattle.predicates_core.proofs.CombinedLemmas.{not_text_fits, one_not, has_not};
 
-use predicates_core::custom::{not_case, not_explained, one_child};
+use predicates_core::custom::{not_case, not_change, not_explained, one_child};
 use predicates_core::reflection::{Case, Child, Parameter, PredicateReflection};
-use predicates_core::{Content, Predicate, ReadsContent, Total};
+use predicates_core::{Content, Predicate, PredicateChange, ReadsContent, Total};
 use std::alloc::{AllocError, Global};
 use std::fmt;
 use std::marker::PhantomData;
@@ -90,6 +90,17 @@ impl<M: Predicate<Item>, Item> Predicate<Item> for NotPredicate<M, Item> {
         item: &Item,
     ) -> Result<Option<Case>, AllocError> {
         not_explained(alloc, self, &self.inner, wanted, item)
+    }
+}
+
+impl<M: PredicateChange<Item>, Item> PredicateChange<Item> for NotPredicate<M, Item> {
+    fn find_change(
+        &self,
+        alloc: Global,
+        wanted: Option<bool>,
+        item: &Item,
+    ) -> Result<Option<Case>, AllocError> {
+        not_change(alloc, self, &self.inner, wanted, item)
     }
 }
 

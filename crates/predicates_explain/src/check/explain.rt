@@ -55,7 +55,7 @@ impl TextCheck {
 
     // The same of a check without parts.
     #[inline(never)]
-    fn explain_leaf(
+    pub(crate) fn explain_leaf(
         &self,
         alloc: Global,
         wanted: Option<bool>,
@@ -165,7 +165,7 @@ impl TextCheck {
     // Writes the node over the parts that were found, the left one if it is to be kept. It is not
     // inlined, so that a level without a case has a small frame.
     #[inline(never)]
-    fn write_node(
+    pub(crate) fn write_node(
         &self,
         alloc: Global,
         holds: bool,

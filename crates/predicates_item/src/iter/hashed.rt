@@ -9,9 +9,9 @@ ghost use Rattle.predicates_item.specs.Members.{KeepsFirst, has_equal, member_te
 ghost use Rattle.predicates_item.specs.HashableIn.{members_of};
 
 use indexmap::IndexSet;
-use predicates_core::custom::showing_case;
+use predicates_core::custom::{leaf_change, showing_case};
 use predicates_core::reflection::{Case, Child, Parameter, PredicateReflection};
-use predicates_core::{Predicate, ReadsContent, Total};
+use predicates_core::{Predicate, PredicateChange, ReadsContent, Total};
 use std::alloc::{AllocError, Global};
 use std::fmt;
 use std::hash::Hash;
@@ -108,6 +108,17 @@ impl<T: fmt::Debug + Eq + Hash> Predicate<T> for HashableInPredicate<T> {
         item: &T,
     ) -> Result<Option<Case>, AllocError> {
         showing_case(alloc, self, self.holds(item), wanted, item)
+    }
+}
+
+impl<T: fmt::Debug + Eq + Hash> PredicateChange<T> for HashableInPredicate<T> {
+    fn find_change(
+        &self,
+        alloc: Global,
+        wanted: Option<bool>,
+        item: &T,
+    ) -> Result<Option<Case>, AllocError> {
+        leaf_change(alloc, self, wanted, item)
     }
 }
 

@@ -12,9 +12,9 @@ ghost use Rattle.predicates_item.specs.In.{members_of};
 ghost use Rattle.predicates_item.specs.OrdIn as OrdIn;
 
 use crate::iter::sorted::OrdInPredicate;
-use predicates_core::custom::showing_case;
+use predicates_core::custom::{leaf_change, showing_case};
 use predicates_core::reflection::{Case, Child, Parameter, PredicateReflection};
-use predicates_core::{Predicate, ReadsContent, Total};
+use predicates_core::{Predicate, PredicateChange, ReadsContent, Total};
 use std::alloc::{AllocError, Global};
 use std::fmt;
 
@@ -143,6 +143,17 @@ impl<T: fmt::Debug + PartialEq> Predicate<T> for InPredicate<T> {
         item: &T,
     ) -> Result<Option<Case>, AllocError> {
         showing_case(alloc, self, self.holds(item), wanted, item)
+    }
+}
+
+impl<T: fmt::Debug + PartialEq> PredicateChange<T> for InPredicate<T> {
+    fn find_change(
+        &self,
+        alloc: Global,
+        wanted: Option<bool>,
+        item: &T,
+    ) -> Result<Option<Case>, AllocError> {
+        leaf_change(alloc, self, wanted, item)
     }
 }
 

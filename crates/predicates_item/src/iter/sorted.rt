@@ -2,9 +2,9 @@
 ghost use Rattle.std.specs.List.Sorted.{IsSorted};
 
 use crate::iter::steps::Steps;
-use predicates_core::custom::showing_case;
+use predicates_core::custom::{leaf_change, showing_case};
 use predicates_core::reflection::{Case, Child, Parameter, PredicateReflection};
-use predicates_core::{Predicate, ReadsContent, Total};
+use predicates_core::{Predicate, PredicateChange, ReadsContent, Total};
 use std::alloc::{AllocError, Global};
 use std::fmt;
 
@@ -130,6 +130,17 @@ impl<T: fmt::Debug + Ord> Predicate<T> for OrdInPredicate<T> {
     ) -> Result<Option<Case>, AllocError> {
         let holds = self.search_counted(item, &mut Steps::new());
         showing_case(alloc, self, holds, wanted, item)
+    }
+}
+
+impl<T: fmt::Debug + Ord> PredicateChange<T> for OrdInPredicate<T> {
+    fn find_change(
+        &self,
+        alloc: Global,
+        wanted: Option<bool>,
+        item: &T,
+    ) -> Result<Option<Case>, AllocError> {
+        leaf_change(alloc, self, wanted, item)
     }
 }
 

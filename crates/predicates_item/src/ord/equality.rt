@@ -5,9 +5,9 @@ ghost use Rattle.predicates_item.specs.Makers.{equal_to, unequal_to};
 ghost use Rattle.predicates_core.specs.Leaves.{IsExactly};
 ghost use Rattle.predicates_core.specs.LeafLaws.{exactly_text_fits, one_exactly};
 
-use predicates_core::custom::showing_case;
+use predicates_core::custom::{leaf_change, showing_case};
 use predicates_core::reflection::{Case, Child, Parameter, PredicateReflection};
-use predicates_core::{Predicate, ReadsContent, Total};
+use predicates_core::{Predicate, PredicateChange, ReadsContent, Total};
 use std::alloc::{AllocError, Global};
 use std::fmt;
 
@@ -111,6 +111,17 @@ impl<T: fmt::Debug + PartialEq> Predicate<T> for EqPredicate<T> {
         item: &T,
     ) -> Result<Option<Case>, AllocError> {
         showing_case(alloc, self, self.holds(item), wanted, item)
+    }
+}
+
+impl<T: fmt::Debug + PartialEq> PredicateChange<T> for EqPredicate<T> {
+    fn find_change(
+        &self,
+        alloc: Global,
+        wanted: Option<bool>,
+        item: &T,
+    ) -> Result<Option<Case>, AllocError> {
+        leaf_change(alloc, self, wanted, item)
     }
 }
 

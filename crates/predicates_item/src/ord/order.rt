@@ -5,9 +5,9 @@ ghost use Rattle.predicates_item.specs.Makers.{less_than, at_most, at_least, gre
 ghost use Rattle.predicates_core.specs.Leaves.{IsExactly};
 ghost use Rattle.predicates_core.specs.LeafLaws.{exactly_text_fits, one_exactly};
 
-use predicates_core::custom::showing_case;
+use predicates_core::custom::{leaf_change, showing_case};
 use predicates_core::reflection::{Case, Child, Parameter, PredicateReflection};
-use predicates_core::{Predicate, ReadsContent, Total};
+use predicates_core::{Predicate, PredicateChange, ReadsContent, Total};
 use std::alloc::{AllocError, Global};
 use std::fmt;
 
@@ -119,6 +119,17 @@ impl<T: fmt::Debug + Ord> Predicate<T> for OrdPredicate<T> {
         item: &T,
     ) -> Result<Option<Case>, AllocError> {
         showing_case(alloc, self, self.holds(item), wanted, item)
+    }
+}
+
+impl<T: fmt::Debug + Ord> PredicateChange<T> for OrdPredicate<T> {
+    fn find_change(
+        &self,
+        alloc: Global,
+        wanted: Option<bool>,
+        item: &T,
+    ) -> Result<Option<Case>, AllocError> {
+        leaf_change(alloc, self, wanted, item)
     }
 }
 

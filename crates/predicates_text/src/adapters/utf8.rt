@@ -14,7 +14,7 @@ use crate::adapters::view::{View, ViewPredicate};
 use predicates_core::custom::is_other;
 use predicates_core::node::{leaf_node, printed, showing, showing_text};
 use predicates_core::reflection::Case;
-use predicates_core::{Predicate, ReadsContent, Total};
+use predicates_core::{Predicate, PredicateChange, ReadsContent, Total};
 use simdutf8::basic::from_utf8;
 use std::alloc::{AllocError, Global};
 use std::fmt;
@@ -113,6 +113,27 @@ impl<P: Predicate<String>> Predicate<Vec<u8>> for ViewPredicate<Utf8View, P> {
         };
         let case = showing(case, "var as str", text)?;
         Ok(Some(case))
+    }
+}
+
+impl<P: PredicateChange<String>> PredicateChange<Vec<u8>> for ViewPredicate<Utf8View, P> {
+    fn find_change(
+        &self,
+        alloc: Global,
+        wanted: Option<bool>,
+        item: &Vec<u8>,
+    ) -> Result<Option<Case>, AllocError> {
+        let Some(text) = decode(alloc, item)? else {
+            if is_other(wanted, false) {
+                return Ok(None);
+            }
+            return Ok(Some(undecoded_case(alloc, self)?));
+        };
+        let Some(change) = self.inner.find_change(alloc, wanted, &text)? else {
+            return Ok(None);
+        };
+        let change = showing(change, "var as str", text)?;
+        Ok(Some(change))
     }
 }
 

@@ -8,7 +8,7 @@ ghost use Rattle.predicates_text.specs.ViewTexts.{view_is};
 
 use predicates_core::custom::one_child;
 use predicates_core::reflection::{Case, Child, Parameter, PredicateReflection};
-use predicates_core::{Predicate, ReadsContent, Total};
+use predicates_core::{Predicate, PredicateChange, ReadsContent, Total};
 use std::alloc::{AllocError, Global};
 use std::fmt;
 use std::marker::PhantomData;
@@ -136,6 +136,20 @@ impl<V: TextView, P: Predicate<String>> Predicate<String> for ViewPredicate<V, P
         let mut copy = String::new(alloc);
         let view = V::view(alloc, item, &mut copy)?;
         self.inner.explain(alloc, wanted, view)
+    }
+}
+
+impl<V: TextView, P: PredicateChange<String>> PredicateChange<String> for ViewPredicate<V, P> {
+    #[tactic(auto, using(crate::proofs::AdapterAnswers::adapters))]
+    fn find_change(
+        &self,
+        alloc: Global,
+        wanted: Option<bool>,
+        item: &String,
+    ) -> Result<Option<Case>, AllocError> {
+        let mut copy = String::new(alloc);
+        let view = V::view(alloc, item, &mut copy)?;
+        self.inner.find_change(alloc, wanted, view)
     }
 }
 

@@ -9,8 +9,9 @@ ghost use Rattle.predicates_text.specs.Patterns.{contains_pattern, matches_patte
 use crate::basics::matches::MatchesPredicate;
 use crate::leaf_case::text_case;
 use crate::search;
+use predicates_core::custom::leaf_change;
 use predicates_core::reflection::{Case, Child, Parameter, PredicateReflection};
-use predicates_core::{Predicate, ReadsContent, Total};
+use predicates_core::{Predicate, PredicateChange, ReadsContent, Total};
 use std::alloc::{AllocError, Global};
 use std::fmt;
 
@@ -107,6 +108,17 @@ impl Predicate<String> for ContainsPredicate {
     ) -> Result<Option<Case>, AllocError> {
         let holds = search::contains(item, &self.pattern);
         text_case(alloc, self, holds, wanted, item)
+    }
+}
+
+impl PredicateChange<String> for ContainsPredicate {
+    fn find_change(
+        &self,
+        alloc: Global,
+        wanted: Option<bool>,
+        item: &String,
+    ) -> Result<Option<Case>, AllocError> {
+        leaf_change(alloc, self, wanted, item)
     }
 }
 

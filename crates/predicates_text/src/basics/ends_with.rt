@@ -8,8 +8,9 @@ ghost use Rattle.predicates_text.specs.Patterns.{ends_pattern};
 
 use crate::leaf_case::text_case;
 use crate::search;
+use predicates_core::custom::leaf_change;
 use predicates_core::reflection::{Case, Child, Parameter, PredicateReflection};
-use predicates_core::{Predicate, ReadsContent, Total};
+use predicates_core::{Predicate, PredicateChange, ReadsContent, Total};
 use std::alloc::{AllocError, Global};
 use std::fmt;
 
@@ -88,6 +89,17 @@ impl Predicate<String> for EndsWithPredicate {
     ) -> Result<Option<Case>, AllocError> {
         let holds = search::ends_with(item, &self.pattern);
         text_case(alloc, self, holds, wanted, item)
+    }
+}
+
+impl PredicateChange<String> for EndsWithPredicate {
+    fn find_change(
+        &self,
+        alloc: Global,
+        wanted: Option<bool>,
+        item: &String,
+    ) -> Result<Option<Case>, AllocError> {
+        leaf_change(alloc, self, wanted, item)
     }
 }
 

@@ -7,8 +7,9 @@ ghost use Rattle.predicates_text.specs.LeafFormulaLaws.{text_leaf_fits, one_text
 
 use crate::leaf_case::text_case;
 use crate::search;
+use predicates_core::custom::leaf_change;
 use predicates_core::reflection::{Case, Child, Parameter, PredicateReflection};
-use predicates_core::{Predicate, ReadsContent, Total};
+use predicates_core::{Predicate, PredicateChange, ReadsContent, Total};
 use std::alloc::{AllocError, Global};
 use std::fmt;
 
@@ -81,6 +82,17 @@ impl Predicate<String> for IsEmptyPredicate {
     ) -> Result<Option<Case>, AllocError> {
         let holds = search::is_empty(item);
         text_case(alloc, self, holds, wanted, item)
+    }
+}
+
+impl PredicateChange<String> for IsEmptyPredicate {
+    fn find_change(
+        &self,
+        alloc: Global,
+        wanted: Option<bool>,
+        item: &String,
+    ) -> Result<Option<Case>, AllocError> {
+        leaf_change(alloc, self, wanted, item)
     }
 }
 

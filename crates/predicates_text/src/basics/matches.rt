@@ -10,8 +10,9 @@ ghost use Rattle.predicates_text.specs.Patterns.{matches_pattern, matches_count}
 
 use crate::count;
 use crate::leaf_case::count_case;
+use predicates_core::custom::leaf_change;
 use predicates_core::reflection::{Case, Child, Parameter, PredicateReflection};
-use predicates_core::{Predicate, ReadsContent, Total};
+use predicates_core::{Predicate, PredicateChange, ReadsContent, Total};
 use std::alloc::{AllocError, Global};
 use std::fmt;
 
@@ -90,6 +91,17 @@ impl Predicate<String> for MatchesPredicate {
     ) -> Result<Option<Case>, AllocError> {
         let actual = count::count(item, &self.pattern);
         count_case(alloc, self, actual, self.count, wanted, item)
+    }
+}
+
+impl PredicateChange<String> for MatchesPredicate {
+    fn find_change(
+        &self,
+        alloc: Global,
+        wanted: Option<bool>,
+        item: &String,
+    ) -> Result<Option<Case>, AllocError> {
+        leaf_change(alloc, self, wanted, item)
     }
 }
 

@@ -10,8 +10,9 @@ ghost use Rattle.std.specs.Str.{chars};
 
 use crate::leaf_case::text_case;
 use crate::search;
+use predicates_core::custom::leaf_change;
 use predicates_core::reflection::{Case, Child, Parameter, PredicateReflection};
-use predicates_core::{Predicate, ReadsContent, Total};
+use predicates_core::{Predicate, PredicateChange, ReadsContent, Total};
 use std::alloc::{AllocError, Global};
 use std::fmt;
 
@@ -100,6 +101,17 @@ impl Predicate<String> for StartsWithPredicate {
     ) -> Result<Option<Case>, AllocError> {
         let holds = self.holds(item);
         text_case(alloc, self, holds, wanted, item)
+    }
+}
+
+impl PredicateChange<String> for StartsWithPredicate {
+    fn find_change(
+        &self,
+        alloc: Global,
+        wanted: Option<bool>,
+        item: &String,
+    ) -> Result<Option<Case>, AllocError> {
+        leaf_change(alloc, self, wanted, item)
     }
 }
 

@@ -16,8 +16,9 @@ use crate::expressions::RegexError;
 use crate::expressions::match_count::RegexMatchesPredicate;
 use crate::expressions::regex_search::has_match;
 use crate::leaf_case::text_case;
+use predicates_core::custom::leaf_change;
 use predicates_core::reflection::{Case, Child, Parameter, PredicateReflection};
-use predicates_core::{Predicate, ReadsContent, Total};
+use predicates_core::{Predicate, PredicateChange, ReadsContent, Total};
 use regex::Regex;
 use std::alloc::{AllocError, Global};
 use std::fmt;
@@ -132,6 +133,17 @@ impl Predicate<String> for RegexPredicate {
     ) -> Result<Option<Case>, AllocError> {
         let holds = has_match(alloc, &self.regex, item)?;
         text_case(alloc, self, holds, wanted, item)
+    }
+}
+
+impl PredicateChange<String> for RegexPredicate {
+    fn find_change(
+        &self,
+        alloc: Global,
+        wanted: Option<bool>,
+        item: &String,
+    ) -> Result<Option<Case>, AllocError> {
+        leaf_change(alloc, self, wanted, item)
     }
 }
 

@@ -12,8 +12,9 @@ ghost use Rattle.predicates_text.specs.Expressions.{regex_matches_count};
 
 use crate::expressions::regex_search::match_count;
 use crate::leaf_case::count_case;
+use predicates_core::custom::leaf_change;
 use predicates_core::reflection::{Case, Child, Parameter, PredicateReflection};
-use predicates_core::{Predicate, ReadsContent, Total};
+use predicates_core::{Predicate, PredicateChange, ReadsContent, Total};
 use regex::Regex;
 use std::alloc::{AllocError, Global};
 use std::fmt;
@@ -101,6 +102,17 @@ impl Predicate<String> for RegexMatchesPredicate {
     ) -> Result<Option<Case>, AllocError> {
         let actual = match_count(alloc, &self.regex, item)?;
         count_case(alloc, self, actual, self.count, wanted, item)
+    }
+}
+
+impl PredicateChange<String> for RegexMatchesPredicate {
+    fn find_change(
+        &self,
+        alloc: Global,
+        wanted: Option<bool>,
+        item: &String,
+    ) -> Result<Option<Case>, AllocError> {
+        leaf_change(alloc, self, wanted, item)
     }
 }
 

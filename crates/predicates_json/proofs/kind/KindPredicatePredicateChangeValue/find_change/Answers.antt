@@ -1,0 +1,12 @@
+use Rattle.std.proofs.Common.{sym}
+use Rattle.predicates_json.proofs.PresentChanges.{change_present, no_change_absent, change_absent}
+use Rattle.predicates_json.proofs.kind.KindPredicatePredicateChangeValue.find_change.Goals as goal
+
+pub returns-in-Some : goal.returns-in-Some
+returns-in-Some g c = change_present _ _ _ _ c.args.wanted c.find_change.result (sym c.in-Some.ensures) c.find_change.ensures
+
+pub returns-in-None : goal.returns-in-None
+returns-in-None g c = no_change_absent _ _ _ _ c.args.wanted (sym c.in-None.ensures) (rw (← c.is_other.ensures) c.if-is_other.true)
+
+pub returns-in_ok-absent_case-in-None-2 : goal.returns-in_ok-absent_case-in-None-2
+returns-in_ok-absent_case-in-None-2 g c = change_absent _ _ _ _ c.args.wanted (sym c.in-None.ensures) (rw (← c.is_other.ensures) c.if-is_other.false) (rw c.kind.ensures at c.in_ok-absent_case-in-None-2.ensures)

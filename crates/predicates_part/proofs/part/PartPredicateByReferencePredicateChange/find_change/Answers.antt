@@ -1,0 +1,7 @@
+use Rattle.predicates_part.specs.Part.{borrowed}
+use Rattle.predicates_part.proofs.PresentChanges.{found_change_of_fewer}
+use Rattle.predicates_part.proofs.Parts.{on_part}
+use Rattle.predicates_part.proofs.part.PartPredicateByReferencePredicateChange.find_change.Goals as goal
+
+pub returns : goal.returns
+returns g c = found_change_of_fewer c.args.wanted c.find_change.result (on_part {read = borrowed} c.requires.2 c.function-part.ensures) c.find_change.ensures

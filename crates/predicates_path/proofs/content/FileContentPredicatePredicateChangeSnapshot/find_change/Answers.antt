@@ -1,0 +1,15 @@
+use Rattle.std.proofs.Common.{sym, ◌∙◌}
+use Rattle.predicates_path.proofs.ContentCases.{no_change_of_content, change_of_content, no_change_without_content, change_without_content}
+use Rattle.predicates_path.proofs.content.FileContentPredicatePredicateChangeSnapshot.find_change.Goals as goal
+
+pub returns-in_default : goal.returns-in_default
+returns-in_default g c = no_change_of_content _ _ _ _ c.args.wanted c.in-Ok.bytes (sym c.content_or_fault.ensures ∙ c.in-Ok.is) (rw c.in_default.is at c.in_ok-change-in-Ok.ensures)
+
+pub returns-in_ok-change-in-Ok-2 : goal.returns-in_ok-change-in-Ok-2
+returns-in_ok-change-in-Ok-2 g c = change_of_content _ _ _ _ c.args.wanted c.in-Ok.bytes (sym c.content_or_fault.ensures ∙ c.in-Ok.is) c.in_ok-change-in-Ok-2.ensures (rw c.in-Some.is at c.in_ok-change-in-Ok.ensures)
+
+pub returns-then-is_other : goal.returns-then-is_other
+returns-then-is_other g c = no_change_without_content _ _ _ _ c.args.wanted _ (sym c.content_or_fault.ensures ∙ c.in-Err.is) (rw (← c.is_other.ensures) c.if-is_other.true)
+
+pub returns-in_ok-no_content-in-Err : goal.returns-in_ok-no_content-in-Err
+returns-in_ok-no_content-in-Err g c = change_without_content _ _ _ _ c.args.wanted _ (sym c.content_or_fault.ensures ∙ c.in-Err.is) (rw (← c.is_other.ensures) c.if-is_other.false) c.in_ok-no_content-in-Err.ensures
