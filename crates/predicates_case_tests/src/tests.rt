@@ -1,3 +1,4 @@
 mod case_children;
 mod cases;
+mod changes;
 mod check;

@@ -1,2 +1,3 @@
+mod changes;
 mod evaluations;
 mod short_formulas;

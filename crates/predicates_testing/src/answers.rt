@@ -1,9 +1,10 @@
 //! What a predicate answers.
+use crate::changes::{Changes, find_changes};
 use crate::helpers::description;
 use crate::kept_leaves::kept_leaves;
 use crate::printed::keeps_text;
 use crate::reference::{ReferenceFormula, first_reason};
-use predicates_core::Predicate;
+use predicates_core::PredicateChange;
 use predicates_core::reflection::{Case, PredicateReflection};
 use std::alloc::{AllocError, Global};
 
@@ -18,10 +19,11 @@ pub struct Answers {
     pub keeps_text: bool,
     /// A line for each parameter and for each child, down to the leaves.
     pub description: String,
+    pub changes: Changes,
 }
 
 /// All that the predicate answers.
-pub fn ask<P: Predicate<Item>, Item>(
+pub fn ask<P: PredicateChange<Item>, Item>(
     alloc: Global,
     predicate: &P,
     item: &Item,
@@ -35,6 +37,7 @@ pub fn ask<P: Predicate<Item>, Item>(
     let description = described(alloc, predicate)?;
     let case_true = predicate.find_case(alloc, true, item)?;
     let case_false = predicate.find_case(alloc, false, item)?;
+    let changes = find_changes(alloc, predicate, item)?;
     Ok(Answers {
         verdict,
         case_true,
@@ -42,6 +45,7 @@ pub fn ask<P: Predicate<Item>, Item>(
         text,
         keeps_text,
         description,
+        changes,
     })
 }
 
@@ -53,7 +57,7 @@ fn described<P: PredicateReflection>(alloc: Global, predicate: &P) -> Result<Str
 
 /// The verdict, where its case has that result and there is none for the opposite; all else is
 /// asked as well.
-pub fn verdict<P: Predicate<Item>, Item>(
+pub fn verdict<P: PredicateChange<Item>, Item>(
     alloc: Global,
     predicate: &P,
     item: &Item,
@@ -92,10 +96,13 @@ impl Answers {
     }
 
     /// Whether the verdict is the formula's truth, with one case alone, which keeps just the leaves
-    /// that the reference program finds.
+    /// that the reference program finds, and so does what would turn it.
     pub fn explain(&self, alloc: Global, formula: &ReferenceFormula) -> Result<bool, AllocError> {
         let kept = self.kept_leaves(alloc, formula)?;
         let first = first_reason(alloc, formula)?;
+        if self.changes.are_right(alloc, formula)? != Some(true) {
+            return Ok(false);
+        }
         Ok(match (kept, first) {
             (Some(kept), Some(first)) => {
                 self.verdict == formula.truth() && kept.as_slice() == first.as_slice()

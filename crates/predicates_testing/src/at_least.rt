@@ -7,8 +7,9 @@ ghost use Rattle.predicates_core.specs.Tree.{empty};
 ghost use Rattle.predicates_core.specs.LeafLaws.{exactly_text_fits, one_exactly};
 
 use predicates::function::function;
-use predicates_core::Predicate;
+use predicates_core::custom::leaf_change;
 use predicates_core::reflection::{Case, Child, Parameter, PredicateReflection};
+use predicates_core::{Predicate, PredicateChange};
 use std::alloc::{AllocError, Global};
 use std::fmt;
 
@@ -72,5 +73,16 @@ impl Predicate<i64> for AtLeast {
             { *constant <= *n },
         )
         .find_case(alloc, expected, item)
+    }
+}
+
+impl PredicateChange<i64> for AtLeast {
+    fn find_change(
+        &self,
+        alloc: Global,
+        wanted: Option<bool>,
+        item: &i64,
+    ) -> Result<Option<Case>, AllocError> {
+        leaf_change(alloc, self, wanted, item)
     }
 }

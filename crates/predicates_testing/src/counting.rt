@@ -1,6 +1,6 @@
 //! A predicate that counts how often it is asked, and prints itself otherwise in a width.
-use predicates_core::Predicate;
 use predicates_core::reflection::{Case, Child, Parameter, PredicateReflection};
+use predicates_core::{Predicate, PredicateChange};
 use std::alloc::{AllocError, Global};
 use std::cell::Cell;
 use std::fmt;
@@ -80,5 +80,17 @@ impl<P: Predicate<Item>, Item> Predicate<Item> for Counting<P> {
     ) -> Result<Option<Case>, AllocError> {
         self.count();
         self.held.explain(alloc, wanted, item)
+    }
+}
+
+impl<P: PredicateChange<Item>, Item> PredicateChange<Item> for Counting<P> {
+    fn find_change(
+        &self,
+        alloc: Global,
+        wanted: Option<bool>,
+        item: &Item,
+    ) -> Result<Option<Case>, AllocError> {
+        self.count();
+        self.held.find_change(alloc, wanted, item)
     }
 }

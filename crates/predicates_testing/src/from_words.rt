@@ -3,8 +3,8 @@ ghost use Rattle.predicates_testing.specs.Level.{all_parts};
 
 use crate::answers::{Answers, ask};
 use crate::level::Level;
-use predicates_core::Predicate;
 use predicates_core::static_text::StaticText;
+use predicates_core::{Predicate, PredicateChange};
 use std::alloc::{AllocError, Global};
 
 /// What takes the predicates before it.
@@ -25,7 +25,7 @@ pub trait Word: Drop {
 
 /// A predicate that is read from the end of a list of words; none where the words are not one, or
 /// where it is too deep.
-pub trait FromWords<W, Item>: Predicate<Item> + Drop + Sized {
+pub trait FromWords<W, Item>: PredicateChange<Item> + Drop + Sized {
     fn from_words(alloc: Global, words: &mut Vec<W>) -> Result<Option<Self>, AllocError>;
 
     ghost always_lawful: { (p : Self) → Self.lawful p };

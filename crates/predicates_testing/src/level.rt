@@ -6,9 +6,9 @@ use predicates::boolean::{
     AndPredicate, NotPredicate, OrPredicate, PredicateBooleanExt, XorPredicate,
 };
 use predicates::name::{NamePredicate, PredicateNameExt};
-use predicates_core::Predicate;
 use predicates_core::reflection::{Case, Child, Parameter, PredicateReflection};
 use predicates_core::static_text::StaticText;
+use predicates_core::{Predicate, PredicateChange};
 use std::alloc::{AllocError, Global};
 use std::fmt;
 
@@ -140,5 +140,16 @@ impl<P: Predicate<Item>, Item> Predicate<Item> for Level<P, Item> {
         item: &Item,
     ) -> Result<Option<Case>, AllocError> {
         self.node.explain(alloc, wanted, item)
+    }
+}
+
+impl<P: PredicateChange<Item>, Item> PredicateChange<Item> for Level<P, Item> {
+    fn find_change(
+        &self,
+        alloc: Global,
+        wanted: Option<bool>,
+        item: &Item,
+    ) -> Result<Option<Case>, AllocError> {
+        self.node.find_change(alloc, wanted, item)
     }
 }

@@ -4,6 +4,7 @@
 
 mod answers;
 mod at_least;
+mod changes;
 mod choices;
 mod counting;
 mod escapes;
@@ -17,6 +18,7 @@ mod numbers;
 mod one_of;
 mod printed;
 mod reference;
+mod shown;
 mod text_leaf;
 mod text_level;
 mod text_reference;
@@ -26,6 +28,7 @@ mod words;
 
 pub use answers::{Answers, ask, verdict};
 pub use at_least::AtLeast;
+pub use changes::{Changes, find_changes};
 pub use choices::greatest_choice;
 pub use counting::Counting;
 pub use escapes::unescape;
@@ -40,7 +43,7 @@ pub use number_leaf::NumberLeaf;
 pub use numbers::{answer_number, number_formula};
 pub use one_of::OneOf;
 pub use printed::{keeps_text, print_in_combinators, print_under_flags};
-pub use reference::{ReferenceFormula, first_reason};
+pub use reference::{ReferenceFormula, first_change, first_reason};
 pub use text_leaf::TextLeaf;
 pub use text_level::TextLevel;
 pub use text_reference::{bytes_formula, text_formula};

@@ -9,8 +9,8 @@ use crate::words::NumberWord;
 use predicates::constant::{BooleanPredicate, always, never};
 use predicates::iter::{HashableInPredicate, InPredicate, OrdInPredicate, in_hash, in_iter};
 use predicates::ord::{EqPredicate, OrdPredicate, eq, ge, gt, le, lt, ne};
-use predicates_core::Predicate;
 use predicates_core::reflection::{Case, Child, Parameter, PredicateReflection};
+use predicates_core::{Predicate, PredicateChange};
 use std::alloc::{AllocError, Global};
 use std::fmt;
 
@@ -161,6 +161,17 @@ impl Predicate<i64> for NumberLeaf {
         item: &i64,
     ) -> Result<Option<Case>, AllocError> {
         self.leaf.explain(alloc, wanted, item)
+    }
+}
+
+impl PredicateChange<i64> for NumberLeaf {
+    fn find_change(
+        &self,
+        alloc: Global,
+        wanted: Option<bool>,
+        item: &i64,
+    ) -> Result<Option<Case>, AllocError> {
+        self.leaf.find_change(alloc, wanted, item)
     }
 }
 

@@ -2,8 +2,8 @@
 ghost use Rattle.predicates_testing.specs.OneOf.{by_type, fact_by_type, text_fits_by_type};
 ghost use Rattle.predicates_testing.specs.OneOf.{one_by_type};
 
-use predicates_core::Predicate;
 use predicates_core::reflection::{Case, Child, Parameter, PredicateReflection};
+use predicates_core::{Predicate, PredicateChange};
 use std::alloc::{AllocError, Global};
 use std::fmt;
 
@@ -93,6 +93,21 @@ impl<A: Predicate<Item>, B: Predicate<Item>, Item> Predicate<Item> for OneOf<A, 
         match self {
             OneOf::First(predicate) => predicate.explain(alloc, wanted, item),
             OneOf::Second(predicate) => predicate.explain(alloc, wanted, item),
+        }
+    }
+}
+
+impl<A: PredicateChange<Item>, B: PredicateChange<Item>, Item> PredicateChange<Item>
+    for OneOf<A, B> {
+    fn find_change(
+        &self,
+        alloc: Global,
+        wanted: Option<bool>,
+        item: &Item,
+    ) -> Result<Option<Case>, AllocError> {
+        match self {
+            OneOf::First(predicate) => predicate.find_change(alloc, wanted, item),
+            OneOf::Second(predicate) => predicate.find_change(alloc, wanted, item),
         }
     }
 }

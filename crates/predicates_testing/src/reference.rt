@@ -190,6 +190,29 @@ impl Truths {
         }
         true
     }
+
+    // Whether the truth turns where exactly the set's leaves turn.
+    fn has_change(&self, set: u32) -> bool {
+        self.under(self.own ^ set) != self.under(self.own)
+    }
+
+    // Whether the set is a change, and none of its parts is.
+    fn has_minimal_change(&self, set: u32) -> bool {
+        if !self.has_change(set) {
+            return false;
+        }
+        let mut part = set;
+        for _ in 0..self.choices {
+            part = part.wrapping_sub(1) & set;
+            if self.has_change(part) {
+                return false;
+            }
+            if part == 0 {
+                return true;
+            }
+        }
+        true
+    }
 }
 
 // The numbers of a set's leaves, in order.
@@ -225,6 +248,27 @@ pub fn first_reason(
     let mut first: Option<Vec<usize>> = None;
     for set in 0..truths.choices {
         if truths.has_minimal_reason(set) {
+            let found = numbers(alloc, set)?;
+            first = Some(earlier(first, found));
+        }
+    }
+    Ok(first)
+}
+
+/// The first of all minimal changes, as the order of lists has it; none for a formula of more than
+/// twelve leaves.
+pub fn first_change(
+    alloc: Global,
+    formula: &ReferenceFormula,
+) -> Result<Option<Vec<usize>>, AllocError> {
+    let count = formula.leaf_count();
+    if count > LEAVES.len() {
+        return Ok(None);
+    }
+    let truths = Truths::new(alloc, formula, 1_u32 << count)?;
+    let mut first: Option<Vec<usize>> = None;
+    for set in 0..truths.choices {
+        if truths.has_minimal_change(set) {
             let found = numbers(alloc, set)?;
             first = Some(earlier(first, found));
         }

@@ -13,8 +13,8 @@ use predicates::str::{
     ContainsPredicate, EndsWithPredicate, IsEmptyPredicate, MatchesPredicate, StartsWithPredicate,
     contains, ends_with, is_empty, starts_with,
 };
-use predicates_core::Predicate;
 use predicates_core::reflection::{Case, Child, Parameter, PredicateReflection};
+use predicates_core::{Predicate, PredicateChange};
 use std::alloc::{AllocError, Global};
 use std::fmt;
 
@@ -166,6 +166,17 @@ impl Predicate<String> for TextLeaf {
         item: &String,
     ) -> Result<Option<Case>, AllocError> {
         self.leaf.explain(alloc, wanted, item)
+    }
+}
+
+impl PredicateChange<String> for TextLeaf {
+    fn find_change(
+        &self,
+        alloc: Global,
+        wanted: Option<bool>,
+        item: &String,
+    ) -> Result<Option<Case>, AllocError> {
+        self.leaf.find_change(alloc, wanted, item)
     }
 }
 

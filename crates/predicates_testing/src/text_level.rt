@@ -8,8 +8,8 @@ ghost use Rattle.predicates_testing.specs.OneOf.{text_fits_by_type, one_by_type}
 use crate::level::Level;
 use crate::one_of::OneOf;
 use predicates::str::{NormalizedPredicate, PredicateStrExt, TrimPredicate};
-use predicates_core::Predicate;
 use predicates_core::reflection::{Case, Child, Parameter, PredicateReflection};
+use predicates_core::{Predicate, PredicateChange};
 use std::alloc::{AllocError, Global};
 use std::fmt;
 
@@ -125,5 +125,16 @@ impl<P: Predicate<String>> Predicate<String> for TextLevel<P> {
         item: &String,
     ) -> Result<Option<Case>, AllocError> {
         self.node.explain(alloc, wanted, item)
+    }
+}
+
+impl<P: PredicateChange<String>> PredicateChange<String> for TextLevel<P> {
+    fn find_change(
+        &self,
+        alloc: Global,
+        wanted: Option<bool>,
+        item: &String,
+    ) -> Result<Option<Case>, AllocError> {
+        self.node.find_change(alloc, wanted, item)
     }
 }

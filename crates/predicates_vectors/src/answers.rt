@@ -50,6 +50,19 @@ fn compare_kept(
     compare_first(outcome, formula, kept)
 }
 
+// Compares what would turn the verdict with what the reference program finds, where there are at
+// most twelve leaves.
+fn compare_changes(
+    outcome: &mut Outcome,
+    answers: &Answers,
+    formula: &ReferenceFormula,
+) -> Result<()> {
+    match answers.changes.are_right(outcome.alloc, formula)? {
+        Some(are_right) => outcome.compare_truth("first change", "true", are_right),
+        None => Ok(()),
+    }
+}
+
 // Compares the verdict and the kept leaves, both also with those of the formula, and the printed
 // text with that under flags.
 fn compare_verdict(
@@ -61,6 +74,7 @@ fn compare_verdict(
     outcome.compare_truth("verdict", verdict, answers.verdict)?;
     outcome.compare_truth("truth of the formula", verdict, formula.truth())?;
     compare_kept(outcome, answers, formula, kept)?;
+    compare_changes(outcome, answers, formula)?;
     outcome.compare_truth("same text under flags", "true", answers.keeps_text)
 }
 

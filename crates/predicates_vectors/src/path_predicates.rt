@@ -1,6 +1,6 @@
 //! Predicates of paths, by their words.
 use anyhow::{Context, Result, anyhow};
-use predicates::Predicate;
+use predicates::PredicateChange;
 use predicates::boolean::PredicateBooleanExt;
 use predicates::ord::eq;
 use predicates::path::{
@@ -35,7 +35,7 @@ fn from_item(item: &Snapshot) -> Result<FileTypePredicate> {
 }
 
 /// What the predicate answers on the item.
-pub fn asked<P: Predicate<Item> + Drop, Item>(
+pub fn asked<P: PredicateChange<Item> + Drop, Item>(
     alloc: Global,
     predicate: P,
     item: &Item,

@@ -23,6 +23,16 @@ fn required_under_a_label(rt: HostRuntime) -> Result<(), Fail> {
 }
 
 #[test]
+fn what_has_to_change(rt: HostRuntime) -> Result<(), Fail> {
+    let alloc = rt.alloc();
+
+    let policy = predicate::ge(5).and(predicate::ne(3));
+    let case = required_change(alloc, &policy, &3)?.ok_or("met")?;
+    assert!(rt; case.root().children().count() == 2);
+    Ok(())
+}
+
+#[test]
 fn sifted(rt: HostRuntime) -> Result<(), Fail> {
     let alloc = rt.alloc();
 

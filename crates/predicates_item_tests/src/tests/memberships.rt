@@ -5,7 +5,7 @@ ghost use Rattle.predicates_item.specs.HashableIn as HashableIn;
 ghost use Rattle.predicates_item.specs.Members.{first_of_equals};
 
 use predicates::iter::{HashableInPredicate, InPredicate, in_hash, in_iter};
-use predicates_core::Predicate;
+use predicates_core::PredicateChange;
 use predicates_core::reflection::PredicateReflection;
 use predicates_testing::{is_described, verdict};
 use std::alloc::{AllocError, Global};
@@ -62,7 +62,7 @@ fn has_bytes<P: PredicateReflection>(
 }
 
 // The numbers from 0 to the first of the ends hold, and the second one does not.
-fn has_ends<P: Predicate<i64>>(
+fn has_ends<P: PredicateChange<i64>>(
     alloc: Global,
     predicate: &P,
     ends: (i64, i64),
@@ -78,7 +78,7 @@ fn has_ends<P: Predicate<i64>>(
 }
 
 // The same, where the printed members have this many bytes.
-fn holds_numbers<P: Predicate<i64>>(
+fn holds_numbers<P: PredicateChange<i64>>(
     alloc: Global,
     predicate: &P,
     ends: (i64, i64),

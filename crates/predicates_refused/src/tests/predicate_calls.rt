@@ -1,7 +1,8 @@
 //! The calls of a predicate on an item, with requests for memory refused in turn.
 use super::answer::Answer;
 use super::sweep::{Call, Memory, sweep};
-use predicates_core::Predicate;
+use predicates_core::PredicateChange;
+use predicates_core::reflection::render;
 use std::alloc::{AllocError, Global};
 use std::process::Abort;
 use std::test::Fail;
@@ -11,6 +12,7 @@ use std::test::Fail;
 enum Called {
     Verdict,
     Case(bool),
+    Change(bool),
     Parameters,
     Children,
 }
@@ -23,7 +25,7 @@ struct Question<'a, P, Item> {
     called: Called,
 }
 
-impl<P: Predicate<Item>, Item> Call for Question<'_, P, Item> {
+impl<P: PredicateChange<Item>, Item> Call for Question<'_, P, Item> {
     ghost ready = { λ q. P.lawful q.predicate.now };
 
     type Operand = ();
@@ -37,6 +39,10 @@ impl<P: Predicate<Item>, Item> Call for Question<'_, P, Item> {
             Called::Verdict => Ok(Answer::Verdict(self.predicate.eval(alloc, self.item)?)),
             Called::Case(expected) => {
                 Ok(Answer::Case(self.predicate.find_case(alloc, expected, self.item)?))
+            }
+            Called::Change(wanted) => {
+                let change = self.predicate.find_change(alloc, Some(wanted), self.item)?;
+                Ok(Answer::Case(change))
             }
             Called::Parameters => Ok(Answer::Parameters(self.predicate.parameters(alloc)?)),
             Called::Children => Ok(Answer::Children(self.predicate.children(alloc)?)),
@@ -95,8 +101,42 @@ pub fn over<'a>(name: &'a str, verdict: bool, lines: &'a str, children: &'a str)
     }
 }
 
-/// Sweeps over `eval`, `find_case` for either truth, `parameters` and `children` of the predicate.
-pub fn sweep_calls<R: Abort + AllocGlobal + Print, P: Predicate<Item>, Item>(
+// The lines of what would turn the verdict, with ample memory.
+fn change_lines<P: PredicateChange<Item>, Item>(
+    alloc: Global,
+    predicate: &P,
+    item: &Item,
+) -> Result<String, AllocError>
+    requires { P.lawful predicate.now }
+{
+    match predicate.find_change(alloc, None, item)? {
+        Some(case) => render(alloc, &case),
+        None => Ok(String::new(alloc)),
+    }
+}
+
+fn sweep_change<R: Abort + AllocGlobal + Print, P: PredicateChange<Item>, Item>(
+    rt: &R,
+    predicate: &P,
+    item: &Item,
+    row: Row<'_>,
+) -> Result<(), Fail>
+    requires { P.lawful predicate.now }
+{
+    let lines = change_lines(rt.alloc(), predicate, item)?;
+    let name = format!(in rt.alloc(); "find_change of {}", row.name)?;
+    let called = Called::Change(row.verdict);
+    let question = Question {
+        predicate,
+        item,
+        called,
+    };
+    sweep(rt, name.as_str(), &question, lines.as_str(), row.case)
+}
+
+/// Sweeps over `eval`, `find_case` for either truth, `find_change`, `parameters` and `children` of
+/// the predicate.
+pub fn sweep_calls<R: Abort + AllocGlobal + Print, P: PredicateChange<Item>, Item>(
     rt: &R,
     predicate: &P,
     item: &Item,
@@ -132,7 +172,7 @@ pub fn sweep_calls<R: Abort + AllocGlobal + Print, P: Predicate<Item>, Item>(
         };
         sweep(rt, name.as_str(), &question, expected, memory)?;
     }
-    Ok(())
+    sweep_change(rt, predicate, item, row)
 }
 
 // A list that is empty takes no memory.

@@ -1,5 +1,5 @@
 //! What a predicate that is handed over answers of an item.
-use predicates_core::Total;
+use predicates_core::{PredicateChange, Total};
 use predicates_testing::{differ, explains, verdict};
 use std::alloc::{AllocError, Global};
 use std::fmt;
@@ -14,7 +14,7 @@ pub fn holds<P: Total<Item> + Drop, Item: Drop>(
 }
 
 /// Its verdict; none where it has not just the verdict's case.
-pub fn verdict_of<P: Total<Item> + Drop, Item: Drop>(
+pub fn verdict_of<P: Total<Item> + PredicateChange<Item> + Drop, Item: Drop>(
     alloc: Global,
     predicate: P,
     item: Item,

@@ -1,0 +1,69 @@
+//! Whether a case is a formula cut down to a set of leaves.
+use crate::reference::ReferenceFormula;
+use predicates_core::reflection::{CaseChild, CaseChildren, CaseView};
+
+// Whether a leaf of the formula, whose first leaf has the number `first`, is in the set.
+fn has_share(set: &[usize], formula: &ReferenceFormula, first: usize) -> bool {
+    let behind = first.saturating_add(formula.leaf_count());
+    set.iter().any(|leaf| first <= *leaf && *leaf < behind)
+}
+
+// Whether the next child is the part cut down to the set; where the part has no leaf in the set,
+// it has no child.
+#[cycle(shows)]
+fn shows_part(
+    set: &[usize],
+    part: &ReferenceFormula,
+    name: &str,
+    children: &mut CaseChildren<'_>,
+    first: usize,
+) -> bool {
+    if !has_share(set, part, first) {
+        return true;
+    }
+    match children.next() {
+        Some(CaseChild { name: told, case }) => told == name && shows(set, part, &case, first),
+        None => false,
+    }
+}
+
+// Whether the next children are the members of a list cut down to the set.
+#[cycle(shows)]
+fn shows_members(
+    set: &[usize],
+    members: &ReferenceFormula,
+    children: &mut CaseChildren<'_>,
+    first: usize,
+) -> bool {
+    match members {
+        ReferenceFormula::And(member, rest) | ReferenceFormula::Or(member, rest) => {
+            let behind = first.saturating_add(member.leaf_count());
+            shows_part(set, member, "item", children, first)
+                && shows_members(set, rest, children, behind)
+        }
+        _ => true,
+    }
+}
+
+/// Whether the node is the formula, whose first leaf has the number `first`, cut down to the set.
+#[cycle(shows)]
+pub fn shows(set: &[usize], formula: &ReferenceFormula, node: &CaseView<'_>, first: usize) -> bool {
+    let mut children = node.children();
+    let is_cut = match formula {
+        ReferenceFormula::Leaf(_) => has_share(set, formula, first),
+        ReferenceFormula::And(left, right)
+        | ReferenceFormula::Or(left, right)
+        | ReferenceFormula::Xor(left, right) => {
+            let behind = first.saturating_add(left.leaf_count());
+            shows_part(set, left, "left", &mut children, first)
+                && shows_part(set, right, "right", &mut children, behind)
+        }
+        ReferenceFormula::Not(part) | ReferenceFormula::Named(part) => match children.next() {
+            Some(CaseChild { case, .. }) => shows(set, part, &case, first),
+            None => false,
+        },
+        ReferenceFormula::Members(members) => shows_members(set, members, &mut children, first),
+        ReferenceFormula::NoMore(_) => false,
+    };
+    is_cut && node.result() == formula.truth() && children.next().is_none()
+}
