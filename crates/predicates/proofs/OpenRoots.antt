@@ -5,6 +5,7 @@ use Rattle.std.proofs.lemmas.Slice.Eq.{bytes_eq-Decides}
 use Rattle.predicates_core.specs.Label.{Label, Entry, Fits}
 use Rattle.predicates_core.specs.Formula.{Formula, Leaf, Join, Not, Named, text_of, value, actual, truth, HasTruth}
 use Rattle.predicates_core.specs.Shows.{FitsNode, Shows, Explains, IsCaseOf, IsAnswer, IsFound}
+use Rattle.predicates_core.specs.ShowsChange.{ShowsChange}
 use Rattle.predicates_core.specs.Tree.{Tree}
 use Rattle.predicates_core.specs.Describe.{CaseNode}
 use Rattle.predicates_core.specs.Leaves.{IsExactly}
@@ -52,6 +53,13 @@ shows-opened (Join op label fs) t leaves h = (node-opened label _ _ t.root (trut
 shows-opened (Not label f) t leaves h = (node-opened label _ _ t.root (truth-opened (Not label f)) h.0, h.1)
 shows-opened (Named label name f) t leaves h = (node-opened label _ _ t.root (truth-opened (Named label name f)) h.0, h.1)
 
+shows_change-opened : (f : Formula) (t : Tree CaseNode) (leaves : List ℕ) → ShowsChange f t leaves → ShowsChange (opened f) t leaves
+unfolding ShowsChange
+shows_change-opened (Leaf label own) t leaves h = (node-opened label _ _ t.root refl h.0, h.1, h.2)
+shows_change-opened (Join op label fs) t leaves h = (node-opened label _ _ t.root (truth-opened (Join op label fs)) h.0, h.1)
+shows_change-opened (Not label f) t leaves h = (node-opened label _ _ t.root (truth-opened (Not label f)) h.0, h.1)
+shows_change-opened (Named label name f) t leaves h = (node-opened label _ _ t.root (truth-opened (Named label name f)) h.0, h.1)
+
 explains-opened : (f : Formula) (t : Tree CaseNode) → Explains f t → Explains (opened f) t
 explains-opened f t h = record {
   leaves = h.leaves;
@@ -63,7 +71,7 @@ changes-opened : (f : Formula) (t : Tree CaseNode) → ExplainsChange f t → Ex
 changes-opened f t h = record {
   leaves = h.leaves;
   first = same_first_change (same_function_changes f (opened f) (actual-opened f) (λ w _. value-opened f w)) h.leaves h.first;
-  shown = shows-opened f t h.leaves h.shown;
+  shown = shows_change-opened f t h.leaves h.shown;
 }
 
 truth-as_printed : (bytes : List ℕ) (f : Formula) → truth (as_printed bytes f) ≡ truth f

@@ -19,7 +19,7 @@ fit_last [] (s ∷ ss) p bytes fits h = absurd h
 fit_last (q ∷ ps) [] p bytes fits h = absurd h
 fit_last (q ∷ ps) (s ∷ ss) p bytes fits h = (h.0, h.1, fit_last ps ss p bytes fits h.2)
 
-root_with_product : (label : Label) (b b' : Bool) (c : Tree CaseNode) (p : Product) (bytes : List ℕ) → b' ≡ b → Fits p.value bytes → FitsNode label b c.root
+pub root_with_product : (label : Label) (b b' : Bool) (c : Tree CaseNode) (p : Product) (bytes : List ℕ) → b' ≡ b → Fits p.value bytes → FitsNode label b c.root
     → FitsNode (record label { products = label.products ++ p ∷ [] }) b' (describe.with_product c (p.name, bytes)).root
 root_with_product label b b' c p bytes e fits h = record {
   text = h.text;

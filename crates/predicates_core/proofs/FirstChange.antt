@@ -5,14 +5,14 @@ use Rattle.std.specs.List.{Contains}
 use Rattle.std.proofs.lemmas.List.{append-nil}
 use Rattle.std.proofs.lemmas.List.Elements.{Contains-append_left, Contains-append_right}
 use Rattle.predicates_core.specs.Formula.{Formula, size, value, actual, truth}
-use Rattle.predicates_core.specs.Reason.{AreIncreasing, ComesBefore, IsReason}
+use Rattle.predicates_core.specs.Reason.{AreIncreasing, ComesBefore}
 use Rattle.predicates_core.specs.Change.{turned, IsChange, IsMinimalChange, IsFirstChange, NoChangeIsEmpty, EachMeetsEach}
 use Rattle.predicates_core.proofs.Numbers.{shifted, increasing_joined, split, before_joined, before_behind, before_shifted, never_both_before}
 use Rattle.predicates_core.proofs.Joins.{Joins, length-actual, joined_value, joined_truth}
 use Rattle.predicates_core.proofs.FirstReason.{same_list}
 use Rattle.predicates_core.proofs.Shown.{left_share-joined, right_share-joined, right_share-shifted}
 use Rattle.predicates_core.specs.Shows.{left_share, right_share}
-use Rattle.predicates_core.proofs.Turned.{length-turned, turned-append, turned-left, turned-right, AreAmong, contains_first, among_shifted, among_front, among_back, none_among, left_among, right_among, some_turned}
+use Rattle.predicates_core.proofs.Turned.{length-turned, turned-append, turned-left, turned-right, AreAmong, among_shifted, among_front, among_back, none_among, left_among, right_among, some_turned}
 
 never_turned : (b : Bool) → b ≡ not b → ⊥
 never_turned true e = absurd (cc)

@@ -28,3 +28,5 @@ pub mod FirstChange
 pub mod FirstChangeOf
 pub mod ChangeCases
 pub mod SeveralChanges
+pub mod PresentChanges
+pub mod AddedChanges

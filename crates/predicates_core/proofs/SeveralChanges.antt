@@ -1,29 +1,31 @@
 -- The cases that show what would turn a node over several formulas, from those of its members.
-use Rattle.std.proofs.Common.{◌≡◌, ◌≢◌, ◌⊎◌, ℕ, zero, suc, ◌+◌, ◌<◌, ◌≤◌, Bool, true, false, List, [], ◌∷◌, ◌++◌, Option, Some, None, codes, map, length, take, get_or, option_map, refl, sym, ap, ◌∙◌, subst, arith, inl, inr, ⊎_elim}
+use Rattle.std.proofs.Common.{◌≡◌, ◌≢◌, ◌⊎◌, ℕ, suc, ◌+◌, ◌<◌, ◌≤◌, Bool, true, false, List, [], ◌∷◌, ◌++◌, Option, Some, None, codes, map, length, take, get_or, option_map, refl, sym, ap, ◌∙◌, subst, arith, inl, inr, ⊎_elim}
 use Rattle.std.specs.Prelude.{not, MatchOption, Result, Ok, Err, IfOk}
-use Rattle.std.specs.List.{AllByRecursion, AllZip}
+use Rattle.std.specs.List.{AllZip}
 use Rattle.std.proofs.lemmas.List.{take_more, length-take-le, map-append}
 use Rattle.std.specs.Fmt.{decimal}
 use mathlib.Core.Bool.{beq}
-use Rattle.predicates_core.specs.Label.{Label, Entry, plain, Fits, FitsText}
-use Rattle.predicates_core.specs.Formula.{Formula, Formulas, IsLeaf, one, more, Leaf, Join, apply, truth, size, HasTruth}
+use Rattle.std.specs.Prelude.{bytes_eq}
+use Rattle.std.proofs.lemmas.Slice.Eq.{bytes_eq-Decides}
+use Rattle.predicates_core.specs.Label.{Label, Entry, plain, Fits}
+use Rattle.predicates_core.specs.Formula.{Formula, Formulas, one, more, Join, apply, truth, size, HasTruth}
 use Rattle.predicates_core.specs.Tree.{Tree, Forest, empty, branch, forest, add_last}
 use Rattle.predicates_core.specs.Describe.{CaseNode, NamedCase, with_product, with_child}
-use Rattle.predicates_core.specs.Shows.{FitsNode, ShowsPart, Shows, ShowsParts, IsCaseOf, IsNode}
+use Rattle.predicates_core.specs.Shows.{FitsNode, ShowsPart, IsCaseOf, IsNode, left_share, right_share}
+use Rattle.predicates_core.specs.ShowsChange.{ShowsChange, ShowsTurned, ShowsNumbered, are_under, are_alike}
 use Rattle.predicates_core.specs.Change.{IsFirstChange, ExplainsChange, IsChangeOf, IsFoundChange}
-use Rattle.predicates_core.specs.Leaves.{IsExactly}
-use Rattle.predicates_core.specs.Asked.{is_other}
-use Rattle.predicates_core.specs.Several.{decided_by, number_of_first, index_product, numbered, AreOfEach, IsOfEach, IsOfMembers, IsDecidedBy, no_members}
+use Rattle.predicates_core.specs.Leaves.{IsExactly, IsShowing}
+use Rattle.predicates_core.specs.Several.{decided_by, number_of_first, index_product, numbered, AreOfEach, IsOfMembers, IsDecidedBy, no_members}
 use Rattle.predicates_core.specs.Turning.{IsNextNode}
 use Rattle.predicates_core.proofs.Numbers.{shifted}
 use Rattle.predicates_core.proofs.Joins.{joins}
-use Rattle.predicates_core.proofs.Values.{truth-one, truth-more, not-not, same_truths, other_truths}
+use Rattle.predicates_core.proofs.Values.{truth-one, truth-more, not-not, same_truths}
 use Rattle.predicates_core.proofs.Shown.{shows_part, left_share-joined, right_share-joined, left_share-shifted, right_share-shifted, left_share-alone, right_share-alone}
 use Rattle.predicates_core.proofs.CombinedLemmas.{node_fits, node_of_text}
-use Rattle.predicates_core.proofs.Several.{decided, shows_none, itself, not_itself, some_member, all_zip_last, forest-add_last, EachPasses, every_truth, every_number, passes_more, passes_all, members_pass, member_decides}
+use Rattle.predicates_core.proofs.Several.{decided, itself, not_itself, all_zip_last, forest-add_last, EachPasses, every_truth, every_number, passes_more, passes_all, members_pass, member_decides}
 use Rattle.predicates_core.proofs.FirstChange.{LeftTurns, RightTurns, BothTurn, left_first, right_first, both_first}
 use Rattle.predicates_core.proofs.FirstChangeOf.{change-one}
-use Rattle.predicates_core.proofs.ChangeCases.{some_change, change_numbers, leaf_case, change_by_result}
+use Rattle.predicates_core.proofs.ChangeCases.{some_change, change_numbers, exact_leaf, leaf_case, change_by_result}
 use Rattle.predicates_core.proofs.Found.{no_formula}
 
 -- what turns a join where one part with the truth `decides` decides the whole
@@ -40,11 +42,15 @@ turns false = record { all = record { left_stays = refl; right_stays = refl; tur
 abbrev Case : Type 0
 Case = Tree CaseNode
 
--- the cases of those that have one, in order
-abbrev somes : List (Option Case) → List Case
-somes [] = []
-somes (None ∷ os) = somes os
-somes (Some c ∷ os) = c ∷ somes os
+-- the case with the number, the last of its products
+abbrev with_index : ℕ → Case → Case
+with_index k c = with_product c (codes "index", decimal k)
+
+-- the cases of those that have one, in order, each with its number; the first has the number k
+abbrev somes : ℕ → List (Option Case) → List Case
+somes k [] = []
+somes k (None ∷ os) = somes (suc k) os
+somes k (Some c ∷ os) = with_index k c ∷ somes (suc k) os
 
 -- the number of the first that has one
 abbrev first_some : List (Option Case) → Option ℕ
@@ -52,15 +58,24 @@ first_some [] = None
 first_some (None ∷ os) = option_map suc (first_some os)
 first_some (Some c ∷ os) = Some 0
 
-somes-last : (os : List (Option Case)) (c : Case) → somes (os ++ Some c ∷ []) ≡ somes os ++ c ∷ []
-somes-last [] c = refl
-somes-last (None ∷ os) c = somes-last os c
-somes-last (Some d ∷ os) c = ap (λ cs. d ∷ cs) (somes-last os c)
+somes-last : (k : ℕ) (os : List (Option Case)) (c : Case) → somes k (os ++ Some c ∷ []) ≡ somes k os ++ with_index (k + length os) c ∷ []
+somes-last k [] c = ap (λ n. with_index n c ∷ []) (omega arith)
+somes-last k (None ∷ os) c = somes-last (suc k) os c ∙ ap (λ n. somes (suc k) os ++ with_index n c ∷ []) (omega arith)
+somes-last k (Some d ∷ os) c = ap (λ cs. with_index k d ∷ cs) (somes-last (suc k) os c ∙ ap (λ n. somes (suc k) os ++ with_index n c ∷ []) (omega arith))
 
-somes-none : (os : List (Option Case)) → somes (os ++ None ∷ []) ≡ somes os
-somes-none [] = refl
-somes-none (None ∷ os) = somes-none os
-somes-none (Some d ∷ os) = ap (λ cs. d ∷ cs) (somes-none os)
+somes-none : (k : ℕ) (os : List (Option Case)) → somes k (os ++ None ∷ []) ≡ somes k os
+somes-none k [] = refl
+somes-none k (None ∷ os) = somes-none (suc k) os
+somes-none k (Some d ∷ os) = ap (λ cs. with_index k d ∷ cs) (somes-none (suc k) os)
+
+-- none of the formulas is shown where none has a share
+shows_no_change : (k : ℕ) (fs : Formulas) → ShowsTurned true k fs empty []
+unfolding ShowsChange left_share right_share
+shows_no_change k (one name f) = refl
+shows_no_change k (more name f fs) = (empty, refl, shows_no_change (suc k) fs)
+
+same_name : (name : List ℕ) → bytes_eq name name ≡ true
+same_name name = (bytes_eq-Decides name name).1 refl
 
 before : (m : Option ℕ) (k : ℕ) → option_map suc m ≡ Some k → (j : ℕ) × (m ≡ Some j) × (k ≡ suc j)
 before None k e = absurd (cc)
@@ -79,56 +94,68 @@ module _ (decides : Bool) {U : Type 0} (name : List ℕ) (has : U → Formula �
   abbrev AreTurns : List U → List (Option Case) → Type 0
   AreTurns us os = AllZip IsTurnOf us os
 
-  -- leaves that are the first change of the node over the formulas, and that the cases show
-  abbrev AreTurned : Label → Formulas → List NamedCase → Type 0
-  AreTurned label fs cases = (leaves : List ℕ) × IsFirstChange (Join (decided_by decides) label fs) leaves × ShowsParts fs (forest cases) leaves
+  -- all members are under the name
+  members_under : (us : List U) (fs : Formulas) → AreOfEach name has us fs → are_under name fs ≡ true
+  members_under [] fs of = absurd of
+  members_under (u ∷ us) (one n f) of = rw of.0 (same_name name)
+  members_under (u ∷ us) (more n f fs) of = rw (of.0, same_name name, members_under us fs of.2) refl
+
+  members_alike : (us : List U) (fs : Formulas) → AreOfEach name has us fs → are_alike fs ≡ true
+  members_alike [] fs of = absurd of
+  members_alike (u ∷ us) (one n f) of = refl
+  members_alike (u ∷ us) (more n f fs) of = rw of.0 (members_under us fs of.2)
+
+  -- leaves that are the first change of the node over the formulas, and that the cases show; the
+  -- first formula has the number k
+  abbrev AreTurned : Label → ℕ → Formulas → List NamedCase → Type 0
+  AreTurned label k fs cases = (leaves : List ℕ) × IsFirstChange (Join (decided_by decides) label fs) leaves × ShowsTurned true k fs (forest cases) leaves
 
   abbrev named : List Case → List NamedCase
   named cs = map (λ c. (name, c)) cs
 
-  -- a formula that is shown under its own name is shown under the name
-  part_turned : {n : List ℕ} {f : Formula} {c : Case} (rest : Forest CaseNode) → n ≡ name → (x : ExplainsChange f c) → ShowsPart (Shows f) n x.leaves (branch name c.root c.children rest) rest
-  part_turned {n} {f} {c} rest e x = subst (λ z. ShowsPart (Shows f) n x.leaves (branch z c.root c.children rest) rest) e (shows_part (Shows f) n rest x.leaves c (some_change f x.leaves x.first) x.shown)
+  -- a formula that is shown under its own name is shown under the name, with its number
+  part_turned : {n : List ℕ} {f : Formula} {c : Case} (k : ℕ) (rest : Forest CaseNode) → n ≡ name → (x : ExplainsChange f c) → ShowsPart (ShowsNumbered true k (ShowsChange f)) n x.leaves (branch name (with_index k c).root c.children rest) rest
+  part_turned {n} {f} {c} k rest e x = subst (λ z. ShowsPart (ShowsNumbered true k (ShowsChange f)) n x.leaves (branch z (with_index k c).root c.children rest) rest) e (shows_part (ShowsNumbered true k (ShowsChange f)) n rest x.leaves (with_index k c) (some_change f x.leaves x.first) (c, refl, x.shown))
 
   -- the first part alone is turned
-  left_turned : (label : Label) (n : List ℕ) (f : Formula) (fs : Formulas) (c : Case) → LeftTurns (apply (decided_by decides)) (truth f) (truth (Join (decided_by decides) label fs)) → n ≡ name → ExplainsChange f c → AreTurned label (more n f fs) ((name, c) ∷ [])
-  unfolding Shows
-  left_turned label n f fs c t e x =
+  left_turned : (label : Label) (k : ℕ) (n : List ℕ) (f : Formula) (fs : Formulas) (c : Case) → LeftTurns (apply (decided_by decides)) (truth f) (truth (Join (decided_by decides) label fs)) → n ≡ name → ExplainsChange f c → AreTurned label k (more n f fs) ((name, with_index k c) ∷ [])
+  unfolding ShowsChange
+  left_turned label k n f fs c t e x =
       let numbers = change_numbers f x.leaves x.first in (
         x.leaves,
         left_first (joins (decided_by decides) label n f fs) t x.leaves x.first,
         (
           empty,
-          subst (λ s. ShowsPart (Shows f) n s (branch name c.root c.children empty) empty) (sym (left_share-alone (size f) x.leaves numbers)) (part_turned empty e x),
-          subst (ShowsParts fs empty) (sym (right_share-alone (size f) x.leaves numbers)) (shows_none fs),
+          subst (λ s. ShowsPart (ShowsNumbered true k (ShowsChange f)) n s (branch name (with_index k c).root c.children empty) empty) (sym (left_share-alone (size f) x.leaves numbers)) (part_turned k empty e x),
+          subst (ShowsTurned true (suc k) fs empty) (sym (right_share-alone (size f) x.leaves numbers)) (shows_no_change (suc k) fs),
         ),
       )
 
-  one_turned : (label : Label) (n : List ℕ) (f : Formula) (c : Case) → n ≡ name → ExplainsChange f c → AreTurned label (one n f) ((name, c) ∷ [])
-  unfolding Shows
-  one_turned label n f c e x = (x.leaves, change-one (decided_by decides) label n f x.leaves x.first, part_turned empty e x)
+  one_turned : (label : Label) (k : ℕ) (n : List ℕ) (f : Formula) (c : Case) → n ≡ name → ExplainsChange f c → AreTurned label k (one n f) ((name, with_index k c) ∷ [])
+  unfolding ShowsChange
+  one_turned label k n f c e x = (x.leaves, change-one (decided_by decides) label n f x.leaves x.first, part_turned k empty e x)
 
   -- the node over the formulas has the truth, the number of its first member that decides, and these
   -- cases show what turns it
-  abbrev IsAllTurned : Label → Formulas → ℕ → List Case → Type 0
-  IsAllTurned label fs k cs = (truth (Join (decided_by decides) label fs) ≡ decides) × (number_of_first decides fs ≡ Some k) × AreTurned label fs (named cs)
+  abbrev IsAllTurned : Label → ℕ → Formulas → ℕ → List Case → Type 0
+  IsAllTurned label k fs number cs = (truth (Join (decided_by decides) label fs) ≡ decides) × (number_of_first decides fs ≡ Some number) × AreTurned label k fs (named cs)
 
   truth_of_more : (label : Label) (n : List ℕ) (f : Formula) (fs : Formulas) (a b : Bool) → truth f ≡ a → truth (Join (decided_by decides) label fs) ≡ b → truth (Join (decided_by decides) label (more n f fs)) ≡ apply (decided_by decides) a b
   truth_of_more label n f fs a b ea eb = truth-more (decided_by decides) label n f fs ∙ (λ i. apply (decided_by decides) (ea i) (eb i))
 
-  module _ (label : Label) (n : List ℕ) (f : Formula) (fs : Formulas) (is : n ≡ name) where
+  module _ (label : Label) (k : ℕ) (n : List ℕ) (f : Formula) (fs : Formulas) (is : n ≡ name) where
     -- the first alone decides
-    only_first : (c : Case) → truth f ≡ decides → truth (Join (decided_by decides) label fs) ≡ not decides → ExplainsChange f c → IsAllTurned label (more n f fs) 0 (c ∷ [])
+    only_first : (c : Case) → truth f ≡ decides → truth (Join (decided_by decides) label fs) ≡ not decides → ExplainsChange f c → IsAllTurned label k (more n f fs) 0 (with_index k c ∷ [])
     only_first c d rest x = (
       truth_of_more label n f fs decides (not decides) d rest ∙ (decided decides).settles (not decides),
       rw (d, itself decides) refl,
-      left_turned label n f fs c (rw (d, rest) (turns decides).only) is x,
+      left_turned label k n f fs c (rw (d, rest) (turns decides).only) is x,
     )
 
     -- the first decides, and so do others
-    and_first : (c : Case) (k : ℕ) (cs : List Case) → truth f ≡ decides → ExplainsChange f c → IsAllTurned label fs k cs → IsAllTurned label (more n f fs) 0 (c ∷ cs)
-    unfolding Shows
-    and_first c k cs d x ih =
+    and_first : (c : Case) (number : ℕ) (cs : List Case) → truth f ≡ decides → ExplainsChange f c → IsAllTurned label (suc k) fs number cs → IsAllTurned label k (more n f fs) 0 (with_index k c ∷ cs)
+    unfolding ShowsChange
+    and_first c number cs d x ih =
         let numbers = change_numbers f x.leaves x.first in
         let children = forest (named cs) in
         let other = ih.2.0 in (
@@ -139,16 +166,16 @@ module _ (decides : Bool) {U : Type 0} (name : List ℕ) (has : U → Formula �
             both_first (joins (decided_by decides) label n f fs) (rw (d, ih.0) (turns decides).all) x.leaves other x.first ih.2.1,
             (
               children,
-              subst (λ s. ShowsPart (Shows f) n s (branch name c.root c.children children) children) (sym (left_share-joined 0 (size f) x.leaves other numbers)) (part_turned children is x),
-              subst (ShowsParts fs children) (sym (right_share-joined 0 (size f) x.leaves other numbers)) ih.2.2,
+              subst (λ s. ShowsPart (ShowsNumbered true k (ShowsChange f)) n s (branch name (with_index k c).root c.children children) children) (sym (left_share-joined 0 (size f) x.leaves other numbers)) (part_turned k children is x),
+              subst (ShowsTurned true (suc k) fs children) (sym (right_share-joined 0 (size f) x.leaves other numbers)) ih.2.2,
             ),
           ),
         )
 
     -- only others decide
-    only_others : (k : ℕ) (cs : List Case) → truth f ≡ not decides → IsAllTurned label fs k cs → IsAllTurned label (more n f fs) (suc k) cs
-    unfolding Shows
-    only_others k cs d ih =
+    only_others : (number : ℕ) (cs : List Case) → truth f ≡ not decides → IsAllTurned label (suc k) fs number cs → IsAllTurned label k (more n f fs) (suc number) cs
+    unfolding ShowsChange
+    only_others number cs d ih =
         let children = forest (named cs) in
         let other = ih.2.0 in (
           truth_of_more label n f fs (not decides) decides d ih.0 ∙ (decided decides).passes decides,
@@ -158,25 +185,25 @@ module _ (decides : Bool) {U : Type 0} (name : List ℕ) (has : U → Formula �
             right_first (joins (decided_by decides) label n f fs) (rw (d, ih.0) (turns decides).later) other ih.2.1,
             (
               children,
-              subst (λ s. ShowsPart (Shows f) n s children children) (sym (left_share-shifted (size f) other)) refl,
-              subst (ShowsParts fs children) (sym (right_share-shifted (size f) other)) ih.2.2,
+              subst (λ s. ShowsPart (ShowsNumbered true k (ShowsChange f)) n s children children) (sym (left_share-shifted (size f) other)) refl,
+              subst (ShowsTurned true (suc k) fs children) (sym (right_share-shifted (size f) other)) ih.2.2,
             ),
           ),
         )
 
   -- either a member decides, or none does
-  abbrev SomeTurns : List U → List (Option Case) → Type 0
-  SomeTurns us os = ((k : ℕ) × (first_some os ≡ Some k)) ⊎ ((somes os ≡ []) × EachPasses decides name has us)
+  abbrev SomeTurns : ℕ → List U → List (Option Case) → Type 0
+  SomeTurns k us os = ((number : ℕ) × (first_some os ≡ Some number)) ⊎ ((somes k os ≡ []) × EachPasses decides name has us)
 
-  some_turns : (us : List U) (os : List (Option Case)) → AreTurns us os → SomeTurns us os
-  some_turns [] [] h = inr (refl, tt)
-  some_turns [] (o ∷ os) h = absurd h
-  some_turns (u ∷ us) [] h = absurd h
-  some_turns (u ∷ us) (Some c ∷ os) h = inl (0, refl)
-  some_turns (u ∷ us) (None ∷ os) h = ⊎_elim
+  some_turns : (k : ℕ) (us : List U) (os : List (Option Case)) → AreTurns us os → SomeTurns k us os
+  some_turns k [] [] h = inr (refl, tt)
+  some_turns k [] (o ∷ os) h = absurd h
+  some_turns k (u ∷ us) [] h = absurd h
+  some_turns k (u ∷ us) (Some c ∷ os) h = inl (0, refl)
+  some_turns k (u ∷ us) (None ∷ os) h = ⊎_elim
       (λ a. inl (suc a.0, ap (option_map suc) a.1))
       (λ b. inr (b.0, (h.0, b.1)))
-      (some_turns us os h.1)
+      (some_turns (suc k) us os h.1)
 
   no_turns : (us : List U) (os : List (Option Case)) → us ≡ [] → AreTurns us os → os ≡ []
   no_turns [] [] e h = refl
@@ -184,37 +211,47 @@ module _ (decides : Bool) {U : Type 0} (name : List ℕ) (has : U → Formula �
   no_turns (u ∷ us) os e h = absurd (cc)
 
   -- of the members that decide, all are turned
-  all_turned : (label : Label) (us : List U) (fs : Formulas) (os : List (Option Case)) (k : ℕ) → AreOfEach name has us fs → AreTurns us os → first_some os ≡ Some k → IsAllTurned label fs k (somes os)
-  all_turned label [] fs os k of h some = absurd of
-  all_turned label (u ∷ us) fs [] k of h some = absurd h
-  all_turned label (u ∷ us) (one n f) (None ∷ os) k of h some =
+  all_turned : (label : Label) (k : ℕ) (us : List U) (fs : Formulas) (os : List (Option Case)) (number : ℕ) → AreOfEach name has us fs → AreTurns us os → first_some os ≡ Some number → IsAllTurned label k fs number (somes k os)
+  all_turned label k [] fs os number of h some = absurd of
+  all_turned label k (u ∷ us) fs [] number of h some = absurd h
+  all_turned label k (u ∷ us) (one n f) (None ∷ os) number of h some =
       let none : first_some os ≡ None = ap first_some (no_turns us os of.2 h.1) in
       absurd (cc)
-  all_turned label (u ∷ us) (one n f) (Some c ∷ os) k of h some =
-      let none : somes os ≡ [] = ap somes (no_turns us os of.2 h.1) in
+  all_turned label k (u ∷ us) (one n f) (Some c ∷ os) number of h some =
+      let none : somes (suc k) os ≡ [] = ap (somes (suc k)) (no_turns us os of.2 h.1) in
       let d : truth f ≡ decides = h.0.truth.at f of.1 in
-      subst (λ cs. IsAllTurned label (one n f) k (c ∷ cs)) (sym none) (
+      subst (λ cs. IsAllTurned label k (one n f) number (with_index k c ∷ cs)) (sym none) (
         truth-one (decided_by decides) label n f ∙ d,
         rw (d, itself decides) some,
-        one_turned label n f c of.0 (h.0.explains f of.1),
+        one_turned label k n f c of.0 (h.0.explains f of.1),
       )
-  all_turned label (u ∷ us) (more n f fs) (None ∷ os) k of h some =
-      let b = before (first_some os) k some in
-      subst (λ m. IsAllTurned label (more n f fs) m (somes os)) (sym b.2) (only_others label n f fs of.0 b.0 (somes os) (h.0.at f of.1) (all_turned label us fs os b.0 of.2 h.1 b.1))
-  all_turned label (u ∷ us) (more n f fs) (Some c ∷ os) k of h some =
-      let at : 0 ≡ k = cc in
+  all_turned label k (u ∷ us) (more n f fs) (None ∷ os) number of h some =
+      let b = before (first_some os) number some in
+      subst (λ m. IsAllTurned label k (more n f fs) m (somes (suc k) os)) (sym b.2) (only_others label k n f fs of.0 b.0 (somes (suc k) os) (h.0.at f of.1) (all_turned label (suc k) us fs os b.0 of.2 h.1 b.1))
+  all_turned label k (u ∷ us) (more n f fs) (Some c ∷ os) number of h some =
+      let at : 0 ≡ number = cc in
       let d : truth f ≡ decides = h.0.truth.at f of.1 in
       let x : ExplainsChange f c = h.0.explains f of.1 in
-      subst (λ m. IsAllTurned label (more n f fs) m (c ∷ somes os)) at (⊎_elim
-      (λ a. and_first label n f fs of.0 c a.0 (somes os) d x (all_turned label us fs os a.0 of.2 h.1 a.1))
-      (λ b. subst (λ cs. IsAllTurned label (more n f fs) 0 (c ∷ cs)) (sym b.0) (only_first label n f fs of.0 c d (every_truth decides name has label us fs of.2 b.1) x))
-      (some_turns us os h.1))
+      subst (λ m. IsAllTurned label k (more n f fs) m (with_index k c ∷ somes (suc k) os)) at (⊎_elim
+      (λ a. and_first label k n f fs of.0 c a.0 (somes (suc k) os) d x (all_turned label (suc k) us fs os a.0 of.2 h.1 a.1))
+      (λ b. subst (λ cs. IsAllTurned label k (more n f fs) 0 (with_index k c ∷ cs)) (sym b.0) (only_first label k n f fs of.0 c d (every_truth decides name has label us fs of.2 b.1) x))
+      (some_turns (suc k) us os h.1))
 
   -- no member decides, and the first is turned
-  first_turned : (label : Label) (u : U) (us : List U) (fs : Formulas) (c : Case) → AreOfEach name has (u ∷ us) fs → IsChangeOf (has u) (not decides) c → EachPasses decides name has us → AreTurned label fs ((name, c) ∷ [])
-  first_turned label u us (one n f) c of x h = one_turned label n f c of.0 (x.explains f of.1)
+  first_turned : (label : Label) (u : U) (us : List U) (fs : Formulas) (c : Case) → AreOfEach name has (u ∷ us) fs → IsChangeOf (has u) (not decides) c → EachPasses decides name has us → AreTurned label 0 fs ((name, with_index 0 c) ∷ [])
+  first_turned label u us (one n f) c of x h = one_turned label 0 n f c of.0 (x.explains f of.1)
   first_turned label u us (more n f fs) c of x h =
-      left_turned label n f fs c (rw (x.truth.at f of.1, every_truth decides name has label us fs of.2 h) (turns decides).any) of.0 (x.explains f of.1)
+      left_turned label 0 n f fs c (rw (x.truth.at f of.1, every_truth decides name has label us fs of.2 h) (turns decides).any) of.0 (x.explains f of.1)
+
+  -- the members' cases tell their numbers
+  told : (k : ℕ) {c t : Case} → IsShowing (codes "index") (Some (decimal k)) c t → t ≡ with_index k c
+  told k {c} s = s.is ∙ ap (λ bytes. with_product c (codes "index", bytes)) s.fits
+
+  length_turns : (us : List U) (os : List (Option Case)) → AreTurns us os → length os ≡ length us
+  length_turns [] [] h = refl
+  length_turns [] (o ∷ os) h = absurd h
+  length_turns (u ∷ us) [] h = absurd h
+  length_turns (u ∷ us) (o ∷ os) h = ap suc (length_turns us os h.1)
 
   module _ (text : Entry) where
     -- a node over the changes of the members that decide, with the number of the first
@@ -230,7 +267,7 @@ module _ (decides : Bool) {U : Type 0} (name : List ℕ) (has : U → Formula �
       pub shown : List ℕ
       pub shows : Fits (Some (decimal number)) shown
       pub products : t.root.products ≡ (codes "index", shown) ∷ []
-      pub children : t.children ≡ forest (named (somes turns))
+      pub children : t.children ≡ forest (named (somes 0 turns))
 
     -- what is found of the first members
     abbrev pub IsTurned : List U → Option Case → Type 0
@@ -238,14 +275,14 @@ module _ (decides : Bool) {U : Type 0} (name : List ℕ) (has : U → Formula �
     IsTurned us (Some t) = IsTurning us t
 
     change_of_turning : {us : List U} {t : Case} → us ≢ [] → IsTurning us t → IsChangeOf (IsOfMembers decides text name has us) decides t
-    unfolding Shows
+    unfolding ShowsChange
     change_of_turning {us} {t} some b = record {
-      truth = record { at = λ f p. let q = p.of_some some in ap truth q.is ∙ (all_turned (numbered text decides q.formulas) us q.formulas b.turns b.number q.of_each b.are b.is_first).0 };
+      truth = record { at = λ f p. let q = p.of_some some in ap truth q.is ∙ (all_turned (numbered text decides q.formulas) 0 us q.formulas b.turns b.number q.of_each b.are b.is_first).0 };
       explains = λ f p.
           let q = p.of_some some in
           let fs = q.formulas in
           let label = numbered text decides fs in
-          let x = all_turned label us fs b.turns b.number q.of_each b.are b.is_first in
+          let x = all_turned label 0 us fs b.turns b.number q.of_each b.are b.is_first in
           let fit : FitsNode label (truth (Join (decided_by decides) label fs)) t.root = record {
             text = (b.bytes, b.printed, b.fits);
             result = b.outcome ∙ sym x.0;
@@ -254,7 +291,7 @@ module _ (decides : Bool) {U : Type 0} (name : List ℕ) (has : U → Formula �
           subst (λ g. ExplainsChange g t) (sym q.is) (record {
             leaves = x.2.0;
             first = x.2.1;
-            shown = (fit, subst (λ ch. ShowsParts fs ch x.2.0) (sym b.children) x.2.2);
+            shown = (fit, subst (λ tells. ShowsTurned tells 0 fs t.children x.2.0) (sym (members_alike us fs q.of_each)) (subst (λ ch. ShowsTurned true 0 fs ch x.2.0) (sym b.children) x.2.2));
           });
     }
 
@@ -274,24 +311,27 @@ module _ (decides : Bool) {U : Type 0} (name : List ℕ) (has : U → Formula �
       shown = h.shown;
       shows = h.shows;
       products = h.products;
-      children = h.children ∙ ap (λ cs. forest (named cs)) (sym (somes-none h.turns));
+      children = h.children ∙ ap (λ cs. forest (named cs)) (sym (somes-none 0 h.turns));
     }
 
-    turned_more : (us : List U) {k : ℕ} {u : U} {c s : Case} (t : Case) → k < length us → u ≡ get_or us k u → IsTurned (take k us) (Some t) → IsChangeOf (has u) decides c → s ≡ with_child t name c → IsTurned (take (k + 1) us) (Some s)
-    turned_more us {k} {u} {c} {s} t within is h x e = rw e (record {
-      turns = h.turns ++ Some c ∷ [];
-      are = subst (λ z. AreTurns z (h.turns ++ Some c ∷ [])) (ap (λ z. take k us ++ z ∷ []) is ∙ sym (take_more us k u within)) (all_zip_last _ (take k us) h.turns h.are x);
-      number = h.number;
-      is_first = first_some-kept h.turns (Some c) h.number h.is_first;
-      bytes = h.bytes;
-      fits = h.fits;
-      printed = h.printed;
-      outcome = h.outcome;
-      shown = h.shown;
-      shows = h.shows;
-      products = h.products;
-      children = ap (λ f. add_last f name c) h.children ∙ forest-add_last (named (somes h.turns)) name c ∙ ap forest (sym (map-append (λ d. (name, d)) (somes h.turns) (c ∷ [])) ∙ ap named (sym (somes-last h.turns c)));
-    })
+    turned_more : (us : List U) {k : ℕ} {u : U} {c d s : Case} (t : Case) → k < length us → u ≡ get_or us k u → IsTurned (take k us) (Some t) → IsChangeOf (has u) decides c → IsShowing (codes "index") (Some (decimal k)) c d → s ≡ with_child t name d → IsTurned (take (k + 1) us) (Some s)
+    turned_more us {k} {u} {c} {d} {s} t within is h x tells e =
+        let at : 0 + length h.turns ≡ k = omega (arith, length_turns (take k us) h.turns h.are, length-take-le k us (omega (arith, within))) in
+        let last : somes 0 h.turns ++ d ∷ [] ≡ somes 0 (h.turns ++ Some c ∷ []) = ap (λ z. somes 0 h.turns ++ z ∷ []) (told k tells ∙ ap (λ n. with_index n c) (sym at)) ∙ sym (somes-last 0 h.turns c) in
+        rw e (record {
+          turns = h.turns ++ Some c ∷ [];
+          are = subst (λ z. AreTurns z (h.turns ++ Some c ∷ [])) (ap (λ z. take k us ++ z ∷ []) is ∙ sym (take_more us k u within)) (all_zip_last _ (take k us) h.turns h.are x);
+          number = h.number;
+          is_first = first_some-kept h.turns (Some c) h.number h.is_first;
+          bytes = h.bytes;
+          fits = h.fits;
+          printed = h.printed;
+          outcome = h.outcome;
+          shown = h.shown;
+          shows = h.shows;
+          products = h.products;
+          children = ap (λ f. add_last f name d) h.children ∙ forest-add_last (named (somes 0 h.turns)) name d ∙ ap forest (sym (map-append (λ z. (name, z)) (somes 0 h.turns) (d ∷ [])) ∙ ap named last);
+        })
 
     -- the passed members, none of which has a change, and the first that has one
     abbrev nones : List U → List (Option Case)
@@ -302,35 +342,37 @@ module _ (decides : Bool) {U : Type 0} (name : List ℕ) (has : U → Formula �
     are_nones [] h = tt
     are_nones (u ∷ us) h = (h.0, are_nones us h.1)
 
-    somes-nones : (us : List U) (c : Case) → somes (nones us ++ Some c ∷ []) ≡ c ∷ []
-    somes-nones [] c = refl
-    somes-nones (u ∷ us) c = somes-nones us c
+    somes-nones : (k : ℕ) (us : List U) (c : Case) → somes k (nones us ++ Some c ∷ []) ≡ with_index (k + length us) c ∷ []
+    somes-nones k [] c = ap (λ n. with_index n c ∷ []) (omega arith)
+    somes-nones k (u ∷ us) c = somes-nones (suc k) us c ∙ ap (λ n. with_index n c ∷ []) (omega arith)
 
     first-nones : (us : List U) (c : Case) → first_some (nones us ++ Some c ∷ []) ≡ Some (length us)
     first-nones [] c = refl
     first-nones (u ∷ us) c = ap (option_map suc) (first-nones us c)
 
-    turned_first : (us : List U) {k : ℕ} {u : U} {c t : Case} → k < length us → u ≡ get_or us k u → EachPasses decides name has (take k us) → IsChangeOf (has u) decides c → IsDecidedBy decides text name k c t → IsTurned (take (k + 1) us) (Some t)
-    turned_first us {k} {u} {c} {t} within is h x d =
+    turned_first : (us : List U) {k : ℕ} {u : U} {c d t : Case} → k < length us → u ≡ get_or us k u → EachPasses decides name has (take k us) → IsChangeOf (has u) decides c → IsShowing (codes "index") (Some (decimal k)) c d → IsDecidedBy decides text name k d t → IsTurned (take (k + 1) us) (Some t)
+    turned_first us {k} {u} {c} {d} {t} within is h x tells by =
         let os = nones (take k us) ++ Some c ∷ [] in
-        rw d.numbers.is (record {
+        let before : length (take k us) ≡ k = length-take-le k us (omega (arith, within)) in
+        let only : d ∷ [] ≡ somes 0 os = ap (λ z. z ∷ []) (told k tells ∙ ap (λ n. with_index n c) (omega (arith, before))) ∙ sym (somes-nones 0 (take k us) c) in
+        rw by.numbers.is (record {
           turns = os;
           are = subst (λ z. AreTurns z os) (ap (λ z. take k us ++ z ∷ []) is ∙ sym (take_more us k u within)) (all_zip_last _ (take k us) (nones (take k us)) (are_nones (take k us) h) x);
           number = k;
-          is_first = first-nones (take k us) c ∙ ap Some (length-take-le k us (omega (arith, within)));
-          bytes = d.bytes;
-          fits = d.fits;
-          printed = d.written.text.1 ∙ ap Some d.written.text.2;
-          outcome = d.written.result;
-          shown = d.numbers.bytes;
-          shows = d.numbers.fits;
-          products = ap (λ ps. ps ++ (codes "index", d.numbers.bytes) ∷ []) d.written.products;
-          children = d.written.children ∙ ap (λ cs. forest (named cs)) (sym (somes-nones (take k us) c));
+          is_first = first-nones (take k us) c ∙ ap Some before;
+          bytes = by.bytes;
+          fits = by.fits;
+          printed = by.written.text.1 ∙ ap Some by.written.text.2;
+          outcome = by.written.result;
+          shown = by.numbers.bytes;
+          shows = by.numbers.fits;
+          products = ap (λ ps. ps ++ (codes "index", by.numbers.bytes) ∷ []) by.written.products;
+          children = by.written.children ∙ ap (λ cs. forest (named cs)) only;
         })
 
-    pub turned_next : (us : List U) {k : ℕ} {u : U} {c s : Case} (o : Option Case) → k < length us → u ≡ get_or us k u → IsTurned (take k us) o → IsChangeOf (has u) decides c → IsNextNode decides text name k o c s → IsTurned (take (k + 1) us) (Some s)
-    turned_next us None within is h x d = turned_first us within is h x d
-    turned_next us (Some t) within is h x e = turned_more us t within is h x e
+    pub turned_next : (us : List U) {k : ℕ} {u : U} {c d s : Case} (o : Option Case) → k < length us → u ≡ get_or us k u → IsTurned (take k us) o → IsChangeOf (has u) decides c → IsShowing (codes "index") (Some (decimal k)) c d → IsNextNode decides text name k o d s → IsTurned (take (k + 1) us) (Some s)
+    turned_next us None within is h x tells by = turned_first us within is h x tells by
+    turned_next us (Some t) within is h x tells e = turned_more us t within is h x tells e
 
     -- ---- the whole
 
@@ -347,10 +389,11 @@ module _ (decides : Bool) {U : Type 0} (name : List ℕ) (has : U → Formula �
     found_turned (u ∷ us) (Some t) h = change_of_turning (λ e. cc) h
 
     -- no member decides: the first one's change is the whole's
-    pub change_of_first : (u : U) (us : List U) {c t : Case} {bytes : List ℕ} → IsNode (Some bytes) (not decides) ((name, c) ∷ []) t → Fits text bytes → IsChangeOf (has u) (not decides) c → EachPasses decides name has us → IsChangeOf (IsOfMembers decides text name has (u ∷ us)) (not decides) t
-    unfolding Shows
-    change_of_first u us {c} {t} written fits x h =
-        let node : IsNode text (not decides) ((name, c) ∷ []) t = node_of_text written fits in
+    pub change_of_first : (u : U) (us : List U) {c d t : Case} {bytes : List ℕ} → IsNode (Some bytes) (not decides) ((name, d) ∷ []) t → Fits text bytes → IsChangeOf (has u) (not decides) c → IsShowing (codes "index") (Some (decimal 0)) c d → EachPasses decides name has us → IsChangeOf (IsOfMembers decides text name has (u ∷ us)) (not decides) t
+    unfolding ShowsChange
+    change_of_first u us {c} {d} {t} written fits x tells h =
+        let node : IsNode text (not decides) ((name, d) ∷ []) t = node_of_text written fits in
+        let children : t.children ≡ forest ((name, with_index 0 c) ∷ []) = node.children ∙ ap (λ z. forest ((name, z) ∷ [])) (told 0 tells) in
         let passes : EachPasses decides name has (u ∷ us) = (x.truth, h) in
         record {
           truth = members_pass decides name has (u ∷ us) passes;
@@ -365,13 +408,13 @@ module _ (decides : Bool) {U : Type 0} (name : List ℕ) (has : U → Formula �
               subst (λ g. ExplainsChange g t) (sym q.is) (record {
                 leaves = y.0;
                 first = y.1;
-                shown = (fit, subst (λ ch. ShowsParts fs ch y.0) (sym node.children) y.2);
+                shown = (fit, subst (λ tells. ShowsTurned tells 0 fs t.children y.0) (sym (members_alike (u ∷ us) fs q.of_each)) (subst (λ ch. ShowsTurned true 0 fs ch y.0) (sym children) y.2));
               });
         }
 
     pub change_of_no_member : {us : List U} {t : Case} → us ≡ [] → IsCaseOf (IsExactly (no_members text (not decides))) (not decides) t → IsChangeOf (IsOfMembers decides text name has us) (not decides) t
     change_of_no_member e h =
-        let x = leaf_case (λ f p. subst IsLeaf (sym p.is) tt) h in
+        let x = leaf_case exact_leaf h in
         record {
           truth = record { at = λ f p. x.truth.at f (p.of_none e) };
           explains = λ f p. x.explains f (p.of_none e);
@@ -385,8 +428,8 @@ module _ (decides : Bool) {U : Type 0} (name : List ℕ) (has : U → Formula �
     pub later_decides : (us : List U) {u v : U} {rest : List U} {k : ℕ} {b : Bool} → us ≡ u ∷ rest → HasTruth (has u) (not decides) → k < length rest → v ≡ get_or rest k v → EachPasses decides name has (take k rest) → HasTruth (has v) b → beq b decides ≡ true → HasTruth (IsOfMembers decides text name has us) (not (not decides))
     later_decides us {u} {v} {rest} {k} {b} e x within is h y same = rw (e, not-not decides) (member_decides decides name has {us = u ∷ rest} {k = suc k} {u = v} (record { within = omega (arith, within); is = is; before = (x, h) }) (subst (HasTruth (has v)) (same_truths b decides same) y))
 
-    pub change_of_only_first : (us : List U) {u : U} {rest : List U} {k : ℕ} {c t : Case} {bytes : List ℕ} → us ≡ u ∷ rest → length rest ≤ k → EachPasses decides name has (take k rest) → IsNode (Some bytes) (not decides) ((name, c) ∷ []) t → Fits text bytes → IsChangeOf (has u) (not decides) c → IsChangeOf (IsOfMembers decides text name has us) (not decides) t
-    change_of_only_first us {u} {rest} {k} e all h written fits x = rw e (change_of_first u rest written fits x (passes_all _ rest k all h))
+    pub change_of_only_first : (us : List U) {u : U} {rest : List U} {k : ℕ} {c d t : Case} {bytes : List ℕ} → us ≡ u ∷ rest → length rest ≤ k → EachPasses decides name has (take k rest) → IsNode (Some bytes) (not decides) ((name, d) ∷ []) t → Fits text bytes → IsChangeOf (has u) (not decides) c → IsShowing (codes "index") (Some (decimal 0)) c d → IsChangeOf (IsOfMembers decides text name has us) (not decides) t
+    change_of_only_first us {u} {rest} {k} e all h written fits x tells = rw e (change_of_first u rest written fits x tells (passes_all _ rest k all h))
 
     -- ---- what is wanted
 

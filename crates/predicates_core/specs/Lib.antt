@@ -10,6 +10,7 @@ pub use Rattle.predicates_reflection.specs.Ownership
 pub mod Formula
 pub mod Reason
 pub mod Shows
+pub mod ShowsChange
 pub mod Change
 pub mod Combined
 pub mod Asked

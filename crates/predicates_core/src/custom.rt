@@ -20,8 +20,11 @@ pub use changes::{join_change, leaf_change, named_change, not_change};
 pub use children::{one_child, two_children};
 pub use join::{Operator, is_other, join_case, join_explained, join_truth, kept_if, shown_verdict};
 pub use leaf_cases::{absent_case, bare_case, showing_case};
-pub use list_changes::{members_change, parts_change};
-pub use members::{members_case, members_explained, members_hold};
+pub use list_changes::{members_change, next_change, parts_change};
+pub use members::{
+    deciding_case, is_deciding, is_wanted, members_case, members_explained, members_hold,
+    no_member, with_index,
+};
 pub use named::{named_case, named_explained};
 pub use not::{not_case, not_explained, opposite_of};
 pub use parts::{each_child, parts_case, parts_explained, parts_hold};

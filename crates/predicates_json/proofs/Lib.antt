@@ -2,7 +2,6 @@ pub mod Written
 pub mod Escapes
 pub mod Steps
 pub mod PointerCases
-pub mod PresentChanges
 pub mod PointerChanges
 pub mod NullCases
 pub mod Pointed

@@ -1,25 +1,15 @@
 -- What would turn a predicate of what stands at a pointer, from what would turn the part.
 use Rattle.std.proofs.Common.{◌≡◌, ℕ, Bool, List, [], ◌∷◌, Option, Some, None, codes, sym, ap, ◌∙◌, subst}
-use Rattle.predicates_core.specs.Label.{plain, Fits}
+use Rattle.predicates_core.specs.Label.{Fits}
 use Rattle.predicates_core.specs.Formula.{Formula, truth, HasTruth}
-use Rattle.predicates_core.specs.Tree.{Tree, empty}
+use Rattle.predicates_core.specs.Tree.{Tree}
 use Rattle.predicates_core.specs.Describe.{CaseNode}
-use Rattle.predicates_core.specs.Shows.{ShowsPart, Shows, IsNode}
+use Rattle.predicates_core.specs.Shows.{IsNode}
 use Rattle.predicates_core.specs.Change.{ExplainsChange, IsChangeOf, IsFoundChange}
-use Rattle.predicates_core.proofs.ChangeCases.{change_by_result, some_change}
-use Rattle.predicates_core.proofs.FirstChangeOf.{change-Named}
-use Rattle.predicates_core.proofs.Shown.{shows_part}
-use Rattle.predicates_core.proofs.CombinedLemmas.{node_fits, node_of_text}
+use Rattle.predicates_core.proofs.ChangeCases.{change_by_result, named_change}
+use Rattle.predicates_core.proofs.CombinedLemmas.{node_of_text}
 use Rattle.predicates_json.specs.Pointer.{at_formula, IsAt}
 use Rattle.predicates_json.proofs.PointerCases.{HasTruth-at}
-
-explains_change_at : (pointer : List ℕ) (inner : Formula) (b : Bool) (t c : Tree CaseNode) → ExplainsChange inner c → IsNode (Some pointer) b ((codes "value", c) ∷ []) t → truth (at_formula pointer inner) ≡ b → ExplainsChange (at_formula pointer inner) t
-unfolding Shows
-explains_change_at pointer inner b t c x node e = record {
-  leaves = x.leaves;
-  first = change-Named (plain (Some pointer)) (codes "value") inner x.leaves x.first;
-  shown = (node_fits (Some pointer) b _ _ t node e, subst (λ ch. ShowsPart (Shows inner) (codes "value") x.leaves ch empty) (sym node.children) (shows_part (Shows inner) (codes "value") empty x.leaves c (some_change inner x.leaves x.first) x.shown));
-}
 
 IsChangeOf-at : {pointer bytes : List ℕ} {part : Formula → Type 0} {b : Bool} {c t : Tree CaseNode} → IsNode (Some bytes) b ((codes "value", c) ∷ []) t → Fits (Some pointer) bytes → IsChangeOf part b c → IsChangeOf (IsAt pointer part) b t
 IsChangeOf-at {pointer} {bytes} {part} {b} {c} {t} written fits x =
@@ -27,7 +17,7 @@ IsChangeOf-at {pointer} {bytes} {part} {b} {c} {t} written fits x =
     let whole : HasTruth (IsAt pointer part) b = HasTruth-at x.truth in
     record {
       truth = whole;
-      explains = λ f h. subst (λ g. ExplainsChange g t) (sym h.is) (explains_change_at pointer h.inner b t c (x.explains h.inner h.of_part) node (ap truth (sym h.is) ∙ whole.at f h));
+      explains = λ f h. subst (λ g. ExplainsChange g t) (sym h.is) (named_change h.inner b t c (Some pointer) (codes "value") (x.explains h.inner h.of_part) node (ap truth (sym h.is) ∙ whole.at f h));
     }
 
 -- what is found of it

@@ -1,6 +1,7 @@
 //! What would turn the verdict of several predicates of one item, and of one predicate over a list.
 //!
-//! Where parts decide the verdict, each of them has to turn; where none does, the first may.
+//! Where parts decide the verdict, each of them has to turn; where none does, the first may. The
+//! case of each part that has to turn tells the part's number, as its last product `index`.
 ghost use Rattle.std.specs.Prelude.{IfOk, Some, not};
 ghost use Rattle.std.specs.List.{AllByRecursion};
 ghost use Rattle.predicates_core.specs.Change.{IsFoundChange};
@@ -8,7 +9,7 @@ ghost use Rattle.predicates_core.specs.Several.{IsOfMembers};
 ghost use Rattle.predicates_core.specs.Turning.{IsNextNode};
 
 use crate::PredicateChange;
-use crate::custom::members::{deciding_case, no_member};
+use crate::custom::members::{deciding_case, no_member, with_index};
 use crate::node::{printed, unary_node};
 use crate::reflection::Case;
 use std::alloc::{AllocError, Global};
@@ -61,13 +62,15 @@ fn deciding_parts<W: fmt::Display, P: PredicateChange<Item>, Item>(
         let Some(case) = part.find_change(alloc, Some(decides), item)? else {
             continue;
         };
-        found = Some(node_with(alloc, whole, name, decides, index, found, case)?);
+        let told = with_index(alloc, index, case)?;
+        found = Some(next_change(alloc, whole, name, decides, index, found, told)?);
     }
     Ok(found)
 }
 
-// The node over the cases so far with one more, or the first node, over this one.
-fn node_with<W: fmt::Display>(
+/// The node over the cases so far with one more, which tells its number, or the first node, over
+/// this one.
+pub fn next_change<W: fmt::Display>(
     alloc: Global,
     whole: &W,
     name: &'static str,
@@ -109,8 +112,9 @@ fn passing_parts<W: fmt::Display, P: PredicateChange<Item>, Item>(
             return Ok(None);
         }
     }
+    let told = with_index(alloc, 0, case)?;
     let text = printed(alloc, whole)?;
-    Ok(Some(unary_node(alloc, text, !decides, name, case)?))
+    Ok(Some(unary_node(alloc, text, !decides, name, told)?))
 }
 
 /// The `find_change` of a predicate of a list that one member with the verdict `decides` decides.
@@ -160,7 +164,8 @@ fn deciding_members<W: fmt::Display, P: PredicateChange<Item>, Item>(
         let Some(case) = part.find_change(alloc, Some(decides), member)? else {
             continue;
         };
-        found = Some(node_with(alloc, whole, name, decides, index, found, case)?);
+        let told = with_index(alloc, index, case)?;
+        found = Some(next_change(alloc, whole, name, decides, index, found, told)?);
     }
     Ok(found)
 }
@@ -189,6 +194,7 @@ fn passing_members<W: fmt::Display, P: PredicateChange<Item>, Item>(
             return Ok(None);
         }
     }
+    let told = with_index(alloc, 0, case)?;
     let text = printed(alloc, whole)?;
-    Ok(Some(unary_node(alloc, text, !decides, name, case)?))
+    Ok(Some(unary_node(alloc, text, !decides, name, told)?))
 }

@@ -1,9 +1,10 @@
 //! Verdicts and cases over the members of a list, by one predicate of a member.
-ghost use Rattle.std.specs.Prelude.{◌≡◌, ◌≢◌, ℕ, [], List, Some, true, false, not, IfOk, IsOk};
+ghost use Rattle.std.specs.Fmt.{decimal};
 ghost use Rattle.std.specs.List.{AllByRecursion};
+ghost use Rattle.std.specs.Prelude.{◌≡◌, ◌≢◌, ℕ, [], List, Some, true, false, not, codes, IfOk, IsOk};
 ghost use Rattle.predicates_core.specs.Formula.{HasTruth};
 ghost use Rattle.predicates_core.specs.Label.{Entry};
-ghost use Rattle.predicates_core.specs.Leaves.{IsExactly};
+ghost use Rattle.predicates_core.specs.Leaves.{IsExactly, IsShowing};
 ghost use Rattle.predicates_core.specs.Several.{is_deciding, IsDecidedBy, IsOfMembers, no_members};
 ghost use Rattle.predicates_core.specs.Shows.{IsAnswer, IsCaseOf, IsFound};
 
@@ -103,8 +104,8 @@ pub(super) fn is_passed<P: Predicate<Item>, Item>(
     }
 }
 
-// Whether this verdict is wanted.
-pub(super) fn is_wanted(wanted: Option<bool>, verdict: bool) -> bool
+/// Whether this verdict is wanted.
+pub fn is_wanted(wanted: Option<bool>, verdict: bool) -> bool
     ensures wanted { result ≡ true → wanted ≡ Some verdict }
     ensures other { result ≡ false → wanted ≢ Some verdict }
 {
@@ -114,8 +115,8 @@ pub(super) fn is_wanted(wanted: Option<bool>, verdict: bool) -> bool
     }
 }
 
-// Whether the case is of a part that decides, where no verdict is wanted.
-pub(super) fn is_deciding(wanted: Option<bool>, decides: bool, case: &Case) -> bool
+/// Whether the case is of a part that decides, where no verdict is wanted.
+pub fn is_deciding(wanted: Option<bool>, decides: bool, case: &Case) -> bool
     ensures { result ≡ is_deciding wanted decides case.now }
 {
     match wanted {
@@ -124,8 +125,9 @@ pub(super) fn is_deciding(wanted: Option<bool>, decides: bool, case: &Case) -> b
     }
 }
 
-// The case of a whole that a part decides, from the part's number and case.
-pub(super) fn deciding_case<W: fmt::Display>(
+/// The case of a whole that a part decides, from the part's number and case. It takes memory for the
+/// node, its text and its product `index`.
+pub fn deciding_case<W: fmt::Display>(
     alloc: Global,
     whole: &W,
     name: &'static str,
@@ -137,11 +139,18 @@ pub(super) fn deciding_case<W: fmt::Display>(
 {
     let text = printed(alloc, whole)?;
     let node = unary_node(alloc, text, decides, name, case)?;
-    Ok(showing(node, "index", format!(in alloc; "{index}")?)?)
+    Ok(with_index(alloc, index, node)?)
 }
 
-// The case of a list without members.
-pub(super) fn no_member<W: fmt::Display>(
+/// The case with a part's number, from 0, as the last of its products, `index`.
+pub fn with_index(alloc: Global, index: usize, case: Case) -> Result<Case, AllocError>
+    ensures { IfOk result (IsShowing (codes "index") (Some (decimal index)) case) }
+{
+    Ok(showing(case, "index", format!(in alloc; "{index}")?)?)
+}
+
+/// The case of a list without members: a leaf with the whole's text and the product `len`.
+pub fn no_member<W: fmt::Display>(
     alloc: Global,
     whole: &W,
     outcome: bool,

@@ -14,7 +14,7 @@ loop-index-preserved-in_default g c = turned_passed c.args.decides c.args.name.n
 pub loop-index-preserved : goal.loop-index-preserved
 loop-index-preserved g c = turned_next c.args.decides c.args.name.now (g.P.Predicate.formula c.args.part.now) (g.W.Display.output c.args.whole.now) c.args.members.now
     {k = c.loop-index.index} {u = c.index-members-index.result} c.loop-index.found (omega arith) c.index-members-index.is c.loop-index.invariant
-    (rw c.in-Some.is at c.in_ok-case.ensures) c.in_ok-node_with.ensures
+    (rw c.in-Some.is at c.in_ok-case.ensures) c.in_ok-told.ensures c.in_ok-next_change.ensures
 
 pub returns : goal.returns
 returns g c = found_turned c.args.decides c.args.name.now (g.P.Predicate.formula c.args.part.now) (g.W.Display.output c.args.whole.now) c.args.members.now c.loop-index.found

@@ -23,7 +23,7 @@ returns-then-branch-decides g c = later_decides c.args.decides c.args.name.now (
 
 pub returns : goal.returns
 returns g c = change_of_only_first c.args.decides c.args.name.now (g.P.Predicate.formula c.args.part.now) (g.W.Display.output c.args.whole.now) c.args.members.now
-    {k = c.loop-member.member-index} c.in-Some.ensures.cases.0 (omega arith) c.loop-member.invariant c.in_ok-unary_node.ensures c.in_ok-text.ensures (rw c.in-Some-2.is at c.in_ok-case.ensures)
+    {k = c.loop-member.member-index} c.in-Some.ensures.cases.0 (omega arith) c.loop-member.invariant c.in_ok-unary_node.ensures c.in_ok-text.ensures (rw c.in-Some-2.is at c.in_ok-case.ensures) c.in_ok-told.ensures
 
 pub loop-member-preserved : goal.loop-member-preserved
 loop-member-preserved g c = passes_more _ c.in-Some.rest.now c.loop-member.member-index c.member-item.result (omega arith) c.member-item.is c.loop-member.invariant

@@ -23,7 +23,7 @@ returns-then-branch-decides g c = later_decides c.args.decides c.args.name.now (
 
 pub returns : goal.returns
 returns g c = change_of_only_first c.args.decides c.args.name.now (λ p. g.P.Predicate.formula p c.args.item.now) (g.W.Display.output c.args.whole.now) c.args.parts.now
-    {k = c.loop-part.part-index} c.in-Some.ensures.cases.0 (omega arith) c.loop-part.invariant c.in_ok-unary_node.ensures c.in_ok-text.ensures (rw c.in-Some-2.is at c.in_ok-case.ensures)
+    {k = c.loop-part.part-index} c.in-Some.ensures.cases.0 (omega arith) c.loop-part.invariant c.in_ok-unary_node.ensures c.in_ok-text.ensures (rw c.in-Some-2.is at c.in_ok-case.ensures) c.in_ok-told.ensures
 
 pub loop-part-preserved : goal.loop-part-preserved
 loop-part-preserved g c = passes_more _ c.in-Some.rest.now c.loop-part.part-index c.part-item.result (omega arith) c.part-item.is c.loop-part.invariant

@@ -1,5 +1,6 @@
 use Rattle.predicates_part.proofs.Parts.{on_present, on_absent}
-use Rattle.predicates_part.proofs.PresentChanges.{found_change_of_fewer, no_change_where_absent, change_where_absent}
+use Rattle.predicates_core.proofs.Fewer.{found_change_of_fewer}
+use Rattle.predicates_core.proofs.PresentChanges.{no_change_where_absent, change_where_absent}
 use Rattle.predicates_part.proofs.part.PartPredicateByOptionPredicateChange.find_change.Goals as goal
 
 pub returns-in-Some : goal.returns-in-Some

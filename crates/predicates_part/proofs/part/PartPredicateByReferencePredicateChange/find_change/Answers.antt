@@ -1,5 +1,5 @@
 use Rattle.predicates_part.specs.Part.{borrowed}
-use Rattle.predicates_part.proofs.PresentChanges.{found_change_of_fewer}
+use Rattle.predicates_core.proofs.Fewer.{found_change_of_fewer}
 use Rattle.predicates_part.proofs.Parts.{on_part}
 use Rattle.predicates_part.proofs.part.PartPredicateByReferencePredicateChange.find_change.Goals as goal
 

@@ -1,5 +1,5 @@
 use Rattle.std.proofs.Common.{sym}
-use Rattle.predicates_part.proofs.PresentChanges.{change_present, no_change_absent, change_absent}
+use Rattle.predicates_core.proofs.PresentChanges.{change_present, no_change_absent, change_absent}
 use Rattle.predicates_part.proofs.variant.VariantPredicatePredicateChange.find_change.Goals as goal
 
 pub returns-in-Some : goal.returns-in-Some

@@ -1,31 +1,17 @@
 -- What would turn a predicate of a value that may be absent, from what would turn the inner one.
-use Rattle.std.proofs.Common.{◌≡◌, ℕ, List, refl, sym, Bool, true, false, Option, Some, None, Result, Ok, Err, IfOk, subst}
+use Rattle.std.proofs.Common.{◌≡◌, ℕ, List, refl, Bool, true, false, Option, Some, None, Result, IfOk}
 use Rattle.predicates_core.specs.Label.{Entry}
-use Rattle.predicates_core.specs.Formula.{Formula, IsLeaf}
-use Rattle.predicates_core.specs.Change.{IsChangeOf, IsFoundChange}
+use Rattle.predicates_core.specs.Formula.{Formula}
+use Rattle.predicates_core.specs.Change.{IsFoundChange}
 use Rattle.predicates_core.specs.Shows.{IsCaseOf}
 use Rattle.predicates_core.specs.Tree.{Tree}
 use Rattle.predicates_core.specs.Describe.{CaseNode}
 use Rattle.predicates_core.specs.Leaves.{IsExactly}
 use Rattle.predicates_core.specs.Asked.{is_other}
 use Rattle.predicates_core.specs.Present.{IsOfPresent, absent_leaf}
-use Rattle.predicates_core.proofs.Fewer.{truth_of_fewer, case_of_fewer}
-use Rattle.predicates_core.proofs.ChangeCases.{leaf_case, no_change_wanted, change_wanted}
+use Rattle.predicates_core.proofs.Fewer.{truth_of_fewer, case_of_fewer, found_change_of_fewer}
+use Rattle.predicates_core.proofs.ChangeCases.{exact_leaf, leaf_case, no_change_wanted, change_wanted}
 use Rattle.predicates_core.proofs.Leaves.{HasTruth-exactly}
-
--- the change of some formulas is that of fewer of them
-change_of_fewer : {A B : Formula → Type 0} {b : Bool} {t : Tree CaseNode} → ((f : Formula) → B f → A f) → IsChangeOf A b t → IsChangeOf B b t
-change_of_fewer fewer h = record { truth = truth_of_fewer fewer h.truth; explains = λ f k. h.explains f (fewer f k) }
-
-found_change_fewer : {A B : Formula → Type 0} (w : Option Bool) (found : Option (Tree CaseNode)) → ((f : Formula) → B f → A f) → IsFoundChange A w found → IsFoundChange B w found
-found_change_fewer (Some b) None fewer h = truth_of_fewer fewer h
-found_change_fewer (Some b) (Some c) fewer h = change_of_fewer fewer h
-found_change_fewer None None fewer h = λ f k. h f (fewer f k)
-found_change_fewer None (Some c) fewer h = change_of_fewer fewer h
-
-pub found_change_of_fewer : {A B : Formula → Type 0} {E : Type 0} (w : Option Bool) (r : Result (Option (Tree CaseNode)) E) → ((f : Formula) → B f → A f) → IfOk r (IsFoundChange A w) → IfOk r (IsFoundChange B w)
-found_change_of_fewer w (Ok found) fewer h = found_change_fewer w found fewer h
-found_change_of_fewer w (Err e) fewer h = tt
 
 -- where each formula is the leaf of an absent value, that leaf is the change
 module _ {F : Formula → Type 0} {text : Entry} {reason : List ℕ} (absent : (f : Formula) → F f → IsExactly (absent_leaf text reason) f) where
@@ -33,7 +19,7 @@ module _ {F : Formula → Type 0} {text : Entry} {reason : List ℕ} (absent : (
   no_change_where_absent w = no_change_wanted w (truth_of_fewer absent (HasTruth-exactly refl))
 
   pub change_where_absent : {t : Tree CaseNode} (w : Option Bool) → is_other w false ≡ false → IsCaseOf (IsExactly (absent_leaf text reason)) false t → IsFoundChange F w (Some t)
-  change_where_absent w same h = change_wanted w (leaf_case (λ f x. subst IsLeaf (sym (absent f x).is) tt) (case_of_fewer absent h)) same
+  change_where_absent w same h = change_wanted w (leaf_case (λ f x. exact_leaf f (absent f x)) (case_of_fewer absent h)) same
 
 module _ {U : Type 0} (text : Entry) (reason : List ℕ) (has : U → Formula → Type 0) (held : Option U) where
   pub change_present : {E : Type 0} {u : U} (w : Option Bool) (r : Result (Option (Tree CaseNode)) E) → held ≡ Some u → IfOk r (IsFoundChange (has u) w) → IfOk r (IsFoundChange (IsOfPresent text reason has held) w)
