@@ -1,8 +1,8 @@
 -- The cases that show what would turn a node over several formulas, from those of its members.
-use Rattle.std.proofs.Common.{◌≡◌, ◌≢◌, ◌⊎◌, ℕ, suc, ◌+◌, ◌<◌, ◌≤◌, Bool, true, false, List, [], ◌∷◌, ◌++◌, Option, Some, None, codes, map, length, take, get_or, option_map, refl, sym, ap, ◌∙◌, subst, arith, inl, inr, ⊎_elim}
+use Rattle.std.proofs.Common.{◌≡◌, ◌≢◌, ◌⊎◌, ℕ, zero, suc, ◌+◌, ◌<◌, ◌≤◌, Bool, true, false, List, [], ◌∷◌, ◌++◌, Option, Some, None, codes, map, length, take, get_or, option_map, refl, sym, ap, ◌∙◌, subst, arith, inl, inr, ⊎_elim}
 use Rattle.std.specs.Prelude.{not, MatchOption, Result, Ok, Err, IfOk}
 use Rattle.std.specs.List.{AllZip}
-use Rattle.std.proofs.lemmas.List.{take_more, length-take-le, map-append}
+use Rattle.std.proofs.lemmas.List.{take_more, take_all, length-take-le, map-append, nil_from_length}
 use Rattle.std.specs.Fmt.{decimal}
 use mathlib.Core.Bool.{beq}
 use Rattle.std.specs.Prelude.{bytes_eq}
@@ -16,7 +16,7 @@ use Rattle.predicates_core.specs.ShowsChange.{ShowsChange, ShowsTurned, ShowsNum
 use Rattle.predicates_core.specs.Change.{IsFirstChange, ExplainsChange, IsChangeOf, IsFoundChange}
 use Rattle.predicates_core.specs.Leaves.{IsExactly, IsShowing}
 use Rattle.predicates_core.specs.Several.{decided_by, number_of_first, index_product, numbered, AreOfEach, IsOfMembers, IsDecidedBy, no_members}
-use Rattle.predicates_core.specs.Turning.{IsNextNode}
+use Rattle.predicates_core.specs.Turning.{IsNextNode, IsFirstAlone}
 use Rattle.predicates_core.proofs.Numbers.{shifted}
 use Rattle.predicates_core.proofs.Joins.{joins}
 use Rattle.predicates_core.proofs.Values.{truth-one, truth-more, not-not, same_truths}
@@ -26,7 +26,7 @@ use Rattle.predicates_core.proofs.Several.{decided, itself, not_itself, all_zip_
 use Rattle.predicates_core.proofs.FirstChange.{LeftTurns, RightTurns, BothTurn, left_first, right_first, both_first}
 use Rattle.predicates_core.proofs.FirstChangeOf.{change-one}
 use Rattle.predicates_core.proofs.ChangeCases.{some_change, change_numbers, exact_leaf, leaf_case, change_by_result}
-use Rattle.predicates_core.proofs.Found.{no_formula}
+use Rattle.predicates_core.proofs.Found.{truth_of_none}
 
 -- what turns a join where one part with the truth `decides` decides the whole
 record Turns (decides : Bool) : Type 0 where
@@ -433,10 +433,93 @@ module _ (decides : Bool) {U : Type 0} (name : List ℕ) (has : U → Formula �
 
     -- ---- what is wanted
 
-    pub whichever_decides : (us : List U) {w : Option Bool} {c : Case} → w ≡ None → IsChangeOf (IsOfMembers decides text name has us) decides c → IsFoundChange (IsOfMembers decides text name has us) w (Some c)
-    whichever_decides us is x = rw is (change_by_result x)
+    -- ---- whichever truth the whole has
 
-    pub whichever_passes : {E : Type 0} (us : List U) {w : Option Bool} (r : Result (Option Case) E) → w ≡ None → HasTruth (IsOfMembers decides text name has us) (not decides) → IfOk r (IsFoundChange (IsOfMembers decides text name has us) (Some (not decides))) → IfOk r (IsFoundChange (IsOfMembers decides text name has us) w)
-    whichever_passes us (Err e) is h x = tt
-    whichever_passes us (Ok (Some t)) is h x = rw is (change_by_result x)
-    whichever_passes us (Ok None) is h x = rw is (λ f p. no_formula h x f p)
+    -- a member of which there is no formula, and so none of the whole
+    absent_member : (us : List U) {u : U} {rest : List U} → us ≡ u ∷ rest → ((f : Formula) → has u f → ⊥) → (f : Formula) → IsOfMembers decides text name has us f → ⊥
+    absent_member us {u} {rest} e none f p = let q = p.of_some (λ n. cc) in first_missing q.formulas (subst (λ z. AreOfEach name has z q.formulas) e q.of_each)
+      where
+        first_missing : (fs : Formulas) → AreOfEach name has (u ∷ rest) fs → ⊥
+        first_missing (one n g) of = none g of.1
+        first_missing (more n g gs) of = none g of.1
+
+    -- the change of the first member, where it does not decide
+    pub record IsFirstTurned (us : List U) (c : Case) : Type 0 where
+      pub member : U
+      pub rest : List U
+      pub is : us ≡ member ∷ rest
+      pub turns : IsChangeOf (has member) (not decides) c
+
+    -- where the first member's change is not kept, no member was asked yet, one decides, or there is
+    -- no formula
+    abbrev pub IsFirstKept : List U → ℕ → Option Case → Option Case → Type 0
+    IsFirstKept us k (Some c) found = IsFirstTurned us c
+    IsFirstKept us k None (Some t) = Unit {0}
+    IsFirstKept us k None None = (k ≡ 0) ⊎ ((f : Formula) → IsOfMembers decides text name has us f → ⊥)
+
+    abbrev pub IsWhichever : List U → ℕ → Option Case → Option Case → Type 0
+    IsWhichever us k first found = IsTurned (take k us) found × IsFirstKept us k first found
+
+    split_at_none : (us : List U) {u : U} → 0 < length us → u ≡ get_or us 0 u → (rest : List U) × (us ≡ u ∷ rest)
+    split_at_none [] within is = absurd (omega (arith, within))
+    split_at_none (v ∷ rest) within is = (rest, ap (λ z. z ∷ rest) (sym is))
+
+    -- a member that has no change of the kind that it was asked for
+    pub whichever_passed : (us : List U) {k : ℕ} {u : U} {asked : Option Bool} (first found : Option Case) → k < length us → u ≡ get_or us k u → (k ≡ 0 → asked ≡ None) → (k ≢ 0 → asked ≡ Some decides) → IsWhichever us k first found → IsFoundChange (has u) asked None → IsWhichever us (k + 1) first found
+    whichever_passed us {k = zero} {u = u} {asked = asked} first found within is none other h x =
+        let missing : (f : Formula) → has u f → ⊥ = subst (λ w. IsFoundChange (has u) w None) (none refl) x in
+        let at = split_at_none us within is in
+        (turned_passed us found within is h.0 (truth_of_none missing), kept first found h.1 (absent_member us at.1 missing))
+      where
+        kept : (first found : Option Case) → IsFirstKept us 0 first found → ((f : Formula) → IsOfMembers decides text name has us f → ⊥) → IsFirstKept us 1 first found
+        kept (Some c) found h none = h
+        kept None (Some t) h none = tt
+        kept None None h none = inr none
+    whichever_passed us {k = suc k} {u = u} {asked = asked} first found within is none other h x =
+        let passes : HasTruth (has u) (not decides) = subst (λ w. IsFoundChange (has u) w None) (other (λ e. omega (arith, e))) x in
+        (turned_passed us found within is h.0 passes, kept first found h.1)
+      where
+        kept : (first found : Option Case) → IsFirstKept us (suc k) first found → IsFirstKept us (suc k + 1) first found
+        kept (Some c) found h = h
+        kept None (Some t) h = tt
+        kept None None h = ⊎_elim (λ e. absurd (omega (arith, e))) (λ n. inr n) h
+
+    -- the first member, which does not decide
+    pub whichever_first : (us : List U) {k : ℕ} {u : U} {c : Case} {asked : Option Bool} (first found : Option Case) → k < length us → u ≡ get_or us k u → k ≡ 0 → (k ≡ 0 → asked ≡ None) → IsWhichever us k first found → IsFoundChange (has u) asked (Some c) → c.root.result ≡ not decides → IsWhichever us (k + 1) (Some c) found
+    whichever_first us {k = zero} {u = u} {c = c} {asked = asked} first found within is start none h x passed =
+        let turns : IsChangeOf (has u) (not decides) c = subst (λ b. IsChangeOf (has u) b c) passed (subst (λ w. IsFoundChange (has u) w (Some c)) (none refl) x) in
+        let at = split_at_none us within is in
+        (turned_passed us found within is h.0 turns.truth, record { member = u; rest = at.0; is = at.1; turns = turns })
+    whichever_first us {k = suc k} first found within is start none h x passed = absurd (omega (arith, start))
+
+    -- a member that decides
+    pub whichever_turned : (us : List U) {k : ℕ} {u : U} {c d s : Case} {asked : Option Bool} (first found : Option Case) → k < length us → u ≡ get_or us k u → (k ≡ 0 → asked ≡ None) → (k ≢ 0 → asked ≡ Some decides) → IsWhichever us k first found → IsFoundChange (has u) asked (Some c) → (k ≡ 0 → c.root.result ≡ decides) → IsShowing (codes "index") (Some (decimal k)) c d → IsNextNode decides text name k found d s → IsWhichever us (k + 1) first (Some s)
+    whichever_turned us {k} {u} {c} {d} {s} {asked} first found within is none other h x holds tells next =
+        (turned_next us found within is h.0 (turns k none other holds) tells next, kept first h.1)
+      where
+        turns : (k : ℕ) → (k ≡ 0 → asked ≡ None) → (k ≢ 0 → asked ≡ Some decides) → (k ≡ 0 → c.root.result ≡ decides) → IsChangeOf (has u) decides c
+        turns zero none other holds = subst (λ b. IsChangeOf (has u) b c) (holds refl) (subst (λ w. IsFoundChange (has u) w (Some c)) (none refl) x)
+        turns (suc k) none other holds = subst (λ w. IsFoundChange (has u) w (Some c)) (other (λ e. omega (arith, e))) x
+
+        kept : (first : Option Case) → IsFirstKept us k first found → IsFirstKept us (k + 1) first (Some s)
+        kept (Some c) h = h
+        kept None h = tt
+
+    pub whichever_none : (us : List U) → IsWhichever us 0 None None
+    whichever_none us = (tt, inl refl)
+
+    -- one decides
+    pub whichever_decides : (us : List U) {k : ℕ} (first : Option Case) {t : Case} → length us ≤ k → IsWhichever us k first (Some t) → IsFoundChange (IsOfMembers decides text name has us) None (Some t)
+    whichever_decides us {k} first {t} all h = change_by_result (found_turned us (Some t) (subst (λ z. IsTurned z (Some t)) (take_all k us all) h.0))
+
+    -- none decides
+    pub whichever_passes : {E : Type 0} (us : List U) {k : ℕ} (first : Option Case) (r : Result (Option Case) E) → us ≢ [] → length us ≤ k → IsWhichever us k first None → IfOk r (IsFirstAlone decides text name first) → IfOk r (IsFoundChange (IsOfMembers decides text name has us) None)
+    whichever_passes us first (Err e) some all h x = tt
+    whichever_passes us (Some c) (Ok None) some all h x = absurd x
+    whichever_passes us {k} (Some c) (Ok (Some t)) some all h x =
+        let passes : EachPasses decides name has us = subst (λ z. EachPasses decides name has z) (take_all k us all) h.0 in
+        let first = h.1 in
+        let behind : EachPasses decides name has (first.member ∷ first.rest) = subst (EachPasses decides name has) first.is passes in
+        rw first.is (change_by_result (change_of_first first.member first.rest x.node x.fits first.turns x.tells behind.1))
+    whichever_passes us {k} None (Ok None) some all h x = ⊎_elim (λ e. absurd (some (nil_from_length us (omega (arith, all, e))))) (λ none. none) h.1
+    whichever_passes us None (Ok (Some t)) some all h x = absurd (cc)

@@ -2,11 +2,11 @@
 //!
 //! Where parts decide the verdict, each of them has to turn; where none does, the first may. The
 //! case of each part that has to turn tells the part's number, as its last product `index`.
-ghost use Rattle.std.specs.Prelude.{IfOk, Some, not};
+ghost use Rattle.std.specs.Prelude.{◌≡◌, ◌≢◌, IfOk, None, Some, true, false, not};
 ghost use Rattle.std.specs.List.{AllByRecursion};
 ghost use Rattle.predicates_core.specs.Change.{IsFoundChange};
 ghost use Rattle.predicates_core.specs.Several.{IsOfMembers};
-ghost use Rattle.predicates_core.specs.Turning.{IsNextNode};
+ghost use Rattle.predicates_core.specs.Turning.{IsFirstAlone, IsNextNode};
 
 use crate::PredicateChange;
 use crate::custom::members::{deciding_case, no_member, with_index};
@@ -37,10 +37,7 @@ pub fn parts_change<W: fmt::Display, P: PredicateChange<Item>, Item>(
                 passing_parts(alloc, whole, parts, name, decides, item)
             }
         }
-        None => match deciding_parts(alloc, whole, parts, name, decides, item)? {
-            Some(case) => Ok(Some(case)),
-            None => passing_parts(alloc, whole, parts, name, decides, item),
-        },
+        None => whichever_parts(alloc, whole, parts, name, decides, item),
     }
 }
 
@@ -117,6 +114,78 @@ fn passing_parts<W: fmt::Display, P: PredicateChange<Item>, Item>(
     Ok(Some(unary_node(alloc, text, !decides, name, told)?))
 }
 
+// What would turn the whole, whichever its verdict. The first part is asked for its change, and each
+// other only for that of a part that decides.
+fn whichever_parts<W: fmt::Display, P: PredicateChange<Item>, Item>(
+    alloc: Global,
+    whole: &W,
+    parts: &[P],
+    name: &'static str,
+    decides: bool,
+    item: &Item,
+) -> Result<Option<Case>, AllocError>
+    requires { AllByRecursion P.lawful parts.now }
+    ensures { IfOk result (IsFoundChange (IsOfMembers decides (W.output whole.now) name.entry.now
+        (λ p. P.formula p item.now) parts.now) None) }
+{
+    if parts.is_empty() {
+        return Ok(Some(no_member(alloc, whole, !decides)?));
+    }
+    let mut found: Option<Case> = None;
+    let mut first: Option<Case> = None;
+    for (index, part) in parts.iter().enumerate() {
+        let asked = asked_at(index, decides);
+        let Some(case) = part.find_change(alloc, asked, item)? else {
+            continue;
+        };
+        if is_first_passed(index, decides, &case) {
+            first = Some(case);
+            continue;
+        }
+        let told = with_index(alloc, index, case)?;
+        found = Some(next_change(alloc, whole, name, decides, index, found, told)?);
+    }
+    match found {
+        Some(node) => Ok(Some(node)),
+        None => first_alone(alloc, whole, name, decides, first),
+    }
+}
+
+// What a part is asked for where no verdict of the whole is wanted.
+fn asked_at(index: usize, decides: bool) -> Option<bool>
+    ensures first { index ≡ 0 → result ≡ None }
+    ensures other { index ≢ 0 → result ≡ Some decides }
+{
+    if index == 0 { None } else { Some(decides) }
+}
+
+// Whether the change is that of the first part, which does not decide.
+fn is_first_passed(index: usize, decides: bool, case: &Case) -> bool
+    ensures first { result ≡ true → index ≡ 0 }
+    ensures passed { result ≡ true → case.now.root.result ≡ not decides }
+    ensures decides { result ≡ false → index ≡ 0 → case.now.root.result ≡ decides }
+{
+    index == 0 && case.root().result() != decides
+}
+
+// The node over the change of the first part, where none decides.
+fn first_alone<W: fmt::Display>(
+    alloc: Global,
+    whole: &W,
+    name: &'static str,
+    decides: bool,
+    first: Option<Case>,
+) -> Result<Option<Case>, AllocError>
+    ensures { IfOk result (IsFirstAlone decides (W.output whole.now) name.entry.now first) }
+{
+    let Some(case) = first else {
+        return Ok(None);
+    };
+    let told = with_index(alloc, 0, case)?;
+    let text = printed(alloc, whole)?;
+    Ok(Some(unary_node(alloc, text, !decides, name, told)?))
+}
+
 /// The `find_change` of a predicate of a list that one member with the verdict `decides` decides.
 pub fn members_change<W: fmt::Display, P: PredicateChange<Item>, Item>(
     alloc: Global,
@@ -139,10 +208,7 @@ pub fn members_change<W: fmt::Display, P: PredicateChange<Item>, Item>(
                 passing_members(alloc, whole, part, name, decides, members)
             }
         }
-        None => match deciding_members(alloc, whole, part, name, decides, members)? {
-            Some(case) => Ok(Some(case)),
-            None => passing_members(alloc, whole, part, name, decides, members),
-        },
+        None => whichever_members(alloc, whole, part, name, decides, members),
     }
 }
 
@@ -197,4 +263,41 @@ fn passing_members<W: fmt::Display, P: PredicateChange<Item>, Item>(
     let told = with_index(alloc, 0, case)?;
     let text = printed(alloc, whole)?;
     Ok(Some(unary_node(alloc, text, !decides, name, told)?))
+}
+
+// What would turn the whole, whichever its verdict. The first member is asked for its change, and each
+// other only for that of a member that decides.
+fn whichever_members<W: fmt::Display, P: PredicateChange<Item>, Item>(
+    alloc: Global,
+    whole: &W,
+    part: &P,
+    name: &'static str,
+    decides: bool,
+    members: &[Item],
+) -> Result<Option<Case>, AllocError>
+    requires { P.lawful part.now }
+    ensures { IfOk result (IsFoundChange (IsOfMembers decides (W.output whole.now) name.entry.now
+        (P.formula part.now) members.now) None) }
+{
+    if members.is_empty() {
+        return Ok(Some(no_member(alloc, whole, !decides)?));
+    }
+    let mut found: Option<Case> = None;
+    let mut first: Option<Case> = None;
+    for (index, member) in members.iter().enumerate() {
+        let asked = asked_at(index, decides);
+        let Some(case) = part.find_change(alloc, asked, member)? else {
+            continue;
+        };
+        if is_first_passed(index, decides, &case) {
+            first = Some(case);
+            continue;
+        }
+        let told = with_index(alloc, index, case)?;
+        found = Some(next_change(alloc, whole, name, decides, index, found, told)?);
+    }
+    match found {
+        Some(node) => Ok(Some(node)),
+        None => first_alone(alloc, whole, name, decides, first),
+    }
 }
