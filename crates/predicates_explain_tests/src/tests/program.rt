@@ -32,45 +32,50 @@ fn split_words(alloc: Global, line: &[u8]) -> Result<Vec<Vec<u8>>, AllocError> {
     Ok(words)
 }
 
-// Words, an input, the status, standard output and standard error.
-const ROWS: [(&[u8], &[u8], u8, &str, &str); 30] = [
+// Words, an input, the status and standard output.
+const ROWS: [(&[u8], &[u8], u8, &str); 4] = [
     // Every line is an item.
-    (b"between|5|10", b"", 0, "", ""),
-    (b"text|empty|trim|contains=a|or", b"  \n", 0, BLANK, ""),
+    (b"between|5|10", b"", 0, ""),
+    (b"text|empty|trim|contains=a|or", b"  \n", 0, BLANK),
     // Some line is none.
-    (b"between|5|10", b"x", 1, "line 1: not a number\n", ""),
-    (b"text|empty", b"\xff\n", 1, "line 1: not UTF-8\n", ""),
-    // Wrong words.
-    (b"", b"7", 2, "", USAGE),
-    (b"betwee|5|10", b"7", 2, "", USAGE),
-    (b"between", b"7", 2, "", USAGE),
-    (b"between|5", b"7", 2, "", USAGE),
-    (b"between|5|10|15", b"7", 2, "", USAGE),
-    (b"between|5|x", b"7", 2, "", USAGE),
-    (b"between|x|10", b"7", 2, "", USAGE),
-    (b"between| 5|10", b"7", 2, "", USAGE),
-    (b"between|5|10 ", b"7", 2, "", USAGE),
-    (b"between|5|9223372036854775808", b"7", 2, "", USAGE),
-    (b"between|5|10\xff", b"7", 2, "", USAGE),
-    (b"\xff|5|10", b"7", 2, "", USAGE),
-    (b"text|empt", b"7", 2, "", USAGE),
-    (b"text|empty|\xff", b"7", 2, "", USAGE),
+    (b"between|5|10", b"x", 1, "line 1: not a number\n"),
+    (b"text|empty", b"\xff\n", 1, "line 1: not UTF-8\n"),
+];
+
+const WRONG_WORDS: [&[u8]; 21] = [
+    b"",
+    b"betwee|5|10",
+    b"between",
+    b"between|5",
+    b"between|5|10|15",
+    b"between|5|x",
+    b"between|x|10",
+    b"between| 5|10",
+    b"between|5|10 ",
+    b"between|5|9223372036854775808",
+    b"between|5|10\xff",
+    b"\xff|5|10",
+    b"text|empt",
+    b"text|empty|\xff",
     // A missing operand.
-    (b"text|and", b"7", 2, "", USAGE),
-    (b"text|empty|or", b"7", 2, "", USAGE),
-    (b"text|not|empty", b"7", 2, "", USAGE),
+    b"text|and",
+    b"text|empty|or",
+    b"text|not|empty",
     // Not exactly one predicate.
-    (b"text", b"7", 2, "", USAGE),
-    (b"text|empty|empty", b"7", 2, "", USAGE),
-    // A refused pattern.
-    (b"text|match=(", b"7", 2, "", REFUSED),
+    b"text",
+    b"text|empty|empty",
     // The first fault from the left decides.
-    (b"text|match=(|and", b"7", 2, "", REFUSED),
-    (b"text|match=(|\xff", b"7", 2, "", REFUSED),
-    (b"text|empty|match=[|nothing", b"7", 2, "", REFUSED),
-    (b"text|and|match=(", b"7", 2, "", USAGE),
-    (b"text|\xff|match=(", b"7", 2, "", USAGE),
-    (b"text|empty|empty|match=(", b"7", 2, "", REFUSED),
+    b"text|and|match=(",
+    b"text|\xff|match=(",
+];
+
+const REFUSED_PATTERNS: [&[u8]; 5] = [
+    b"text|match=(",
+    // The first fault from the left decides.
+    b"text|match=(|and",
+    b"text|match=(|\xff",
+    b"text|empty|match=[|nothing",
+    b"text|empty|empty|match=(",
 ];
 
 // Whether the words end so on the input, and the message could be written.
@@ -106,9 +111,30 @@ fn ends(
 
 #[test]
 fn statuses_and_outputs_of_words(rt: HostRuntime) -> Result<(), Fail> {
-    for (line, input, status, output, message) in ROWS {
-        let holds = ends(rt.alloc(), line, input, status, output, message)?;
+    for (line, input, status, output) in ROWS {
+        let holds = ends(rt.alloc(), line, input, status, output, "")?;
         assert!(rt; holds, "at {line:?}");
+    }
+    Ok(())
+}
+
+// Whether the words are refused with the message, whatever the input.
+fn is_refused(alloc: Global, line: &[u8], message: &str) -> Result<bool, AllocError> {
+    ends(alloc, line, b"7", 2, "", message)
+}
+
+#[test]
+fn wrong_words(rt: HostRuntime) -> Result<(), Fail> {
+    for line in WRONG_WORDS {
+        assert!(rt; is_refused(rt.alloc(), line, USAGE)?, "at {line:?}");
+    }
+    Ok(())
+}
+
+#[test]
+fn refused_patterns(rt: HostRuntime) -> Result<(), Fail> {
+    for line in REFUSED_PATTERNS {
+        assert!(rt; is_refused(rt.alloc(), line, REFUSED)?, "at {line:?}");
     }
     Ok(())
 }
@@ -126,7 +152,7 @@ fn deep_line(alloc: Global, end: &[u8]) -> Result<Vec<u8>, AllocError> {
 // Whether such a check is rejected.
 fn is_too_deep(alloc: Global, end: &[u8]) -> Result<bool, AllocError> {
     let line = deep_line(alloc, end)?;
-    ends(alloc, &line, b"7", 2, "", DEEP)
+    is_refused(alloc, &line, DEEP)
 }
 
 // Also before a word that is wrong by itself.

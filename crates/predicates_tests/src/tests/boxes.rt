@@ -22,11 +22,20 @@ fn any(alloc: Global) -> Result<BoxPredicate, AllocError> {
     BoxPredicate::new(alloc, Box::new(alloc, any)?)
 }
 
+// Adds the box that was made.
+fn add_box(
+    boxes: &mut Vec<BoxPredicate>,
+    made: Result<BoxPredicate, AllocError>,
+) -> Result<(), AllocError> {
+    boxes.push(made?)?;
+    Ok(())
+}
+
 fn three_boxes(alloc: Global) -> Result<Vec<BoxPredicate>, AllocError> {
     let mut boxes = Vec::new(alloc);
-    boxes.push(is_empty(alloc)?)?;
-    boxes.push(contains_a(alloc)?)?;
-    boxes.push(any(alloc)?)?;
+    add_box(&mut boxes, is_empty(alloc))?;
+    add_box(&mut boxes, contains_a(alloc))?;
+    add_box(&mut boxes, any(alloc))?;
     Ok(boxes)
 }
 

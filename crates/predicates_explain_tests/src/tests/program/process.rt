@@ -24,30 +24,23 @@ fn run_closed(
     (status, output, error)
 }
 
-const ROWS: [(&[&[u8]], u8, &str, &str); 12] = [
-    (
-        &[b"explain", b"text", b"empty", b"trim", b"contains=a", b"or"],
-        0,
-        BLANK,
-        "",
-    ),
-    (
-        &[b"explain", b"between", b"5", b"10"],
-        1,
-        "line 1: not a number\n",
-        "",
-    ),
-    (&[b"explain", b"text", b"and"], 2, "", USAGE),
-    (&[b"explain", b"between", b"5"], 2, "", USAGE),
-    (&[b"explain", b"text", b"match=("], 2, "", REFUSED),
-    (&[b"explain", b"text", b"match=(", b"\xff"], 2, "", REFUSED),
-    (&[b"explain", b"text", b"\xff", b"match=("], 2, "", USAGE),
+const BLANK_WORDS: [&[u8]; 6] = [b"explain", b"text", b"empty", b"trim", b"contains=a", b"or"];
+
+const WRONG_WORDS: [&[&[u8]]; 8] = [
+    &[b"explain", b"text", b"and"],
+    &[b"explain", b"between", b"5"],
+    &[b"explain", b"text", b"\xff", b"match=("],
     // An empty word is a word.
-    (&[b"explain", b"text", b"empty", b""], 2, "", USAGE),
-    (&[b"explain", b"text", b"", b"empty"], 2, "", USAGE),
-    (&[b"explain", b"", b"text", b"empty"], 2, "", USAGE),
-    (&[b"text"], 2, "", USAGE),
-    (&[], 2, "", USAGE),
+    &[b"explain", b"text", b"empty", b""],
+    &[b"explain", b"text", b"", b"empty"],
+    &[b"explain", b"", b"text", b"empty"],
+    &[b"text"],
+    &[],
+];
+
+const REFUSED_PATTERNS: [&[&[u8]]; 2] = [
+    &[b"explain", b"text", b"match=("],
+    &[b"explain", b"text", b"match=(", b"\xff"],
 ];
 
 // Whether the words end so, on a line of spaces.
@@ -60,9 +53,13 @@ fn ends(alloc: Global, words: &[&[u8]], status: u8, output: &str, message: &str)
 
 #[test]
 fn status_and_outputs_of_a_process(rt: HostRuntime) -> Result<(), Fail> {
-    for (words, status, output, message) in ROWS {
-        let holds = ends(rt.alloc(), words, status, output, message);
-        assert!(rt; holds, "at {words:?}");
+    assert!(rt; ends(rt.alloc(), &BLANK_WORDS, 0, BLANK, ""));
+    assert!(rt; ends(rt.alloc(), &BETWEEN, 1, "line 1: not a number\n", ""));
+    for words in WRONG_WORDS {
+        assert!(rt; ends(rt.alloc(), words, 2, "", USAGE), "at {words:?}");
+    }
+    for words in REFUSED_PATTERNS {
+        assert!(rt; ends(rt.alloc(), words, 2, "", REFUSED), "at {words:?}");
     }
     Ok(())
 }
@@ -132,17 +129,21 @@ fn count_joined(
     Ok(count_lines(alloc, &words))
 }
 
+// Whether all of such words are read, and one that is too many is refused.
+fn are_read(alloc: Global, count: usize) -> Result<[bool; 2], AllocError> {
+    // The label, the nodes that decide, and the product of the last.
+    let lines = if count == 1 { 3 } else { 4 };
+    let is_whole = count_joined(alloc, count, &[])? == (0, lines, true);
+    let (status, _, _) = count_joined(alloc, count, &[b"and"])?;
+    Ok([is_whole, status == 2])
+}
+
 // Every word is read, however many there are; this many checks stand on the stack before they are
 // joined.
 #[test]
 fn many_words(rt: HostRuntime) -> Result<(), Fail> {
     for count in [1usize, 8, 9, 300] {
-        let found = count_joined(rt.alloc(), count, &[])?;
-        // The label, the nodes that decide, and the product of the last.
-        let lines = if count == 1 { 3 } else { 4 };
-        assert_eq!(rt; found, (0, lines, true), "at {count}");
-        let (status, _, _) = count_joined(rt.alloc(), count, &[b"and"])?;
-        assert_eq!(rt; status, 2, "at {count}");
+        assert!(rt; are_read(rt.alloc(), count)? == [true; 2], "at {count}");
     }
     Ok(())
 }

@@ -113,9 +113,13 @@ type Calls = (
     Result<&'static str, ErrorKind>,
 );
 
-// Whether the snapshot at `p` has these parts where the calls answer so, and how often each is
-// made.
-fn takes(rt: &HostRuntime, calls: Calls, parts: Parts<'_>) -> Result<(bool, [u8; 3]), AllocError> {
+// Whether the snapshot at `p` has these parts where the calls answer so, and each is made so often.
+fn takes(
+    rt: &HostRuntime,
+    calls: Calls,
+    parts: Parts<'_>,
+    counts: [u8; 3],
+) -> Result<bool, AllocError> {
     let (plain, followed, opened) = calls;
     let files = OneFile {
         rt: rt.clone()?,
@@ -127,36 +131,40 @@ fn takes(rt: &HostRuntime, calls: Calls, parts: Parts<'_>) -> Result<(bool, [u8;
         opened_count: Cell::new(0),
     };
     let taken = Snapshot::take(&files, files.alloc(), "p")?;
-    let counts = [
+    let made = [
         files.plain_count.get(),
         files.followed_count.get(),
         files.opened_count.get(),
     ];
-    Ok((taken.path() == "p" && has_parts(&taken, parts), counts))
+    Ok(taken.path() == "p" && has_parts(&taken, parts) && made == counts)
 }
 
 const EMPTY: &str = "/dev/null";
 
+// Whether the fault stands for the error where `symlink_metadata` fails, where `metadata` does, and
+// where `open_file` does.
+fn are_faults(
+    rt: &HostRuntime,
+    kind: ErrorKind,
+    fault: PathFault,
+) -> Result<[bool; 3], AllocError> {
+    let (file, failed) = (Ok(FileType::File), Err(kind));
+    let calls = (failed, Ok(()), Ok(EMPTY));
+    let first = takes(rt, calls, (Err(fault), file, Ok(b"")), [1, 1, 1])?;
+    let calls = (Ok(()), failed, Ok(EMPTY));
+    let second = takes(rt, calls, (file, Err(fault), Err(fault)), [1, 1, 0])?;
+    let calls = (Ok(()), Ok(()), Err(kind));
+    let third = takes(rt, calls, (file, file, Err(fault)), [1, 1, 1])?;
+    Ok([first, second, third])
+}
+
 #[test]
 fn each_call_is_made_once(rt: HostRuntime) -> Result<(), Fail> {
     let file = Ok(FileType::File);
-    let all = takes(&rt, (Ok(()), Ok(()), Ok(EMPTY)), (file, file, Ok(b"")))?;
-    assert_eq!(rt; all, (true, [1, 1, 1]));
+    let calls = (Ok(()), Ok(()), Ok(EMPTY));
+    assert!(rt; takes(&rt, calls, (file, file, Ok(b"")), [1, 1, 1])?);
     for (kind, fault) in KINDS {
-        let first = takes(
-            &rt,
-            (Err(kind), Ok(()), Ok(EMPTY)),
-            (Err(fault), file, Ok(b"")),
-        )?;
-        assert_eq!(rt; first, (true, [1, 1, 1]), "{kind:?}");
-        let second = takes(
-            &rt,
-            (Ok(()), Err(kind), Ok(EMPTY)),
-            (file, Err(fault), Err(fault)),
-        )?;
-        assert_eq!(rt; second, (true, [1, 1, 0]), "{kind:?}");
-        let third = takes(&rt, (Ok(()), Ok(()), Err(kind)), (file, file, Err(fault)))?;
-        assert_eq!(rt; third, (true, [1, 1, 1]), "{kind:?}");
+        assert!(rt; are_faults(&rt, kind, fault)? == [true; 3], "{kind:?}");
     }
     Ok(())
 }
@@ -165,18 +173,23 @@ fn each_call_is_made_once(rt: HostRuntime) -> Result<(), Fail> {
 #[test]
 fn a_read_that_fails(rt: HostRuntime) -> Result<(), Fail> {
     let file = Ok(FileType::File);
-    let read = takes(&rt, (Ok(()), Ok(()), Ok("/")), (file, file, Err(Other)))?;
-    assert_eq!(rt; read, (true, [1, 1, 1]));
+    let calls = (Ok(()), Ok(()), Ok("/"));
+    assert!(rt; takes(&rt, calls, (file, file, Err(Other)), [1, 1, 1])?);
     Ok(())
+}
+
+// Whether there is no snapshot where the calls answer so.
+fn takes_nothing(rt: &HostRuntime, calls: Calls) -> bool {
+    let nothing = (Err(Other), Err(Other), Err(Other));
+    takes(rt, calls, nothing, [0, 0, 0]).is_err()
 }
 
 // A call that runs out of memory gives no snapshot.
 #[test]
 fn out_of_memory(rt: HostRuntime) -> Result<(), Fail> {
-    let nothing = (Err(Other), Err(Other), Err(Other));
     let refused = ErrorKind::OutOfMemory;
-    assert!(rt; takes(&rt, (Err(refused), Ok(()), Ok(EMPTY)), nothing).is_err());
-    assert!(rt; takes(&rt, (Ok(()), Err(refused), Ok(EMPTY)), nothing).is_err());
-    assert!(rt; takes(&rt, (Ok(()), Ok(()), Err(refused)), nothing).is_err());
+    assert!(rt; takes_nothing(&rt, (Err(refused), Ok(()), Ok(EMPTY))));
+    assert!(rt; takes_nothing(&rt, (Ok(()), Err(refused), Ok(EMPTY))));
+    assert!(rt; takes_nothing(&rt, (Ok(()), Ok(()), Err(refused))));
     Ok(())
 }

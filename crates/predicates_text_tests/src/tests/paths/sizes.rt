@@ -155,8 +155,8 @@ fn files_of_any_size(rt: HostRuntime) -> Result<(), Fail> {
     let alloc = rt.alloc();
     for (length, _) in LENGTHS {
         let text = letters(alloc, length)?;
-        assert_eq!(rt; equal_files(alloc, &text)?, [true, true], "{length}");
-        assert_eq!(rt; equal_nothing(alloc, &text)?, [true, true], "{length}");
+        assert!(rt; equal_files(alloc, &text)? == [true; 2], "{length}");
+        assert!(rt; equal_nothing(alloc, &text)? == [true; 2], "{length}");
     }
     Ok(())
 }
@@ -177,8 +177,10 @@ fn are_shown(alloc: Global, length: u32, but_one: u32) -> Result<[bool; 2], Fail
 #[test]
 fn shown_contents_of_any_size(rt: HostRuntime) -> Result<(), Fail> {
     for (length, but_one) in LENGTHS {
-        let shown = are_shown(rt.alloc(), length, but_one)?;
-        assert_eq!(rt; shown, [true, true], "{length}");
+        assert!(rt;
+            are_shown(rt.alloc(), length, but_one)? == [true; 2],
+            "{length}"
+        );
     }
     Ok(())
 }

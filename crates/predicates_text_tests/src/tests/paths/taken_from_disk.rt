@@ -62,16 +62,30 @@ const LINKS: [(&str, &str); 5] = [
     ("to_nothing", "nothing"),
 ];
 
+// The path of the name in the folder.
+fn path_in(rt: &HostRuntime, folder: &str, name: &str) -> Result<String, AllocError> {
+    format!(in rt.alloc(); "{folder}/{name}")
+}
+
+fn write_in(rt: &HostRuntime, folder: &str, name: &str, content: &[u8]) -> io::Result<()> {
+    let path = path_in(rt, folder, name)?;
+    fs::write(rt, path.as_str(), content)
+}
+
+fn link_in(rt: &HostRuntime, folder: &str, name: &str, place: &str) -> io::Result<()> {
+    let path = path_in(rt, folder, name)?;
+    symlink(rt, place, path.as_str())
+}
+
 fn fill(rt: &HostRuntime, folder: &str) -> io::Result<()> {
-    let alloc = rt.alloc();
     for (name, content) in FILES {
-        fs::write(rt, format!(in alloc; "{folder}/{name}")?, content)?;
+        write_in(rt, folder, name, content)?;
     }
-    fs::create_dir(rt, format!(in alloc; "{folder}/folder")?)?;
     for (name, place) in LINKS {
-        symlink(rt, place, format!(in alloc; "{folder}/{name}")?)?;
+        link_in(rt, folder, name, place)?;
     }
-    Ok(())
+    let path = path_in(rt, folder, "folder")?;
+    fs::create_dir(rt, path.as_str())
 }
 
 // Whether what is taken at the path has the path and these parts.
@@ -82,7 +96,7 @@ fn stands(rt: &HostRuntime, path: &str, parts: Parts<'_>) -> io::Result<bool> {
 
 // Whether what is taken under the name in the folder has these parts.
 fn stands_in(rt: &HostRuntime, folder: &str, name: &str, parts: Parts<'_>) -> io::Result<bool> {
-    let path = format!(in rt.alloc(); "{folder}/{name}")?;
+    let path = path_in(rt, folder, name)?;
     stands(rt, path.as_str(), parts)
 }
 
@@ -117,9 +131,8 @@ fn bytes(alloc: Global, length: u32) -> Result<Vec<u8>, AllocError> {
 
 // Whether a file in the folder is taken with the content that it is made with.
 fn is_kept(rt: &HostRuntime, folder: &str, content: &[u8]) -> io::Result<bool> {
-    let path = format!(in rt.alloc(); "{folder}/long")?;
-    fs::write(rt, path.as_str(), content)?;
-    stands(rt, path.as_str(), (Ok(File), Ok(File), Ok(content)))
+    write_in(rt, folder, "long", content)?;
+    stands_in(rt, folder, "long", (Ok(File), Ok(File), Ok(content)))
 }
 
 #[test]
@@ -149,17 +162,27 @@ fn a_device(rt: HostRuntime) -> Result<(), Fail> {
 // A pipe stands behind a link of the system's.
 const PIPE: Parts<'static> = (Ok(Symlink), Ok(Other), Err(NotRegular));
 
+// Whether a pipe stands behind the link of the process's file of this number.
+fn is_pipe(rt: &HostRuntime, number: i32) -> io::Result<bool> {
+    let path = format!(in rt.alloc(); "/proc/self/fd/{number}")?;
+    stands(rt, path.as_str(), PIPE)
+}
+
+// Whether this byte is read next.
+fn is_next<R: Read>(reader: &mut R, byte: u8) -> io::Result<bool> {
+    let mut bytes = [0];
+    let count = reader.read(&mut bytes)?;
+    Ok(count == 1 && bytes == [byte])
+}
+
 // Reading a pipe would wait, as nothing is written yet.
 #[test]
 fn a_pipe_left_unread(rt: HostRuntime) -> Result<(), Fail> {
     let (mut reader, mut writer) = io::pipe(&rt)?;
     let number = reader.as_raw_fd();
-    let path = format!(in rt.alloc(); "/proc/self/fd/{number}")?;
-    assert!(rt; stands(&rt, path.as_str(), PIPE)?);
+    assert!(rt; is_pipe(&rt, number)?);
     writer.write_all(b"a")?;
-    assert!(rt; stands(&rt, path.as_str(), PIPE)?);
-    let mut byte = [0];
-    let count = reader.read(&mut byte)?;
-    assert_eq!(rt; (count, byte[0]), (1, b'a'));
+    assert!(rt; is_pipe(&rt, number)?);
+    assert!(rt; is_next(&mut reader, b'a')?);
     Ok(())
 }
