@@ -3,7 +3,7 @@ use Rattle.std.proofs.Common.{◌≡◌, refl, sym, ap, ◌∙◌, ℕ, Bool, tr
 use Rattle.std.specs.Prelude.{not, IfOk, string_bytes}
 use Rattle.std.proofs.lemmas.Slice.Eq.{bytes_eq-Decides}
 use Rattle.predicates_core.specs.Label.{Label, Entry, Fits}
-use Rattle.predicates_core.specs.Formula.{Formula, Leaf, Join, Not, Named, text_of, value, actual, truth, HasTruth}
+use Rattle.predicates_core.specs.Formula.{Formula, Leaf, Join, Not, Named, AtLeast, text_of, value, actual, truth, HasTruth}
 use Rattle.predicates_core.specs.Shows.{FitsNode, Shows, Explains, IsCaseOf, IsAnswer, IsFound}
 use Rattle.predicates_core.specs.ShowsChange.{ShowsChange}
 use Rattle.predicates_core.specs.Tree.{Tree}
@@ -32,6 +32,7 @@ value-opened (Leaf label own) w = refl
 value-opened (Join op label fs) w = refl
 value-opened (Not label f) w = refl
 value-opened (Named label name f) w = refl
+value-opened (AtLeast k label fs) w = refl
 
 actual-opened : (f : Formula) → actual f ≡ actual (opened f)
 unfolding actual
@@ -39,6 +40,7 @@ actual-opened (Leaf label own) = refl
 actual-opened (Join op label fs) = refl
 actual-opened (Not label f) = refl
 actual-opened (Named label name f) = refl
+actual-opened (AtLeast k label fs) = refl
 
 truth-opened : (f : Formula) → truth f ≡ truth (opened f)
 truth-opened f = same_function_truth f (opened f) (actual-opened f) (λ w _. value-opened f w)
@@ -52,6 +54,7 @@ shows-opened (Leaf label own) t leaves h = (node-opened label _ _ t.root refl h.
 shows-opened (Join op label fs) t leaves h = (node-opened label _ _ t.root (truth-opened (Join op label fs)) h.0, h.1)
 shows-opened (Not label f) t leaves h = (node-opened label _ _ t.root (truth-opened (Not label f)) h.0, h.1)
 shows-opened (Named label name f) t leaves h = (node-opened label _ _ t.root (truth-opened (Named label name f)) h.0, h.1)
+shows-opened (AtLeast k label fs) t leaves h = (node-opened label _ _ t.root (truth-opened (AtLeast k label fs)) h.0, h.1)
 
 shows_change-opened : (f : Formula) (t : Tree CaseNode) (leaves : List ℕ) → ShowsChange f t leaves → ShowsChange (opened f) t leaves
 unfolding ShowsChange
@@ -59,6 +62,7 @@ shows_change-opened (Leaf label own) t leaves h = (node-opened label _ _ t.root 
 shows_change-opened (Join op label fs) t leaves h = (node-opened label _ _ t.root (truth-opened (Join op label fs)) h.0, h.1)
 shows_change-opened (Not label f) t leaves h = (node-opened label _ _ t.root (truth-opened (Not label f)) h.0, h.1)
 shows_change-opened (Named label name f) t leaves h = (node-opened label _ _ t.root (truth-opened (Named label name f)) h.0, h.1)
+shows_change-opened (AtLeast k label fs) t leaves h = (node-opened label _ _ t.root (truth-opened (AtLeast k label fs)) h.0, h.1)
 
 explains-opened : (f : Formula) (t : Tree CaseNode) → Explains f t → Explains (opened f) t
 explains-opened f t h = record {

@@ -2,7 +2,7 @@
 use Rattle.std.specs.Prelude.{◌≡◌, ℕ, Bool, true, cond, List, None, Some, string_bytes, bytes_eq}
 use Rattle.predicates_core.specs.Text.{Text}
 use Rattle.predicates_core.specs.Label.{Label, Entry, Fits}
-use Rattle.predicates_core.specs.Formula.{Formula, Leaf, Join, Not, Named, text_of}
+use Rattle.predicates_core.specs.Formula.{Formula, Leaf, Join, Not, Named, AtLeast, text_of}
 
 -- the label with its text left open
 abbrev pub opened_label : Label → Label
@@ -14,6 +14,7 @@ opened (Leaf label own) = Leaf (opened_label label) own
 opened (Join op label fs) = Join op (opened_label label) fs
 opened (Not label f) = Not (opened_label label) f
 opened (Named label name f) = Named (opened_label label) name f
+opened (AtLeast k label fs) = AtLeast k (opened_label label) fs
 
 -- whether the printed bytes fit the entry
 abbrev pub fits : Entry → List ℕ → Bool

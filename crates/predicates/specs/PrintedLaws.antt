@@ -3,7 +3,7 @@ use Rattle.std.specs.Prelude.{◌≡◌, refl, ℕ, Bool, true, false, cond, Lis
 use Rattle.std.proofs.Common.{sym, ap, ◌∙◌}
 use Rattle.std.proofs.lemmas.Slice.Eq.{bytes_eq-Decides}
 use Rattle.predicates_core.specs.Label.{Entry, FitsEntry}
-use Rattle.predicates_core.specs.Formula.{Formula, Leaf, Join, Not, Named, text_of}
+use Rattle.predicates_core.specs.Formula.{Formula, Leaf, Join, Not, Named, AtLeast, text_of}
 use Rattle.predicates.specs.Printed.{opened, fits, as_printed, IsPrintedAs}
 
 text-opened : (f : Formula) → text_of (opened f) ≡ None
@@ -11,6 +11,7 @@ text-opened (Leaf label own) = refl
 text-opened (Join op label fs) = refl
 text-opened (Not label f) = refl
 text-opened (Named label name f) = refl
+text-opened (AtLeast k label fs) = refl
 
 fits-from_test : (entry : Entry) (bytes : List ℕ) → fits entry bytes ≡ true
     → FitsEntry entry (Some bytes)

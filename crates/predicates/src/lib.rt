@@ -22,7 +22,7 @@
 //! Of any item: `always`, `never`; `eq`, `ne`, `lt`, `le`, `ge`, `gt`; `in_iter`, `in_hash` and
 //! `InPredicate::sort`; `function` over a function or a closure.
 //!
-//! Over other predicates: `and`, `or`, `xor`, `not`, and `name`; `all_of` and `any_of` over a list
+//! Over other predicates: `and`, `or`, `xor`, `not`, and `name`; `all_of`, `any_of` and `at_least` over a list
 //! of them. Of parts of an item: `of`, `of_ref`, `of_some_ref` and `of_field`; `of_some`, `of_ok`
 //! and `of_err` of what an `Option` or a `Result` holds; `of_each`, `of_any` and `of_len` of a
 //! list.
@@ -56,7 +56,7 @@ pub mod prelude;
 pub mod semantics;
 
 pub use boxed::{BoxPredicate, TextPredicate};
-pub use predicates_boolean::{boolean, name, rules};
+pub use predicates_boolean::{boolean, name, rules, threshold};
 pub use predicates_check as check;
 pub use predicates_core::{
     Content, Predicate, PredicateChange, ReadsContent, Total, as_static_str, custom,

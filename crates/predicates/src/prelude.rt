@@ -24,6 +24,7 @@ pub use predicates_text::PredicateStrExt;
 /// The functions that make predicates.
 pub mod predicate {
     pub use predicates_boolean::rules::{all_of, any_of};
+    pub use predicates_boolean::threshold::at_least;
     pub use predicates_item::constant::{always, never};
     pub use predicates_item::function::function;
     pub use predicates_item::iter::{in_hash, in_iter};

@@ -2,3 +2,4 @@ pub mod Join
 pub mod Not
 pub mod Name
 pub mod Rules
+pub mod Threshold

@@ -13,3 +13,4 @@ pub mod boolean;
 pub mod name;
 pub mod rules;
 pub mod semantics;
+pub mod threshold;

@@ -83,7 +83,7 @@ fn word_of(one_suffices: bool) -> &'static str
 }
 
 // Writes each of the rules behind a comma.
-fn write_further<P: fmt::Display, W: fmt::Write>(
+pub(super) fn write_further<P: fmt::Display, W: fmt::Write>(
     f: &mut fmt::Formatter<W>,
     rules: &[P],
 ) -> fmt::Result

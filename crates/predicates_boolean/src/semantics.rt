@@ -19,10 +19,13 @@ ghost use Rattle.predicates_boolean.specs.Join.{left_of, right_of};
 ghost use Rattle.predicates_boolean.specs.Name as Name;
 ghost use Rattle.predicates_boolean.specs.Not as Not;
 ghost use Rattle.predicates_boolean.specs.Rules.{rules_of, word};
+ghost use Rattle.predicates_boolean.specs.Threshold.{counted_of, least_of};
+ghost use Rattle.predicates_core.specs.Thresholds.{IsOfThreshold, counted_text};
 
 use crate::boolean::{JoinOperator, JoinPredicate, NotPredicate};
 use crate::name::NamePredicate;
 use crate::rules::RulesPredicate;
+use crate::threshold::AtLeastPredicate;
 use predicates_core::Predicate;
 use predicates_core::as_static_str::AsStaticStr;
 use predicates_core::custom::Quantifier;
@@ -70,6 +73,27 @@ pub fn rules<Q: Quantifier, P: Predicate<Item>, Item>(rules: &RulesPredicate<Q, 
     ensures values { ⟦<RulesPredicate<Q, P> as PredicateReflection>⟧.parameters_of rules.now ≡ [] }
     ensures parts { ⟦<RulesPredicate<Q, P> as PredicateReflection>⟧.children_of rules.now
         ≡ part_of_each (codes "rule") P.output P.parameters_of P.children_of (rules_of rules.now) }
+{}
+
+/// Its formulas are `AtLeast` over a formula of each rule, in order, under the name `rule`; where the
+/// number alone settles it, it is one leaf.
+pub fn at_least<P: Predicate<Item>, Item>(threshold: &AtLeastPredicate<P>, item: &Item)
+    ensures formula { (f : Formula)
+        → ⟦<AtLeastPredicate<P> as Predicate<Item>>⟧.formula threshold.now item.now f
+        ↔ IsOfThreshold (least_of threshold.now)
+        (counted_text (codes "at_least") (least_of threshold.now)
+        (map P.output (counted_of threshold.now)))
+        (codes "rule") (λ p. P.formula p item.now) (counted_of threshold.now) f }
+    ensures lawful { ⟦<AtLeastPredicate<P> as Predicate<Item>>⟧.lawful threshold.now
+        ↔ AllByRecursion P.lawful (counted_of threshold.now) }
+    ensures infallible { ⟦<AtLeastPredicate<P> as Predicate<Item>>⟧.infallible
+        threshold.now item.now
+        ↔ AllByRecursion (λ p. P.infallible p item.now) (counted_of threshold.now) }
+    ensures values { ⟦<AtLeastPredicate<P> as PredicateReflection>⟧.parameters_of threshold.now
+        ≡ [] }
+    ensures parts { ⟦<AtLeastPredicate<P> as PredicateReflection>⟧.children_of threshold.now
+        ≡ part_of_each
+        (codes "rule") P.output P.parameters_of P.children_of (counted_of threshold.now) }
 {}
 
 /// Its formulas are `Not` over a formula of its part.

@@ -2,7 +2,7 @@
 -- too.
 use Rattle.std.proofs.Common.{◌≡◌, refl, sym, ap, ◌∙◌, ℕ, Bool, List, [], ◌∷◌, ◌++◌, Option, Some, None}
 use Rattle.predicates_core.specs.Label.{Label, Entry, Product, Fits, FitsEntry, FitsProducts}
-use Rattle.predicates_core.specs.Formula.{Formula, Leaf, Join, Not, Named, text_of, truth, value, actual, HasTruth, with_product}
+use Rattle.predicates_core.specs.Formula.{Formula, Leaf, Join, Not, Named, AtLeast, text_of, truth, value, actual, HasTruth, with_product}
 use Rattle.predicates_core.specs.Shows.{FitsNode, Shows, Explains, IsCaseOf, IsFound}
 use Rattle.predicates_core.specs.Tree.{Tree}
 use Rattle.predicates_core.specs.Describe as describe
@@ -33,6 +33,7 @@ shows_with_product (Leaf label t) c S p bytes fits h = (root_with_product label 
 shows_with_product (Join op label fs) c S p bytes fits h = (root_with_product label _ _ c p bytes (with_product_truth (Join op label fs) p) fits h.0, h.1)
 shows_with_product (Not label f) c S p bytes fits h = (root_with_product label _ _ c p bytes (with_product_truth (Not label f) p) fits h.0, h.1)
 shows_with_product (Named label name f) c S p bytes fits h = (root_with_product label _ _ c p bytes (with_product_truth (Named label name f) p) fits h.0, h.1)
+shows_with_product (AtLeast k label fs) c S p bytes fits h = (root_with_product label _ _ c p bytes (with_product_truth (AtLeast k label fs) p) fits h.0, h.1)
 
 explains_with_product : (f : Formula) (c : Tree CaseNode) (p : Product) (bytes : List ℕ) → Fits p.value bytes → Explains f c → Explains (with_product f p) (describe.with_product c (p.name, bytes))
 explains_with_product f c p bytes fits x = record {
@@ -48,6 +49,7 @@ text-with_product (Leaf label t) p = refl
 text-with_product (Join op label fs) p = refl
 text-with_product (Not label f) p = refl
 text-with_product (Named label name f) p = refl
+text-with_product (AtLeast k label fs) p = refl
 
 module _ {name : List ℕ} {value : Entry} {part : Formula → Type 0} where
   pub with_product_text_fits : {text : Option (List ℕ)} {f : Formula} → ((g : Formula) → part g → FitsEntry (text_of g) text) → IsWithProduct name value part f → FitsEntry (text_of f) text

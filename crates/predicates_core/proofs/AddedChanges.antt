@@ -1,7 +1,7 @@
 -- One product more at the root: the first change stays, and its case has the product too.
 use Rattle.std.proofs.Common.{refl, ℕ, Bool, List, Option, Some, None}
 use Rattle.predicates_core.specs.Label.{Entry, Product, Fits}
-use Rattle.predicates_core.specs.Formula.{Formula, Leaf, Join, Not, Named, truth, value, actual, with_product}
+use Rattle.predicates_core.specs.Formula.{Formula, Leaf, Join, Not, Named, AtLeast, truth, value, actual, with_product}
 use Rattle.predicates_core.specs.ShowsChange.{ShowsChange}
 use Rattle.predicates_core.specs.Change.{ExplainsChange, IsChangeOf, IsFoundChange}
 use Rattle.predicates_core.specs.Tree.{Tree}
@@ -20,6 +20,7 @@ shows_with_product (Leaf label t) c S p bytes fits h = (root_with_product label 
 shows_with_product (Join op label fs) c S p bytes fits h = (root_with_product label _ _ c p bytes (with_product_truth (Join op label fs) p) fits h.0, h.1)
 shows_with_product (Not label f) c S p bytes fits h = (root_with_product label _ _ c p bytes (with_product_truth (Not label f) p) fits h.0, h.1)
 shows_with_product (Named label name f) c S p bytes fits h = (root_with_product label _ _ c p bytes (with_product_truth (Named label name f) p) fits h.0, h.1)
+shows_with_product (AtLeast k label fs) c S p bytes fits h = (root_with_product label _ _ c p bytes (with_product_truth (AtLeast k label fs) p) fits h.0, h.1)
 
 explains_with_product : (f : Formula) (c : Tree CaseNode) (p : Product) (bytes : List ℕ) → Fits p.value bytes → ExplainsChange f c → ExplainsChange (with_product f p) (describe.with_product c (p.name, bytes))
 explains_with_product f c p bytes fits x = record {

@@ -1,14 +1,14 @@
 -- The cases that show what would turn a formula, from those of its parts.
-use Rattle.std.proofs.Common.{◌≡◌, ℕ, Bool, true, false, List, [], ◌∷◌, Option, Some, None, codes, cond, option_map, refl, sym, ap, ◌∙◌, subst}
+use Rattle.std.proofs.Common.{◌≡◌, ℕ, suc, Bool, true, false, List, [], ◌∷◌, Option, Some, None, codes, cond, option_map, refl, sym, ap, ◌∙◌, subst}
 use Rattle.std.specs.Prelude.{not, Result, Ok, Err, IfOk}
 use Rattle.predicates_core.specs.Label.{Label, Entry, plain, Fits}
 use Rattle.predicates_core.specs.declared.custom.join.Operator.{Operator}
 use Rattle.predicates_core.specs.declared.custom.join.Operator.TheVariants.{And, Or, Xor}
-use Rattle.predicates_core.specs.Formula.{Formula, Formulas, one, more, Leaf, Join, Not, Named, IsLeaf, apply, truth, size, HasTruth}
+use Rattle.predicates_core.specs.Formula.{Formula, Formulas, one, more, Leaf, Join, Not, Named, AtLeast, IsLeaf, apply, truth, size, HasTruth}
 use Rattle.predicates_core.specs.Reason.{AreIncreasing}
-use Rattle.predicates_core.specs.Tree.{Tree, empty, branch, forest}
+use Rattle.predicates_core.specs.Tree.{Tree, Forest, empty, branch, forest}
 use Rattle.predicates_core.specs.Describe.{CaseNode, NamedCase}
-use Rattle.predicates_core.specs.Shows.{ShowsPart, Shows, Explains, IsCaseOf, IsFound, IsNode, found_parts}
+use Rattle.predicates_core.specs.Shows.{ShowsPart, ShowsNumbered, with_index, left_share, right_share, Shows, Explains, IsCaseOf, IsFound, IsNode, found_parts}
 use Rattle.predicates_core.specs.ShowsChange.{ShowsChange, ShowsTurned, are_alike}
 use Rattle.predicates_core.specs.Change.{IsFirstChange, ExplainsChange, IsChangeOf, IsFoundChange}
 use Rattle.predicates_core.specs.Combined.{IsPair, IsNot, IsNamed}
@@ -43,6 +43,7 @@ leaf_change (Leaf label own) t is x = record {
 leaf_change (Join op label fs) t is x = absurd is
 leaf_change (Not label f) t is x = absurd is
 leaf_change (Named label name f) t is x = absurd is
+leaf_change (AtLeast k label fs) t is x = absurd is
 
 pub leaf_case : {F : Formula → Type 0} {b : Bool} {t : Tree CaseNode} → ((f : Formula) → F f → IsLeaf f) → IsCaseOf F b t → IsChangeOf F b t
 leaf_case leaf c = record { truth = c.truth; explains = λ f h. leaf_change f _ (leaf f h) (c.explains f h) }
@@ -67,6 +68,7 @@ result_turned (Leaf label own) t s h = h.0.result ∙ sym (truth-Leaf label own)
 result_turned (Join op label fs) t s h = h.0.result
 result_turned (Not label f) t s h = h.0.result
 result_turned (Named label name f) t s h = h.0.result
+result_turned (AtLeast k label fs) t s h = h.0.result
 
 pub change_by_result : {F : Formula → Type 0} {b : Bool} {t : Tree CaseNode} → IsChangeOf F b t → IsChangeOf F t.root.result t
 change_by_result {t = t} c = record { truth = record { at = λ f h. sym (result_turned f t (c.explains f h).leaves (c.explains f h).shown) }; explains = c.explains }
@@ -90,6 +92,16 @@ no_change_wanted None t is = absurd (cc)
 pub change_wanted : {F : Formula → Type 0} (w : Option Bool) {h : Bool} {t : Tree CaseNode} → IsChangeOf F h t → is_other w h ≡ false → IsFoundChange F w (Some t)
 change_wanted {F} (Some e) {h} {t} x is = subst (λ b. IsChangeOf F b t) (is_same e h is) x
 change_wanted None x is = change_by_result x
+
+-- a part that is shown under its own name is shown under the name, with its number
+pub place_turned : (name n : List ℕ) (f : Formula) (c d : Tree CaseNode) (k : ℕ) (rest : Forest CaseNode) → n ≡ name → d ≡ with_index k c → (x : ExplainsChange f c) → ShowsPart (ShowsNumbered k (ShowsChange f)) n x.leaves (branch name d.root d.children rest) rest
+place_turned name n f c d k rest e tells x = subst (λ z. ShowsPart (ShowsNumbered k (ShowsChange f)) n x.leaves (branch z d.root d.children rest) rest) e (shows_part (ShowsNumbered k (ShowsChange f)) n rest x.leaves d (some_change f x.leaves x.first) (c, tells, x.shown))
+
+-- none of the formulas is shown where none has a share
+pub shows_no_change : (k : ℕ) (fs : Formulas) → ShowsTurned true k fs empty []
+unfolding ShowsChange left_share right_share
+shows_no_change k (one name f) = refl
+shows_no_change k (more name f fs) = (empty, refl, shows_no_change (suc k) fs)
 
 -- ---- one part
 

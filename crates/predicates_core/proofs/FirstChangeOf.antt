@@ -4,13 +4,16 @@ use Rattle.std.specs.Prelude.{not}
 use Rattle.predicates_core.specs.Label.{Label, Product}
 use Rattle.predicates_core.specs.declared.custom.join.Operator.{Operator}
 use Rattle.predicates_core.specs.declared.custom.join.Operator.TheVariants.{And, Or, Xor}
-use Rattle.predicates_core.specs.Formula.{Formula, Formulas, one, more, Leaf, Join, Not, Named, apply, differ, size, IsValuation, value, actual, truth, with_product}
+use Rattle.predicates_core.specs.Formula.{Formula, Formulas, one, more, Leaf, Join, Not, Named, AtLeast, apply, differ, size, IsValuation, value, actual, truth, with_product}
 use Rattle.predicates_core.specs.Reason.{AreIncreasing}
 use Rattle.predicates_core.specs.Change.{turned, IsChange, IsMinimalChange, IsFirstChange, FirstChanges}
 use Rattle.predicates_core.proofs.Numbers.{shifted}
 use Rattle.predicates_core.proofs.Joins.{Joins, joins, length-actual}
 use Rattle.predicates_core.proofs.FirstReasonOf.{with_product_actual, with_product_value, same_function_truth}
 use Rattle.predicates_core.proofs.Turned.{length-turned}
+use Rattle.predicates_core.proofs.Values.{not-not}
+use Rattle.predicates_core.proofs.Thresholds.{decisive}
+use Rattle.predicates_core.proofs.TurnedThresholds.{ChangeOfEach, some_brings, decisive_within, too_few, threshold_change}
 use Rattle.predicates_core.proofs.FirstChange.{no_change_is_empty, first_change_unique, LeftTurns, RightTurns, BothTurn, left_first, right_first, both_first}
 
 -- two formulas with the same changes have the same first change
@@ -154,6 +157,16 @@ mutual
   some_first (Join op label fs) = some_first_of_parts op label fs
   some_first (Not label f) = let s = some_first f in (s.0, change-Not label f s.0 s.1)
   some_first (Named label name f) = let s = some_first f in (s.0, change-Named label name f s.0 s.1)
+  some_first (AtLeast k label fs) =
+      let b = not (truth (AtLeast k label fs)) in
+      let is : truth (AtLeast k label fs) ≡ not b = sym (not-not (truth (AtLeast k label fs))) in
+      let few = too_few b k label fs is in
+      let s = some_brings b (decisive b k fs) fs (change_of_each fs) (omega (arith, few)) (decisive_within b k fs) in
+      (s.0, threshold_change b k label fs is s.0 s.1)
+
+  change_of_each : (fs : Formulas) → ChangeOfEach fs
+  change_of_each (one name f) = some_first f
+  change_of_each (more name f fs) = (some_first f, change_of_each fs)
 
   some_first_of_parts : (op : Operator) (label : Label) (fs : Formulas) → SomeFirst (Join op label fs)
   some_first_of_parts op label (one name f) = let s = some_first f in (s.0, change-one op label name f s.0 s.1)

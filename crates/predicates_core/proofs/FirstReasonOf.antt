@@ -4,7 +4,7 @@ use Rattle.std.specs.Prelude.{not, ◌&&◌, ◌||◌}
 use Rattle.predicates_core.specs.Label.{Label, Product}
 use Rattle.predicates_core.specs.declared.custom.join.Operator.{Operator}
 use Rattle.predicates_core.specs.declared.custom.join.Operator.TheVariants.{And, Or, Xor}
-use Rattle.predicates_core.specs.Formula.{Formula, one, Leaf, Join, Not, Named, apply, differ, size, IsValuation, value, actual, truth, with_product}
+use Rattle.predicates_core.specs.Formula.{Formula, one, Leaf, Join, Not, Named, AtLeast, apply, differ, size, IsValuation, value, actual, truth, with_product}
 use Rattle.predicates_core.specs.Reason.{AreIncreasing, AreEqualAt, IsReason, IsMinimalReason, IsFirstReason}
 use Rattle.predicates_core.proofs.Joins.{length-actual}
 use Rattle.predicates_core.proofs.FirstOfJoins.{BothCount, LeftDecides, RightDecides, Share, by_both, by_left, by_right}
@@ -96,6 +96,7 @@ with_product_actual (Leaf label t) p = refl
 with_product_actual (Join op label fs) p = refl
 with_product_actual (Not label f) p = refl
 with_product_actual (Named label name f) p = refl
+with_product_actual (AtLeast k label fs) p = refl
 
 pub with_product_value : (f : Formula) (p : Product) (w : List Bool) → value (with_product f p) w ≡ value f w
 unfolding value with_product
@@ -103,6 +104,7 @@ with_product_value (Leaf label t) p w = refl
 with_product_value (Join op label fs) p w = refl
 with_product_value (Not label f) p w = refl
 with_product_value (Named label name f) p w = refl
+with_product_value (AtLeast k label fs) p w = refl
 
 pub with_product_truth : (f : Formula) (p : Product) → truth (with_product f p) ≡ truth f
 with_product_truth f p = same_function_truth (with_product f p) f (with_product_actual f p) (λ w e. with_product_value f p w)

@@ -2,7 +2,7 @@
 use Rattle.std.proofs.Common.{◌≡◌, ℕ, Bool, true, false, List, [], ◌∷◌, Option, Some, None, codes, option_map, refl, sym, ◌∙◌, subst}
 use Rattle.std.specs.Prelude.{not}
 use Rattle.predicates_core.specs.Label.{Fits}
-use Rattle.predicates_core.specs.Formula.{Formula, Leaf, Join, Not, Named, differ, truth, HasTruth}
+use Rattle.predicates_core.specs.Formula.{Formula, Leaf, Join, Not, Named, AtLeast, differ, truth, HasTruth}
 use Rattle.predicates_core.specs.Tree.{Tree}
 use Rattle.predicates_core.specs.Describe.{CaseNode}
 use Rattle.predicates_core.specs.Shows.{Shows, IsCaseOf, IsAnswer, IsFound, IsNode}
@@ -35,6 +35,7 @@ result_shown (Leaf label own) t s h = h.0.result ∙ sym (truth-Leaf label own)
 result_shown (Join op label fs) t s h = h.0.result
 result_shown (Not label f) t s h = h.0.result
 result_shown (Named label name f) t s h = h.0.result
+result_shown (AtLeast k label fs) t s h = h.0.result
 
 pub case_by_result : {F : Formula → Type 0} {b : Bool} {t : Tree CaseNode} → IsCaseOf F b t → IsCaseOf F t.root.result t
 case_by_result {t = t} c = record { truth = record { at = λ f h. sym (result_shown f t (c.explains f h).leaves (c.explains f h).shown) }; explains = c.explains }

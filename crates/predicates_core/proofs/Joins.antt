@@ -4,7 +4,7 @@ use Rattle.std.proofs.Common.{◌≡◌, ℕ, ◌+◌, List, [], ◌∷◌, ◌+
 use Rattle.std.proofs.lemmas.List.{take-append-drop, length-take-le, take_at, drop_at}
 use Rattle.predicates_core.specs.Label.{Label}
 use Rattle.predicates_core.specs.declared.custom.join.Operator.{Operator}
-use Rattle.predicates_core.specs.Formula.{Formula, Formulas, one, more, Leaf, Join, Not, Named, apply, pair, size, size_of_parts, IsValuation, value, actual, actual_of_parts, truth}
+use Rattle.predicates_core.specs.Formula.{Formula, Formulas, one, more, Leaf, Join, Not, Named, AtLeast, apply, pair, size, size_of_parts, IsValuation, value, actual, actual_of_parts, truth}
 use Rattle.predicates_core.specs.Reason.{AreIncreasing, AreEqualAt, IsReason, IsMinimalReason}
 use Rattle.predicates_core.proofs.Numbers.{shifted, increasing_joined, increasing_without, split, equal_at_both, equal_at_first, equal_at_second, equal_at_left, left_equal_at, equal_at_right, right_equal_at}
 
@@ -17,8 +17,9 @@ mutual
   length-actual (Join op label fs) = length-actual_of_parts fs
   length-actual (Not label f) = length-actual f
   length-actual (Named label name f) = length-actual f
+  length-actual (AtLeast k label fs) = length-actual_of_parts fs
 
-  length-actual_of_parts : (fs : Formulas) → length (actual_of_parts fs) ≡ size_of_parts fs
+  pub length-actual_of_parts : (fs : Formulas) → length (actual_of_parts fs) ≡ size_of_parts fs
   length-actual_of_parts (one name f) = length-actual f
   length-actual_of_parts (more name f fs) = omega (arith, length-append (actual f) (actual_of_parts fs), length-actual f, length-actual_of_parts fs)
 

@@ -9,6 +9,7 @@ pub mod Values
 pub mod FirstReason
 pub mod FirstOfJoins
 pub mod FirstReasonOf
+pub mod Thresholds
 pub mod Shown
 pub mod CombinedLemmas
 pub mod Leaves
@@ -23,10 +24,13 @@ pub mod Asked
 pub mod Fewer
 pub mod Several
 pub mod EachPart
+pub mod ThresholdCases
 pub mod Turned
 pub mod FirstChange
+pub mod TurnedThresholds
 pub mod FirstChangeOf
 pub mod ChangeCases
 pub mod SeveralChanges
 pub mod PresentChanges
 pub mod AddedChanges
+pub mod ThresholdChanges

@@ -282,7 +282,7 @@ module _ (decides : Bool) {U : Type 0} (name : List ℕ) (has : U → Formula �
   -- ---- where a truth is wanted, but not the one that decides
 
   -- each of the members has a formula, where the node has one
-  formula_at : (us : List U) (k : ℕ) (u : U) (fs : Formulas) → k < length us → u ≡ get_or us k u → AreOfEach name has us fs → (f : Formula) × has u f
+  pub formula_at : (us : List U) (k : ℕ) (u : U) (fs : Formulas) → k < length us → u ≡ get_or us k u → AreOfEach name has us fs → (f : Formula) × has u f
   formula_at [] k u fs within is of = absurd of
   formula_at (v ∷ us) zero u (one n f) within is of = (f, subst (λ z. has z f) (sym is) of.1)
   formula_at (v ∷ us) zero u (more n f fs) within is of = (f, subst (λ z. has z f) (sym is) of.1)
@@ -375,14 +375,14 @@ module _ {U : Type 0} (name : List ℕ) (has : U → Formula → Type 0) where
   abbrev pub HasOne : U → Type 0
   HasOne u = (x y : Formula) → has u x → has u y → x ≡ y
 
-  one_of_each : (us : List U) (fs gs : Formulas) → AllByRecursion HasOne us → AreOfEach name has us fs → AreOfEach name has us gs → fs ≡ gs
+  pub one_of_each : (us : List U) (fs gs : Formulas) → AllByRecursion HasOne us → AreOfEach name has us fs → AreOfEach name has us gs → fs ≡ gs
   one_of_each [] fs gs one_of h k = absurd h
   one_of_each (u ∷ us) (one n f) (one m g) one_of h k = λ i. one ((h.0 ∙ sym k.0) i) (one_of.0 f g h.1 k.1 i)
   one_of_each (u ∷ us) (one n f) (more m g gs) one_of h k = absurd (no_member us gs h.2 k.2)
   one_of_each (u ∷ us) (more n f fs) (one m g) one_of h k = absurd (no_member us fs k.2 h.2)
   one_of_each (u ∷ us) (more n f fs) (more m g gs) one_of h k = λ i. more ((h.0 ∙ sym k.0) i) (one_of.0 f g h.1 k.1 i) (one_of_each us fs gs one_of.1 h.2 k.2 i)
 
-  are_formulas : (g : U → Formula) (u : U) (us : List U) → ((v : U) → has v (g v)) → AreOfEach name has (u ∷ us) (formulas_of name g u us)
+  pub are_formulas : (g : U → Formula) (u : U) (us : List U) → ((v : U) → has v (g v)) → AreOfEach name has (u ∷ us) (formulas_of name g u us)
   are_formulas g u [] had = (refl, had u, refl)
   are_formulas g u (v ∷ us) had = (refl, had u, are_formulas g v us had)
 

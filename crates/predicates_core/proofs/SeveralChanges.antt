@@ -10,9 +10,9 @@ use Rattle.std.proofs.lemmas.Slice.Eq.{bytes_eq-Decides}
 use Rattle.predicates_core.specs.Label.{Label, Entry, plain, Fits}
 use Rattle.predicates_core.specs.Formula.{Formula, Formulas, one, more, Join, apply, truth, size, HasTruth}
 use Rattle.predicates_core.specs.Tree.{Tree, Forest, empty, branch, forest, add_last}
-use Rattle.predicates_core.specs.Describe.{CaseNode, NamedCase, with_product, with_child}
-use Rattle.predicates_core.specs.Shows.{FitsNode, ShowsPart, IsCaseOf, IsNode, left_share, right_share}
-use Rattle.predicates_core.specs.ShowsChange.{ShowsChange, ShowsTurned, ShowsNumbered, are_under, are_alike}
+use Rattle.predicates_core.specs.Describe.{CaseNode, NamedCase, with_child}
+use Rattle.predicates_core.specs.Shows.{FitsNode, ShowsPart, ShowsNumbered, with_index, IsCaseOf, IsNode}
+use Rattle.predicates_core.specs.ShowsChange.{ShowsChange, ShowsTurned, are_under, are_alike}
 use Rattle.predicates_core.specs.Change.{IsFirstChange, ExplainsChange, IsChangeOf, IsFoundChange}
 use Rattle.predicates_core.specs.Leaves.{IsExactly, IsShowing}
 use Rattle.predicates_core.specs.Several.{decided_by, number_of_first, index_product, numbered, AreOfEach, IsOfMembers, IsDecidedBy, no_members}
@@ -20,12 +20,12 @@ use Rattle.predicates_core.specs.Turning.{IsNextNode, IsFirstAlone}
 use Rattle.predicates_core.proofs.Numbers.{shifted}
 use Rattle.predicates_core.proofs.Joins.{joins}
 use Rattle.predicates_core.proofs.Values.{truth-one, truth-more, not-not, same_truths}
-use Rattle.predicates_core.proofs.Shown.{shows_part, left_share-joined, right_share-joined, left_share-shifted, right_share-shifted, left_share-alone, right_share-alone}
+use Rattle.predicates_core.proofs.Shown.{told, left_share-joined, right_share-joined, left_share-shifted, right_share-shifted, left_share-alone, right_share-alone}
 use Rattle.predicates_core.proofs.CombinedLemmas.{node_fits, node_of_text}
 use Rattle.predicates_core.proofs.Several.{decided, itself, not_itself, all_zip_last, forest-add_last, EachPasses, every_truth, every_number, passes_more, passes_all, members_pass, member_decides}
 use Rattle.predicates_core.proofs.FirstChange.{LeftTurns, RightTurns, BothTurn, left_first, right_first, both_first}
 use Rattle.predicates_core.proofs.FirstChangeOf.{change-one}
-use Rattle.predicates_core.proofs.ChangeCases.{some_change, change_numbers, exact_leaf, leaf_case, change_by_result}
+use Rattle.predicates_core.proofs.ChangeCases.{place_turned, shows_no_change, change_numbers, exact_leaf, leaf_case, change_by_result}
 use Rattle.predicates_core.proofs.Found.{truth_of_none}
 
 -- what turns a join where one part with the truth `decides` decides the whole
@@ -41,10 +41,6 @@ turns false = record { all = record { left_stays = refl; right_stays = refl; tur
 
 abbrev Case : Type 0
 Case = Tree CaseNode
-
--- the case with the number, the last of its products
-abbrev with_index : ℕ → Case → Case
-with_index k c = with_product c (codes "index", decimal k)
 
 -- the cases of those that have one, in order, each with its number; the first has the number k
 abbrev somes : ℕ → List (Option Case) → List Case
@@ -67,12 +63,6 @@ somes-none : (k : ℕ) (os : List (Option Case)) → somes k (os ++ None ∷ [])
 somes-none k [] = refl
 somes-none k (None ∷ os) = somes-none (suc k) os
 somes-none k (Some d ∷ os) = ap (λ cs. with_index k d ∷ cs) (somes-none (suc k) os)
-
--- none of the formulas is shown where none has a share
-shows_no_change : (k : ℕ) (fs : Formulas) → ShowsTurned true k fs empty []
-unfolding ShowsChange left_share right_share
-shows_no_change k (one name f) = refl
-shows_no_change k (more name f fs) = (empty, refl, shows_no_change (suc k) fs)
 
 same_name : (name : List ℕ) → bytes_eq name name ≡ true
 same_name name = (bytes_eq-Decides name name).1 refl
@@ -114,8 +104,8 @@ module _ (decides : Bool) {U : Type 0} (name : List ℕ) (has : U → Formula �
   named cs = map (λ c. (name, c)) cs
 
   -- a formula that is shown under its own name is shown under the name, with its number
-  part_turned : {n : List ℕ} {f : Formula} {c : Case} (k : ℕ) (rest : Forest CaseNode) → n ≡ name → (x : ExplainsChange f c) → ShowsPart (ShowsNumbered true k (ShowsChange f)) n x.leaves (branch name (with_index k c).root c.children rest) rest
-  part_turned {n} {f} {c} k rest e x = subst (λ z. ShowsPart (ShowsNumbered true k (ShowsChange f)) n x.leaves (branch z (with_index k c).root c.children rest) rest) e (shows_part (ShowsNumbered true k (ShowsChange f)) n rest x.leaves (with_index k c) (some_change f x.leaves x.first) (c, refl, x.shown))
+  part_turned : {n : List ℕ} {f : Formula} {c : Case} (k : ℕ) (rest : Forest CaseNode) → n ≡ name → (x : ExplainsChange f c) → ShowsPart (ShowsNumbered k (ShowsChange f)) n x.leaves (branch name (with_index k c).root c.children rest) rest
+  part_turned {n} {f} {c} k rest e x = place_turned name n f c (with_index k c) k rest e refl x
 
   -- the first part alone is turned
   left_turned : (label : Label) (k : ℕ) (n : List ℕ) (f : Formula) (fs : Formulas) (c : Case) → LeftTurns (apply (decided_by decides)) (truth f) (truth (Join (decided_by decides) label fs)) → n ≡ name → ExplainsChange f c → AreTurned label k (more n f fs) ((name, with_index k c) ∷ [])
@@ -126,7 +116,7 @@ module _ (decides : Bool) {U : Type 0} (name : List ℕ) (has : U → Formula �
         left_first (joins (decided_by decides) label n f fs) t x.leaves x.first,
         (
           empty,
-          subst (λ s. ShowsPart (ShowsNumbered true k (ShowsChange f)) n s (branch name (with_index k c).root c.children empty) empty) (sym (left_share-alone (size f) x.leaves numbers)) (part_turned k empty e x),
+          subst (λ s. ShowsPart (ShowsNumbered k (ShowsChange f)) n s (branch name (with_index k c).root c.children empty) empty) (sym (left_share-alone (size f) x.leaves numbers)) (part_turned k empty e x),
           subst (ShowsTurned true (suc k) fs empty) (sym (right_share-alone (size f) x.leaves numbers)) (shows_no_change (suc k) fs),
         ),
       )
@@ -166,7 +156,7 @@ module _ (decides : Bool) {U : Type 0} (name : List ℕ) (has : U → Formula �
             both_first (joins (decided_by decides) label n f fs) (rw (d, ih.0) (turns decides).all) x.leaves other x.first ih.2.1,
             (
               children,
-              subst (λ s. ShowsPart (ShowsNumbered true k (ShowsChange f)) n s (branch name (with_index k c).root c.children children) children) (sym (left_share-joined 0 (size f) x.leaves other numbers)) (part_turned k children is x),
+              subst (λ s. ShowsPart (ShowsNumbered k (ShowsChange f)) n s (branch name (with_index k c).root c.children children) children) (sym (left_share-joined 0 (size f) x.leaves other numbers)) (part_turned k children is x),
               subst (ShowsTurned true (suc k) fs children) (sym (right_share-joined 0 (size f) x.leaves other numbers)) ih.2.2,
             ),
           ),
@@ -185,7 +175,7 @@ module _ (decides : Bool) {U : Type 0} (name : List ℕ) (has : U → Formula �
             right_first (joins (decided_by decides) label n f fs) (rw (d, ih.0) (turns decides).later) other ih.2.1,
             (
               children,
-              subst (λ s. ShowsPart (ShowsNumbered true k (ShowsChange f)) n s children children) (sym (left_share-shifted (size f) other)) refl,
+              subst (λ s. ShowsPart (ShowsNumbered k (ShowsChange f)) n s children children) (sym (left_share-shifted (size f) other)) refl,
               subst (ShowsTurned true (suc k) fs children) (sym (right_share-shifted (size f) other)) ih.2.2,
             ),
           ),
@@ -242,10 +232,6 @@ module _ (decides : Bool) {U : Type 0} (name : List ℕ) (has : U → Formula �
   first_turned label u us (one n f) c of x h = one_turned label 0 n f c of.0 (x.explains f of.1)
   first_turned label u us (more n f fs) c of x h =
       left_turned label 0 n f fs c (rw (x.truth.at f of.1, every_truth decides name has label us fs of.2 h) (turns decides).any) of.0 (x.explains f of.1)
-
-  -- the members' cases tell their numbers
-  told : (k : ℕ) {c t : Case} → IsShowing (codes "index") (Some (decimal k)) c t → t ≡ with_index k c
-  told k {c} s = s.is ∙ ap (λ bytes. with_product c (codes "index", bytes)) s.fits
 
   length_turns : (us : List U) (os : List (Option Case)) → AreTurns us os → length os ≡ length us
   length_turns [] [] h = refl
@@ -428,10 +414,10 @@ module _ (decides : Bool) {U : Type 0} (name : List ℕ) (has : U → Formula �
     pub later_decides : (us : List U) {u v : U} {rest : List U} {k : ℕ} {b : Bool} → us ≡ u ∷ rest → HasTruth (has u) (not decides) → k < length rest → v ≡ get_or rest k v → EachPasses decides name has (take k rest) → HasTruth (has v) b → beq b decides ≡ true → HasTruth (IsOfMembers decides text name has us) (not (not decides))
     later_decides us {u} {v} {rest} {k} {b} e x within is h y same = rw (e, not-not decides) (member_decides decides name has {us = u ∷ rest} {k = suc k} {u = v} (record { within = omega (arith, within); is = is; before = (x, h) }) (subst (HasTruth (has v)) (same_truths b decides same) y))
 
-    pub change_of_only_first : (us : List U) {u : U} {rest : List U} {k : ℕ} {c d t : Case} {bytes : List ℕ} → us ≡ u ∷ rest → length rest ≤ k → EachPasses decides name has (take k rest) → IsNode (Some bytes) (not decides) ((name, d) ∷ []) t → Fits text bytes → IsChangeOf (has u) (not decides) c → IsShowing (codes "index") (Some (decimal 0)) c d → IsChangeOf (IsOfMembers decides text name has us) (not decides) t
-    change_of_only_first us {u} {rest} {k} e all h written fits x tells = rw e (change_of_first u rest written fits x tells (passes_all _ rest k all h))
-
-    -- ---- what is wanted
+    pub found_first : {E : Type 0} (us : List U) {u : U} {rest : List U} {k : ℕ} {c : Case} (r : Result (Option Case) E) → us ≡ u ∷ rest → length rest ≤ k → EachPasses decides name has (take k rest) → IfOk r (IsFirstAlone decides text name (Some c)) → IsChangeOf (has u) (not decides) c → IfOk r (IsFoundChange (IsOfMembers decides text name has us) (Some (not decides)))
+    found_first us (Err e) is all h x turns = tt
+    found_first us (Ok None) is all h x turns = absurd x
+    found_first us {u} {rest} {k} (Ok (Some t)) is all h x turns = rw is (change_of_first u rest x.node x.fits turns x.tells (passes_all _ rest k all h))
 
     -- ---- whichever truth the whole has
 

@@ -5,8 +5,11 @@ use Rattle.std.proofs.lemmas.Bool.Decides.{nat_tests}
 use Rattle.predicates_core.specs.Formula.{Formula, size}
 use Rattle.predicates_core.specs.Reason.{AreIncreasing, IsFirstReason}
 use Rattle.predicates_core.specs.Tree.{Tree, Forest, empty, branch}
-use Rattle.predicates_core.specs.Describe.{CaseNode}
-use Rattle.predicates_core.specs.Shows.{left_share, right_share, ShowsPart}
+use Rattle.predicates_core.specs.Describe.{CaseNode, with_product}
+use Rattle.predicates_core.specs.Shows.{left_share, right_share, with_index, ShowsPart}
+use Rattle.predicates_core.specs.Leaves.{IsShowing}
+use Rattle.std.specs.Fmt.{decimal}
+use Rattle.std.specs.Prelude.{codes, Some}
 use Rattle.predicates_core.proofs.Numbers.{shifted}
 use Rattle.predicates_core.proofs.FirstReason.{first_not_empty}
 
@@ -64,6 +67,10 @@ not_empty f ks h = nonempty ks (first_not_empty f ks h)
 
 pub numbers_of : (f : Formula) (ks : List ℕ) → IsFirstReason f ks → AreIncreasing 0 (size f) ks
 numbers_of f ks h = h.minimal.reason.numbers
+
+-- a case that shows the number as its last product
+pub told : (k : ℕ) {c t : Tree CaseNode} → IsShowing (codes "index") (Some (decimal k)) c t → t ≡ with_index k c
+told k {c} s = s.is ∙ ap (λ bytes. with_product c (codes "index", bytes)) s.fits
 
 module _ (showing : Tree CaseNode → List ℕ → Type 0) (name : List ℕ) (rest : Forest CaseNode) where
   pub shows_part : (s : List ℕ) (c : Tree CaseNode) → IsNonempty s → showing c s → ShowsPart showing name s (branch name c.root c.children rest) rest

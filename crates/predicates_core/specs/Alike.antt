@@ -2,8 +2,8 @@
 use Rattle.std.specs.Prelude.{◌≡◌, ◌↔◌, ℕ, Bool, List, IsSome}
 use Rattle.std.specs.List.{AllByRecursion}
 use Rattle.predicates_core.specs.Label.{Label}
-use Rattle.predicates_core.specs.Formula.{Formula, Leaf, Join, Not, Named, Formulas, one, more}
-use Rattle.predicates_core.specs.Formula.{IsValuation, value, actual, truth}
+use Rattle.predicates_core.specs.Formula.{Formula, Leaf, Join, Not, Named, AtLeast}
+use Rattle.predicates_core.specs.Formula.{Formulas, one, more, IsValuation, value, actual, truth}
 use Rattle.predicates_core.specs.Reason.{IsFirstReason}
 
 -- the two formulas have the same truth and the same first reason
@@ -28,6 +28,7 @@ unfoldable mutual
   HasStatedLabels (Join op label fs) = IsStated label × HaveStatedLabels fs
   HasStatedLabels (Not label f) = IsStated label × HasStatedLabels f
   HasStatedLabels (Named label name f) = IsStated label × HasStatedLabels f
+  HasStatedLabels (AtLeast k label fs) = IsStated label × HaveStatedLabels fs
 
   pub HaveStatedLabels : Formulas → Type 0
   HaveStatedLabels (one name f) = HasStatedLabels f

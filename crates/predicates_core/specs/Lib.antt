@@ -20,6 +20,7 @@ pub mod LeafLaws
 pub mod Present
 pub mod Several
 pub mod Turning
+pub mod Thresholds
 pub mod Laws
 pub mod Added
 pub mod Text

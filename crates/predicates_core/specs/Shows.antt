@@ -1,12 +1,13 @@
 -- When a case shows a formula, cut down to some of its leaves.
-use Rattle.std.specs.Prelude.{◌≡◌, ℕ, ◌-◌, Bool, not, List, [], ◌∷◌, map, filter, Option, Some}
+use Rattle.std.specs.Fmt.{decimal}
+use Rattle.std.specs.Prelude.{◌≡◌, ℕ, suc, ◌-◌, Bool, not, List, [], ◌∷◌, map, filter, Option, Some}
 use Rattle.std.specs.Prelude.{None, MatchOption, codes, nat_lt, nat_le}
 use Rattle.predicates_core.specs.Label.{Label, Entry, FitsText, FitsProducts}
-use Rattle.predicates_core.specs.Formula.{Formula, Leaf, Join, Not, Named, Formulas, one, more}
-use Rattle.predicates_core.specs.Formula.{size, truth, HasTruth}
+use Rattle.predicates_core.specs.Formula.{Formula, Leaf, Join, Not, Named, AtLeast}
+use Rattle.predicates_core.specs.Formula.{Formulas, one, more, size, truth, HasTruth}
 use Rattle.predicates_core.specs.Reason.{IsFirstReason}
 use Rattle.predicates_core.specs.Tree.{Tree, Forest, empty, branch, forest}
-use Rattle.predicates_core.specs.Describe.{CaseNode, NamedCase}
+use Rattle.predicates_core.specs.Describe.{CaseNode, NamedCase, with_product}
 
 -- a node with the text, the products and the result
 pub record FitsNode (label : Label) (b : Bool) (node : CaseNode) : Type 0 where
@@ -29,6 +30,14 @@ ShowsPart showing name [] children rest = children ≡ rest
 ShowsPart showing name (k ∷ ks) children rest = (c : Tree CaseNode)
     × (children ≡ branch name c.root c.children rest) × showing c (k ∷ ks)
 
+-- the case with a part's number, from 0, the last of its products
+abbrev pub with_index : ℕ → Tree CaseNode → Tree CaseNode
+with_index k c = with_product c (codes "index", decimal k)
+
+-- the case shows the part, and tells its number
+abbrev pub ShowsNumbered : ℕ → (Tree CaseNode → List ℕ → Type 0) → Tree CaseNode → List ℕ → Type 0
+ShowsNumbered k showing = λ c s. (part : Tree CaseNode) × (c ≡ with_index k part) × showing part s
+
 -- the tree is the formula cut down to the leaves
 unfoldable mutual
   pub Shows : Formula → Tree CaseNode → List ℕ → Type 0
@@ -39,6 +48,8 @@ unfoldable mutual
       × ShowsPart (Shows f) (codes "predicate") s t.children empty
   Shows (Named label name f) t s = FitsNode label (truth (Named label name f)) t.root
       × ShowsPart (Shows f) name s t.children empty
+  Shows (AtLeast k label fs) t s = FitsNode label (truth (AtLeast k label fs)) t.root
+      × ShowsPlaces 0 fs t.children s
 
   -- the children are, in order, the parts with a share, each cut down to it
   pub ShowsParts : Formulas → Forest CaseNode → List ℕ → Type 0
@@ -46,6 +57,14 @@ unfoldable mutual
   ShowsParts (more name f fs) children s = (rest : Forest CaseNode)
       × ShowsPart (Shows f) name (left_share (size f) s) children rest
       × ShowsParts fs rest (right_share (size f) s)
+
+  -- so are they, and each tells its number; the first of these parts has the number k
+  pub ShowsPlaces : ℕ → Formulas → Forest CaseNode → List ℕ → Type 0
+  ShowsPlaces k (one name f) children s =
+      ShowsPart (ShowsNumbered k (Shows f)) name s children empty
+  ShowsPlaces k (more name f fs) children s = (rest : Forest CaseNode)
+      × ShowsPart (ShowsNumbered k (Shows f)) name (left_share (size f) s) children rest
+      × ShowsPlaces (suc k) fs rest (right_share (size f) s)
 
 -- the case shows the formula cut down to its first reason
 pub record Explains (f : Formula) (t : Tree CaseNode) : Type 0 where

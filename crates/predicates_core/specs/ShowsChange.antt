@@ -3,12 +3,11 @@
 -- It does as for a reason, but for one thing: parts that are all under one name, as the members of
 -- a list are, are told apart by a product, the last of each, that gives the part's number from 0.
 use Rattle.std.specs.Prelude.{◌≡◌, ℕ, suc, Bool, true, false, ◌&&◌, List, [], ◌∷◌, codes, bytes_eq}
-use Rattle.std.specs.Fmt.{decimal}
-use Rattle.predicates_core.specs.Formula.{Formula, Leaf, Join, Not, Named, Formulas, one, more}
-use Rattle.predicates_core.specs.Formula.{size, truth}
+use Rattle.predicates_core.specs.Formula.{Formula, Leaf, Join, Not, Named, AtLeast}
+use Rattle.predicates_core.specs.Formula.{Formulas, one, more, size, truth}
 use Rattle.predicates_core.specs.Tree.{Tree, Forest, empty}
-use Rattle.predicates_core.specs.Describe.{CaseNode, with_product}
-use Rattle.predicates_core.specs.Shows.{FitsNode, ShowsPart, left_share, right_share}
+use Rattle.predicates_core.specs.Describe.{CaseNode}
+use Rattle.predicates_core.specs.Shows.{FitsNode, ShowsPart, ShowsNumbered, left_share, right_share}
 
 -- each part is under the name
 abbrev pub are_under : List ℕ → Formulas → Bool
@@ -21,11 +20,10 @@ are_alike (one name f) = true
 are_alike (more name f fs) = are_under name fs
 
 -- the case shows the part, and tells its number where that is asked
-abbrev pub ShowsNumbered : Bool → ℕ → (Tree CaseNode → List ℕ → Type 0) → Tree CaseNode → List ℕ
+abbrev pub ShowsPlace : Bool → ℕ → (Tree CaseNode → List ℕ → Type 0) → Tree CaseNode → List ℕ
     → Type 0
-ShowsNumbered false k showing = showing
-ShowsNumbered true k showing = λ c s. (part : Tree CaseNode)
-    × (c ≡ with_product part (codes "index", decimal k)) × showing part s
+ShowsPlace false k showing = showing
+ShowsPlace true k showing = ShowsNumbered k showing
 
 -- the tree is the formula cut down to the leaves
 unfoldable mutual
@@ -38,12 +36,14 @@ unfoldable mutual
       × ShowsPart (ShowsChange f) (codes "predicate") s t.children empty
   ShowsChange (Named label name f) t s = FitsNode label (truth (Named label name f)) t.root
       × ShowsPart (ShowsChange f) name s t.children empty
+  ShowsChange (AtLeast k label fs) t s = FitsNode label (truth (AtLeast k label fs)) t.root
+      × ShowsTurned true 0 fs t.children s
 
   -- the children are, in order, the parts with a share, each cut down to it; the first of these
   -- parts has the number k
   pub ShowsTurned : Bool → ℕ → Formulas → Forest CaseNode → List ℕ → Type 0
   ShowsTurned tells k (one name f) children s =
-      ShowsPart (ShowsNumbered tells k (ShowsChange f)) name s children empty
+      ShowsPart (ShowsPlace tells k (ShowsChange f)) name s children empty
   ShowsTurned tells k (more name f fs) children s = (rest : Forest CaseNode)
-      × ShowsPart (ShowsNumbered tells k (ShowsChange f)) name (left_share (size f) s) children rest
+      × ShowsPart (ShowsPlace tells k (ShowsChange f)) name (left_share (size f) s) children rest
       × ShowsTurned tells (suc k) fs rest (right_share (size f) s)

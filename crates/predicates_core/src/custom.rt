@@ -15,6 +15,8 @@ mod not;
 mod parts;
 mod quantifier;
 mod test_predicate;
+mod threshold;
+mod threshold_changes;
 
 pub use changes::{join_change, leaf_change, named_change, not_change};
 pub use children::{one_child, two_children};
@@ -30,3 +32,5 @@ pub use not::{not_case, not_explained, opposite_of};
 pub use parts::{each_child, parts_case, parts_explained, parts_hold};
 pub use quantifier::{AtLeastOne, Every, Quantifier};
 pub use test_predicate::{Test, TestPredicate, leaf};
+pub use threshold::{threshold_case, threshold_explained, threshold_holds};
+pub use threshold_changes::threshold_change;

@@ -1,3 +1,4 @@
 mod changes;
 mod evaluations;
 mod short_formulas;
+mod thresholds;

@@ -1,5 +1,6 @@
 //! The leaves that a case keeps, read from the places of its nodes and never from their texts.
 use crate::reference::ReferenceFormula;
+use crate::shown::told_number;
 use predicates_core::reflection::{Case, CaseChild, CaseChildren, CaseView};
 use std::alloc::{AllocError, Global};
 
@@ -34,6 +35,40 @@ fn add_members(
     }
     let behind = first.saturating_add(member.leaf_count());
     add_members(kept, rest, children, hidden.saturating_sub(1), behind)
+}
+
+fn child_count(node: &CaseView<'_>) -> usize {
+    let mut count = 0_usize;
+    for _ in node.children() {
+        count = count.saturating_add(1);
+    }
+    count
+}
+
+// Adds the leaves that the children of a threshold's node keep of its members, of which the first
+// has the number `number`, and answers how many of the children are cut from the member with the
+// number that they tell.
+#[cycle(kept)]
+fn add_counted(
+    kept: &mut Vec<usize>,
+    members: &ReferenceFormula,
+    node: &CaseView<'_>,
+    number: usize,
+    first: usize,
+) -> Result<usize, AllocError> {
+    let (ReferenceFormula::And(member, rest) | ReferenceFormula::Or(member, rest)) = members else {
+        return Ok(0);
+    };
+    let mut cut = 0_usize;
+    for CaseChild { name, case } in node.children() {
+        let is_told = name == "rule" && told_number(&case) == Some(number);
+        if is_told && add_kept(kept, member, &case, first)? {
+            cut = cut.saturating_add(1);
+        }
+    }
+    let behind = first.saturating_add(member.leaf_count());
+    let others = add_counted(kept, rest, node, number.saturating_add(1), behind)?;
+    Ok(cut.saturating_add(others))
 }
 
 // Adds the leaves that a node keeps of the formula, whose first leaf has the number `first`;
@@ -80,6 +115,10 @@ fn add_kept(
             let hidden = shown_member(node);
             let is_cut = add_members(kept, members, &mut children, hidden, first)?;
             Ok(is_cut && children.next().is_none())
+        }
+        ReferenceFormula::Counted(_, members) => {
+            let cut = add_counted(kept, members, node, 0, first)?;
+            Ok(cut == child_count(node))
         }
         ReferenceFormula::NoMore(_) => Ok(false),
     }

@@ -43,7 +43,7 @@ pub use number_leaf::NumberLeaf;
 pub use numbers::{answer_number, number_formula};
 pub use one_of::OneOf;
 pub use printed::{keeps_text, print_in_combinators, print_under_flags};
-pub use reference::{ReferenceFormula, first_change, first_reason};
+pub use reference::{ReferenceFormula, counted, first_change, first_reason};
 pub use text_leaf::TextLeaf;
 pub use text_level::TextLevel;
 pub use text_reference::{bytes_formula, text_formula};

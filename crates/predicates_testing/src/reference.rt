@@ -14,6 +14,8 @@ pub enum ReferenceFormula {
     Named(Box<ReferenceFormula>),
     /// A list: its first member joined with the rest, and so on to `NoMore`.
     Members(Box<ReferenceFormula>),
+    /// At least so many members of a list, which stands as that of `Members` does.
+    Counted(usize, Box<ReferenceFormula>),
     /// What stands behind the last member of a list: a truth that decides nothing, and no leaf.
     NoMore(bool),
 }
@@ -31,11 +33,13 @@ impl ReferenceFormula {
             }
             ReferenceFormula::Not(part)
             | ReferenceFormula::Named(part)
-            | ReferenceFormula::Members(part) => part.leaf_count(),
+            | ReferenceFormula::Members(part)
+            | ReferenceFormula::Counted(_, part) => part.leaf_count(),
         }
     }
 
     /// The truth by the leaves' own truths.
+    #[cycle(truth)]
     pub fn truth(&self) -> bool {
         match self {
             ReferenceFormula::Leaf(own) | ReferenceFormula::NoMore(own) => *own,
@@ -44,6 +48,19 @@ impl ReferenceFormula {
             ReferenceFormula::Xor(left, right) => left.truth() != right.truth(),
             ReferenceFormula::Not(part) => !part.truth(),
             ReferenceFormula::Named(part) | ReferenceFormula::Members(part) => part.truth(),
+            ReferenceFormula::Counted(least, members) => *least <= members.true_members(),
+        }
+    }
+
+    // How many members of the list are true.
+    #[cycle(truth)]
+    fn true_members(&self) -> usize {
+        match self {
+            ReferenceFormula::And(member, rest) => {
+                let first = usize::from(member.truth());
+                first.saturating_add(rest.true_members())
+            }
+            _ => 0,
         }
     }
 
@@ -57,11 +74,13 @@ impl ReferenceFormula {
             | ReferenceFormula::Xor(left, right) => { left.own_truths(right.own_truths(above)) }
             ReferenceFormula::Not(part)
             | ReferenceFormula::Named(part)
-            | ReferenceFormula::Members(part) => part.own_truths(above),
+            | ReferenceFormula::Members(part)
+            | ReferenceFormula::Counted(_, part) => part.own_truths(above),
         }
     }
 
     // The truth where the leaves have those of the lowest bits, and the bits above them.
+    #[cycle(value)]
     fn value(&self, truths: u32) -> (bool, u32) {
         match self {
             ReferenceFormula::Leaf(_) => (truths & 1 == 1, truths >> 1),
@@ -86,8 +105,43 @@ impl ReferenceFormula {
                 (!part, rest)
             }
             ReferenceFormula::Named(part) | ReferenceFormula::Members(part) => part.value(truths),
+            ReferenceFormula::Counted(least, members) => {
+                let (held, rest) = members.held(truths);
+                (*least <= held, rest)
+            }
         }
     }
+
+    // How many members of the list are true then, and the bits above their leaves.
+    #[cycle(value)]
+    fn held(&self, truths: u32) -> (usize, u32) {
+        match self {
+            ReferenceFormula::And(member, rest) => {
+                let (first, behind) = member.value(truths);
+                let (others, above) = rest.held(behind);
+                (others.saturating_add(usize::from(first)), above)
+            }
+            _ => (0, truths),
+        }
+    }
+}
+
+/// The formula of "at least so many of the members", which is one leaf where their number alone
+/// settles it.
+pub fn counted(
+    alloc: Global,
+    least: usize,
+    members: Vec<ReferenceFormula>,
+) -> Result<ReferenceFormula, AllocError> {
+    let number = members.len();
+    if least == 0 || number < least {
+        return Ok(ReferenceFormula::Leaf(least <= number));
+    }
+    let mut list = ReferenceFormula::NoMore(true);
+    for member in members.into_iter().rev() {
+        list = ReferenceFormula::And(Box::new(alloc, member)?, Box::new(alloc, list)?);
+    }
+    Ok(ReferenceFormula::Counted(least, Box::new(alloc, list)?))
 }
 
 /// The formula of a combinator over one part or two; none where it takes not as many.

@@ -27,22 +27,39 @@ fn shows_part(
     }
 }
 
-// Whether the next children are the members of a list cut down to the set.
+/// The number that the node tells of itself as its last product, `index`.
+pub fn told_number(node: &CaseView<'_>) -> Option<usize> {
+    match node.products().last() {
+        Some(product) if product.name() == "index" => product.value().parse().ok(),
+        _ => None,
+    }
+}
+
+// Whether the next children are the members of a list cut down to the set, each under the name and
+// with its number; the first of these members has the number `number`.
 #[cycle(shows)]
 fn shows_members(
     set: &[usize],
     members: &ReferenceFormula,
+    name: &str,
     children: &mut CaseChildren<'_>,
+    number: usize,
     first: usize,
 ) -> bool {
-    match members {
-        ReferenceFormula::And(member, rest) | ReferenceFormula::Or(member, rest) => {
-            let behind = first.saturating_add(member.leaf_count());
-            shows_part(set, member, "item", children, first)
-                && shows_members(set, rest, children, behind)
+    let (ReferenceFormula::And(member, rest) | ReferenceFormula::Or(member, rest)) = members else {
+        return true;
+    };
+    if has_share(set, member, first) {
+        let Some(CaseChild { name: told, case }) = children.next() else {
+            return false;
+        };
+        let is_told = told == name && told_number(&case) == Some(number);
+        if !is_told || !shows(set, member, &case, first) {
+            return false;
         }
-        _ => true,
     }
+    let behind = first.saturating_add(member.leaf_count());
+    shows_members(set, rest, name, children, number.saturating_add(1), behind)
 }
 
 /// Whether the node is the formula, whose first leaf has the number `first`, cut down to the set.
@@ -62,7 +79,12 @@ pub fn shows(set: &[usize], formula: &ReferenceFormula, node: &CaseView<'_>, fir
             Some(CaseChild { case, .. }) => shows(set, part, &case, first),
             None => false,
         },
-        ReferenceFormula::Members(members) => shows_members(set, members, &mut children, first),
+        ReferenceFormula::Members(members) => {
+            shows_members(set, members, "item", &mut children, 0, first)
+        }
+        ReferenceFormula::Counted(_, members) => {
+            shows_members(set, members, "rule", &mut children, 0, first)
+        }
         ReferenceFormula::NoMore(_) => false,
     };
     is_cut && node.result() == formula.truth() && children.next().is_none()

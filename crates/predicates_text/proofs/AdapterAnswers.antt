@@ -42,6 +42,7 @@ explain-each has viewed t w r is = found_of_fewer w r (λ f p. p.each t is)
 
 pub change-each : {E : Type 0} (has : Text → Formula → Type 0) (viewed : Text → Type 0) (t : Text) (w : Option Bool) (r : Result (Option (Tree CaseNode)) E) → viewed t → IfOk r (IsFoundChange (has t) w) → IfOk r (IsFoundChange (IsOfEach has viewed) w)
 change-each has viewed t w r is = found_change_of_fewer w r (λ f p. p.each t is)
+
 pub ruleset adapters = (eval-each, find-each, explain-each, change-each)
 
 -- ---- bytes

@@ -85,9 +85,64 @@ fn first_and_not_fewest(alloc: Global) -> Result<bool, AllocError> {
     )
 }
 
+fn members(alloc: Global) -> Result<bool, AllocError> {
+    is_told(
+        alloc,
+        predicate::ge(18).of_each(),
+        vec![in alloc; 20, 17, 30, 16]?,
+        [
+            "\
+each(var >= 18) = false
+  - index: 1
+  item: var >= 18 = false
+    - var: 17
+",
+            "\
+each(var >= 18) = false
+  - index: 1
+  item: var >= 18 = false
+    - var: 17
+    - index: 1
+  item: var >= 18 = false
+    - var: 16
+    - index: 3
+",
+        ],
+    )
+}
+
+#[tactic(auto, using(predicates_core::proofs::Several::each_holds))]
+fn threshold(alloc: Global) -> Result<bool, AllocError> {
+    let rules = vec![in alloc; predicate::ge(1), predicate::ge(5), predicate::ge(9)]?;
+    is_told(
+        alloc,
+        predicate::at_least(2, rules),
+        4,
+        [
+            "\
+at_least(2, var >= 1, var >= 5, var >= 9) = false
+  rule: var >= 5 = false
+    - var: 4
+    - index: 1
+  rule: var >= 9 = false
+    - var: 4
+    - index: 2
+",
+            "\
+at_least(2, var >= 1, var >= 5, var >= 9) = false
+  rule: var >= 5 = false
+    - var: 4
+    - index: 1
+",
+        ],
+    )
+}
+
 #[test]
 fn reason_and_change(rt: HostRuntime) -> Result<(), Fail> {
     assert!(rt; password(rt.alloc())?);
     assert!(rt; first_and_not_fewest(rt.alloc())?);
+    assert!(rt; members(rt.alloc())?);
+    assert!(rt; threshold(rt.alloc())?);
     Ok(())
 }

@@ -109,9 +109,7 @@ fn passing_parts<W: fmt::Display, P: PredicateChange<Item>, Item>(
             return Ok(None);
         }
     }
-    let told = with_index(alloc, 0, case)?;
-    let text = printed(alloc, whole)?;
-    Ok(Some(unary_node(alloc, text, !decides, name, told)?))
+    first_alone(alloc, whole, name, decides, Some(case))
 }
 
 // What would turn the whole, whichever its verdict. The first part is asked for its change, and each
@@ -260,9 +258,7 @@ fn passing_members<W: fmt::Display, P: PredicateChange<Item>, Item>(
             return Ok(None);
         }
     }
-    let told = with_index(alloc, 0, case)?;
-    let text = printed(alloc, whole)?;
-    Ok(Some(unary_node(alloc, text, !decides, name, told)?))
+    first_alone(alloc, whole, name, decides, Some(case))
 }
 
 // What would turn the whole, whichever its verdict. The first member is asked for its change, and each

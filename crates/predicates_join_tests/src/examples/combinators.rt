@@ -51,3 +51,14 @@ fn named(rt: HostRuntime) -> Result<(), Fail> {
     assert!(rt; lines.as_str() == "adult = false\n  adult: var >= 18 = false\n    - var: 17\n");
     Ok(())
 }
+
+#[test]
+fn two_of_three(rt: HostRuntime) -> Result<(), Fail> {
+    let alloc = rt.alloc();
+
+    let grades = vec![in alloc; predicate::ge(5), predicate::le(10), predicate::lt(3)]?;
+    let two_of_three = predicate::at_least(2, grades);
+    assert!(rt; two_of_three.eval(alloc, &7)?);
+    assert!(rt; !two_of_three.eval(alloc, &11)?);
+    Ok(())
+}

@@ -59,10 +59,21 @@ fn of_xor(alloc: Global, left: bool, right: bool) -> Result<[usize; 3], AllocErr
 // Joins in joins, denied and named.
 fn of_nested(alloc: Global) -> Result<[usize; 3], AllocError> {
     let cell = none_yet(alloc)?;
-    let inner = leaf::<u32>(&cell, true)?.xor(leaf(&cell, false)?).not();
-    let named = inner.or(leaf(&cell, false)?).name("named");
-    let denied = named.and(leaf(&cell, true)?).not();
-    counts(alloc, cell, denied, 5)
+    let one = leaf::<u32>(&cell, true)?.xor(leaf(&cell, false)?);
+    in_joins(alloc, cell, one.not())
+}
+
+// The same of a part in two joins.
+fn in_joins<P: PredicateChange<u32> + Drop>(
+    alloc: Global,
+    cell: Rc<Cell<usize>>,
+    part: P,
+) -> Result<[usize; 3], AllocError>
+    requires { P.lawful part }
+{
+    let (right, last) = (leaf(&cell, false)?, leaf(&cell, true)?);
+    let both = part.or(right).name("named").and(last);
+    counts(alloc, cell, both.not(), 5)
 }
 
 #[test]
@@ -97,14 +108,54 @@ fn of_any(alloc: Global, verdict: bool) -> Result<[usize; 3], AllocError> {
     counts(alloc, cell, any, list(alloc)?)
 }
 
-// All members that decide are asked for; where none is wanted and none decides, the first is asked
-// once more, and the others whether they decide.
+// Lists within joins and lists: a list of a list is asked by a join that wants whichever verdict.
+fn of_nested_lists(alloc: Global) -> Result<[usize; 3], AllocError> {
+    let cell = none_yet(alloc)?;
+    let number = leaf::<u32>(&cell, true)?;
+    in_lists(alloc, cell, number.of_each().xor(never()))
+}
+
+// The same of a predicate of lists in two lists.
+fn in_lists<P: PredicateChange<Vec<u32>> + Drop>(
+    alloc: Global,
+    cell: Rc<Cell<usize>>,
+    list: P,
+) -> Result<[usize; 3], AllocError>
+    requires { P.lawful list }
+{
+    let numbers = vec![in alloc; vec![in alloc; 1, 2]?, vec![in alloc; 3, 4, 5]?]?;
+    let lists = vec![in alloc; numbers]?;
+    counts(alloc, cell, list.of_each().xor(never()).of_any(), lists)
+}
+
+// Where a member has to be turned, the first that may be is asked for its change, and the others
+// whether they decide.
 #[test]
-fn lists_ask_each_member_at_most_twice(rt: HostRuntime) -> Result<(), Fail> {
+fn lists_ask_each_member_once(rt: HostRuntime) -> Result<(), Fail> {
     let alloc = rt.alloc();
-    assert_eq!(rt; of_each(alloc, true)?, [10_000, 10_000, 20_000]);
+    assert_eq!(rt; of_each(alloc, true)?, [10_000, 10_000, 10_000]);
     assert_eq!(rt; of_each(alloc, false)?, [1, 10_000, 10_000]);
     assert_eq!(rt; of_any(alloc, true)?, [10_000, 1, 10_000]);
-    assert_eq!(rt; of_any(alloc, false)?, [10_000, 10_000, 20_000]);
+    assert_eq!(rt; of_any(alloc, false)?, [10_000, 10_000, 10_000]);
+    assert_eq!(rt; of_nested_lists(alloc)?, [5, 5, 5]);
+    Ok(())
+}
+
+fn of_at_least(alloc: Global, least: usize) -> Result<[usize; 3], AllocError> {
+    let cell = none_yet(alloc)?;
+    let mut rules = Vec::new(alloc);
+    for verdict in [true, false, true, false, false] {
+        rules.push(leaf::<u32>(&cell, verdict)?)?;
+    }
+    counts(alloc, cell, predicate::at_least(least, rules), 5)
+}
+
+#[test]
+fn a_threshold_asks_each_rule_once(rt: HostRuntime) -> Result<(), Fail> {
+    let alloc = rt.alloc();
+    for least in [1, 2, 3, 5] {
+        assert_eq!(rt; of_at_least(alloc, least)?, [5, 5, 5]);
+    }
+    assert_eq!(rt; of_at_least(alloc, 6)?, [0, 0, 0]);
     Ok(())
 }

@@ -3,7 +3,7 @@ use Rattle.predicates_core.specs.Formula.{HasTruth}
 use Rattle.predicates_core.proofs.Values.{other_truths}
 use Rattle.predicates_core.proofs.Several.{passes_more}
 use Rattle.std.proofs.lemmas.List.{nil_from_length}
-use Rattle.predicates_core.proofs.SeveralChanges.{change_of_no_member, first_decides, later_decides, change_of_only_first}
+use Rattle.predicates_core.proofs.SeveralChanges.{change_of_no_member, first_decides, later_decides, found_first}
 use Rattle.predicates_core.proofs.custom.list_changes.passing_members.Goals as goal
 
 pub returns-in_default : goal.returns-in_default
@@ -22,8 +22,8 @@ returns-then-branch-decides g c = later_decides c.args.decides c.args.name.now (
     {k = c.loop-member.member-index} c.in-Some.ensures.cases.0 (let x = rw c.in-Some-2.is at c.in_ok-case.ensures in x.truth) (omega arith) c.member-item.is c.loop-member.invariant c.in_ok-eval.ensures.truth c.if-branch-decides.true
 
 pub returns : goal.returns
-returns g c = change_of_only_first c.args.decides c.args.name.now (g.P.Predicate.formula c.args.part.now) (g.W.Display.output c.args.whole.now) c.args.members.now
-    {k = c.loop-member.member-index} c.in-Some.ensures.cases.0 (omega arith) c.loop-member.invariant c.in_ok-unary_node.ensures c.in_ok-text.ensures (rw c.in-Some-2.is at c.in_ok-case.ensures) c.in_ok-told.ensures
+returns g c = found_first c.args.decides c.args.name.now (g.P.Predicate.formula c.args.part.now) (g.W.Display.output c.args.whole.now) c.args.members.now {k = c.loop-member.member-index} c.first_alone.result
+    c.in-Some.ensures.cases.0 (omega arith) c.loop-member.invariant c.first_alone.ensures (rw c.in-Some-2.is at c.in_ok-case.ensures)
 
 pub loop-member-preserved : goal.loop-member-preserved
 loop-member-preserved g c = passes_more _ c.in-Some.rest.now c.loop-member.member-index c.member-item.result (omega arith) c.member-item.is c.loop-member.invariant

@@ -1,0 +1,4 @@
+use Rattle.predicates_boolean.proofs.threshold.AtLeastPredicatePredicate.find_case.Goals as goal
+
+pub returns : goal.returns
+returns g c = rw c.as_slice-rules.ensures.value at c.threshold_case.ensures

@@ -1,0 +1,149 @@
+//! A predicate that holds where at least so many of a list of predicates of one type do.
+//!
+//! ```
+//! let two_of_three = at_least(2, rules);
+//! ```
+ghost use Rattle.std.specs.Prelude.{◌≡◌, [], codes, map};
+ghost use Rattle.std.specs.List.{AllByRecursion};
+ghost use Rattle.predicates_core.specs.Parts.{part_of_each};
+ghost use Rattle.predicates_core.specs.Thresholds.{IsOfThreshold, counted_text, threshold_formula};
+ghost use Rattle.predicates_core.proofs.Several.{each_holds, each_weaker};
+ghost use Rattle.predicates_core.proofs.ThresholdCases.{threshold_text_fits, one_by_threshold};
+ghost use Rattle.predicates_core.proofs.ThresholdCases.{has_threshold};
+ghost use Rattle.predicates_boolean.specs.Threshold.{counted_of, least_of};
+
+use crate::rules::write_further;
+use predicates_core::custom::{
+    each_child, threshold_case, threshold_change, threshold_explained, threshold_holds,
+};
+use predicates_core::reflection::{Case, Child, Parameter, PredicateReflection};
+use predicates_core::{Content, Predicate, PredicateChange, ReadsContent, Total};
+use std::alloc::{AllocError, Global};
+use std::fmt;
+
+/// Holds where at least so many of its rules do. Made by `at_least`.
+#[derive(Debug, PartialEq, Eq, Drop)]
+pub struct AtLeastPredicate<P> {
+    least: usize,
+    rules: Vec<P>,
+}
+
+/// Holds where at least so many of the rules do; `eval` stops at the one that decides. It prints
+/// `at_least(2, ..)`. Where no rule is needed it holds, and where there are fewer rules than are
+/// needed it does not, whatever they answer. Making it takes no memory.
+///
+/// At most `k` of them is `at_least(k + 1, rules).not()`. The case shows the first rules that
+/// decide, each with its number as the product `index`.
+///
+/// ```
+/// let grades = vec![in alloc; predicate::ge(5), predicate::le(10), predicate::lt(3)]?;
+/// let two_of_three = predicate::at_least(2, grades);
+/// assert!(rt; two_of_three.eval(alloc, &7)?);
+/// assert!(rt; !two_of_three.eval(alloc, &11)?);
+/// ```
+pub fn at_least<P>(least: usize, rules: Vec<P>) -> AtLeastPredicate<P>
+    ensures least { least_of result ≡ least }
+    ensures rules { counted_of result ≡ rules.items }
+{
+    AtLeastPredicate { least, rules }
+}
+
+impl<P: fmt::Display> fmt::Display for AtLeastPredicate<P> {
+    ghost output = { λ p. counted_text (codes "at_least") (least_of p)
+        (map P.output (counted_of p)) };
+
+    fn fmt<W: fmt::Write>(&self, f: &mut fmt::Formatter<W>) -> fmt::Result {
+        let least = self.least;
+        write!(f, "at_least({least}")?;
+        write_further(f, self.rules.as_slice())?;
+        f.write_str(")")
+    }
+}
+
+impl<P: PredicateReflection> PredicateReflection for AtLeastPredicate<P> {
+    ghost parameters_of = { λ p. [] };
+
+    ghost children_of = { λ p. part_of_each
+        (codes "rule") P.output P.parameters_of P.children_of (counted_of p) };
+
+    fn parameters(&self, alloc: Global) -> Result<Vec<Parameter>, AllocError> {
+        Ok(Vec::new(alloc))
+    }
+
+    fn children(&self, alloc: Global) -> Result<Vec<Child>, AllocError> {
+        each_child(alloc, "rule", self.rules.as_slice())
+    }
+}
+
+impl<P: Predicate<Item>, Item> Predicate<Item> for AtLeastPredicate<P> {
+    ghost lawful = { λ p. AllByRecursion P.lawful (counted_of p) };
+
+    ghost formula = { λ p v. IsOfThreshold (least_of p)
+        (counted_text (codes "at_least") (least_of p) (map P.output (counted_of p)))
+        (codes "rule") (λ q. P.formula q v) (counted_of p) };
+
+    ghost infallible = { λ p v. AllByRecursion (λ q. P.infallible q v) (counted_of p) };
+
+    ghost text_fits = { λ p v f. threshold_text_fits (least_of p) (counted_of p) };
+
+    ghost one_formula = { λ p v f g lawful. one_by_threshold (least_of p) (counted_of p)
+        (each_weaker P.lawful _ (counted_of p) (λ q of_q x y. P.one_formula q v x y of_q) lawful) };
+
+    fn eval(&self, alloc: Global, item: &Item) -> Result<bool, AllocError> {
+        threshold_holds(alloc, self.least, self.rules.as_slice(), item)
+    }
+
+    fn find_case(
+        &self,
+        alloc: Global,
+        expected: bool,
+        item: &Item,
+    ) -> Result<Option<Case>, AllocError> {
+        let rules = self.rules.as_slice();
+        threshold_case(alloc, self, self.least, rules, "rule", expected, item)
+    }
+
+    fn explain(
+        &self,
+        alloc: Global,
+        wanted: Option<bool>,
+        item: &Item,
+    ) -> Result<Option<Case>, AllocError> {
+        let rules = self.rules.as_slice();
+        threshold_explained(alloc, self, self.least, rules, "rule", wanted, item)
+    }
+}
+
+impl<P: PredicateChange<Item>, Item> PredicateChange<Item> for AtLeastPredicate<P> {
+    fn find_change(
+        &self,
+        alloc: Global,
+        wanted: Option<bool>,
+        item: &Item,
+    ) -> Result<Option<Case>, AllocError> {
+        let rules = self.rules.as_slice();
+        threshold_change(alloc, self, self.least, rules, "rule", wanted, item)
+    }
+}
+
+impl<P: Total<Item>, Item> Total<Item> for AtLeastPredicate<P> {
+    ghost formula_of = { λ p v. threshold_formula (least_of p)
+        (counted_text (codes "at_least") (least_of p) (map P.output (counted_of p)))
+        (codes "rule") (λ q. P.formula_of q v) (counted_of p) };
+
+    ghost always_lawful = { λ p. each_holds (counted_of p) P.always_lawful };
+
+    ghost has_formula = { λ p v. has_threshold (least_of p) (λ q. P.formula_of q v) (counted_of p)
+        (λ q. P.has_formula q v) };
+}
+
+impl<P: ReadsContent<Item>, Item: Content> ReadsContent<Item> for AtLeastPredicate<P> {
+    ghost content_formula = { λ p bytes. threshold_formula (least_of p)
+        (counted_text (codes "at_least") (least_of p) (map P.output (counted_of p)))
+        (codes "rule") (λ q. P.content_formula q bytes) (counted_of p) };
+
+    ghost always_lawful = { λ p. each_holds (counted_of p) P.always_lawful };
+
+    ghost has_formula = { λ p v. has_threshold (least_of p)
+        (λ q. P.content_formula q (Item.content v)) (counted_of p) (λ q. P.has_formula q v) };
+}

@@ -1,0 +1,148 @@
+//! Thresholds beside the reference program: of few rules with each verdict, of thresholds, and of
+//! joined rules; and how often they ask.
+use predicates::prelude::*;
+use predicates::threshold::AtLeastPredicate;
+use predicates_testing::{
+    FromWords, Level, NumberLeaf, NumberWord, ReferenceFormula, ask, counted, number_formula,
+};
+use std::alloc::{AllocError, Global};
+use std::test::Fail;
+
+type Rule = Level<Level<NumberLeaf, i64>, i64>;
+
+// The item of every formula here.
+const ITEM: i64 = 4;
+
+fn word(holds: bool) -> NumberWord {
+    if holds {
+        NumberWord::Less(5)
+    } else {
+        NumberWord::Less(3)
+    }
+}
+
+// Formulas of one leaf and of two.
+const SHAPES: usize = 6;
+
+fn words(alloc: Global, shape: usize) -> Result<Vec<NumberWord>, AllocError> {
+    Ok(match shape {
+        0 => vec![in alloc; word(true)]?,
+        1 => vec![in alloc; word(false)]?,
+        2 => vec![in alloc; word(true), word(false), NumberWord::And]?,
+        3 => vec![in alloc; word(true), word(true), NumberWord::Xor]?,
+        4 => vec![in alloc; word(false), NumberWord::Not]?,
+        _ => vec![in alloc; word(true), word(true), NumberWord::Or]?,
+    })
+}
+
+fn rules_of(alloc: Global, shapes: &[usize]) -> Result<Vec<Rule>, AllocError> {
+    let mut rules = Vec::new(alloc);
+    for shape in shapes {
+        let mut words = words(alloc, *shape)?;
+        if let Some(rule) = Rule::from_words(alloc, &mut words)? {
+            rules.push(rule)?;
+        }
+    }
+    Ok(rules)
+}
+
+fn formula_of(
+    alloc: Global,
+    least: usize,
+    shapes: &[usize],
+) -> Result<ReferenceFormula, AllocError> {
+    let mut members = Vec::new(alloc);
+    for shape in shapes {
+        let words = words(alloc, *shape)?;
+        if let Some(member) = number_formula(alloc, words.as_slice(), ITEM)? {
+            members.push(member)?;
+        }
+    }
+    counted(alloc, least, members)
+}
+
+// Whether the library explains the threshold as the reference program does.
+#[tactic(auto, using(predicates_core::proofs::Several::each_holds))]
+fn is_explained<P: FromWords<NumberWord, i64>>(
+    alloc: Global,
+    threshold: &AtLeastPredicate<P>,
+    formula: &ReferenceFormula,
+) -> Result<bool, AllocError> {
+    ask(alloc, threshold, &ITEM)?.explain(alloc, formula)
+}
+
+// The same of a threshold over thresholds.
+#[tactic(auto, using(predicates_core::proofs::Several::each_holds))]
+fn is_nested_explained<P: FromWords<NumberWord, i64>>(
+    alloc: Global,
+    threshold: &AtLeastPredicate<AtLeastPredicate<P>>,
+    formula: &ReferenceFormula,
+) -> Result<bool, AllocError> {
+    ask(alloc, threshold, &ITEM)?.explain(alloc, formula)
+}
+
+// The number's digits to the base 6, the last one first.
+fn shapes_of(alloc: Global, number: usize, length: usize) -> Result<Vec<usize>, AllocError> {
+    let mut shapes = Vec::new(alloc);
+    let mut rest = number;
+    for _ in 0..length {
+        shapes.push(rest % SHAPES)?;
+        rest /= SHAPES;
+    }
+    Ok(shapes)
+}
+
+#[test]
+fn thresholds_over_at_most_three_rules(rt: HostRuntime) -> Result<(), Fail> {
+    let alloc = rt.alloc();
+    for (length, all) in [(0, 1), (1, 6), (2, 36), (3, 216)] {
+        for number in 0..all {
+            let shapes = shapes_of(alloc, number, length)?;
+            for least in 0..5_usize {
+                let threshold = predicate::at_least(least, rules_of(alloc, shapes.as_slice())?);
+                let formula = formula_of(alloc, least, shapes.as_slice())?;
+                let right = is_explained(alloc, &threshold, &formula)?;
+                assert!(rt; right, "at least {least} of {length} rules, {number}");
+            }
+        }
+    }
+    Ok(())
+}
+
+// The inner thresholds: how many hold at least, of how many leaves.
+fn nested(
+    alloc: Global,
+    least: [usize; 4],
+    leaves: [&[usize]; 3],
+) -> Result<(AtLeastPredicate<AtLeastPredicate<Rule>>, ReferenceFormula), AllocError> {
+    let mut rules = Vec::new(alloc);
+    let mut members = Vec::new(alloc);
+    for (inner, shapes) in [
+        (least[1], leaves[0]),
+        (least[2], leaves[1]),
+        (least[3], leaves[2]),
+    ] {
+        rules.push(predicate::at_least(inner, rules_of(alloc, shapes)?))?;
+        members.push(formula_of(alloc, inner, shapes)?)?;
+    }
+    Ok((
+        predicate::at_least(least[0], rules),
+        counted(alloc, least[0], members)?,
+    ))
+}
+
+#[test]
+fn thresholds_over_thresholds(rt: HostRuntime) -> Result<(), Fail> {
+    let alloc = rt.alloc();
+    for truths in 0..64_usize {
+        let leaf = |place: usize| truths >> place & 1;
+        let [a, b, c, d, e, f] = [leaf(0), leaf(1), leaf(2), leaf(3), leaf(4), leaf(5)];
+        for numbers in 0..18_usize {
+            let least = [numbers % 3 + 1, numbers / 3 % 2 + 1, 1, numbers / 6 + 1];
+            let (threshold, formula) = nested(alloc, least, [&[a, b], &[c], &[d, e, f]])?;
+            let right = is_nested_explained(alloc, &threshold, &formula)?;
+            assert!(rt; right, "truths {truths}, least {least:?}");
+        }
+    }
+    Ok(())
+}
