@@ -1,0 +1,114 @@
+use Rattle.std.proofs.Common.{◌≡◌, rules, arith, ap, length, subst, codes, string_bytes}
+use Rattle.std.proofs.lemmas.Grind.{common_steps}
+use Rattle.std.proofs.lemmas.List.{take_all, nil_from_length}
+use Rattle.predicates_core.specs.Formula.{HasTruth}
+use Rattle.predicates_core.specs.Label.{Fits}
+use Rattle.predicates_core.proofs.ChangeCases.{change_by_result, no_change_of_not, change_of_not, no_change_of_named, change_of_named, no_change_in_turn, change_in_turn}
+use Rattle.predicates_core.proofs.Several.{passes_more}
+use Rattle.predicates_core.proofs.SeveralChanges.{IsTurned, turned_passed, turned_next, found_turned, change_of_no_member, first_decides, later_decides, found_first, whichever_none, whichever_passed, whichever_first, whichever_turned, whichever_decides, whichever_passes}
+use Rattle.predicates_core.proofs.Values.{other_truths}
+use Rattle.predicates_dynamic.specs.Trees.{Names, tree_of}
+use Rattle.predicates_dynamic.specs.Formulas.{tree_text, check_text, Has}
+use Rattle.predicates_dynamic.proofs.Rows.{change_of_row}
+use Rattle.predicates_dynamic.proofs.change.+change.Goals as goal
+
+pub not_changed-returns-in_default : goal.not_changed-returns-in_default
+not_changed-returns-in_default g t c = rw c.requires.whole (no_change_of_not _ _ c.args.wanted (rw (← c.opposite_of.ensures, ← c.in_default.is) c.in_ok-part.ensures))
+
+pub not_changed-returns : goal.not_changed-returns
+not_changed-returns g t c =
+    let fits : Fits (check_text g.L.Display.output c.args.whole.now) (string_bytes c.in_ok-text.text) = c.in_ok-text.ensures in
+    rw c.requires.whole (change_of_not _ _ c.args.wanted (rw (c.result-outcome.ensures, c.root.ensures.value) at c.in_ok-node.ensures) (subst (λ z. Fits (tree_text g.L.Display.output z) (string_bytes c.in_ok-text.text)) c.requires.whole fits) (rw (← c.opposite_of.ensures, ← c.in-Some.is) c.in_ok-part.ensures))
+
+pub named_changed-returns-in_default : goal.named_changed-returns-in_default
+named_changed-returns-in_default g t c =
+    let is : tree_of c.args.whole.now ≡ Names c.args.name.now (tree_of c.args.inner.now) = search rules in
+    rw is (no_change_of_named _ _ c.args.wanted (rw c.in_default.is at c.in_ok-part.ensures))
+
+pub named_changed-returns : goal.named_changed-returns
+named_changed-returns g t c =
+    let is : tree_of c.args.whole.now ≡ Names c.args.name.now (tree_of c.args.inner.now) = search rules in
+    rw is (change_of_named _ _ c.args.wanted (rw (c.result-outcome.ensures, c.root.ensures.value) at c.in_ok-node.ensures) (search rules) (rw c.in-Some.is at c.in_ok-part.ensures))
+
+pub pair_changed-returns-then-is_other : goal.pair_changed-returns-then-is_other
+pair_changed-returns-then-is_other g t c = rw c.requires.whole (no_change_in_turn c.args.operator c.args.wanted c.args.left c.in_ok-right.right.change _ (Has g.L.Display.output (λ l. g.L.Predicate.formula l c.args.item.now) c.args.left_part.now) (Has g.L.Display.output (λ l. g.L.Predicate.formula l c.args.item.now) c.args.right_part.now) _
+    (rw c.left_wanted-left_wanted.ensures c.requires.left) c.shown_verdict-left_holds.ensures c.in_ok-right.ensures c.apply-holds.ensures (rw (← c.is_other.ensures) c.if-is_other.true))
+
+pub pair_changed-returns : goal.pair_changed-returns
+pair_changed-returns g t c =
+    let fits : Fits (check_text g.L.Display.output c.args.whole.now) (string_bytes c.in_ok-text.text) = c.in_ok-text.ensures in
+    rw c.requires.whole (change_in_turn c.args.operator c.args.wanted c.args.left c.in_ok-right.right.change _ (Has g.L.Display.output (λ l. g.L.Predicate.formula l c.args.item.now) c.args.left_part.now) (Has g.L.Display.output (λ l. g.L.Predicate.formula l c.args.item.now) c.args.right_part.now) _ (string_bytes c.in_ok-text.text)
+    c.left_wanted-left_wanted.ensures (rw c.left_wanted-left_wanted.ensures c.requires.left) c.shown_verdict-left_holds.ensures c.in_ok-right.ensures c.apply-holds.ensures (rw (← c.is_other.ensures) c.if-is_other.false)
+    c.keeps.ensures (rw (← c.kept_if-kept.ensures) c.in_ok-node.ensures) (subst (λ z. Fits (tree_text g.L.Display.output z) (string_bytes c.in_ok-text.text)) c.requires.whole fits))
+
+pub row_changed-returns : goal.row_changed-returns
+row_changed-returns g t c = rw c.requires.whole (change_of_row g.L.Display.output (λ l. g.L.Predicate.formula l c.args.item.now) c.args.decides c.args.parts.now c.args.wanted c.in_ok-found.found (rw c.requires.whole at c.in_ok-found.ensures))
+
+pub whichever_parts-returns-then-is_empty : goal.whichever_parts-returns-then-is_empty
+whichever_parts-returns-then-is_empty g t c = change_by_result (change_of_no_member c.args.decides (codes "rule") (Has g.L.Display.output (λ l. g.L.Predicate.formula l c.args.item.now)) (check_text g.L.Display.output c.args.whole.now)
+    (nil_from_length _ (grind (arith, common_steps))) c.in_ok-no_member.ensures)
+
+pub whichever_parts-loop-index-init : goal.whichever_parts-loop-index-init
+whichever_parts-loop-index-init g t c = whichever_none c.args.decides (codes "rule") (Has g.L.Display.output (λ l. g.L.Predicate.formula l c.args.item.now)) (check_text g.L.Display.output c.args.whole.now) c.args.parts.now
+
+pub whichever_parts-loop-index-preserved-in_default : goal.whichever_parts-loop-index-preserved-in_default
+whichever_parts-loop-index-preserved-in_default g t c = whichever_passed c.args.decides (codes "rule") (Has g.L.Display.output (λ l. g.L.Predicate.formula l c.args.item.now)) (check_text g.L.Display.output c.args.whole.now) c.args.parts.now
+    {k = c.loop-index.index} {u = c.index-parts-index.result} c.loop-index.first c.loop-index.found (omega arith) c.index-parts-index.is c.asked_at-asked.ensures.first c.asked_at-asked.ensures.other c.loop-index.invariant
+    (rw c.in_default.is at c.in_ok-case.ensures)
+
+pub whichever_parts-loop-index-preserved-then-is_first_passed : goal.whichever_parts-loop-index-preserved-then-is_first_passed
+whichever_parts-loop-index-preserved-then-is_first_passed g t c = whichever_first c.args.decides (codes "rule") (Has g.L.Display.output (λ l. g.L.Predicate.formula l c.args.item.now)) (check_text g.L.Display.output c.args.whole.now) c.args.parts.now
+    {k = c.loop-index.index} {u = c.index-parts-index.result} c.loop-index.first c.loop-index.found (omega arith) c.index-parts-index.is (c.is_first_passed.ensures.first c.if-is_first_passed.true) c.asked_at-asked.ensures.first c.loop-index.invariant
+    (rw c.in-Some.is at c.in_ok-case.ensures) (c.is_first_passed.ensures.passed c.if-is_first_passed.true)
+
+pub whichever_parts-loop-index-preserved : goal.whichever_parts-loop-index-preserved
+whichever_parts-loop-index-preserved g t c = whichever_turned c.args.decides (codes "rule") (Has g.L.Display.output (λ l. g.L.Predicate.formula l c.args.item.now)) (check_text g.L.Display.output c.args.whole.now) c.args.parts.now
+    {k = c.loop-index.index} {u = c.index-parts-index.result} c.loop-index.first c.loop-index.found (omega arith) c.index-parts-index.is c.asked_at-asked.ensures.first c.asked_at-asked.ensures.other c.loop-index.invariant
+    (rw c.in-Some.is at c.in_ok-case.ensures) (c.is_first_passed.ensures.decides c.if-is_first_passed.false) c.in_ok-told.ensures c.in_ok-next_change.ensures
+
+pub whichever_parts-returns-in-Some-found : goal.whichever_parts-returns-in-Some-found
+whichever_parts-returns-in-Some-found g t c = whichever_decides c.args.decides (codes "rule") (Has g.L.Display.output (λ l. g.L.Predicate.formula l c.args.item.now)) (check_text g.L.Display.output c.args.whole.now) c.args.parts.now {k = c.loop-index.index} c.loop-index.first (omega arith) (rw c.in-Some-found.is at c.loop-index.invariant)
+
+pub whichever_parts-returns-in-None : goal.whichever_parts-returns-in-None
+whichever_parts-returns-in-None g t c = whichever_passes c.args.decides (codes "rule") (Has g.L.Display.output (λ l. g.L.Predicate.formula l c.args.item.now)) (check_text g.L.Display.output c.args.whole.now) c.args.parts.now {k = c.loop-index.index} c.loop-index.first c.first_alone.result
+    (λ none. let no_length = ap length none in grind (arith, common_steps)) (omega arith) (rw c.in-None.is at c.loop-index.invariant) c.first_alone.ensures
+
+pub deciding_parts-loop-index-init : goal.deciding_parts-loop-index-init
+deciding_parts-loop-index-init g t c = tt
+
+pub deciding_parts-loop-index-preserved-in_default : goal.deciding_parts-loop-index-preserved-in_default
+deciding_parts-loop-index-preserved-in_default g t c = turned_passed c.args.decides (codes "rule") (Has g.L.Display.output (λ l. g.L.Predicate.formula l c.args.item.now)) (check_text g.L.Display.output c.args.whole.now) c.args.parts.now
+    {k = c.loop-index.index} {u = c.index-parts-index.result} c.loop-index.found (omega arith) c.index-parts-index.is c.loop-index.invariant
+    (rw c.in_default.is at c.in_ok-case.ensures)
+
+pub deciding_parts-loop-index-preserved : goal.deciding_parts-loop-index-preserved
+deciding_parts-loop-index-preserved g t c = turned_next c.args.decides (codes "rule") (Has g.L.Display.output (λ l. g.L.Predicate.formula l c.args.item.now)) (check_text g.L.Display.output c.args.whole.now) c.args.parts.now
+    {k = c.loop-index.index} {u = c.index-parts-index.result} c.loop-index.found (omega arith) c.index-parts-index.is c.loop-index.invariant
+    (rw c.in-Some.is at c.in_ok-case.ensures) c.in_ok-told.ensures c.in_ok-next_change.ensures
+
+pub deciding_parts-returns : goal.deciding_parts-returns
+deciding_parts-returns g t c = found_turned c.args.decides (codes "rule") (Has g.L.Display.output (λ l. g.L.Predicate.formula l c.args.item.now)) (check_text g.L.Display.output c.args.whole.now) c.args.parts.now c.loop-index.found
+    (subst (λ us. IsTurned c.args.decides (codes "rule") (Has g.L.Display.output (λ l. g.L.Predicate.formula l c.args.item.now)) (check_text g.L.Display.output c.args.whole.now) us c.loop-index.found) (take_all c.loop-index.index c.args.parts.now (omega arith)) c.loop-index.invariant)
+
+pub passing_parts-returns-in_default : goal.passing_parts-returns-in_default
+passing_parts-returns-in_default g t c = change_of_no_member c.args.decides (codes "rule") (Has g.L.Display.output (λ l. g.L.Predicate.formula l c.args.item.now)) (check_text g.L.Display.output c.args.whole.now)
+    (nil_from_length c.args.parts.now c.in_default.ensures.cases) c.in_ok-no_member.ensures
+
+pub passing_parts-returns-in_default-2 : goal.passing_parts-returns-in_default-2
+passing_parts-returns-in_default-2 g t c = first_decides c.args.decides (codes "rule") (Has g.L.Display.output (λ l. g.L.Predicate.formula l c.args.item.now)) (check_text g.L.Display.output c.args.whole.now) c.args.parts.now
+    c.in-Some.ensures.cases.0 (rw c.in_default-2.is at c.in_ok-case.ensures)
+
+pub passing_parts-loop-part-init : goal.passing_parts-loop-part-init
+passing_parts-loop-part-init g t c = tt
+
+pub passing_parts-returns-then-branch-decides : goal.passing_parts-returns-then-branch-decides
+passing_parts-returns-then-branch-decides g t c = later_decides c.args.decides (codes "rule") (Has g.L.Display.output (λ l. g.L.Predicate.formula l c.args.item.now)) (check_text g.L.Display.output c.args.whole.now) c.args.parts.now
+    {k = c.loop-part.part-index} c.in-Some.ensures.cases.0 (let x = rw c.in-Some-2.is at c.in_ok-case.ensures in x.truth) (omega arith) c.part-item.is c.loop-part.invariant c.in_ok-holds.ensures.truth c.if-branch-decides.true
+
+pub passing_parts-returns : goal.passing_parts-returns
+passing_parts-returns g t c = found_first c.args.decides (codes "rule") (Has g.L.Display.output (λ l. g.L.Predicate.formula l c.args.item.now)) (check_text g.L.Display.output c.args.whole.now) c.args.parts.now {k = c.loop-part.part-index} c.first_alone.result
+    c.in-Some.ensures.cases.0 (omega arith) c.loop-part.invariant c.first_alone.ensures (rw c.in-Some-2.is at c.in_ok-case.ensures)
+
+pub passing_parts-loop-part-preserved : goal.passing_parts-loop-part-preserved
+passing_parts-loop-part-preserved g t c = passes_more _ c.in-Some.rest.now c.loop-part.part-index c.part-item.result (omega arith) c.part-item.is c.loop-part.invariant
+    (subst (HasTruth _) (other_truths _ _ c.if-branch-decides.false) c.in_ok-holds.ensures.truth)

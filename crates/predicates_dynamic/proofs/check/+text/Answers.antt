@@ -1,0 +1,29 @@
+use Rattle.std.proofs.Common.{◌≡◌, arith, map, Ok, subst}
+use Rattle.std.proofs.lemmas.List.{take_all}
+use Rattle.std.specs.Fmt.{DisplaysOnOk}
+use Rattle.predicates_dynamic.specs.Formulas.{check_text}
+use Rattle.predicates_dynamic.specs.Listed.{joined_texts}
+use Rattle.predicates_dynamic.proofs.Listing.{nothing_written, text_behind, joined_more, row_is}
+use Rattle.predicates_dynamic.proofs.check.+text.Goals as goal
+
+pub Check::fmt_row-returns : goal.Check::fmt_row-returns
+Check::fmt_row-returns g t c = rw (row_is g.L.Display.output c.args.decides c.args.parts.now) (rw c.word_of.ensures at c.fmt_listed.ensures)
+
+pub Check::fmt_part-returns-then-index-eq0 : goal.Check::fmt_part-returns-then-index-eq0
+Check::fmt_part-returns-then-index-eq0 g t c =
+    let is : c.args.index ≡ 0 = omega arith in
+    rw is c.fmt.ensures.writes
+
+pub Check::fmt_part-returns : goal.Check::fmt_part-returns
+Check::fmt_part-returns g t c = text_behind g.W.Write.write_str_gives c.args.f.now c.write.new.self c.fmt-2.new.f c.fmt-2.result c.args.index (check_text g.L.Display.output c.args.part.now)
+    (omega arith) c.in_ok-write.ensures.writes c.fmt-2.ensures.writes
+
+pub Check::fmt_parts-loop-index-init : goal.Check::fmt_parts-loop-index-init
+Check::fmt_parts-loop-index-init g t c = nothing_written g.W.Write.write_str_gives c.args.f.now
+
+pub Check::fmt_parts-loop-index-preserved : goal.Check::fmt_parts-loop-index-preserved
+Check::fmt_parts-loop-index-preserved g t c = joined_more g.W.Write.write_str_gives (check_text g.L.Display.output) c.args.parts.now c.loop-index.index c.index-parts-index.result c.args.f.now c.loop-index.f c.fmt_part.new.f
+    (omega arith) c.index-parts-index.is c.loop-index.invariant c.in_ok-fmt_part.ensures
+
+pub Check::fmt_parts-returns : goal.Check::fmt_parts-returns
+Check::fmt_parts-returns g t c = subst (λ us. DisplaysOnOk g.W.Write.write_str_gives c.args.f.now (Ok tt) (joined_texts (map (check_text g.L.Display.output) us)) c.loop-index.f) (take_all c.loop-index.index c.args.parts.now (omega arith)) c.loop-index.invariant

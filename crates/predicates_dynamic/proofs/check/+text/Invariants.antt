@@ -1,0 +1,8 @@
+use Rattle.std.proofs.Common.{map, take, Ok}
+use Rattle.std.specs.Fmt.{DisplaysOnOk}
+use Rattle.predicates_dynamic.specs.Formulas.{check_text}
+use Rattle.predicates_dynamic.specs.Listed.{joined_texts}
+use Rattle.predicates_dynamic.proofs.check.+text.Given as goal
+
+abbrev pub invariant-Check::fmt_parts-loop-index : goal.invariant-Check::fmt_parts-loop-index
+invariant-Check::fmt_parts-loop-index g l = DisplaysOnOk g.W.Write.write_str_gives l.initial.f (Ok tt) (joined_texts (map (check_text g.L.Display.output) (take l.index l.parts))) l.f

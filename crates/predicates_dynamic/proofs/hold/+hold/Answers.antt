@@ -1,0 +1,44 @@
+use Rattle.std.proofs.Common.{◌≡◌, rules, arith, refl, subst, codes}
+use Rattle.predicates_core.specs.Formula.{HasTruth}
+use Rattle.predicates_core.proofs.Values.{same_truths, other_truths}
+use Rattle.predicates_core.proofs.Asked.{truth_of_pair}
+use Rattle.predicates_core.proofs.CombinedLemmas.{HasTruth-not, HasTruth-named}
+use Rattle.predicates_core.proofs.Several.{member_decides, members_pass, passes_more, passes_all}
+use Rattle.predicates_dynamic.specs.Trees.{AllLeaves, Names, tree_of}
+use Rattle.predicates_dynamic.specs.Formulas.{Has}
+use Rattle.predicates_dynamic.proofs.Rows.{each_part, verdict_of_row, truth_of_first}
+use Rattle.predicates_dynamic.proofs.hold.+hold.Goals as goal
+
+pub not_holds-returns-clause-truth : goal.not_holds-returns-clause-truth
+not_holds-returns-clause-truth g t c = HasTruth-not c.in_ok-held.ensures.truth refl
+
+pub named_holds-returns-clause-truth : goal.named_holds-returns-clause-truth
+named_holds-returns-clause-truth g t c =
+    let is : tree_of c.args.whole.now ≡ Names c.args.name.now (tree_of c.args.inner.now) = search rules in
+    rw is (HasTruth-named c.in_ok-held.ensures.truth)
+
+pub pair_holds-returns-then-not-asks-clause-truth : goal.pair_holds-returns-then-not-asks-clause-truth
+pair_holds-returns-then-not-asks-clause-truth g t c = truth_of_first c.args.operator c.args.left_holds (rw (← c.asks.ensures) (search rules)) c.requires.left c.apply.ensures
+
+pub pair_holds-returns-clause-truth : goal.pair_holds-returns-clause-truth
+pair_holds-returns-clause-truth g t c = truth_of_pair c.args.operator _ _ c.requires.left c.in_ok-right_holds.ensures.truth c.apply-2.ensures _
+
+pub row_holds-returns-clause-truth : goal.row_holds-returns-clause-truth
+row_holds-returns-clause-truth g t c = rw c.requires.whole (verdict_of_row g.L.Display.output (λ l. g.L.Predicate.formula l c.args.item.now) c.args.decides c.args.parts.now c.parts_hold.result c.parts_hold.ensures.truth)
+
+pub row_holds-returns-clause-infallible : goal.row_holds-returns-clause-infallible
+row_holds-returns-clause-infallible g t c = λ h. c.parts_hold.ensures.infallible (each_part (λ l. g.L.Predicate.infallible l c.args.item.now) c.args.parts.now (subst (AllLeaves (λ l. g.L.Predicate.infallible l c.args.item.now)) c.requires.whole h))
+
+pub parts_hold-returns-then-branch-decides-clause-truth : goal.parts_hold-returns-then-branch-decides-clause-truth
+parts_hold-returns-then-branch-decides-clause-truth g t c = λ text. member_decides c.args.decides (codes "rule") (Has g.L.Display.output (λ l. g.L.Predicate.formula l c.args.item.now))
+    {us = c.args.parts.now} {k = c.loop-part.part-index} {u = c.part-item.result}
+    (record { within = omega arith; is = c.part-item.is; before = c.loop-part.invariant })
+    (subst (HasTruth _) (same_truths _ _ c.if-branch-decides.true) c.in_ok-holds.ensures.truth)
+
+pub parts_hold-loop-part-preserved : goal.parts_hold-loop-part-preserved
+parts_hold-loop-part-preserved g t c = passes_more _ c.args.parts.now c.loop-part.part-index c.part-item.result (omega arith) c.part-item.is c.loop-part.invariant
+    (subst (HasTruth _) (other_truths _ _ c.if-branch-decides.false) c.in_ok-holds.ensures.truth)
+
+pub parts_hold-returns-clause-truth : goal.parts_hold-returns-clause-truth
+parts_hold-returns-clause-truth g t c = λ text. members_pass c.args.decides (codes "rule") (Has g.L.Display.output (λ l. g.L.Predicate.formula l c.args.item.now)) c.args.parts.now
+    (passes_all _ c.args.parts.now c.loop-part.part-index (omega arith) c.loop-part.invariant)

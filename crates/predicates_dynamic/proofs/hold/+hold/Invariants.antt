@@ -1,0 +1,8 @@
+use Rattle.std.proofs.Common.{take, not}
+use Rattle.std.specs.List.{AllByRecursion}
+use Rattle.predicates_core.specs.Formula.{HasTruth}
+use Rattle.predicates_dynamic.specs.Formulas.{Has}
+use Rattle.predicates_dynamic.proofs.hold.+hold.Given as goal
+
+abbrev pub invariant-parts_hold-loop-part : goal.invariant-parts_hold-loop-part
+invariant-parts_hold-loop-part g l = AllByRecursion (λ u. HasTruth (Has g.L.Display.output (λ l2. g.L.Predicate.formula l2 l.item) u) (not l.decides)) (take l.part-index l.parts)

@@ -1,0 +1,6 @@
+pub mod Trees
+pub mod Formulas
+pub mod Listed
+pub mod Described
+pub mod Laws
+pub mod Sizes

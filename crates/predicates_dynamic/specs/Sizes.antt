@@ -1,0 +1,38 @@
+-- How large a check is, and the measure of the loop that drops one.
+use Rattle.std.specs.Prelude.{ℕ, zero, suc, ◌+◌, List, Option, Some, None, map}
+use Rattle.predicates_dynamic.specs.declared.check.Check.{Check}
+use Rattle.predicates_dynamic.specs.Trees.{Tree, Trees, Asks, Denies, Names, Pairs, Rows}
+use Rattle.predicates_dynamic.specs.Trees.{nothing, also, tree_of, trees_of}
+
+module _ {L : Type 0} where
+  abbrev mutual
+    -- how many checks it is made of, with itself
+    pub tree_size : Tree L → ℕ
+    tree_size (Asks l) = 1
+    tree_size (Denies t) = suc (tree_size t)
+    tree_size (Names name t) = suc (tree_size t)
+    tree_size (Pairs op a b) = suc (tree_size a + tree_size b)
+    tree_size (Rows decides ts) = suc (tree_sizes ts)
+
+    pub tree_sizes : Trees L → ℕ
+    tree_sizes nothing = 0
+    tree_sizes (also t ts) = tree_size t + tree_sizes ts
+
+  abbrev pub size_of : Check L → ℕ
+  size_of c = tree_size (tree_of c)
+
+  abbrev pub sizes_of : List (Check L) → ℕ
+  sizes_of cs = tree_sizes (trees_of (map tree_of cs))
+
+  abbrev pub size_left : Option (Check L) → ℕ
+  size_left None = 0
+  size_left (Some c) = size_of c
+
+-- so many as there are pairs of numbers that are not greater, in order
+abbrev pub steps : ℕ → ℕ
+steps zero = 0
+steps (suc n) = steps n + suc (suc n)
+
+-- what is left, first by how many checks that are, and then by the size of the first
+abbrev pub left_over : {L : Type 0} → Check L → Option (Check L) → ℕ
+left_over c waiting = steps (size_of c + size_left waiting) + size_of c

@@ -1,0 +1,304 @@
+//! What would turn the verdicts of checks.
+ghost use Rattle.std.specs.Prelude.{◌≡◌, None, Some, not, codes, map, IfOk};
+ghost use Rattle.std.specs.List.{AllByRecursion};
+ghost use Rattle.predicates_core.specs.Asked.{left_wanted};
+ghost use Rattle.predicates_core.specs.Change.{IsFoundChange};
+ghost use Rattle.predicates_core.specs.Several.{IsOfMembers};
+ghost use Rattle.predicates_core.specs.Turning.{IsRightChange};
+ghost use Rattle.predicates_dynamic.specs.Trees.{AllOf, AllLeaves, tree_of, trees_of, Denies};
+ghost use Rattle.predicates_dynamic.specs.Trees.{Names, Pairs, Rows};
+ghost use Rattle.predicates_dynamic.specs.Formulas.{check_text, Has};
+
+use crate::check::Check;
+use crate::hold::{are_lawful, holds};
+use crate::steps::{asked_at, first_alone, is_first_passed};
+use predicates_core::PredicateChange;
+use predicates_core::custom::{
+    Operator, is_other, kept_if, next_change, no_member, opposite_of, shown_verdict, with_index,
+};
+use predicates_core::node::{binary_node_of, printed, unary_node};
+use predicates_core::reflection::Case;
+use std::alloc::{AllocError, Global};
+
+// The `find_change` of the check.
+#[cycle(change)]
+pub(crate) fn changed<L: PredicateChange<Item>, Item>(
+    alloc: Global,
+    check: &Check<L>,
+    wanted: Option<bool>,
+    item: &Item,
+) -> Result<Option<Case>, AllocError>
+    requires { AllOf L.lawful check.now }
+    ensures { IfOk result
+        (IsFoundChange (Has L.output (λ l. L.formula l item.now) check.now) wanted) }
+{
+    match check {
+        Check::Leaf(leaf) => leaf.find_change(alloc, wanted, item),
+        Check::Not(inner) => not_changed(alloc, inner, check, wanted, item),
+        Check::Named(name, inner) => {
+            named_changed(alloc, inner, name.as_str(), check, wanted, item)
+        }
+        Check::Pair(operator, left_part, right_part) => {
+            let operator = *operator;
+            let left_part: &Check<L> = left_part;
+            let left = changed(alloc, left_part, operator.left_wanted(wanted), item)?;
+            pair_changed(
+                alloc, right_part, left_part, operator, check, left, wanted, item,
+            )
+        }
+        Check::Row(decides, parts) => row_changed(alloc, parts, *decides, check, wanted, item),
+    }
+}
+
+// The same of a check that is denied, from the part and the whole.
+#[cycle(change)]
+fn not_changed<L: PredicateChange<Item>, Item>(
+    alloc: Global,
+    inner: &Check<L>,
+    whole: &Check<L>,
+    wanted: Option<bool>,
+    item: &Item,
+) -> Result<Option<Case>, AllocError>
+    requires lawful { AllOf L.lawful inner.now }
+    requires whole { tree_of whole.now ≡ Denies (tree_of inner.now) }
+    ensures { IfOk result
+        (IsFoundChange (Has L.output (λ l. L.formula l item.now) whole.now) wanted) }
+{
+    let Some(part) = changed(alloc, inner, opposite_of(wanted), item)? else {
+        return Ok(None);
+    };
+    let text = printed(alloc, whole)?;
+    let outcome = !part.root().result();
+    let node = unary_node(alloc, text, outcome, "predicate", part)?;
+    Ok(Some(node))
+}
+
+// The same of a check under a name.
+#[cycle(change)]
+fn named_changed<L: PredicateChange<Item>, Item>(
+    alloc: Global,
+    inner: &Check<L>,
+    name: &'static str,
+    whole: &Check<L>,
+    wanted: Option<bool>,
+    item: &Item,
+) -> Result<Option<Case>, AllocError>
+    requires lawful { AllOf L.lawful inner.now }
+    requires whole { tree_of whole.now ≡ Names name.now (tree_of inner.now) }
+    ensures { IfOk result
+        (IsFoundChange (Has L.output (λ l. L.formula l item.now) whole.now) wanted) }
+{
+    let Some(part) = changed(alloc, inner, wanted, item)? else {
+        return Ok(None);
+    };
+    let text = String::from_str(alloc, name)?;
+    let outcome = part.root().result();
+    let node = unary_node(alloc, text, outcome, name, part)?;
+    Ok(Some(node))
+}
+
+// A part's verdict, and what would turn it.
+#[derive(Drop)]
+struct PartChange {
+    holds: bool,
+    change: Option<Case>,
+}
+
+// The right part's verdict, and its change where that belongs to the whole's.
+#[cycle(change)]
+fn right_changed<L: PredicateChange<Item>, Item>(
+    alloc: Global,
+    part: &Check<L>,
+    operator: Operator,
+    item: &Item,
+) -> Result<PartChange, AllocError>
+    requires { AllOf L.lawful part.now }
+    ensures { IfOk result (λ right. IsRightChange operator
+        (Has L.output (λ l. L.formula l item.now) part.now) right.holds right.change) }
+{
+    match operator {
+        Operator::And => {
+            let change = changed(alloc, part, Some(false), item)?;
+            let holds = change.is_none();
+            Ok(PartChange { holds, change })
+        }
+        Operator::Or => {
+            let change = changed(alloc, part, Some(true), item)?;
+            let holds = change.is_some();
+            Ok(PartChange { holds, change })
+        }
+        Operator::Xor => {
+            let holds = holds(alloc, part, item)?;
+            let change = None;
+            Ok(PartChange { holds, change })
+        }
+    }
+}
+
+// The same of two checks that an operator joins, where this was found of the left one.
+#[cycle(change)]
+fn pair_changed<L: PredicateChange<Item>, Item>(
+    alloc: Global,
+    right_part: &Check<L>,
+    left_part: &Check<L>,
+    operator: Operator,
+    whole: &Check<L>,
+    left: Option<Case>,
+    wanted: Option<bool>,
+    item: &Item,
+) -> Result<Option<Case>, AllocError>
+    requires lawful { AllOf L.lawful right_part.now }
+    requires left { IsFoundChange (Has L.output (λ l. L.formula l item.now) left_part.now)
+        (left_wanted operator wanted) left }
+    requires whole { tree_of whole.now ≡ Pairs operator (tree_of left_part.now)
+        (tree_of right_part.now) }
+    ensures { IfOk result
+        (IsFoundChange (Has L.output (λ l. L.formula l item.now) whole.now) wanted) }
+{
+    let left_wanted = operator.left_wanted(wanted);
+    let left_holds = shown_verdict(left_wanted, &left);
+    let right = right_changed(alloc, right_part, operator, item)?;
+    let holds = operator.apply(left_holds, right.holds);
+    if is_other(wanted, holds) {
+        return Ok(None);
+    }
+    let kept = kept_if(operator.keeps(left_holds, right.holds), left);
+    let text = printed(alloc, whole)?;
+    let node = binary_node_of(alloc, text, holds, kept, right.change)?;
+    Ok(Some(node))
+}
+
+// The same of a row of checks.
+#[cycle(change)]
+fn row_changed<L: PredicateChange<Item>, Item>(
+    alloc: Global,
+    parts: &[Check<L>],
+    decides: bool,
+    whole: &Check<L>,
+    wanted: Option<bool>,
+    item: &Item,
+) -> Result<Option<Case>, AllocError>
+    requires lawful { AllLeaves L.lawful (Rows decides (trees_of (map tree_of parts.now))) }
+    requires whole { tree_of whole.now ≡ Rows decides (trees_of (map tree_of parts.now)) }
+    ensures { IfOk result
+        (IsFoundChange (Has L.output (λ l. L.formula l item.now) whole.now) wanted) }
+{
+    are_lawful::<L, Item>(parts, decides);
+    let found = parts_changed(alloc, parts, decides, whole, wanted, item)?;
+    Ok(found)
+}
+
+// The same, as `custom::parts_change`.
+#[cycle(change)]
+fn parts_changed<L: PredicateChange<Item>, Item>(
+    alloc: Global,
+    parts: &[Check<L>],
+    decides: bool,
+    whole: &Check<L>,
+    wanted: Option<bool>,
+    item: &Item,
+) -> Result<Option<Case>, AllocError>
+    requires { AllByRecursion (AllOf L.lawful) parts.now }
+    ensures { IfOk result (IsFoundChange (IsOfMembers decides (check_text L.output whole.now)
+        (codes "rule") (Has L.output (λ l. L.formula l item.now)) parts.now) wanted) }
+{
+    match wanted {
+        Some(expected) => {
+            if expected == decides {
+                deciding_parts(alloc, parts, decides, whole, item)
+            } else {
+                passing_parts(alloc, parts, decides, whole, item)
+            }
+        }
+        None => whichever_parts(alloc, parts, decides, whole, item),
+    }
+}
+
+// What would turn all the parts that decide, where one does.
+#[cycle(change)]
+fn deciding_parts<L: PredicateChange<Item>, Item>(
+    alloc: Global,
+    parts: &[Check<L>],
+    decides: bool,
+    whole: &Check<L>,
+    item: &Item,
+) -> Result<Option<Case>, AllocError>
+    requires { AllByRecursion (AllOf L.lawful) parts.now }
+    ensures { IfOk result (IsFoundChange (IsOfMembers decides (check_text L.output whole.now)
+        (codes "rule") (Has L.output (λ l. L.formula l item.now)) parts.now) (Some decides)) }
+{
+    let mut found: Option<Case> = None;
+    for (index, part) in parts.iter().enumerate() {
+        let Some(case) = changed(alloc, part, Some(decides), item)? else {
+            continue;
+        };
+        let told = with_index(alloc, index, case)?;
+        found = Some(next_change(alloc, whole, "rule", decides, index, found, told)?);
+    }
+    Ok(found)
+}
+
+// What would turn the first part, where none decides.
+#[cycle(change)]
+fn passing_parts<L: PredicateChange<Item>, Item>(
+    alloc: Global,
+    parts: &[Check<L>],
+    decides: bool,
+    whole: &Check<L>,
+    item: &Item,
+) -> Result<Option<Case>, AllocError>
+    requires { AllByRecursion (AllOf L.lawful) parts.now }
+    ensures { IfOk result (IsFoundChange (IsOfMembers decides (check_text L.output whole.now)
+        (codes "rule") (Has L.output (λ l. L.formula l item.now)) parts.now)
+        (Some (not decides))) }
+{
+    let Some((first, rest)) = parts.split_first() else {
+        return Ok(Some(no_member(alloc, whole, !decides)?));
+    };
+    let Some(case) = changed(alloc, first, Some(!decides), item)? else {
+        return Ok(None);
+    };
+    for part in rest {
+        if holds(alloc, part, item)? == decides {
+            return Ok(None);
+        }
+    }
+    first_alone(alloc, whole, "rule", decides, Some(case))
+}
+
+// What would turn the whole, whichever its verdict. The first part is asked for its change, and
+// each other only for that of a part that decides.
+#[cycle(change)]
+fn whichever_parts<L: PredicateChange<Item>, Item>(
+    alloc: Global,
+    parts: &[Check<L>],
+    decides: bool,
+    whole: &Check<L>,
+    item: &Item,
+) -> Result<Option<Case>, AllocError>
+    requires { AllByRecursion (AllOf L.lawful) parts.now }
+    ensures { IfOk result (IsFoundChange (IsOfMembers decides (check_text L.output whole.now)
+        (codes "rule") (Has L.output (λ l. L.formula l item.now)) parts.now) None) }
+{
+    if parts.is_empty() {
+        return Ok(Some(no_member(alloc, whole, !decides)?));
+    }
+    let mut found: Option<Case> = None;
+    let mut first: Option<Case> = None;
+    for (index, part) in parts.iter().enumerate() {
+        let asked = asked_at(index, decides);
+        let Some(case) = changed(alloc, part, asked, item)? else {
+            continue;
+        };
+        if is_first_passed(index, decides, &case) {
+            first = Some(case);
+            continue;
+        }
+        let told = with_index(alloc, index, case)?;
+        found = Some(next_change(alloc, whole, "rule", decides, index, found, told)?);
+    }
+    match found {
+        Some(node) => Ok(Some(node)),
+        None => first_alone(alloc, whole, "rule", decides, first),
+    }
+}

@@ -1,0 +1,132 @@
+//! Descriptions of the parts of checks.
+ghost use Rattle.std.specs.Prelude.{◌≡◌, [], IfOk, IsOk, codes, map};
+ghost use Rattle.predicates_core.specs.Parts.{FitsParts, IsPart, part, part_of_each, two_parts};
+ghost use Rattle.predicates_core.specs.Tree.{empty, forest};
+ghost use Rattle.predicates_dynamic.specs.Formulas.{check_text};
+ghost use Rattle.predicates_dynamic.specs.Described.{check_parameters, check_parts};
+ghost use Rattle.predicates_dynamic.specs.Trees.{tree_of, trees_of, Rows};
+
+use crate::check::Check;
+use predicates_core::node::printed;
+use predicates_core::reflection::{Child, PredicateReflection};
+use std::alloc::{AllocError, Global};
+
+// The `children` of the check.
+#[cycle(describe)]
+pub(crate) fn parts_of<L: PredicateReflection>(
+    alloc: Global,
+    check: &Check<L>,
+) -> Result<Vec<Child>, AllocError>
+    ensures fits { IfOk result (λ children. FitsParts
+        (check_parts L.output L.parameters_of L.children_of check.now) (forest children.items)) }
+    ensures none { check_parts L.output L.parameters_of L.children_of check.now ≡ empty
+        → IsOk result }
+{
+    match check {
+        Check::Leaf(leaf) => leaf.children(alloc),
+        Check::Not(inner) => one_part(alloc, inner, "predicate"),
+        Check::Named(name, inner) => one_part(alloc, inner, name.as_str()),
+        Check::Pair(_, left_part, right_part) => {
+            let left_part: &Check<L> = left_part;
+            let left = described(alloc, left_part, "left")?;
+            two_parts_of(alloc, right_part, left_part, left)
+        }
+        Check::Row(decides, parts) => row_children(alloc, parts, *decides, check),
+    }
+}
+
+// The description of a part under the name.
+#[cycle(describe)]
+fn described<L: PredicateReflection>(
+    alloc: Global,
+    part: &Check<L>,
+    name: &'static str,
+) -> Result<Child, AllocError>
+    ensures { IfOk result (IsPart name.now (check_text L.output part.now)
+        (check_parameters L.parameters_of part.now)
+        (check_parts L.output L.parameters_of L.children_of part.now)) }
+{
+    let text = printed(alloc, part)?;
+    let parameters = part.parameters(alloc)?;
+    let children = parts_of(alloc, part)?;
+    Ok(Child::new(name, text, parameters, children))
+}
+
+// The description of the one part of a check.
+#[cycle(describe)]
+fn one_part<L: PredicateReflection>(
+    alloc: Global,
+    inner: &Check<L>,
+    name: &'static str,
+) -> Result<Vec<Child>, AllocError>
+    ensures { IfOk result (λ children. FitsParts
+        (part name.now (check_text L.output inner.now) (check_parameters L.parameters_of inner.now)
+        (check_parts L.output L.parameters_of L.children_of inner.now))
+        (forest children.items)) }
+{
+    let mut children = Vec::new(alloc);
+    children.push(described(alloc, inner, name)?)?;
+    Ok(children)
+}
+
+// The descriptions of two parts, of which the left one has its.
+#[cycle(describe)]
+fn two_parts_of<L: PredicateReflection>(
+    alloc: Global,
+    right_part: &Check<L>,
+    left_part: &Check<L>,
+    left: Child,
+) -> Result<Vec<Child>, AllocError>
+    requires { IsPart (codes "left") (check_text L.output left_part.now)
+        (check_parameters L.parameters_of left_part.now)
+        (check_parts L.output L.parameters_of L.children_of left_part.now) left }
+    ensures { IfOk result (λ children. FitsParts (two_parts
+        (codes "left") (check_text L.output left_part.now)
+        (check_parameters L.parameters_of left_part.now)
+        (check_parts L.output L.parameters_of L.children_of left_part.now)
+        (codes "right") (check_text L.output right_part.now)
+        (check_parameters L.parameters_of right_part.now)
+        (check_parts L.output L.parameters_of L.children_of right_part.now))
+        (forest children.items)) }
+{
+    let mut children = Vec::new(alloc);
+    children.push(left)?;
+    children.push(described(alloc, right_part, "right")?)?;
+    Ok(children)
+}
+
+// The descriptions of the parts of a row.
+#[cycle(describe)]
+fn row_children<L: PredicateReflection>(
+    alloc: Global,
+    parts: &[Check<L>],
+    decides: bool,
+    whole: &Check<L>,
+) -> Result<Vec<Child>, AllocError>
+    requires { tree_of whole.now ≡ Rows decides (trees_of (map tree_of parts.now)) }
+    ensures fits { IfOk result (λ children. FitsParts
+        (check_parts L.output L.parameters_of L.children_of whole.now) (forest children.items)) }
+    ensures none { check_parts L.output L.parameters_of L.children_of whole.now ≡ empty
+        → IsOk result }
+{
+    each_part(alloc, parts)
+}
+
+// The same, as `custom::each_child`.
+#[cycle(describe)]
+fn each_part<L: PredicateReflection>(
+    alloc: Global,
+    parts: &[Check<L>],
+) -> Result<Vec<Child>, AllocError>
+    ensures fits { IfOk result (λ children. FitsParts (part_of_each (codes "rule")
+        (check_text L.output) (check_parameters L.parameters_of)
+        (check_parts L.output L.parameters_of L.children_of) parts.now)
+        (forest children.items)) }
+    ensures none { parts.now ≡ [] → IsOk result }
+{
+    let mut children = Vec::new(alloc);
+    for part in parts {
+        children.push(described(alloc, part, "rule")?)?;
+    }
+    Ok(children)
+}

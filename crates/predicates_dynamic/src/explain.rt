@@ -1,0 +1,250 @@
+//! Cases of checks.
+ghost use Rattle.std.specs.Prelude.{◌≡◌, ◌≢◌, [], Some, codes, map, IfOk};
+ghost use Rattle.std.specs.List.{AllByRecursion};
+ghost use Rattle.predicates_core.specs.Asked.{IsFoundIf, left_wanted};
+ghost use Rattle.predicates_core.specs.Several.{IsOfMembers};
+ghost use Rattle.predicates_core.specs.Shows.{IsAnswer, IsFound};
+ghost use Rattle.predicates_dynamic.specs.Trees.{AllOf, AllLeaves, tree_of, trees_of, Denies};
+ghost use Rattle.predicates_dynamic.specs.Trees.{Names, Pairs, Rows};
+ghost use Rattle.predicates_dynamic.specs.Formulas.{check_text, Has};
+
+use crate::check::Check;
+use crate::hold::are_lawful;
+use predicates_core::Predicate;
+use predicates_core::custom::{
+    Operator, deciding_case, is_deciding, is_other, is_wanted, kept_if, no_member, opposite_of,
+    shown_verdict,
+};
+use predicates_core::node::{binary_node_of, leaf_node, printed, unary_node};
+use predicates_core::reflection::Case;
+use std::alloc::{AllocError, Global};
+
+// The `explain` of the check.
+#[cycle(explain)]
+pub(crate) fn explained<L: Predicate<Item>, Item>(
+    alloc: Global,
+    check: &Check<L>,
+    wanted: Option<bool>,
+    item: &Item,
+) -> Result<Option<Case>, AllocError>
+    requires { AllOf L.lawful check.now }
+    ensures { IfOk result (IsFound (Has L.output (λ l. L.formula l item.now) check.now) wanted) }
+{
+    match check {
+        Check::Leaf(leaf) => leaf.explain(alloc, wanted, item),
+        Check::Not(inner) => not_explained(alloc, inner, check, wanted, item),
+        Check::Named(name, inner) => named_explained(
+            alloc,
+            inner,
+            name.as_str(),
+            check,
+            wanted,
+            item,
+        ),
+        Check::Pair(operator, left_part, right_part) => {
+            let operator = *operator;
+            let left_part: &Check<L> = left_part;
+            let left = explained(alloc, left_part, operator.left_wanted(wanted), item)?;
+            pair_explained(
+                alloc, right_part, left_part, operator, check, left, wanted, item,
+            )
+        }
+        Check::Row(decides, parts) => row_explained(alloc, parts, *decides, check, wanted, item),
+    }
+}
+
+// The same of a check that is denied, from the part and the whole.
+#[cycle(explain)]
+fn not_explained<L: Predicate<Item>, Item>(
+    alloc: Global,
+    inner: &Check<L>,
+    whole: &Check<L>,
+    wanted: Option<bool>,
+    item: &Item,
+) -> Result<Option<Case>, AllocError>
+    requires lawful { AllOf L.lawful inner.now }
+    requires whole { tree_of whole.now ≡ Denies (tree_of inner.now) }
+    ensures { IfOk result (IsFound (Has L.output (λ l. L.formula l item.now) whole.now) wanted) }
+{
+    let Some(part) = explained(alloc, inner, opposite_of(wanted), item)? else {
+        return Ok(None);
+    };
+    let text = printed(alloc, whole)?;
+    let outcome = !part.root().result();
+    let node = unary_node(alloc, text, outcome, "predicate", part)?;
+    Ok(Some(node))
+}
+
+// The same of a check under a name.
+#[cycle(explain)]
+fn named_explained<L: Predicate<Item>, Item>(
+    alloc: Global,
+    inner: &Check<L>,
+    name: &'static str,
+    whole: &Check<L>,
+    wanted: Option<bool>,
+    item: &Item,
+) -> Result<Option<Case>, AllocError>
+    requires lawful { AllOf L.lawful inner.now }
+    requires whole { tree_of whole.now ≡ Names name.now (tree_of inner.now) }
+    ensures { IfOk result (IsFound (Has L.output (λ l. L.formula l item.now) whole.now) wanted) }
+{
+    let Some(part) = explained(alloc, inner, wanted, item)? else {
+        return Ok(None);
+    };
+    let text = String::from_str(alloc, name)?;
+    let outcome = part.root().result();
+    let node = unary_node(alloc, text, outcome, name, part)?;
+    Ok(Some(node))
+}
+
+// The same of two checks that an operator joins, where this was found of the left one.
+#[cycle(explain)]
+fn pair_explained<L: Predicate<Item>, Item>(
+    alloc: Global,
+    right_part: &Check<L>,
+    left_part: &Check<L>,
+    operator: Operator,
+    whole: &Check<L>,
+    left: Option<Case>,
+    wanted: Option<bool>,
+    item: &Item,
+) -> Result<Option<Case>, AllocError>
+    requires lawful { AllOf L.lawful right_part.now }
+    requires left { IsFound (Has L.output (λ l. L.formula l item.now) left_part.now)
+        (left_wanted operator wanted) left }
+    requires whole { tree_of whole.now ≡ Pairs operator (tree_of left_part.now)
+        (tree_of right_part.now) }
+    ensures { IfOk result (IsFound (Has L.output (λ l. L.formula l item.now) whole.now) wanted) }
+{
+    let left_wanted = operator.left_wanted(wanted);
+    let left_holds = shown_verdict(left_wanted, &left);
+    let asks = operator.asks(left_holds);
+    let right_wanted = operator.right_wanted(wanted, left_holds);
+    let right = explained_if(alloc, right_part, asks, right_wanted, item)?;
+    let right_holds = shown_verdict(right_wanted, &right);
+    let holds = operator.apply(left_holds, right_holds);
+    if is_other(wanted, holds) {
+        return Ok(None);
+    }
+    let kept = kept_if(operator.keeps(left_holds, right_holds), left);
+    let text = printed(alloc, whole)?;
+    let node = binary_node_of(alloc, text, holds, kept, right)?;
+    Ok(Some(node))
+}
+
+// What is found of the part if it is `asked`.
+#[cycle(explain)]
+fn explained_if<L: Predicate<Item>, Item>(
+    alloc: Global,
+    part: &Check<L>,
+    asked: bool,
+    wanted: Option<bool>,
+    item: &Item,
+) -> Result<Option<Case>, AllocError>
+    requires { AllOf L.lawful part.now }
+    ensures { IfOk result
+        (IsFoundIf asked (Has L.output (λ l. L.formula l item.now) part.now) wanted) }
+{
+    if asked {
+        let found = explained(alloc, part, wanted, item)?;
+        Ok(found)
+    } else {
+        Ok(None)
+    }
+}
+
+// The same of a row of checks.
+#[cycle(explain)]
+fn row_explained<L: Predicate<Item>, Item>(
+    alloc: Global,
+    parts: &[Check<L>],
+    decides: bool,
+    whole: &Check<L>,
+    wanted: Option<bool>,
+    item: &Item,
+) -> Result<Option<Case>, AllocError>
+    requires lawful { AllLeaves L.lawful (Rows decides (trees_of (map tree_of parts.now))) }
+    requires whole { tree_of whole.now ≡ Rows decides (trees_of (map tree_of parts.now)) }
+    ensures { IfOk result (IsFound (Has L.output (λ l. L.formula l item.now) whole.now) wanted) }
+{
+    are_lawful::<L, Item>(parts, decides);
+    let found = parts_explained(alloc, parts, decides, whole, wanted, item)?;
+    Ok(found)
+}
+
+// The same, as `custom::parts_explained`.
+#[cycle(explain)]
+fn parts_explained<L: Predicate<Item>, Item>(
+    alloc: Global,
+    parts: &[Check<L>],
+    decides: bool,
+    whole: &Check<L>,
+    wanted: Option<bool>,
+    item: &Item,
+) -> Result<Option<Case>, AllocError>
+    requires { AllByRecursion (AllOf L.lawful) parts.now }
+    ensures { IfOk result (IsFound (IsOfMembers decides (check_text L.output whole.now)
+        (codes "rule") (Has L.output (λ l. L.formula l item.now)) parts.now) wanted) }
+{
+    if is_wanted(wanted, decides) {
+        let found = first_part(alloc, parts, decides, whole, item)?;
+        return Ok(found);
+    }
+    if parts.is_empty() {
+        return Ok(Some(no_member(alloc, whole, !decides)?));
+    }
+    let found = every_part(alloc, parts, decides, whole, wanted, item)?;
+    Ok(found)
+}
+
+// The case of the first part that decides.
+#[cycle(explain)]
+fn first_part<L: Predicate<Item>, Item>(
+    alloc: Global,
+    parts: &[Check<L>],
+    decides: bool,
+    whole: &Check<L>,
+    item: &Item,
+) -> Result<Option<Case>, AllocError>
+    requires { AllByRecursion (AllOf L.lawful) parts.now }
+    ensures { IfOk result (IsAnswer (IsOfMembers decides (check_text L.output whole.now)
+        (codes "rule") (Has L.output (λ l. L.formula l item.now)) parts.now) decides) }
+{
+    for (index, part) in parts.iter().enumerate() {
+        let Some(case) = explained(alloc, part, Some(decides), item)? else {
+            continue;
+        };
+        return Ok(Some(deciding_case(alloc, whole, "rule", decides, index, case)?));
+    }
+    Ok(None)
+}
+
+// The case of all parts, or of the first that decides, where it is not wanted that none does.
+#[cycle(explain)]
+fn every_part<L: Predicate<Item>, Item>(
+    alloc: Global,
+    parts: &[Check<L>],
+    decides: bool,
+    whole: &Check<L>,
+    wanted: Option<bool>,
+    item: &Item,
+) -> Result<Option<Case>, AllocError>
+    requires lawful { AllByRecursion (AllOf L.lawful) parts.now }
+    requires some { parts.now ≢ [] }
+    requires other { wanted ≢ Some decides }
+    ensures { IfOk result (IsFound (IsOfMembers decides (check_text L.output whole.now)
+        (codes "rule") (Has L.output (λ l. L.formula l item.now)) parts.now) wanted) }
+{
+    let mut node = leaf_node(alloc, printed(alloc, whole)?, !decides);
+    for (index, part) in parts.iter().enumerate() {
+        let Some(case) = explained(alloc, part, wanted, item)? else {
+            return Ok(None);
+        };
+        if is_deciding(wanted, decides, &case) {
+            return Ok(Some(deciding_case(alloc, whole, "rule", decides, index, case)?));
+        }
+        node = node.add_child("rule", case)?;
+    }
+    Ok(Some(node))
+}

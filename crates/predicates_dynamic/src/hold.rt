@@ -1,0 +1,141 @@
+//! Verdicts of checks.
+ghost use Rattle.std.specs.Prelude.{◌≡◌, IfOk, IsOk, codes, map};
+ghost use Rattle.std.specs.List.{AllByRecursion};
+ghost use Rattle.predicates_core.specs.Formula.{HasTruth};
+ghost use Rattle.predicates_core.specs.Label.{Entry};
+ghost use Rattle.predicates_core.specs.Several.{IsOfMembers};
+ghost use Rattle.predicates_dynamic.specs.Trees.{AllOf, AllLeaves, tree_of, trees_of, Denies};
+ghost use Rattle.predicates_dynamic.specs.Trees.{Names, Pairs, Rows};
+ghost use Rattle.predicates_dynamic.specs.Formulas.{Has, HasFormula};
+
+use crate::check::Check;
+use predicates_core::Predicate;
+use predicates_core::custom::Operator;
+use std::alloc::{AllocError, Global};
+
+// The `eval` of the check.
+#[cycle(hold)]
+pub(crate) fn holds<L: Predicate<Item>, Item>(
+    alloc: Global,
+    check: &Check<L>,
+    item: &Item,
+) -> Result<bool, AllocError>
+    requires { AllOf L.lawful check.now }
+    ensures truth { IfOk result (HasTruth (Has L.output (λ l. L.formula l item.now) check.now)) }
+    ensures infallible { AllOf (λ l. L.infallible l item.now) check.now → IsOk result }
+{
+    match check {
+        Check::Leaf(leaf) => leaf.eval(alloc, item),
+        Check::Not(inner) => not_holds(alloc, inner, item),
+        Check::Named(name, inner) => named_holds(alloc, inner, name.as_str(), check, item),
+        Check::Pair(operator, left, right) => {
+            let left_holds = holds(alloc, left, item)?;
+            pair_holds(alloc, right, left, *operator, left_holds, item)
+        }
+        Check::Row(decides, parts) => row_holds(alloc, parts, *decides, check, item),
+    }
+}
+
+// The same of a check that is denied.
+#[cycle(hold)]
+fn not_holds<L: Predicate<Item>, Item>(
+    alloc: Global,
+    inner: &Check<L>,
+    item: &Item,
+) -> Result<bool, AllocError>
+    requires { AllOf L.lawful inner.now }
+    ensures truth { IfOk result (HasTruth (HasFormula L.output (λ l. L.formula l item.now)
+        (Denies (tree_of inner.now)))) }
+    ensures infallible { AllOf (λ l. L.infallible l item.now) inner.now → IsOk result }
+{
+    let held = holds(alloc, inner, item)?;
+    Ok(!held)
+}
+
+// The same of a check under a name.
+#[cycle(hold)]
+fn named_holds<L: Predicate<Item>, Item>(
+    alloc: Global,
+    inner: &Check<L>,
+    name: &str,
+    whole: &Check<L>,
+    item: &Item,
+) -> Result<bool, AllocError>
+    requires lawful { AllOf L.lawful inner.now }
+    requires whole { tree_of whole.now ≡ Names name.now (tree_of inner.now) }
+    ensures truth { IfOk result (HasTruth (Has L.output (λ l. L.formula l item.now) whole.now)) }
+    ensures infallible { AllOf (λ l. L.infallible l item.now) inner.now → IsOk result }
+{
+    let held = holds(alloc, inner, item)?;
+    Ok(held)
+}
+
+// The same of two checks that an operator joins, where the left one has the verdict. The measure
+// is the first check, so the right one comes first.
+#[cycle(hold)]
+fn pair_holds<L: Predicate<Item>, Item>(
+    alloc: Global,
+    right_part: &Check<L>,
+    left_part: &Check<L>,
+    operator: Operator,
+    left_holds: bool,
+    item: &Item,
+) -> Result<bool, AllocError>
+    requires lawful { AllOf L.lawful right_part.now }
+    requires left { HasTruth (Has L.output (λ l. L.formula l item.now) left_part.now) left_holds }
+    ensures truth { IfOk result (HasTruth (HasFormula L.output (λ l. L.formula l item.now)
+        (Pairs operator (tree_of left_part.now) (tree_of right_part.now)))) }
+    ensures infallible { AllOf (λ l. L.infallible l item.now) right_part.now → IsOk result }
+{
+    if !operator.asks(left_holds) {
+        return Ok(operator.apply(left_holds, false));
+    }
+    let right_holds = holds(alloc, right_part, item)?;
+    Ok(operator.apply(left_holds, right_holds))
+}
+
+// The same of a row of checks, of which one with the verdict decides.
+#[cycle(hold)]
+fn row_holds<L: Predicate<Item>, Item>(
+    alloc: Global,
+    parts: &[Check<L>],
+    decides: bool,
+    whole: &Check<L>,
+    item: &Item,
+) -> Result<bool, AllocError>
+    requires lawful { AllLeaves L.lawful (Rows decides (trees_of (map tree_of parts.now))) }
+    requires whole { tree_of whole.now ≡ Rows decides (trees_of (map tree_of parts.now)) }
+    ensures truth { IfOk result (HasTruth (Has L.output (λ l. L.formula l item.now) whole.now)) }
+    ensures infallible { AllOf (λ l. L.infallible l item.now) whole.now → IsOk result }
+{
+    are_lawful::<L, Item>(parts, decides);
+    parts_hold(alloc, parts, decides, item)
+}
+
+// The same, as `custom::parts_hold`.
+#[cycle(hold)]
+fn parts_hold<L: Predicate<Item>, Item>(
+    alloc: Global,
+    parts: &[Check<L>],
+    decides: bool,
+    item: &Item,
+) -> Result<bool, AllocError>
+    requires { AllByRecursion (AllOf L.lawful) parts.now }
+    ensures truth { IfOk result (λ held. (text : Entry) → HasTruth (IsOfMembers decides text
+        (codes "rule") (Has L.output (λ l. L.formula l item.now)) parts.now) held) }
+    ensures infallible { AllByRecursion (AllOf (λ l. L.infallible l item.now)) parts.now
+        → IsOk result }
+{
+    for part in parts {
+        if holds(alloc, part, item)? == decides {
+            return Ok(decides);
+        }
+    }
+    Ok(!decides)
+}
+
+// Says of each part what is known of the row. It does nothing.
+pub(crate) fn are_lawful<L: Predicate<Item>, Item>(parts: &[Check<L>], decides: bool)
+    requires { AllLeaves L.lawful (Rows decides (trees_of (map tree_of parts.now))) }
+    ensures { AllByRecursion (AllOf L.lawful) parts.now }
+{}

@@ -1,0 +1,20 @@
+//! Checks whose shape comes at run time, over leaves of one type.
+//!
+//! ```
+//! let adult = Check::leaf(predicate::ge(18));
+//! let retired = Check::leaf(predicate::ge(67)).not(alloc)?;
+//! let works = adult.and(alloc, retired)?.name(alloc, "works")?;
+//! ```
+#![tactic(auto)]
+
+mod build;
+mod change;
+mod check;
+mod describe;
+mod explain;
+mod hold;
+pub mod semantics;
+mod steps;
+mod take_apart;
+
+pub use check::Check;

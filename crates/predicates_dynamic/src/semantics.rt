@@ -1,0 +1,33 @@
+//! What checks mean, as a contract of a call that does nothing.
+//!
+//! ```
+//! // From here on a proof knows the formulas of `works` on `item`, and when it takes no memory.
+//! semantics::check(&works, &item);
+//! ```
+//!
+//! Each clause holds for every check and every item. The clauses state the check's formulas, what
+//! `eval` requires, when `eval` takes no memory, and the check's parameters and children.
+ghost use Rattle.std.specs.Prelude.{◌≡◌, ◌↔◌};
+ghost use Rattle.predicates_core.specs.Formula.{Formula};
+ghost use Rattle.predicates_dynamic.specs.Described.{tree_parameters, tree_parts};
+ghost use Rattle.predicates_dynamic.specs.Formulas.{HasFormula};
+ghost use Rattle.predicates_dynamic.specs.Trees.{tree_of, AllLeaves};
+
+use crate::check::Check;
+use predicates_core::Predicate;
+use predicates_core::reflection::PredicateReflection;
+
+/// Its formulas are those of its tree, from those of its leaves.
+pub fn check<L: Predicate<Item>, Item>(check: &Check<L>, item: &Item)
+    ensures formula { (f : Formula)
+        → ⟦<Check<L> as Predicate<Item>>⟧.formula check.now item.now f
+        ↔ HasFormula L.output (λ l. L.formula l item.now) (tree_of check.now) f }
+    ensures lawful { ⟦<Check<L> as Predicate<Item>>⟧.lawful check.now
+        ↔ AllLeaves L.lawful (tree_of check.now) }
+    ensures infallible { ⟦<Check<L> as Predicate<Item>>⟧.infallible check.now item.now
+        ↔ AllLeaves (λ l. L.infallible l item.now) (tree_of check.now) }
+    ensures values { ⟦<Check<L> as PredicateReflection>⟧.parameters_of check.now
+        ≡ tree_parameters L.parameters_of (tree_of check.now) }
+    ensures parts { ⟦<Check<L> as PredicateReflection>⟧.children_of check.now
+        ≡ tree_parts L.output L.parameters_of L.children_of (tree_of check.now) }
+{}

@@ -1,0 +1,7 @@
+//! Tests of checks whose shape comes at run time.
+#![tactic(auto)]
+
+#[cfg(test)]
+mod orders;
+#[cfg(test)]
+mod tests;

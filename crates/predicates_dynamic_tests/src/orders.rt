@@ -1,0 +1,141 @@
+//! Rules over orders that are read from words at run time.
+ghost use Rattle.std.specs.Prelude.{None, if◌then◌else◌, nat_lt, not};
+
+use predicates::Total;
+use predicates::custom::{Test, TestPredicate, leaf};
+use predicates::reflection::render;
+use predicates_dynamic::Check;
+use std::alloc::{AllocError, Global};
+use std::fmt;
+use std::test::Fail;
+
+// What is ordered.
+#[derive(Debug, Clone, Copy)]
+struct Order {
+    total: u32,
+    lines: u32,
+}
+
+// It costs at least that, or has at least so many lines.
+#[derive(Clone, Copy)]
+struct AtLeast {
+    counts_lines: bool,
+    least: u32,
+}
+
+impl fmt::Display for AtLeast {
+    ghost output = { λ _. None };
+
+    fn fmt<W: fmt::Write>(&self, f: &mut fmt::Formatter<W>) -> fmt::Result {
+        f.write_str(if self.counts_lines { "lines" } else { "total" })?;
+        let least = self.least;
+        write!(f, " >= {least}")
+    }
+}
+
+impl Test<Order> for AtLeast {
+    ghost holds_of = { λ t v. not (nat_lt (if t.counts_lines then v.lines else v.total) t.least) };
+
+    fn holds(&self, order: &Order) -> bool {
+        let value = if self.counts_lines {
+            order.lines
+        } else {
+            order.total
+        };
+        value >= self.least
+    }
+}
+
+type Rule = Check<TestPredicate<AtLeast>>;
+
+// The test that a word such as `lines:2` names.
+fn read_test(word: &str) -> Option<AtLeast> {
+    let (field, number) = word.split_once(':')?;
+    let least = number.parse().ok()?;
+    match field {
+        "lines" => Some(AtLeast {
+            counts_lines: true,
+            least,
+        }),
+        "total" => Some(AtLeast {
+            counts_lines: false,
+            least,
+        }),
+        _ => None,
+    }
+}
+
+// The check that the word makes of those before it, which it takes.
+fn read_word(alloc: Global, made: &mut Vec<Rule>, word: &str) -> Result<Option<Rule>, AllocError> {
+    if let Some(test) = read_test(word) {
+        return Ok(Some(Check::leaf(leaf(test))));
+    }
+    let Some(last) = made.pop() else {
+        return Ok(None);
+    };
+    if word == "not" {
+        return Ok(Some(last.not(alloc)?));
+    }
+    let Some(first) = made.pop() else {
+        return Ok(None);
+    };
+    match word {
+        "and" => Ok(Some(first.and(alloc, last)?)),
+        "or" => Ok(Some(first.or(alloc, last)?)),
+        _ => Ok(None),
+    }
+}
+
+// The rule that the words mean, each behind its parts.
+fn read_rule(alloc: Global, words: &str) -> Result<Option<Rule>, AllocError> {
+    let mut made = Vec::new(alloc);
+    for word in words.split(' ') {
+        let Some(rule) = read_word(alloc, &mut made, word)? else {
+            return Ok(None);
+        };
+        made.push(rule)?;
+    }
+    let rule = made.pop();
+    Ok(if made.is_empty() { rule } else { None })
+}
+
+// The lines that say why the check has its verdict on the order.
+fn why<P: Total<Order>>(alloc: Global, check: &P, order: &Order) -> Result<String, AllocError> {
+    match check.explain(alloc, None, order)? {
+        Some(case) => render(alloc, &case),
+        None => Ok(String::new(alloc)),
+    }
+}
+
+// Whether the words are a rule with that case.
+fn is_explained(
+    alloc: Global,
+    words: &str,
+    order: &Order,
+    lines: &str,
+) -> Result<bool, AllocError> {
+    let Some(rule) = read_rule(alloc, words)? else {
+        return Ok(false);
+    };
+    Ok(why(alloc, &rule, order)?.as_str() == lines)
+}
+
+#[test]
+fn a_rule_that_was_read_is_explained(rt: HostRuntime) -> Result<(), Fail> {
+    let lines = "\
+((total >= 50 || lines >= 3) && (! lines >= 9)) = false
+  left: (total >= 50 || lines >= 3) = false
+    left: total >= 50 = false
+      - var: Order { total: 20, lines: 2 }
+    right: lines >= 3 = false
+      - var: Order { total: 20, lines: 2 }
+";
+    let order = Order {
+        total: 20,
+        lines: 2,
+    };
+    let words = "total:50 lines:3 or lines:9 not and";
+    assert!(rt; is_explained(rt.alloc(), words, &order, lines)?);
+    assert!(rt; !is_explained(rt.alloc(), "total:50 and", &order, "")?);
+    Ok(())
+}

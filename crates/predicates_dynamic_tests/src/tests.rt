@@ -1,0 +1,425 @@
+//! Checks beside the reference program, how often their leaves are asked, and what they print.
+ghost use Rattle.std.specs.Prelude.{Some, decimal};
+
+use predicates::custom::{Test, TestPredicate, leaf};
+use predicates::reflection::{Case, render};
+use predicates::{PredicateChange, Total};
+use predicates_dynamic::Check;
+use predicates_testing::{ReferenceFormula, explains, first_change, first_reason, is_described};
+use std::alloc::{AllocError, Global};
+use std::cell::Cell;
+use std::fmt;
+use std::rc::Rc;
+use std::test::Fail;
+
+// Prints its number, has the verdict, and counts how often it is asked.
+#[derive(Drop)]
+struct Numbered {
+    number: usize,
+    verdict: bool,
+    asked: Rc<Cell<usize>>,
+}
+
+impl fmt::Display for Numbered {
+    ghost output = { λ t. Some (decimal t.number) };
+
+    fn fmt<W: fmt::Write>(&self, f: &mut fmt::Formatter<W>) -> fmt::Result {
+        let number = self.number;
+        write!(f, "{number}")
+    }
+}
+
+impl Test<u32> for Numbered {
+    ghost holds_of = { λ t v. t.verdict };
+
+    fn holds(&self, _item: &u32) -> bool {
+        self.asked.set(self.asked.get().saturating_add(1));
+        self.verdict
+    }
+}
+
+type Numbers = Check<TestPredicate<Numbered>>;
+
+// A check, and its formula for the reference program.
+#[derive(Drop)]
+struct Both {
+    check: Numbers,
+    formula: ReferenceFormula,
+}
+
+// What makes leaves, each with the next number.
+#[derive(Drop)]
+struct Leaves {
+    asked: Vec<Rc<Cell<usize>>>,
+}
+
+impl Leaves {
+    fn next(&mut self, alloc: Global, verdict: bool) -> Result<Numbers, AllocError> {
+        let number = self.asked.len();
+        let asked = Rc::new(alloc, Cell::new(0))?;
+        self.asked.push(asked.clone()?)?;
+        Ok(Check::leaf(leaf(Numbered {
+            number,
+            verdict,
+            asked,
+        })))
+    }
+
+    fn both(&mut self, alloc: Global, verdict: bool) -> Result<Both, AllocError> {
+        Ok(Both {
+            check: self.next(alloc, verdict)?,
+            formula: ReferenceFormula::Leaf(verdict),
+        })
+    }
+
+    // The greatest count, where each is set to 0 again.
+    fn greatest(&self) -> usize {
+        let mut greatest = 0;
+        for asked in self.asked.as_slice() {
+            greatest = greatest.max(asked.get());
+            asked.set(0);
+        }
+        greatest
+    }
+}
+
+// The last digit of the code to the base of so many kinds, which is taken from it.
+fn kind_of(code: &mut u32) -> u32 {
+    let kind = *code % 9;
+    *code /= 9;
+    kind
+}
+
+fn joined(
+    alloc: Global,
+    kind: u32,
+    left: ReferenceFormula,
+    right: ReferenceFormula,
+) -> Result<ReferenceFormula, AllocError> {
+    let (left, right) = (Box::new(alloc, left)?, Box::new(alloc, right)?);
+    Ok(match kind {
+        0 => ReferenceFormula::And(left, right),
+        1 => ReferenceFormula::Or(left, right),
+        _ => ReferenceFormula::Xor(left, right),
+    })
+}
+
+fn of_one(alloc: Global, is_named: bool, part: Both) -> Result<Both, AllocError> {
+    let formula = Box::new(alloc, part.formula)?;
+    if is_named {
+        return Ok(Both {
+            check: part.check.name(alloc, "named")?,
+            formula: ReferenceFormula::Named(formula),
+        });
+    }
+    Ok(Both {
+        check: part.check.not(alloc)?,
+        formula: ReferenceFormula::Not(formula),
+    })
+}
+
+fn of_two(alloc: Global, kind: u32, left: Both, right: Both) -> Result<Both, AllocError> {
+    let formula = joined(alloc, kind, left.formula, right.formula)?;
+    let check = match kind {
+        0 => left.check.and(alloc, right.check)?,
+        1 => left.check.or(alloc, right.check)?,
+        _ => left.check.xor(alloc, right.check)?,
+    };
+    Ok(Both { check, formula })
+}
+
+fn row(alloc: Global, is_any: bool, first: Both, second: Both) -> Result<Both, AllocError> {
+    let kind = if is_any { 1 } else { 0 };
+    let rest = joined(
+        alloc,
+        kind,
+        second.formula,
+        ReferenceFormula::NoMore(!is_any),
+    )?;
+    let members = joined(alloc, kind, first.formula, rest)?;
+    let parts = vec![in alloc; first.check, second.check]?;
+    Ok(Both {
+        check: if is_any {
+            Check::any(parts)
+        } else {
+            Check::all(parts)
+        },
+        formula: ReferenceFormula::Members(Box::new(alloc, members)?),
+    })
+}
+
+// The check that the code means, of at most so many levels above the leaves.
+fn build(
+    alloc: Global,
+    leaves: &mut Leaves,
+    code: &mut u32,
+    depth: u32,
+) -> Result<Both, AllocError> {
+    if depth == 0 {
+        let verdict = *code % 2 == 1;
+        *code /= 2;
+        return leaves.both(alloc, verdict);
+    }
+    let kind = kind_of(code);
+    if kind >= 7 {
+        return leaves.both(alloc, kind == 7);
+    }
+    let first = build(alloc, leaves, code, depth - 1)?;
+    if kind >= 5 {
+        return of_one(alloc, kind == 5, first);
+    }
+    let second = build(alloc, leaves, code, depth - 1)?;
+    if kind >= 3 {
+        return row(alloc, kind == 3, first, second);
+    }
+    of_two(alloc, kind, first, second)
+}
+
+// The numbers of the leaves that the lines of a case show, in order.
+fn shown(alloc: Global, lines: &str) -> Result<Vec<usize>, AllocError> {
+    let mut shown = Vec::new(alloc);
+    for line in lines.lines() {
+        let Some((head, _)) = line.split_once(" = ") else {
+            continue;
+        };
+        let text = match head.rsplit_once(' ') {
+            Some((_, text)) => text,
+            None => head,
+        };
+        if let Ok(number) = text.parse() {
+            shown.push(number)?;
+        }
+    }
+    Ok(shown)
+}
+
+// The lines of a case, and none where there is no case.
+fn lines_of(alloc: Global, case: Option<Case>) -> Result<String, AllocError> {
+    match case {
+        Some(case) => render(alloc, &case),
+        None => Ok(String::new(alloc)),
+    }
+}
+
+// What is told of a verdict that is wanted, of whichever it is, and of the other one.
+#[derive(Drop)]
+struct Told {
+    wanted: String,
+    whichever: String,
+    other: String,
+}
+
+fn reasons<P: Total<u32>>(alloc: Global, check: &P, verdict: bool) -> Result<Told, AllocError> {
+    Ok(Told {
+        wanted: lines_of(alloc, check.find_case(alloc, verdict, &0)?)?,
+        whichever: lines_of(alloc, check.explain(alloc, None, &0)?)?,
+        other: lines_of(alloc, check.find_case(alloc, !verdict, &0)?)?,
+    })
+}
+
+fn changes<P: Total<u32> + PredicateChange<u32>>(
+    alloc: Global,
+    check: &P,
+    verdict: bool,
+) -> Result<Told, AllocError> {
+    Ok(Told {
+        wanted: lines_of(alloc, check.find_change(alloc, Some(verdict), &0)?)?,
+        whichever: lines_of(alloc, check.find_change(alloc, None, &0)?)?,
+        other: lines_of(alloc, check.find_change(alloc, Some(!verdict), &0)?)?,
+    })
+}
+
+// Whether just these leaves are told, and nothing of the other verdict.
+fn are_told(alloc: Global, told: Told, leaves: Option<Vec<usize>>) -> Result<bool, AllocError> {
+    let shown = shown(alloc, told.wanted.as_str())?;
+    Ok(match leaves {
+        Some(leaves) => {
+            shown.as_slice() == leaves.as_slice()
+                && told.whichever.as_str() == told.wanted.as_str()
+                && told.other.is_empty()
+        }
+        None => false,
+    })
+}
+
+fn holds<P: Total<u32>>(alloc: Global, check: &P) -> Result<bool, AllocError> {
+    check.eval(alloc, &0)
+}
+
+// Whether the check answers as the reference program does.
+fn agrees(alloc: Global, both: &Both) -> Result<bool, AllocError> {
+    let verdict = both.formula.truth();
+    let reasons = reasons(alloc, &both.check, verdict)?;
+    let changes = changes(alloc, &both.check, verdict)?;
+    Ok(
+        holds(alloc, &both.check)? == verdict
+            && are_told(alloc, reasons, first_reason(alloc, &both.formula)?)?
+            && are_told(alloc, changes, first_change(alloc, &both.formula)?)?,
+    )
+}
+
+// All checks of up to two levels over leaves of each truth.
+#[test]
+fn checks_are_explained_as_the_reference_program_does(rt: HostRuntime) -> Result<(), Fail> {
+    let alloc = rt.alloc();
+    let mut tried = 0u32;
+    for first in 0..11664u32 {
+        let mut code = first;
+        let mut leaves = Leaves {
+            asked: Vec::new(alloc),
+        };
+        let both = build(alloc, &mut leaves, &mut code, 2)?;
+        if code == 0 {
+            assert!(rt; agrees(alloc, &both)?);
+            tried = tried.saturating_add(1);
+        }
+    }
+    assert!(rt; tried > 3000);
+    Ok(())
+}
+
+// A chain of so many combinators, each in turn, with a leaf beside the rest at most levels.
+fn chain(
+    alloc: Global,
+    leaves: &mut Leaves,
+    depth: u32,
+    verdict: bool,
+) -> Result<Numbers, AllocError> {
+    let mut check = leaves.next(alloc, verdict)?;
+    for level in 0..depth {
+        let own = leaves.next(alloc, level % 2 == 0)?;
+        check = match level % 6 {
+            0 => own.and(alloc, check)?,
+            1 => own.or(alloc, check)?,
+            2 => own.xor(alloc, check)?,
+            3 => check.not(alloc)?.name(alloc, "named")?,
+            kind => {
+                let parts = vec![in alloc; own, check]?;
+                if kind == 5 {
+                    Check::any(parts)
+                } else {
+                    Check::all(parts)
+                }
+            }
+        };
+    }
+    Ok(check)
+}
+
+// How often one leaf is asked at most: by `eval`, by `find_case` of the verdict and of the other,
+// and by `explain`.
+fn most_asked<P: Total<u32>>(
+    alloc: Global,
+    check: &P,
+    leaves: &Leaves,
+) -> Result<(usize, usize, usize, usize), AllocError> {
+    let verdict = check.eval(alloc, &0)?;
+    let by_eval = leaves.greatest();
+    let has_case = check.find_case(alloc, verdict, &0)?.is_some();
+    let by_case = leaves.greatest();
+    let has_other = check.find_case(alloc, !verdict, &0)?.is_some();
+    let by_other = leaves.greatest();
+    let is_explained = check.explain(alloc, None, &0)?.is_some();
+    let by_explain = leaves.greatest();
+    if !has_case || has_other || !is_explained {
+        return Ok((0, 0, 0, 0));
+    }
+    Ok((by_eval, by_case, by_other, by_explain))
+}
+
+// The same by `find_change` of the verdict, and of whichever it is.
+fn most_asked_for_changes<P: Total<u32> + PredicateChange<u32>>(
+    alloc: Global,
+    check: &P,
+    leaves: &Leaves,
+) -> Result<(usize, usize), AllocError> {
+    let verdict = check.eval(alloc, &0)?;
+    let _ = leaves.greatest();
+    let has_change = check.find_change(alloc, Some(verdict), &0)?.is_some();
+    let by_change = leaves.greatest();
+    let is_changed = check.find_change(alloc, None, &0)?.is_some();
+    let by_whichever = leaves.greatest();
+    if !has_change || !is_changed {
+        return Ok((0, 0));
+    }
+    Ok((by_change, by_whichever))
+}
+
+#[test]
+fn each_leaf_is_asked_at_most_twice_at_depth_100(rt: HostRuntime) -> Result<(), Fail> {
+    let alloc = rt.alloc();
+    for verdict in [true, false] {
+        let mut leaves = Leaves {
+            asked: Vec::new(alloc),
+        };
+        let check = chain(alloc, &mut leaves, 100, verdict)?;
+        assert!(rt; most_asked(alloc, &check, &leaves)? == (1, 2, 1, 1));
+        assert!(rt; most_asked_for_changes(alloc, &check, &leaves)? == (1, 1));
+    }
+    Ok(())
+}
+
+// A check is made and dropped without a stack frame a level.
+#[test]
+fn a_check_of_20_000_levels_is_dropped(rt: HostRuntime) -> Result<(), Fail> {
+    let alloc = rt.alloc();
+    let mut leaves = Leaves {
+        asked: Vec::new(alloc),
+    };
+    drop(chain(alloc, &mut leaves, 20_000, true)?);
+    assert!(rt; leaves.greatest() == 0);
+    Ok(())
+}
+
+// The text, and a line for each part.
+const DESCRIBED: &str = "\
+all_of((! 0), named, (2 ^ any_of(3)), any_of())
+rule: (! 0)
+  predicate: 0
+rule: named
+  named: 1
+rule: (2 ^ any_of(3))
+  left: 2
+  right: any_of(3)
+    rule: 3
+rule: any_of()
+";
+
+// The case of a row whose last part has no parts.
+const EXPLAINED: &str = "\
+all_of((! 0), named, (2 ^ any_of(3)), any_of()) = false
+  - index: 3
+  rule: any_of() = false
+    - len: 0
+";
+
+// A row of checks, where the first parts hold.
+fn some_row(alloc: Global) -> Result<Numbers, AllocError> {
+    let mut leaves = Leaves {
+        asked: Vec::new(alloc),
+    };
+    let opposite = leaves.next(alloc, false)?.not(alloc)?;
+    let named = leaves.next(alloc, true)?.name(alloc, "named")?;
+    let left = leaves.next(alloc, false)?;
+    let one = Check::any(vec![in alloc; leaves.next(alloc, true)?]?);
+    let exclusive = left.xor(alloc, one)?;
+    let none = Check::any(Vec::new(alloc));
+    Ok(Check::all(vec![in alloc; opposite, named, exclusive, none]?))
+}
+
+fn explains_total<P: Total<u32>>(
+    alloc: Global,
+    check: &P,
+    lines: &str,
+) -> Result<bool, AllocError> {
+    explains(alloc, check, &0, lines)
+}
+
+#[test]
+fn rows_print_describe_and_explain_their_parts(rt: HostRuntime) -> Result<(), Fail> {
+    let alloc = rt.alloc();
+    let row = some_row(alloc)?;
+    assert!(rt; is_described(alloc, &row, DESCRIBED)?);
+    assert!(rt; explains_total(alloc, &row, EXPLAINED)?);
+    Ok(())
+}
