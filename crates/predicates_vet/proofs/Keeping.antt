@@ -1,5 +1,5 @@
 -- Which rules a record keeps and breaks, one after the other.
-use Rattle.std.proofs.Common.{◌≡◌, ℕ, suc, ◌+◌, ◌<◌, ◌≤◌, Bool, true, false, List, [], ◌∷◌, ◌++◌, length, take, drop, set, get_or, refl, sym, ap, ◌∙◌, subst, arith, append-nil}
+use Rattle.std.proofs.Common.{◌≡◌, ℕ, suc, ◌+◌, ◌<◌, ◌≤◌, Bool, true, false, List, [], ◌∷◌, ◌++◌, length, take, drop, set, get_or, refl, sym, ap, ◌∙◌, subst, arith, append-nil, ⊎_elim}
 use Rattle.std.specs.Prelude.{not, ◌&&◌, ◌==◌, cond}
 use Rattle.std.specs.List.{AllZip}
 use Rattle.std.proofs.lemmas.Bool.Decides.{nat_tests}
@@ -8,10 +8,11 @@ use Rattle.serde_json.specs.Data.{Data}
 use Rattle.predicates_core.specs.Formula.{Formula, truth, HasTruth}
 use Rattle.predicates_core.specs.Leaves.{IsExactly}
 use Rattle.predicates_core.specs.Shows.{Explains, IsCaseOf}
+use Rattle.predicates_core.specs.Change.{ExplainsChange}
 use Rattle.predicates_core.specs.Tree.{Tree}
 use Rattle.predicates_core.specs.Describe.{CaseNode}
 use Rattle.predicates_vet_check.specs.declared.rule_check.RuleCheck.{RuleCheck}
-use Rattle.predicates_vet.specs.Records.{formula_on, keeps, broken, shown, AddsCase}
+use Rattle.predicates_vet.specs.Records.{formula_on, keeps, broken, shown, AddsCase, AddsChange}
 
 and_true : (a : Bool) → (a && true) ≡ a
 and_true true = refl
@@ -24,6 +25,12 @@ and_assoc false b c = refl
 and_false : (a : Bool) → (a && false) ≡ false
 and_false true = refl
 and_false false = refl
+
+zip_last : (R : Formula → Tree CaseNode → Type 0) (fs : List Formula) (cs : List (Tree CaseNode)) {f : Formula} {c : Tree CaseNode} → AllZip R fs cs → R f c → AllZip R (fs ++ f ∷ []) (cs ++ c ∷ [])
+zip_last R [] [] h x = (x, tt)
+zip_last R [] (c ∷ cs) h x = absurd h
+zip_last R (f ∷ fs) [] h x = absurd h
+zip_last R (f ∷ fs) (c ∷ cs) h x = (h.0, zip_last R fs cs h.1 x)
 
 module _ (d : Data) where
   keeps_append : (xs ys : List RuleCheck) → keeps (xs ++ ys) d ≡ (keeps xs d && keeps ys d)
@@ -67,12 +74,6 @@ module _ (d : Data) where
   pub found_none : (all : Bool) → AreFound all [] []
   found_none all = record { explain = tt; none = λ e. refl }
 
-  zip_last : (fs : List Formula) (cs : List (Tree CaseNode)) {f : Formula} {c : Tree CaseNode} → AllZip Explains fs cs → Explains f c → AllZip Explains (fs ++ f ∷ []) (cs ++ c ∷ [])
-  zip_last [] [] h x = (x, tt)
-  zip_last [] (c ∷ cs) h x = absurd h
-  zip_last (f ∷ fs) [] h x = absurd h
-  zip_last (f ∷ fs) (c ∷ cs) h x = (h.0, zip_last fs cs h.1 x)
-
   kept_adds : (u : RuleCheck) → truth (formula_on d u) ≡ true → broken (u ∷ []) d ≡ []
   kept_adds u e = ap (λ b. cond b [] (formula_on d u ∷ [])) e
 
@@ -88,7 +89,7 @@ module _ (d : Data) where
   found_broken us k u cs c within is p h =
       let e : broken (take (k + 1) us) d ≡ broken (take k us) d ++ formula_on d u ∷ [] = ap (λ z. broken z d) (more_is us k u within is) ∙ broken_append (take k us) (u ∷ []) ∙ ap (λ z. broken (take k us) d ++ z) (broken_adds u [] (h.truth.at (formula_on d u) (record { is = refl }))) in
       record {
-        explain = subst (λ z. AllZip Explains z (cs ++ c ∷ [])) (sym e) (zip_last (broken (take k us) d) cs p.explain (h.explains (formula_on d u) (record { is = refl })));
+        explain = subst (λ z. AllZip Explains z (cs ++ c ∷ [])) (sym e) (zip_last Explains (broken (take k us) d) cs p.explain (h.explains (formula_on d u) (record { is = refl })));
         none = λ isnt. absurd (let apart : true ≡ false = isnt in cc);
       }
 
@@ -129,11 +130,11 @@ module _ (d : Data) where
   suc_not_zero : (n : ℕ) → (suc n == 0) ≡ false
   suc_not_zero n = grind (arith, nat_tests)
 
-  none_of_zip : (fs : List Formula) (cs : List (Tree CaseNode)) → AllZip Explains fs cs → (length cs == 0) ≡ (length fs == 0)
-  none_of_zip [] [] h = refl
-  none_of_zip [] (c ∷ cs) h = absurd h
-  none_of_zip (f ∷ fs) [] h = absurd h
-  none_of_zip (f ∷ fs) (c ∷ cs) h = suc_not_zero (length cs) ∙ sym (suc_not_zero (length fs))
+  none_of_zip : (R : Formula → Tree CaseNode → Type 0) (fs : List Formula) (cs : List (Tree CaseNode)) → AllZip R fs cs → (length cs == 0) ≡ (length fs == 0)
+  none_of_zip R [] [] h = refl
+  none_of_zip R [] (c ∷ cs) h = absurd h
+  none_of_zip R (f ∷ fs) [] h = absurd h
+  none_of_zip R (f ∷ fs) (c ∷ cs) h = suc_not_zero (length cs) ∙ sym (suc_not_zero (length fs))
 
   none_of_shown : (all : Bool) (fs : List Formula) → (length (shown all fs) == 0) ≡ (length fs == 0)
   none_of_shown true fs = refl
@@ -149,4 +150,22 @@ module _ (d : Data) where
       one false e = suc_not_zero (length (broken us d))
 
   pub keeps_where_none : (all : Bool) (us : List RuleCheck) (cs : List (Tree CaseNode)) → AllZip Explains (shown all (broken us d)) cs → (length cs == 0) ≡ keeps us d
-  keeps_where_none all us cs h = none_of_zip (shown all (broken us d)) cs h ∙ none_of_shown all (broken us d) ∙ none_of_broken us
+  keeps_where_none all us cs h = none_of_zip Explains (shown all (broken us d)) cs h ∙ none_of_shown all (broken us d) ∙ none_of_broken us
+
+  -- ---- what would have to change
+
+  abbrev pub AreChanges : List RuleCheck → List (Tree CaseNode) → Type 0
+  AreChanges us cs = AllZip ExplainsChange (broken us d) cs
+
+  pub changes_more : (us : List RuleCheck) (k : ℕ) (u : RuleCheck) (cs ds : List (Tree CaseNode)) → k < length us → u ≡ get_or us k u → AreChanges (take k us) cs → AddsChange d u cs ds → AreChanges (take (k + 1) us) ds
+  changes_more us k u cs ds within is p h = ⊎_elim
+      (λ a.
+      let e : broken (take (k + 1) us) d ≡ broken (take k us) d ++ formula_on d u ∷ [] = ap (λ z. broken z d) (more_is us k u within is) ∙ broken_append (take k us) (u ∷ []) ∙ ap (λ z. broken (take k us) d ++ z) (broken_adds u [] (a.2.truth.at (formula_on d u) (record { is = refl }))) in
+      subst (AreChanges (take (k + 1) us)) (sym a.1) (subst (λ z. AllZip ExplainsChange z (cs ++ a.0 ∷ [])) (sym e) (zip_last ExplainsChange (broken (take k us) d) cs p (a.2.explains (formula_on d u) (record { is = refl })))))
+      (λ b.
+      let e : broken (take (k + 1) us) d ≡ broken (take k us) d = ap (λ z. broken z d) (more_is us k u within is) ∙ broken_append (take k us) (u ∷ []) ∙ ap (λ z. broken (take k us) d ++ z) (kept_adds u (b.1.at (formula_on d u) (record { is = refl }))) ∙ append-nil (broken (take k us) d) in
+      subst (AreChanges (take (k + 1) us)) (sym b.0) (subst (λ z. AllZip ExplainsChange z cs) (sym e) p))
+      h
+
+  pub no_changes : (us : List RuleCheck) (cs : List (Tree CaseNode)) → AreChanges us cs → (length cs == 0) ≡ keeps us d
+  no_changes us cs h = none_of_zip ExplainsChange (broken us d) cs h ∙ none_of_broken us

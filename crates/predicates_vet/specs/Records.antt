@@ -1,5 +1,5 @@
 -- What is written for one record.
-use Rattle.std.specs.Prelude.{◌≡◌, ℕ, List, [], ◌∷◌, ◌++◌, Bool, true, false, ◌&&◌, cond, Option, Some, None, IfSome, take, codes, flat_map, unwrap_or}
+use Rattle.std.specs.Prelude.{◌≡◌, ◌⊎◌, ℕ, List, [], ◌∷◌, ◌++◌, Bool, true, false, ◌&&◌, cond, Option, Some, None, IfSome, take, codes, flat_map, unwrap_or}
 use Rattle.std.specs.List.{AllZip}
 use mathlib.Core.Bool.{beq}
 use Rattle.serde_json.specs.Data.{Data, null, number, unsigned}
@@ -10,11 +10,12 @@ use Rattle.predicates_core.specs.Tree.{Tree}
 use Rattle.predicates_core.specs.Describe.{CaseNode}
 use Rattle.predicates_core.specs.Lines.{lines}
 use Rattle.predicates_core.specs.Shows.{Explains, IsCaseOf}
+use Rattle.predicates_core.specs.Change.{ExplainsChange, IsChangeOf}
 use Rattle.predicates_vet_check.specs.Plans.{found_text}
 use Rattle.predicates_vet_check.specs.RuleChecks.{rule_formula, name_of, plan_of_rule}
 use Rattle.predicates_vet_check.specs.declared.rule_check.RuleCheck.{RuleCheck}
 use Rattle.predicates_vet.specs.declared.settings.Report.{Report}
-use Rattle.predicates_vet.specs.declared.settings.Report.TheVariants.{First, All, Json, Lines}
+use Rattle.predicates_vet.specs.declared.settings.Report.TheVariants.{First, All, Change, Json, Lines}
 use Rattle.predicates_vet.specs.declared.settings.Settings.{Settings}
 use Rattle.predicates_vet.specs.Settings.{id_of}
 
@@ -36,6 +37,10 @@ broken (r ∷ rs) d = cond (truth (formula_on d r)) (broken rs d) (formula_on d 
 abbrev pub AddsCase : Data → RuleCheck → List (Tree CaseNode) → List (Tree CaseNode) → Bool → Type 0
 AddsCase d r old new true = (c : Tree CaseNode) × (new ≡ old ++ c ∷ []) × IsCaseOf (IsExactly (formula_on d r)) false c
 AddsCase d r old new false = (new ≡ old) × HasTruth (IsExactly (formula_on d r)) true
+
+-- what would have to change in a rule is added where the record breaks it
+abbrev pub AddsChange : Data → RuleCheck → List (Tree CaseNode) → List (Tree CaseNode) → Type 0
+AddsChange d r old new = ((c : Tree CaseNode) × (new ≡ old ++ c ∷ []) × IsChangeOf (IsExactly (formula_on d r)) false c) ⊎ ((new ≡ old) × HasTruth (IsExactly (formula_on d r)) true)
 
 -- all of them, or the first
 abbrev pub shown : Bool → List Formula → List Formula
@@ -59,11 +64,21 @@ pub record IsBlock (rules : List RuleCheck) (all : Bool) (labelled d : Data) (wr
   pub fits : IfSome (found_text labelled) (λ given. text ≡ given)
   pub is : written ≡ block text cases
 
+-- the block of what would have to change in each rule that a record breaks: that is the first change
+-- of all rules together
+pub record IsChangeBlock (rules : List RuleCheck) (labelled d : Data) (written : List ℕ) : Type 0 where
+  pub cases : List (Tree CaseNode)
+  pub explain : AllZip ExplainsChange (broken rules d) cases
+  pub text : List ℕ
+  pub fits : IfSome (found_text labelled) (λ given. text ≡ given)
+  pub is : written ≡ block text cases
+
 -- what is written for the record of this number, which stands on the line; of an object of JSON
 -- nothing is said
 abbrev pub IsReport : Report → Option (List ℕ) → List RuleCheck → ℕ → List ℕ → Data → List ℕ → Type 0
 IsReport First id rules place line d written = IsBlock rules false (label id place d) d written
 IsReport All id rules place line d written = IsBlock rules true (label id place d) d written
+IsReport Change id rules place line d written = IsChangeBlock rules (label id place d) d written
 IsReport (Json all) id rules place line d written = Unit {0}
 IsReport (Lines wanted) id rules place line d written = written ≡ cond (beq (keeps rules d) wanted) line []
 

@@ -1,19 +1,21 @@
 //! What is written for one record.
 ghost use Rattle.std.specs.Prelude.{◌≡◌, ◌++◌, ℕ, List, IfOk, IfSome, OnOk, string_bytes, option_map};
 ghost use Rattle.std.specs.List.{AllZip};
+ghost use Rattle.predicates_core.specs.Change.{ExplainsChange};
 ghost use Rattle.predicates_core.specs.Shows.{Explains};
 ghost use Rattle.serde_json.specs.View.{view};
 ghost use Rattle.predicates_vet_check.specs.Plans.{found_text};
 ghost use Rattle.std.specs.Prelude.{◌==◌, length, flat_map};
 ghost use Rattle.predicates_core.specs.Lines.{lines};
 ghost use Rattle.predicates_vet.specs.Records.{keeps, broken, shown, label, block, IsBlock, AddsCase};
+ghost use Rattle.predicates_vet.specs.Records.{IsChangeBlock, AddsChange};
 ghost use Rattle.predicates_vet.specs.Settings.{id_of};
 
 use crate::job::Job;
 use crate::settings::Settings;
 use crate::workspace::Workspace;
-use predicates_core::Predicate;
 use predicates_core::reflection::{Case, render_onto};
+use predicates_core::{Predicate, PredicateChange};
 use predicates_json::{case_json, value_at};
 use predicates_vet_check::{Matchers, RuleCheck};
 use serde_json::{Map, Value, put};
@@ -77,6 +79,43 @@ fn add_case<'r>(
     };
     cases.push(case)?;
     Ok(true)
+}
+
+// What would have to change in each rule that the record breaks.
+fn changes<'r>(
+    alloc: Global,
+    rules: &'r [RuleCheck],
+    matchers: &mut Matchers<'r>,
+    value: &Value,
+) -> Result<Vec<Case>, AllocError>
+    ensures { IfOk result (λ cases.
+        AllZip ExplainsChange (broken rules.now (view value.now)) cases.items) }
+{
+    let mut cases = Vec::new(alloc);
+    for rule in rules {
+        add_change(alloc, rule, matchers, value, &mut cases)?;
+    }
+    Ok(cases)
+}
+
+// Adds what would have to change in the rule where the record breaks it.
+fn add_change<'r>(
+    alloc: Global,
+    rule: &'r RuleCheck,
+    matchers: &mut Matchers<'r>,
+    value: &Value,
+    cases: &mut Vec<Case>,
+) -> Result<(), AllocError>
+    ensures { OnOk result (AddsChange (view value.now) rule.now cases.old.items cases.new.items) }
+{
+    let held = rule.holds(alloc, matchers, value)?;
+    if held {
+        return Ok(());
+    }
+    match rule.find_change(alloc, Some(false), value)? {
+        Some(case) => Ok(cases.push(case)?),
+        None => Ok(()),
+    }
 }
 
 // The label of the record, as JSON.
@@ -208,6 +247,26 @@ pub(crate) fn write_broken<'r>(
     ensures held { IfOk result (λ held. held ≡ keeps job.now.rules.now (view value.now)) }
 {
     let cases = broken(alloc, job.rules, &mut workspace.matchers, all, value)?;
+    let text_of_label = label(alloc, job.settings, number, value)?;
+    write_block(&mut workspace.text, &text_of_label, cases.as_slice())?;
+    Ok(is_none(&cases))
+}
+
+/// Writes the block of what would have to change in the rules that the record breaks, in place of
+/// what the text held, and says whether it keeps every rule.
+pub(crate) fn write_changes<'r>(
+    alloc: Global,
+    job: &Job<'r>,
+    workspace: &mut Workspace<'r>,
+    number: u64,
+    value: &Value,
+) -> Result<bool, AllocError>
+    ensures block { OnOk result (IsChangeBlock job.now.rules.now
+        (label (id_of job.now.settings.now) number (view value.now)) (view value.now)
+        (string_bytes workspace.new.text)) }
+    ensures held { IfOk result (λ held. held ≡ keeps job.now.rules.now (view value.now)) }
+{
+    let cases = changes(alloc, job.rules, &mut workspace.matchers, value)?;
     let text_of_label = label(alloc, job.settings, number, value)?;
     write_block(&mut workspace.text, &text_of_label, cases.as_slice())?;
     Ok(is_none(&cases))

@@ -5,13 +5,13 @@ ghost use mathlib.Core.Bool.{beq};
 ghost use Rattle.std.specs.Io.KnownBytes.{Appends};
 ghost use Rattle.serde_json.specs.Read.{read};
 ghost use Rattle.serde_json.specs.View.{view};
-ghost use Rattle.predicates_vet.specs.Records.{keeps, label, IsBlock, IsWritten};
+ghost use Rattle.predicates_vet.specs.Records.{keeps, label, IsBlock, IsChangeBlock, IsWritten};
 ghost use Rattle.predicates_vet.specs.Settings.{id_of};
 ghost use Rattle.predicates_vet.specs.Runs.{is_false, status_of};
 ghost use Rattle.predicates_vet.specs.Runs.{record_on, HasRun, IsLineWritten};
 
 use crate::job::Job;
-use crate::record::{keeps, write_broken, write_object};
+use crate::record::{keeps, write_broken, write_changes, write_object};
 use crate::settings::{Report, Settings};
 use crate::workspace::Workspace;
 use predicates_lines::{RunFault, flush, next_line, write_bytes};
@@ -218,6 +218,26 @@ fn tell_block<'r, W: Write>(
     Ok(held)
 }
 
+// The same with what would have to change in each rule that the record breaks.
+fn tell_changes<'r, W: Write>(
+    alloc: Global,
+    job: &Job<'r>,
+    workspace: &mut Workspace<'r>,
+    number: u64,
+    value: &Value,
+    output: &mut W,
+) -> Result<bool, RunFault>
+    ensures written { IfOk result (λ _. (written : List ℕ)
+        × IsChangeBlock job.now.rules.now
+        (label (id_of job.now.settings.now) number (view value.now)) (view value.now) written
+        × Appends (W.contents output.old) (W.contents output.new) written) }
+    ensures held { IfOk result (λ held. held ≡ keeps job.now.rules.now (view value.now)) }
+{
+    let held = write_changes(alloc, job, workspace, number, value)?;
+    write_bytes(output, workspace.text.as_bytes())?;
+    Ok(held)
+}
+
 // The same with an object of JSON.
 fn tell_object<'r, W: Write>(
     alloc: Global,
@@ -278,6 +298,7 @@ fn tell_record<'r, W: Write>(
     match job.settings.report {
         Report::First => tell_block(alloc, job, workspace, false, number, value, output),
         Report::All => tell_block(alloc, job, workspace, true, number, value, output),
+        Report::Change => tell_changes(alloc, job, workspace, number, value, output),
         Report::Json { all } => tell_object(alloc, job, workspace, all, number, value, output),
         Report::Lines(wanted) => tell_wanted(alloc, job, workspace, wanted, line, value, output),
     }

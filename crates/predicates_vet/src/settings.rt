@@ -7,6 +7,8 @@ pub enum Report {
     First,
     /// A block with the case of each rule that it breaks.
     All,
+    /// A block with what would have to change in each rule that it breaks.
+    Change,
     /// An object of JSON, with the cases of the rules that it breaks: the first, or all.
     Json { all: bool },
     /// The line itself, where the record keeps every rule (`true`), or breaks one (`false`).

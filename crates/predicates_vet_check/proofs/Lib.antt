@@ -1,4 +1,5 @@
 mod Alike
+mod Changes
 mod Differing
 mod Leaving
 mod Members

@@ -9,15 +9,17 @@ ghost use Rattle.predicates_vet_check.specs.Plans.{plan_formula, plan_text};
 ghost use Rattle.predicates_vet_check.specs.PlanLaws.{plan_text_fits};
 ghost use Rattle.predicates_vet_check.specs.Checks.{plan_of};
 
+mod change;
 mod find;
 mod hold;
 
 use crate::matchers::Matchers;
 use crate::path_test::PathTest;
+use change::changed;
 use find::{joined_case, not_case, range_case};
 use hold::{joined_hold, not_hold, range_hold};
 use predicates_core::reflection::{Case, Child, Parameter, PredicateReflection};
-use predicates_core::{Predicate, Total};
+use predicates_core::{Predicate, PredicateChange, Total};
 use predicates_rules::expression::{Connective, Quantifier};
 use serde_json::Value;
 use std::alloc::{AllocError, Global};
@@ -128,6 +130,23 @@ impl Predicate<Value> for Check {
             Check::Quantified(text, quantifier, path, inner) => {
                 let found = range_case(alloc, text, *quantifier, path, inner, expected, item)?;
                 Ok(found)
+            }
+        }
+    }
+}
+
+impl PredicateChange<Value> for Check {
+    fn find_change(
+        &self,
+        alloc: Global,
+        wanted: Option<bool>,
+        item: &Value,
+    ) -> Result<Option<Case>, AllocError> {
+        match wanted {
+            Some(expected) => changed(alloc, self, expected, item),
+            None => {
+                let holds = self.eval(alloc, item)?;
+                changed(alloc, self, holds, item)
             }
         }
     }

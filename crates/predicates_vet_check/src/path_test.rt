@@ -17,8 +17,9 @@ ghost use Rattle.predicates_vet_check.specs.Tests.{text_of_test, path_of_test, q
 use crate::leaf::{bare_leaf, found_at, misfit_at, nothing_at};
 use crate::matchers::Matchers;
 use crate::question::Question;
+use predicates_core::custom::leaf_change;
 use predicates_core::reflection::{Case, Child, Parameter, PredicateReflection};
-use predicates_core::{Predicate, Total};
+use predicates_core::{Predicate, PredicateChange, Total};
 use predicates_json::value_at;
 use serde_json::Value;
 use std::alloc::{AllocError, Global};
@@ -202,6 +203,17 @@ impl Predicate<Value> for PathTest {
                 Ok(found)
             }
         }
+    }
+}
+
+impl PredicateChange<Value> for PathTest {
+    fn find_change(
+        &self,
+        alloc: Global,
+        wanted: Option<bool>,
+        item: &Value,
+    ) -> Result<Option<Case>, AllocError> {
+        leaf_change(alloc, self, wanted, item)
     }
 }
 

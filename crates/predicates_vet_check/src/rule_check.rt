@@ -12,7 +12,7 @@ use crate::check::Check;
 use crate::matchers::Matchers;
 use predicates_core::node::unary_node;
 use predicates_core::reflection::{Case, Child, Parameter, PredicateReflection};
-use predicates_core::{Predicate, Total};
+use predicates_core::{Predicate, PredicateChange, Total};
 use serde_json::Value;
 use std::alloc::{AllocError, Global};
 use std::fmt;
@@ -89,6 +89,22 @@ impl Predicate<Value> for RuleCheck {
         };
         let name = String::from_str(alloc, &self.name)?;
         Ok(Some(unary_node(alloc, name, expected, "rule", case)?))
+    }
+}
+
+impl PredicateChange<Value> for RuleCheck {
+    fn find_change(
+        &self,
+        alloc: Global,
+        wanted: Option<bool>,
+        item: &Value,
+    ) -> Result<Option<Case>, AllocError> {
+        let Some(case) = self.check.find_change(alloc, wanted, item)? else {
+            return Ok(None);
+        };
+        let name = String::from_str(alloc, &self.name)?;
+        let outcome = case.root().result();
+        Ok(Some(unary_node(alloc, name, outcome, "rule", case)?))
     }
 }
 

@@ -38,6 +38,12 @@ fn all<'a>(alloc: Global) -> Arg<'a> {
     flag(alloc, "all", help)
 }
 
+fn change<'a>(alloc: Global) -> Result<Arg<'a>, AllocError> {
+    let help = "Show what would have to change in each rule that a record breaks";
+    let change = unexplained(flag(alloc, "change", help))?;
+    change.conflicts_with("failed")?.conflicts_with("passed")
+}
+
 fn json<'a>(alloc: Global) -> Arg<'a> {
     flag(alloc, "json", "Write one JSON object for each record")
 }
@@ -56,13 +62,14 @@ fn rules<'a>(alloc: Global) -> Arg<'a> {
 pub(crate) fn command<'a>(alloc: Global) -> Result<Command<'a>, AllocError> {
     let about =
         "Checks records of JSON, one on a line of standard input, and says why they break a rule";
-    let (failed, passed) = (failed(alloc)?, passed(alloc)?);
+    let (failed, passed, change) = (failed(alloc)?, passed(alloc)?, change(alloc)?);
     Command::new(alloc, "vet")
         .about(about)
         .arg(rules(alloc))?
         .arg(failed)?
         .arg(passed)?
         .arg(all(alloc))?
+        .arg(change)?
         .arg(json(alloc))?
         .arg(id(alloc))
 }
@@ -76,6 +83,8 @@ fn report_of(matches: &ArgMatches<'_>) -> Report {
         Report::Json {
             all: matches.get_flag("all"),
         }
+    } else if matches.get_flag("change") {
+        Report::Change
     } else if matches.get_flag("all") {
         Report::All
     } else {

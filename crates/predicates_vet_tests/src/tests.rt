@@ -168,6 +168,75 @@ fn blocks_of_records(rt: HostRuntime) -> Result<(), Fail> {
     Ok(())
 }
 
+// A rule, a record, and the block of what would have to change in the rule.
+const CHANGES: [(&str, &[u8], &[u8]); 10] = [
+    ("a: / == 1", b"1", b""),
+    (
+        "a: /x == 1 and /y == 2 and /z == 3",
+        b"{\"x\": 0, \"y\": 2, \"z\": 0}",
+        b"record 1: false\na = false\n  rule: /x == 1 and /y == 2 and /z == 3 = false\n    - index: 0\n    part: /x == 1 = false\n      - found: 0\n      - index: 0\n    part: /z == 3 = false\n      - found: 0\n      - index: 2\n",
+    ),
+    (
+        "a: / == 1 or / == 2",
+        b"3",
+        b"record 1: false\na = false\n  rule: / == 1 or / == 2 = false\n    part: / == 1 = false\n      - found: 3\n      - index: 0\n",
+    ),
+    (
+        "a: / < 3 xor / > 1",
+        b"2",
+        b"record 1: false\na = false\n  rule: / < 3 xor / > 1 = false\n    part: / < 3 = true\n      - found: 2\n      - index: 0\n",
+    ),
+    (
+        "a: not (/x == 1 and /y == 2)",
+        b"{\"x\": 1, \"y\": 2}",
+        b"record 1: false\na = false\n  rule: not (/x == 1 and /y == 2) = false\n    predicate: /x == 1 and /y == 2 = true\n      part: /x == 1 = true\n        - found: 1\n        - index: 0\n",
+    ),
+    (
+        "a: not (/x == 1 or /y == 2 or /x == 3)",
+        b"{\"x\": 1, \"y\": 2}",
+        b"record 1: false\na = false\n  rule: not (/x == 1 or /y == 2 or /x == 3) = false\n    predicate: /x == 1 or /y == 2 or /x == 3 = true\n      - index: 0\n      part: /x == 1 = true\n        - found: 1\n        - index: 0\n      part: /y == 2 = true\n        - found: 2\n        - index: 1\n",
+    ),
+    (
+        "a: each / (/ < 3)",
+        b"[1, 4, 5]",
+        b"record 1: false\na = false\n  rule: each / (/ < 3) = false\n    - index: 1\n    item: / < 3 = false\n      - found: 4\n      - index: 1\n    item: / < 3 = false\n      - found: 5\n      - index: 2\n",
+    ),
+    (
+        "a: any / (/ == 1)",
+        b"[2, 3]",
+        b"record 1: false\na = false\n  rule: any / (/ == 1) = false\n    item: / == 1 = false\n      - found: 2\n      - index: 0\n",
+    ),
+    (
+        "a: any / (/ == 1)",
+        b"[]",
+        b"record 1: false\na = false\n  rule: any / (/ == 1) = false\n    - len: 0\n",
+    ),
+    (
+        "a: each /l (/ < 3)",
+        b"{}",
+        b"record 1: false\na = false\n  rule: each /l (/ < 3) = false\n    - error: nothing at /l\n",
+    ),
+];
+
+#[test]
+fn changes_of_records(rt: HostRuntime) -> Result<(), Fail> {
+    for (rule, record, block) in CHANGES {
+        let failed = if block.is_empty() { 0 } else { 1 };
+        let counts = (1, failed, 0);
+        let told = writes(
+            rt.alloc(),
+            Report::Change,
+            None,
+            rule,
+            record,
+            block,
+            counts,
+        )?;
+        assert!(rt; told, "{rule}");
+    }
+    Ok(())
+}
+
 // The records, those that break the rule, those that keep it, and the counts.
 const LINES: [(&[u8], &[u8], &[u8], (u64, u64, u64)); 3] = [
     (b"", b"", b"", (0, 0, 0)),
@@ -232,7 +301,12 @@ const RULES: &str = "a: /x == 1\nb: /y == 2";
 const RECORDS: &[u8] = b"{\"id\": \"r\", \"x\": 3, \"y\": 4}\n{\"x\": 1, \"y\": 2}\n";
 
 // A report on these records, the path of their labels, and what is written.
-const REPORTS: [(Report, Option<&str>, &[u8]); 5] = [
+const REPORTS: [(Report, Option<&str>, &[u8]); 6] = [
+    (
+        Report::Change,
+        Some("/id"),
+        b"record \"r\": false\na = false\n  rule: /x == 1 = false\n    - found: 3\nb = false\n  rule: /y == 2 = false\n    - found: 4\n",
+    ),
     (
         Report::All,
         None,

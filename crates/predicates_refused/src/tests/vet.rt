@@ -139,7 +139,7 @@ const RECORDS: &[u8] = b"{\"x\": 3, \"l\": [1, 4]}\n{\"x\": 1, \"l\": []}\n[1";
 
 // A name, rules, a report on records, the path of their labels, the records, what is written with
 // the messages behind it, and what the run does with memory.
-const RUNS: [(&str, &[u8], Report, Option<&str>, &[u8], &str, Memory); 8] = [
+const RUNS: [(&str, &[u8], Report, Option<&str>, &[u8], &str, Memory); 9] = [
     (
         "run_records: the first rule and a message",
         ROW,
@@ -156,6 +156,15 @@ const RUNS: [(&str, &[u8], Report, Option<&str>, &[u8], &str, Memory); 8] = [
         Some("/x"),
         b"{\"x\": 3, \"l\": [1, 4]}",
         "false\nrecord 3: false\na = false\n  rule: /x == 1 or /x == 2 = false\n    part: /x == 1 = false\n      - found: 3\n    part: /x == 2 = false\n      - found: 3\nb = false\n  rule: each /l (/ < 3) = false\n    - index: 1\n    item: / < 3 = false\n      - found: 4\n",
+        Taken,
+    ),
+    (
+        "run_records: what would have to change",
+        ROW,
+        Report::Change,
+        None,
+        b"{\"x\": 3, \"l\": [4, 1, 5]}",
+        "false\nrecord 1: false\na = false\n  rule: /x == 1 or /x == 2 = false\n    part: /x == 1 = false\n      - found: 3\n      - index: 0\nb = false\n  rule: each /l (/ < 3) = false\n    - index: 0\n    item: / < 3 = false\n      - found: 4\n      - index: 0\n    item: / < 3 = false\n      - found: 5\n      - index: 2\n",
         Taken,
     ),
     (

@@ -74,7 +74,7 @@ pub(super) fn joined_case(
 }
 
 // The case of a list without members.
-fn no_member(alloc: Global, text: &str, outcome: bool) -> Result<Case, AllocError>
+pub(super) fn no_member(alloc: Global, text: &str, outcome: bool) -> Result<Case, AllocError>
     ensures { IfOk result (IsCaseOf (IsExactly (no_members (Some text.now) outcome)) outcome) }
 {
     let node = bare_node(alloc, text, outcome)?;
@@ -253,7 +253,7 @@ pub(super) fn range_case(
 
 // The case where nothing stands at the path.
 #[tactic(auto, using(predicates_core::proofs::Leaves::leaves))]
-fn nowhere_case(
+pub(super) fn nowhere_case(
     alloc: Global,
     text: &str,
     path: &str,
@@ -299,7 +299,7 @@ fn array_case(
 
 // The case of a value that is no array.
 #[tactic(auto, using(predicates_core::proofs::Leaves::leaves))]
-fn no_array_case(
+pub(super) fn no_array_case(
     alloc: Global,
     text: &str,
     expected: bool,

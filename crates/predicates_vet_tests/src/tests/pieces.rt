@@ -49,7 +49,12 @@ fn is_joined(alloc: Global, report: Report, cut: usize) -> Result<bool, AllocErr
 
 #[test]
 fn pieces_join_to_one_run(rt: HostRuntime) -> Result<(), Fail> {
-    for report in [Report::First, Report::All, Report::Json { all: true }] {
+    for report in [
+        Report::First,
+        Report::All,
+        Report::Change,
+        Report::Json { all: true },
+    ] {
         for (index, byte) in RECORDS.as_bytes().iter().enumerate() {
             if *byte == b'\n' {
                 let cut = index.saturating_add(1);

@@ -26,7 +26,7 @@ const PASSED: &[&[u8]] = &[b"vet", b"rules", b"--passed"];
 
 const BLOCK: &str = "record 1: false\na = false\n  rule: / == 1 = false\n    - found: 2\n";
 
-const ROWS: [Row; 25] = [
+const ROWS: [Row; 28] = [
     // Every record keeps every rule.
     (
         PLAIN,
@@ -107,6 +107,16 @@ const ROWS: [Row; 25] = [
         Closed::Neither,
         1,
         "record 2: false\na = false\n  rule: / == 1 = false\n    - found: 2\n",
+        "1 records, 1 failed\n",
+    ),
+    (
+        &[b"vet", b"--change", b"rules"],
+        b"a: / == 1\nb: / == 2 or / == 3",
+        b"4",
+        None,
+        Closed::Neither,
+        1,
+        "record 1: false\na = false\n  rule: / == 1 = false\n    - found: 4\nb = false\n  rule: / == 2 or / == 3 = false\n    part: / == 2 = false\n      - found: 4\n      - index: 0\n",
         "1 records, 1 failed\n",
     ),
     // A line holds no record.
@@ -213,6 +223,26 @@ const ROWS: [Row; 25] = [
         2,
         "",
         "vet: the argument '--json' cannot be used with '--failed'; try --help\n",
+    ),
+    (
+        &[b"vet", b"--change", b"--failed", b"rules"],
+        b"",
+        b"1",
+        None,
+        Closed::Neither,
+        2,
+        "",
+        "vet: the argument '--change' cannot be used with '--failed'; try --help\n",
+    ),
+    (
+        &[b"vet", b"--change", b"--all", b"rules"],
+        b"",
+        b"1",
+        None,
+        Closed::Neither,
+        2,
+        "",
+        "vet: the argument '--change' cannot be used with '--all'; try --help\n",
     ),
     (
         &[b"vet", b"--some", b"rules"],
