@@ -1,4 +1,5 @@
 mod case;
+mod changes;
 mod helpers;
 mod joined;
 mod kinds;

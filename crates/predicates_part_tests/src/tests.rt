@@ -1,2 +1,3 @@
+mod changes;
 mod lists;
 mod part;
