@@ -18,9 +18,12 @@ pub enum Question {
     OtherCase,
     /// The lines of the case of the verdict.
     Lines,
+    /// What would turn the verdict, which the port alone answers.
+    Change,
 }
 
 impl Question {
+    /// Those that both sides answer.
     pub const ALL: [Question; 4] = [Question::Verdict, Question::OtherCase, Question::Case, Question::Lines];
 
     /// What the tables call it.
@@ -30,6 +33,7 @@ impl Question {
             Question::OtherCase => "none",
             Question::Case => "owned case",
             Question::Lines => "rendered",
+            Question::Change => "change",
         }
     }
 
@@ -46,6 +50,7 @@ impl Question {
             Question::Case => 1,
             Question::OtherCase => 2,
             Question::Lines => 3,
+            Question::Change => 4,
         }
     }
 }

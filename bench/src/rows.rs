@@ -1,5 +1,6 @@
 //! What is measured: each row, its items, and what both sides are asked.
 
+mod changes;
 mod checks;
 mod lists;
 mod members;
@@ -38,7 +39,7 @@ impl Row<'_> {
                 Question::Verdict => self.target,
                 // Shown, with no target of its own.
                 Question::OtherCase => f64::INFINITY,
-                Question::Case | Question::Lines => 1.0,
+                Question::Case | Question::Lines | Question::Change => 1.0,
             };
             let pair = beside(&port, &original, self.items);
             cells.push(cell(&format!("{}, {}", self.name, question.name()), pair, target));
@@ -64,6 +65,12 @@ pub fn print(only: &str) {
     checks::print(only);
     texts::print(only);
     lists::print(only);
+    // Where one question alone is asked, both sides answer it.
+    if Question::asked().len() == Question::ALL.len() {
+        println!("\n|What would have to change, the port alone|owned case|change|");
+        println!("|---|---|---|");
+        changes::print(only);
+    }
     println!("\n|Membership|`eval`|");
     println!("|---|---|");
     members::print(only);

@@ -1,6 +1,6 @@
 //! Questions that are put to a predicate again and again.
-use predicates_core::Predicate;
 use predicates_core::reflection::render_onto;
+use predicates_core::{Predicate, PredicateChange};
 use std::alloc::{AllocError, Global};
 
 // What is asked of a predicate about each item.
@@ -10,6 +10,7 @@ pub(crate) enum Question {
     Case,
     OtherCase,
     Lines,
+    Change,
 }
 
 impl Question {
@@ -19,7 +20,8 @@ impl Question {
             0 => Question::Verdict,
             1 => Question::Case,
             2 => Question::OtherCase,
-            _ => Question::Lines,
+            3 => Question::Lines,
+            _ => Question::Change,
         }
     }
 }
@@ -105,7 +107,31 @@ fn line_bytes<P: Predicate<Item>, Item>(
     Ok(written)
 }
 
-fn answer<P: Predicate<Item>, Item>(
+// How many changes there are that turn these verdicts, found anew in each round.
+fn changes<P: PredicateChange<Item>, Item>(
+    alloc: Global,
+    predicate: &P,
+    items: &[Item],
+    expected: &[bool],
+    rounds: usize,
+) -> Result<usize, AllocError>
+    requires { P.lawful predicate.now }
+{
+    let mut found: usize = 0;
+    for _ in 0..rounds {
+        for (item, &expected) in items.iter().zip(expected) {
+            if predicate
+                .find_change(alloc, Some(expected), item)?
+                .is_some()
+            {
+                found = found.wrapping_add(1);
+            }
+        }
+    }
+    Ok(found)
+}
+
+fn answer<P: PredicateChange<Item>, Item>(
     alloc: Global,
     predicate: &P,
     items: &[Item],
@@ -128,11 +154,15 @@ fn answer<P: Predicate<Item>, Item>(
             let expected = verdicts(alloc, predicate, items, false)?;
             line_bytes(alloc, predicate, items, &expected, rounds)
         }
+        Question::Change => {
+            let expected = verdicts(alloc, predicate, items, false)?;
+            changes(alloc, predicate, items, &expected, rounds)
+        }
     }
 }
 
 // The sum of the answers about all items over all rounds, and zero where memory runs out.
-pub(crate) fn ask<P: Predicate<Item>, Item>(
+pub(crate) fn ask<P: PredicateChange<Item>, Item>(
     alloc: Global,
     predicate: &P,
     items: &[Item],

@@ -1,7 +1,7 @@
 //! Predicates of one text.
 use crate::asked::ask;
 use predicates::boolean::PredicateBooleanExt;
-use predicates_core::Predicate;
+use predicates_core::PredicateChange;
 use predicates_text::{PredicateStrExt, contains, is_empty, is_match, starts_with};
 use std::alloc::{AllocError, Global};
 
@@ -23,7 +23,7 @@ fn copies_of(alloc: Global, bytes: &[u8], copies: usize) -> Result<Vec<String>, 
 }
 
 // The sum of the answers about all copies of the text, and zero where memory runs out.
-pub(crate) fn ask_of_text<P: Predicate<String>>(
+pub(crate) fn ask_of_text<P: PredicateChange<String>>(
     alloc: Global,
     predicate: &P,
     bytes: &[u8],
