@@ -16,6 +16,7 @@ pub mod Leaves
 pub mod PresentCases
 pub mod Added
 pub mod Found
+pub mod EnoughChildren
 pub mod Existence
 pub mod Alike
 pub mod OneCase

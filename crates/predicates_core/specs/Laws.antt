@@ -1,13 +1,15 @@
 -- Laws of formulas and of their first reasons.
-use Rattle.std.specs.Prelude.{◌≡◌, ◌≢◌, ℕ, List, [], Bool, cond, Option, Some, None}
+use Rattle.std.specs.Prelude.{◌≡◌, ◌≢◌, ℕ, List, [], Bool, cond, Option, Some, None, length}
 use mathlib.Core.Bool.{beq}
 use Rattle.predicates_core.specs.Describe.{CaseNode}
-use Rattle.predicates_core.specs.Formula.{Formula, Formulas, one, more, Join, truth}
+use Rattle.predicates_core.specs.Formula.{Formula, Formulas, one, more, Join, AtLeast, needed}
+use Rattle.predicates_core.specs.Formula.{number_of_parts, truth}
 use Rattle.predicates_core.specs.Label.{Label}
 use Rattle.predicates_core.specs.Reason.{IsFirstReason}
 use Rattle.predicates_core.specs.Several.{decided_by}
 use Rattle.predicates_core.specs.Shows.{Explains}
-use Rattle.predicates_core.specs.Tree.{Tree, empty, branch}
+use Rattle.predicates_core.specs.Thresholds.{enough_of}
+use Rattle.predicates_core.specs.Tree.{Tree, empty, branch, named_trees}
 
 -- there is a first reason, and there is no other
 abbrev pub HasOneFirstReason : Formula → Type 0
@@ -40,3 +42,11 @@ abbrev pub OneChild : Type 0
 OneChild = (decides : Bool) (label : Label) (fs : Formulas) (t : Tree CaseNode)
     → truth (Join (decided_by decides) label fs) ≡ decides
     → Explains (Join (decided_by decides) label fs) t → ShowsFirstAlone decides fs t
+
+-- the case of a threshold has as many children as decide it: so many that hold as are needed, or of
+-- those that fail one more than may
+abbrev pub EnoughChildren : Type 0
+EnoughChildren = (k : ℕ) (label : Label) (fs : Formulas) (t : Tree CaseNode)
+    → Explains (AtLeast k label fs) t
+    → length (named_trees t.children)
+    ≡ enough_of (truth (AtLeast k label fs)) (needed k fs) (number_of_parts fs)

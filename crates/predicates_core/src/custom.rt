@@ -4,6 +4,7 @@
 //! The `find_case` of the library's combinators evaluates once before it asks the parts to
 //! `explain` the verdict. So each leaf is evaluated at most twice, however deep the combinators are
 //! nested.
+mod ask;
 mod changes;
 mod children;
 mod join;
@@ -14,6 +15,7 @@ mod named;
 mod not;
 mod parts;
 mod quantifier;
+mod several;
 mod test_predicate;
 mod threshold;
 mod threshold_changes;
@@ -22,15 +24,19 @@ pub use changes::{join_change, leaf_change, named_change, not_change};
 pub use children::{one_child, two_children};
 pub use join::{Operator, is_other, join_case, join_explained, join_truth, kept_if, shown_verdict};
 pub use leaf_cases::{absent_case, bare_case, showing_case};
-pub use list_changes::{members_change, next_change, parts_change};
+pub use list_changes::{asked_at, first_alone, is_first_passed, next_change};
 pub use members::{
-    deciding_case, is_deciding, is_wanted, members_case, members_explained, members_hold,
-    no_member, with_index,
+    members_case, members_change, members_explained, members_hold, members_threshold_case,
+    members_threshold_change, members_threshold_explained, members_threshold_holds,
 };
 pub use named::{named_case, named_explained};
 pub use not::{not_case, not_explained, opposite_of};
-pub use parts::{each_child, parts_case, parts_explained, parts_hold};
+pub use parts::{
+    each_child, parts_case, parts_change, parts_explained, parts_hold, threshold_case,
+    threshold_change, threshold_explained, threshold_holds,
+};
 pub use quantifier::{AtLeastOne, Every, Quantifier};
+pub use several::{deciding_case, is_deciding, is_wanted, no_member, with_index};
 pub use test_predicate::{Test, TestPredicate, leaf};
-pub use threshold::{threshold_case, threshold_explained, threshold_holds};
-pub use threshold_changes::threshold_change;
+pub use threshold::{enough_of, is_settled, settled_case};
+pub use threshold_changes::node_of_first;

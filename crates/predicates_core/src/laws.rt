@@ -5,7 +5,7 @@
 //! laws::first_reasons();
 //! ```
 ghost use Rattle.predicates_core.specs.Change.{EachMeetsEach, FirstChanges, NoChangeIsEmpty};
-ghost use Rattle.predicates_core.specs.Laws.{FirstReasons, NoneIsEmpty, OneChild};
+ghost use Rattle.predicates_core.specs.Laws.{EnoughChildren, FirstReasons, NoneIsEmpty, OneChild};
 
 /// Each formula has exactly one first reason, and that has at least one leaf. So a case that is cut
 /// down to it always shows a leaf.
@@ -18,6 +18,12 @@ pub fn first_reasons()
 /// So a false `and` and a true `or` of any number of parts show one part.
 pub fn one_child()
     ensures { OneChild }
+{}
+
+/// The case of a threshold of `k` of `n` parts has `k` children where it holds, and `n - k + 1` where
+/// it fails: the first parts that decide.
+pub fn enough_children()
+    ensures { EnoughChildren }
 {}
 
 /// Each formula has exactly one first change, and that has at least one leaf. So what would turn a

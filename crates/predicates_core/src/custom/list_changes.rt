@@ -1,62 +1,69 @@
-//! What would turn the verdict of several predicates of one item, and of one predicate over a list.
+//! What would turn the verdict of a list whose members are each asked, of which one with the verdict
+//! `decides` decides.
 //!
-//! Where parts decide the verdict, each of them has to turn; where none does, the first may. The
-//! case of each part that has to turn tells the part's number, as its last product `index`.
+//! Where members decide the verdict, each of them has to turn; where none does, the first may. The
+//! case of each member that has to turn tells its number, as its last product `index`.
 ghost use Rattle.std.specs.Prelude.{◌≡◌, ◌≢◌, IfOk, None, Some, true, false, not};
 ghost use Rattle.std.specs.List.{AllByRecursion};
 ghost use Rattle.predicates_core.specs.Change.{IsFoundChange};
 ghost use Rattle.predicates_core.specs.Several.{IsOfMembers};
 ghost use Rattle.predicates_core.specs.Turning.{IsFirstAlone, IsNextNode};
 
-use crate::PredicateChange;
-use crate::custom::members::{deciding_case, no_member, with_index};
+use crate::custom::ask::AskChange;
+use crate::custom::several::{deciding_case, no_member, with_index};
 use crate::node::{printed, unary_node};
 use crate::reflection::Case;
 use std::alloc::{AllocError, Global};
 use std::fmt;
 
-/// The `find_change` of a predicate that one part with the verdict `decides` decides.
-pub fn parts_change<W: fmt::Display, P: PredicateChange<Item>, Item>(
+// The `find_change` of a predicate of a list that one member with the verdict `decides` decides.
+pub(super) fn several_change<W: fmt::Display, A: AskChange<Common, Member>, Common, Member>(
     alloc: Global,
     whole: &W,
-    parts: &[P],
+    common: &Common,
     name: &'static str,
     decides: bool,
     wanted: Option<bool>,
-    item: &Item,
+    members: &[Member],
 ) -> Result<Option<Case>, AllocError>
-    requires { AllByRecursion P.lawful parts.now }
+    requires { AllByRecursion (A.lawful_of common.now) members.now }
     ensures { IfOk result (IsFoundChange (IsOfMembers decides (W.output whole.now) name.entry.now
-        (λ p. P.formula p item.now) parts.now) wanted) }
+        (A.formula_of common.now) members.now) wanted) }
 {
     match wanted {
         Some(expected) => {
             if expected == decides {
-                deciding_parts(alloc, whole, parts, name, decides, item)
+                deciding_members::<W, A, Common, Member>(
+                    alloc, whole, common, name, decides, members,
+                )
             } else {
-                passing_parts(alloc, whole, parts, name, decides, item)
+                passing_members::<W, A, Common, Member>(
+                    alloc, whole, common, name, decides, members,
+                )
             }
         }
-        None => whichever_parts(alloc, whole, parts, name, decides, item),
+        None => whichever_members::<W, A, Common, Member>(
+            alloc, whole, common, name, decides, members,
+        ),
     }
 }
 
-// What would turn all the parts that decide, where one does.
-fn deciding_parts<W: fmt::Display, P: PredicateChange<Item>, Item>(
+// What would turn all the members that decide, where one does.
+fn deciding_members<W: fmt::Display, A: AskChange<Common, Member>, Common, Member>(
     alloc: Global,
     whole: &W,
-    parts: &[P],
+    common: &Common,
     name: &'static str,
     decides: bool,
-    item: &Item,
+    members: &[Member],
 ) -> Result<Option<Case>, AllocError>
-    requires { AllByRecursion P.lawful parts.now }
+    requires { AllByRecursion (A.lawful_of common.now) members.now }
     ensures { IfOk result (IsFoundChange (IsOfMembers decides (W.output whole.now) name.entry.now
-        (λ p. P.formula p item.now) parts.now) (Some decides)) }
+        (A.formula_of common.now) members.now) (Some decides)) }
 {
     let mut found: Option<Case> = None;
-    for (index, part) in parts.iter().enumerate() {
-        let Some(case) = part.find_change(alloc, Some(decides), item)? else {
+    for (index, member) in members.iter().enumerate() {
+        let Some(case) = A::find_change(alloc, common, Some(decides), member)? else {
             continue;
         };
         let told = with_index(alloc, index, case)?;
@@ -65,8 +72,72 @@ fn deciding_parts<W: fmt::Display, P: PredicateChange<Item>, Item>(
     Ok(found)
 }
 
+// What would turn the first member, where none decides.
+fn passing_members<W: fmt::Display, A: AskChange<Common, Member>, Common, Member>(
+    alloc: Global,
+    whole: &W,
+    common: &Common,
+    name: &'static str,
+    decides: bool,
+    members: &[Member],
+) -> Result<Option<Case>, AllocError>
+    requires { AllByRecursion (A.lawful_of common.now) members.now }
+    ensures { IfOk result (IsFoundChange (IsOfMembers decides (W.output whole.now) name.entry.now
+        (A.formula_of common.now) members.now) (Some (not decides))) }
+{
+    let Some((first, rest)) = members.split_first() else {
+        return Ok(Some(no_member(alloc, whole, !decides)?));
+    };
+    let Some(case) = A::find_change(alloc, common, Some(!decides), first)? else {
+        return Ok(None);
+    };
+    for member in rest {
+        if A::eval(alloc, common, member)? == decides {
+            return Ok(None);
+        }
+    }
+    first_alone(alloc, whole, name, decides, Some(case))
+}
+
+// What would turn the whole, whichever its verdict. The first member is asked for its change, and each
+// other only for that of a member that decides.
+fn whichever_members<W: fmt::Display, A: AskChange<Common, Member>, Common, Member>(
+    alloc: Global,
+    whole: &W,
+    common: &Common,
+    name: &'static str,
+    decides: bool,
+    members: &[Member],
+) -> Result<Option<Case>, AllocError>
+    requires { AllByRecursion (A.lawful_of common.now) members.now }
+    ensures { IfOk result (IsFoundChange (IsOfMembers decides (W.output whole.now) name.entry.now
+        (A.formula_of common.now) members.now) None) }
+{
+    if members.is_empty() {
+        return Ok(Some(no_member(alloc, whole, !decides)?));
+    }
+    let mut found: Option<Case> = None;
+    let mut first: Option<Case> = None;
+    for (index, member) in members.iter().enumerate() {
+        let asked = asked_at(index, decides);
+        let Some(case) = A::find_change(alloc, common, asked, member)? else {
+            continue;
+        };
+        if is_first_passed(index, decides, &case) {
+            first = Some(case);
+            continue;
+        }
+        let told = with_index(alloc, index, case)?;
+        found = Some(next_change(alloc, whole, name, decides, index, found, told)?);
+    }
+    match found {
+        Some(node) => Ok(Some(node)),
+        None => first_alone(alloc, whole, name, decides, first),
+    }
+}
+
 /// The node over the cases so far with one more, which tells its number, or the first node, over
-/// this one.
+/// this one. It takes memory for the node, and for the first its text and its number.
 pub fn next_change<W: fmt::Display>(
     alloc: Global,
     whole: &W,
@@ -85,80 +156,17 @@ pub fn next_change<W: fmt::Display>(
     }
 }
 
-// What would turn the first part, where none decides.
-fn passing_parts<W: fmt::Display, P: PredicateChange<Item>, Item>(
-    alloc: Global,
-    whole: &W,
-    parts: &[P],
-    name: &'static str,
-    decides: bool,
-    item: &Item,
-) -> Result<Option<Case>, AllocError>
-    requires { AllByRecursion P.lawful parts.now }
-    ensures { IfOk result (IsFoundChange (IsOfMembers decides (W.output whole.now) name.entry.now
-        (λ p. P.formula p item.now) parts.now) (Some (not decides))) }
-{
-    let Some((first, rest)) = parts.split_first() else {
-        return Ok(Some(no_member(alloc, whole, !decides)?));
-    };
-    let Some(case) = first.find_change(alloc, Some(!decides), item)? else {
-        return Ok(None);
-    };
-    for part in rest {
-        if part.eval(alloc, item)? == decides {
-            return Ok(None);
-        }
-    }
-    first_alone(alloc, whole, name, decides, Some(case))
-}
-
-// What would turn the whole, whichever its verdict. The first part is asked for its change, and each
-// other only for that of a part that decides.
-fn whichever_parts<W: fmt::Display, P: PredicateChange<Item>, Item>(
-    alloc: Global,
-    whole: &W,
-    parts: &[P],
-    name: &'static str,
-    decides: bool,
-    item: &Item,
-) -> Result<Option<Case>, AllocError>
-    requires { AllByRecursion P.lawful parts.now }
-    ensures { IfOk result (IsFoundChange (IsOfMembers decides (W.output whole.now) name.entry.now
-        (λ p. P.formula p item.now) parts.now) None) }
-{
-    if parts.is_empty() {
-        return Ok(Some(no_member(alloc, whole, !decides)?));
-    }
-    let mut found: Option<Case> = None;
-    let mut first: Option<Case> = None;
-    for (index, part) in parts.iter().enumerate() {
-        let asked = asked_at(index, decides);
-        let Some(case) = part.find_change(alloc, asked, item)? else {
-            continue;
-        };
-        if is_first_passed(index, decides, &case) {
-            first = Some(case);
-            continue;
-        }
-        let told = with_index(alloc, index, case)?;
-        found = Some(next_change(alloc, whole, name, decides, index, found, told)?);
-    }
-    match found {
-        Some(node) => Ok(Some(node)),
-        None => first_alone(alloc, whole, name, decides, first),
-    }
-}
-
-// What a part is asked for where no verdict of the whole is wanted.
-fn asked_at(index: usize, decides: bool) -> Option<bool>
+/// What a part is asked for where no verdict of the whole is wanted: only the first for whichever
+/// verdict it has.
+pub fn asked_at(index: usize, decides: bool) -> Option<bool>
     ensures first { index ≡ 0 → result ≡ None }
     ensures other { index ≢ 0 → result ≡ Some decides }
 {
     if index == 0 { None } else { Some(decides) }
 }
 
-// Whether the change is that of the first part, which does not decide.
-fn is_first_passed(index: usize, decides: bool, case: &Case) -> bool
+/// Whether the change is that of the first part, which does not decide.
+pub fn is_first_passed(index: usize, decides: bool, case: &Case) -> bool
     ensures first { result ≡ true → index ≡ 0 }
     ensures passed { result ≡ true → case.now.root.result ≡ not decides }
     ensures decides { result ≡ false → index ≡ 0 → case.now.root.result ≡ decides }
@@ -166,8 +174,9 @@ fn is_first_passed(index: usize, decides: bool, case: &Case) -> bool
     index == 0 && case.root().result() != decides
 }
 
-// The node over the change of the first part, where none decides.
-fn first_alone<W: fmt::Display>(
+/// The node over the change of the first part, where none decides, which tells its number. It takes
+/// memory for the node, its text and the number.
+pub fn first_alone<W: fmt::Display>(
     alloc: Global,
     whole: &W,
     name: &'static str,
@@ -182,118 +191,4 @@ fn first_alone<W: fmt::Display>(
     let told = with_index(alloc, 0, case)?;
     let text = printed(alloc, whole)?;
     Ok(Some(unary_node(alloc, text, !decides, name, told)?))
-}
-
-/// The `find_change` of a predicate of a list that one member with the verdict `decides` decides.
-pub fn members_change<W: fmt::Display, P: PredicateChange<Item>, Item>(
-    alloc: Global,
-    whole: &W,
-    part: &P,
-    name: &'static str,
-    decides: bool,
-    wanted: Option<bool>,
-    members: &[Item],
-) -> Result<Option<Case>, AllocError>
-    requires { P.lawful part.now }
-    ensures { IfOk result (IsFoundChange (IsOfMembers decides (W.output whole.now) name.entry.now
-        (P.formula part.now) members.now) wanted) }
-{
-    match wanted {
-        Some(expected) => {
-            if expected == decides {
-                deciding_members(alloc, whole, part, name, decides, members)
-            } else {
-                passing_members(alloc, whole, part, name, decides, members)
-            }
-        }
-        None => whichever_members(alloc, whole, part, name, decides, members),
-    }
-}
-
-// What would turn all the members that decide, where one does.
-fn deciding_members<W: fmt::Display, P: PredicateChange<Item>, Item>(
-    alloc: Global,
-    whole: &W,
-    part: &P,
-    name: &'static str,
-    decides: bool,
-    members: &[Item],
-) -> Result<Option<Case>, AllocError>
-    requires { P.lawful part.now }
-    ensures { IfOk result (IsFoundChange (IsOfMembers decides (W.output whole.now) name.entry.now
-        (P.formula part.now) members.now) (Some decides)) }
-{
-    let mut found: Option<Case> = None;
-    for (index, member) in members.iter().enumerate() {
-        let Some(case) = part.find_change(alloc, Some(decides), member)? else {
-            continue;
-        };
-        let told = with_index(alloc, index, case)?;
-        found = Some(next_change(alloc, whole, name, decides, index, found, told)?);
-    }
-    Ok(found)
-}
-
-// What would turn the first member, where none decides.
-fn passing_members<W: fmt::Display, P: PredicateChange<Item>, Item>(
-    alloc: Global,
-    whole: &W,
-    part: &P,
-    name: &'static str,
-    decides: bool,
-    members: &[Item],
-) -> Result<Option<Case>, AllocError>
-    requires { P.lawful part.now }
-    ensures { IfOk result (IsFoundChange (IsOfMembers decides (W.output whole.now) name.entry.now
-        (P.formula part.now) members.now) (Some (not decides))) }
-{
-    let Some((first, rest)) = members.split_first() else {
-        return Ok(Some(no_member(alloc, whole, !decides)?));
-    };
-    let Some(case) = part.find_change(alloc, Some(!decides), first)? else {
-        return Ok(None);
-    };
-    for member in rest {
-        if part.eval(alloc, member)? == decides {
-            return Ok(None);
-        }
-    }
-    first_alone(alloc, whole, name, decides, Some(case))
-}
-
-// What would turn the whole, whichever its verdict. The first member is asked for its change, and each
-// other only for that of a member that decides.
-fn whichever_members<W: fmt::Display, P: PredicateChange<Item>, Item>(
-    alloc: Global,
-    whole: &W,
-    part: &P,
-    name: &'static str,
-    decides: bool,
-    members: &[Item],
-) -> Result<Option<Case>, AllocError>
-    requires { P.lawful part.now }
-    ensures { IfOk result (IsFoundChange (IsOfMembers decides (W.output whole.now) name.entry.now
-        (P.formula part.now) members.now) None) }
-{
-    if members.is_empty() {
-        return Ok(Some(no_member(alloc, whole, !decides)?));
-    }
-    let mut found: Option<Case> = None;
-    let mut first: Option<Case> = None;
-    for (index, member) in members.iter().enumerate() {
-        let asked = asked_at(index, decides);
-        let Some(case) = part.find_change(alloc, asked, member)? else {
-            continue;
-        };
-        if is_first_passed(index, decides, &case) {
-            first = Some(case);
-            continue;
-        }
-        let told = with_index(alloc, index, case)?;
-        found = Some(next_change(alloc, whole, name, decides, index, found, told)?);
-    }
-    match found {
-        Some(node) => Ok(Some(node)),
-        None => first_alone(alloc, whole, name, decides, first),
-    }
 }

@@ -1,16 +1,20 @@
 //! Verdicts and cases over the members of a list, by one predicate of a member.
-ghost use Rattle.std.specs.Fmt.{decimal};
 ghost use Rattle.std.specs.List.{AllByRecursion};
-ghost use Rattle.std.specs.Prelude.{◌≡◌, ◌≢◌, ℕ, [], List, Some, true, false, not, codes, IfOk, IsOk};
+ghost use Rattle.std.specs.Prelude.{ℕ, List, IfOk, IsOk};
+ghost use Rattle.predicates_core.specs.Change.{IsFoundChange};
 ghost use Rattle.predicates_core.specs.Formula.{HasTruth};
 ghost use Rattle.predicates_core.specs.Label.{Entry};
-ghost use Rattle.predicates_core.specs.Leaves.{IsExactly, IsShowing};
-ghost use Rattle.predicates_core.specs.Several.{is_deciding, IsDecidedBy, IsOfMembers, no_members};
-ghost use Rattle.predicates_core.specs.Shows.{IsAnswer, IsCaseOf, IsFound};
+ghost use Rattle.predicates_core.specs.Several.{IsOfMembers};
+ghost use Rattle.predicates_core.specs.Shows.{IsAnswer, IsFound};
+ghost use Rattle.predicates_core.specs.Thresholds.{IsOfThreshold};
 
-use crate::Predicate;
-use crate::node::{leaf_node, printed, showing, showing_text, unary_node};
+use crate::custom::ask::ByPredicate;
+use crate::custom::list_changes::several_change;
+use crate::custom::several::{several_case, several_explained, several_hold};
+use crate::custom::threshold::{counted_case, counted_explained, counted_hold};
+use crate::custom::threshold_changes::counted_change;
 use crate::reflection::Case;
+use crate::{Predicate, PredicateChange};
 use std::alloc::{AllocError, Global};
 use std::fmt;
 
@@ -27,12 +31,7 @@ pub fn members_hold<P: Predicate<Item>, Item>(
         → HasTruth (IsOfMembers decides text name (P.formula part.now) members.now) held) }
     ensures infallible { AllByRecursion (P.infallible part.now) members.now → IsOk result }
 {
-    for member in members {
-        if part.eval(alloc, member)? == decides {
-            return Ok(decides);
-        }
-    }
-    Ok(!decides)
+    several_hold::<ByPredicate, P, Item>(alloc, part, decides, members)
 }
 
 /// The `find_case` of such a predicate. The node has the case of each member under the name, or
@@ -50,16 +49,7 @@ pub fn members_case<W: fmt::Display, P: Predicate<Item>, Item>(
     ensures { IfOk result (IsAnswer (IsOfMembers decides (W.output whole.now) name.entry.now
         (P.formula part.now) members.now) expected) }
 {
-    if expected == decides {
-        return first_member(alloc, whole, part, name, decides, true, members);
-    }
-    if members.is_empty() {
-        return Ok(Some(no_member(alloc, whole, expected)?));
-    }
-    if members_hold(alloc, part, decides, members)? == decides {
-        return Ok(None);
-    }
-    every_member(alloc, whole, part, name, decides, Some(expected), members)
+    several_case::<W, ByPredicate, P, Item>(alloc, whole, part, name, decides, expected, members)
 }
 
 /// The `explain` of such a predicate.
@@ -76,120 +66,11 @@ pub fn members_explained<W: fmt::Display, P: Predicate<Item>, Item>(
     ensures { IfOk result (IsFound (IsOfMembers decides (W.output whole.now) name.entry.now
         (P.formula part.now) members.now) wanted) }
 {
-    if is_wanted(wanted, decides) {
-        return first_member(alloc, whole, part, name, decides, false, members);
-    }
-    if members.is_empty() {
-        return Ok(Some(no_member(alloc, whole, !decides)?));
-    }
-    every_member(alloc, whole, part, name, decides, wanted, members)
+    several_explained::<W, ByPredicate, P, Item>(alloc, whole, part, name, decides, wanted, members)
 }
 
-// Whether the part is known not to decide. It is evaluated only where that is asked.
-pub(super) fn is_passed<P: Predicate<Item>, Item>(
-    alloc: Global,
-    asked: bool,
-    part: &P,
-    decides: bool,
-    item: &Item,
-) -> Result<bool, AllocError>
-    requires { P.lawful part.now }
-    ensures { IfOk result (λ passed. passed ≡ true
-        → HasTruth (P.formula part.now item.now) (not decides)) }
-{
-    if asked {
-        Ok(part.eval(alloc, item)? != decides)
-    } else {
-        Ok(false)
-    }
-}
-
-/// Whether this verdict is wanted.
-pub fn is_wanted(wanted: Option<bool>, verdict: bool) -> bool
-    ensures wanted { result ≡ true → wanted ≡ Some verdict }
-    ensures other { result ≡ false → wanted ≢ Some verdict }
-{
-    match wanted {
-        Some(expected) => expected == verdict,
-        None => false,
-    }
-}
-
-/// Whether the case is of a part that decides, where no verdict is wanted.
-pub fn is_deciding(wanted: Option<bool>, decides: bool, case: &Case) -> bool
-    ensures { result ≡ is_deciding wanted decides case.now }
-{
-    match wanted {
-        Some(_) => false,
-        None => case.root().result() == decides,
-    }
-}
-
-/// The case of a whole that a part decides, from the part's number and case. It takes memory for the
-/// node, its text and its product `index`.
-pub fn deciding_case<W: fmt::Display>(
-    alloc: Global,
-    whole: &W,
-    name: &'static str,
-    decides: bool,
-    index: usize,
-    case: Case,
-) -> Result<Case, AllocError>
-    ensures { IfOk result (IsDecidedBy decides (W.output whole.now) name.entry.now index case) }
-{
-    let text = printed(alloc, whole)?;
-    let node = unary_node(alloc, text, decides, name, case)?;
-    Ok(with_index(alloc, index, node)?)
-}
-
-/// The case with a part's number, from 0, as the last of its products, `index`.
-pub fn with_index(alloc: Global, index: usize, case: Case) -> Result<Case, AllocError>
-    ensures { IfOk result (IsShowing (codes "index") (Some (decimal index)) case) }
-{
-    Ok(showing(case, "index", format!(in alloc; "{index}")?)?)
-}
-
-/// The case of a list without members: a leaf with the whole's text and the product `len`.
-pub fn no_member<W: fmt::Display>(
-    alloc: Global,
-    whole: &W,
-    outcome: bool,
-) -> Result<Case, AllocError>
-    ensures { IfOk result (IsCaseOf (IsExactly (no_members (W.output whole.now) outcome)) outcome) }
-{
-    let node = leaf_node(alloc, printed(alloc, whole)?, outcome);
-    Ok(showing_text(alloc, node, "len", "0")?)
-}
-
-// The case of the first member that decides. Where they are to be evaluated first, no other member
-// is asked for its case.
-fn first_member<W: fmt::Display, P: Predicate<Item>, Item>(
-    alloc: Global,
-    whole: &W,
-    part: &P,
-    name: &'static str,
-    decides: bool,
-    evaluates: bool,
-    members: &[Item],
-) -> Result<Option<Case>, AllocError>
-    requires { P.lawful part.now }
-    ensures { IfOk result (IsAnswer (IsOfMembers decides (W.output whole.now) name.entry.now
-        (P.formula part.now) members.now) decides) }
-{
-    for (index, member) in members.iter().enumerate() {
-        if is_passed(alloc, evaluates, part, decides, member)? {
-            continue;
-        }
-        let Some(case) = part.explain(alloc, Some(decides), member)? else {
-            continue;
-        };
-        return Ok(Some(deciding_case(alloc, whole, name, decides, index, case)?));
-    }
-    Ok(None)
-}
-
-// The case of all members, or of the first that decides, where it is not wanted that none does.
-fn every_member<W: fmt::Display, P: Predicate<Item>, Item>(
+/// The `find_change` of a predicate of a list that one member with the verdict `decides` decides.
+pub fn members_change<W: fmt::Display, P: PredicateChange<Item>, Item>(
     alloc: Global,
     whole: &W,
     part: &P,
@@ -198,21 +79,79 @@ fn every_member<W: fmt::Display, P: Predicate<Item>, Item>(
     wanted: Option<bool>,
     members: &[Item],
 ) -> Result<Option<Case>, AllocError>
-    requires lawful { P.lawful part.now }
-    requires some { members.now ≢ [] }
-    requires other { wanted ≢ Some decides }
-    ensures { IfOk result (IsFound (IsOfMembers decides (W.output whole.now) name.entry.now
+    requires { P.lawful part.now }
+    ensures { IfOk result (IsFoundChange (IsOfMembers decides (W.output whole.now) name.entry.now
         (P.formula part.now) members.now) wanted) }
 {
-    let mut node = leaf_node(alloc, printed(alloc, whole)?, !decides);
-    for (index, member) in members.iter().enumerate() {
-        let Some(case) = part.explain(alloc, wanted, member)? else {
-            return Ok(None);
-        };
-        if is_deciding(wanted, decides, &case) {
-            return Ok(Some(deciding_case(alloc, whole, name, decides, index, case)?));
-        }
-        node = node.add_child(name, case)?;
-    }
-    Ok(Some(node))
+    several_change::<W, ByPredicate, P, Item>(alloc, whole, part, name, decides, wanted, members)
+}
+
+/// The `eval` of a predicate that holds where at least so many of its members do. It stops at the
+/// member that decides.
+pub fn members_threshold_holds<P: Predicate<Item>, Item>(
+    alloc: Global,
+    least: usize,
+    part: &P,
+    members: &[Item],
+) -> Result<bool, AllocError>
+    requires { P.lawful part.now }
+    ensures truth { IfOk result (λ held. (text : Entry) (name : List ℕ)
+        → HasTruth (IsOfThreshold least text name (P.formula part.now) members.now) held) }
+    ensures infallible { AllByRecursion (P.infallible part.now) members.now → IsOk result }
+{
+    counted_hold::<ByPredicate, P, Item>(alloc, least, part, members)
+}
+
+/// The `find_case` of such a predicate. The node has the cases of the first members that decide, each
+/// under the name.
+pub fn members_threshold_case<W: fmt::Display, P: Predicate<Item>, Item>(
+    alloc: Global,
+    whole: &W,
+    least: usize,
+    part: &P,
+    members: &[Item],
+    name: &'static str,
+    expected: bool,
+) -> Result<Option<Case>, AllocError>
+    requires { P.lawful part.now }
+    ensures { IfOk result (IsAnswer (IsOfThreshold least (W.output whole.now) name.entry.now
+        (P.formula part.now) members.now) expected) }
+{
+    counted_case::<W, ByPredicate, P, Item>(alloc, whole, least, part, members, name, expected)
+}
+
+/// The `explain` of such a predicate.
+pub fn members_threshold_explained<W: fmt::Display, P: Predicate<Item>, Item>(
+    alloc: Global,
+    whole: &W,
+    least: usize,
+    part: &P,
+    members: &[Item],
+    name: &'static str,
+    wanted: Option<bool>,
+) -> Result<Option<Case>, AllocError>
+    requires { P.lawful part.now }
+    ensures { IfOk result (IsFound (IsOfThreshold least (W.output whole.now) name.entry.now
+        (P.formula part.now) members.now) wanted) }
+{
+    counted_explained::<W, ByPredicate, P, Item>(alloc, whole, least, part, members, name, wanted)
+}
+
+/// The `find_change` of such a predicate. Of the members with the whole's verdict, as many as turn it
+/// are shown, the first ones; each member is asked once, and memory is taken for the changes of all
+/// members with that verdict.
+pub fn members_threshold_change<W: fmt::Display, P: PredicateChange<Item>, Item>(
+    alloc: Global,
+    whole: &W,
+    least: usize,
+    part: &P,
+    members: &[Item],
+    name: &'static str,
+    wanted: Option<bool>,
+) -> Result<Option<Case>, AllocError>
+    requires { P.lawful part.now }
+    ensures { IfOk result (IsFoundChange (IsOfThreshold least (W.output whole.now) name.entry.now
+        (P.formula part.now) members.now) wanted) }
+{
+    counted_change::<W, ByPredicate, P, Item>(alloc, whole, least, part, members, name, wanted)
 }

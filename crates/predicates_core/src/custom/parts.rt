@@ -1,17 +1,22 @@
 //! Verdicts and cases of several predicates of one item.
-ghost use Rattle.std.specs.Prelude.{◌≡◌, ◌≢◌, ℕ, [], List, Some, not, IfOk, IsOk};
+ghost use Rattle.std.specs.Prelude.{◌≡◌, ℕ, [], List, IfOk, IsOk};
 ghost use Rattle.std.specs.List.{AllByRecursion};
+ghost use Rattle.predicates_core.specs.Change.{IsFoundChange};
 ghost use Rattle.predicates_core.specs.Formula.{HasTruth};
 ghost use Rattle.predicates_core.specs.Label.{Entry};
 ghost use Rattle.predicates_core.specs.Parts.{FitsParts, part_of_each};
 ghost use Rattle.predicates_core.specs.Several.{IsOfMembers};
 ghost use Rattle.predicates_core.specs.Shows.{IsAnswer, IsFound};
+ghost use Rattle.predicates_core.specs.Thresholds.{IsOfThreshold};
 ghost use Rattle.predicates_core.specs.Tree.{forest};
 
-use crate::Predicate;
-use crate::custom::members::{deciding_case, is_deciding, is_passed, is_wanted, no_member};
-use crate::node::{leaf_node, printed};
+use crate::custom::ask::OfItem;
+use crate::custom::list_changes::several_change;
+use crate::custom::several::{several_case, several_explained, several_hold};
+use crate::custom::threshold::{counted_case, counted_explained, counted_hold};
+use crate::custom::threshold_changes::counted_change;
 use crate::reflection::{Case, Child, PredicateReflection, describe};
+use crate::{Predicate, PredicateChange};
 use std::alloc::{AllocError, Global};
 use std::fmt;
 
@@ -28,12 +33,7 @@ pub fn parts_hold<P: Predicate<Item>, Item>(
         → HasTruth (IsOfMembers decides text name (λ p. P.formula p item.now) parts.now) held) }
     ensures infallible { AllByRecursion (λ p. P.infallible p item.now) parts.now → IsOk result }
 {
-    for part in parts {
-        if part.eval(alloc, item)? == decides {
-            return Ok(decides);
-        }
-    }
-    Ok(!decides)
+    several_hold::<OfItem, Item, P>(alloc, item, decides, parts)
 }
 
 /// The `find_case` of such a predicate. The node has the case of each part under the name, or that
@@ -51,16 +51,7 @@ pub fn parts_case<W: fmt::Display, P: Predicate<Item>, Item>(
     ensures { IfOk result (IsAnswer (IsOfMembers decides (W.output whole.now) name.entry.now
         (λ p. P.formula p item.now) parts.now) expected) }
 {
-    if expected == decides {
-        return first_part(alloc, whole, parts, name, decides, true, item);
-    }
-    if parts.is_empty() {
-        return Ok(Some(no_member(alloc, whole, expected)?));
-    }
-    if parts_hold(alloc, parts, decides, item)? == decides {
-        return Ok(None);
-    }
-    every_part(alloc, whole, parts, name, decides, Some(expected), item)
+    several_case::<W, OfItem, Item, P>(alloc, whole, item, name, decides, expected, parts)
 }
 
 /// The `explain` of such a predicate.
@@ -77,44 +68,11 @@ pub fn parts_explained<W: fmt::Display, P: Predicate<Item>, Item>(
     ensures { IfOk result (IsFound (IsOfMembers decides (W.output whole.now) name.entry.now
         (λ p. P.formula p item.now) parts.now) wanted) }
 {
-    if is_wanted(wanted, decides) {
-        return first_part(alloc, whole, parts, name, decides, false, item);
-    }
-    if parts.is_empty() {
-        return Ok(Some(no_member(alloc, whole, !decides)?));
-    }
-    every_part(alloc, whole, parts, name, decides, wanted, item)
+    several_explained::<W, OfItem, Item, P>(alloc, whole, item, name, decides, wanted, parts)
 }
 
-// The case of the first part that decides. Where they are to be evaluated first, no other part is
-// asked for its case.
-fn first_part<W: fmt::Display, P: Predicate<Item>, Item>(
-    alloc: Global,
-    whole: &W,
-    parts: &[P],
-    name: &'static str,
-    decides: bool,
-    evaluates: bool,
-    item: &Item,
-) -> Result<Option<Case>, AllocError>
-    requires { AllByRecursion P.lawful parts.now }
-    ensures { IfOk result (IsAnswer (IsOfMembers decides (W.output whole.now) name.entry.now
-        (λ p. P.formula p item.now) parts.now) decides) }
-{
-    for (index, part) in parts.iter().enumerate() {
-        if is_passed(alloc, evaluates, part, decides, item)? {
-            continue;
-        }
-        let Some(case) = part.explain(alloc, Some(decides), item)? else {
-            continue;
-        };
-        return Ok(Some(deciding_case(alloc, whole, name, decides, index, case)?));
-    }
-    Ok(None)
-}
-
-// The case of all parts, or of the first that decides, where it is not wanted that none does.
-fn every_part<W: fmt::Display, P: Predicate<Item>, Item>(
+/// The `find_change` of a predicate that one part with the verdict `decides` decides.
+pub fn parts_change<W: fmt::Display, P: PredicateChange<Item>, Item>(
     alloc: Global,
     whole: &W,
     parts: &[P],
@@ -123,23 +81,81 @@ fn every_part<W: fmt::Display, P: Predicate<Item>, Item>(
     wanted: Option<bool>,
     item: &Item,
 ) -> Result<Option<Case>, AllocError>
-    requires lawful { AllByRecursion P.lawful parts.now }
-    requires some { parts.now ≢ [] }
-    requires other { wanted ≢ Some decides }
-    ensures { IfOk result (IsFound (IsOfMembers decides (W.output whole.now) name.entry.now
+    requires { AllByRecursion P.lawful parts.now }
+    ensures { IfOk result (IsFoundChange (IsOfMembers decides (W.output whole.now) name.entry.now
         (λ p. P.formula p item.now) parts.now) wanted) }
 {
-    let mut node = leaf_node(alloc, printed(alloc, whole)?, !decides);
-    for (index, part) in parts.iter().enumerate() {
-        let Some(case) = part.explain(alloc, wanted, item)? else {
-            return Ok(None);
-        };
-        if is_deciding(wanted, decides, &case) {
-            return Ok(Some(deciding_case(alloc, whole, name, decides, index, case)?));
-        }
-        node = node.add_child(name, case)?;
-    }
-    Ok(Some(node))
+    several_change::<W, OfItem, Item, P>(alloc, whole, item, name, decides, wanted, parts)
+}
+
+/// The `eval` of a predicate that holds where at least so many of its parts do. It stops at the
+/// part that decides.
+pub fn threshold_holds<P: Predicate<Item>, Item>(
+    alloc: Global,
+    least: usize,
+    parts: &[P],
+    item: &Item,
+) -> Result<bool, AllocError>
+    requires { AllByRecursion P.lawful parts.now }
+    ensures truth { IfOk result (λ held. (text : Entry) (name : List ℕ)
+        → HasTruth (IsOfThreshold least text name (λ p. P.formula p item.now) parts.now) held) }
+    ensures infallible { AllByRecursion (λ p. P.infallible p item.now) parts.now → IsOk result }
+{
+    counted_hold::<OfItem, Item, P>(alloc, least, item, parts)
+}
+
+/// The `find_case` of such a predicate. The node has the cases of the first parts that decide, each
+/// under the name.
+pub fn threshold_case<W: fmt::Display, P: Predicate<Item>, Item>(
+    alloc: Global,
+    whole: &W,
+    least: usize,
+    parts: &[P],
+    name: &'static str,
+    expected: bool,
+    item: &Item,
+) -> Result<Option<Case>, AllocError>
+    requires { AllByRecursion P.lawful parts.now }
+    ensures { IfOk result (IsAnswer (IsOfThreshold least (W.output whole.now) name.entry.now
+        (λ p. P.formula p item.now) parts.now) expected) }
+{
+    counted_case::<W, OfItem, Item, P>(alloc, whole, least, item, parts, name, expected)
+}
+
+/// The `explain` of such a predicate.
+pub fn threshold_explained<W: fmt::Display, P: Predicate<Item>, Item>(
+    alloc: Global,
+    whole: &W,
+    least: usize,
+    parts: &[P],
+    name: &'static str,
+    wanted: Option<bool>,
+    item: &Item,
+) -> Result<Option<Case>, AllocError>
+    requires { AllByRecursion P.lawful parts.now }
+    ensures { IfOk result (IsFound (IsOfThreshold least (W.output whole.now) name.entry.now
+        (λ p. P.formula p item.now) parts.now) wanted) }
+{
+    counted_explained::<W, OfItem, Item, P>(alloc, whole, least, item, parts, name, wanted)
+}
+
+/// The `find_change` of such a predicate. Of the parts with the whole's verdict, as many as turn it
+/// are shown, the first ones; each part is asked once, and memory is taken for the changes of all
+/// parts with that verdict.
+pub fn threshold_change<W: fmt::Display, P: PredicateChange<Item>, Item>(
+    alloc: Global,
+    whole: &W,
+    least: usize,
+    parts: &[P],
+    name: &'static str,
+    wanted: Option<bool>,
+    item: &Item,
+) -> Result<Option<Case>, AllocError>
+    requires { AllByRecursion P.lawful parts.now }
+    ensures { IfOk result (IsFoundChange (IsOfThreshold least (W.output whole.now) name.entry.now
+        (λ p. P.formula p item.now) parts.now) wanted) }
+{
+    counted_change::<W, OfItem, Item, P>(alloc, whole, least, item, parts, name, wanted)
 }
 
 /// The descriptions of several parts under one name, for `children`.

@@ -1,4 +1,4 @@
-//! Verdicts and cases of several predicates of one item, of which at least so many have to hold.
+//! Verdicts and cases of a list whose members are each asked, of which at least so many have to hold.
 ghost use Rattle.std.specs.Prelude.{◌≡◌, ◌≤◌, ℕ, List, None, Some, true, false, codes, IfOk, IsOk};
 ghost use Rattle.std.specs.Fmt.{decimal};
 ghost use Rattle.std.specs.List.{AllByRecursion};
@@ -8,16 +8,17 @@ ghost use Rattle.predicates_core.specs.Leaves.{IsExactly, IsShowing};
 ghost use Rattle.predicates_core.specs.Thresholds.{enough_of, IsSettled, settled, IsOfThreshold};
 ghost use Rattle.predicates_core.specs.Shows.{IsAnswer, IsFound};
 
-use crate::Predicate;
+use crate::custom::ask::Ask;
 use crate::custom::is_other;
-use crate::custom::members::with_index;
+use crate::custom::several::with_index;
 use crate::node::{leaf_node, printed, showing};
 use crate::reflection::Case;
 use std::alloc::{AllocError, Global};
 use std::fmt;
 
-// Whether so many parts hold, or fail to, whatever they answer.
-pub(super) fn is_settled(least: usize, number: usize) -> bool
+/// Whether so many of the number hold, or fail to, whatever they answer: none is needed, or more than
+/// there are.
+pub fn is_settled(least: usize, number: usize) -> bool
     ensures settled { result ≡ true → IsSettled least number }
     ensures some { result ≡ false → 1 ≤ least }
     ensures within { result ≡ false → least ≤ number }
@@ -25,8 +26,8 @@ pub(super) fn is_settled(least: usize, number: usize) -> bool
     least == 0 || number < least
 }
 
-// How many parts decide by having the verdict.
-pub(super) fn enough_of(decides: bool, least: usize, number: usize) -> usize
+/// How many of the number decide by having the verdict, where at least so many have to hold.
+pub fn enough_of(decides: bool, least: usize, number: usize) -> usize
     requires some { 1 ≤ least }
     requires within { least ≤ number }
     ensures { result ≡ enough_of decides least number }
@@ -34,27 +35,27 @@ pub(super) fn enough_of(decides: bool, least: usize, number: usize) -> usize
     if decides { least } else { number - least + 1 }
 }
 
-/// The `eval` of a predicate that holds where at least so many of its parts do. It stops at the
-/// part that decides.
-pub fn threshold_holds<P: Predicate<Item>, Item>(
+// The `eval` of a predicate that holds where at least so many of its members do. It stops at the
+// member that decides.
+pub(super) fn counted_hold<A: Ask<Common, Member>, Common, Member>(
     alloc: Global,
     least: usize,
-    parts: &[P],
-    item: &Item,
+    common: &Common,
+    members: &[Member],
 ) -> Result<bool, AllocError>
-    requires { AllByRecursion P.lawful parts.now }
+    requires { AllByRecursion (A.lawful_of common.now) members.now }
     ensures truth { IfOk result (λ held. (text : Entry) (name : List ℕ)
-        → HasTruth (IsOfThreshold least text name (λ p. P.formula p item.now) parts.now) held) }
-    ensures infallible { AllByRecursion (λ p. P.infallible p item.now) parts.now → IsOk result }
+        → HasTruth (IsOfThreshold least text name (A.formula_of common.now) members.now) held) }
+    ensures infallible { AllByRecursion (A.infallible_of common.now) members.now → IsOk result }
 {
-    if is_settled(least, parts.len()) {
-        return Ok(least <= parts.len());
+    if is_settled(least, members.len()) {
+        return Ok(least <= members.len());
     }
-    let spare = parts.len() - least;
+    let spare = members.len() - least;
     let mut held = 0usize;
     let mut failed = 0usize;
-    for part in parts {
-        if part.eval(alloc, item)? {
+    for member in members {
+        if A::eval(alloc, common, member)? {
             held += 1;
             if held == least {
                 return Ok(true);
@@ -69,70 +70,72 @@ pub fn threshold_holds<P: Predicate<Item>, Item>(
     Ok(false)
 }
 
-/// The `find_case` of such a predicate. The node has the cases of the first parts that decide, each
-/// under the name.
-pub fn threshold_case<W: fmt::Display, P: Predicate<Item>, Item>(
+// The `find_case` of such a predicate. The node has the cases of the first members that decide, each
+// under the name.
+pub(super) fn counted_case<W: fmt::Display, A: Ask<Common, Member>, Common, Member>(
     alloc: Global,
     whole: &W,
     least: usize,
-    parts: &[P],
+    common: &Common,
+    members: &[Member],
     name: &'static str,
     expected: bool,
-    item: &Item,
 ) -> Result<Option<Case>, AllocError>
-    requires { AllByRecursion P.lawful parts.now }
+    requires { AllByRecursion (A.lawful_of common.now) members.now }
     ensures { IfOk result (IsAnswer (IsOfThreshold least (W.output whole.now) name.entry.now
-        (λ p. P.formula p item.now) parts.now) expected) }
+        (A.formula_of common.now) members.now) expected) }
 {
-    if threshold_holds(alloc, least, parts, item)? != expected {
+    if counted_hold::<A, Common, Member>(alloc, least, common, members)? != expected {
         return Ok(None);
     }
-    threshold_wanted(alloc, whole, least, parts, name, expected, item)
+    counted_wanted::<W, A, Common, Member>(alloc, whole, least, common, members, name, expected)
 }
 
-/// The `explain` of such a predicate.
-pub fn threshold_explained<W: fmt::Display, P: Predicate<Item>, Item>(
+// The `explain` of such a predicate.
+pub(super) fn counted_explained<W: fmt::Display, A: Ask<Common, Member>, Common, Member>(
     alloc: Global,
     whole: &W,
     least: usize,
-    parts: &[P],
+    common: &Common,
+    members: &[Member],
     name: &'static str,
     wanted: Option<bool>,
-    item: &Item,
 ) -> Result<Option<Case>, AllocError>
-    requires { AllByRecursion P.lawful parts.now }
+    requires { AllByRecursion (A.lawful_of common.now) members.now }
     ensures { IfOk result (IsFound (IsOfThreshold least (W.output whole.now) name.entry.now
-        (λ p. P.formula p item.now) parts.now) wanted) }
+        (A.formula_of common.now) members.now) wanted) }
 {
     match wanted {
-        Some(expected) => threshold_wanted(alloc, whole, least, parts, name, expected, item),
-        None => threshold_either(alloc, whole, least, parts, name, item),
+        Some(expected) => counted_wanted::<W, A, Common, Member>(
+            alloc, whole, least, common, members, name, expected,
+        ),
+        None => counted_either::<W, A, Common, Member>(alloc, whole, least, common, members, name),
     }
 }
 
-// The case of whichever verdict the whole has. Each part is asked once.
-fn threshold_either<W: fmt::Display, P: Predicate<Item>, Item>(
+// The case of whichever verdict the whole has. Each member is asked once.
+fn counted_either<W: fmt::Display, A: Ask<Common, Member>, Common, Member>(
     alloc: Global,
     whole: &W,
     least: usize,
-    parts: &[P],
+    common: &Common,
+    members: &[Member],
     name: &'static str,
-    item: &Item,
 ) -> Result<Option<Case>, AllocError>
-    requires { AllByRecursion P.lawful parts.now }
+    requires { AllByRecursion (A.lawful_of common.now) members.now }
     ensures { IfOk result (IsFound (IsOfThreshold least (W.output whole.now) name.entry.now
-        (λ p. P.formula p item.now) parts.now) None) }
+        (A.formula_of common.now) members.now) None) }
 {
-    if is_settled(least, parts.len()) {
-        return settled_case(alloc, whole, least, parts.len(), None);
+    if is_settled(least, members.len()) {
+        return settled_case(alloc, whole, least, members.len(), None);
     }
-    let most = enough_of(false, least, parts.len());
+    let most = enough_of(false, least, members.len());
     let mut held_node = leaf_node(alloc, printed(alloc, whole)?, true);
     let mut failed_node = leaf_node(alloc, printed(alloc, whole)?, false);
     let mut held = 0usize;
     let mut failed = 0usize;
-    for (index, part) in parts.iter().enumerate() {
-        let Some(case) = part.explain(alloc, None, item)? else {
+    for (index, member) in members.iter().enumerate() {
+        let Some(case) = A::explain(alloc, common, None, member)? else {
             return Ok(None);
         };
         let holds = case.root().result();
@@ -155,27 +158,27 @@ fn threshold_either<W: fmt::Display, P: Predicate<Item>, Item>(
 }
 
 // The case of a whole that is wanted to have the verdict.
-fn threshold_wanted<W: fmt::Display, P: Predicate<Item>, Item>(
+fn counted_wanted<W: fmt::Display, A: Ask<Common, Member>, Common, Member>(
     alloc: Global,
     whole: &W,
     least: usize,
-    parts: &[P],
+    common: &Common,
+    members: &[Member],
     name: &'static str,
     decides: bool,
-    item: &Item,
 ) -> Result<Option<Case>, AllocError>
-    requires { AllByRecursion P.lawful parts.now }
+    requires { AllByRecursion (A.lawful_of common.now) members.now }
     ensures { IfOk result (IsAnswer (IsOfThreshold least (W.output whole.now) name.entry.now
-        (λ p. P.formula p item.now) parts.now) decides) }
+        (A.formula_of common.now) members.now) decides) }
 {
-    if is_settled(least, parts.len()) {
-        return settled_case(alloc, whole, least, parts.len(), Some(decides));
+    if is_settled(least, members.len()) {
+        return settled_case(alloc, whole, least, members.len(), Some(decides));
     }
-    let enough = enough_of(decides, least, parts.len());
+    let enough = enough_of(decides, least, members.len());
     let mut node = leaf_node(alloc, printed(alloc, whole)?, decides);
     let mut kept = 0usize;
-    for (index, part) in parts.iter().enumerate() {
-        let Some(case) = part.explain(alloc, Some(decides), item)? else {
+    for (index, member) in members.iter().enumerate() {
+        let Some(case) = A::explain(alloc, common, Some(decides), member)? else {
             continue;
         };
         let told = with_index(alloc, index, case)?;
@@ -188,8 +191,9 @@ fn threshold_wanted<W: fmt::Display, P: Predicate<Item>, Item>(
     Ok(None)
 }
 
-// What is found of a whole that is decided whatever its parts answer.
-pub(super) fn settled_case<W: fmt::Display>(
+/// What is found of a whole that is decided whatever its parts answer: a leaf with the whole's text
+/// and the product `len`, how many there are. It takes memory for the case.
+pub fn settled_case<W: fmt::Display>(
     alloc: Global,
     whole: &W,
     least: usize,

@@ -1,8 +1,0 @@
-use Rattle.std.proofs.Common.{take, true, false, ◌+◌, ◌≡◌, ◌<◌}
-use Rattle.predicates_core.proofs.ThresholdCases.{IsSifted}
-use Rattle.predicates_core.proofs.custom.threshold.threshold_either.Given as goal
-
-abbrev pub invariant-loop-index : goal.invariant-loop-index
-invariant-loop-index g l = IsSifted true (λ p. g.P.Predicate.formula p l.item) (g.W.Display.output l.whole) l.name (take l.index l.parts) l.held_node l.held
-    × IsSifted false (λ p. g.P.Predicate.formula p l.item) (g.W.Display.output l.whole) l.name (take l.index l.parts) l.failed_node l.failed
-    × (l.held + l.failed ≡ l.index) × (l.held < l.least) × (l.failed < l.most)

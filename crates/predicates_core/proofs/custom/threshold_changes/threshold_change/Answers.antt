@@ -1,5 +1,0 @@
-use Rattle.predicates_core.proofs.ThresholdChanges.{settled_change}
-use Rattle.predicates_core.proofs.custom.threshold_changes.threshold_change.Goals as goal
-
-pub returns-then-is_settled : goal.returns-then-is_settled
-returns-then-is_settled g c = settled_change (g.W.Display.output c.args.whole.now) c.args.name.now (λ p. g.P.Predicate.formula p c.args.item.now) c.args.parts.now c.args.least c.args.wanted c.settled_case.result (c.is_settled.ensures.settled c.if-is_settled.true) c.settled_case.ensures
