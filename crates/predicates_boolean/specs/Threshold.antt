@@ -1,5 +1,5 @@
 -- A predicate that is made of a number and a list of predicates.
-use Rattle.std.specs.Prelude.{ℕ, List}
+use Rattle.std.specs.Prelude.{ℕ, suc, List, cond, nat_lt}
 use Rattle.predicates_boolean.specs.declared.threshold.AtLeastPredicate.{AtLeastPredicate}
 
 abbrev pub counted_of : {P : Type 0} → AtLeastPredicate P → List P
@@ -7,3 +7,7 @@ counted_of p = p.rules.items
 
 abbrev pub least_of : {P : Type 0} → AtLeastPredicate P → ℕ
 least_of p = p.least
+
+-- one more than the number, or the number itself where no `usize` is larger
+abbrev pub one_more : ℕ → ℕ
+one_more n = cond (nat_lt n 18446744073709551615) (suc n) n

@@ -1,17 +1,21 @@
-//! A predicate that holds where at least so many of a list of predicates of one type do.
+//! Predicates that hold where at least, at most or exactly so many of a list of predicates of one
+//! type do.
 //!
 //! ```
 //! let two_of_three = at_least(2, rules);
 //! ```
-ghost use Rattle.std.specs.Prelude.{◌≡◌, [], codes, map};
-ghost use Rattle.std.specs.List.{AllByRecursion};
+ghost use Rattle.std.specs.Prelude.{◌≡◌, [], codes, map, IfOk};
+ghost use Rattle.std.specs.List.{AllByRecursion, AllZip};
 ghost use Rattle.predicates_core.specs.Parts.{part_of_each};
 ghost use Rattle.predicates_core.specs.Thresholds.{IsOfThreshold, counted_text, threshold_formula};
 ghost use Rattle.predicates_core.proofs.Several.{each_holds, each_weaker};
 ghost use Rattle.predicates_core.proofs.ThresholdCases.{threshold_text_fits, one_by_threshold};
 ghost use Rattle.predicates_core.proofs.ThresholdCases.{has_threshold};
-ghost use Rattle.predicates_boolean.specs.Threshold.{counted_of, least_of};
+ghost use Rattle.predicates_boolean.specs.Join.{left_of, right_of};
+ghost use Rattle.predicates_boolean.specs.Not.{inner_of};
+ghost use Rattle.predicates_boolean.specs.Threshold.{counted_of, least_of, one_more};
 
+use crate::boolean::{AndPredicate, NotPredicate};
 use crate::rules::write_further;
 use predicates_core::custom::{
     each_child, threshold_case, threshold_change, threshold_explained, threshold_holds,
@@ -32,8 +36,8 @@ pub struct AtLeastPredicate<P> {
 /// `at_least(2, ..)`. Where no rule is needed it holds, and where there are fewer rules than are
 /// needed it does not, whatever they answer. Making it takes no memory.
 ///
-/// At most `k` of them is `at_least(k + 1, rules).not()`. The case shows the first rules that
-/// decide, each with its number as the product `index`.
+/// The case shows the first rules that decide, each with its number as the product `index`: `least`
+/// that hold, or of those that fail one more than may.
 ///
 /// ```
 /// let grades = vec![in alloc; predicate::ge(5), predicate::le(10), predicate::lt(3)]?;
@@ -46,6 +50,66 @@ pub fn at_least<P>(least: usize, rules: Vec<P>) -> AtLeastPredicate<P>
     ensures rules { counted_of result ≡ rules.items }
 {
     AtLeastPredicate { least, rules }
+}
+
+/// At most so many of the rules hold. Made by `at_most`.
+pub type AtMostPredicate<P, Item> = NotPredicate<AtLeastPredicate<P>, Item>;
+
+/// So many of the rules hold, and no more. Made by `exactly`.
+pub type ExactlyPredicate<P, Item> = AndPredicate<
+    AtLeastPredicate<P>,
+    AtMostPredicate<P, Item>,
+    Item,
+>;
+
+/// Holds where at most so many of the rules do: it is not that one more of them hold, and prints
+/// `(! at_least(3, ..))` for two. Making it takes no memory.
+///
+/// ```
+/// let grades = vec![in alloc; predicate::ge(5), predicate::le(10), predicate::lt(3)]?;
+/// let one_at_most = predicate::at_most(1, grades);
+/// assert!(rt; one_at_most.eval(alloc, &11)?);
+/// assert!(rt; !one_at_most.eval(alloc, &7)?);
+/// ```
+pub fn at_most<P, Item>(most: usize, rules: Vec<P>) -> AtMostPredicate<P, Item>
+    ensures most { least_of (inner_of result) ≡ one_more most }
+    ensures rules { counted_of (inner_of result) ≡ rules.items }
+{
+    NotPredicate::new(at_least(one_more(most), rules))
+}
+
+/// Holds where so many of the rules do, and no more: `at_least` of the number, and `at_most` of it
+/// over a copy of the rules. So each rule is asked for either, and a true one needs every rule for its
+/// reason. It takes memory for the copy.
+///
+/// ```
+/// let grades = vec![in alloc; predicate::ge(5), predicate::le(10), predicate::lt(3)]?;
+/// let two = predicate::exactly(2, grades)?;
+/// assert!(rt; two.eval(alloc, &7)?);
+/// assert!(rt; !two.eval(alloc, &11)?);
+/// ```
+pub fn exactly<P: Clone, Item>(
+    number: usize,
+    rules: Vec<P>,
+) -> Result<ExactlyPredicate<P, Item>, AllocError>
+    ensures least { IfOk result (λ both. least_of (left_of both) ≡ number) }
+    ensures rules { IfOk result (λ both. counted_of (left_of both) ≡ rules.items) }
+    ensures most { IfOk result (λ both. least_of (inner_of (right_of both)) ≡ one_more number) }
+    ensures copied { IfOk result (λ both.
+        AllZip P.is_clone rules.items (counted_of (inner_of (right_of both)))) }
+{
+    let copied = rules.clone()?;
+    Ok(AndPredicate::new(at_least(number, rules), at_most(number, copied)))
+}
+
+/// One more than the number, or the number itself where no number is larger.
+pub fn one_more(number: usize) -> usize
+    ensures { result ≡ one_more number }
+{
+    match number.checked_add(1) {
+        Some(next) => next,
+        None => number,
+    }
 }
 
 impl<P: fmt::Display> fmt::Display for AtLeastPredicate<P> {
