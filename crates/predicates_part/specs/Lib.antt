@@ -1,4 +1,5 @@
 pub mod Part
 pub mod Optional
 pub mod Members
+pub mod MembersAtLeast
 pub mod Length

@@ -13,25 +13,36 @@
 //! ```
 #![tactic(auto)]
 
-ghost use Rattle.std.specs.Prelude.{◌≡◌, option_copied};
+ghost use Rattle.std.specs.Prelude.{◌≡◌, option_copied, IfOk};
 ghost use Rattle.predicates_part.specs.Part.{HasOnePart, owned, borrowed};
 ghost use Rattle.predicates_part.specs.Part.{inner_of, function_of, name_of};
 ghost use Rattle.predicates_part.specs.Length as Length;
+ghost use Rattle.predicates_boolean.specs.Join.{left_of, right_of};
+ghost use Rattle.predicates_boolean.specs.Not as Not;
+ghost use Rattle.predicates_boolean.specs.Threshold.{one_more};
 ghost use Rattle.predicates_part.specs.Members as Members;
+ghost use Rattle.predicates_part.specs.MembersAtLeast as MembersAtLeast;
 ghost use Rattle.predicates_part.specs.Optional as Optional;
 
 mod length;
 mod members;
+mod members_at_least;
 mod part;
 pub mod semantics;
 mod variant;
 
 pub use length::{Length, LengthPredicate};
 pub use members::{AnyPredicate, EachPredicate, MembersPredicate};
+pub use members_at_least::{
+    MembersAtLeastPredicate, MembersAtMostPredicate, MembersExactlyPredicate,
+};
 pub use part::{ByField, ByOption, ByReference, ByValue, Field, FieldPredicate, PartPredicate};
+use predicates_boolean::boolean::{AndPredicate, NotPredicate};
 use predicates_boolean::name::NamePredicate;
+use predicates_boolean::threshold::one_more;
 use predicates_core::Predicate;
 use predicates_core::as_static_str::AsStaticStr;
+use std::alloc::AllocError;
 pub use variant::{
     ErrPredicate, ErrVariant, OkPredicate, OkVariant, SomePredicate, SomeVariant, Variant,
     VariantPredicate,
@@ -197,6 +208,59 @@ pub trait PredicatePartExt<U>: Predicate<U> {
         Self: Sized,
         ensures inner { Members.inner_of result ≡ self };
 
+    /// The predicate of a list that holds where this one holds of at least so many members. It
+    /// prints `at_least(2, ..)`, and takes no memory of its own.
+    ///
+    /// `eval` stops at the member that decides. The case shows the first members that decide, each
+    /// with its number as the product `index`: `least` that hold, or of those that do not one more
+    /// than may be. Where the number alone settles it, as where none is needed, it is one leaf.
+    ///
+    /// ```
+    /// let two_adults = predicate::ge(18).of_at_least(2);
+    /// assert!(rt; two_adults.eval(alloc, &vec![in alloc; 17, 40, 18]?)?);
+    /// assert!(rt; !two_adults.eval(alloc, &vec![in alloc; 17, 40, 16]?)?);
+    /// ```
+    fn of_at_least(self, least: usize) -> MembersAtLeastPredicate<Self>
+    where
+        Self: Sized,
+        ensures least { MembersAtLeast.least_of result ≡ least }
+        ensures inner { MembersAtLeast.inner_of result ≡ self };
+
+    /// The predicate of a list that holds where this one holds of at most so many members: it is not
+    /// that one more of them hold, and prints `(! at_least(3, ..))` for two. It takes no memory of
+    /// its own.
+    ///
+    /// ```
+    /// let one_child = predicate::lt(18).of_at_most(1);
+    /// assert!(rt; one_child.eval(alloc, &vec![in alloc; 17, 40, 18]?)?);
+    /// assert!(rt; !one_child.eval(alloc, &vec![in alloc; 17, 40, 16]?)?);
+    /// ```
+    fn of_at_most(self, most: usize) -> MembersAtMostPredicate<Self, U>
+    where
+        Self: Sized,
+        ensures most { MembersAtLeast.least_of (Not.inner_of result) ≡ one_more most }
+        ensures inner { MembersAtLeast.inner_of (Not.inner_of result) ≡ self };
+
+    /// The predicate of a list that holds where this one holds of so many members, and no more:
+    /// `of_at_least` of the number, and `of_at_most` of it by a copy of this one. So each member is
+    /// asked about for either, and a list of which it holds needs every member for its reason. It
+    /// takes memory for the copy.
+    ///
+    /// ```
+    /// let two_adults = predicate::ge(18).of_exactly(2)?;
+    /// assert!(rt; two_adults.eval(alloc, &vec![in alloc; 17, 40, 18]?)?);
+    /// assert!(rt; !two_adults.eval(alloc, &vec![in alloc; 20, 40, 18]?)?);
+    /// ```
+    fn of_exactly(self, number: usize) -> Result<MembersExactlyPredicate<Self, U>, AllocError>
+    where
+        Self: Sized + Clone,
+        ensures least { IfOk result (λ both. MembersAtLeast.least_of (left_of both) ≡ number) }
+        ensures inner { IfOk result (λ both. MembersAtLeast.inner_of (left_of both) ≡ self) }
+        ensures most { IfOk result (λ both.
+            MembersAtLeast.least_of (Not.inner_of (right_of both)) ≡ one_more number) }
+        ensures copied { IfOk result (λ both.
+            Self.is_clone self (MembersAtLeast.inner_of (Not.inner_of (right_of both)))) };
+
     /// The predicate of a list or a text that holds where this one, a predicate of `usize`, holds
     /// of its length: the number of members, or of bytes. It prints `len`, and takes no memory of
     /// its own.
@@ -263,6 +327,24 @@ impl<P: Predicate<U>, U> PredicatePartExt<U> for P {
 
     fn of_any(self) -> AnyPredicate<Self> {
         MembersPredicate::new(self)
+    }
+
+    fn of_at_least(self, least: usize) -> MembersAtLeastPredicate<Self> {
+        MembersAtLeastPredicate::new(least, self)
+    }
+
+    fn of_at_most(self, most: usize) -> MembersAtMostPredicate<Self, U> {
+        NotPredicate::new(MembersAtLeastPredicate::new(one_more(most), self))
+    }
+
+    fn of_exactly(self, number: usize) -> Result<MembersExactlyPredicate<Self, U>, AllocError>
+    where
+        Self: Clone,
+    {
+        let copied = self.clone()?;
+        let least = MembersAtLeastPredicate::new(number, self);
+        let more = MembersAtLeastPredicate::new(one_more(number), copied);
+        Ok(AndPredicate::new(least, NotPredicate::new(more)))
     }
 
     fn of_len(self) -> LengthPredicate<Self> {

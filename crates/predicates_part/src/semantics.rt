@@ -4,7 +4,7 @@
 //! // From here on a proof knows the formulas of `adult` on `person`.
 //! semantics::of(&adult, &person);
 //! ```
-ghost use Rattle.std.specs.Prelude.{◌≡◌, ◌↔◌, [], codes, IfSome, option_copied};
+ghost use Rattle.std.specs.Prelude.{◌≡◌, ◌↔◌, [], ◌∷◌, codes, IfSome, option_copied};
 ghost use Rattle.std.specs.List.{AllByRecursion};
 ghost use Rattle.predicates_core.specs.Combined.{IsNamed};
 ghost use Rattle.predicates_core.specs.Formula.{Formula};
@@ -13,14 +13,16 @@ ghost use Rattle.predicates_core.specs.Several.{IsOfMembers};
 ghost use Rattle.predicates_part.specs.Part.{HasOnePart, IsOfPart, IsInfallibleOnPart};
 ghost use Rattle.predicates_part.specs.Part.{owned, borrowed, inner_of, function_of, name_of};
 ghost use Rattle.predicates_part.specs.Length as Length;
+ghost use Rattle.predicates_core.specs.Thresholds.{IsOfThreshold, counted_text};
 ghost use Rattle.predicates_part.specs.Members as Members;
+ghost use Rattle.predicates_part.specs.MembersAtLeast as MembersAtLeast;
 ghost use Rattle.predicates_part.specs.Members.{applied_text, word};
 ghost use Rattle.predicates_part.specs.Optional as Optional;
 ghost use Rattle.predicates_core.specs.Present.{IsOfPresent};
 
 use crate::{
     ByField, ByOption, ByReference, ByValue, Field, FieldPredicate, Length, LengthPredicate,
-    MembersPredicate, Variant, VariantPredicate,
+    MembersAtLeastPredicate, MembersPredicate, Variant, VariantPredicate,
 };
 use predicates_core::Predicate;
 use predicates_core::as_static_str::AsStaticStr;
@@ -151,6 +153,28 @@ pub fn members<Q: Quantifier, P: Predicate<U>, U>(members: &MembersPredicate<Q, 
         ≡ part (codes "item") (P.output (Members.inner_of members.now))
         (P.parameters_of (Members.inner_of members.now))
         (P.children_of (Members.inner_of members.now)) }
+{}
+
+/// Its formulas are `AtLeast` over a formula of each member, in order, under the name `item`; where the
+/// number alone settles it, it is one leaf.
+pub fn members_at_least<P: Predicate<U>, U>(members: &MembersAtLeastPredicate<P>, item: &Vec<U>)
+    ensures formula { (f : Formula)
+        → ⟦<MembersAtLeastPredicate<P> as Predicate<Vec<U>>>⟧.formula members.now item.now f
+        ↔ IsOfThreshold (MembersAtLeast.least_of members.now)
+        (counted_text (codes "at_least") (MembersAtLeast.least_of members.now)
+        (P.output (MembersAtLeast.inner_of members.now) ∷ []))
+        (codes "item") (P.formula (MembersAtLeast.inner_of members.now)) item.now.items f }
+    ensures lawful { ⟦<MembersAtLeastPredicate<P> as Predicate<Vec<U>>>⟧.lawful members.now
+        ↔ P.lawful (MembersAtLeast.inner_of members.now) }
+    ensures infallible { ⟦<MembersAtLeastPredicate<P> as Predicate<Vec<U>>>⟧.infallible
+        members.now item.now
+        ↔ AllByRecursion (P.infallible (MembersAtLeast.inner_of members.now)) item.now.items }
+    ensures values { ⟦<MembersAtLeastPredicate<P> as PredicateReflection>⟧.parameters_of
+        members.now ≡ [] }
+    ensures parts { ⟦<MembersAtLeastPredicate<P> as PredicateReflection>⟧.children_of members.now
+        ≡ part (codes "item") (P.output (MembersAtLeast.inner_of members.now))
+        (P.parameters_of (MembersAtLeast.inner_of members.now))
+        (P.children_of (MembersAtLeast.inner_of members.now)) }
 {}
 
 /// Its formulas are `Named` over a formula of the inner predicate on the length.
