@@ -1,8 +1,9 @@
 -- Which items a value gives, for callers that know what its iterator yields.
-use Rattle.std.proofs.Common.{◌≡◌, Bool, List, Option, sym, ap, subst, ◌∙◌}
+use Rattle.std.proofs.Common.{◌≡◌, Bool, List, Option, Ordering, sym, ap, subst, ◌∙◌}
 use Rattle.std.specs.Iterator.{DrainsIf}
 use Rattle.std.proofs.lemmas.Iterator.{YieldsList, items_from_drains}
 use Rattle.std.proofs.lemmas.List.{map-id}
+use Rattle.predicates_item.specs.Multiset.{KeepsAscending, ascending}
 use Rattle.predicates_item.specs.Members.{GivesItems, KeepsFirst, first_of_equals}
 
 module _ {U S T : Type 0} {becomes : U → S → Type 0} {steps : S → Option T → S → Type 0} {iterable : U} (all : List T) (known : (from : S) → becomes iterable from → YieldsList steps (λ x. x) from all) where
@@ -12,6 +13,9 @@ module _ {U S T : Type 0} {becomes : U → S → Type 0} {steps : S → Option T
 
   pub kept_from_gives : {eq : T → T → Bool} {kept : List T} → KeepsFirst becomes steps eq iterable kept → kept ≡ first_of_equals eq all
   kept_from_gives {eq} keeps = keeps.is ∙ ap (first_of_equals eq) (items_from_gives keeps.given)
+
+  pub ascending_from_gives : {cmp : T → T → Ordering} {kept : List T} → KeepsAscending becomes steps cmp iterable kept → kept ≡ ascending cmp all
+  ascending_from_gives {cmp} keeps = keeps.is ∙ ap (ascending cmp) (items_from_gives keeps.given)
 
 module _ {U S T : Type 0} {becomes : U → S → Type 0} {steps : S → Option T → S → Type 0} {iterable : U} where
   -- what an iterator of the value gave, to its end, is what the value gives

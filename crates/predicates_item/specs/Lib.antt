@@ -5,6 +5,7 @@ pub mod Members
 pub mod Digits
 pub mod In
 pub mod OrdIn
+pub mod Multiset
 pub mod HashableIn
 pub mod Function
 pub mod TextEquality

@@ -8,7 +8,7 @@
 //! Each clause holds for every predicate of the type and every item. The clauses state the
 //! predicate's formulas, what `eval` requires, when `eval` takes no memory, and the predicate's
 //! parameters and children.
-ghost use Rattle.std.specs.Prelude.{◌≡◌, ◌↔◌, [], Some, None, not, codes};
+ghost use Rattle.std.specs.Prelude.{◌≡◌, ◌↔◌, ◌-◌, [], Some, None, true, not, codes, length};
 ghost use Rattle.std.specs.Fmt.{debug_list};
 ghost use Rattle.std.specs.Ordering.{is_lt, is_le, is_ge, is_gt};
 ghost use Rattle.predicates_core.specs.Formula.{Formula, Leaf};
@@ -24,11 +24,14 @@ ghost use Rattle.predicates_item.specs.In as In;
 ghost use Rattle.predicates_item.specs.Makers.{equal_to, unequal_to};
 ghost use Rattle.predicates_item.specs.Makers.{less_than, at_most, at_least, greater_than};
 ghost use Rattle.predicates_item.specs.Members.{has_equal, member_leaf};
+ghost use Rattle.predicates_item.specs.Multiset as Multiset;
+ghost use Rattle.predicates_item.specs.Multiset.{ascending, count_of, difference, has_same_counts};
+ghost use Rattle.predicates_item.specs.Multiset.{multiset_leaf};
 ghost use Rattle.predicates_item.specs.OrdIn as OrdIn;
 
 use crate::constant::BooleanPredicate;
 use crate::function::FnPredicate;
-use crate::iter::{HashableInPredicate, InPredicate, OrdInPredicate};
+use crate::iter::{HashableInPredicate, InPredicate, OrdInPredicate, SameMembersPredicate};
 use crate::ord::{EqPredicate, OrdPredicate};
 use predicates_core::Predicate;
 use predicates_core::reflection::PredicateReflection;
@@ -104,6 +107,33 @@ pub fn hashed<T: fmt::Debug + Eq + Hash>(hashed: &HashableInPredicate<T>, item: 
         ≡ value_of (codes "values") None }
     ensures parts { ⟦<HashableInPredicate<T> as PredicateReflection>⟧.children_of hashed.now
         ≡ empty }
+{}
+
+/// A leaf that shows what the list lacks and what else it has, true where each value is as often a
+/// member of the list as it was given. Of what the list lacks, and of what else it has, each value
+/// is as often a member as it is too seldom, or too often, in the list.
+pub fn same_members<T: fmt::Debug + Ord>(same: &SameMembersPredicate<T>, list: &Vec<T>)
+    ensures formula { (f : Formula)
+        → ⟦<SameMembersPredicate<T> as Predicate<Vec<T>>>⟧.formula same.now list.now f
+        ↔ IsExactly
+        (multiset_leaf T.eq T.cmp T.debug_output (Multiset.members_of same.now) list.now.items)
+        f }
+    ensures truth { has_same_counts T.eq (Multiset.members_of same.now) list.now.items ≡ true
+        ↔ ((value : T) → count_of T.eq (Multiset.members_of same.now) value
+        ≡ count_of T.eq list.now.items value) }
+    ensures missing { (value : T)
+        → count_of T.eq (difference T.eq (Multiset.members_of same.now) list.now.items) value
+        ≡ count_of T.eq (Multiset.members_of same.now) value - count_of T.eq list.now.items value }
+    ensures extra { (value : T)
+        → count_of T.eq
+        (difference T.eq (ascending T.cmp list.now.items) (Multiset.members_of same.now)) value
+        ≡ count_of T.eq list.now.items value - count_of T.eq (Multiset.members_of same.now) value }
+    ensures lawful { ⟦<SameMembersPredicate<T> as Predicate<Vec<T>>>⟧.lawful same.now }
+    ensures infallible { ⟦<SameMembersPredicate<T> as Predicate<Vec<T>>>⟧.infallible same.now list.now
+        ↔ (length list.now.items ≡ length (Multiset.members_of same.now) → ⊥) }
+    ensures values { ⟦<SameMembersPredicate<T> as PredicateReflection>⟧.parameters_of same.now
+        ≡ value_of (codes "values") (debug_list T.debug_output (Multiset.members_of same.now)) }
+    ensures parts { ⟦<SameMembersPredicate<T> as PredicateReflection>⟧.children_of same.now ≡ empty }
 {}
 
 /// Leaves that show the item, true where it equals the constant, and where it does not.
