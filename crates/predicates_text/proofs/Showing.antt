@@ -10,11 +10,11 @@ use Rattle.predicates_core.specs.Shows.{IsFound}
 use Rattle.predicates_core.specs.Leaves.{IsExactly}
 use Rattle.predicates_core.proofs.Leaves.{HasTruth-exactly}
 use Rattle.predicates_core.proofs.Fewer.{found_of_fewer}
-use Rattle.predicates_text.specs.Places.{is_empty, is_front, is_back, is_part}
+use Rattle.predicates_text.specs.Places.{is_empty, is_front, is_back, is_part, is_eq_ignore_case}
 use Rattle.predicates_text.specs.Count.{count_of}
-use Rattle.predicates_text.specs.Leaves.{text_leaf, empty_formula, starts_formula, ends_formula, contains_formula, matches_formula}
-use Rattle.predicates_text.specs.LeafFormulas.{IsTextLeaf, IsEmptyLeaf, IsStartsLeaf, IsEndsLeaf, IsContainsLeaf, IsCountedLeaf}
-use Rattle.predicates_text.specs.LeafFormulaLaws.{one_text_leaf, one_counted, has_empty, has_starts, has_ends, has_contains, has_counted}
+use Rattle.predicates_text.specs.Leaves.{text_leaf, empty_formula, starts_formula, ends_formula, contains_formula, matches_formula, eq_ignore_case_formula}
+use Rattle.predicates_text.specs.LeafFormulas.{IsTextLeaf, IsEmptyLeaf, IsStartsLeaf, IsEndsLeaf, IsContainsLeaf, IsCountedLeaf, IsEqIgnoreCaseLeaf}
+use Rattle.predicates_text.specs.LeafFormulaLaws.{one_text_leaf, one_counted, has_empty, has_starts, has_ends, has_contains, has_counted, has_eq_ignore_case}
 
 -- where each formula is the one, what is known of that is known of each
 module _ {has : Formula → Type 0} {g : Formula} where
@@ -42,6 +42,9 @@ module _ {b : Bool} where
   pub HasTruth-contains : (pattern bytes : List ℕ) → is_part (chars pattern) (chars bytes) ≡ b → HasTruth (IsContainsLeaf pattern bytes) b
   HasTruth-contains pattern bytes e = of_one_truth (is_that (has_contains pattern bytes)) (HasTruth-exactly e)
 
+  pub HasTruth-eq_ignore_case : (other bytes : List ℕ) → is_eq_ignore_case (chars other) (chars bytes) ≡ b → HasTruth (IsEqIgnoreCaseLeaf other bytes) b
+  HasTruth-eq_ignore_case other bytes e = of_one_truth (is_that (has_eq_ignore_case other bytes)) (HasTruth-exactly e)
+
   pub HasTruth-counted : (pattern : List ℕ) (count : ℕ) (bytes : List ℕ) → (count_of (chars pattern) (chars bytes) == count) ≡ b → HasTruth (IsCountedLeaf pattern count bytes) b
   HasTruth-counted pattern count bytes e = of_one_truth (is_counted pattern count bytes) (HasTruth-exactly e)
 
@@ -64,7 +67,10 @@ module _ {E : Type 0} (w : Option Bool) (r : Result (Option (Tree CaseNode)) E) 
   pub answer-contains : (pattern bytes : List ℕ) → Answers (IsExactly (contains_formula pattern bytes)) → Answers (IsContainsLeaf pattern bytes)
   answer-contains pattern bytes = found_of_one _ _ (is_that (has_contains pattern bytes))
 
+  pub answer-eq_ignore_case : (other bytes : List ℕ) → Answers (IsExactly (eq_ignore_case_formula other bytes)) → Answers (IsEqIgnoreCaseLeaf other bytes)
+  answer-eq_ignore_case other bytes = found_of_one _ _ (is_that (has_eq_ignore_case other bytes))
+
   pub answer-counted : (pattern : List ℕ) (count : ℕ) (bytes : List ℕ) → Answers (IsExactly (matches_formula pattern count bytes)) → Answers (IsCountedLeaf pattern count bytes)
   answer-counted pattern count bytes = found_of_one _ _ (is_counted pattern count bytes)
 
-pub ruleset leaf_formulas = (HasTruth-empty, HasTruth-starts, HasTruth-ends, HasTruth-contains, HasTruth-counted, answer-empty, answer-starts, answer-ends, answer-counted)
+pub ruleset leaf_formulas = (HasTruth-empty, HasTruth-starts, HasTruth-ends, HasTruth-contains, HasTruth-eq_ignore_case, HasTruth-counted, answer-empty, answer-starts, answer-ends, answer-eq_ignore_case, answer-counted)

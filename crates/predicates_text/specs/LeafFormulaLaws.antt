@@ -8,12 +8,12 @@ use Rattle.predicates_core.specs.Formula.{Formula, text_of}
 use Rattle.predicates_core.specs.LeafLaws.{exactly_text_fits}
 use Rattle.predicates_text.specs.Leaves.{text_leaf, counted_leaf, contains_text, empty_formula}
 use Rattle.predicates_text.specs.Leaves.{starts_formula, ends_formula, contains_formula}
-use Rattle.predicates_text.specs.Leaves.{matches_formula}
+use Rattle.predicates_text.specs.Leaves.{matches_formula, eq_ignore_case_formula}
 use Rattle.predicates_text.specs.PlaceLaws.{empty_decides, front_decides, back_decides, part_decides}
-use Rattle.predicates_text.specs.PlaceLaws.{same_test}
+use Rattle.predicates_text.specs.PlaceLaws.{eq_ignore_case_decides, same_test}
 use Rattle.predicates_text.specs.CountLaws.{count_unique, count_of_counts}
 use Rattle.predicates_text.specs.LeafFormulas.{IsTextLeaf, IsEmptyLeaf, IsStartsLeaf, IsEndsLeaf}
-use Rattle.predicates_text.specs.LeafFormulas.{IsContainsLeaf, IsCountedLeaf}
+use Rattle.predicates_text.specs.LeafFormulas.{IsContainsLeaf, IsCountedLeaf, IsEqIgnoreCaseLeaf}
 
 module _ {printed : Entry} {bytes : List ℕ} {fact : Type 0} where
   pub text_leaf_fits : {f : Formula} → IsTextLeaf printed bytes fact f
@@ -41,6 +41,11 @@ pub has_contains : (pattern bytes : List ℕ)
     → IsContainsLeaf pattern bytes (contains_formula pattern bytes)
 has_contains pattern bytes = record
     { own = _; exactly = part_decides (chars pattern) (chars bytes); is = refl }
+
+pub has_eq_ignore_case : (other bytes : List ℕ)
+    → IsEqIgnoreCaseLeaf other bytes (eq_ignore_case_formula other bytes)
+has_eq_ignore_case other bytes = record
+    { own = _; exactly = eq_ignore_case_decides (chars other) (chars bytes); is = refl }
 
 module _ {pattern : List ℕ} {count : ℕ} {bytes : List ℕ} where
   pub counted_text_fits : {f : Formula} → IsCountedLeaf pattern count bytes f

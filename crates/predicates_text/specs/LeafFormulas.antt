@@ -2,12 +2,13 @@
 -- text.
 use Rattle.std.specs.Prelude.{◌≡◌, ◌↔◌, ℕ, Bool, IsTrue, List, [], ◌==◌}
 use Rattle.std.specs.Str.{chars}
+use Rattle.caseless.specs.Caseless.{IsDefaultMatch}
 use Rattle.predicates_core.specs.Label.{Entry}
 use Rattle.predicates_core.specs.Formula.{Formula}
 use Rattle.predicates_text.specs.Places.{IsFrontOf, IsBackOf, IsPartOf}
 use Rattle.predicates_text.specs.Count.{IsCountOf}
 use Rattle.predicates_text.specs.Leaves.{text_leaf, counted_leaf, empty_text, starts_text}
-use Rattle.predicates_text.specs.Leaves.{ends_text, contains_text}
+use Rattle.predicates_text.specs.Leaves.{ends_text, contains_text, eq_ignore_case_text}
 
 -- f is the leaf that shows the text and is true exactly where the fact holds
 pub record IsTextLeaf (printed : Entry) (bytes : List ℕ) (fact : Type 0) (f : Formula) : Type 0
@@ -34,6 +35,11 @@ IsEndsLeaf pattern bytes = IsTextLeaf (ends_text pattern) bytes
 abbrev pub IsContainsLeaf : List ℕ → List ℕ → Formula → Type 0
 IsContainsLeaf pattern bytes = IsTextLeaf (contains_text pattern) bytes
     (IsPartOf (chars pattern) (chars bytes))
+
+-- the other text has the same case folding
+abbrev pub IsEqIgnoreCaseLeaf : List ℕ → List ℕ → Formula → Type 0
+IsEqIgnoreCaseLeaf other bytes = IsTextLeaf (eq_ignore_case_text other) bytes
+    (IsDefaultMatch (chars other) (chars bytes))
 
 -- f is the leaf that shows the greatest number of places of which no two overlap, and is true where
 -- that is the count

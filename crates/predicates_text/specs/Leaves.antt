@@ -4,7 +4,7 @@ use Rattle.std.specs.Fmt.{◌++?◌, debug_str, decimal}
 use Rattle.std.specs.Str.{chars}
 use Rattle.predicates_core.specs.Label.{Entry, showing, showing_both}
 use Rattle.predicates_core.specs.Formula.{Formula, Leaf}
-use Rattle.predicates_text.specs.Places.{is_empty, is_front, is_back, is_part}
+use Rattle.predicates_text.specs.Places.{is_empty, is_front, is_back, is_part, is_eq_ignore_case}
 use Rattle.predicates_text.specs.Count.{count_of}
 
 -- a leaf that shows the text itself as `var`
@@ -46,6 +46,15 @@ contains_text pattern = Some (codes "var.contains(" ++ (pattern ++ codes ")"))
 abbrev pub contains_formula : List ℕ → List ℕ → Formula
 contains_formula pattern bytes = text_leaf (contains_text pattern) bytes
     (is_part (chars pattern) (chars bytes))
+
+-- the other text has the same case folding
+abbrev pub eq_ignore_case_text : List ℕ → Entry
+eq_ignore_case_text other =
+    Some (codes "var.eq_ignore_case(") ++? debug_str other ++? Some (codes ")")
+
+abbrev pub eq_ignore_case_formula : List ℕ → List ℕ → Formula
+eq_ignore_case_formula other bytes = text_leaf (eq_ignore_case_text other) bytes
+    (is_eq_ignore_case (chars other) (chars bytes))
 
 -- the pattern has `count` places in the text, of which no two overlap
 abbrev pub matches_formula : List ℕ → ℕ → List ℕ → Formula

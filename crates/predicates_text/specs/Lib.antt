@@ -10,6 +10,7 @@ pub mod LeafFormulas
 pub mod LeafFormulaLaws
 pub mod Views
 pub mod EvenLines
+pub mod FoldedCase
 pub mod ViewTexts
 pub mod ViewFormulas
 pub mod ViewFormulaLaws

@@ -4,9 +4,10 @@ use Rattle.std.proofs.Common.{length, drop, subst, sym, ap, refl, ⊎_elim, arit
 use Rattle.std.specs.Prelude.{◌||◌}
 use Rattle.std.proofs.lemmas.Bool.{cases_Bool}
 use Rattle.std.proofs.lemmas.Bool.Decides.{Decides-eqb, nat_tests}
-use Rattle.std.proofs.lemmas.Slice.Eq.{starts_is, ends_is}
+use Rattle.std.proofs.lemmas.Slice.Eq.{starts_is, ends_is, bytes_eq-Decides}
+use Rattle.caseless.specs.Caseless.{default_case_fold, IsDefaultMatch}
 use Rattle.predicates_text.specs.Places.{IsFrontOf, IsBackOf, IsPartOf, is_empty, is_front, is_back}
-use Rattle.predicates_text.specs.Places.{is_part}
+use Rattle.predicates_text.specs.Places.{is_part, is_eq_ignore_case}
 
 pub empty_decides : (t : List ℕ) → IsTrue (is_empty t) ↔ (t ≡ [])
 empty_decides [] = ((λ _. refl), λ _. refl)
@@ -59,6 +60,9 @@ part_from s (c ∷ t) (x ∷ front) rest e = ⊎_elim
 
 pub part_decides : (s t : List ℕ) → IsTrue (is_part s t) ↔ IsPartOf s t
 part_decides s t = (part_in s t, λ p. part_from s t p.stands.0 p.stands.1 p.stands.2)
+
+pub eq_ignore_case_decides : (s t : List ℕ) → IsTrue (is_eq_ignore_case s t) ↔ IsDefaultMatch s t
+eq_ignore_case_decides s t = bytes_eq-Decides (default_case_fold s) (default_case_fold t)
 
 -- two tests of one fact agree
 pub same_test : {P : Type 0} (a b : Bool) → IsTrue a ↔ P → IsTrue b ↔ P → a ≡ b

@@ -1,6 +1,8 @@
--- Where one text stands in another, as lists of characters.
+-- Where one text stands in another, and whether they differ in case alone, as lists of characters.
 use Rattle.std.specs.Prelude.{◌≡◌, List, [], ◌∷◌, ◌++◌, ℕ, nat_eq, ◌==◌, length, Bool, ◌||◌}
+use Rattle.std.specs.Prelude.{bytes_eq}
 use Rattle.std.specs.List.{starts_with, ends_with}
+use Rattle.caseless.specs.Caseless.{default_case_fold}
 
 -- t begins with s, ends with s
 abbrev pub IsFrontOf : List ℕ → List ℕ → Type 0
@@ -32,3 +34,7 @@ is_back s t = ends_with nat_eq t s
 unfoldable pub is_part : List ℕ → List ℕ → Bool
 is_part s [] = is_front s []
 is_part s (c ∷ t) = is_front s (c ∷ t) || is_part s t
+
+-- whether both have the same case folding
+abbrev pub is_eq_ignore_case : List ℕ → List ℕ → Bool
+is_eq_ignore_case s t = bytes_eq (default_case_fold s) (default_case_fold t)

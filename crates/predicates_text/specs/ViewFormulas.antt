@@ -20,6 +20,10 @@ IsTrimmedOf v t = IsViewOf view.trimmed v t
 abbrev pub HasEvenLinesOf : Text → Text → Type 0
 HasEvenLinesOf v t = IsViewOf view.lines_even v t
 
+-- the text t is v with its case folded
+abbrev pub IsCaseFoldedOf : Text → Text → Type 0
+IsCaseFoldedOf v t = IsViewOf view.case_folded v t
+
 -- the bytes of a view, from those of the text
 abbrev pub view_bytes : (List ℕ → List ℕ) → List ℕ → List ℕ
 view_bytes shows bytes = encode_utf8_all (shows (chars bytes))
@@ -29,6 +33,9 @@ trimmed_bytes bytes = view_bytes view.trimmed bytes
 
 abbrev pub even_bytes : List ℕ → List ℕ
 even_bytes bytes = view_bytes view.lines_even bytes
+
+abbrev pub case_folded_bytes : List ℕ → List ℕ
+case_folded_bytes bytes = view_bytes view.case_folded bytes
 
 -- f is a formula of the part on each text that is such a view
 pub record IsOfEach (has : Text → Formula → Type 0) (viewed : Text → Type 0) (f : Formula) : Type 0

@@ -1,5 +1,6 @@
 -- Each view of an item is the content of some text.
-use Rattle.std.proofs.Common.{◌≡◌, List, [], ◌∷◌, ℕ, zero, suc, ◌+◌, ◌≤◌, true, length, take, drop}
+use Rattle.std.proofs.Common.{◌≡◌, List, [], ◌∷◌, ℕ, zero, suc, ◌+◌, ◌^◌, ◌≤◌, ◌<◌, true}
+use Rattle.std.proofs.Common.{length, take, drop}
 use Rattle.std.proofs.Common.{refl, sym, ap, ◌∙◌, arith, string_bytes, length-append}
 use lib.Utf8.{scalar}
 use Rattle.std.specs.Str.{chars, IsUtf8, all_scalars, encode_utf8_all}
@@ -9,13 +10,16 @@ use Rattle.predicates_core.specs.Text.{Text}
 use Rattle.std.proofs.Common.{◌⊎◌, inl, inr, ⊎_elim}
 use Rattle.std.specs.Str.{is_utf8}
 use Rattle.std.proofs.lemmas.Str.{IsUtf8-from_is_utf8, is_utf8-from_IsUtf8}
-use Rattle.std.proofs.lemmas.Bool.{and_parts, and_from, cases_Bool, false≢true}
+use Rattle.std.proofs.lemmas.Bool.{and_parts, and_from, cases_Bool, false≢true, ltb-true}
 use Rattle.std.proofs.lemmas.List.{take-append-drop}
 use Rattle.std.proofs.lemmas.Str.{chars-encodes, encodes-chars, scalars-chars, encodes-append}
 use Rattle.std.proofs.lemmas.Str.{IsUtf8-string_bytes}
-use Rattle.predicates_text.specs.Views.{lines_even}
+use Rattle.caseless.specs.Caseless.{default_case_fold}
+use Rattle.predicates_text.specs.Views.{lines_even, fits_text}
 use Rattle.predicates_text.specs.EvenLines.{IsNoLonger, lines_even_fits}
-use Rattle.predicates_text.specs.ViewFormulas.{IsViewOf, IsTrimmedOf, HasEvenLinesOf, view_bytes}
+use Rattle.predicates_text.specs.FoldedCase.{folded_scalars}
+use Rattle.predicates_text.specs.ViewFormulas.{IsViewOf, IsTrimmedOf, HasEvenLinesOf}
+use Rattle.predicates_text.specs.ViewFormulas.{IsCaseFoldedOf, view_bytes}
 use Rattle.predicates_text.specs.ViewFormulaLaws.{TextOrNot}
 
 -- a text of given bytes, where another has room for it
@@ -25,6 +29,23 @@ string_with v xs u l = (
   record v {
     bytes = record v.bytes
         { items = xs; len = length xs; ok = (refl, omega (arith, v.bytes.ok.0, v.bytes.ok.1, l)) };
+    ok = ∣ u ∣₁;
+  },
+  refl,
+)
+
+-- a text of given bytes, if they are few enough for one
+pub string_of : (v : Text) (xs : List ℕ) → IsUtf8 xs → length xs < 2 ^ 63
+    → (t : Text) × (string_bytes t ≡ xs)
+string_of v xs u small = (
+  record v {
+    bytes = record v.bytes {
+      items = xs;
+      len = length xs;
+      cap = length xs;
+      ok = (refl, omega arith);
+      small = small;
+    };
     ok = ∣ u ∣₁;
   },
   refl,
@@ -81,6 +102,21 @@ has_even_lines v =
     string_with v (encode_utf8_all (lines_even (chars (string_bytes v))))
     (lines_even (chars (string_bytes v)), (fits.characters, refl)) fits.no_longer in
     (made.0, ap chars made.1 ∙ chars-encodes (lines_even (chars (string_bytes v))) fits.characters)
+
+pub has_case_folded : (v : Text) → (t : Text) × IsCaseFoldedOf v t
+has_case_folded v =
+    let cs : List ℕ = chars (string_bytes v) in
+    let folded : List ℕ = default_case_fold cs in
+    let known : all_scalars folded ≡ true = folded_scalars cs
+    (scalars-chars (string_bytes v) (IsUtf8-string_bytes v)) in
+    ⊎_elim
+    (λ fits.
+    let made : (t : Text) × (string_bytes t ≡ encode_utf8_all folded) =
+    string_of v (encode_utf8_all folded) (folded, (known, refl))
+    (ltb-true (length (encode_utf8_all folded)) (2 ^ 63) fits) in
+    (made.0, ap chars made.1 ∙ chars-encodes folded known ∙ (rw fits refl)))
+    (λ long. (v, rw long refl))
+    (cases_Bool (fits_text folded))
 
 pub has_decoded : (v : Vec ℕ Global) → IsUtf8 v.items → (t : Text) × (string_bytes t ≡ v.items)
 has_decoded v u = (record { bytes = v; ok = ∣ u ∣₁ }, refl)

@@ -1,8 +1,9 @@
--- The views that adapters make: a text without white space at its ends, and one with even line
--- endings.
-use Rattle.std.specs.Prelude.{List, [], ◌∷◌, ℕ, ◌-◌, Bool, ◌&&◌, not, ◌==◌, nat_le, length, map}
-use Rattle.std.specs.Prelude.{filter, slice_range, if◌then◌else◌}
+-- The views that adapters make: a text without white space at its ends, one with even line
+-- endings, and one with its case folded.
+use Rattle.std.specs.Prelude.{List, [], ◌∷◌, ℕ, ◌-◌, ◌^◌, Bool, ◌&&◌, not, ◌==◌, nat_le, nat_lt}
+use Rattle.std.specs.Prelude.{length, map, filter, slice_range, if◌then◌else◌, encode_utf8_all}
 use Rattle.std.specs.List.{list_any, prefix_len, suffix_len, zip}
+use Rattle.caseless.specs.Caseless.{default_case_fold}
 
 -- the characters with the property White_Space, as ranges
 abbrev pub white_space_ranges : List (ℕ × ℕ)
@@ -38,3 +39,12 @@ without_paired_line_feeds t =
 abbrev pub lines_even : List ℕ → List ℕ
 lines_even t = map (λ c. if c == carriage_return then line_feed else c)
     (without_paired_line_feeds t)
+
+-- whether a text can have the characters: it has less than 2^63 bytes
+abbrev pub fits_text : List ℕ → Bool
+fits_text t = nat_lt (length (encode_utf8_all t)) (2 ^ 63)
+
+-- the text after the default case folding of Unicode, or the text itself where no text can have the
+-- characters of that
+abbrev pub case_folded : List ℕ → List ℕ
+case_folded t = if fits_text (default_case_fold t) then default_case_fold t else t

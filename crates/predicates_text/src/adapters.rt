@@ -7,11 +7,13 @@
 ghost use Rattle.std.specs.Prelude.{◌≡◌};
 ghost use Rattle.predicates_text.specs.AdapterParts.{inner_of};
 
+mod fold_case;
 mod normalize;
 mod trim;
 mod utf8;
 mod view;
 
+pub use fold_case::{FoldCasePredicate, FoldCaseView};
 pub use normalize::{NormalizeView, NormalizedPredicate};
 use predicates_core::Predicate;
 pub use trim::{TrimPredicate, TrimView};
@@ -47,6 +49,20 @@ pub trait PredicateStrExt: Predicate<String> {
         Self: Sized,
         ensures inner { inner_of result ≡ self };
 
+    /// The predicate of a text after the default case folding of Unicode, which is one for texts
+    /// that differ in case alone. A text that the predicate is made of is not folded. Its `eval`
+    /// takes memory for the folded text, but none where that is the text itself.
+    ///
+    /// ```
+    /// let has_street = contains("strasse".to_owned(alloc)?).fold_case();
+    /// assert!(rt; has_street.eval(alloc, &"Lange Straße".to_owned(alloc)?)?);
+    /// assert!(rt; has_street.eval(alloc, &"LANGE STRASSE".to_owned(alloc)?)?);
+    /// ```
+    fn fold_case(self) -> FoldCasePredicate<Self>
+    where
+        Self: Sized,
+        ensures inner { inner_of result ≡ self };
+
     /// The predicate of the text that bytes encode, which is false on other bytes. Its `eval`
     /// takes memory for the text, and none on other bytes.
     ///
@@ -68,6 +84,10 @@ impl<P: Predicate<String>> PredicateStrExt for P {
 
     fn normalize(self) -> NormalizedPredicate<Self> {
         NormalizedPredicate::new(self)
+    }
+
+    fn fold_case(self) -> FoldCasePredicate<Self> {
+        FoldCasePredicate::new(self)
     }
 
     fn from_utf8(self) -> Utf8Predicate<Self> {

@@ -7,6 +7,7 @@
 
 pub mod contains;
 pub mod ends_with;
+pub mod eq_ignore_case;
 pub mod is_empty;
 pub mod matches;
 pub mod starts_with;

@@ -1,14 +1,17 @@
-//! Whether one text is at the start, at the end or anywhere in another. These calls take no memory.
+//! Whether one text is at the start, at the end or anywhere in another, or is another but for case.
+//! These calls take no memory.
 //!
 //! ```
 //! assert!(rt; starts_with("Hello", "Hello World"));
 //! ```
 ghost use Rattle.std.specs.Prelude.{◌≡◌, ◌↔◌, [], ◌∷◌, IsTrue};
 ghost use Rattle.std.specs.Str.{chars};
+ghost use Rattle.caseless.specs.Caseless.{IsDefaultMatch};
 ghost use Rattle.memchr.specs.Find.{FindsNeedle};
 ghost use Rattle.predicates_text.specs.Places.{IsFrontOf, IsBackOf, IsPartOf, is_empty, is_front};
-ghost use Rattle.predicates_text.specs.Places.{is_back, is_part};
+ghost use Rattle.predicates_text.specs.Places.{is_back, is_part, is_eq_ignore_case};
 
+use caseless::default_caseless_match_str;
 use memchr::arch::all::{is_prefix, packedpair};
 use memchr::memmem;
 
@@ -53,6 +56,14 @@ pub fn contains(text: &str, pattern: &str) -> bool
         return text.contains(pattern);
     }
     find(text.as_bytes(), pattern.as_bytes()).is_some()
+}
+
+/// Whether both texts have the same default case folding of Unicode.
+pub fn eq_ignore_case(text: &str, other: &str) -> bool
+    ensures folded { IsTrue result ↔ IsDefaultMatch (chars other.now) (chars text.now) }
+    ensures value { result ≡ is_eq_ignore_case (chars other.now) (chars text.now) }
+{
+    default_caseless_match_str(other, text)
 }
 
 // Whether the bytes begin with this one. It takes half the time of a comparison of any length.

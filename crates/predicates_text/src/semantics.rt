@@ -22,14 +22,17 @@ ghost use Rattle.predicates_text.specs.Expressions.{regex_matches_text, regex_ma
 ghost use Rattle.predicates_text.specs.Expressions.{regex_matches_count};
 ghost use Rattle.predicates_text.specs.LeafFormulas.{IsEmptyLeaf, IsStartsLeaf, IsEndsLeaf};
 ghost use Rattle.predicates_text.specs.LeafFormulas.{IsContainsLeaf, IsCountedLeaf};
+ghost use Rattle.predicates_text.specs.LeafFormulas.{IsEqIgnoreCaseLeaf};
 ghost use Rattle.predicates_text.specs.Patterns.{starts_pattern, ends_pattern, contains_pattern};
 ghost use Rattle.predicates_text.specs.Patterns.{matches_pattern, matches_count};
+ghost use Rattle.predicates_text.specs.Patterns.{eq_ignore_case_other};
 ghost use Rattle.predicates_text.specs.ViewFormulas.{IsOfEach, IsDecoded, IsTrimmedOf};
-ghost use Rattle.predicates_text.specs.ViewFormulas.{HasEvenLinesOf};
+ghost use Rattle.predicates_text.specs.ViewFormulas.{HasEvenLinesOf, IsCaseFoldedOf};
 
-use crate::adapters::{NormalizedPredicate, TrimPredicate, Utf8Predicate};
+use crate::adapters::{FoldCasePredicate, NormalizedPredicate, TrimPredicate, Utf8Predicate};
 use crate::basics::contains::ContainsPredicate;
 use crate::basics::ends_with::EndsWithPredicate;
+use crate::basics::eq_ignore_case::EqIgnoreCasePredicate;
 use crate::basics::is_empty::IsEmptyPredicate;
 use crate::basics::matches::MatchesPredicate;
 use crate::basics::starts_with::StartsWithPredicate;
@@ -76,6 +79,16 @@ pub fn contains(within: &ContainsPredicate, item: &String)
     ensures infallible { ⟦<ContainsPredicate as Predicate<String>>⟧.infallible within.now item.now }
     ensures values { ⟦<ContainsPredicate as PredicateReflection>⟧.parameters_of within.now ≡ [] }
     ensures parts { ⟦<ContainsPredicate as PredicateReflection>⟧.children_of within.now ≡ empty }
+{}
+
+/// A leaf that shows the text, true where the other text has the same case folding.
+pub fn eq_ignore_case(same: &EqIgnoreCasePredicate, item: &String)
+    ensures formula { (f : Formula) → ⟦<EqIgnoreCasePredicate as Predicate<String>>⟧.formula same.now item.now f
+        ↔ IsEqIgnoreCaseLeaf (eq_ignore_case_other same.now) (string_bytes item.now) f }
+    ensures lawful { ⟦<EqIgnoreCasePredicate as Predicate<String>>⟧.lawful same.now }
+    ensures infallible { ⟦<EqIgnoreCasePredicate as Predicate<String>>⟧.infallible same.now item.now }
+    ensures values { ⟦<EqIgnoreCasePredicate as PredicateReflection>⟧.parameters_of same.now ≡ [] }
+    ensures parts { ⟦<EqIgnoreCasePredicate as PredicateReflection>⟧.children_of same.now ≡ empty }
 {}
 
 /// A leaf that shows the text and how often the pattern occurs in it, true where that is the count.
@@ -133,6 +146,27 @@ pub fn normalize<P: Predicate<String>>(normalized: &NormalizedPredicate<P>, item
     ensures parts { ⟦<NormalizedPredicate<P> as PredicateReflection>⟧.children_of normalized.now
         ≡ part (codes "predicate") (P.output (inner_of normalized.now))
         (P.parameters_of (inner_of normalized.now)) (P.children_of (inner_of normalized.now)) }
+{}
+
+/// Its formulas are those of its part on the text with its case folded.
+pub fn fold_case<P: Predicate<String>>(folded: &FoldCasePredicate<P>, item: &String)
+    ensures formula { (f : Formula) → ⟦<FoldCasePredicate<P> as Predicate<String>>⟧.formula folded.now item.now f
+        ↔ IsOfEach (P.formula (inner_of folded.now)) (IsCaseFoldedOf item.now) f }
+    ensures lawful { ⟦<FoldCasePredicate<P> as Predicate<String>>⟧.lawful folded.now ↔ P.lawful (inner_of folded.now) }
+    ensures fallible { ¬ (⟦<FoldCasePredicate<P> as Predicate<String>>⟧.infallible folded.now item.now) }
+    ensures values { ⟦<FoldCasePredicate<P> as PredicateReflection>⟧.parameters_of folded.now ≡ [] }
+    ensures parts { ⟦<FoldCasePredicate<P> as PredicateReflection>⟧.children_of folded.now
+        ≡ part (codes "predicate") (P.output (inner_of folded.now))
+        (P.parameters_of (inner_of folded.now)) (P.children_of (inner_of folded.now)) }
+{}
+
+/// Folding twice is folding once: `p.fold_case().fold_case()` has the formulas of `p.fold_case()`.
+pub fn fold_case_twice<P: Predicate<String>>(
+    twice: &FoldCasePredicate<FoldCasePredicate<P>>,
+    item: &String,
+)
+    ensures { (f : Formula) → ⟦<FoldCasePredicate<FoldCasePredicate<P>> as Predicate<String>>⟧.formula twice.now item.now f
+        ↔ ⟦<FoldCasePredicate<P> as Predicate<String>>⟧.formula (inner_of twice.now) item.now f }
 {}
 
 /// Its formulas are those of its part on the text that the bytes encode, with that text as one more
