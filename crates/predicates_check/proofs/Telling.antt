@@ -1,9 +1,11 @@
 -- One thing more holds, or has its report.
-use Rattle.std.proofs.Common.{◌≡◌, true, false, not, List, [], ◌∷◌, ◌++◌, refl, sym, ap, ◌∙◌, map}
+use Rattle.std.proofs.Common.{◌≡◌, ◌<◌, true, false, true≢false, not, List, [], ◌∷◌, ◌++◌, length, refl, sym, ap, ◌∙◌, map, subst, arith}
 use Rattle.std.proofs.lemmas.List.{map-append, append-nil}
 use Rattle.std.proofs.lemmas.List.Elements.{filter-append, All-nil, All-push, All-head, All-tail}
 use Rattle.std.specs.Prelude.{filter, All}
+use Rattle.std.specs.List.{AllByRecursion}
 use Rattle.predicates_core.specs.Formula.{Formula, HasTruth, truth}
+use Rattle.predicates_core.proofs.Several.{each_weaker}
 use Rattle.predicates_check.specs.Told.{AreEach, AreTold, HasFailures, Mark}
 
 each_more : {A B : Type 0} (R : A → B → Type 0) (xs : List A) (ys : List B) (x : A) (y : B) → AreEach R xs ys → R x y → AreEach R (xs ++ x ∷ []) (ys ++ y ∷ [])
@@ -76,3 +78,40 @@ module _ {A : Type 0} (F : A → Formula → Type 0) (formula_of : A → Formula
   pub held_are_true : {B : Type 0} {R : A → B → Type 0} {things hold : List A} {reports : List B} → AreTold F R things hold reports
       → hold ≡ filter (λ x. truth (formula_of x)) things
   held_are_true h = h.stay ∙ marked_true h.marks h.truths ∙ ap (filter (λ x. truth (formula_of x))) h.of_things
+
+-- nothing has a report exactly where all hold
+module _ {A B : Type 0} (F : A → Formula → Type 0) (R : A → B → Type 0) where
+  none_false : (marks : List (Mark A)) → AreEach R (map (λ (m : Mark A). m.0) (filter (λ (m : Mark A). not m.1) marks)) [] → All (λ (m : Mark A). HasTruth (F m.0) m.1) marks
+      → AllByRecursion (λ x. HasTruth (F x) true) (map (λ (m : Mark A). m.0) marks)
+  none_false [] none all = tt
+  none_false ((x, true) ∷ marks) none all =
+      (All-head (λ (m : Mark A). HasTruth (F m.0) m.1) (x, true) marks all, none_false marks none (All-tail (λ (m : Mark A). HasTruth (F m.0) m.1) (x, true) marks all))
+  none_false ((x, false) ∷ marks) none all = absurd none
+
+  pub all_hold : (things : List A) (reports : List B) → HasFailures F R things reports → reports ≡ [] → AllByRecursion (λ x. HasTruth (F x) true) things
+  all_hold things reports h none =
+      subst (AllByRecursion (λ x. HasTruth (F x) true)) h.told.of_things
+      (none_false h.told.marks (subst (AreEach R (map (λ (m : Mark A). m.0) (filter (λ (m : Mark A). not m.1) h.told.marks))) none h.told.each) h.told.truths)
+
+  abbrev pub HasTrue : A → Type 0
+  HasTrue x = (f : Formula) × F x f × (truth f ≡ true)
+
+  none_marked : (marks : List (Mark A)) → All (λ (m : Mark A). HasTruth (F m.0) m.1) marks → AllByRecursion HasTrue (map (λ (m : Mark A). m.0) marks)
+      → map (λ (m : Mark A). m.0) (filter (λ (m : Mark A). not m.1) marks) ≡ []
+  none_marked [] all true_of = refl
+  none_marked ((x, true) ∷ marks) all true_of = none_marked marks (All-tail (λ (m : Mark A). HasTruth (F m.0) m.1) (x, true) marks all) true_of.1
+  none_marked ((x, false) ∷ marks) all true_of =
+      let is_false : truth true_of.0.0 ≡ false = (All-head (λ (m : Mark A). HasTruth (F m.0) m.1) (x, false) marks all).at true_of.0.0 true_of.0.1 in
+      let is_true : truth true_of.0.0 ≡ true = true_of.0.2 in
+      absurd (true≢false (sym is_true ∙ is_false))
+
+  no_reports : (reports : List B) → AreEach R [] reports → reports ≡ []
+  no_reports [] none = refl
+  no_reports (y ∷ ys) none = absurd none
+
+  pub none_failed : (things : List A) (reports : List B) → HasFailures F R things reports → AllByRecursion HasTrue things → reports ≡ []
+  none_failed things reports h true_of =
+      no_reports reports (subst (λ xs. AreEach R xs reports) (none_marked h.told.marks h.told.truths (subst (AllByRecursion HasTrue) (sym h.told.of_things) true_of)) h.told.each)
+
+  pub not_all_hold : (Q : A → Type 0) → ((x : A) → Q x → HasTrue x) → (things : List A) (reports : List B) → HasFailures F R things reports → 0 < length reports → AllByRecursion Q things → ⊥
+  not_all_hold Q true_of things reports h some all = omega (arith, some, ap length (none_failed things reports h (each_weaker Q HasTrue things true_of all)))

@@ -15,13 +15,16 @@
 //! A user of predicates names the crate `predicates`, which re-exports this one as `check`.
 #![tactic(auto)]
 
+mod case_text;
 mod expectation;
+mod failure;
 mod requirement;
 mod rules;
 mod sifted;
 mod unmet;
 
-pub use expectation::{Expectation, Failure, check_all, expect};
+pub use expectation::{Expectation, check_all, expect, require_all};
+pub use failure::Failure;
 pub use requirement::{require, require_as, required_change};
 pub use rules::{add_failure, failures};
 pub use sifted::{Rejection, Sifted, sift};

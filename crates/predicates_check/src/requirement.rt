@@ -12,7 +12,7 @@ use predicates_core::{Predicate, PredicateChange};
 use std::alloc::{AllocError, Global};
 
 // The case where the predicate does not hold. Where it holds, only `eval` is called.
-fn find_reason<P: Predicate<Item>, Item>(
+pub(crate) fn find_reason<P: Predicate<Item>, Item>(
     alloc: Global,
     predicate: &P,
     item: &Item,
@@ -25,7 +25,7 @@ fn find_reason<P: Predicate<Item>, Item>(
     if predicate.eval(alloc, item)? {
         return Ok(None);
     }
-    predicate.find_case(alloc, false, item)
+    predicate.explain(alloc, Some(false), item)
 }
 
 /// Requires that the predicate holds of the item. Where it does not, the error has the lines of its
