@@ -20,16 +20,16 @@
 //! # Choosing a predicate
 //!
 //! Of any item: `always`, `never`; `eq`, `ne`, `lt`, `le`, `ge`, `gt`; `in_iter`, `in_hash` and
-//! `InPredicate::sort`; `function` over a function or a closure.
+//! `InPredicate::sort`; `function` over a function or a closure. Of a list: `same_members`.
 //!
-//! Over other predicates: `and`, `or`, `xor`, `not`, and `name`; `all_of`, `any_of` and `at_least` over a list
-//! of them. Of parts of an item: `of`, `of_ref`, `of_some_ref` and `of_field`; `of_some`, `of_ok`
-//! and `of_err` of what an `Option` or a `Result` holds; `of_each`, `of_any` and `of_len` of a
-//! list.
+//! Over other predicates: `and`, `or`, `xor`, `not`, and `name`; `all_of`, `any_of`, `at_least`,
+//! `at_most` and `exactly` over a list of them. Of parts of an item: `of`, `of_ref`, `of_some_ref`
+//! and `of_field`; `of_some`, `of_ok` and `of_err` of what an `Option` or a `Result` holds;
+//! `of_each`, `of_any`, `of_at_least`, `of_at_most`, `of_exactly` and `of_len` of a list.
 //!
 //! Of texts: `str::is_empty`, `str::starts_with`, `str::ends_with`, `str::contains` and its
-//! `count`, `str::is_match` and its `count`; `trim` and `normalize` over a predicate of texts, and
-//! `from_utf8`, which makes of it one of bytes.
+//! `count`, `str::is_match` and its `count`, `str::eq_ignore_case`; `trim`, `normalize` and
+//! `fold_case` over a predicate of texts, and `from_utf8`, which makes of it one of bytes.
 //!
 //! Of paths, over a `Snapshot`: `path::exists`, `path::missing`, `path::is_file`, `path::is_dir`,
 //! `path::is_symlink`, `path::eq_file`; `from_file_path` over a predicate of bytes.
@@ -42,6 +42,7 @@
 //! `check::require` makes an error of a predicate that does not hold, `check::failures` says which
 //! of many rules do not, `check::sift` keeps the items of which one holds, and `check::check_all`
 //! says which of many expectations are not met. Each gives the case that explains why.
+//! `check::require_all` makes one error of all expectations that are not met.
 //!
 //! # Memory
 //!

@@ -12,7 +12,8 @@ pub use crate::{BoxPredicate, laws};
 pub use predicates_boolean::boolean::PredicateBooleanExt;
 pub use predicates_boolean::name::PredicateNameExt;
 pub use predicates_check::{
-    add_failure, check_all, expect, failures, require, require_as, required_change, sift,
+    add_failure, check_all, expect, failures, require, require_all, require_as, required_change,
+    sift,
 };
 pub use predicates_core::reflection::render;
 pub use predicates_core::static_text::StaticText;
@@ -24,15 +25,17 @@ pub use predicates_text::PredicateStrExt;
 /// The functions that make predicates.
 pub mod predicate {
     pub use predicates_boolean::rules::{all_of, any_of};
-    pub use predicates_boolean::threshold::at_least;
+    pub use predicates_boolean::threshold::{at_least, at_most, exactly};
     pub use predicates_item::constant::{always, never};
     pub use predicates_item::function::function;
-    pub use predicates_item::iter::{in_hash, in_iter};
+    pub use predicates_item::iter::{in_hash, in_iter, same_members};
     pub use predicates_item::ord::{eq, ge, gt, le, lt, ne};
 
     /// Predicates of texts.
     pub mod str {
-        pub use predicates_text::{contains, ends_with, is_empty, is_match, starts_with};
+        pub use predicates_text::{
+            contains, ends_with, eq_ignore_case, is_empty, is_match, starts_with,
+        };
     }
 
     /// Predicates of what stands at a path.

@@ -18,16 +18,16 @@ pub use predicates_boolean::semantics::{join, named, not, rules};
 use predicates_core::reflection::PredicateReflection;
 use predicates_core::{Predicate, PredicateChange, ReadsContent};
 pub use predicates_item::semantics::{
-    constant, equality, equality_reflection, hashed, listed, order, order_reflection, sorted,
-    stored_function,
+    constant, equality, equality_reflection, hashed, listed, order, order_reflection, same_members,
+    sorted, stored_function,
 };
 pub use predicates_part::semantics::{
     description, length, members, of, of_field, of_ref, of_some_ref, variant,
 };
 pub use predicates_path::semantics::{existence, file_bytes, file_content, file_text, file_type};
 pub use predicates_text::semantics::{
-    contains, count, ends_with, from_utf8, is_empty, is_match, match_count, normalize, starts_with,
-    trim,
+    contains, count, ends_with, eq_ignore_case, fold_case, fold_case_twice, from_utf8, is_empty,
+    is_match, match_count, normalize, starts_with, trim,
 };
 
 /// As a `TextPredicate`, a predicate keeps its formula on each text, its printed text, its
