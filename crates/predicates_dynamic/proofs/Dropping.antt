@@ -4,9 +4,9 @@ use Rattle.predicates_core.specs.declared.custom.join.Operator.{Operator}
 use Rattle.predicates_dynamic.specs.declared.check.Check.{Check}
 use Rattle.predicates_dynamic.specs.declared.check.Check.TheFolds.{fold-roll-Check}
 use Rattle.predicates_dynamic.specs.declared.check.Check.TheOpen.{Check-F}
-use Rattle.predicates_dynamic.specs.declared.check.Check.TheVariants.{Leaf, Not, Named, Pair, Row, rolls-Leaf, rolls-Not, rolls-Named, rolls-Pair, rolls-Row}
+use Rattle.predicates_dynamic.specs.declared.check.Check.TheVariants.{Leaf, Not, Named, Pair, Row, AtLeast, rolls-Leaf, rolls-Not, rolls-Named, rolls-Pair, rolls-Row, rolls-AtLeast}
 use Rattle.predicates_dynamic.specs.Trees.{Tree, tree_step}
-use Rattle.predicates_dynamic.specs.Sizes.{tree_size, size_of, sizes_of, size_left, steps, left_over}
+use Rattle.predicates_dynamic.specs.Sizes.{tree_size, size_of, sizes_of, size_left, steps, left_of, left_over}
 
 grow : (n d m : ℕ) → m ≡ d + n → steps n ≤ steps m
 grow n zero m h =
@@ -49,17 +49,23 @@ module _ {L : Type 0} where
   pub row_size : (decides : Bool) (cs : Vec (Check L) Global) → size_of (Row decides cs) ≡ suc (sizes_of cs.items)
   row_size decides cs = ap size_of (sym (rolls-Row decides cs)) ∙ ap tree_size (fold-roll-Check L (Tree L) tree_step (Check-F.Row decides cs))
 
-  pub fewer : (a b : Check L) (p q : Option (Check L)) → size_of a + size_left p < size_of b + size_left q → left_over a p < left_over b q
-  fewer a b p q h = fewer_left (size_of a + size_left p) (size_of b + size_left q) (size_of a) (size_of b) h (omega arith)
+  pub counted_size : (least : ℕ) (cs : Vec (Check L) Global) → size_of (AtLeast least cs) ≡ suc (sizes_of cs.items)
+  counted_size least cs = ap size_of (sym (rolls-AtLeast least cs)) ∙ ap tree_size (fold-roll-Check L (Tree L) tree_step (Check-F.AtLeast least cs))
 
-  pub smaller : (a b : Check L) (p q : Option (Check L)) → size_of a + size_left p ≤ size_of b + size_left q → size_of a < size_of b → left_over a p < left_over b q
-  smaller a b p q h k = smaller_first (size_of a + size_left p) (size_of b + size_left q) (size_of a) (size_of b) h k
+  pub fewer : (a : Check L) (n : ℕ) (p q : Option (Check L)) → size_of a + size_left p < n + size_left q → left_over a p < left_of n q
+  fewer a n p q h = fewer_left (size_of a + size_left p) (n + size_left q) (size_of a) n h (omega arith)
+
+  pub smaller : (a : Check L) (n : ℕ) (p q : Option (Check L)) → size_of a + size_left p ≤ n + size_left q → size_of a < n → left_over a p < left_of n q
+  smaller a n p q h k = smaller_first (size_of a + size_left p) (n + size_left q) (size_of a) n h k
+
+  pub sizes_first : (c : Check L) (cs : List (Check L)) → sizes_of (c ∷ cs) ≡ sizes_of cs + size_of c
+  sizes_first c cs = omega arith
 
   pub sizes_last : (cs : List (Check L)) (c : Check L) → sizes_of (cs ++ c ∷ []) ≡ sizes_of cs + size_of c
   sizes_last [] c = omega arith
   sizes_last (d ∷ cs) c = let ih = sizes_last cs c in omega (arith, ih)
 
   -- nothing is left of the check itself
-  pub then_waiting : (b : Check L) (q : Option (Check L)) (r : Option (Check L × Option (Check L))) → 0 < size_of b → IfSome r (λ next. (size_left next.1 ≡ 0) × (size_of next.0 ≡ size_left q)) → IfSome r (λ next. left_over next.0 next.1 < left_over b q)
-  then_waiting b q None some h = tt
-  then_waiting b q (Some next) some h = fewer next.0 b next.1 q (let e = h.0 in let f = h.1 in omega (arith, e, f, some))
+  pub then_waiting : (n : ℕ) (q : Option (Check L)) (r : Option (Check L × Option (Check L))) → 0 < n → IfSome r (λ next. (size_left next.1 ≡ 0) × (size_of next.0 ≡ size_left q)) → IfSome r (λ next. left_over next.0 next.1 < left_of n q)
+  then_waiting n q None some h = tt
+  then_waiting n q (Some next) some h = fewer next.0 n next.1 q (let e = h.0 in let f = h.1 in omega (arith, e, f, some))

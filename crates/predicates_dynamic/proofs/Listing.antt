@@ -10,7 +10,8 @@ use Rattle.predicates_core.specs.Parts.{Part, part_of_each}
 use Rattle.predicates_core.specs.Several.{further_texts, listed_text}
 use Rattle.predicates_core.specs.Tree.{Forest, empty, branch}
 use Rattle.predicates_dynamic.specs.declared.check.Check.{Check}
-use Rattle.predicates_dynamic.specs.Trees.{Rows, trees_of, tree_of}
+use Rattle.predicates_core.specs.Thresholds.{counted_text}
+use Rattle.predicates_dynamic.specs.Trees.{Rows, Counts, trees_of, tree_of}
 use Rattle.predicates_dynamic.specs.Formulas.{tree_text, tree_texts, check_text, word}
 use Rattle.predicates_dynamic.specs.Described.{row_parts, check_parameters, check_parts}
 use Rattle.predicates_dynamic.specs.Listed.{joined_texts, row_text, text_at}
@@ -64,6 +65,14 @@ module _ {W : Type 0} (took : W → List ℕ → W → Type 0) where
       ∙ ap (λ n. joined_texts (map output (take k us)) ++? text_at n (output u)) number in
       subst (λ o. DisplaysOnOk took f (Ok tt) o h) (sym texts) (displays_on_IsOk_append took f g h (Ok tt) (Ok tt) _ _ (λ ok. refl) x y)
 
+  pub further_more : {U : Type 0} (output : U → Option (List ℕ)) (us : List U) (k : ℕ) (u : U) (f g h : Formatter W) → k < length us → u ≡ get_or us k u → DisplaysOnOk took f (Ok tt) (further_texts (map output (take k us))) g → DisplaysOnOk took g (Ok tt) (text_at 1 (output u)) h
+      → DisplaysOnOk took f (Ok tt) (further_texts (map output (take (k + 1) us))) h
+  further_more output us k u f g h within is x y =
+      let one_more : take (k + 1) us ≡ take k us ++ u ∷ [] = take_more us k u within ∙ ap (λ z. take k us ++ z ∷ []) (sym is) in
+      let texts : further_texts (map output (take (k + 1) us)) ≡ further_texts (map output (take k us)) ++? text_at 1 (output u) =
+      ap (λ z. further_texts (map output z)) one_more ∙ ap further_texts (map-append output (take k us) (u ∷ [])) ∙ further_last (map output (take k us)) (output u) in
+      subst (λ o. DisplaysOnOk took f (Ok tt) o h) (sym texts) (displays_on_IsOk_append took f g h (Ok tt) (Ok tt) _ _ (λ ok. refl) x y)
+
 module _ {L : Type 0} (text : L → Entry) where
   each_text : (cs : List (Check L)) → tree_texts text (trees_of (map tree_of cs)) ≡ map (check_text text) cs
   each_text [] = refl
@@ -71,6 +80,9 @@ module _ {L : Type 0} (text : L → Entry) where
 
   pub row_is : (decides : Bool) (cs : List (Check L)) → tree_text text (Rows decides (trees_of (map tree_of cs))) ≡ row_text (word decides) (joined_texts (map (check_text text) cs))
   row_is decides cs = ap (listed_text (word decides)) (each_text cs) ∙ listed (word decides) (map (check_text text) cs)
+
+  pub counted_is : (least : ℕ) (cs : List (Check L)) → tree_text text (Counts least (trees_of (map tree_of cs))) ≡ counted_text (codes "at_least") least (map (check_text text) cs)
+  counted_is least cs = ap (counted_text (codes "at_least") least) (each_text cs)
 
   module _ (parameters : L → List Product) (below : L → Forest Part) where
     pub each_described : (cs : List (Check L)) → row_parts text parameters below (trees_of (map tree_of cs)) ≡ part_of_each (codes "rule") (check_text text) (check_parameters parameters) (check_parts text parameters below) cs

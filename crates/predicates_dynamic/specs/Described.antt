@@ -4,7 +4,7 @@ use Rattle.predicates_core.specs.Label.{Entry, Product}
 use Rattle.predicates_core.specs.Parts.{Part, part, two_parts}
 use Rattle.predicates_core.specs.Tree.{Forest, empty, branch}
 use Rattle.predicates_dynamic.specs.declared.check.Check.{Check}
-use Rattle.predicates_dynamic.specs.Trees.{Tree, Trees, Asks, Denies, Names, Pairs, Rows}
+use Rattle.predicates_dynamic.specs.Trees.{Tree, Trees, Asks, Denies, Names, Pairs, Rows, Counts}
 use Rattle.predicates_dynamic.specs.Trees.{nothing, also, tree_of}
 use Rattle.predicates_dynamic.specs.Formulas.{tree_text}
 
@@ -16,6 +16,7 @@ module _ {L : Type 0} (parameters : L → List Product) where
   tree_parameters (Names name t) = []
   tree_parameters (Pairs op a b) = []
   tree_parameters (Rows decides ts) = []
+  tree_parameters (Counts least ts) = []
 
   abbrev pub check_parameters : Check L → List Product
   check_parameters c = tree_parameters (tree_of c)
@@ -34,6 +35,7 @@ module _ {L : Type 0} (text : L → Entry) (parameters : L → List Product)
         (codes "left") (tree_text text a) (tree_parameters parameters a) (tree_parts a)
         (codes "right") (tree_text text b) (tree_parameters parameters b) (tree_parts b)
     tree_parts (Rows decides ts) = row_parts ts
+    tree_parts (Counts least ts) = row_parts ts
 
     pub row_parts : Trees L → Forest Part
     row_parts nothing = empty

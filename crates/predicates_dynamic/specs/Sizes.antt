@@ -1,7 +1,7 @@
 -- How large a check is, and the measure of the loop that drops one.
 use Rattle.std.specs.Prelude.{ℕ, zero, suc, ◌+◌, List, Option, Some, None, map}
 use Rattle.predicates_dynamic.specs.declared.check.Check.{Check}
-use Rattle.predicates_dynamic.specs.Trees.{Tree, Trees, Asks, Denies, Names, Pairs, Rows}
+use Rattle.predicates_dynamic.specs.Trees.{Tree, Trees, Asks, Denies, Names, Pairs, Rows, Counts}
 use Rattle.predicates_dynamic.specs.Trees.{nothing, also, tree_of, trees_of}
 
 module _ {L : Type 0} where
@@ -13,6 +13,7 @@ module _ {L : Type 0} where
     tree_size (Names name t) = suc (tree_size t)
     tree_size (Pairs op a b) = suc (tree_size a + tree_size b)
     tree_size (Rows decides ts) = suc (tree_sizes ts)
+    tree_size (Counts least ts) = suc (tree_sizes ts)
 
     pub tree_sizes : Trees L → ℕ
     tree_sizes nothing = 0
@@ -34,5 +35,8 @@ steps zero = 0
 steps (suc n) = steps n + suc (suc n)
 
 -- what is left, first by how many checks that are, and then by the size of the first
+abbrev pub left_of : {L : Type 0} → ℕ → Option (Check L) → ℕ
+left_of size waiting = steps (size + size_left waiting) + size
+
 abbrev pub left_over : {L : Type 0} → Check L → Option (Check L) → ℕ
-left_over c waiting = steps (size_of c + size_left waiting) + size_of c
+left_over c waiting = left_of (size_of c) waiting

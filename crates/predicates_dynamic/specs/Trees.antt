@@ -11,6 +11,7 @@ mutual
     Names : List ℕ → Tree L → Tree L
     Pairs : Operator → Tree L → Tree L → Tree L
     Rows : Bool → Trees L → Tree L
+    Counts : ℕ → Trees L → Tree L
 
   pub data Trees (L : Type 0) : Type 0 where
     nothing : Trees L
@@ -28,6 +29,7 @@ module _ {L : Type 0} where
   tree_step (Check-F.Named name t) = Names name (box_value t)
   tree_step (Check-F.Pair op a b) = Pairs op (box_value a) (box_value b)
   tree_step (Check-F.Row decides ts) = Rows decides (trees_of ts.items)
+  tree_step (Check-F.AtLeast least ts) = Counts least (trees_of ts.items)
 
   abbrev pub tree_of : Check L → Tree L
   tree_of = fold-Check L (Tree L) tree_step
@@ -40,6 +42,7 @@ module _ {L : Type 0} where
     AllLeaves fact (Names name t) = AllLeaves fact t
     AllLeaves fact (Pairs op a b) = AllLeaves fact a × AllLeaves fact b
     AllLeaves fact (Rows decides ts) = AllOfTrees fact ts
+    AllLeaves fact (Counts least ts) = AllOfTrees fact ts
 
     pub AllOfTrees : (L → Type 0) → Trees L → Type 0
     AllOfTrees fact nothing = Unit {0}

@@ -2,7 +2,7 @@
 ghost use Rattle.std.specs.Prelude.{◌≡◌, true, false, IfOk, map};
 ghost use Rattle.predicates_core.specs.declared.custom.join.Operator.TheVariants.{And, Or, Xor};
 ghost use Rattle.predicates_dynamic.specs.Trees.{tree_of, trees_of, Asks, Denies, Names, Pairs};
-ghost use Rattle.predicates_dynamic.specs.Trees.{Rows};
+ghost use Rattle.predicates_dynamic.specs.Trees.{Rows, Counts};
 
 use crate::check::Check;
 use predicates_core::custom::Operator;
@@ -11,6 +11,12 @@ use std::alloc::{AllocError, Global};
 
 impl<L: Drop> Check<L> {
     /// Holds where the leaf does. It takes no memory.
+    ///
+    /// ```
+    /// let grown = Check::leaf(predicate::ge(5));
+    /// assert!(rt; grown.eval(alloc, &7)?);
+    /// assert!(rt; !grown.eval(alloc, &3)?);
+    /// ```
     pub fn leaf(leaf: L) -> Check<L>
         ensures { tree_of result ≡ Asks leaf }
     {
@@ -18,6 +24,12 @@ impl<L: Drop> Check<L> {
     }
 
     /// Holds where the check does not.
+    ///
+    /// ```
+    /// let small = Check::leaf(predicate::ge(5)).not(alloc)?;
+    /// assert!(rt; small.eval(alloc, &3)?);
+    /// assert!(rt; !small.eval(alloc, &7)?);
+    /// ```
     pub fn not(self, alloc: Global) -> Result<Check<L>, AllocError>
         ensures { IfOk result (λ made. tree_of made ≡ Denies (tree_of self)) }
     {
@@ -25,6 +37,11 @@ impl<L: Drop> Check<L> {
     }
 
     /// The check under a name, which is printed in its place.
+    ///
+    /// ```
+    /// let adult = Check::leaf(predicate::ge(18)).name(alloc, "adult")?;
+    /// assert!(rt; adult.to_string(alloc)?.as_str() == "adult");
+    /// ```
     pub fn name(self, alloc: Global, name: &'static str) -> Result<Check<L>, AllocError>
         ensures { IfOk result (λ made. tree_of made ≡ Names name.entry.now (tree_of self)) }
     {
@@ -32,6 +49,12 @@ impl<L: Drop> Check<L> {
     }
 
     /// Holds where both checks do; the other one is asked only where this one holds.
+    ///
+    /// ```
+    /// let between = Check::leaf(predicate::ge(5)).and(alloc, Check::leaf(predicate::le(10)))?;
+    /// assert!(rt; between.eval(alloc, &7)?);
+    /// assert!(rt; !between.eval(alloc, &11)?);
+    /// ```
     pub fn and(self, alloc: Global, other: Check<L>) -> Result<Check<L>, AllocError>
         ensures { IfOk result (λ made. tree_of made ≡ Pairs And (tree_of self) (tree_of other)) }
     {
@@ -43,6 +66,12 @@ impl<L: Drop> Check<L> {
     }
 
     /// Holds where one or both checks do; the other one is asked only where this one does not hold.
+    ///
+    /// ```
+    /// let outside = Check::leaf(predicate::lt(5)).or(alloc, Check::leaf(predicate::gt(10)))?;
+    /// assert!(rt; outside.eval(alloc, &11)?);
+    /// assert!(rt; !outside.eval(alloc, &7)?);
+    /// ```
     pub fn or(self, alloc: Global, other: Check<L>) -> Result<Check<L>, AllocError>
         ensures { IfOk result (λ made. tree_of made ≡ Pairs Or (tree_of self) (tree_of other)) }
     {
@@ -54,6 +83,12 @@ impl<L: Drop> Check<L> {
     }
 
     /// Holds where exactly one of the checks does; both are asked.
+    ///
+    /// ```
+    /// let one = Check::leaf(predicate::ge(5)).xor(alloc, Check::leaf(predicate::ge(10)))?;
+    /// assert!(rt; one.eval(alloc, &7)?);
+    /// assert!(rt; !one.eval(alloc, &11)?);
+    /// ```
     pub fn xor(self, alloc: Global, other: Check<L>) -> Result<Check<L>, AllocError>
         ensures { IfOk result (λ made. tree_of made ≡ Pairs Xor (tree_of self) (tree_of other)) }
     {
@@ -65,6 +100,14 @@ impl<L: Drop> Check<L> {
     }
 
     /// Holds where each of the parts does, as `all_of`. It takes no memory.
+    ///
+    /// ```
+    /// let low = Check::leaf(predicate::ge(5));
+    /// let high = Check::leaf(predicate::ge(10));
+    /// let all = Check::all(vec![in alloc; low, high]?);
+    /// assert!(rt; all.eval(alloc, &11)?);
+    /// assert!(rt; !all.eval(alloc, &7)?);
+    /// ```
     pub fn all(parts: Vec<Check<L>>) -> Check<L>
         ensures { tree_of result ≡ Rows false (trees_of (map tree_of parts.items)) }
     {
@@ -72,9 +115,32 @@ impl<L: Drop> Check<L> {
     }
 
     /// Holds where one of the parts does, as `any_of`. It takes no memory.
+    ///
+    /// ```
+    /// let low = Check::leaf(predicate::eq(5));
+    /// let high = Check::leaf(predicate::eq(10));
+    /// let any = Check::any(vec![in alloc; low, high]?);
+    /// assert!(rt; any.eval(alloc, &10)?);
+    /// assert!(rt; !any.eval(alloc, &7)?);
+    /// ```
     pub fn any(parts: Vec<Check<L>>) -> Check<L>
         ensures { tree_of result ≡ Rows true (trees_of (map tree_of parts.items)) }
     {
         Check::Row(true, parts)
+    }
+
+    /// Holds where at least so many of the parts do, as `at_least`. It takes no memory.
+    ///
+    /// ```
+    /// let low = Check::leaf(predicate::ge(5));
+    /// let high = Check::leaf(predicate::le(10));
+    /// let two = Check::at_least(2, vec![in alloc; low, high]?);
+    /// assert!(rt; two.eval(alloc, &7)?);
+    /// assert!(rt; !two.eval(alloc, &11)?);
+    /// ```
+    pub fn at_least(least: usize, parts: Vec<Check<L>>) -> Check<L>
+        ensures { tree_of result ≡ Counts least (trees_of (map tree_of parts.items)) }
+    {
+        Check::AtLeast(least, parts)
     }
 }

@@ -1,20 +1,21 @@
 //! What would turn the verdicts of checks.
-ghost use Rattle.std.specs.Prelude.{◌≡◌, None, Some, not, codes, map, IfOk};
+ghost use Rattle.std.specs.Prelude.{◌≡◌, ◌≤◌, None, Some, not, codes, length, map, IfOk};
 ghost use Rattle.std.specs.List.{AllByRecursion};
 ghost use Rattle.predicates_core.specs.Asked.{left_wanted};
 ghost use Rattle.predicates_core.specs.Change.{IsFoundChange};
 ghost use Rattle.predicates_core.specs.Several.{IsOfMembers};
+ghost use Rattle.predicates_core.specs.Thresholds.{IsOfThreshold};
 ghost use Rattle.predicates_core.specs.Turning.{IsRightChange};
 ghost use Rattle.predicates_dynamic.specs.Trees.{AllOf, AllLeaves, tree_of, trees_of, Denies};
-ghost use Rattle.predicates_dynamic.specs.Trees.{Names, Pairs, Rows};
+ghost use Rattle.predicates_dynamic.specs.Trees.{Names, Pairs, Rows, Counts};
 ghost use Rattle.predicates_dynamic.specs.Formulas.{check_text, Has};
 
 use crate::check::Check;
 use crate::hold::{are_lawful, holds};
-use crate::steps::{asked_at, first_alone, is_first_passed};
 use predicates_core::PredicateChange;
 use predicates_core::custom::{
-    Operator, is_other, kept_if, next_change, no_member, opposite_of, shown_verdict, with_index,
+    Operator, asked_at, enough_of, first_alone, is_first_passed, is_other, is_settled, kept_if,
+    next_change, no_member, node_of_first, opposite_of, settled_case, shown_verdict, with_index,
 };
 use predicates_core::node::{binary_node_of, printed, unary_node};
 use predicates_core::reflection::Case;
@@ -47,6 +48,9 @@ pub(crate) fn changed<L: PredicateChange<Item>, Item>(
             )
         }
         Check::Row(decides, parts) => row_changed(alloc, parts, *decides, check, wanted, item),
+        Check::AtLeast(least, parts) => {
+            threshold_changed(alloc, parts, *least, check, wanted, item)
+        }
     }
 }
 
@@ -183,7 +187,7 @@ fn row_changed<L: PredicateChange<Item>, Item>(
     ensures { IfOk result
         (IsFoundChange (Has L.output (λ l. L.formula l item.now) whole.now) wanted) }
 {
-    are_lawful::<L, Item>(parts, decides);
+    are_lawful::<L, Item>(parts);
     let found = parts_changed(alloc, parts, decides, whole, wanted, item)?;
     Ok(found)
 }
@@ -301,4 +305,116 @@ fn whichever_parts<L: PredicateChange<Item>, Item>(
         Some(node) => Ok(Some(node)),
         None => first_alone(alloc, whole, "rule", decides, first),
     }
+}
+
+// The same of checks of which at least so many have to hold.
+#[cycle(change)]
+fn threshold_changed<L: PredicateChange<Item>, Item>(
+    alloc: Global,
+    parts: &[Check<L>],
+    least: usize,
+    whole: &Check<L>,
+    wanted: Option<bool>,
+    item: &Item,
+) -> Result<Option<Case>, AllocError>
+    requires lawful { AllLeaves L.lawful (Counts least (trees_of (map tree_of parts.now))) }
+    requires whole { tree_of whole.now ≡ Counts least (trees_of (map tree_of parts.now)) }
+    ensures { IfOk result
+        (IsFoundChange (Has L.output (λ l. L.formula l item.now) whole.now) wanted) }
+{
+    are_lawful::<L, Item>(parts);
+    let found = counted_changed(alloc, parts, least, whole, wanted, item)?;
+    Ok(found)
+}
+
+// The same, as `custom::threshold_change`.
+#[cycle(change)]
+fn counted_changed<L: PredicateChange<Item>, Item>(
+    alloc: Global,
+    parts: &[Check<L>],
+    least: usize,
+    whole: &Check<L>,
+    wanted: Option<bool>,
+    item: &Item,
+) -> Result<Option<Case>, AllocError>
+    requires { AllByRecursion (AllOf L.lawful) parts.now }
+    ensures { IfOk result (IsFoundChange (IsOfThreshold least (check_text L.output whole.now)
+        (codes "rule") (Has L.output (λ l. L.formula l item.now)) parts.now) wanted) }
+{
+    if is_settled(least, parts.len()) {
+        return settled_case(alloc, whole, least, parts.len(), wanted);
+    }
+    match wanted {
+        Some(decides) => turned_wanted(alloc, parts, least, whole, decides, item),
+        None => turned_either(alloc, parts, least, whole, item),
+    }
+}
+
+// The change of a whole that is wanted to have the verdict.
+#[cycle(change)]
+fn turned_wanted<L: PredicateChange<Item>, Item>(
+    alloc: Global,
+    parts: &[Check<L>],
+    least: usize,
+    whole: &Check<L>,
+    expected: bool,
+    item: &Item,
+) -> Result<Option<Case>, AllocError>
+    requires lawful { AllByRecursion (AllOf L.lawful) parts.now }
+    requires some { 1 ≤ least }
+    requires within { least ≤ length parts.now }
+    ensures { IfOk result (IsFoundChange (IsOfThreshold least (check_text L.output whole.now)
+        (codes "rule") (Has L.output (λ l. L.formula l item.now)) parts.now) (Some expected)) }
+{
+    let enough = enough_of(expected, least, parts.len());
+    let mut cases: Vec<Case> = Vec::new(alloc);
+    for (index, part) in parts.iter().enumerate() {
+        let Some(case) = changed(alloc, part, Some(expected), item)? else {
+            continue;
+        };
+        let told = with_index(alloc, index, case)?;
+        cases.push(told)?;
+    }
+    if cases.len() < enough {
+        return Ok(None);
+    }
+    let turns = cases.len() - enough + 1;
+    Ok(Some(node_of_first(alloc, whole, "rule", expected, cases, turns)?))
+}
+
+// The change of a whole, whichever its verdict. Each part is asked once.
+#[cycle(change)]
+fn turned_either<L: PredicateChange<Item>, Item>(
+    alloc: Global,
+    parts: &[Check<L>],
+    least: usize,
+    whole: &Check<L>,
+    item: &Item,
+) -> Result<Option<Case>, AllocError>
+    requires lawful { AllByRecursion (AllOf L.lawful) parts.now }
+    requires some { 1 ≤ least }
+    requires within { least ≤ length parts.now }
+    ensures { IfOk result (IsFoundChange (IsOfThreshold least (check_text L.output whole.now)
+        (codes "rule") (Has L.output (λ l. L.formula l item.now)) parts.now) None) }
+{
+    let mut held: Vec<Case> = Vec::new(alloc);
+    let mut failed: Vec<Case> = Vec::new(alloc);
+    for (index, part) in parts.iter().enumerate() {
+        let Some(case) = changed(alloc, part, None, item)? else {
+            return Ok(None);
+        };
+        let holds = case.root().result();
+        let told = with_index(alloc, index, case)?;
+        if holds {
+            held.push(told)?;
+        } else {
+            failed.push(told)?;
+        }
+    }
+    if held.len() >= least {
+        let turns = held.len() - least + 1;
+        return Ok(Some(node_of_first(alloc, whole, "rule", true, held, turns)?));
+    }
+    let turns = failed.len() - enough_of(false, least, parts.len()) + 1;
+    Ok(Some(node_of_first(alloc, whole, "rule", false, failed, turns)?))
 }

@@ -1,7 +1,9 @@
 //! A check whose shape comes at run time.
-ghost use Rattle.std.specs.Prelude.{◌≡◌, ◌<◌, map, IfSome};
+ghost use Rattle.std.specs.Prelude.{◌≡◌, ◌<◌, codes, map, IfSome};
 ghost use Rattle.std.specs.Fmt.{DisplaysOnOk};
-ghost use Rattle.predicates_dynamic.specs.Trees.{tree_of, trees_of, AllOf, Rows};
+ghost use Rattle.predicates_core.specs.Several.{further_texts};
+ghost use Rattle.predicates_core.specs.Thresholds.{counted_text};
+ghost use Rattle.predicates_dynamic.specs.Trees.{tree_of, trees_of, AllOf, Rows, Counts};
 ghost use Rattle.predicates_dynamic.specs.Formulas.{check_text, tree_text, Has, tree_formula, word};
 ghost use Rattle.predicates_dynamic.specs.Described.{check_parameters, check_parts};
 ghost use Rattle.predicates_dynamic.specs.Listed.{joined_texts, row_text, text_at};
@@ -12,7 +14,7 @@ use crate::change::changed;
 use crate::describe::parts_of;
 use crate::explain::explained;
 use crate::hold::holds;
-use crate::take_apart::{last_first, left_first, resumed};
+use crate::take_apart::{left_first, parts_apart, resumed};
 use predicates_core::custom::Operator;
 use predicates_core::reflection::{Case, Child, Parameter, PredicateReflection};
 use predicates_core::static_text::StaticText;
@@ -24,8 +26,8 @@ use std::fmt;
 /// any predicate.
 ///
 /// It means, prints and explains what the library's own combinators do over the same parts: `not`,
-/// `name`, `and`, `or`, `xor`, and for rows `all_of` and `any_of`. Each leaf is evaluated at most
-/// twice, however deep it stands.
+/// `name`, `and`, `or`, `xor`, and for several parts `all_of`, `any_of` and `at_least`. Each leaf is
+/// evaluated at most twice, however deep it stands.
 ///
 /// Each call takes a stack frame or two a level. Making and dropping a check does not, however deep
 /// it is.
@@ -40,6 +42,8 @@ pub enum Check<L> {
     Pair(Operator, Box<Check<L>>, Box<Check<L>>),
     /// A row that one part with the verdict decides: with `true` one has to hold, else each.
     Row(bool, Vec<Check<L>>),
+    /// At least so many of the parts hold.
+    AtLeast(usize, Vec<Check<L>>),
 }
 
 impl<L: Drop> Check<L> {
@@ -57,13 +61,8 @@ impl<L: Drop> Check<L> {
             Check::Not(inner) => Some((Box::into_inner(inner), waiting)),
             Check::Named(_, inner) => Some((Box::into_inner(inner), waiting)),
             Check::Pair(operator, left, right) => Some(left_first(operator, left, right, waiting)),
-            Check::Row(decides, mut parts) => match parts.pop() {
-                Some(last) => Some(last_first(decides, parts, last, waiting)),
-                None => {
-                    parts.destroy_empty();
-                    resumed(waiting)
-                }
-            },
+            Check::Row(_, parts) => parts_apart(parts, waiting),
+            Check::AtLeast(_, parts) => parts_apart(parts, waiting),
         }
     }
 }
@@ -148,6 +147,46 @@ impl<L: fmt::Display> Check<L> {
         write!(f, ", ")?;
         fmt::Display::fmt(part, f)
     }
+
+    // Parts of which at least so many have to hold.
+    #[cycle(text)]
+    fn fmt_counted<W: fmt::Write>(
+        parts: &[Check<L>],
+        least: usize,
+        f: &mut fmt::Formatter<W>,
+    ) -> fmt::Result
+        ensures { DisplaysOnOk W.write_str_gives f.old result
+            (tree_text L.output (Counts least (trees_of (map tree_of parts.now)))) f.new }
+    {
+        Check::<L>::fmt_threshold(parts, least, f)
+    }
+
+    // The number and the parts in parentheses.
+    #[cycle(text)]
+    fn fmt_threshold<W: fmt::Write>(
+        parts: &[Check<L>],
+        least: usize,
+        f: &mut fmt::Formatter<W>,
+    ) -> fmt::Result
+        ensures { DisplaysOnOk W.write_str_gives f.old result (counted_text (codes "at_least") least
+            (map (check_text L.output) parts.now)) f.new }
+    {
+        write!(f, "at_least({least}")?;
+        Check::<L>::fmt_further(parts, f)?;
+        write!(f, ")")
+    }
+
+    // The parts, each behind a comma.
+    #[cycle(text)]
+    fn fmt_further<W: fmt::Write>(parts: &[Check<L>], f: &mut fmt::Formatter<W>) -> fmt::Result
+        ensures { DisplaysOnOk W.write_str_gives f.old result
+            (further_texts (map (check_text L.output) parts.now)) f.new }
+    {
+        for part in parts {
+            Check::<L>::fmt_part(part, 1, f)?;
+        }
+        Ok(())
+    }
 }
 
 impl<L: fmt::Display> fmt::Display for Check<L> {
@@ -171,6 +210,7 @@ impl<L: fmt::Display> fmt::Display for Check<L> {
                 write!(f, ")")
             }
             Check::Row(decides, parts) => Check::<L>::fmt_row(parts, *decides, f),
+            Check::AtLeast(least, parts) => Check::<L>::fmt_counted(parts, *least, f),
         }
     }
 }

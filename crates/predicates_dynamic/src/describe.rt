@@ -3,8 +3,8 @@ ghost use Rattle.std.specs.Prelude.{◌≡◌, [], IfOk, IsOk, codes, map};
 ghost use Rattle.predicates_core.specs.Parts.{FitsParts, IsPart, part, part_of_each, two_parts};
 ghost use Rattle.predicates_core.specs.Tree.{empty, forest};
 ghost use Rattle.predicates_dynamic.specs.Formulas.{check_text};
-ghost use Rattle.predicates_dynamic.specs.Described.{check_parameters, check_parts};
-ghost use Rattle.predicates_dynamic.specs.Trees.{tree_of, trees_of, Rows};
+ghost use Rattle.predicates_dynamic.specs.Described.{check_parameters, check_parts, row_parts};
+ghost use Rattle.predicates_dynamic.specs.Trees.{tree_of, trees_of};
 
 use crate::check::Check;
 use predicates_core::node::printed;
@@ -31,7 +31,8 @@ pub(crate) fn parts_of<L: PredicateReflection>(
             let left = described(alloc, left_part, "left")?;
             two_parts_of(alloc, right_part, left_part, left)
         }
-        Check::Row(decides, parts) => row_children(alloc, parts, *decides, check),
+        Check::Row(_, parts) => parts_children(alloc, parts, check),
+        Check::AtLeast(_, parts) => parts_children(alloc, parts, check),
     }
 }
 
@@ -95,15 +96,15 @@ fn two_parts_of<L: PredicateReflection>(
     Ok(children)
 }
 
-// The descriptions of the parts of a row.
+// The descriptions of several parts.
 #[cycle(describe)]
-fn row_children<L: PredicateReflection>(
+fn parts_children<L: PredicateReflection>(
     alloc: Global,
     parts: &[Check<L>],
-    decides: bool,
     whole: &Check<L>,
 ) -> Result<Vec<Child>, AllocError>
-    requires { tree_of whole.now ≡ Rows decides (trees_of (map tree_of parts.now)) }
+    requires { check_parts L.output L.parameters_of L.children_of whole.now
+        ≡ row_parts L.output L.parameters_of L.children_of (trees_of (map tree_of parts.now)) }
     ensures fits { IfOk result (λ children. FitsParts
         (check_parts L.output L.parameters_of L.children_of whole.now) (forest children.items)) }
     ensures none { check_parts L.output L.parameters_of L.children_of whole.now ≡ empty

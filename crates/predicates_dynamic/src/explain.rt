@@ -1,19 +1,20 @@
 //! Cases of checks.
-ghost use Rattle.std.specs.Prelude.{◌≡◌, ◌≢◌, [], Some, codes, map, IfOk};
+ghost use Rattle.std.specs.Prelude.{◌≡◌, ◌≢◌, [], None, Some, codes, map, IfOk};
 ghost use Rattle.std.specs.List.{AllByRecursion};
 ghost use Rattle.predicates_core.specs.Asked.{IsFoundIf, left_wanted};
 ghost use Rattle.predicates_core.specs.Several.{IsOfMembers};
 ghost use Rattle.predicates_core.specs.Shows.{IsAnswer, IsFound};
+ghost use Rattle.predicates_core.specs.Thresholds.{IsOfThreshold};
 ghost use Rattle.predicates_dynamic.specs.Trees.{AllOf, AllLeaves, tree_of, trees_of, Denies};
-ghost use Rattle.predicates_dynamic.specs.Trees.{Names, Pairs, Rows};
+ghost use Rattle.predicates_dynamic.specs.Trees.{Names, Pairs, Rows, Counts};
 ghost use Rattle.predicates_dynamic.specs.Formulas.{check_text, Has};
 
 use crate::check::Check;
 use crate::hold::are_lawful;
 use predicates_core::Predicate;
 use predicates_core::custom::{
-    Operator, deciding_case, is_deciding, is_other, is_wanted, kept_if, no_member, opposite_of,
-    shown_verdict,
+    Operator, deciding_case, enough_of, is_deciding, is_other, is_settled, is_wanted, kept_if,
+    no_member, opposite_of, settled_case, shown_verdict, with_index,
 };
 use predicates_core::node::{binary_node_of, leaf_node, printed, unary_node};
 use predicates_core::reflection::Case;
@@ -50,6 +51,9 @@ pub(crate) fn explained<L: Predicate<Item>, Item>(
             )
         }
         Check::Row(decides, parts) => row_explained(alloc, parts, *decides, check, wanted, item),
+        Check::AtLeast(least, parts) => {
+            threshold_explained(alloc, parts, *least, check, wanted, item)
+        }
     }
 }
 
@@ -168,7 +172,7 @@ fn row_explained<L: Predicate<Item>, Item>(
     requires whole { tree_of whole.now ≡ Rows decides (trees_of (map tree_of parts.now)) }
     ensures { IfOk result (IsFound (Has L.output (λ l. L.formula l item.now) whole.now) wanted) }
 {
-    are_lawful::<L, Item>(parts, decides);
+    are_lawful::<L, Item>(parts);
     let found = parts_explained(alloc, parts, decides, whole, wanted, item)?;
     Ok(found)
 }
@@ -247,4 +251,121 @@ fn every_part<L: Predicate<Item>, Item>(
         node = node.add_child("rule", case)?;
     }
     Ok(Some(node))
+}
+
+// The same of checks of which at least so many have to hold.
+#[cycle(explain)]
+fn threshold_explained<L: Predicate<Item>, Item>(
+    alloc: Global,
+    parts: &[Check<L>],
+    least: usize,
+    whole: &Check<L>,
+    wanted: Option<bool>,
+    item: &Item,
+) -> Result<Option<Case>, AllocError>
+    requires lawful { AllLeaves L.lawful (Counts least (trees_of (map tree_of parts.now))) }
+    requires whole { tree_of whole.now ≡ Counts least (trees_of (map tree_of parts.now)) }
+    ensures { IfOk result (IsFound (Has L.output (λ l. L.formula l item.now) whole.now) wanted) }
+{
+    are_lawful::<L, Item>(parts);
+    let found = counted_explained(alloc, parts, least, whole, wanted, item)?;
+    Ok(found)
+}
+
+// The same, as `custom::threshold_explained`.
+#[cycle(explain)]
+fn counted_explained<L: Predicate<Item>, Item>(
+    alloc: Global,
+    parts: &[Check<L>],
+    least: usize,
+    whole: &Check<L>,
+    wanted: Option<bool>,
+    item: &Item,
+) -> Result<Option<Case>, AllocError>
+    requires { AllByRecursion (AllOf L.lawful) parts.now }
+    ensures { IfOk result (IsFound (IsOfThreshold least (check_text L.output whole.now)
+        (codes "rule") (Has L.output (λ l. L.formula l item.now)) parts.now) wanted) }
+{
+    match wanted {
+        Some(expected) => counted_wanted(alloc, parts, least, whole, expected, item),
+        None => counted_either(alloc, parts, least, whole, item),
+    }
+}
+
+// The case of whichever verdict the whole has. Each part is asked once.
+#[cycle(explain)]
+fn counted_either<L: Predicate<Item>, Item>(
+    alloc: Global,
+    parts: &[Check<L>],
+    least: usize,
+    whole: &Check<L>,
+    item: &Item,
+) -> Result<Option<Case>, AllocError>
+    requires { AllByRecursion (AllOf L.lawful) parts.now }
+    ensures { IfOk result (IsFound (IsOfThreshold least (check_text L.output whole.now)
+        (codes "rule") (Has L.output (λ l. L.formula l item.now)) parts.now) None) }
+{
+    if is_settled(least, parts.len()) {
+        return settled_case(alloc, whole, least, parts.len(), None);
+    }
+    let most = enough_of(false, least, parts.len());
+    let mut held_node = leaf_node(alloc, printed(alloc, whole)?, true);
+    let mut failed_node = leaf_node(alloc, printed(alloc, whole)?, false);
+    let mut held = 0usize;
+    let mut failed = 0usize;
+    for (index, part) in parts.iter().enumerate() {
+        let Some(case) = explained(alloc, part, None, item)? else {
+            return Ok(None);
+        };
+        let holds = case.root().result();
+        let told = with_index(alloc, index, case)?;
+        if holds {
+            held_node = held_node.add_child("rule", told)?;
+            held += 1;
+            if held == least {
+                return Ok(Some(held_node));
+            }
+        } else {
+            failed_node = failed_node.add_child("rule", told)?;
+            failed += 1;
+            if failed == most {
+                return Ok(Some(failed_node));
+            }
+        }
+    }
+    Ok(None)
+}
+
+// The case of a whole that is wanted to have the verdict.
+#[cycle(explain)]
+fn counted_wanted<L: Predicate<Item>, Item>(
+    alloc: Global,
+    parts: &[Check<L>],
+    least: usize,
+    whole: &Check<L>,
+    expected: bool,
+    item: &Item,
+) -> Result<Option<Case>, AllocError>
+    requires { AllByRecursion (AllOf L.lawful) parts.now }
+    ensures { IfOk result (IsAnswer (IsOfThreshold least (check_text L.output whole.now)
+        (codes "rule") (Has L.output (λ l. L.formula l item.now)) parts.now) expected) }
+{
+    if is_settled(least, parts.len()) {
+        return settled_case(alloc, whole, least, parts.len(), Some(expected));
+    }
+    let enough = enough_of(expected, least, parts.len());
+    let mut node = leaf_node(alloc, printed(alloc, whole)?, expected);
+    let mut kept = 0usize;
+    for (index, part) in parts.iter().enumerate() {
+        let Some(case) = explained(alloc, part, Some(expected), item)? else {
+            continue;
+        };
+        let told = with_index(alloc, index, case)?;
+        node = node.add_child("rule", told)?;
+        kept += 1;
+        if kept == enough {
+            return Ok(Some(node));
+        }
+    }
+    Ok(None)
 }

@@ -4,13 +4,14 @@ ghost use Rattle.std.specs.List.{AllByRecursion};
 ghost use Rattle.predicates_core.specs.Formula.{HasTruth};
 ghost use Rattle.predicates_core.specs.Label.{Entry};
 ghost use Rattle.predicates_core.specs.Several.{IsOfMembers};
-ghost use Rattle.predicates_dynamic.specs.Trees.{AllOf, AllLeaves, tree_of, trees_of, Denies};
-ghost use Rattle.predicates_dynamic.specs.Trees.{Names, Pairs, Rows};
+ghost use Rattle.predicates_core.specs.Thresholds.{IsOfThreshold};
+ghost use Rattle.predicates_dynamic.specs.Trees.{AllOf, AllLeaves, AllOfTrees, tree_of, trees_of};
+ghost use Rattle.predicates_dynamic.specs.Trees.{Denies, Names, Pairs, Rows, Counts};
 ghost use Rattle.predicates_dynamic.specs.Formulas.{Has, HasFormula};
 
 use crate::check::Check;
 use predicates_core::Predicate;
-use predicates_core::custom::Operator;
+use predicates_core::custom::{Operator, is_settled};
 use std::alloc::{AllocError, Global};
 
 // The `eval` of the check.
@@ -33,6 +34,7 @@ pub(crate) fn holds<L: Predicate<Item>, Item>(
             pair_holds(alloc, right, left, *operator, left_holds, item)
         }
         Check::Row(decides, parts) => row_holds(alloc, parts, *decides, check, item),
+        Check::AtLeast(least, parts) => threshold_holds(alloc, parts, *least, check, item),
     }
 }
 
@@ -108,7 +110,7 @@ fn row_holds<L: Predicate<Item>, Item>(
     ensures truth { IfOk result (HasTruth (Has L.output (λ l. L.formula l item.now) whole.now)) }
     ensures infallible { AllOf (λ l. L.infallible l item.now) whole.now → IsOk result }
 {
-    are_lawful::<L, Item>(parts, decides);
+    are_lawful::<L, Item>(parts);
     parts_hold(alloc, parts, decides, item)
 }
 
@@ -134,8 +136,62 @@ fn parts_hold<L: Predicate<Item>, Item>(
     Ok(!decides)
 }
 
-// Says of each part what is known of the row. It does nothing.
-pub(crate) fn are_lawful<L: Predicate<Item>, Item>(parts: &[Check<L>], decides: bool)
-    requires { AllLeaves L.lawful (Rows decides (trees_of (map tree_of parts.now))) }
+// The same of checks of which at least so many have to hold.
+#[cycle(hold)]
+fn threshold_holds<L: Predicate<Item>, Item>(
+    alloc: Global,
+    parts: &[Check<L>],
+    least: usize,
+    whole: &Check<L>,
+    item: &Item,
+) -> Result<bool, AllocError>
+    requires lawful { AllLeaves L.lawful (Counts least (trees_of (map tree_of parts.now))) }
+    requires whole { tree_of whole.now ≡ Counts least (trees_of (map tree_of parts.now)) }
+    ensures truth { IfOk result (HasTruth (Has L.output (λ l. L.formula l item.now) whole.now)) }
+    ensures infallible { AllOf (λ l. L.infallible l item.now) whole.now → IsOk result }
+{
+    are_lawful::<L, Item>(parts);
+    counted_hold(alloc, parts, least, item)
+}
+
+// The same, as `custom::threshold_holds`.
+#[cycle(hold)]
+fn counted_hold<L: Predicate<Item>, Item>(
+    alloc: Global,
+    parts: &[Check<L>],
+    least: usize,
+    item: &Item,
+) -> Result<bool, AllocError>
+    requires { AllByRecursion (AllOf L.lawful) parts.now }
+    ensures truth { IfOk result (λ held. (text : Entry) → HasTruth (IsOfThreshold least text
+        (codes "rule") (Has L.output (λ l. L.formula l item.now)) parts.now) held) }
+    ensures infallible { AllByRecursion (AllOf (λ l. L.infallible l item.now)) parts.now
+        → IsOk result }
+{
+    if is_settled(least, parts.len()) {
+        return Ok(least <= parts.len());
+    }
+    let spare = parts.len() - least;
+    let mut held = 0usize;
+    let mut failed = 0usize;
+    for part in parts {
+        if holds(alloc, part, item)? {
+            held += 1;
+            if held == least {
+                return Ok(true);
+            }
+        } else {
+            if failed == spare {
+                return Ok(false);
+            }
+            failed += 1;
+        }
+    }
+    Ok(false)
+}
+
+// Says of each part what is known of all. It does nothing.
+pub(crate) fn are_lawful<L: Predicate<Item>, Item>(parts: &[Check<L>])
+    requires { AllOfTrees L.lawful (trees_of (map tree_of parts.now)) }
     ensures { AllByRecursion (AllOf L.lawful) parts.now }
 {}

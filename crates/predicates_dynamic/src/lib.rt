@@ -14,7 +14,6 @@ mod describe;
 mod explain;
 mod hold;
 pub mod semantics;
-mod steps;
 mod take_apart;
 
 pub use check::Check;

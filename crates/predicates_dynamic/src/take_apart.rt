@@ -1,7 +1,7 @@
 //! Steps of the loop by which a check is dropped.
-ghost use Rattle.std.specs.Prelude.{◌≡◌, ◌+◌, ◌<◌, ◌≤◌, ◌++◌, ◌∷◌, [], suc};
+ghost use Rattle.std.specs.Prelude.{◌≡◌, ◌+◌, ◌<◌, ◌≤◌, ◌∷◌, suc};
 ghost use Rattle.std.specs.Prelude.{vec_len, vec_capacity, IfSome};
-ghost use Rattle.predicates_dynamic.specs.Sizes.{size_of, size_left, sizes_of};
+ghost use Rattle.predicates_dynamic.specs.Sizes.{left_of, left_over, size_of, size_left, sizes_of};
 
 use crate::check::Check;
 use predicates_core::custom::Operator;
@@ -36,9 +36,26 @@ pub(crate) fn left_first<L>(
     }
 }
 
-// The last part of a row; the others wait, with what waited in its place.
-pub(crate) fn last_first<L>(
-    decides: bool,
+// The last part of several, where there is one, and else what waits.
+pub(crate) fn parts_apart<L>(
+    mut parts: Vec<Check<L>>,
+    waiting: Option<Check<L>>,
+) -> Option<(Check<L>, Option<Check<L>>)>
+    ensures { IfSome result (λ next. left_over next.0 next.1
+        < left_of (suc (sizes_of parts.items)) waiting) }
+{
+    match parts.pop() {
+        Some(last) => Some(last_first(parts, last, waiting)),
+        None => {
+            parts.destroy_empty();
+            resumed(waiting)
+        }
+    }
+}
+
+// The last part of several; the others wait, as a row, with what waited in its place. A row that is
+// empty does not wait: rows of rows would be taken apart again and again.
+fn last_first<L>(
     parts: Vec<Check<L>>,
     last: Check<L>,
     waiting: Option<Check<L>>,
@@ -48,27 +65,31 @@ pub(crate) fn last_first<L>(
     ensures total { size_of result.0 + size_left result.1
         ≤ size_of last + suc (sizes_of parts.items) + size_left waiting }
 {
+    if parts.is_empty() {
+        parts.destroy_empty();
+        return (last, waiting);
+    }
     let parts = with_waiting(parts, waiting);
-    (last, Some(Check::Row(decides, parts)))
+    (last, Some(Check::Row(true, parts)))
 }
 
-// The parts, and behind them what waits.
+// The parts, and before them what waits: so it waits until they are dropped, and is moved once.
 fn with_waiting<L>(parts: Vec<Check<L>>, waiting: Option<Check<L>>) -> Vec<Check<L>>
     requires { vec_len parts < vec_capacity parts }
     ensures { sizes_of result.items ≡ sizes_of parts.items + size_left waiting }
 {
     match waiting {
         None => parts,
-        Some(rest) => with_last(parts, rest),
+        Some(rest) => with_first(parts, rest),
     }
 }
 
-// The parts and one more, for which there is room.
-fn with_last<L>(mut parts: Vec<Check<L>>, last: Check<L>) -> Vec<Check<L>>
+// One more and the parts, for which there is room.
+fn with_first<L>(mut parts: Vec<Check<L>>, first: Check<L>) -> Vec<Check<L>>
     requires { vec_len parts < vec_capacity parts }
-    ensures { result.items ≡ parts.items ++ last ∷ [] }
+    ensures { result.items ≡ first ∷ parts.items }
 {
-    match parts.push(last) {
+    match parts.insert(0, first) {
         Ok(()) => parts,
         Err(_) => unreachable!(),
     }

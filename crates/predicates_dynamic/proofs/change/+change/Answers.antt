@@ -1,15 +1,19 @@
-use Rattle.std.proofs.Common.{◌≡◌, rules, arith, ap, length, subst, codes, string_bytes}
+use Rattle.std.proofs.Common.{◌≡◌, ◌<◌, [], ◌∷◌, rules, arith, ap, length, length-append, subst, codes, true, false, string_bytes}
 use Rattle.std.proofs.lemmas.Grind.{common_steps}
 use Rattle.std.proofs.lemmas.List.{take_all, nil_from_length}
 use Rattle.predicates_core.specs.Formula.{HasTruth}
 use Rattle.predicates_core.specs.Label.{Fits}
 use Rattle.predicates_core.proofs.ChangeCases.{change_by_result, no_change_of_not, change_of_not, no_change_of_named, change_of_named, no_change_in_turn, change_in_turn}
+use Rattle.predicates_core.specs.Change.{IsChangeOf}
+use Rattle.predicates_core.proofs.ThresholdCases.{Sifted, sifted_passed, sifted_kept, few_sifted, enough_some, absent_counted}
+use Rattle.predicates_core.proofs.ThresholdChanges.{IsOwnChange, own_change, change_of_sifted, settled_change}
 use Rattle.predicates_core.proofs.Several.{passes_more}
 use Rattle.predicates_core.proofs.SeveralChanges.{IsTurned, turned_passed, turned_next, found_turned, change_of_no_member, first_decides, later_decides, found_first, whichever_none, whichever_passed, whichever_first, whichever_turned, whichever_decides, whichever_passes}
 use Rattle.predicates_core.proofs.Values.{other_truths}
 use Rattle.predicates_dynamic.specs.Trees.{Names, tree_of}
 use Rattle.predicates_dynamic.specs.Formulas.{tree_text, check_text, Has}
-use Rattle.predicates_dynamic.proofs.Rows.{change_of_row}
+use Rattle.predicates_dynamic.proofs.Rows.{change_of_row, change_of_counted}
+use Rattle.predicates_dynamic.proofs.change.+change.Goals.{turned_either-then-holds+in_ok-push, turned_either-else-holds+in_ok-push-2}
 use Rattle.predicates_dynamic.proofs.change.+change.Goals as goal
 
 pub not_changed-returns-in_default : goal.not_changed-returns-in_default
@@ -112,3 +116,60 @@ passing_parts-returns g t c = found_first c.args.decides (codes "rule") (Has g.L
 pub passing_parts-loop-part-preserved : goal.passing_parts-loop-part-preserved
 passing_parts-loop-part-preserved g t c = passes_more _ c.in-Some.rest.now c.loop-part.part-index c.part-item.result (omega arith) c.part-item.is c.loop-part.invariant
     (subst (HasTruth _) (other_truths _ _ c.if-branch-decides.false) c.in_ok-holds.ensures.truth)
+
+pub threshold_changed-returns : goal.threshold_changed-returns
+threshold_changed-returns g t c = rw c.requires.whole (change_of_counted g.L.Display.output (λ l. g.L.Predicate.formula l c.args.item.now) c.args.least c.args.parts.now c.args.wanted c.in_ok-found.found (rw c.requires.whole at c.in_ok-found.ensures))
+
+pub counted_changed-returns-then-is_settled : goal.counted_changed-returns-then-is_settled
+counted_changed-returns-then-is_settled g t c = settled_change (check_text g.L.Display.output c.args.whole.now) (codes "rule") (Has g.L.Display.output (λ l. g.L.Predicate.formula l c.args.item.now)) c.args.parts.now c.args.least c.args.wanted c.settled_case.result (c.is_settled.ensures.settled c.if-is_settled.true) c.settled_case.ensures
+
+pub turned_wanted-loop-index-preserved-in_default : goal.turned_wanted-loop-index-preserved-in_default
+turned_wanted-loop-index-preserved-in_default g t c = sifted_passed c.args.expected (Has g.L.Display.output (λ l. g.L.Predicate.formula l c.args.item.now)) (IsOwnChange c.args.expected (codes "rule") (Has g.L.Display.output (λ l. g.L.Predicate.formula l c.args.item.now))) c.args.parts.now c.loop-index.cases.items (omega arith) c.index-parts-index.is c.loop-index.invariant (rw c.in_default.is at c.in_ok-case.ensures)
+
+pub turned_wanted-loop-index-preserved : goal.turned_wanted-loop-index-preserved
+turned_wanted-loop-index-preserved g t c = rw c.in_ok-push.ensures.items (sifted_kept c.args.expected (Has g.L.Display.output (λ l. g.L.Predicate.formula l c.args.item.now)) (IsOwnChange c.args.expected (codes "rule") (Has g.L.Display.output (λ l. g.L.Predicate.formula l c.args.item.now))) c.args.parts.now c.loop-index.cases.items (omega arith) c.index-parts-index.is c.loop-index.invariant (rw c.in-Some.is at c.in_ok-case.ensures) c.in_ok-told.ensures)
+
+pub turned_wanted-returns-then-len-enough : goal.turned_wanted-returns-then-len-enough
+turned_wanted-returns-then-len-enough g t c = few_sifted c.args.expected (Has g.L.Display.output (λ l. g.L.Predicate.formula l c.args.item.now)) (IsOwnChange c.args.expected (codes "rule") (Has g.L.Display.output (λ l. g.L.Predicate.formula l c.args.item.now))) c.loop-index.cases.items c.args.least c.requires.some c.requires.within (subst (λ us. Sifted c.args.expected (Has g.L.Display.output (λ l. g.L.Predicate.formula l c.args.item.now)) (IsOwnChange c.args.expected (codes "rule") (Has g.L.Display.output (λ l. g.L.Predicate.formula l c.args.item.now))) 0 us c.loop-index.cases.items) (take_all c.loop-index.index c.args.parts.now (omega arith)) c.loop-index.invariant)
+    (omega (arith, c.if-len-enough.true, c.len.ensures, c.enough_of-enough.ensures))
+
+pub turned_wanted-returns : goal.turned_wanted-returns
+turned_wanted-returns g t c =
+    let some = enough_some c.args.expected c.args.least _ c.requires.some c.requires.within in
+    change_of_sifted c.args.expected (codes "rule") (Has g.L.Display.output (λ l. g.L.Predicate.formula l c.args.item.now)) c.args.least c.loop-index.cases.items _ c.requires.some c.requires.within (subst (λ us. Sifted c.args.expected (Has g.L.Display.output (λ l. g.L.Predicate.formula l c.args.item.now)) (IsOwnChange c.args.expected (codes "rule") (Has g.L.Display.output (λ l. g.L.Predicate.formula l c.args.item.now))) 0 us c.loop-index.cases.items) (take_all c.loop-index.index c.args.parts.now (omega arith)) c.loop-index.invariant)
+    (omega (arith, c.if-len-enough.false, c.len.ensures, c.enough_of-enough.ensures)) some (omega (arith, c.len-2.ensures, c.enough_of-enough.ensures)) c.in_ok-node_of_first.ensures
+
+pub turned_either-returns-in_default : goal.turned_either-returns-in_default
+turned_either-returns-in_default g t c = absent_counted (Has g.L.Display.output (λ l. g.L.Predicate.formula l c.args.item.now)) c.args.parts.now c.args.least c.requires.some c.requires.within (omega arith) c.index-parts-index.is (rw c.in_default.is at c.in_ok-case.ensures)
+
+pub turned_either-loop-index-preserved : goal.turned_either-loop-index-preserved
+turned_either-loop-index-preserved g t c = elim c.if-holds.branch [
+  | turned_either-then-holds+in_ok-push w ↦
+      let holds : c.in-Some.case.root.result ≡ true = rw (c.result-holds.ensures, c.root.ensures.value) at w.if-holds.true in
+      let change : IsChangeOf (Has g.L.Display.output (λ l. g.L.Predicate.formula l c.args.item.now) c.index-parts-index.result) true c.in-Some.case = own_change holds (rw c.in-Some.is at c.in_ok-case.ensures) in
+      let longer = length-append c.loop-index.held.items (c.in_ok-told.told ∷ []) in (
+        (rw (w.held-is, w.in_ok-push.ensures.items) (sifted_kept true (Has g.L.Display.output (λ l. g.L.Predicate.formula l c.args.item.now)) (IsOwnChange true (codes "rule") (Has g.L.Display.output (λ l. g.L.Predicate.formula l c.args.item.now))) c.args.parts.now c.loop-index.held.items (omega arith) c.index-parts-index.is c.loop-index.invariant.0 change c.in_ok-told.ensures)),
+        (rw w.failed-is (sifted_passed false (Has g.L.Display.output (λ l. g.L.Predicate.formula l c.args.item.now)) (IsOwnChange false (codes "rule") (Has g.L.Display.output (λ l. g.L.Predicate.formula l c.args.item.now))) c.args.parts.now c.loop-index.failed.items (omega arith) c.index-parts-index.is c.loop-index.invariant.1 change.truth)),
+        (rw (w.held-is, w.failed-is, w.in_ok-push.ensures.items) (omega (arith, longer, c.loop-index.invariant.2))),
+      )
+  | turned_either-else-holds+in_ok-push-2 w ↦
+      let holds : c.in-Some.case.root.result ≡ false = rw (c.result-holds.ensures, c.root.ensures.value) at w.if-holds.false in
+      let change : IsChangeOf (Has g.L.Display.output (λ l. g.L.Predicate.formula l c.args.item.now) c.index-parts-index.result) false c.in-Some.case = own_change holds (rw c.in-Some.is at c.in_ok-case.ensures) in
+      let longer = length-append c.loop-index.failed.items (c.in_ok-told.told ∷ []) in (
+        (rw w.held-is (sifted_passed true (Has g.L.Display.output (λ l. g.L.Predicate.formula l c.args.item.now)) (IsOwnChange true (codes "rule") (Has g.L.Display.output (λ l. g.L.Predicate.formula l c.args.item.now))) c.args.parts.now c.loop-index.held.items (omega arith) c.index-parts-index.is c.loop-index.invariant.0 change.truth)),
+        (rw (w.failed-is, w.in_ok-push-2.ensures.items) (sifted_kept false (Has g.L.Display.output (λ l. g.L.Predicate.formula l c.args.item.now)) (IsOwnChange false (codes "rule") (Has g.L.Display.output (λ l. g.L.Predicate.formula l c.args.item.now))) c.args.parts.now c.loop-index.failed.items (omega arith) c.index-parts-index.is c.loop-index.invariant.1 change c.in_ok-told.ensures)),
+        (rw (w.held-is, w.failed-is, w.in_ok-push-2.ensures.items) (omega (arith, longer, c.loop-index.invariant.2))),
+      )
+]
+
+pub turned_either-returns-then-len-least : goal.turned_either-returns-then-len-least
+turned_either-returns-then-len-least g t c = change_by_result (change_of_sifted true (codes "rule") (Has g.L.Display.output (λ l. g.L.Predicate.formula l c.args.item.now)) c.args.least c.loop-index.held.items _ c.requires.some c.requires.within (subst (λ us. Sifted true (Has g.L.Display.output (λ l. g.L.Predicate.formula l c.args.item.now)) (IsOwnChange true (codes "rule") (Has g.L.Display.output (λ l. g.L.Predicate.formula l c.args.item.now))) 0 us c.loop-index.held.items) (take_all c.loop-index.index c.args.parts.now (omega arith)) c.loop-index.invariant.0)
+    (omega (arith, c.if-len-least.true, c.len.ensures)) c.requires.some (omega (arith, c.len-then-len-least.ensures)) c.in_ok-node_of_first.ensures)
+
+pub turned_either-returns : goal.turned_either-returns
+turned_either-returns g t c =
+    let few : length c.loop-index.held.items < c.args.least = omega (arith, c.if-len-least.false, c.len.ensures) in
+    let end : c.loop-index.index ≡ length c.args.parts.now = omega (arith, c.loop-index-test.false, c.loop-index.auto.index-end) in
+    let some = enough_some false c.args.least _ c.requires.some c.requires.within in
+    change_by_result (change_of_sifted false (codes "rule") (Has g.L.Display.output (λ l. g.L.Predicate.formula l c.args.item.now)) c.args.least c.loop-index.failed.items _ c.requires.some c.requires.within (subst (λ us. Sifted false (Has g.L.Display.output (λ l. g.L.Predicate.formula l c.args.item.now)) (IsOwnChange false (codes "rule") (Has g.L.Display.output (λ l. g.L.Predicate.formula l c.args.item.now))) 0 us c.loop-index.failed.items) (take_all c.loop-index.index c.args.parts.now (omega arith)) c.loop-index.invariant.1)
+    (omega (arith, few, end, c.loop-index.invariant.2, c.requires.within)) some (omega (arith, c.len-2.ensures, c.enough_of.ensures)) c.in_ok-node_of_first-2.ensures)

@@ -1,6 +1,8 @@
-use Rattle.std.proofs.Common.{take, codes}
+use Rattle.std.proofs.Common.{take, codes, length, true, false, ◌+◌, ◌≡◌}
 use Rattle.predicates_core.proofs.Several.{EachPasses}
 use Rattle.predicates_core.proofs.SeveralChanges.{IsTurned, IsWhichever}
+use Rattle.predicates_core.proofs.ThresholdCases.{Sifted}
+use Rattle.predicates_core.proofs.ThresholdChanges.{IsOwnChange}
 use Rattle.predicates_dynamic.specs.Formulas.{check_text, Has}
 use Rattle.predicates_dynamic.proofs.change.+change.Given as goal
 
@@ -12,3 +14,11 @@ invariant-passing_parts-loop-part g l = EachPasses l.decides (codes "rule") (Has
 
 abbrev pub invariant-whichever_parts-loop-index : goal.invariant-whichever_parts-loop-index
 invariant-whichever_parts-loop-index g l = IsWhichever l.decides (codes "rule") (Has g.L.Display.output (λ x. g.L.Predicate.formula x l.item)) (check_text g.L.Display.output l.whole) l.parts l.index l.first l.found
+
+abbrev pub invariant-turned_wanted-loop-index : goal.invariant-turned_wanted-loop-index
+invariant-turned_wanted-loop-index g l = Sifted l.expected (Has g.L.Display.output (λ x. g.L.Predicate.formula x l.item)) (IsOwnChange l.expected (codes "rule") (Has g.L.Display.output (λ x. g.L.Predicate.formula x l.item))) 0 (take l.index l.parts) l.cases.items
+
+abbrev pub invariant-turned_either-loop-index : goal.invariant-turned_either-loop-index
+invariant-turned_either-loop-index g l = Sifted true (Has g.L.Display.output (λ x. g.L.Predicate.formula x l.item)) (IsOwnChange true (codes "rule") (Has g.L.Display.output (λ x. g.L.Predicate.formula x l.item))) 0 (take l.index l.parts) l.held.items
+    × Sifted false (Has g.L.Display.output (λ x. g.L.Predicate.formula x l.item)) (IsOwnChange false (codes "rule") (Has g.L.Display.output (λ x. g.L.Predicate.formula x l.item))) 0 (take l.index l.parts) l.failed.items
+    × (length l.held.items + length l.failed.items ≡ l.index)

@@ -1,9 +1,10 @@
 use Rattle.std.proofs.Common.{◌≡◌, arith, map, Ok, subst}
 use Rattle.std.proofs.lemmas.List.{take_all}
 use Rattle.std.specs.Fmt.{DisplaysOnOk}
+use Rattle.predicates_core.specs.Several.{further_texts}
 use Rattle.predicates_dynamic.specs.Formulas.{check_text}
 use Rattle.predicates_dynamic.specs.Listed.{joined_texts}
-use Rattle.predicates_dynamic.proofs.Listing.{nothing_written, text_behind, joined_more, row_is}
+use Rattle.predicates_dynamic.proofs.Listing.{nothing_written, text_behind, joined_more, further_more, row_is, counted_is}
 use Rattle.predicates_dynamic.proofs.check.+text.Goals as goal
 
 pub Check::fmt_row-returns : goal.Check::fmt_row-returns
@@ -27,3 +28,16 @@ Check::fmt_parts-loop-index-preserved g t c = joined_more g.W.Write.write_str_gi
 
 pub Check::fmt_parts-returns : goal.Check::fmt_parts-returns
 Check::fmt_parts-returns g t c = subst (λ us. DisplaysOnOk g.W.Write.write_str_gives c.args.f.now (Ok tt) (joined_texts (map (check_text g.L.Display.output) us)) c.loop-index.f) (take_all c.loop-index.index c.args.parts.now (omega arith)) c.loop-index.invariant
+
+pub Check::fmt_further-loop-part-init : goal.Check::fmt_further-loop-part-init
+Check::fmt_further-loop-part-init g t c = nothing_written g.W.Write.write_str_gives c.args.f.now
+
+pub Check::fmt_further-loop-part-preserved : goal.Check::fmt_further-loop-part-preserved
+Check::fmt_further-loop-part-preserved g t c = further_more g.W.Write.write_str_gives (check_text g.L.Display.output) c.args.parts.now c.loop-part.part-index c.part-item.result c.args.f.now c.loop-part.f c.fmt_part.new.f
+    (omega arith) c.part-item.is c.loop-part.invariant c.in_ok-fmt_part.ensures
+
+pub Check::fmt_further-returns : goal.Check::fmt_further-returns
+Check::fmt_further-returns g t c = subst (λ us. DisplaysOnOk g.W.Write.write_str_gives c.args.f.now (Ok tt) (further_texts (map (check_text g.L.Display.output) us)) c.loop-part.f) (take_all c.loop-part.part-index c.args.parts.now (omega arith)) c.loop-part.invariant
+
+pub Check::fmt_counted-returns : goal.Check::fmt_counted-returns
+Check::fmt_counted-returns g t c = rw (counted_is g.L.Display.output c.args.least c.args.parts.now) c.fmt_threshold.ensures

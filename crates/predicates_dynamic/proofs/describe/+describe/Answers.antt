@@ -1,18 +1,16 @@
-use Rattle.std.proofs.Common.{◌≡◌, arith, codes, subst}
-use Rattle.predicates_core.specs.Tree.{empty}
+use Rattle.std.proofs.Common.{arith, codes, sym, ◌∙◌}
 use Rattle.std.proofs.lemmas.List.{take_all}
 use Rattle.predicates_core.proofs.EachPart.{fits_more}
 use Rattle.predicates_dynamic.specs.Formulas.{check_text}
-use Rattle.predicates_dynamic.specs.Described.{tree_parts, check_parameters, check_parts}
+use Rattle.predicates_dynamic.specs.Described.{check_parameters, check_parts}
 use Rattle.predicates_dynamic.proofs.Listing.{each_described, no_parts}
 use Rattle.predicates_dynamic.proofs.describe.+describe.Goals as goal
 
-pub row_children-returns-clause-fits : goal.row_children-returns-clause-fits
-row_children-returns-clause-fits g t c = rw c.requires (rw (each_described g.L.Display.output g.L.PredicateReflection.parameters_of g.L.PredicateReflection.children_of c.args.parts.now) c.each_part.ensures.fits)
+pub parts_children-returns-clause-fits : goal.parts_children-returns-clause-fits
+parts_children-returns-clause-fits g t c = rw c.requires (rw (each_described g.L.Display.output g.L.PredicateReflection.parameters_of g.L.PredicateReflection.children_of c.args.parts.now) c.each_part.ensures.fits)
 
-pub row_children-returns-clause-none : goal.row_children-returns-clause-none
-row_children-returns-clause-none g t c = λ none. c.each_part.ensures.none (no_parts g.L.Display.output g.L.PredicateReflection.parameters_of g.L.PredicateReflection.children_of c.args.parts.now
-    (subst (λ z. tree_parts g.L.Display.output g.L.PredicateReflection.parameters_of g.L.PredicateReflection.children_of z ≡ empty) c.requires none))
+pub parts_children-returns-clause-none : goal.parts_children-returns-clause-none
+parts_children-returns-clause-none g t c = λ none. c.each_part.ensures.none (no_parts g.L.Display.output g.L.PredicateReflection.parameters_of g.L.PredicateReflection.children_of c.args.parts.now (sym c.requires ∙ none))
 
 pub each_part-loop-part-init : goal.each_part-loop-part-init
 each_part-loop-part-init g t c = rw c.new-children.ensures.items tt

@@ -1,13 +1,16 @@
-use Rattle.std.proofs.Common.{◌≡◌, rules, arith, subst, codes, take, string_bytes}
+use Rattle.std.proofs.Common.{◌≡◌, ◌+◌, rules, arith, refl, subst, codes, true, false, Some, take, string_bytes}
 use Rattle.std.proofs.lemmas.Grind.{common_steps}
 use Rattle.std.proofs.lemmas.List.{take_all, nil_from_length}
 use Rattle.predicates_core.specs.Label.{Fits}
 use Rattle.predicates_core.proofs.Asked.{none_in_turn, case_in_turn}
-use Rattle.predicates_core.proofs.Found.{none_of_not, case_of_not, none_of_named, case_of_named}
+use Rattle.predicates_core.specs.Shows.{IsCaseOf}
+use Rattle.predicates_core.proofs.Found.{case_by_result, none_of_not, case_of_not, none_of_named, case_of_named}
+use Rattle.predicates_core.proofs.ThresholdCases.{sift_none, sift_passed, sift_kept, sifted_case, sifted_few, enough_some, settled_found, own_case, absent_counted}
 use Rattle.predicates_core.proofs.Several.{decided_case, members_pass, passes_more, passes_all, member_missing, case_of_other, passes_by_cases, IsBuilt, built_none, built_more, case_of_built, wanted_other, case_of_none, found_decided}
 use Rattle.predicates_dynamic.specs.Trees.{Names, tree_of}
 use Rattle.predicates_dynamic.specs.Formulas.{tree_text, check_text, Has}
-use Rattle.predicates_dynamic.proofs.Rows.{found_of_row}
+use Rattle.predicates_dynamic.proofs.Rows.{found_of_row, found_of_counted}
+use Rattle.predicates_dynamic.proofs.explain.+explain.Goals.{counted_either-then-holds+in_ok-held_node+else-held-least, counted_either-else-holds+in_ok-failed_node+else-failed-most}
 use Rattle.predicates_dynamic.proofs.explain.+explain.Goals as goal
 
 pub not_explained-returns-in_default : goal.not_explained-returns-in_default
@@ -88,3 +91,81 @@ pub every_part-returns : goal.every_part-returns
 every_part-returns g t c = wanted_other c.args.decides (codes "rule") (Has g.L.Display.output (λ l. g.L.Predicate.formula l c.args.item.now)) c.args.wanted c.requires.other
     (case_of_built c.args.decides (codes "rule") (Has g.L.Display.output (λ l. g.L.Predicate.formula l c.args.item.now)) (check_text g.L.Display.output c.args.whole.now) c.requires.some
     (subst (λ us. IsBuilt c.args.decides (codes "rule") (Has g.L.Display.output (λ l. g.L.Predicate.formula l c.args.item.now)) (check_text g.L.Display.output c.args.whole.now) us c.loop-index.node) (take_all c.loop-index.index c.args.parts.now (omega arith)) c.loop-index.invariant))
+
+pub threshold_explained-returns : goal.threshold_explained-returns
+threshold_explained-returns g t c = rw c.requires.whole (found_of_counted g.L.Display.output (λ l. g.L.Predicate.formula l c.args.item.now) c.args.least c.args.parts.now c.args.wanted c.in_ok-found.found (rw c.requires.whole at c.in_ok-found.ensures))
+
+pub counted_either-loop-index-init : goal.counted_either-loop-index-init
+counted_either-loop-index-init g t c =
+    let some = c.is_settled.ensures.some c.if-is_settled.false in
+    let e = enough_some false c.args.least _ some (c.is_settled.ensures.within c.if-is_settled.false) in
+    (sift_none true (Has g.L.Display.output (λ l. g.L.Predicate.formula l c.args.item.now)) c.leaf_node-held_node.ensures c.in_ok-printed.ensures, sift_none false (Has g.L.Display.output (λ l. g.L.Predicate.formula l c.args.item.now)) c.leaf_node-failed_node.ensures c.in_ok-printed-2.ensures, refl, omega (arith, some), rw c.enough_of-most.ensures e)
+
+pub counted_either-returns-in_default : goal.counted_either-returns-in_default
+counted_either-returns-in_default g t c = absent_counted (Has g.L.Display.output (λ l. g.L.Predicate.formula l c.args.item.now)) c.args.parts.now c.args.least (c.is_settled.ensures.some c.if-is_settled.false) (c.is_settled.ensures.within c.if-is_settled.false) (omega arith) c.index-parts-index.is (rw c.in_default.is at c.in_ok-case.ensures)
+
+pub counted_either-returns-then-held-least : goal.counted_either-returns-then-held-least
+counted_either-returns-then-held-least g t c =
+    let holds : c.in-Some.case.root.result ≡ true = rw (c.result-holds.ensures, c.root.ensures.value) at c.if-holds.true in
+    case_by_result (sifted_case true (Has g.L.Display.output (λ l. g.L.Predicate.formula l c.args.item.now)) (c.loop-index.index + 1) c.args.least (c.is_settled.ensures.some c.if-is_settled.false) (c.is_settled.ensures.within c.if-is_settled.false)
+    (sift_kept true (Has g.L.Display.output (λ l. g.L.Predicate.formula l c.args.item.now)) c.args.parts.now (omega arith) c.index-parts-index.is c.loop-index.invariant.0 (own_case holds (rw c.in-Some.is at c.in_ok-case.ensures)) c.in_ok-told.ensures c.in_ok-held_node.ensures)
+    (omega (arith, c.if-held-least.true)))
+
+pub counted_either-returns-then-failed-most : goal.counted_either-returns-then-failed-most
+counted_either-returns-then-failed-most g t c =
+    let holds : c.in-Some.case.root.result ≡ false = rw (c.result-holds.ensures, c.root.ensures.value) at c.if-holds.false in
+    case_by_result (sifted_case false (Has g.L.Display.output (λ l. g.L.Predicate.formula l c.args.item.now)) (c.loop-index.index + 1) c.args.least (c.is_settled.ensures.some c.if-is_settled.false) (c.is_settled.ensures.within c.if-is_settled.false)
+    (sift_kept false (Has g.L.Display.output (λ l. g.L.Predicate.formula l c.args.item.now)) c.args.parts.now (omega arith) c.index-parts-index.is c.loop-index.invariant.1 (own_case holds (rw c.in-Some.is at c.in_ok-case.ensures)) c.in_ok-told.ensures c.in_ok-failed_node.ensures)
+    (omega (arith, c.if-failed-most.true, c.enough_of-most.ensures)))
+
+pub counted_either-loop-index-preserved : goal.counted_either-loop-index-preserved
+counted_either-loop-index-preserved g t c = elim c.if-holds.branch [
+  | counted_either-then-holds+in_ok-held_node+else-held-least w ↦
+      let holds : c.in-Some.case.root.result ≡ true = rw (c.result-holds.ensures, c.root.ensures.value) at w.if-holds.true in
+      let case : IsCaseOf (Has g.L.Display.output (λ l. g.L.Predicate.formula l c.args.item.now) c.index-parts-index.result) true c.in-Some.case = own_case holds (rw c.in-Some.is at c.in_ok-case.ensures) in (
+        rw (w.held_node-is, w.held-is) (sift_kept true (Has g.L.Display.output (λ l. g.L.Predicate.formula l c.args.item.now)) c.args.parts.now (omega arith) c.index-parts-index.is c.loop-index.invariant.0 case c.in_ok-told.ensures w.in_ok-held_node.ensures),
+        rw (w.failed_node-is, w.failed-is) (sift_passed false (Has g.L.Display.output (λ l. g.L.Predicate.formula l c.args.item.now)) c.args.parts.now (omega arith) c.index-parts-index.is c.loop-index.invariant.1 case.truth),
+        omega (arith, c.loop-index.invariant.2, w.held-is, w.failed-is),
+        omega (arith, c.loop-index.invariant.3, w.held-is, w.if-held-least.false),
+        omega (arith, c.loop-index.invariant.4, w.failed-is),
+      )
+  | counted_either-else-holds+in_ok-failed_node+else-failed-most w ↦
+      let holds : c.in-Some.case.root.result ≡ false = rw (c.result-holds.ensures, c.root.ensures.value) at w.if-holds.false in
+      let case : IsCaseOf (Has g.L.Display.output (λ l. g.L.Predicate.formula l c.args.item.now) c.index-parts-index.result) false c.in-Some.case = own_case holds (rw c.in-Some.is at c.in_ok-case.ensures) in (
+        rw (w.held_node-is, w.held-is) (sift_passed true (Has g.L.Display.output (λ l. g.L.Predicate.formula l c.args.item.now)) c.args.parts.now (omega arith) c.index-parts-index.is c.loop-index.invariant.0 case.truth),
+        rw (w.failed_node-is, w.failed-is) (sift_kept false (Has g.L.Display.output (λ l. g.L.Predicate.formula l c.args.item.now)) c.args.parts.now (omega arith) c.index-parts-index.is c.loop-index.invariant.1 case c.in_ok-told.ensures w.in_ok-failed_node.ensures),
+        omega (arith, c.loop-index.invariant.2, w.held-is, w.failed-is),
+        omega (arith, c.loop-index.invariant.3, w.held-is),
+        omega (arith, c.loop-index.invariant.4, w.failed-is, w.if-failed-most.false),
+      )
+]
+
+pub counted_wanted-returns-then-is_settled : goal.counted_wanted-returns-then-is_settled
+counted_wanted-returns-then-is_settled g t c = settled_found (check_text g.L.Display.output c.args.whole.now) (codes "rule") (Has g.L.Display.output (λ l. g.L.Predicate.formula l c.args.item.now)) c.args.parts.now c.args.least (Some c.args.expected) c.settled_case.result (c.is_settled.ensures.settled c.if-is_settled.true) c.settled_case.ensures
+
+pub counted_wanted-loop-index-init : goal.counted_wanted-loop-index-init
+counted_wanted-loop-index-init g t c =
+    let e = enough_some c.args.expected c.args.least _ (c.is_settled.ensures.some c.if-is_settled.false) (c.is_settled.ensures.within c.if-is_settled.false) in
+    (sift_none c.args.expected (Has g.L.Display.output (λ l. g.L.Predicate.formula l c.args.item.now)) c.leaf_node-node.ensures c.in_ok-printed.ensures, rw c.enough_of-enough.ensures e)
+
+pub counted_wanted-loop-index-preserved-in_default : goal.counted_wanted-loop-index-preserved-in_default
+counted_wanted-loop-index-preserved-in_default g t c =
+    (sift_passed c.args.expected (Has g.L.Display.output (λ l. g.L.Predicate.formula l c.args.item.now)) c.args.parts.now (omega arith) c.index-parts-index.is c.loop-index.invariant.0 (rw c.in_default.is at c.in_ok-case.ensures), c.loop-index.invariant.1)
+
+pub counted_wanted-overflow_add-kept : goal.counted_wanted-overflow_add-kept
+counted_wanted-overflow_add-kept g t c = omega (arith, c.loop-index.invariant.1)
+
+pub counted_wanted-returns-then-kept-enough : goal.counted_wanted-returns-then-kept-enough
+counted_wanted-returns-then-kept-enough g t c =
+    sifted_case c.args.expected (Has g.L.Display.output (λ l. g.L.Predicate.formula l c.args.item.now)) (c.loop-index.index + 1) c.args.least (c.is_settled.ensures.some c.if-is_settled.false) (c.is_settled.ensures.within c.if-is_settled.false)
+    (sift_kept c.args.expected (Has g.L.Display.output (λ l. g.L.Predicate.formula l c.args.item.now)) c.args.parts.now (omega arith) c.index-parts-index.is c.loop-index.invariant.0 (rw c.in-Some.is at c.in_ok-case.ensures) c.in_ok-told.ensures c.in_ok-node.ensures)
+    (omega (arith, c.enough_of-enough.ensures))
+
+pub counted_wanted-loop-index-preserved : goal.counted_wanted-loop-index-preserved
+counted_wanted-loop-index-preserved g t c =
+    (sift_kept c.args.expected (Has g.L.Display.output (λ l. g.L.Predicate.formula l c.args.item.now)) c.args.parts.now (omega arith) c.index-parts-index.is c.loop-index.invariant.0 (rw c.in-Some.is at c.in_ok-case.ensures) c.in_ok-told.ensures c.in_ok-node.ensures, omega (arith, c.loop-index.invariant.1))
+
+pub counted_wanted-returns : goal.counted_wanted-returns
+counted_wanted-returns g t c =
+    sifted_few c.args.expected (Has g.L.Display.output (λ l. g.L.Predicate.formula l c.args.item.now)) c.args.least (c.is_settled.ensures.some c.if-is_settled.false) (c.is_settled.ensures.within c.if-is_settled.false)
+    (omega arith) c.loop-index.invariant.0 (rw (← c.enough_of-enough.ensures) c.loop-index.invariant.1)

@@ -1,12 +1,14 @@
-use Rattle.std.proofs.Common.{◌≡◌, rules, arith, refl, subst, codes}
+use Rattle.std.proofs.Common.{◌≡◌, rules, arith, refl, subst, codes, true, false}
 use Rattle.predicates_core.specs.Formula.{HasTruth}
 use Rattle.predicates_core.proofs.Values.{same_truths, other_truths}
 use Rattle.predicates_core.proofs.Asked.{truth_of_pair}
 use Rattle.predicates_core.proofs.CombinedLemmas.{HasTruth-not, HasTruth-named}
 use Rattle.predicates_core.proofs.Several.{member_decides, members_pass, passes_more, passes_all}
+use Rattle.predicates_core.proofs.ThresholdCases.{HasTruth-settled, decided_next, tally_held, tally_failed}
 use Rattle.predicates_dynamic.specs.Trees.{AllLeaves, Names, tree_of}
 use Rattle.predicates_dynamic.specs.Formulas.{Has}
-use Rattle.predicates_dynamic.proofs.Rows.{each_part, verdict_of_row, truth_of_first}
+use Rattle.predicates_dynamic.proofs.Rows.{each_part, verdict_of_row, verdict_of_counted, truth_of_first}
+use Rattle.predicates_dynamic.proofs.hold.+hold.Goals.{counted_hold-then-branch+else-held-least, counted_hold-else-branch+else-failed-spare}
 use Rattle.predicates_dynamic.proofs.hold.+hold.Goals as goal
 
 pub not_holds-returns-clause-truth : goal.not_holds-returns-clause-truth
@@ -42,3 +44,34 @@ parts_hold-loop-part-preserved g t c = passes_more _ c.args.parts.now c.loop-par
 pub parts_hold-returns-clause-truth : goal.parts_hold-returns-clause-truth
 parts_hold-returns-clause-truth g t c = λ text. members_pass c.args.decides (codes "rule") (Has g.L.Display.output (λ l. g.L.Predicate.formula l c.args.item.now)) c.args.parts.now
     (passes_all _ c.args.parts.now c.loop-part.part-index (omega arith) c.loop-part.invariant)
+
+pub threshold_holds-returns-clause-truth : goal.threshold_holds-returns-clause-truth
+threshold_holds-returns-clause-truth g t c = rw c.requires.whole (verdict_of_counted g.L.Display.output (λ l. g.L.Predicate.formula l c.args.item.now) c.args.least c.args.parts.now c.counted_hold.result c.counted_hold.ensures.truth)
+
+pub threshold_holds-returns-clause-infallible : goal.threshold_holds-returns-clause-infallible
+threshold_holds-returns-clause-infallible g t c = λ h. c.counted_hold.ensures.infallible (each_part (λ l. g.L.Predicate.infallible l c.args.item.now) c.args.parts.now (subst (AllLeaves (λ l. g.L.Predicate.infallible l c.args.item.now)) c.requires.whole h))
+
+pub counted_hold-returns-then-is_settled-clause-truth : goal.counted_hold-returns-then-is_settled-clause-truth
+counted_hold-returns-then-is_settled-clause-truth g t c = λ text. HasTruth-settled _ (Has g.L.Display.output (λ l. g.L.Predicate.formula l c.args.item.now)) c.args.least (c.is_settled.ensures.settled c.if-is_settled.true) refl
+
+pub counted_hold-returns-then-held-least-clause-truth : goal.counted_hold-returns-then-held-least-clause-truth
+counted_hold-returns-then-held-least-clause-truth g t c = λ text. decided_next (Has g.L.Display.output (λ l. g.L.Predicate.formula l c.args.item.now)) true c.args.parts.now c.loop-part.part-index c.loop-part.held c.part-item.result c.args.least
+    (c.is_settled.ensures.some c.if-is_settled.false) (c.is_settled.ensures.within c.if-is_settled.false) (omega arith) c.part-item.is c.loop-part.invariant.0
+    (subst (HasTruth _) c.if-branch.true c.in_ok-holds.ensures.truth) (omega (arith, c.if-held-least.true))
+
+pub counted_hold-returns-then-failed-spare-clause-truth : goal.counted_hold-returns-then-failed-spare-clause-truth
+counted_hold-returns-then-failed-spare-clause-truth g t c = λ text. let within = c.is_settled.ensures.within c.if-is_settled.false in decided_next (Has g.L.Display.output (λ l. g.L.Predicate.formula l c.args.item.now)) false c.args.parts.now c.loop-part.part-index c.loop-part.failed c.part-item.result c.args.least
+    (c.is_settled.ensures.some c.if-is_settled.false) within (omega arith) c.part-item.is c.loop-part.invariant.1
+    (subst (HasTruth _) c.if-branch.false c.in_ok-holds.ensures.truth) (omega (arith, within, c.if-failed-spare.true))
+
+pub counted_hold-loop-part-preserved : goal.counted_hold-loop-part-preserved
+counted_hold-loop-part-preserved g t c = elim c.if-branch.branch [
+  | counted_hold-then-branch+else-held-least w ↦
+      let t = tally_held (Has g.L.Display.output (λ l. g.L.Predicate.formula l c.args.item.now)) c.args.parts.now c.loop-part.part-index c.part-item.result c.loop-part.held c.loop-part.failed c.if-branch.held c.if-branch.failed (omega arith) c.part-item.is c.loop-part.invariant.0 c.loop-part.invariant.1
+      (subst (HasTruth _) w.if-branch.true c.in_ok-holds.ensures.truth) (omega (arith, w.held-is)) (omega (arith, w.failed-is)) in
+      (t.0, t.1, omega (arith, c.loop-part.invariant.2, w.held-is, w.failed-is), omega (arith, c.loop-part.invariant.3, w.held-is, w.if-held-least.false), omega (arith, c.loop-part.invariant.4, w.failed-is))
+  | counted_hold-else-branch+else-failed-spare w ↦
+      let t = tally_failed (Has g.L.Display.output (λ l. g.L.Predicate.formula l c.args.item.now)) c.args.parts.now c.loop-part.part-index c.part-item.result c.loop-part.held c.loop-part.failed c.if-branch.held c.if-branch.failed (omega arith) c.part-item.is c.loop-part.invariant.0 c.loop-part.invariant.1
+      (subst (HasTruth _) w.if-branch.false c.in_ok-holds.ensures.truth) (omega (arith, w.held-is)) (omega (arith, w.failed-is)) in
+      (t.0, t.1, omega (arith, c.loop-part.invariant.2, w.held-is, w.failed-is), omega (arith, c.loop-part.invariant.3, w.held-is), omega (arith, c.loop-part.invariant.4, w.failed-is, w.if-failed-spare.false))
+]
