@@ -2,12 +2,14 @@
 use Rattle.std.proofs.Common.{◌≡◌, ℕ, zero, suc, ◌≤◌, List, ◌∷◌, length, None, Ok, refl, ◌∙◌, arith}
 use Rattle.predicates_rules.specs.declared.expression.Connective.{Connective}
 use Rattle.predicates_rules.specs.declared.expression.Connective.TheVariants.{Or}
-use Rattle.predicates_rules.specs.Trees.{Value, Sign, Join, Test, Tree, Trees, none, more}
-use Rattle.predicates_rules.specs.Grammar.{Level, By, tighter, Items, last, another, IsTest, word, compare, relate, among_none, among, Spells, test, denied, group, quantified, alone, joined, Follow, no_more, and_more, IsSpelled}
-use Rattle.predicates_rules.specs.Reading.{Answer, literal_at, items_at, list_at, after_bracket, text_at, test_at, path_at, after_open, after_close, after_join, with_next, parts_at, join, chain, single, at_level, below, ended, all_of}
+use Rattle.predicates_rules.specs.declared.parser.Separator.{Separator}
+use Rattle.predicates_rules.specs.declared.parser.Separator.TheVariants as separators
+use Rattle.predicates_rules.specs.Trees.{Value, Sign, Close, Test, Tree, AtLeast, Trees, none, more}
+use Rattle.predicates_rules.specs.Grammar.{Level, By, tighter, separator_sign, part_level, Items, last, another, IsTest, word, compare, relate, among_none, among, each, any, at_least_items, Spells, test, denied, group, quantified, at_least, alone, joined, Follow, no_more, and_more, IsSpelled}
+use Rattle.predicates_rules.specs.Reading.{Answer, literal_at, items_at, list_at, after_bracket, text_at, test_at, path_at, after_open, after_close, after_least, count_at, after_separator, with_next, parts_at, join, chain, listed, counted, threshold, single, at_level, below, ended, all_of}
 use Rattle.predicates_rules.specs.Reading as reading
 use Rattle.predicates_rules.proofs.Lengths.{spells_shortens}
-use Rattle.predicates_rules.proofs.Steps.{level_step, Stops, stops_here, stops_inside, stops_at_join, stops_at_close, stops_at_end, join_found}
+use Rattle.predicates_rules.proofs.Steps.{level_step, Stops, stops_at_close, stops_at_end, Ends, ends_here, ends_inside, stops_at_separator, row_ends_at_close, separator_found}
 
 items_again : {ts : List Sign} {vs : List Value} {rest : List Sign} → Items ts vs rest → items_at ts ≡ Ok (vs, rest)
 unfolding items_at
@@ -28,44 +30,55 @@ test_again among_none = refl
 test_again (among i) = rw (list_again i) refl
 
 -- a part, and then those that follow
-parts_join : (c : Connective) (part : List Sign → Answer) (ts us rest : List Sign) (e : Tree) (es : Trees) → part ts ≡ Ok (e, us) → parts_at (length us) c part us ≡ Ok (es, rest) → chain c part ts ≡ Ok (join c e es, rest)
+parts_join : (c : Connective) (part : List Sign → Answer) (ts us rest : List Sign) (e : Tree) (es : Trees) → part ts ≡ Ok (e, us) → parts_at (length us) (separators.Connective c) part us ≡ Ok (es, rest) → chain c part ts ≡ Ok (join c e es, rest)
 unfolding chain
 parts_join c part ts us rest e es p q = rw (p, q) refl
 
-no_parts : (k : ℕ) (c : Connective) (part : List Sign → Answer) (ts : List Sign) → after_join c ts ≡ None → parts_at k c part ts ≡ Ok (none, ts)
-unfolding parts_at
-no_parts zero c part ts s = refl
-no_parts (suc k) c part ts s = rw s refl
+parts_listed : (deeper : Level → List Sign → Answer) (k : ℕ) (ts us rest : List Sign) (e : Tree) (es : Trees) → deeper (By Or) ts ≡ Ok (e, us) → parts_at (length us) separators.Comma (deeper (By Or)) us ≡ Ok (es, Close ∷ rest)
+    → listed deeper k ts ≡ Ok (AtLeast k (more e es), rest)
+unfolding listed after_close
+parts_listed deeper k ts us rest e es p q = rw (p, q) refl
 
-next_part : (k : ℕ) (c : Connective) (part : List Sign → Answer) (ts us rest : List Sign) (e : Tree) (es : Trees) → part ts ≡ Ok (e, us) → parts_at k c part us ≡ Ok (es, rest) → parts_at (suc k) c part (Join c ∷ ts) ≡ Ok (more e es, rest)
+no_parts : (k : ℕ) (s : Separator) (part : List Sign → Answer) (ts : List Sign) → after_separator s ts ≡ None → parts_at k s part ts ≡ Ok (none, ts)
 unfolding parts_at
-next_part k c part ts us rest e es p q = rw (join_found c ts, p, q) refl
+no_parts zero s part ts p = refl
+no_parts (suc k) s part ts p = rw p refl
 
--- where parts follow, what binds tighter stops
-follow_stops : {n : ℕ} {c : Connective} {ts : List Sign} {es : Trees} {rest : List Sign} → Follow n c ts es rest → Stops (By c) rest → Stops (tighter c) ts
-follow_stops (no_more {c = c} {rest = rest}) s = stops_inside c rest s
-follow_stops (and_more {c = c} {ts = ts} d f) s = stops_at_join c ts
+next_part : (k : ℕ) (s : Separator) (part : List Sign → Answer) (ts us rest : List Sign) (e : Tree) (es : Trees) → part ts ≡ Ok (e, us) → parts_at k s part us ≡ Ok (es, rest) → parts_at (suc k) s part (separator_sign s ∷ ts) ≡ Ok (more e es, rest)
+unfolding parts_at
+next_part k s part ts us rest e es p q = rw (separator_found s ts, p, q) refl
+
+-- where parts follow, the one before them stops
+follow_stops : {n : ℕ} {s : Separator} {ts : List Sign} {es : Trees} {rest : List Sign} → Follow n s ts es rest → Ends s rest → Stops (part_level s) ts
+follow_stops (no_more {s = s} {rest = rest}) e = ends_inside s rest e
+follow_stops (and_more {s = s} {ts = ts} d f) e = stops_at_separator s ts
 
 mutual
-  unfolding at_level single reading.group reading.quantified path_at after_open after_close below
+  unfolding at_level single threshold counted count_at after_least reading.group reading.quantified path_at after_open after_close below
 
   pub spells_again : {n : ℕ} {l : Level} {ts : List Sign} {e : Tree} {rest : List Sign} → Spells n l ts e rest → Stops l rest → at_level (below n) l ts ≡ Ok (e, rest)
   spells_again (test t) s = rw (test_again t) refl
   spells_again (denied d) s = rw (spells_again d tt) refl
   spells_again (group {rest = rest} d) s = rw (spells_again d (stops_at_close (By Or) rest)) refl
-  spells_again (quantified {rest = rest} d) s = rw (spells_again d (stops_at_close (By Or) rest)) refl
+  spells_again (quantified {rest = rest} each d) s = rw (spells_again d (stops_at_close (By Or) rest)) refl
+  spells_again (quantified {rest = rest} any d) s = rw (spells_again d (stops_at_close (By Or) rest)) refl
+  spells_again (quantified {rest = rest} at_least_items d) s = rw (spells_again d (stops_at_close (By Or) rest)) refl
+  spells_again (at_least {n = n} {k = k} {e = e} {es = es} {ts = ts} {us = us} {rest = rest} d f) s =
+      let ends = row_ends_at_close rest in
+      parts_listed (below (suc n)) k ts us rest e es (spells_again d (follow_stops f ends)) (parts_again f ends (length us) (omega arith))
   spells_again (alone {n = n} {c = c} {e = e} {ts = ts} {rest = rest} d) s =
       level_step (below n) c ts
-      ∙ parts_join c (at_level (below n) (tighter c)) ts rest rest e none (spells_again d (stops_inside c rest s)) (no_parts (length rest) c (at_level (below n) (tighter c)) rest (stops_here c rest s))
+      ∙ parts_join c (at_level (below n) (tighter c)) ts rest rest e none (spells_again d (ends_inside (separators.Connective c) rest s))
+      (no_parts (length rest) (separators.Connective c) (at_level (below n) (tighter c)) rest (ends_here (separators.Connective c) rest s))
   spells_again (joined {n = n} {c = c} {e = e} {f = g} {es = es} {ts = ts} {us = us} {rest = rest} d f) s =
       level_step (below n) c ts
       ∙ parts_join c (at_level (below n) (tighter c)) ts us rest e (more g es) (spells_again d (follow_stops f s)) (parts_again f s (length us) (omega arith))
 
-  pub parts_again : {n : ℕ} {c : Connective} {ts : List Sign} {es : Trees} {rest : List Sign} → Follow n c ts es rest → Stops (By c) rest → (k : ℕ) → length ts ≤ k → parts_at k c (at_level (below n) (tighter c)) ts ≡ Ok (es, rest)
-  parts_again (no_more {n = n} {c = c} {rest = rest}) s k le = no_parts k c (at_level (below n) (tighter c)) rest (stops_here c rest s)
-  parts_again (and_more d f) s zero le = absurd (omega arith)
-  parts_again (and_more {n = n} {c = c} {e = e} {es = es} {ts = ts} {us = us} {rest = rest} d f) s (suc k) le =
-      next_part k c (at_level (below n) (tighter c)) ts us rest e es (spells_again d (follow_stops f s)) (parts_again f s k (omega (arith, spells_shortens d)))
+  pub parts_again : {n : ℕ} {s : Separator} {ts : List Sign} {es : Trees} {rest : List Sign} → Follow n s ts es rest → Ends s rest → (k : ℕ) → length ts ≤ k → parts_at k s (at_level (below n) (part_level s)) ts ≡ Ok (es, rest)
+  parts_again (no_more {n = n} {s = s} {rest = rest}) e k le = no_parts k s (at_level (below n) (part_level s)) rest (ends_here s rest e)
+  parts_again (and_more d f) e zero le = absurd (omega arith)
+  parts_again (and_more {n = n} {s = s} {e = g} {es = es} {ts = ts} {us = us} {rest = rest} d f) e (suc k) le =
+      next_part k s (at_level (below n) (part_level s)) ts us rest g es (spells_again d (follow_stops f e)) (parts_again f e k (omega (arith, spells_shortens d)))
 
 -- all of the tokens
 pub spelled_again : (n : ℕ) (ts : List Sign) (e : Tree) → IsSpelled n ts e → all_of n ts ≡ Ok e

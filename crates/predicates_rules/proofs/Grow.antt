@@ -4,15 +4,20 @@ use Rattle.std.proofs.Common.{◌≡◌, ℕ, zero, suc, ◌+◌, List, [], ◌�
 use Rattle.std.specs.Prelude.{IfErr}
 use Rattle.predicates_rules.specs.declared.expression.Connective.{Connective}
 use Rattle.predicates_rules.specs.declared.expression.Connective.TheVariants.{Or, Xor, And}
+use Rattle.predicates_rules.specs.declared.expression.Quantifier.{Quantifier}
+use Rattle.predicates_rules.specs.declared.expression.Quantifier.TheVariants as quantifiers
+use Rattle.predicates_rules.specs.declared.parser.Separator.{Separator}
+use Rattle.predicates_rules.specs.declared.parser.Separator.TheVariants as separators
+use Rattle.predicates_rules.specs.declared.error.Expected.TheVariants as expected
 use Rattle.predicates_rules.specs.declared.error.Reason.TheVariants.{TooDeep}
 use Rattle.predicates_rules.specs.declared.stop.Stop.{Stop}
 use Rattle.predicates_rules.specs.declared.stop.ReadError.{ReadError}
 use Rattle.predicates_rules.specs.declared.stop.ReadError.TheVariants as errors
 use Rattle.predicates_rules.specs.declared.expression.Expression.{Expression}
-use Rattle.predicates_rules.specs.Trees.{tree_of, Sign, Not, Quantify, Open, Path, Tree, At, Denied, Quantified, Trees, more}
+use Rattle.predicates_rules.specs.Trees.{tree_of, Sign, Not, Each, Any, AtWord, Of, Open, Path, Tree, At, Denied, Quantified, AtLeast, Trees, more}
 use Rattle.predicates_rules.specs.Grammar.{Level, By, Single, IsSpelled}
 use Rattle.predicates_rules.specs.Answers.{◌>>=◌, Gives, IsSyntax}
-use Rattle.predicates_rules.specs.Reading.{Answer, test_at, path_at, after_open, after_close, after_join, with_next, parts_at, join, chain, single, at_level, below, ended, all_of}
+use Rattle.predicates_rules.specs.Reading.{Answer, test_at, path_at, after_open, after_close, after_least, count_at, after_separator, with_next, parts_at, join, chain, listed, counted, threshold, single, at_level, below, ended, all_of}
 use Rattle.predicates_rules.specs.Reading as reading
 use Rattle.predicates_rules.proofs.Loop.{ok_is}
 use Rattle.predicates_rules.proofs.Complete.{spelled_again}
@@ -31,37 +36,65 @@ persists_then {A = A} {B = B} (Ok x) s f g p h = subst (λ (t : Result A Stop). 
 persists_then (Err e) s f g (inl p) h = inl p
 persists_then (Err e) s f g (inr p) h = inr (rw p refl)
 
-module _ (c : Connective) (f g : List Sign → Answer) (h : (ts : List Sign) → Persists (f ts) (g ts)) where
+module _ (f g : List Sign → Answer) (h : (ts : List Sign) → Persists (f ts) (g ts)) where
   next_persists : (go to : List Sign → Result (Trees × List Sign) Stop) → ((ts : List Sign) → Persists (go ts) (to ts)) → (ts : List Sign) (o : Option (List Sign)) → Persists (with_next f go ts o) (with_next g to ts o)
   next_persists go to p ts None = refl
   next_persists go to p ts (Some us) =
       persists_then (f us) (g us) (λ a. go a.1 >>= λ x. Ok (more a.0 x.0, x.1)) (λ a. to a.1 >>= λ x. Ok (more a.0 x.0, x.1)) (h us)
       (λ a. persists_then (go a.1) (to a.1) (λ x. Ok (more a.0 x.0, x.1)) (λ x. Ok (more a.0 x.0, x.1)) (p a.1) (λ x. refl))
 
-  parts_persist : (k : ℕ) (ts : List Sign) → Persists (parts_at k c f ts) (parts_at k c g ts)
+  parts_persist : (s : Separator) (k : ℕ) (ts : List Sign) → Persists (parts_at k s f ts) (parts_at k s g ts)
   unfolding parts_at
-  parts_persist zero ts = refl
-  parts_persist (suc k) ts = next_persists (parts_at k c f) (parts_at k c g) (parts_persist k) ts (after_join c ts)
+  parts_persist s zero ts = refl
+  parts_persist s (suc k) ts = next_persists (parts_at k s f) (parts_at k s g) (parts_persist s k) ts (after_separator s ts)
 
-  chain_persists : (ts : List Sign) → Persists (chain c f ts) (chain c g ts)
+  -- a part, the parts that follow, and what is made of them
+  row_persists : (s : Separator) (made : Tree → Trees × List Sign → Answer) (ts : List Sign) → Persists (f ts >>= λ a. parts_at (length a.1) s f a.1 >>= made a.0) (g ts >>= λ a. parts_at (length a.1) s g a.1 >>= made a.0)
+  row_persists s made ts =
+      persists_then (f ts) (g ts) (λ a. parts_at (length a.1) s f a.1 >>= made a.0) (λ a. parts_at (length a.1) s g a.1 >>= made a.0) (h ts)
+      (λ a. persists_then (parts_at (length a.1) s f a.1) (parts_at (length a.1) s g a.1) (made a.0) (made a.0) (parts_persist s (length a.1) a.1) (λ x. persists_same (made a.0 x)))
+
+  chain_persists : (c : Connective) (ts : List Sign) → Persists (chain c f ts) (chain c g ts)
   unfolding chain
-  chain_persists ts =
-      persists_then (f ts) (g ts) (λ a. parts_at (length a.1) c f a.1 >>= λ x. Ok (join c a.0 x.0, x.1)) (λ a. parts_at (length a.1) c g a.1 >>= λ x. Ok (join c a.0 x.0, x.1)) (h ts)
-      (λ a. persists_then (parts_at (length a.1) c f a.1) (parts_at (length a.1) c g a.1) (λ x. Ok (join c a.0 x.0, x.1)) (λ x. Ok (join c a.0 x.0, x.1)) (parts_persist (length a.1) a.1) (λ x. refl))
+  chain_persists c ts = row_persists (separators.Connective c) (λ e x. Ok (join c e x.0, x.1)) ts
 
 module _ (d e : Level → List Sign → Answer) (h : (l : Level) (ts : List Sign) → Persists (d l ts) (e l ts)) where
   group_persists : (ts : List Sign) → Persists (reading.group d ts) (reading.group e ts)
   unfolding reading.group
-  group_persists ts = persists_then (d (By Or) ts) (e (By Or) ts) (λ y. after_close y.1 >>= λ rest. Ok (y.0, rest)) (λ y. after_close y.1 >>= λ rest. Ok (y.0, rest)) (h (By Or) ts) (λ y. persists_same (after_close y.1 >>= λ rest. Ok (y.0, rest)))
+  group_persists ts = persists_then (d (By Or) ts) (e (By Or) ts) (λ y. after_close expected.Close y.1 >>= λ rest. Ok (y.0, rest)) (λ y. after_close expected.Close y.1 >>= λ rest. Ok (y.0, rest)) (h (By Or) ts)
+      (λ y. persists_same (after_close expected.Close y.1 >>= λ rest. Ok (y.0, rest)))
 
-  single_persists : (ts : List Sign) → Persists (single d ts) (single e ts)
-  unfolding single reading.quantified
-  single_persists (Not ∷ ts) = persists_then (d Single ts) (e Single ts) (λ y. Ok (Denied y.0, y.1)) (λ y. Ok (Denied y.0, y.1)) (h Single ts) (λ y. refl)
-  single_persists (Open ∷ ts) = group_persists ts
-  single_persists (Quantify q ∷ ts) =
+  quantified_persists : (q : Quantifier) (ts : List Sign) → Persists (reading.quantified d q ts) (reading.quantified e q ts)
+  unfolding reading.quantified
+  quantified_persists q ts =
       persists_then (path_at ts) (path_at ts) (λ p. after_open p.1 >>= λ us. reading.group d us >>= λ y. Ok (Quantified q p.0 y.0, y.1)) (λ p. after_open p.1 >>= λ us. reading.group e us >>= λ y. Ok (Quantified q p.0 y.0, y.1)) (persists_same (path_at ts))
       (λ p. persists_then (after_open p.1) (after_open p.1) (λ us. reading.group d us >>= λ y. Ok (Quantified q p.0 y.0, y.1)) (λ us. reading.group e us >>= λ y. Ok (Quantified q p.0 y.0, y.1)) (persists_same (after_open p.1))
       (λ us. persists_then (reading.group d us) (reading.group e us) (λ y. Ok (Quantified q p.0 y.0, y.1)) (λ y. Ok (Quantified q p.0 y.0, y.1)) (group_persists us) (λ y. refl)))
+
+  listed_persists : (k : ℕ) (ts : List Sign) → Persists (listed d k ts) (listed e k ts)
+  unfolding listed
+  listed_persists k ts = row_persists (d (By Or)) (e (By Or)) (h (By Or)) separators.Comma (λ f x. after_close expected.PartsGoOn x.1 >>= λ rest. Ok (AtLeast k (more f x.0), rest)) ts
+
+  counted_persists : (k : ℕ) (ts : List Sign) → Persists (counted d k ts) (counted e k ts)
+  unfolding counted
+  counted_persists k (Of ∷ ts) = persists_then (after_open ts) (after_open ts) (listed d k) (listed e k) (persists_same (after_open ts)) (listed_persists k)
+  counted_persists k (Path path ∷ ts) = quantified_persists (quantifiers.AtLeast k) (Path path ∷ ts)
+  counted_persists k [] = inr refl
+  counted_persists k (t ∷ ts) = inr refl
+
+  threshold_persists : (ts : List Sign) → Persists (threshold d ts) (threshold e ts)
+  unfolding threshold
+  threshold_persists ts =
+      persists_then (after_least ts) (after_least ts) (λ us. count_at us >>= λ k. counted d k.0 k.1) (λ us. count_at us >>= λ k. counted e k.0 k.1) (persists_same (after_least ts))
+      (λ us. persists_then (count_at us) (count_at us) (λ k. counted d k.0 k.1) (λ k. counted e k.0 k.1) (persists_same (count_at us)) (λ k. counted_persists k.0 k.1))
+
+  single_persists : (ts : List Sign) → Persists (single d ts) (single e ts)
+  unfolding single
+  single_persists (Not ∷ ts) = persists_then (d Single ts) (e Single ts) (λ y. Ok (Denied y.0, y.1)) (λ y. Ok (Denied y.0, y.1)) (h Single ts) (λ y. refl)
+  single_persists (Open ∷ ts) = group_persists ts
+  single_persists (Each ∷ ts) = quantified_persists quantifiers.Each ts
+  single_persists (Any ∷ ts) = quantified_persists quantifiers.Any ts
+  single_persists (AtWord ∷ ts) = threshold_persists ts
   single_persists (Path path ∷ ts) = persists_same (test_at ts >>= λ x. Ok (At path x.0, x.1))
   single_persists [] = inr refl
   single_persists (t ∷ ts) = inr refl
@@ -69,9 +102,9 @@ module _ (d e : Level → List Sign → Answer) (h : (l : Level) (ts : List Sign
   level_persists : (l : Level) (ts : List Sign) → Persists (at_level d l ts) (at_level e l ts)
   unfolding at_level
   level_persists Single ts = single_persists ts
-  level_persists (By And) ts = chain_persists And (single d) (single e) single_persists ts
-  level_persists (By Xor) ts = chain_persists Xor (chain And (single d)) (chain And (single e)) (chain_persists And (single d) (single e) single_persists) ts
-  level_persists (By Or) ts = chain_persists Or (chain Xor (chain And (single d))) (chain Xor (chain And (single e))) (chain_persists Xor (chain And (single d)) (chain And (single e)) (chain_persists And (single d) (single e) single_persists)) ts
+  level_persists (By And) ts = chain_persists (single d) (single e) single_persists And ts
+  level_persists (By Xor) ts = chain_persists (chain And (single d)) (chain And (single e)) (chain_persists (single d) (single e) single_persists And) Xor ts
+  level_persists (By Or) ts = chain_persists (chain Xor (chain And (single d))) (chain Xor (chain And (single e))) (chain_persists (chain And (single d)) (chain And (single e)) (chain_persists (single d) (single e) single_persists And) Xor) Or ts
 
 below_persists : (n : ℕ) (l : Level) (ts : List Sign) → Persists (below n l ts) (below (suc n) l ts)
 unfolding below

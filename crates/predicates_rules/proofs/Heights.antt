@@ -2,16 +2,22 @@
 use Rattle.std.proofs.Common.{◌≡◌, ℕ, ◌+◌, ◌<◌, arith}
 use Rattle.predicates_rules.specs.declared.expression.Connective.{Connective}
 use Rattle.predicates_rules.specs.declared.expression.Connective.TheVariants.{Or, Xor, And}
+use Rattle.predicates_rules.specs.declared.parser.Separator.{Separator}
+use Rattle.predicates_rules.specs.declared.parser.Separator.TheVariants as separators
 use Rattle.predicates_rules.specs.Grammar.{Level, By, Single, tighter}
 
 abbrev pub height : Connective → ℕ
-height And = 5
-height Xor = 8
-height Or = 11
+height And = 8
+height Xor = 12
+height Or = 16
 
 abbrev pub level_height : Level → ℕ
-level_height Single = 4
-level_height (By c) = height c + 2
+level_height Single = 7
+level_height (By c) = height c + 3
+
+abbrev pub row_height : Separator → ℕ
+row_height (separators.Connective c) = height c
+row_height separators.Comma = 1
 
 tighter_is_lower : (c : Connective) → level_height (tighter c) < height c
 tighter_is_lower Or = omega arith

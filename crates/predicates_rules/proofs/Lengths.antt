@@ -1,8 +1,9 @@
 -- A phrase takes tokens from the front.
 use Rattle.std.proofs.Common.{ℕ, ◌<◌, ◌≤◌, List, length, arith}
-use Rattle.predicates_rules.specs.declared.expression.Connective.{Connective}
+use Rattle.predicates_rules.specs.declared.expression.Quantifier.{Quantifier}
+use Rattle.predicates_rules.specs.declared.parser.Separator.{Separator}
 use Rattle.predicates_rules.specs.Trees.{Value, Sign, Test, Tree, Trees}
-use Rattle.predicates_rules.specs.Grammar.{Level, Items, last, another, IsTest, word, compare, relate, among_none, among, Spells, test, denied, group, quantified, alone, joined, Follow, no_more, and_more}
+use Rattle.predicates_rules.specs.Grammar.{Level, Items, last, another, IsTest, word, compare, relate, among_none, among, IsQuantifier, each, any, at_least_items, Spells, test, denied, group, quantified, at_least, alone, joined, Follow, no_more, and_more}
 
 items_shorten : {ts : List Sign} {vs : List Value} {rest : List Sign} → Items ts vs rest → length rest < length ts
 items_shorten last = omega arith
@@ -15,15 +16,21 @@ test_shortens relate = omega arith
 test_shortens among_none = omega arith
 test_shortens (among i) = omega (arith, items_shorten i)
 
+quantifier_shortens : {ts : List Sign} {q : Quantifier} {rest : List Sign} → IsQuantifier ts q rest → length rest < length ts
+quantifier_shortens each = omega arith
+quantifier_shortens any = omega arith
+quantifier_shortens at_least_items = omega arith
+
 mutual
   pub spells_shortens : {n : ℕ} {l : Level} {ts : List Sign} {e : Tree} {rest : List Sign} → Spells n l ts e rest → length rest < length ts
   spells_shortens (test t) = omega (arith, test_shortens t)
   spells_shortens (denied d) = omega (arith, spells_shortens d)
   spells_shortens (group d) = omega (arith, spells_shortens d)
-  spells_shortens (quantified d) = omega (arith, spells_shortens d)
+  spells_shortens (quantified q d) = omega (arith, quantifier_shortens q, spells_shortens d)
+  spells_shortens (at_least d f) = omega (arith, spells_shortens d, follow_shortens f)
   spells_shortens (alone d) = spells_shortens d
   spells_shortens (joined d f) = omega (arith, spells_shortens d, follow_shortens f)
 
-  pub follow_shortens : {n : ℕ} {c : Connective} {ts : List Sign} {es : Trees} {rest : List Sign} → Follow n c ts es rest → length rest ≤ length ts
+  pub follow_shortens : {n : ℕ} {s : Separator} {ts : List Sign} {es : Trees} {rest : List Sign} → Follow n s ts es rest → length rest ≤ length ts
   follow_shortens no_more = omega arith
   follow_shortens (and_more d f) = omega (arith, spells_shortens d, follow_shortens f)

@@ -1,10 +1,14 @@
 -- What is printed is spelled so.
-use Rattle.std.proofs.Common.{◌≡◌, ℕ, zero, suc, ◌≤◌, Bool, true, false, cond, List, [], ◌∷◌, ◌++◌, refl, sym, ap, subst, append_assoc, arith}
+use Rattle.std.proofs.Common.{◌≡◌, ℕ, zero, suc, ◌≤◌, Bool, true, false, cond, List, [], ◌∷◌, ◌++◌, refl, sym, ap, subst, ◌∙◌, append_assoc, arith}
 use Rattle.predicates_rules.specs.declared.expression.Connective.{Connective}
 use Rattle.predicates_rules.specs.declared.expression.Connective.TheVariants.{Or, Xor, And}
-use Rattle.predicates_rules.specs.Trees.{Value, Sign, Join, Quantify, Open, Close, End, Path, Test, TheValueIs, Compares, Relates, IsAmong, Tree, At, Denied, Quantified, Joined, Trees, none, more}
-use Rattle.predicates_rules.specs.Grammar.{Level, By, Single, tighter, Items, last, another, IsTest, word, compare, relate, among_none, among, Spells, test, denied, group, quantified, alone, joined, Follow, no_more, and_more, IsSpelled}
-use Rattle.predicates_rules.specs.Printing.{items_signs, test_signs, in_parentheses, fits, signs_at, part_signs, follow_signs, nesting_at, parts_nesting, IsSome, IsProper, AreMany, AreProper}
+use Rattle.predicates_rules.specs.declared.expression.Quantifier.{Quantifier}
+use Rattle.predicates_rules.specs.declared.expression.Quantifier.TheVariants as quantifiers
+use Rattle.predicates_rules.specs.declared.parser.Separator.{Separator}
+use Rattle.predicates_rules.specs.declared.parser.Separator.TheVariants as separators
+use Rattle.predicates_rules.specs.Trees.{Value, Natural, Sign, AtWord, Least, Of, Open, Close, End, Path, Plain, Test, TheValueIs, Compares, Relates, IsAmong, Tree, At, Denied, Quantified, Joined, AtLeast, Trees, none, more}
+use Rattle.predicates_rules.specs.Grammar.{Level, By, Single, tighter, separator_sign, part_level, Items, last, another, IsTest, word, compare, relate, among_none, among, IsQuantifier, each, any, at_least_items, Spells, test, denied, group, quantified, at_least, alone, joined, Follow, no_more, and_more, IsSpelled}
+use Rattle.predicates_rules.specs.Printing.{items_signs, test_signs, quantifier_signs, in_parentheses, fits, signs_at, part_signs, follow_signs, nesting_at, parts_nesting, IsSome, IsProper, AreMany, AreProper}
 
 items_spelled : (v : Value) (vs : List Value) (rest : List Sign) → Items (items_signs (v ∷ vs) ++ rest) (v ∷ vs) rest
 items_spelled v [] rest = last
@@ -19,6 +23,11 @@ test_spelled (TheValueIs s) rest = word
 test_spelled (Compares o v) rest = compare
 test_spelled (Relates r text) rest = relate
 test_spelled (IsAmong vs) rest = among_spelled vs rest
+
+quantifier_spelled : (q : Quantifier) (rest : List Sign) → IsQuantifier (quantifier_signs q ++ rest) q rest
+quantifier_spelled quantifiers.Each rest = each
+quantifier_spelled quantifiers.Any rest = any
+quantifier_spelled (quantifiers.AtLeast k) rest = at_least_items
 
 -- what is single may stand at each level
 single_at : (l : Level) {n : ℕ} {ts : List Sign} {e : Tree} {rest : List Sign} → Spells n Single ts e rest → Spells n l ts e rest
@@ -47,7 +56,7 @@ placed false l c zero depth e ts rest h le d = absurd (omega arith)
 placed false l c (suc n) depth e ts rest h le d =
     subst (λ (us : List Sign). Spells (suc n) l us e rest) (sym (closed ts rest)) (single_at l (group (joined_at (By Or) c refl (d n (Close ∷ rest) (omega arith)))))
 
-two_joined : (es : Trees) {n : ℕ} {c : Connective} {e : Tree} {ts us rest : List Sign} → IsSome es → Spells n (tighter c) ts e us → Follow n c us es rest → Spells n (By c) ts (Joined c (more e es)) rest
+two_joined : (es : Trees) {n : ℕ} {c : Connective} {e : Tree} {ts us rest : List Sign} → IsSome es → Spells n (tighter c) ts e us → Follow n (separators.Connective c) us es rest → Spells n (By c) ts (Joined c (more e es)) rest
 two_joined none some d f = absurd some
 two_joined (more g es) some d f = joined d f
 
@@ -58,22 +67,33 @@ mutual
   spelled_at (Denied e) l (suc n) rest p le = single_at l (denied (spelled_at e Single n rest p (omega arith)))
   spelled_at (Quantified q path e) l zero rest p le = absurd (omega arith)
   spelled_at (Quantified q path e) l (suc n) rest p le =
-      subst (λ (us : List Sign). Spells (suc n) l (Quantify q ∷ Path path ∷ us) (Quantified q path e) rest) (sym (closed (signs_at (By Or) e) rest))
-      (single_at l (quantified (spelled_at e (By Or) n (Close ∷ rest) p (omega arith))))
+      let front = append_assoc (quantifier_signs q) (Path path ∷ in_parentheses (signs_at (By Or) e)) rest ∙ ap (λ (us : List Sign). quantifier_signs q ++ Path path ∷ us) (closed (signs_at (By Or) e) rest) in
+      subst (λ (us : List Sign). Spells (suc n) l us (Quantified q path e) rest) (sym front)
+      (single_at l (quantified (quantifier_spelled q (Path path ∷ Open ∷ (signs_at (By Or) e ++ Close ∷ rest))) (spelled_at e (By Or) n (Close ∷ rest) p (omega arith))))
   spelled_at (Joined c es) l n rest p le =
-      placed (fits l c) l c n (parts_nesting c es) (Joined c es) (part_signs c es) rest refl le (λ m us h. many_spelled es c m us p h)
+      placed (fits l c) l c n (parts_nesting (separators.Connective c) es) (Joined c es) (part_signs (separators.Connective c) es) rest refl le (λ m us h. many_spelled es c m us p h)
+  spelled_at (AtLeast k es) l zero rest p le = absurd (omega arith)
+  spelled_at (AtLeast k es) l (suc n) rest p le =
+      subst (λ (us : List Sign). Spells (suc n) l (AtWord ∷ Least ∷ Plain (Natural k) ∷ Of ∷ us) (AtLeast k es) rest) (sym (closed (part_signs separators.Comma es) rest))
+      (single_at l (listed_spelled es k n rest p.0 p.1 (omega arith)))
 
-  many_spelled : (es : Trees) (c : Connective) (n : ℕ) (rest : List Sign) → AreMany es → parts_nesting c es ≤ n → Spells n (By c) (part_signs c es ++ rest) (Joined c es) rest
+  listed_spelled : (es : Trees) (k n : ℕ) (rest : List Sign) → IsSome es → AreProper es → parts_nesting separators.Comma es ≤ n → Spells (suc n) Single (AtWord ∷ Least ∷ Plain (Natural k) ∷ Of ∷ Open ∷ (part_signs separators.Comma es ++ Close ∷ rest)) (AtLeast k es) rest
+  listed_spelled none k n rest some p le = absurd some
+  listed_spelled (more e es) k n rest some p le =
+      subst (λ (us : List Sign). Spells (suc n) Single (AtWord ∷ Least ∷ Plain (Natural k) ∷ Of ∷ Open ∷ us) (AtLeast k (more e es)) rest) (sym (append_assoc (signs_at (By Or) e) (follow_signs separators.Comma es) (Close ∷ rest)))
+      (at_least (spelled_at e (By Or) n (follow_signs separators.Comma es ++ Close ∷ rest) p.0 (omega arith)) (rest_spelled es separators.Comma n (Close ∷ rest) p.1 (omega arith)))
+
+  many_spelled : (es : Trees) (c : Connective) (n : ℕ) (rest : List Sign) → AreMany es → parts_nesting (separators.Connective c) es ≤ n → Spells n (By c) (part_signs (separators.Connective c) es ++ rest) (Joined c es) rest
   many_spelled none c n rest p le = absurd p
   many_spelled (more e es) c n rest p le =
-      subst (λ (us : List Sign). Spells n (By c) us (Joined c (more e es)) rest) (sym (append_assoc (signs_at (tighter c) e) (follow_signs c es) rest))
-      (two_joined es p.1 (spelled_at e (tighter c) n (follow_signs c es ++ rest) p.0 (omega arith)) (rest_spelled es c n rest p.2 (omega arith)))
+      subst (λ (us : List Sign). Spells n (By c) us (Joined c (more e es)) rest) (sym (append_assoc (signs_at (tighter c) e) (follow_signs (separators.Connective c) es) rest))
+      (two_joined es p.1 (spelled_at e (tighter c) n (follow_signs (separators.Connective c) es ++ rest) p.0 (omega arith)) (rest_spelled es (separators.Connective c) n rest p.2 (omega arith)))
 
-  rest_spelled : (es : Trees) (c : Connective) (n : ℕ) (rest : List Sign) → AreProper es → parts_nesting c es ≤ n → Follow n c (follow_signs c es ++ rest) es rest
-  rest_spelled none c n rest p le = no_more
-  rest_spelled (more e es) c n rest p le =
-      subst (λ (us : List Sign). Follow n c (Join c ∷ us) (more e es) rest) (sym (append_assoc (signs_at (tighter c) e) (follow_signs c es) rest))
-      (and_more (spelled_at e (tighter c) n (follow_signs c es ++ rest) p.0 (omega arith)) (rest_spelled es c n rest p.1 (omega arith)))
+  rest_spelled : (es : Trees) (s : Separator) (n : ℕ) (rest : List Sign) → AreProper es → parts_nesting s es ≤ n → Follow n s (follow_signs s es ++ rest) es rest
+  rest_spelled none s n rest p le = no_more
+  rest_spelled (more e es) s n rest p le =
+      subst (λ (us : List Sign). Follow n s (separator_sign s ∷ us) (more e es) rest) (sym (append_assoc (signs_at (part_level s) e) (follow_signs s es) rest))
+      (and_more (spelled_at e (part_level s) n (follow_signs s es ++ rest) p.0 (omega arith)) (rest_spelled es s n rest p.1 (omega arith)))
 
 pub printed : (n : ℕ) (e : Tree) → IsProper e → nesting_at (By Or) e ≤ n → IsSpelled n (signs_at (By Or) e ++ End ∷ []) e
 printed n e p le = spelled_at e (By Or) n (End ∷ []) p le

@@ -1,20 +1,24 @@
 -- What is read is spelled so.
-use Rattle.std.proofs.Common.{◌≡◌, ℕ, zero, suc, Bool, true, false, cond, List, [], ◌∷◌, length, ◌<◌, Option, Some, None, Result, Ok, Err, refl, sym, ap, subst, ◌∙◌}
+use Rattle.std.proofs.Common.{◌≡◌, ℕ, zero, suc, Bool, true, false, cond, List, [], ◌∷◌, length, ◌<◌, Option, Some, None, Result, Ok, Err, refl, sym, ap, subst, ◌∙◌, arith}
 use Rattle.std.specs.Prelude.{IfOk}
 use Rattle.predicates_rules.specs.declared.expression.Connective.{Connective}
 use Rattle.predicates_rules.specs.declared.expression.Connective.TheVariants.{Or, Xor, And}
 use Rattle.predicates_rules.specs.declared.expression.Quantifier.{Quantifier}
+use Rattle.predicates_rules.specs.declared.expression.Quantifier.TheVariants as quantifiers
+use Rattle.predicates_rules.specs.declared.parser.Separator.{Separator}
+use Rattle.predicates_rules.specs.declared.parser.Separator.TheVariants as separators
 use Rattle.predicates_rules.specs.declared.stop.ReadError.{ReadError}
 use Rattle.predicates_rules.specs.declared.stop.Stop.{Stop}
+use Rattle.predicates_rules.specs.declared.error.Expected.{Expected}
 use Rattle.predicates_rules.specs.declared.error.Expected.TheVariants as expected
 use Rattle.predicates_rules.specs.declared.expression.Expression.{Expression}
-use Rattle.predicates_rules.specs.Trees.{tree_of, Value, Text, Sign, Join, Not, Quantify, Open, Close, OpenList, CloseList, Comma, Path, Compare, Relate, In, Is, Plain, End, Test, TheValueIs, Compares, Relates, IsAmong, Tree, At, Denied, Quantified, Trees, none, more}
-use Rattle.predicates_rules.specs.Grammar.{Level, By, Single, tighter, Items, last, another, IsTest, word, compare, relate, among_none, among, Spells, test, denied, group, quantified, alone, joined, Follow, no_more, and_more, IsSpelled}
+use Rattle.predicates_rules.specs.Trees.{tree_of, Value, Natural, Text, Sign, Not, Each, Any, AtWord, Least, Of, Open, Close, OpenList, CloseList, Comma, Path, Compare, Relate, In, Is, Plain, End, Test, TheValueIs, Compares, Relates, IsAmong, Tree, At, Denied, Quantified, AtLeast, Trees, none, more}
+use Rattle.predicates_rules.specs.Grammar.{Level, By, Single, tighter, separator_sign, part_level, Items, last, another, IsTest, word, compare, relate, among_none, among, IsQuantifier, each, any, at_least_items, Spells, test, denied, group, quantified, at_least, alone, joined, Follow, no_more, and_more, IsSpelled}
 use Rattle.predicates_rules.specs.Answers.{◌>>=◌, Gives}
-use Rattle.predicates_rules.specs.Reading.{Answer, literal_at, items_at, list_at, after_bracket, text_at, test_at, path_at, after_open, after_close, after_join, with_next, parts_at, join, chain, single, at_level, below, is_end, fails, ended, all_of}
+use Rattle.predicates_rules.specs.Reading.{Answer, literal_at, items_at, list_at, after_bracket, text_at, test_at, path_at, after_open, after_close, after_least, count_at, after_separator, with_next, parts_at, join, chain, listed, counted, threshold, single, at_level, part_at, below, is_end, fails, ended, all_of}
 use Rattle.predicates_rules.specs.Reading as reading
 use Rattle.predicates_rules.proofs.Loop.{ok_is}
-use Rattle.predicates_rules.proofs.Steps.{join_is, bind_ok}
+use Rattle.predicates_rules.proofs.Steps.{separator_is, bind_ok}
 use Rattle.predicates_rules.proofs.Lengths.{spells_shortens}
 
 items_are : (ts : List Sign) (x : List Value × List Sign) → items_at ts ≡ Ok x → Items ts x.0 x.1
@@ -78,10 +82,37 @@ unfolding after_open
 open_is (Open ∷ ts) us e = ap (λ (y : List Sign). Open ∷ y) (ok_is ts us e)
 open_is ts us e = absurd cc
 
-close_is : (ts us : List Sign) → after_close ts ≡ Ok us → ts ≡ Close ∷ us
+close_is : (x : Expected) (ts us : List Sign) → after_close x ts ≡ Ok us → ts ≡ Close ∷ us
 unfolding after_close
-close_is (Close ∷ ts) us e = ap (λ (y : List Sign). Close ∷ y) (ok_is ts us e)
-close_is ts us e = absurd cc
+close_is x (Close ∷ ts) us e = ap (λ (y : List Sign). Close ∷ y) (ok_is ts us e)
+close_is x ts us e = absurd cc
+
+least_is : (ts us : List Sign) → after_least ts ≡ Ok us → ts ≡ Least ∷ us
+unfolding after_least
+least_is (Least ∷ ts) us e = ap (λ (y : List Sign). Least ∷ y) (ok_is ts us e)
+least_is ts us e = absurd cc
+
+count_is : (ts : List Sign) (x : ℕ × List Sign) → count_at ts ≡ Ok x → ts ≡ Plain (Natural x.0) ∷ x.1
+unfolding count_at
+count_is (Plain (Natural k) ∷ ts) x e = ap (λ (y : ℕ × List Sign). Plain (Natural y.0) ∷ y.1) (ok_is (k, ts) x e)
+count_is ts x e = absurd cc
+
+-- ---- rows
+
+next_is : (n : ℕ) (s : Separator) (part : List Sign → Answer) (go : List Sign → Result (Trees × List Sign) Stop) → ((ts : List Sign) (x : Tree × List Sign) → part ts ≡ Ok x → Spells n (part_level s) ts x.0 x.1)
+    → ((ts : List Sign) (x : Trees × List Sign) → go ts ≡ Ok x → Follow n s ts x.0 x.1) → (ts : List Sign) (x : Trees × List Sign) (o : Option (List Sign)) → after_separator s ts ≡ o → with_next part go ts o ≡ Ok x → Follow n s ts x.0 x.1
+next_is n s part go h k ts x None next e = subst (λ (y : Trees × List Sign). Follow n s ts y.0 y.1) (ok_is (none, ts) x e) no_more
+next_is n s part go h k ts x (Some us) next e =
+    let a = bind_ok (part us) (λ y. go y.1 >>= λ z. Ok (more y.0 z.0, z.1)) x e in
+    let b = bind_ok (go a.0.1) (λ z. Ok (more a.0.0 z.0, z.1)) x a.2 in
+    let made : Follow n s (separator_sign s ∷ us) (more a.0.0 b.0.0) b.0.1 = and_more (h us a.0 a.1) (k a.0.1 b.0 b.1) in
+    subst (λ (y : Trees × List Sign). Follow n s ts y.0 y.1) (ok_is (more a.0.0 b.0.0, b.0.1) x b.2) (subst (λ (vs : List Sign). Follow n s vs (more a.0.0 b.0.0) b.0.1) (sym (separator_is s ts us next)) made)
+
+parts_are : (n k : ℕ) (s : Separator) (part : List Sign → Answer) → ((ts : List Sign) (x : Tree × List Sign) → part ts ≡ Ok x → Spells n (part_level s) ts x.0 x.1)
+    → (ts : List Sign) (x : Trees × List Sign) → parts_at k s part ts ≡ Ok x → Follow n s ts x.0 x.1
+unfolding parts_at
+parts_are n zero s part h ts x e = subst (λ (y : Trees × List Sign). Follow n s ts y.0 y.1) (ok_is (none, ts) x e) no_more
+parts_are n (suc k) s part h ts x e = next_is n s part (parts_at k s part) h (parts_are n k s part h) ts x (after_separator s ts) refl e
 
 -- the reader of what is deeper is right
 abbrev pub IsRightBelow : ℕ → Type 0
@@ -91,23 +122,54 @@ module _ (n : ℕ) (right : IsRightBelow n) where
   group_is : (ts : List Sign) (x : Tree × List Sign) → reading.group (below n) ts ≡ Ok x → (m : ℕ) × (n ≡ suc m) × Spells m (By Or) ts x.0 (Close ∷ x.1)
   unfolding reading.group
   group_is ts x e =
-      let a = bind_ok (below n (By Or) ts) (λ y. after_close y.1 >>= λ rest. Ok (y.0, rest)) x e in
-      let b = bind_ok (after_close a.0.1) (λ rest. Ok (a.0.0, rest)) x a.2 in
+      let a = bind_ok (below n (By Or) ts) (λ y. after_close expected.Close y.1 >>= λ rest. Ok (y.0, rest)) x e in
+      let b = bind_ok (after_close expected.Close a.0.1) (λ rest. Ok (a.0.0, rest)) x a.2 in
       let d = right (By Or) ts a.0 a.1 in
-      let inner = subst (λ (us : List Sign). Spells d.0 (By Or) ts a.0.0 us) (close_is a.0.1 b.0 b.1) d.2 in
+      let inner = subst (λ (us : List Sign). Spells d.0 (By Or) ts a.0.0 us) (close_is expected.Close a.0.1 b.0 b.1) d.2 in
       (d.0, d.1, subst (λ (y : Tree × List Sign). Spells d.0 (By Or) ts y.0 (Close ∷ y.1)) (ok_is (a.0.0, b.0) x b.2) inner)
 
-  quantified_is : (q : Quantifier) (ts : List Sign) (x : Tree × List Sign) → reading.quantified (below n) q ts ≡ Ok x → Spells n Single (Quantify q ∷ ts) x.0 x.1
+  quantified_is : (q : Quantifier) (front ts : List Sign) (x : Tree × List Sign) → IsQuantifier front q ts → reading.quantified (below n) q ts ≡ Ok x → Spells n Single front x.0 x.1
   unfolding reading.quantified
-  quantified_is q ts x e =
+  quantified_is q front ts x begins e =
       let a = bind_ok (path_at ts) (λ p. after_open p.1 >>= λ us. reading.group (below n) us >>= λ y. Ok (Quantified q p.0 y.0, y.1)) x e in
       let b = bind_ok (after_open a.0.1) (λ us. reading.group (below n) us >>= λ y. Ok (Quantified q a.0.0 y.0, y.1)) x a.2 in
       let c = bind_ok (reading.group (below n) b.0) (λ y. Ok (Quantified q a.0.0 y.0, y.1)) x b.2 in
       let d = group_is b.0 c.0 c.1 in
-      let spelled : Spells (suc d.0) Single (Quantify q ∷ Path a.0.0 ∷ Open ∷ b.0) (Quantified q a.0.0 c.0.0) c.0.1 = quantified d.2 in
-      let front : ts ≡ Path a.0.0 ∷ Open ∷ b.0 = path_is ts a.0 a.1 ∙ ap (λ (us : List Sign). Path a.0.0 ∷ us) (open_is a.0.1 b.0 b.1) in
-      let made = subst (λ (y : Tree × List Sign). Spells (suc d.0) Single (Quantify q ∷ Path a.0.0 ∷ Open ∷ b.0) y.0 y.1) (ok_is (Quantified q a.0.0 c.0.0, c.0.1) x c.2) spelled in
-      subst (λ (us : List Sign). Spells n Single (Quantify q ∷ us) x.0 x.1) (sym front) (subst (λ (k : ℕ). Spells k Single (Quantify q ∷ Path a.0.0 ∷ Open ∷ b.0) x.0 x.1) (sym d.1) made)
+      let behind : ts ≡ Path a.0.0 ∷ Open ∷ b.0 = path_is ts a.0 a.1 ∙ ap (λ (us : List Sign). Path a.0.0 ∷ us) (open_is a.0.1 b.0 b.1) in
+      let spelled : Spells (suc d.0) Single front (Quantified q a.0.0 c.0.0) c.0.1 = quantified (subst (λ (us : List Sign). IsQuantifier front q us) behind begins) d.2 in
+      let made = subst (λ (y : Tree × List Sign). Spells (suc d.0) Single front y.0 y.1) (ok_is (Quantified q a.0.0 c.0.0, c.0.1) x c.2) spelled in
+      subst (λ (k : ℕ). Spells k Single front x.0 x.1) (sym d.1) made
+
+  -- each part of a list is one deeper
+  listed_is : (k : ℕ) (ts : List Sign) (x : Tree × List Sign) → listed (below n) k ts ≡ Ok x → Spells n Single (AtWord ∷ Least ∷ Plain (Natural k) ∷ Of ∷ Open ∷ ts) x.0 x.1
+  unfolding listed
+  listed_is k ts x e =
+      let a = bind_ok (below n (By Or) ts) (λ y. parts_at (length y.1) separators.Comma (below n (By Or)) y.1 >>= λ z. after_close expected.PartsGoOn z.1 >>= λ rest. Ok (AtLeast k (more y.0 z.0), rest)) x e in
+      let b = bind_ok (parts_at (length a.0.1) separators.Comma (below n (By Or)) a.0.1) (λ z. after_close expected.PartsGoOn z.1 >>= λ rest. Ok (AtLeast k (more a.0.0 z.0), rest)) x a.2 in
+      let c = bind_ok (after_close expected.PartsGoOn b.0.1) (λ rest. Ok (AtLeast k (more a.0.0 b.0.0), rest)) x b.2 in
+      let d = right (By Or) ts a.0 a.1 in
+      let part : (us : List Sign) (y : Tree × List Sign) → below n (By Or) us ≡ Ok y → Spells d.0 (By Or) us y.0 y.1 =
+      λ us y h. let s = right (By Or) us y h in subst (λ (m : ℕ). Spells m (By Or) us y.0 y.1) (omega (arith, s.1, d.1)) s.2 in
+      let others = subst (λ (us : List Sign). Follow d.0 separators.Comma a.0.1 b.0.0 us) (close_is expected.PartsGoOn b.0.1 c.0 c.1) (parts_are d.0 (length a.0.1) separators.Comma (below n (By Or)) part a.0.1 b.0 b.1) in
+      let spelled : Spells (suc d.0) Single (AtWord ∷ Least ∷ Plain (Natural k) ∷ Of ∷ Open ∷ ts) (AtLeast k (more a.0.0 b.0.0)) c.0 = at_least d.2 others in
+      let made = subst (λ (y : Tree × List Sign). Spells (suc d.0) Single (AtWord ∷ Least ∷ Plain (Natural k) ∷ Of ∷ Open ∷ ts) y.0 y.1) (ok_is (AtLeast k (more a.0.0 b.0.0), c.0) x c.2) spelled in
+      subst (λ (m : ℕ). Spells m Single (AtWord ∷ Least ∷ Plain (Natural k) ∷ Of ∷ Open ∷ ts) x.0 x.1) (sym d.1) made
+
+  counted_is : (k : ℕ) (ts : List Sign) (x : Tree × List Sign) → counted (below n) k ts ≡ Ok x → Spells n Single (AtWord ∷ Least ∷ Plain (Natural k) ∷ ts) x.0 x.1
+  unfolding counted
+  counted_is k (Of ∷ ts) x e =
+      let a = bind_ok (after_open ts) (listed (below n) k) x e in
+      subst (λ (us : List Sign). Spells n Single (AtWord ∷ Least ∷ Plain (Natural k) ∷ Of ∷ us) x.0 x.1) (sym (open_is ts a.0 a.1)) (listed_is k a.0 x a.2)
+  counted_is k (Path path ∷ ts) x e = quantified_is (quantifiers.AtLeast k) (AtWord ∷ Least ∷ Plain (Natural k) ∷ Path path ∷ ts) (Path path ∷ ts) x at_least_items e
+  counted_is k ts x e = absurd cc
+
+  threshold_is : (ts : List Sign) (x : Tree × List Sign) → threshold (below n) ts ≡ Ok x → Spells n Single (AtWord ∷ ts) x.0 x.1
+  unfolding threshold
+  threshold_is ts x e =
+      let a = bind_ok (after_least ts) (λ us. count_at us >>= λ k. counted (below n) k.0 k.1) x e in
+      let b = bind_ok (count_at a.0) (λ k. counted (below n) k.0 k.1) x a.2 in
+      let front : ts ≡ Least ∷ Plain (Natural b.0.0) ∷ b.0.1 = least_is ts a.0 a.1 ∙ ap (λ (us : List Sign). Least ∷ us) (count_is a.0 b.0 b.1) in
+      subst (λ (us : List Sign). Spells n Single (AtWord ∷ us) x.0 x.1) (sym front) (counted_is b.0.0 b.0.1 x b.2)
 
   single_is : (ts : List Sign) (x : Tree × List Sign) → single (below n) ts ≡ Ok x → Spells n Single ts x.0 x.1
   unfolding single
@@ -120,38 +182,25 @@ module _ (n : ℕ) (right : IsRightBelow n) where
       let made = subst (λ (y : Tree × List Sign). Spells (suc d.0) Single (Not ∷ ts) y.0 y.1) (ok_is (Denied b.0.0, b.0.1) x b.2) (denied d.2) in
       subst (λ (k : ℕ). Spells k Single (Not ∷ ts) x.0 x.1) (sym d.1) made
   single_is (Open ∷ ts) x e = let d = group_is ts x e in subst (λ (k : ℕ). Spells k Single (Open ∷ ts) x.0 x.1) (sym d.1) (group d.2)
-  single_is (Quantify q ∷ ts) x e = quantified_is q ts x e
+  single_is (Each ∷ ts) x e = quantified_is quantifiers.Each (Each ∷ ts) ts x each e
+  single_is (Any ∷ ts) x e = quantified_is quantifiers.Any (Any ∷ ts) ts x any e
+  single_is (AtWord ∷ ts) x e = threshold_is ts x e
   single_is ts x e = absurd cc
 
-  next_is : (c : Connective) (part : List Sign → Answer) (go : List Sign → Result (Trees × List Sign) Stop) → ((ts : List Sign) (x : Tree × List Sign) → part ts ≡ Ok x → Spells n (tighter c) ts x.0 x.1)
-      → ((ts : List Sign) (x : Trees × List Sign) → go ts ≡ Ok x → Follow n c ts x.0 x.1) → (ts : List Sign) (x : Trees × List Sign) (o : Option (List Sign)) → after_join c ts ≡ o → with_next part go ts o ≡ Ok x → Follow n c ts x.0 x.1
-  next_is c part go h k ts x None next e = subst (λ (y : Trees × List Sign). Follow n c ts y.0 y.1) (ok_is (none, ts) x e) no_more
-  next_is c part go h k ts x (Some us) next e =
-      let a = bind_ok (part us) (λ y. go y.1 >>= λ z. Ok (more y.0 z.0, z.1)) x e in
-      let b = bind_ok (go a.0.1) (λ z. Ok (more a.0.0 z.0, z.1)) x a.2 in
-      let made : Follow n c (Join c ∷ us) (more a.0.0 b.0.0) b.0.1 = and_more (h us a.0 a.1) (k a.0.1 b.0 b.1) in
-      subst (λ (y : Trees × List Sign). Follow n c ts y.0 y.1) (ok_is (more a.0.0 b.0.0, b.0.1) x b.2) (subst (λ (vs : List Sign). Follow n c vs (more a.0.0 b.0.0) b.0.1) (sym (join_is c ts us next)) made)
-
-  parts_are : (k : ℕ) (c : Connective) (part : List Sign → Answer) → ((ts : List Sign) (x : Tree × List Sign) → part ts ≡ Ok x → Spells n (tighter c) ts x.0 x.1)
-      → (ts : List Sign) (x : Trees × List Sign) → parts_at k c part ts ≡ Ok x → Follow n c ts x.0 x.1
-  unfolding parts_at
-  parts_are zero c part h ts x e = subst (λ (y : Trees × List Sign). Follow n c ts y.0 y.1) (ok_is (none, ts) x e) no_more
-  parts_are (suc k) c part h ts x e = next_is c part (parts_at k c part) h (parts_are k c part h) ts x (after_join c ts) refl e
-
-  nothing_follows : {c : Connective} {ts rest : List Sign} → Follow n c ts none rest → ts ≡ rest
+  nothing_follows : {s : Separator} {ts rest : List Sign} → Follow n s ts none rest → ts ≡ rest
   nothing_follows no_more = refl
 
-  join_spelled : (c : Connective) (ts us rest : List Sign) (e : Tree) (es : Trees) → Spells n (tighter c) ts e us → Follow n c us es rest → Spells n (By c) ts (join c e es) rest
+  join_spelled : (c : Connective) (ts us rest : List Sign) (e : Tree) (es : Trees) → Spells n (tighter c) ts e us → Follow n (separators.Connective c) us es rest → Spells n (By c) ts (join c e es) rest
   join_spelled c ts us rest e none d f = alone (subst (λ (vs : List Sign). Spells n (tighter c) ts e vs) (nothing_follows f) d)
   join_spelled c ts us rest e (more g es) d f = joined d f
 
   chain_is : (c : Connective) (part : List Sign → Answer) → ((ts : List Sign) (x : Tree × List Sign) → part ts ≡ Ok x → Spells n (tighter c) ts x.0 x.1) → (ts : List Sign) (x : Tree × List Sign) → chain c part ts ≡ Ok x → Spells n (By c) ts x.0 x.1
   unfolding chain
   chain_is c part h ts x e =
-      let a = bind_ok (part ts) (λ y. parts_at (length y.1) c part y.1 >>= λ z. Ok (join c y.0 z.0, z.1)) x e in
-      let b = bind_ok (parts_at (length a.0.1) c part a.0.1) (λ z. Ok (join c a.0.0 z.0, z.1)) x a.2 in
+      let a = bind_ok (part ts) (λ y. parts_at (length y.1) (separators.Connective c) part y.1 >>= λ z. Ok (join c y.0 z.0, z.1)) x e in
+      let b = bind_ok (parts_at (length a.0.1) (separators.Connective c) part a.0.1) (λ z. Ok (join c a.0.0 z.0, z.1)) x a.2 in
       subst (λ (y : Tree × List Sign). Spells n (By c) ts y.0 y.1) (ok_is (join c a.0.0 b.0.0, b.0.1) x b.2)
-      (join_spelled c ts a.0.1 b.0.1 a.0.0 b.0.0 (h ts a.0 a.1) (parts_are (length a.0.1) c part h a.0.1 b.0 b.1))
+      (join_spelled c ts a.0.1 b.0.1 a.0.0 b.0.0 (h ts a.0 a.1) (parts_are n (length a.0.1) (separators.Connective c) part h a.0.1 b.0 b.1))
 
   level_is : (l : Level) (ts : List Sign) (x : Tree × List Sign) → at_level (below n) l ts ≡ Ok x → Spells n l ts x.0 x.1
   unfolding at_level
@@ -189,6 +238,7 @@ pub is_spelled : (n : ℕ) (ts : List Sign) (r : Result Expression ReadError) �
 is_spelled n ts (Ok e) given = spelled n ts (tree_of e) given
 is_spelled n ts (Err e) given = tt
 
--- a reader of a level takes tokens from the front
-pub level_shortens : (n : ℕ) (l : Level) (ts : List Sign) (x : Tree × List Sign) → at_level (below n) l ts ≡ Ok x → length x.1 < length ts
-level_shortens n l ts x e = spells_shortens (level_is n (right_below n) l ts x e)
+-- a reader of a part takes tokens from the front
+pub part_shortens : (n : ℕ) (s : Separator) (ts : List Sign) (x : Tree × List Sign) → part_at (below n) s ts ≡ Ok x → length x.1 < length ts
+part_shortens n (separators.Connective c) ts x e = spells_shortens (level_is n (right_below n) (tighter c) ts x e)
+part_shortens n separators.Comma ts x e = spells_shortens (right_below n (By Or) ts x e).2

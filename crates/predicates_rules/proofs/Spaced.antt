@@ -31,6 +31,8 @@ use Rattle.predicates_rules.specs.declared.expression.Connective.{Connective}
 use Rattle.predicates_rules.specs.declared.expression.Connective.TheVariants.{Or, Xor, And}
 use Rattle.predicates_rules.specs.declared.expression.Quantifier.{Quantifier}
 use Rattle.predicates_rules.specs.declared.expression.Quantifier.TheVariants as quantifiers
+use Rattle.predicates_rules.specs.declared.parser.Separator.{Separator}
+use Rattle.predicates_rules.specs.declared.parser.Separator.TheVariants as separators
 use Rattle.predicates_rules.specs.declared.condition.Comparison.{Comparison}
 use Rattle.predicates_rules.specs.declared.condition.Comparison.TheVariants as comparisons
 use Rattle.predicates_rules.specs.declared.condition.Relation.{Relation}
@@ -39,11 +41,11 @@ use Rattle.predicates_rules.specs.declared.condition.State.{State}
 use Rattle.predicates_rules.specs.declared.condition.State.TheVariants as states
 use Rattle.predicates_rules.specs.declared.fixed.Fixed.{Fixed}
 use Rattle.predicates_rules.specs.declared.fixed.Fixed.TheVariants as fixed
-use Rattle.predicates_rules.specs.Trees.{Value, Natural, Negative, Text, Boolean, Null, Sign, Join, Quantify, Close, Path, Compare, Relate, Is, Plain, End, Test, TheValueIs, Compares, Relates, IsAmong, Tree, At, Denied, Quantified, Joined, Trees, none, more}
-use Rattle.predicates_rules.specs.Grammar.{Level, By, Single, tighter, IsSpelled}
+use Rattle.predicates_rules.specs.Trees.{Value, Natural, Negative, Text, Boolean, Null, Sign, Join, Close, Path, Compare, Relate, Is, Plain, End, Test, TheValueIs, Compares, Relates, IsAmong, Tree, At, Denied, Quantified, Joined, AtLeast, Trees, none, more}
+use Rattle.predicates_rules.specs.Grammar.{Level, By, Single, separator_sign, part_level, IsSpelled}
 use Rattle.predicates_rules.specs.Lexemes.{text_of, sign_of_fixed, class_of, continues, text_end, class_len, token_len, cut, begins_literal, IsWritten, fixed_text, literal, path, IsLexed, over, space, token}
 use Rattle.predicates_rules.specs.Rules.{Says}
-use Rattle.predicates_rules.specs.Printing.{items_signs, test_signs, in_parentheses, fits, signs_at, part_signs, follow_signs, nesting_at, IsProper, path_text, word_of, spaced, printed, IsPath, IsValue, AreValues, IsPlainTest, IsPlain, ArePlain}
+use Rattle.predicates_rules.specs.Printing.{items_signs, test_signs, quantifier_signs, in_parentheses, fits, signs_at, part_signs, follow_signs, nesting_at, IsProper, path_text, word_of, spaced, printed, IsPath, IsValue, AreValues, IsPlainTest, IsPlainQuantifier, IsPlain, ArePlain}
 use Rattle.predicates_rules.proofs.Printed.{printed as printed_spelled}
 use Rattle.predicates_rules.proofs.Lines.{run_is}
 
@@ -228,6 +230,9 @@ fixed_cut fixed.And rest = refl
 fixed_cut fixed.Not rest = refl
 fixed_cut fixed.Each rest = refl
 fixed_cut fixed.Any rest = refl
+fixed_cut fixed.At rest = refl
+fixed_cut fixed.Least rest = refl
+fixed_cut fixed.Of rest = refl
 fixed_cut fixed.StartsWith rest = refl
 fixed_cut fixed.EndsWith rest = refl
 fixed_cut fixed.Contains rest = refl
@@ -278,9 +283,9 @@ join_word Or = fixed_word fixed.Or
 join_word Xor = fixed_word fixed.Xor
 join_word And = fixed_word fixed.And
 
-quantifier_word : (q : Quantifier) → IsWord (Quantify q) (word_of (Quantify q))
-quantifier_word quantifiers.Each = fixed_word fixed.Each
-quantifier_word quantifiers.Any = fixed_word fixed.Any
+separator_word : (s : Separator) → IsWord (separator_sign s) (word_of (separator_sign s))
+separator_word (separators.Connective c) = join_word c
+separator_word separators.Comma = fixed_word fixed.Comma
 
 comparison_word : (o : Comparison) → IsWord (Compare o) (word_of (Compare o))
 comparison_word comparisons.Equal = fixed_word fixed.Equal
@@ -325,6 +330,11 @@ test_words (Compares o v) h = (comparison_word o, (value_word v h, tt))
 test_words (Relates r text) h = (relation_word r, (text_word text h, tt))
 test_words (IsAmong vs) h = (fixed_word fixed.In, (fixed_word fixed.OpenList, items_words vs h))
 
+quantifier_words : (q : Quantifier) → IsPlainQuantifier q → AreWords (quantifier_signs q)
+quantifier_words quantifiers.Each h = (fixed_word fixed.Each, tt)
+quantifier_words quantifiers.Any h = (fixed_word fixed.Any, tt)
+quantifier_words (quantifiers.AtLeast k) h = (fixed_word fixed.At, (fixed_word fixed.Least, (value_word (Natural k) h, tt)))
+
 placed_words : (b : Bool) (ts : List Sign) → AreWords ts → AreWords (cond b ts (in_parentheses ts))
 placed_words true ts a = a
 placed_words false ts a = closed_words ts a
@@ -333,16 +343,19 @@ mutual
   tree_words : (e : Tree) (l : Level) → IsPlain e → AreWords (signs_at l e)
   tree_words (At p t) l h = (path_word p h.0, test_words t h.1)
   tree_words (Denied e) l h = (fixed_word fixed.Not, tree_words e Single h)
-  tree_words (Quantified q p e) l h = (quantifier_word q, (path_word p h.0, closed_words (signs_at (By Or) e) (tree_words e (By Or) h.1)))
-  tree_words (Joined c es) l h = placed_words (fits l c) (part_signs c es) (part_words es c h)
+  tree_words (Quantified q p e) l h =
+      both_words (quantifier_signs q) (Path p ∷ in_parentheses (signs_at (By Or) e)) (quantifier_words q h.2) (path_word p h.0, closed_words (signs_at (By Or) e) (tree_words e (By Or) h.1))
+  tree_words (Joined c es) l h = placed_words (fits l c) (part_signs (separators.Connective c) es) (part_words es (separators.Connective c) h)
+  tree_words (AtLeast k es) l h =
+      (fixed_word fixed.At, (fixed_word fixed.Least, (value_word (Natural k) h.0, (fixed_word fixed.Of, closed_words (part_signs separators.Comma es) (part_words es separators.Comma h.1)))))
 
-  part_words : (es : Trees) (c : Connective) → ArePlain es → AreWords (part_signs c es)
-  part_words none c h = tt
-  part_words (more e es) c h = both_words (signs_at (tighter c) e) (follow_signs c es) (tree_words e (tighter c) h.0) (follow_words es c h.1)
+  part_words : (es : Trees) (s : Separator) → ArePlain es → AreWords (part_signs s es)
+  part_words none s h = tt
+  part_words (more e es) s h = both_words (signs_at (part_level s) e) (follow_signs s es) (tree_words e (part_level s) h.0) (follow_words es s h.1)
 
-  follow_words : (es : Trees) (c : Connective) → ArePlain es → AreWords (follow_signs c es)
-  follow_words none c h = tt
-  follow_words (more e es) c h = (join_word c, both_words (signs_at (tighter c) e) (follow_signs c es) (tree_words e (tighter c) h.0) (follow_words es c h.1))
+  follow_words : (es : Trees) (s : Separator) → ArePlain es → AreWords (follow_signs s es)
+  follow_words none s h = tt
+  follow_words (more e es) s h = (separator_word s, both_words (signs_at (part_level s) e) (follow_signs s es) (tree_words e (part_level s) h.0) (follow_words es s h.1))
 
 lexed : (ts : List Sign) → AreWords ts → (us : List (Sign × ℕ)) × (map (λ u. u.0) us ≡ ts ++ End ∷ []) × IsLexed (spaced ts) us
 lexed [] a = ((End, 0) ∷ [], refl, over refl)

@@ -1,13 +1,15 @@
 -- The levels of the reader, and what it looks at behind a phrase.
-use Rattle.std.proofs.Common.{◌≡◌, true, List, [], ◌∷◌, Some, None, Result, Ok, Err, refl}
+use Rattle.std.proofs.Common.{◌≡◌, true, List, [], ◌∷◌, Some, None, Result, Ok, Err, refl, ap}
 use Rattle.std.proofs.lemmas.Option.{cond_some}
 use Rattle.predicates_rules.specs.declared.expression.Connective.{Connective}
 use Rattle.predicates_rules.specs.declared.expression.Connective.TheVariants.{Or, Xor, And}
+use Rattle.predicates_rules.specs.declared.parser.Separator.{Separator}
+use Rattle.predicates_rules.specs.declared.parser.Separator.TheVariants as separators
 use Rattle.predicates_rules.specs.declared.stop.Stop.{Stop}
-use Rattle.predicates_rules.specs.Trees.{Sign, Join, Close, End}
-use Rattle.predicates_rules.specs.Grammar.{Level, By, Single, tighter}
+use Rattle.predicates_rules.specs.Trees.{Sign, Join, Close, Comma, End}
+use Rattle.predicates_rules.specs.Grammar.{Level, By, Single, tighter, separator_sign, part_level}
 use Rattle.predicates_rules.specs.Answers.{◌>>=◌}
-use Rattle.predicates_rules.specs.Reading.{Answer, same, after_join, chain, at_level}
+use Rattle.predicates_rules.specs.Reading.{Answer, same, after_join, after_comma, after_separator, chain, at_level}
 
 pub level_step : (deeper : Level → List Sign → Answer) (c : Connective) (ts : List Sign) → at_level deeper (By c) ts ≡ chain c (at_level deeper (tighter c)) ts
 unfolding at_level chain
@@ -22,17 +24,17 @@ Stops (By And) ts = after_join And ts ≡ None
 Stops (By Xor) ts = (after_join Xor ts ≡ None) × (after_join And ts ≡ None)
 Stops (By Or) ts = (after_join Or ts ≡ None) × (after_join Xor ts ≡ None) × (after_join And ts ≡ None)
 
-pub stops_here : (c : Connective) (ts : List Sign) → Stops (By c) ts → after_join c ts ≡ None
+stops_here : (c : Connective) (ts : List Sign) → Stops (By c) ts → after_join c ts ≡ None
 stops_here Or ts s = s.0
 stops_here Xor ts s = s.0
 stops_here And ts s = s
 
-pub stops_inside : (c : Connective) (ts : List Sign) → Stops (By c) ts → Stops (tighter c) ts
+stops_inside : (c : Connective) (ts : List Sign) → Stops (By c) ts → Stops (tighter c) ts
 stops_inside Or ts s = (s.1, s.2)
 stops_inside Xor ts s = s.1
 stops_inside And ts s = tt
 
-pub stops_at_join : (c : Connective) (ts : List Sign) → Stops (tighter c) (Join c ∷ ts)
+stops_at_join : (c : Connective) (ts : List Sign) → Stops (tighter c) (Join c ∷ ts)
 unfolding after_join
 stops_at_join Or ts = (refl, refl)
 stops_at_join Xor ts = refl
@@ -52,11 +54,38 @@ stops_at_end (By Or) = (refl, refl, refl)
 stops_at_end (By Xor) = (refl, refl)
 stops_at_end (By And) = refl
 
-pub join_found : (c : Connective) (ts : List Sign) → after_join c (Join c ∷ ts) ≡ Some ts
+-- what stands behind a row doesn't belong to it, nor to its last part
+abbrev pub Ends : Separator → List Sign → Type 0
+Ends (separators.Connective c) ts = Stops (By c) ts
+Ends separators.Comma ts = (after_comma ts ≡ None) × Stops (By Or) ts
+
+pub ends_here : (s : Separator) (ts : List Sign) → Ends s ts → after_separator s ts ≡ None
+ends_here (separators.Connective c) ts e = stops_here c ts e
+ends_here separators.Comma ts e = e.0
+
+pub ends_inside : (s : Separator) (ts : List Sign) → Ends s ts → Stops (part_level s) ts
+ends_inside (separators.Connective c) ts e = stops_inside c ts e
+ends_inside separators.Comma ts e = e.1
+
+pub stops_at_separator : (s : Separator) (ts : List Sign) → Stops (part_level s) (separator_sign s ∷ ts)
+unfolding after_join
+stops_at_separator (separators.Connective c) ts = stops_at_join c ts
+stops_at_separator separators.Comma ts = (refl, refl, refl)
+
+pub row_ends_at_close : (ts : List Sign) → Ends separators.Comma (Close ∷ ts)
+unfolding after_comma
+row_ends_at_close ts = (refl, stops_at_close (By Or) ts)
+
+join_found : (c : Connective) (ts : List Sign) → after_join c (Join c ∷ ts) ≡ Some ts
 unfolding after_join
 join_found Or ts = refl
 join_found Xor ts = refl
 join_found And ts = refl
+
+pub separator_found : (s : Separator) (ts : List Sign) → after_separator s (separator_sign s ∷ ts) ≡ Some ts
+unfolding after_comma
+separator_found (separators.Connective c) ts = join_found c ts
+separator_found separators.Comma ts = refl
 
 same_is : (c d : Connective) → same c d ≡ true → c ≡ d
 same_is Or Or e = refl
@@ -64,13 +93,22 @@ same_is Xor Xor e = refl
 same_is And And e = refl
 same_is c d e = absurd cc
 
-pub join_is : (c : Connective) (ts us : List Sign) → after_join c ts ≡ Some us → ts ≡ Join c ∷ us
+join_is : (c : Connective) (ts us : List Sign) → after_join c ts ≡ Some us → ts ≡ Join c ∷ us
 unfolding after_join
 join_is c (Join d ∷ ts) us e =
     let p = cond_some (same c d) ts us e in
     let q = same_is c d p.0 in
     rw (q, p.1) refl
 join_is c ts us e = absurd cc
+
+comma_is : (ts us : List Sign) → after_comma ts ≡ Some us → ts ≡ Comma ∷ us
+unfolding after_comma
+comma_is (Comma ∷ ts) us e = let same : ts ≡ us = cc in ap (λ (vs : List Sign). Comma ∷ vs) same
+comma_is ts us e = absurd cc
+
+pub separator_is : (s : Separator) (ts us : List Sign) → after_separator s ts ≡ Some us → ts ≡ separator_sign s ∷ us
+separator_is (separators.Connective c) ts us e = join_is c ts us e
+separator_is separators.Comma ts us e = comma_is ts us e
 
 -- the value of a step that did not fail
 pub bind_ok : {A B : Type 0} (r : Result A Stop) (f : A → Result B Stop) (y : B) → (r >>= f) ≡ Ok y → (x : A) × (r ≡ Ok x) × (f x ≡ Ok y)

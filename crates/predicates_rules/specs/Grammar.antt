@@ -3,10 +3,13 @@ use Rattle.std.specs.Prelude.{ℕ, suc, List, [], ◌∷◌}
 use Rattle.predicates_rules.specs.declared.expression.Connective.{Connective}
 use Rattle.predicates_rules.specs.declared.expression.Connective.TheVariants.{Or, Xor, And}
 use Rattle.predicates_rules.specs.declared.expression.Quantifier.{Quantifier}
+use Rattle.predicates_rules.specs.declared.expression.Quantifier.TheVariants as quantifiers
+use Rattle.predicates_rules.specs.declared.parser.Separator.{Separator}
+use Rattle.predicates_rules.specs.declared.parser.Separator.TheVariants as separators
 use Rattle.predicates_rules.specs.declared.condition.Comparison.{Comparison}
 use Rattle.predicates_rules.specs.declared.condition.Relation.{Relation}
 use Rattle.predicates_rules.specs.declared.condition.State.{State}
-use Rattle.predicates_rules.specs.Trees.{Value, Text, Sign, Join, Not, Quantify, Open, Close, OpenList, CloseList, Comma, Path, Compare, Relate, In, Is, Plain, End, Test, TheValueIs, Compares, Relates, IsAmong, Tree, At, Denied, Quantified, Joined, Trees, none, more}
+use Rattle.predicates_rules.specs.Trees.{Value, Natural, Text, Sign, Join, Not, Each, Any, AtWord, Least, Of, Open, Close, OpenList, CloseList, Comma, Path, Compare, Relate, In, Is, Plain, End, Test, TheValueIs, Compares, Relates, IsAmong, Tree, At, Denied, Quantified, Joined, AtLeast, Trees, none, more}
 
 -- How tightly an expression holds together: one joined by c or by what binds tighter, or a single
 -- one.
@@ -19,6 +22,16 @@ abbrev pub tighter : Connective → Level
 tighter Or = By Xor
 tighter Xor = By And
 tighter And = Single
+
+-- What parts the expressions of a row: the connective that joins them, or a comma. Behind a comma
+-- stands any expression.
+abbrev pub separator_sign : Separator → Sign
+separator_sign (separators.Connective c) = Join c
+separator_sign separators.Comma = Comma
+
+abbrev pub part_level : Separator → Level
+part_level (separators.Connective c) = tighter c
+part_level separators.Comma = By Or
 
 -- In each relation the first list is the tokens, and the last one what is left of them behind the
 -- phrase.
@@ -41,9 +54,18 @@ pub data IsTest : List Sign → Test → List Sign → Type 0 where
   -- in [ v , .. , v ]
   among : {ts rest : List Sign} {vs : List Value} → Items ts vs rest → IsTest (In ∷ OpenList ∷ ts) (IsAmong vs) rest
 
+-- how many items have to meet an expression
+pub data IsQuantifier : List Sign → Quantifier → List Sign → Type 0 where
+  -- each
+  each : {rest : List Sign} → IsQuantifier (Each ∷ rest) quantifiers.Each rest
+  -- any
+  any : {rest : List Sign} → IsQuantifier (Any ∷ rest) quantifiers.Any rest
+  -- at least K
+  at_least_items : {k : ℕ} {rest : List Sign} → IsQuantifier (AtWord ∷ Least ∷ Plain (Natural k) ∷ rest) (quantifiers.AtLeast k) rest
+
 mutual
   -- An expression of a level, which nests at most n deep. What `not` denies and what stands in
-  -- parentheses is one deeper; what is joined is not.
+  -- parentheses is one deeper; what is joined or listed is not.
   pub data Spells : ℕ → Level → List Sign → Tree → List Sign → Type 0 where
     -- PATH ..
     test : {n : ℕ} {path : List ℕ} {t : Test} {ts rest : List Sign} → IsTest ts t rest → Spells n Single (Path path ∷ ts) (At path t) rest
@@ -51,20 +73,23 @@ mutual
     denied : {n : ℕ} {e : Tree} {ts rest : List Sign} → Spells n Single ts e rest → Spells (suc n) Single (Not ∷ ts) (Denied e) rest
     -- ( E )
     group : {n : ℕ} {e : Tree} {ts rest : List Sign} → Spells n (By Or) ts e (Close ∷ rest) → Spells (suc n) Single (Open ∷ ts) e rest
-    -- each PATH ( E )    any PATH ( E )
-    quantified : {n : ℕ} {q : Quantifier} {path : List ℕ} {e : Tree} {ts rest : List Sign} → Spells n (By Or) ts e (Close ∷ rest)
-        → Spells (suc n) Single (Quantify q ∷ Path path ∷ Open ∷ ts) (Quantified q path e) rest
+    -- each PATH ( E )    any PATH ( E )    at least K PATH ( E )
+    quantified : {n : ℕ} {q : Quantifier} {path : List ℕ} {e : Tree} {ts us rest : List Sign} → IsQuantifier ts q (Path path ∷ Open ∷ us) → Spells n (By Or) us e (Close ∷ rest)
+        → Spells (suc n) Single ts (Quantified q path e) rest
+    -- at least K of ( E , .. , E )
+    at_least : {n k : ℕ} {e : Tree} {es : Trees} {ts us rest : List Sign} → Spells n (By Or) ts e us → Follow n separators.Comma us es (Close ∷ rest)
+        → Spells (suc n) Single (AtWord ∷ Least ∷ Plain (Natural k) ∷ Of ∷ Open ∷ ts) (AtLeast k (more e es)) rest
     -- what binds tighter, alone
     alone : {n : ℕ} {c : Connective} {e : Tree} {ts rest : List Sign} → Spells n (tighter c) ts e rest → Spells n (By c) ts e rest
     -- E c E .. c E
-    joined : {n : ℕ} {c : Connective} {e f : Tree} {es : Trees} {ts us rest : List Sign} → Spells n (tighter c) ts e us → Follow n c us (more f es) rest
+    joined : {n : ℕ} {c : Connective} {e f : Tree} {es : Trees} {ts us rest : List Sign} → Spells n (tighter c) ts e us → Follow n (separators.Connective c) us (more f es) rest
         → Spells n (By c) ts (Joined c (more e (more f es))) rest
 
-  -- c E .. c E, or nothing
-  pub data Follow : ℕ → Connective → List Sign → Trees → List Sign → Type 0 where
-    no_more : {n : ℕ} {c : Connective} {rest : List Sign} → Follow n c rest none rest
-    and_more : {n : ℕ} {c : Connective} {e : Tree} {es : Trees} {ts us rest : List Sign} → Spells n (tighter c) ts e us → Follow n c us es rest
-        → Follow n c (Join c ∷ ts) (more e es) rest
+  -- s E .. s E, or nothing
+  pub data Follow : ℕ → Separator → List Sign → Trees → List Sign → Type 0 where
+    no_more : {n : ℕ} {s : Separator} {rest : List Sign} → Follow n s rest none rest
+    and_more : {n : ℕ} {s : Separator} {e : Tree} {es : Trees} {ts us rest : List Sign} → Spells n (part_level s) ts e us → Follow n s us es rest
+        → Follow n s (separator_sign s ∷ ts) (more e es) rest
 
 -- how deep a rule may nest
 abbrev pub max_depth : ℕ

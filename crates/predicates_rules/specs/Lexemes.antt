@@ -5,7 +5,6 @@ use Rattle.std.specs.Str.{bytes_eq, is_utf8}
 use Rattle.serde_json.specs.Data.{Data, null, boolean, number, string, unsigned, negative}
 use Rattle.serde_json.specs.Read.{read}
 use Rattle.predicates_rules.specs.declared.expression.Connective.TheVariants as connectives
-use Rattle.predicates_rules.specs.declared.expression.Quantifier.TheVariants as quantifiers
 use Rattle.predicates_rules.specs.declared.condition.Comparison.TheVariants as comparisons
 use Rattle.predicates_rules.specs.declared.condition.Relation.TheVariants as relations
 use Rattle.predicates_rules.specs.declared.condition.State.TheVariants as states
@@ -13,7 +12,7 @@ use Rattle.predicates_rules.specs.declared.fixed.Fixed.{Fixed}
 use Rattle.predicates_rules.specs.declared.fixed.Fixed.TheVariants as fixed
 use Rattle.predicates_rules.specs.declared.lexer.Class.{Class}
 use Rattle.predicates_rules.specs.declared.lexer.Class.TheVariants.{Letter, Digit, Symbol, Mark, Slash, Quote, Space, Name, Other}
-use Rattle.predicates_rules.specs.Trees.{Value, Natural, Negative, Text, Boolean, Null, Sign, Join, Not, Quantify, Open, Close, OpenList, CloseList, Comma, Path, Compare, Relate, In, Is, Plain, End}
+use Rattle.predicates_rules.specs.Trees.{Value, Natural, Negative, Text, Boolean, Null, Sign, Join, Not, Each, Any, AtWord, Least, Of, Open, Close, OpenList, CloseList, Comma, Path, Compare, Relate, In, Is, Plain, End}
 
 -- ---- tokens with a text of their own
 
@@ -24,6 +23,9 @@ text_of fixed.And = codes "and"
 text_of fixed.Not = codes "not"
 text_of fixed.Each = codes "each"
 text_of fixed.Any = codes "any"
+text_of fixed.At = codes "at"
+text_of fixed.Least = codes "least"
+text_of fixed.Of = codes "of"
 text_of fixed.StartsWith = codes "starts_with"
 text_of fixed.EndsWith = codes "ends_with"
 text_of fixed.Contains = codes "contains"
@@ -52,8 +54,11 @@ sign_of_fixed fixed.Or = Join connectives.Or
 sign_of_fixed fixed.Xor = Join connectives.Xor
 sign_of_fixed fixed.And = Join connectives.And
 sign_of_fixed fixed.Not = Not
-sign_of_fixed fixed.Each = Quantify quantifiers.Each
-sign_of_fixed fixed.Any = Quantify quantifiers.Any
+sign_of_fixed fixed.Each = Each
+sign_of_fixed fixed.Any = Any
+sign_of_fixed fixed.At = AtWord
+sign_of_fixed fixed.Least = Least
+sign_of_fixed fixed.Of = Of
 sign_of_fixed fixed.StartsWith = Relate relations.StartsWith
 sign_of_fixed fixed.EndsWith = Relate relations.EndsWith
 sign_of_fixed fixed.Contains = Relate relations.Contains
@@ -78,7 +83,7 @@ sign_of_fixed fixed.CloseList = CloseList
 sign_of_fixed fixed.Comma = Comma
 
 abbrev pub all_fixed : List Fixed
-all_fixed = fixed.Or ∷ fixed.Xor ∷ fixed.And ∷ fixed.Not ∷ fixed.Each ∷ fixed.Any ∷ fixed.StartsWith ∷ fixed.EndsWith ∷ fixed.Contains ∷ fixed.Matches ∷ fixed.In ∷ fixed.Exists ∷ fixed.Missing ∷ fixed.IsEmpty ∷ fixed.True ∷ fixed.False ∷ fixed.Null ∷ fixed.Equal ∷ fixed.Unequal ∷ fixed.Below ∷ fixed.AtMost ∷ fixed.Above ∷ fixed.AtLeast ∷ fixed.Open ∷ fixed.Close ∷ fixed.OpenList ∷ fixed.CloseList ∷ fixed.Comma ∷ []
+all_fixed = fixed.Or ∷ fixed.Xor ∷ fixed.And ∷ fixed.Not ∷ fixed.Each ∷ fixed.Any ∷ fixed.At ∷ fixed.Least ∷ fixed.Of ∷ fixed.StartsWith ∷ fixed.EndsWith ∷ fixed.Contains ∷ fixed.Matches ∷ fixed.In ∷ fixed.Exists ∷ fixed.Missing ∷ fixed.IsEmpty ∷ fixed.True ∷ fixed.False ∷ fixed.Null ∷ fixed.Equal ∷ fixed.Unequal ∷ fixed.Below ∷ fixed.AtMost ∷ fixed.Above ∷ fixed.AtLeast ∷ fixed.Open ∷ fixed.Close ∷ fixed.OpenList ∷ fixed.CloseList ∷ fixed.Comma ∷ []
 
 unfoldable pub fixed_at : List ℕ → Option Fixed
 fixed_at word = find (λ f. bytes_eq (text_of f) word) all_fixed

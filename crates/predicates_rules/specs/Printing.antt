@@ -5,14 +5,17 @@ use Rattle.std.specs.Str.{IsUtf8}
 use Rattle.serde_json.specs.Written.{compact_text}
 use Rattle.predicates_rules.specs.declared.expression.Connective.{Connective}
 use Rattle.predicates_rules.specs.declared.expression.Connective.TheVariants.{Or, Xor, And}
+use Rattle.predicates_rules.specs.declared.expression.Quantifier.{Quantifier}
 use Rattle.predicates_rules.specs.declared.expression.Quantifier.TheVariants as quantifiers
+use Rattle.predicates_rules.specs.declared.parser.Separator.{Separator}
+use Rattle.predicates_rules.specs.declared.parser.Separator.TheVariants as separators
 use Rattle.predicates_rules.specs.declared.condition.Comparison.TheVariants as comparisons
 use Rattle.predicates_rules.specs.declared.condition.Relation.TheVariants as relations
 use Rattle.predicates_rules.specs.declared.condition.State.TheVariants as states
 use Rattle.predicates_rules.specs.declared.fixed.Fixed.TheVariants as fixed
 use Rattle.predicates_rules.specs.declared.lexer.Class.TheVariants.{Slash}
-use Rattle.predicates_rules.specs.Trees.{Value, Natural, Negative, Text, Boolean, Null, Sign, Join, Not, Quantify, Open, Close, OpenList, CloseList, Comma, Path, Compare, Relate, In, Is, Plain, End, Test, TheValueIs, Compares, Relates, IsAmong, Tree, At, Denied, Quantified, Joined, Trees, none, more}
-use Rattle.predicates_rules.specs.Grammar.{Level, By, Single, tighter}
+use Rattle.predicates_rules.specs.Trees.{Value, Natural, Negative, Text, Boolean, Null, Sign, Join, Not, Each, Any, AtWord, Least, Of, Open, Close, OpenList, CloseList, Comma, Path, Compare, Relate, In, Is, Plain, End, Test, TheValueIs, Compares, Relates, IsAmong, Tree, At, Denied, Quantified, Joined, AtLeast, Trees, none, more}
+use Rattle.predicates_rules.specs.Grammar.{Level, By, Single, separator_sign, part_level}
 use Rattle.predicates_rules.specs.Lexemes.{continues, text_of, data_of}
 
 -- ---- the tokens of an expression
@@ -28,6 +31,11 @@ test_signs (TheValueIs s) = Is s ∷ []
 test_signs (Compares o v) = Compare o ∷ Plain v ∷ []
 test_signs (Relates r text) = Relate r ∷ Plain (Text text) ∷ []
 test_signs (IsAmong vs) = In ∷ OpenList ∷ items_signs vs
+
+abbrev pub quantifier_signs : Quantifier → List Sign
+quantifier_signs quantifiers.Each = Each ∷ []
+quantifier_signs quantifiers.Any = Any ∷ []
+quantifier_signs (quantifiers.AtLeast k) = AtWord ∷ Least ∷ Plain (Natural k) ∷ []
 
 abbrev pub in_parentheses : List Sign → List Sign
 in_parentheses ts = Open ∷ ts ++ Close ∷ []
@@ -45,18 +53,19 @@ abbrev mutual
   pub signs_at : Level → Tree → List Sign
   signs_at l (At path t) = Path path ∷ test_signs t
   signs_at l (Denied e) = Not ∷ signs_at Single e
-  signs_at l (Quantified q path e) = Quantify q ∷ Path path ∷ in_parentheses (signs_at (By Or) e)
-  signs_at l (Joined c es) = if fits l c then part_signs c es else in_parentheses (part_signs c es)
+  signs_at l (Quantified q path e) = quantifier_signs q ++ Path path ∷ in_parentheses (signs_at (By Or) e)
+  signs_at l (Joined c es) = if fits l c then part_signs (separators.Connective c) es else in_parentheses (part_signs (separators.Connective c) es)
+  signs_at l (AtLeast k es) = AtWord ∷ Least ∷ Plain (Natural k) ∷ Of ∷ in_parentheses (part_signs separators.Comma es)
 
-  -- E c .. c E
-  pub part_signs : Connective → Trees → List Sign
-  part_signs c none = []
-  part_signs c (more e es) = signs_at (tighter c) e ++ follow_signs c es
+  -- E s .. s E
+  pub part_signs : Separator → Trees → List Sign
+  part_signs s none = []
+  part_signs s (more e es) = signs_at (part_level s) e ++ follow_signs s es
 
-  -- c E .. c E
-  pub follow_signs : Connective → Trees → List Sign
-  follow_signs c none = []
-  follow_signs c (more e es) = Join c ∷ signs_at (tighter c) e ++ follow_signs c es
+  -- s E .. s E
+  pub follow_signs : Separator → Trees → List Sign
+  follow_signs s none = []
+  follow_signs s (more e es) = separator_sign s ∷ signs_at (part_level s) e ++ follow_signs s es
 
 -- how deep an expression nests when it is written so
 abbrev mutual
@@ -64,23 +73,25 @@ abbrev mutual
   nesting_at l (At path t) = 0
   nesting_at l (Denied e) = suc (nesting_at Single e)
   nesting_at l (Quantified q path e) = suc (nesting_at (By Or) e)
-  nesting_at l (Joined c es) = if fits l c then parts_nesting c es else suc (parts_nesting c es)
+  nesting_at l (Joined c es) = if fits l c then parts_nesting (separators.Connective c) es else suc (parts_nesting (separators.Connective c) es)
+  nesting_at l (AtLeast k es) = suc (parts_nesting separators.Comma es)
 
-  pub parts_nesting : Connective → Trees → ℕ
-  parts_nesting c none = 0
-  parts_nesting c (more e es) = max (nesting_at (tighter c) e) (parts_nesting c es)
+  pub parts_nesting : Separator → Trees → ℕ
+  parts_nesting s none = 0
+  parts_nesting s (more e es) = max (nesting_at (part_level s) e) (parts_nesting s es)
 
 abbrev pub IsSome : Trees → Type 0
 IsSome none = ⊥
 IsSome (more e es) = Unit {0}
 
--- each join has two parts or more
+-- each join has two parts or more, and each threshold one or more
 abbrev mutual
   pub IsProper : Tree → Type 0
   IsProper (At path t) = Unit {0}
   IsProper (Denied e) = IsProper e
   IsProper (Quantified q path e) = IsProper e
   IsProper (Joined c es) = AreMany es
+  IsProper (AtLeast k es) = IsSome es × AreProper es
 
   pub AreMany : Trees → Type 0
   AreMany none = ⊥
@@ -101,8 +112,11 @@ word_of (Join Or) = text_of fixed.Or
 word_of (Join Xor) = text_of fixed.Xor
 word_of (Join And) = text_of fixed.And
 word_of Not = text_of fixed.Not
-word_of (Quantify quantifiers.Each) = text_of fixed.Each
-word_of (Quantify quantifiers.Any) = text_of fixed.Any
+word_of Each = text_of fixed.Each
+word_of Any = text_of fixed.Any
+word_of AtWord = text_of fixed.At
+word_of Least = text_of fixed.Least
+word_of Of = text_of fixed.Of
 word_of Open = text_of fixed.Open
 word_of Close = text_of fixed.Close
 word_of OpenList = text_of fixed.OpenList
@@ -159,13 +173,19 @@ IsPlainTest (Compares o v) = IsValue v
 IsPlainTest (Relates r text) = IsUtf8 text
 IsPlainTest (IsAmong vs) = AreValues vs
 
--- its paths and literals can be written
+abbrev pub IsPlainQuantifier : Quantifier → Type 0
+IsPlainQuantifier quantifiers.Each = Unit {0}
+IsPlainQuantifier quantifiers.Any = Unit {0}
+IsPlainQuantifier (quantifiers.AtLeast k) = IsValue (Natural k)
+
+-- its paths, literals and numbers can be written
 abbrev mutual
   pub IsPlain : Tree → Type 0
   IsPlain (At path t) = IsPath path × IsPlainTest t
   IsPlain (Denied e) = IsPlain e
-  IsPlain (Quantified q path e) = IsPath path × IsPlain e
+  IsPlain (Quantified q path e) = IsPath path × IsPlain e × IsPlainQuantifier q
   IsPlain (Joined c es) = ArePlain es
+  IsPlain (AtLeast k es) = IsValue (Natural k) × ArePlain es
 
   pub ArePlain : Trees → Type 0
   ArePlain none = Unit {0}

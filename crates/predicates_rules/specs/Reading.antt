@@ -3,12 +3,15 @@ use Rattle.std.specs.Prelude.{ℕ, zero, suc, Bool, true, false, List, [], ◌�
 use Rattle.predicates_rules.specs.declared.expression.Connective.{Connective}
 use Rattle.predicates_rules.specs.declared.expression.Connective.TheVariants.{Or, Xor, And}
 use Rattle.predicates_rules.specs.declared.expression.Quantifier.{Quantifier}
+use Rattle.predicates_rules.specs.declared.expression.Quantifier.TheVariants as quantifiers
+use Rattle.predicates_rules.specs.declared.parser.Separator.{Separator}
+use Rattle.predicates_rules.specs.declared.parser.Separator.TheVariants as separators
 use Rattle.predicates_rules.specs.declared.error.Expected.{Expected}
 use Rattle.predicates_rules.specs.declared.error.Expected.TheVariants as expected
 use Rattle.predicates_rules.specs.declared.error.Reason.TheVariants.{TooDeep}
 use Rattle.predicates_rules.specs.declared.stop.Stop.{Stop}
-use Rattle.predicates_rules.specs.Trees.{Value, Text, Sign, Join, Not, Quantify, Open, Close, OpenList, CloseList, Comma, Path, Compare, Relate, In, Is, Plain, End, Test, TheValueIs, Compares, Relates, IsAmong, Tree, At, Denied, Quantified, Joined, Trees, none, more}
-use Rattle.predicates_rules.specs.Grammar.{Level, By, Single}
+use Rattle.predicates_rules.specs.Trees.{Value, Natural, Text, Sign, Join, Not, Each, Any, AtWord, Least, Of, Open, Close, OpenList, CloseList, Comma, Path, Compare, Relate, In, Is, Plain, End, Test, TheValueIs, Compares, Relates, IsAmong, Tree, At, Denied, Quantified, Joined, AtLeast, Trees, none, more}
+use Rattle.predicates_rules.specs.Grammar.{Level, By, Single, tighter}
 use Rattle.predicates_rules.specs.Answers.{◌>>=◌, stops}
 
 abbrev pub Answer : Type 0
@@ -65,9 +68,18 @@ unfoldable pub after_open : List Sign → Result (List Sign) Stop
 after_open (Open ∷ ts) = Ok ts
 after_open ts = fails expected.Open ts
 
-unfoldable pub after_close : List Sign → Result (List Sign) Stop
-after_close (Close ∷ ts) = Ok ts
-after_close ts = fails expected.Close ts
+-- what is said to be expected where no parenthesis closes
+unfoldable pub after_close : Expected → List Sign → Result (List Sign) Stop
+after_close x (Close ∷ ts) = Ok ts
+after_close x ts = fails x ts
+
+unfoldable pub after_least : List Sign → Result (List Sign) Stop
+after_least (Least ∷ ts) = Ok ts
+after_least ts = fails expected.Least ts
+
+unfoldable pub count_at : List Sign → Result (ℕ × List Sign) Stop
+count_at (Plain (Natural k) ∷ ts) = Ok (k, ts)
+count_at ts = fails expected.Count ts
 
 abbrev pub same : Connective → Connective → Bool
 same Or Or = true
@@ -80,12 +92,20 @@ unfoldable pub after_join : Connective → List Sign → Option (List Sign)
 after_join c (Join d ∷ ts) = if same c d then Some ts else None
 after_join c ts = None
 
+unfoldable pub after_comma : List Sign → Option (List Sign)
+after_comma (Comma ∷ ts) = Some ts
+after_comma ts = None
+
+abbrev pub after_separator : Separator → List Sign → Option (List Sign)
+after_separator (separators.Connective c) ts = after_join c ts
+after_separator separators.Comma ts = after_comma ts
+
 -- The readers take the reader of what is one deeper.
 
 unfoldable pub group : (Level → List Sign → Answer) → List Sign → Answer
 group deeper ts = do
   e ← deeper (By Or) ts
-  rest ← after_close e.1
+  rest ← after_close expected.Close e.1
   Ok (e.0, rest)
 
 unfoldable pub quantified : (Level → List Sign → Answer) → Quantifier → List Sign → Answer
@@ -95,22 +115,44 @@ quantified deeper q ts = do
   e ← group deeper us
   Ok (Quantified q path.0 e.0, e.1)
 
-unfoldable pub single : (Level → List Sign → Answer) → List Sign → Answer
-single deeper (Path path ∷ ts) = test_at ts >>= λ x. Ok (At path x.0, x.1)
-single deeper (Not ∷ ts) = deeper Single ts >>= λ x. Ok (Denied x.0, x.1)
-single deeper (Open ∷ ts) = group deeper ts
-single deeper (Quantify q ∷ ts) = quantified deeper q ts
-single deeper ts = fails expected.Expression ts
-
--- one more part, if the connective was next
+-- one more part, if the separator was next
 abbrev pub with_next : (List Sign → Answer) → (List Sign → Result (Trees × List Sign) Stop) → List Sign → Option (List Sign) → Result (Trees × List Sign) Stop
 with_next part go ts None = Ok (none, ts)
 with_next part go ts (Some us) = part us >>= λ e. go e.1 >>= λ x. Ok (more e.0 x.0, x.1)
 
--- The parts behind the first one, each with the connective before it; there are at most k.
-unfoldable pub parts_at : ℕ → Connective → (List Sign → Answer) → List Sign → Result (Trees × List Sign) Stop
-parts_at zero c part ts = Ok (none, ts)
-parts_at (suc k) c part ts = with_next part (parts_at k c part) ts (after_join c ts)
+-- The parts behind the first one, each with the separator before it; there are at most k.
+unfoldable pub parts_at : ℕ → Separator → (List Sign → Answer) → List Sign → Result (Trees × List Sign) Stop
+parts_at zero s part ts = Ok (none, ts)
+parts_at (suc k) s part ts = with_next part (parts_at k s part) ts (after_separator s ts)
+
+-- the parts that a threshold lists
+unfoldable pub listed : (Level → List Sign → Answer) → ℕ → List Sign → Answer
+listed deeper k ts = do
+  e ← deeper (By Or) ts
+  x ← parts_at (length e.1) separators.Comma (deeper (By Or)) e.1
+  rest ← after_close expected.PartsGoOn x.1
+  Ok (AtLeast k (more e.0 x.0), rest)
+
+-- what is counted
+unfoldable pub counted : (Level → List Sign → Answer) → ℕ → List Sign → Answer
+counted deeper k (Of ∷ ts) = after_open ts >>= listed deeper k
+counted deeper k (Path path ∷ ts) = quantified deeper (quantifiers.AtLeast k) (Path path ∷ ts)
+counted deeper k ts = fails expected.Counted ts
+
+unfoldable pub threshold : (Level → List Sign → Answer) → List Sign → Answer
+threshold deeper ts = do
+  us ← after_least ts
+  k ← count_at us
+  counted deeper k.0 k.1
+
+unfoldable pub single : (Level → List Sign → Answer) → List Sign → Answer
+single deeper (Path path ∷ ts) = test_at ts >>= λ x. Ok (At path x.0, x.1)
+single deeper (Not ∷ ts) = deeper Single ts >>= λ x. Ok (Denied x.0, x.1)
+single deeper (Open ∷ ts) = group deeper ts
+single deeper (Each ∷ ts) = quantified deeper quantifiers.Each ts
+single deeper (Any ∷ ts) = quantified deeper quantifiers.Any ts
+single deeper (AtWord ∷ ts) = threshold deeper ts
+single deeper ts = fails expected.Expression ts
 
 abbrev pub join : Connective → Tree → Trees → Tree
 join c e none = e
@@ -119,7 +161,7 @@ join c e (more f es) = Joined c (more e (more f es))
 unfoldable pub chain : Connective → (List Sign → Answer) → List Sign → Answer
 chain c part ts = do
   e ← part ts
-  x ← parts_at (length e.1) c part e.1
+  x ← parts_at (length e.1) (separators.Connective c) part e.1
   Ok (join c e.0 x.0, x.1)
 
 unfoldable pub at_level : (Level → List Sign → Answer) → Level → List Sign → Answer
@@ -127,6 +169,11 @@ at_level deeper Single ts = single deeper ts
 at_level deeper (By And) ts = chain And (single deeper) ts
 at_level deeper (By Xor) ts = chain Xor (chain And (single deeper)) ts
 at_level deeper (By Or) ts = chain Or (chain Xor (chain And (single deeper))) ts
+
+-- a part of a row
+abbrev pub part_at : (Level → List Sign → Answer) → Separator → List Sign → Answer
+part_at deeper (separators.Connective c) = at_level deeper (tighter c)
+part_at deeper separators.Comma = deeper (By Or)
 
 -- what is below n levels of nesting
 unfoldable pub below : ℕ → Level → List Sign → Answer

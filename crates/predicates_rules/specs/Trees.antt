@@ -25,7 +25,11 @@ pub data Value : Type 0 where
 pub data Sign : Type 0 where
   Join : (c : Connective) → Sign
   Not : Sign
-  Quantify : (q : Quantifier) → Sign
+  Each : Sign
+  Any : Sign
+  AtWord : Sign
+  Least : Sign
+  Of : Sign
   Open : Sign
   Close : Sign
   OpenList : Sign
@@ -52,6 +56,7 @@ mutual
     Denied : (e : Tree) → Tree
     Quantified : (q : Quantifier) → (path : List ℕ) → (e : Tree) → Tree
     Joined : (c : Connective) → (es : Trees) → Tree
+    AtLeast : (k : ℕ) → (es : Trees) → Tree
 
   pub data Trees : Type 0 where
     none : Trees
@@ -71,7 +76,11 @@ value_of literals.Null = Null
 abbrev pub sign_of : Kind → Sign
 sign_of (kinds.Join c) = Join c
 sign_of kinds.Not = Not
-sign_of (kinds.Quantifier q) = Quantify q
+sign_of kinds.Each = Each
+sign_of kinds.Any = Any
+sign_of kinds.At = AtWord
+sign_of kinds.Least = Least
+sign_of kinds.Of = Of
 sign_of kinds.Open = Open
 sign_of kinds.Close = Close
 sign_of kinds.OpenList = OpenList
@@ -100,6 +109,7 @@ tree_step (Expression-F.Test path condition) = At (string_bytes path) (test_of c
 tree_step (Expression-F.Not e) = Denied (box_value e)
 tree_step (Expression-F.Quantified q path e) = Quantified q (string_bytes path) (box_value e)
 tree_step (Expression-F.Joined c es) = Joined c (trees_of es.items)
+tree_step (Expression-F.AtLeast k es) = AtLeast k (trees_of es.items)
 
 abbrev pub tree_of : Expression → Tree
 tree_of = fold-Expression Tree tree_step

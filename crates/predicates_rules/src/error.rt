@@ -11,7 +11,7 @@ pub enum Expected {
     Name,
     /// The colon behind a rule's name.
     Colon,
-    /// A path, `not`, `each`, `any` or a parenthesis.
+    /// A path, `not`, `each`, `any`, `at` or a parenthesis.
     Expression,
     Path,
     /// An operator, or a word such as `exists`.
@@ -23,6 +23,14 @@ pub enum Expected {
     List,
     /// A comma, or the bracket that closes a list.
     ListGoesOn,
+    /// The word `least` behind `at`.
+    Least,
+    /// The number behind `at least`.
+    Count,
+    /// What is counted: `of` before expressions, or the path of a list.
+    Counted,
+    /// A comma, the parenthesis that closes, or `or`, `xor` or `and`.
+    PartsGoOn,
     Open,
     /// The parenthesis that closes, or `or`, `xor` or `and`.
     Close,
@@ -45,13 +53,17 @@ impl fmt::Display for Expected {
         let text = match self {
             Expected::Name => "the name of a rule",
             Expected::Colon => "`:` behind the name of a rule",
-            Expected::Expression => "a path, `not`, `each`, `any` or `(`",
+            Expected::Expression => "a path, `not`, `each`, `any`, `at` or `(`",
             Expected::Path => "a path",
             Expected::Condition => "an operator, `exists`, `missing` or `is_empty`",
             Expected::Literal => "a literal",
             Expected::Text => "a text in quotes",
             Expected::List => "`[`",
             Expected::ListGoesOn => "`,` or `]`",
+            Expected::Least => "`least`",
+            Expected::Count => "a whole number from 0 to 2^64 - 1",
+            Expected::Counted => "`of` or a path",
+            Expected::PartsGoOn => "`,`, `)`, `or`, `xor` or `and`",
             Expected::Open => "`(`",
             Expected::Close => "`)`, `or`, `xor` or `and`",
             Expected::End => "the end of the line, `or`, `xor` or `and`",

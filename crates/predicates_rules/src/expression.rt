@@ -2,8 +2,8 @@
 
 use crate::condition::Condition;
 
-/// How deep a rule may nest: by parentheses, `not`, `each` and `any`. What is joined in a row is
-/// not nested, so a row may be longer.
+/// How deep a rule may nest: by parentheses, `not`, `each`, `any` and `at least`. What is joined or
+/// listed in a row is not nested, so a row may be longer.
 pub const MAX_DEPTH: u32 = 100;
 
 /// What joins expressions, the weakest first.
@@ -20,6 +20,8 @@ pub enum Connective {
 pub enum Quantifier {
     Each,
     Any,
+    /// At least so many of them, which may be 0 or more than there are.
+    AtLeast(u64),
 }
 
 /// What a rule says of a record.
@@ -36,4 +38,7 @@ pub enum Expression {
     /// Two parts or more, in the order of the text. What one connective joins in a row is one
     /// join, so a part is itself joined by the same connective only where parentheses say so.
     Joined(Connective, Vec<Expression>),
+    /// At least so many of the parts hold: one part or more, in the order of the text. The number
+    /// may be 0 or above that of the parts.
+    AtLeast(u64, Vec<Expression>),
 }

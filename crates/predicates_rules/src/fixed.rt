@@ -7,7 +7,7 @@ ghost use Rattle.predicates_rules.specs.Trees.{sign_of};
 ghost use Rattle.predicates_rules.specs.Lexemes.{text_of, sign_of_fixed, fixed_at};
 
 use crate::condition::{Comparison, Relation, State};
-use crate::expression::{Connective, Quantifier};
+use crate::expression::Connective;
 use crate::literal::Literal;
 use crate::token::Kind;
 
@@ -19,6 +19,9 @@ pub enum Fixed {
     Not,
     Each,
     Any,
+    At,
+    Least,
+    Of,
     StartsWith,
     EndsWith,
     Contains,
@@ -43,13 +46,16 @@ pub enum Fixed {
     Comma,
 }
 
-const ALL: [Fixed; 28] = [
+const ALL: [Fixed; 31] = [
     Fixed::Or,
     Fixed::Xor,
     Fixed::And,
     Fixed::Not,
     Fixed::Each,
     Fixed::Any,
+    Fixed::At,
+    Fixed::Least,
+    Fixed::Of,
     Fixed::StartsWith,
     Fixed::EndsWith,
     Fixed::Contains,
@@ -84,6 +90,9 @@ fn text(fixed: Fixed) -> &'static [u8]
         Fixed::Not => b"not",
         Fixed::Each => b"each",
         Fixed::Any => b"any",
+        Fixed::At => b"at",
+        Fixed::Least => b"least",
+        Fixed::Of => b"of",
         Fixed::StartsWith => b"starts_with",
         Fixed::EndsWith => b"ends_with",
         Fixed::Contains => b"contains",
@@ -118,8 +127,11 @@ pub fn kind(fixed: Fixed) -> Kind
         Fixed::Xor => Kind::Join(Connective::Xor),
         Fixed::And => Kind::Join(Connective::And),
         Fixed::Not => Kind::Not,
-        Fixed::Each => Kind::Quantifier(Quantifier::Each),
-        Fixed::Any => Kind::Quantifier(Quantifier::Any),
+        Fixed::Each => Kind::Each,
+        Fixed::Any => Kind::Any,
+        Fixed::At => Kind::At,
+        Fixed::Least => Kind::Least,
+        Fixed::Of => Kind::Of,
         Fixed::StartsWith => Kind::Relation(Relation::StartsWith),
         Fixed::EndsWith => Kind::Relation(Relation::EndsWith),
         Fixed::Contains => Kind::Relation(Relation::Contains),

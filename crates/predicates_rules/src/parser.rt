@@ -2,11 +2,11 @@
 
 ghost use Rattle.std.specs.Prelude.{◌≡◌, ℕ, List, [], map, option_map, string_bytes, IfOk, IfErr, Ok, length};
 ghost use Rattle.predicates_rules.specs.Trees.{Tree, Sign, value_of, test_of, tree_of, trees_of, signs};
-ghost use Rattle.predicates_rules.specs.Grammar.{tighter, By, Single, IsSpelled};
+ghost use Rattle.predicates_rules.specs.Grammar.{tighter, part_level, By, Single, IsSpelled};
 ghost use Rattle.predicates_rules.specs.declared.expression.Connective.TheVariants.{Or};
 ghost use Rattle.predicates_rules.specs.Levels.{level_of};
 ghost use Rattle.predicates_rules.specs.Answers.{Gives, IsSyntax, stop_at};
-ghost use Rattle.predicates_rules.specs.Reading.{literal_at, goes_on_at, items_at, list_at, after_bracket, text_at, test_at, path_at, after_open, after_close, same, after_join, group, quantified, single, parts_at, join, chain, at_level, below, is_end, all_of};
+ghost use Rattle.predicates_rules.specs.Reading.{literal_at, goes_on_at, items_at, list_at, after_bracket, text_at, test_at, path_at, after_open, after_close, after_least, count_at, same, after_join, after_comma, after_separator, group, quantified, listed, counted, threshold, single, part_at, parts_at, join, chain, at_level, below, is_end, all_of};
 
 use crate::condition::Condition;
 use crate::error::{Expected, Reason};
@@ -64,16 +64,43 @@ fn open(tokens: &[Token]) -> Result<&[Token], ReadError>
     }
 }
 
+// What stands behind the parenthesis that closes, where else `expected` would be.
 #[tactic(auto, unfolding(crate::specs::Reading::after_close))]
-fn close(tokens: &[Token]) -> Result<&[Token], ReadError>
-    ensures { Gives (λ x. signs x.now) result (after_close (signs tokens.now)) }
+fn close(expected: Expected, tokens: &[Token]) -> Result<&[Token], ReadError>
+    ensures { Gives (λ x. signs x.now) result (after_close expected (signs tokens.now)) }
 {
     let [first, rest @ ..] = tokens else {
-        return Err(stop(Expected::Close, tokens));
+        return Err(stop(expected, tokens));
     };
     match first.kind {
         Kind::Close => Ok(rest),
-        _ => Err(stop(Expected::Close, tokens)),
+        _ => Err(stop(expected, tokens)),
+    }
+}
+
+#[tactic(auto, unfolding(crate::specs::Reading::after_least))]
+fn least(tokens: &[Token]) -> Result<&[Token], ReadError>
+    ensures { Gives (λ x. signs x.now) result (after_least (signs tokens.now)) }
+{
+    let [first, rest @ ..] = tokens else {
+        return Err(stop(Expected::Least, tokens));
+    };
+    match first.kind {
+        Kind::Least => Ok(rest),
+        _ => Err(stop(Expected::Least, tokens)),
+    }
+}
+
+#[tactic(auto, unfolding(crate::specs::Reading::count_at))]
+fn count(tokens: &[Token]) -> Result<(u64, &[Token]), ReadError>
+    ensures { Gives (λ x. (x.0, signs x.1.now)) result (count_at (signs tokens.now)) }
+{
+    let [first, rest @ ..] = tokens else {
+        return Err(stop(Expected::Count, tokens));
+    };
+    match &first.kind {
+        Kind::Literal(Literal::Natural(count)) => Ok((*count, rest)),
+        _ => Err(stop(Expected::Count, tokens)),
     }
 }
 
@@ -198,9 +225,15 @@ fn is_same(a: Connective, b: Connective) -> bool
     }
 }
 
-// What stands behind the connective, if it is next.
+// What parts the expressions of a row.
+#[derive(Clone, Copy)]
+enum Separator {
+    Connective(Connective),
+    Comma,
+}
+
 #[tactic(auto, unfolding(crate::specs::Reading::after_join))]
-fn behind(connective: Connective, tokens: &[Token]) -> Option<&[Token]>
+fn behind_join(connective: Connective, tokens: &[Token]) -> Option<&[Token]>
     ensures { option_map (λ x. signs x.now) result ≡ after_join connective (signs tokens.now) }
 {
     let [first, rest @ ..] = tokens else {
@@ -209,6 +242,29 @@ fn behind(connective: Connective, tokens: &[Token]) -> Option<&[Token]>
     match first.kind {
         Kind::Join(next) => is_same(connective, next).then_some(rest),
         _ => None,
+    }
+}
+
+#[tactic(auto, unfolding(crate::specs::Reading::after_comma))]
+fn behind_comma(tokens: &[Token]) -> Option<&[Token]>
+    ensures { option_map (λ x. signs x.now) result ≡ after_comma (signs tokens.now) }
+{
+    let [first, rest @ ..] = tokens else {
+        return None;
+    };
+    match first.kind {
+        Kind::Comma => Some(rest),
+        _ => None,
+    }
+}
+
+// What stands behind the separator, if it is next.
+fn behind(separator: Separator, tokens: &[Token]) -> Option<&[Token]>
+    ensures { option_map (λ x. signs x.now) result ≡ after_separator separator (signs tokens.now) }
+{
+    match separator {
+        Separator::Connective(connective) => behind_join(connective, tokens),
+        Separator::Comma => behind_comma(tokens),
     }
 }
 
@@ -293,27 +349,46 @@ fn joined(
     ensures { Gives (λ x. (tree_of x.0, signs x.1.now)) result
         (chain connective (at_level (below depth) (tighter connective)) (signs tokens.now)) }
 {
-    let (first, rest) = at_grip(alloc, next_tighter(connective), depth, tokens)?;
-    let (others, rest) = others(alloc, connective, depth, rest)?;
+    let separator = Separator::Connective(connective);
+    let (first, rest) = part(alloc, separator, depth, tokens)?;
+    let (others, rest) = others(alloc, separator, depth, rest)?;
     Ok((with_others(connective, first, others)?, rest))
 }
 
-// The parts behind the first one, each with the connective before it.
+#[cycle(reader)]
+fn part(
+    alloc: Global,
+    separator: Separator,
+    depth: u32,
+    tokens: &[Token],
+) -> Result<(Expression, &[Token]), ReadError>
+    ensures { Gives (λ x. (tree_of x.0, signs x.1.now)) result
+        (part_at (below depth) separator (signs tokens.now)) }
+{
+    match separator {
+        Separator::Connective(connective) => {
+            at_grip(alloc, next_tighter(connective), depth, tokens)
+        }
+        Separator::Comma => deeper(alloc, Grip::By(Connective::Or), depth, tokens),
+    }
+}
+
+// The parts behind the first one, each with the separator before it.
 #[cycle(reader)]
 fn others(
     alloc: Global,
-    connective: Connective,
+    separator: Separator,
     depth: u32,
     tokens: &[Token],
 ) -> Result<(Vec<Expression>, &[Token]), ReadError>
     ensures { Gives (λ x. (trees_of (map tree_of x.0.items), signs x.1.now)) result
-        (parts_at (length (signs tokens.now)) connective
-        (at_level (below depth) (tighter connective)) (signs tokens.now)) }
+        (parts_at (length (signs tokens.now)) separator (part_at (below depth) separator)
+        (signs tokens.now)) }
 {
     let mut parts = Vec::new(alloc);
     let mut left = tokens;
-    while let Some(rest) = behind(connective, left) {
-        let (part, rest) = at_grip(alloc, next_tighter(connective), depth, rest)?;
+    while let Some(rest) = behind(separator, left) {
+        let (part, rest) = part(alloc, separator, depth, rest)?;
         parts.push(part)?;
         left = rest;
     }
@@ -339,7 +414,9 @@ fn alone(alloc: Global, depth: u32, tokens: &[Token]) -> Result<(Expression, &[T
             Ok((Expression::Not(Box::new(alloc, denied)?), rest))
         }
         Kind::Open => in_parentheses(alloc, depth, rest),
-        Kind::Quantifier(quantifier) => over_items(alloc, *quantifier, depth, rest),
+        Kind::Each => over_items(alloc, Quantifier::Each, depth, rest),
+        Kind::Any => over_items(alloc, Quantifier::Any, depth, rest),
+        Kind::At => threshold(alloc, depth, rest),
         _ => Err(stop(Expected::Expression, tokens)),
     }
 }
@@ -355,7 +432,7 @@ fn in_parentheses(
         (group (below depth) (signs tokens.now)) }
 {
     let (inner, rest) = deeper(alloc, Grip::By(Connective::Or), depth, tokens)?;
-    let rest = close(rest)?;
+    let rest = close(Expected::Close, rest)?;
     Ok((inner, rest))
 }
 
@@ -377,6 +454,64 @@ fn over_items(
         Expression::Quantified(quantifier, path, Box::new(alloc, inner)?),
         rest,
     ))
+}
+
+#[cycle(reader)]
+#[tactic(auto, unfolding(crate::specs::Reading::threshold))]
+fn threshold(
+    alloc: Global,
+    depth: u32,
+    tokens: &[Token],
+) -> Result<(Expression, &[Token]), ReadError>
+    ensures { Gives (λ x. (tree_of x.0, signs x.1.now)) result
+        (threshold (below depth) (signs tokens.now)) }
+{
+    let rest = least(tokens)?;
+    let (count, rest) = count(rest)?;
+    counted(alloc, count, depth, rest)
+}
+
+// At least so many of the expressions or of the items that follow.
+#[cycle(reader)]
+#[tactic(auto, unfolding(crate::specs::Reading::counted))]
+fn counted(
+    alloc: Global,
+    count: u64,
+    depth: u32,
+    tokens: &[Token],
+) -> Result<(Expression, &[Token]), ReadError>
+    ensures { Gives (λ x. (tree_of x.0, signs x.1.now)) result
+        (counted (below depth) count (signs tokens.now)) }
+{
+    let [first, rest @ ..] = tokens else {
+        return Err(stop(Expected::Counted, tokens));
+    };
+    match first.kind {
+        Kind::Of => {
+            let rest = open(rest)?;
+            listed(alloc, count, depth, rest)
+        }
+        Kind::Path(_) => over_items(alloc, Quantifier::AtLeast(count), depth, tokens),
+        _ => Err(stop(Expected::Counted, tokens)),
+    }
+}
+
+#[cycle(reader)]
+#[tactic(auto, unfolding(crate::specs::Reading::listed))]
+fn listed(
+    alloc: Global,
+    count: u64,
+    depth: u32,
+    tokens: &[Token],
+) -> Result<(Expression, &[Token]), ReadError>
+    ensures { Gives (λ x. (tree_of x.0, signs x.1.now)) result
+        (listed (below depth) count (signs tokens.now)) }
+{
+    let (first, rest) = part(alloc, Separator::Comma, depth, tokens)?;
+    let (mut parts, rest) = others(alloc, Separator::Comma, depth, rest)?;
+    let rest = close(Expected::PartsGoOn, rest)?;
+    parts.insert(0, first)?;
+    Ok((Expression::AtLeast(count, parts), rest))
 }
 
 fn is_last(tokens: &[Token]) -> bool

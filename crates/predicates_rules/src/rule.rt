@@ -122,7 +122,8 @@ pub fn one_meaning()
 /// An expression is written with no more parentheses than it needs, and its text says it again:
 /// with `only` of `read_rules`, a rule that is written so is read as that rule.
 pub fn written_is_read()
-    // Each join has two parts or more, and paths and literals are such as a rule can write.
+    // Each join has two parts or more, each threshold one or more, and paths, literals and numbers
+    // are such as a rule can write.
     ensures made { (n : ℕ) (e : Tree) → IsProper e → IsPlain e → nesting_at (By Or) e ≤ n
         → Says n (printed e) e }
     // What a text says, however many parentheses that text has.

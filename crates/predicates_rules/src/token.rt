@@ -1,14 +1,18 @@
 //! The tokens of a rule.
 
 use crate::condition::{Comparison, Relation, State};
-use crate::expression::{Connective, Quantifier};
+use crate::expression::Connective;
 use crate::literal::Literal;
 
 #[derive(Drop)]
 pub enum Kind {
     Join(Connective),
     Not,
-    Quantifier(Quantifier),
+    Each,
+    Any,
+    At,
+    Least,
+    Of,
     Open,
     Close,
     OpenList,

@@ -31,7 +31,7 @@ fn shows(alloc: Global, text: &str, expected: &str) -> Result<bool, AllocError> 
 }
 
 // A text, and the rules that it says, as `Debug` shows them.
-const READ: [(&str, &str); 9] = [
+const READ: [(&str, &str); 13] = [
     (
         SAMPLE,
         "Rule { name: \"adult\", expression: Test(\"/age\", Compare(AtLeast, Natural(18))) }\nRule { name: \"known\", expression: Joined(Or, [Test(\"/name\", Relate(StartsWith, \"A\")), Test(\"/name\", Compare(Equal, Text(\"Zoe\")))]) }\nRule { name: \"seated\", expression: Joined(And, [Test(\"/seat\", Is(Exists)), Not(Test(\"/seat\", In([Natural(13), Natural(17)])))]) }\nRule { name: \"lines\", expression: Quantified(Each, \"/lines\", Joined(And, [Test(\"/quantity\", Compare(AtLeast, Natural(1))), Test(\"/sku\", Relate(Matches, \"^[A-Z]{3}$\"))])) }\n",
@@ -62,6 +62,22 @@ const READ: [(&str, &str); 9] = [
         "not: not not /not exists",
         "Rule { name: \"not\", expression: Not(Not(Test(\"/not\", Is(Exists)))) }\n",
     ),
+    (
+        "two: at least 2 of (/a exists, /b exists or /c exists, not /d exists)",
+        "Rule { name: \"two\", expression: AtLeast(2, [Test(\"/a\", Is(Exists)), Joined(Or, [Test(\"/b\", Is(Exists)), Test(\"/c\", Is(Exists))]), Not(Test(\"/d\", Is(Exists)))]) }\n",
+    ),
+    (
+        "items: at least 3 /lines (/price > 0) and not at least 0 / (/ exists)",
+        "Rule { name: \"items\", expression: Joined(And, [Quantified(AtLeast(3), \"/lines\", Test(\"/price\", Compare(Above, Natural(0)))), Not(Quantified(AtLeast(0), \"\", Test(\"\", Is(Exists))))]) }\n",
+    ),
+    (
+        "most:at\tleast 18446744073709551615 of(/a==1)or at least 0 of(at least 1 of(/b==1,/c==1),/d==1)",
+        "Rule { name: \"most\", expression: Joined(Or, [AtLeast(18446744073709551615, [Test(\"/a\", Compare(Equal, Natural(1)))]), AtLeast(0, [AtLeast(1, [Test(\"/b\", Compare(Equal, Natural(1))), Test(\"/c\", Compare(Equal, Natural(1)))]), Test(\"/d\", Compare(Equal, Natural(1)))])]) }\n",
+    ),
+    (
+        "at: /at exists\nleast: /least == \"at least\"\nof: /of in [\"of\"]",
+        "Rule { name: \"at\", expression: Test(\"/at\", Is(Exists)) }\nRule { name: \"least\", expression: Test(\"/least\", Compare(Equal, Text(\"at least\"))) }\nRule { name: \"of\", expression: Test(\"/of\", In([Text(\"of\")])) }\n",
+    ),
 ];
 
 #[test]
@@ -74,7 +90,7 @@ fn reads_rules(rt: HostRuntime) -> Result<(), Fail> {
 }
 
 // A text, and the line that says why it has no rules.
-const REFUSED: [(&str, &str); 26] = [
+const REFUSED: [(&str, &str); 44] = [
     (
         "a: / exists\n\"b\": / exists",
         "line 2, column 1: expected the name of a rule",
@@ -85,11 +101,11 @@ const REFUSED: [(&str, &str); 26] = [
     ),
     (
         "a: or",
-        "line 1, column 4: expected a path, `not`, `each`, `any` or `(`",
+        "line 1, column 4: expected a path, `not`, `each`, `any`, `at` or `(`",
     ),
     (
         "a:   # later",
-        "line 1, column 6: expected a path, `not`, `each`, `any` or `(`",
+        "line 1, column 6: expected a path, `not`, `each`, `any`, `at` or `(`",
     ),
     ("a: each (", "line 1, column 9: expected a path"),
     (
@@ -157,6 +173,78 @@ const REFUSED: [(&str, &str); 26] = [
     (
         "a:\tnot\t/b\tin\t[ 1 , 2 ,\t3\t",
         "line 1, column 26: expected `,` or `]`",
+    ),
+    (
+        "a: at 2 of (/b exists)",
+        "line 1, column 7: expected `least`",
+    ),
+    (
+        "a: least 2 of (/b exists)",
+        "line 1, column 4: expected a path, `not`, `each`, `any`, `at` or `(`",
+    ),
+    (
+        "a: at least of (/b exists)",
+        "line 1, column 13: expected a whole number from 0 to 2^64 - 1",
+    ),
+    (
+        "a: at least /b (/ exists)",
+        "line 1, column 13: expected a whole number from 0 to 2^64 - 1",
+    ),
+    (
+        "a: at least -1 of (/b exists)",
+        "line 1, column 13: expected a whole number from 0 to 2^64 - 1",
+    ),
+    (
+        "a: at least \"2\" of (/b exists)",
+        "line 1, column 13: expected a whole number from 0 to 2^64 - 1",
+    ),
+    (
+        "a: at least 18446744073709551616 of (/b exists)",
+        "line 1, column 13: expected a whole number from -2^63 to 2^64 - 1",
+    ),
+    (
+        "a: at least 1.5 /b (/ exists)",
+        "line 1, column 13: expected a whole number from -2^63 to 2^64 - 1",
+    ),
+    (
+        "a: at least 2 (/b exists)",
+        "line 1, column 15: expected `of` or a path",
+    ),
+    (
+        "a: at least 2",
+        "line 1, column 14: expected `of` or a path",
+    ),
+    (
+        "a: at least 2 of /b exists",
+        "line 1, column 18: expected `(`",
+    ),
+    (
+        "a: at least 2 of ()",
+        "line 1, column 19: expected a path, `not`, `each`, `any`, `at` or `(`",
+    ),
+    (
+        "a: at least 2 of (/b exists,)",
+        "line 1, column 29: expected a path, `not`, `each`, `any`, `at` or `(`",
+    ),
+    (
+        "a: at least 2 of (, /b exists)",
+        "line 1, column 19: expected a path, `not`, `each`, `any`, `at` or `(`",
+    ),
+    (
+        "a: at least 2 of (/b exists, /c exists",
+        "line 1, column 39: expected `,`, `)`, `or`, `xor` or `and`",
+    ),
+    (
+        "a: at least 2 of (/b exists /c exists)",
+        "line 1, column 29: expected `,`, `)`, `or`, `xor` or `and`",
+    ),
+    (
+        "a: at least 2 /b / exists",
+        "line 1, column 18: expected `(`",
+    ),
+    (
+        "a: at least 2 /b (/ exists, / exists)",
+        "line 1, column 27: expected `)`, `or`, `xor` or `and`",
     ),
 ];
 
@@ -242,12 +330,15 @@ fn ends_as(alloc: Global, times: u32, part: &str) -> Result<Ending, AllocError> 
     Ok(ending)
 }
 
-const SIZES: [(u32, &str, Ending); 9] = [
+const SIZES: [(u32, &str, Ending); 12] = [
     (100, "not ", Ending::Nests),
     (101, "not ", Ending::TooDeep),
     (101, "any / (", Ending::TooDeep),
     (10_000, "not ", Ending::TooDeep),
     (10_000, "each /c (", Ending::TooDeep),
+    (101, "at least 1 / (", Ending::TooDeep),
+    (101, "at least 1 of (", Ending::TooDeep),
+    (10_000, "at least 1 of (/c exists, ", Ending::TooDeep),
     (100_000, "(", Ending::TooDeep),
     (10_000, "/c exists and ", Ending::Joins(10_001)),
     (10_000, "/c exists or ", Ending::Joins(10_001)),
@@ -264,6 +355,34 @@ fn reads_long_rules_and_refuses_deep_ones(rt: HostRuntime) -> Result<(), Fail> {
         let is_expected = ends_as(rt.alloc(), *times, part)? == *expected;
         assert!(rt; is_expected, "{times} times {part}");
     }
+    Ok(())
+}
+
+// The threshold of a list, with a test many times before the last one.
+fn threshold_text(alloc: Global, times: u32) -> Result<String, AllocError> {
+    let mut text = String::from_str(alloc, "a: at least 1 of (")?;
+    for _ in 0..times {
+        text.push_str("/c exists, ")?;
+    }
+    text.push_str("/b exists)")?;
+    Ok(text)
+}
+
+fn lists(rules: &[Rule], count: usize) -> bool {
+    match rules {
+        [rule] => match &rule.expression {
+            Expression::AtLeast(1, parts) => parts.len() == count,
+            _ => false,
+        },
+        _ => false,
+    }
+}
+
+#[test]
+fn reads_long_thresholds(rt: HostRuntime) -> Result<(), Fail> {
+    let text = threshold_text(rt.alloc(), 10_000)?;
+    let rules = read_rules(rt.alloc(), text.as_bytes())?;
+    assert!(rt; lists(&rules, 10_001));
     Ok(())
 }
 
