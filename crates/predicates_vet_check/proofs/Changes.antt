@@ -1,34 +1,33 @@
 -- What would turn a check over others is what would turn the library's predicate over them.
-use Rattle.std.proofs.Common.{◌≡◌, ℕ, Bool, true, false, List, [], ◌∷◌, Option, Some, None, codes, map, refl, sym, ap, ◌∙◌, subst, Result, Ok, Err, IfOk}
-use Rattle.std.specs.Prelude.{not}
+use Rattle.std.proofs.Common.{◌≡◌, ℕ, Bool, true, false, List, [], ◌∷◌, Option, Some, None, option_map, codes, map, refl, sym, ap, ◌∙◌, subst, Result, Ok, IfOk}
+use Rattle.std.specs.Prelude.{not, String, string_bytes}
+use Rattle.std.proofs.Common.{Box, Global}
 use Rattle.std.specs.Fmt.{decimal}
 use mathlib.Core.Bool.{beq}
-use Rattle.predicates_core.specs.Formula.{Formula, Formulas, one, more, Leaf, Join, truth, size, HasTruth}
+use Rattle.predicates_core.specs.Formula.{Formula, Formulas, one, more, Leaf, Join, differ, truth, size, HasTruth}
 use Rattle.predicates_core.specs.declared.custom.join.Operator.TheVariants.{Xor}
 use Rattle.predicates_core.specs.Label.{Label, Entry, plain, Fits}
 use Rattle.predicates_core.specs.Describe.{CaseNode}
 use Rattle.predicates_core.specs.Tree.{Tree, empty, forest}
 use Rattle.predicates_core.specs.Leaves.{IsExactly, IsShowing}
 use Rattle.predicates_core.specs.Several.{AreOfEach, IsOfMembers, no_members}
-use Rattle.predicates_core.specs.Shows.{FitsNode, IsAnswer, IsCaseOf, IsNode, ShowsPart, ShowsNumbered, with_index}
+use Rattle.predicates_core.specs.Thresholds.{IsOfThreshold}
+use Rattle.predicates_core.specs.Shows.{FitsNode, IsFound, IsNode, ShowsPart, ShowsNumbered, with_index}
 use Rattle.predicates_core.specs.ShowsChange.{ShowsChange, ShowsTurned, are_under, are_alike}
 use Rattle.predicates_core.specs.Change.{IsFirstChange, ExplainsChange, IsChangeOf, IsFoundChange}
 use Rattle.predicates_core.specs.Combined.{IsNot}
 use Rattle.predicates_core.proofs.CombinedLemmas.{has_not, node_fits, node_of_text}
-use Rattle.predicates_core.proofs.Values.{not-not}
+use Rattle.predicates_core.proofs.Values.{truth-one, truth-more, truth-Leaf}
 use Rattle.predicates_core.proofs.Joins.{joins}
 use Rattle.predicates_core.proofs.Shown.{told, left_share-alone, right_share-alone}
 use Rattle.predicates_core.proofs.Fewer.{found_change_fewer}
 use Rattle.predicates_core.proofs.FirstChange.{left_first}
 use Rattle.predicates_core.proofs.FirstChangeOf.{change-one, xor_left}
-use Rattle.predicates_core.proofs.ChangeCases.{named_change, change_numbers, place_turned, shows_no_change, exact_leaf, leaf_case, leaf_found, result_turned, change_by_result, change_of_not, no_change_of_not}
-use Rattle.predicates_core.proofs.SeveralChanges.{change_of_first}
-use Rattle.predicates_core.proofs.Several.{EachPasses, passes_all}
-use Rattle.std.proofs.Common.{◌≤◌, length, take, ◌≢◌}
+use Rattle.predicates_core.proofs.ChangeCases.{named_change, change_numbers, place_turned, shows_no_change, exact_leaf, leaf_found, change_by_result, change_of_not, no_change_of_not}
+use Rattle.std.proofs.Common.{◌≢◌}
 use Rattle.std.specs.Prelude.{bytes_eq}
 use Rattle.std.proofs.lemmas.Slice.Eq.{bytes_eq-Decides}
-use Rattle.predicates_vet_check.proofs.Differing.{differing_none}
-use Rattle.serde_json.specs.Data.{Data}
+use Rattle.serde_json.specs.Data.{Data, Items}
 use Rattle.serde_json.specs.Find.{as_array}
 use Rattle.serde_json.specs.View.{items_view}
 use Rattle.serde_json.specs.declared.value.Value.{Value}
@@ -36,48 +35,29 @@ use Rattle.predicates_rules.specs.declared.expression.Connective.{Connective}
 use Rattle.predicates_rules.specs.declared.expression.Connective.TheVariants.{Or, Xor as OddOf, And}
 use Rattle.predicates_rules.specs.declared.expression.Quantifier.{Quantifier}
 use Rattle.predicates_vet_check.specs.declared.check.Check.{Check}
-use Rattle.predicates_vet_check.specs.Checks.{plan_of, Has, HasOf}
+use Rattle.predicates_vet_check.specs.declared.check.Check.TheFolds.{fold-roll-Check}
+use Rattle.predicates_vet_check.specs.declared.check.Check.TheOpen.{Check-F}
+use Rattle.predicates_vet_check.specs.declared.check.Check.TheVariants.{Quantified, rolls-Quantified}
+use Rattle.predicates_vet_check.specs.Checks.{plan_of, plan_step, Has, HasOf}
 use Rattle.predicates_vet_check.specs.Differ.{IsOfDiffering}
-use Rattle.predicates_vet_check.specs.Plans.{Denies, Joins, plans_of, plan_formula, over_array, range_formula, nothing_leaf, misfit_leaf, not_an_array}
+use Rattle.predicates_vet_check.specs.Plans.{Plan, Denies, Joins, Counts, Ranges, plans_of, plan_formula, over_items, over_array, range_formula, nothing_leaf, misfit_leaf, not_an_array}
 use Rattle.predicates_vet_check.proofs.Ruling.{under_rule, HasTruth-rule}
-use Rattle.predicates_vet_check.proofs.Members.{has_or, has_xor, has_and, has_items}
+use Rattle.predicates_vet_check.proofs.Members.{has_or, has_xor, has_and, has_counted}
 
 -- what is found of formulas, of which this is one
 found_of_one : (F : Formula → Type 0) {g : Formula} → F g → (w : Option Bool) (found : Option (Tree CaseNode)) → IsFoundChange F w found → IsFoundChange (IsExactly g) w found
 found_of_one F had w found = found_change_fewer w found (λ f x. subst F (sym x.is) had)
 
 -- the case of a leaf is its change
-pub answer_changed : (label : Label) (own expected : Bool) (found : Option (Tree CaseNode)) → IsAnswer (IsExactly (Leaf label own)) expected found → IsFoundChange (IsExactly (Leaf label own)) (Some expected) found
-answer_changed label own expected found x = leaf_found {E = Bool} (Some expected) (Ok found) exact_leaf x
+pub answer_changed : (label : Label) (own : Bool) (w : Option Bool) (found : Option (Tree CaseNode)) → IsFound (IsExactly (Leaf label own)) w found → IsFoundChange (IsExactly (Leaf label own)) w found
+answer_changed label own w found x = leaf_found {E = Bool} w (Ok found) exact_leaf x
 
--- whichever the truth is
-pub changed_either : {E : Type 0} {F : Formula → Type 0} (b : Bool) (r : Result (Option (Tree CaseNode)) E) → HasTruth F b → IfOk r (IsFoundChange F (Some b)) → IfOk r (IsFoundChange F None)
-changed_either b (Err e) h x = tt
-changed_either b (Ok (Some t)) h x = change_by_result x
-changed_either b (Ok None) h x = λ f p. apart b (sym (h.at f p) ∙ x.at f p)
-  where
-    apart : (c : Bool) → c ≡ not c → ⊥
-    apart true e = cc
-    apart false e = cc
+module _ (text : List ℕ) (e : Check) (d : Data) (w : Option Bool) where
+  pub no_change_of_denied : IsFoundChange (Has d e) (option_map not w) None → IsFoundChange (IsExactly (plan_formula (Denies text (plan_of e)) d)) w None
+  no_change_of_denied x = found_of_one (IsNot (Some text) (Has d e)) (has_not (record { is = refl })) w None (no_change_of_not (Has d e) (Some text) w x)
 
-pub like_truths : (a b : Bool) → not (beq a b) ≡ false → a ≡ b
-like_truths true true e = refl
-like_truths false false e = refl
-like_truths true false e = absurd (cc)
-like_truths false true e = absurd (cc)
-
-module _ (text : List ℕ) (e : Check) (d : Data) (expected : Bool) where
-  pub no_change_of_denied : IsFoundChange (Has d e) (Some (not expected)) None → IsFoundChange (IsExactly (plan_formula (Denies text (plan_of e)) d)) (Some expected) None
-  no_change_of_denied x = found_of_one (IsNot (Some text) (Has d e)) (has_not (record { is = refl })) (Some expected) None (no_change_of_not (Has d e) (Some text) (Some expected) x)
-
-  pub change_of_denied : {bytes : List ℕ} {c t : Tree CaseNode} → IsNode (Some bytes) expected ((codes "predicate", c) ∷ []) t → bytes ≡ text → IsChangeOf (Has d e) (not expected) c → IsFoundChange (IsExactly (plan_formula (Denies text (plan_of e)) d)) (Some expected) (Some t)
-  change_of_denied {bytes} {c} {t} node fits x =
-      let g = plan_formula (plan_of e) d in
-      let own = x.explains g (record { is = refl }) in
-      let is : c.root.result ≡ not expected = result_turned g c own.leaves own.shown ∙ x.truth.at g (record { is = refl }) in
-      let result : expected ≡ not c.root.result = sym (not-not expected) ∙ ap not (sym is) in
-      found_of_one (IsNot (Some text) (Has d e)) (has_not (record { is = refl })) (Some expected) (Some t)
-      (change_of_not (Has d e) (Some text) (Some expected) (subst (λ b. IsNode (Some bytes) b ((codes "predicate", c) ∷ []) t) result node) fits x)
+  pub change_of_denied : {bytes : List ℕ} {c t : Tree CaseNode} → IsNode (Some bytes) (not c.root.result) ((codes "predicate", c) ∷ []) t → bytes ≡ text → IsFoundChange (Has d e) (option_map not w) (Some c) → IsFoundChange (IsExactly (plan_formula (Denies text (plan_of e)) d)) w (Some t)
+  change_of_denied {t = t} node fits x = found_of_one (IsNot (Some text) (Has d e)) (has_not (record { is = refl })) w (Some t) (change_of_not (Has d e) (Some text) w node fits x)
 
 -- ---- by the connective
 
@@ -94,25 +74,47 @@ module _ (text : List ℕ) (c : Connective) (es : List Check) (d : Data) (w : Op
   pub changed_and : c ≡ And → IsFoundChange (IsOfMembers false (Some text) (codes "part") (Has d) es) w found → IsRowChange c
   changed_and e h = subst IsRowChange (sym e) (found_of_one _ (has_and d text es) w found h)
 
+-- ---- by the number
+
+pub changed_counted : (text : List ℕ) (k : ℕ) (es : List Check) (d : Data) (w : Option Bool) (found : Option (Tree CaseNode)) → IsFoundChange (IsOfThreshold k (Some text) (codes "part") (Has d) es) w found → IsFoundChange (IsExactly (plan_formula (Counts text k (plans_of (map plan_of es))) d)) w found
+changed_counted text k es d w found h = found_of_one _ (has_counted d text k es) w found h
+
 -- ---- over the items of a value
 
-module _ (text : List ℕ) (d : Data) (decides : Bool) (c : Check) (found : Option (Tree CaseNode)) where
-  pub changed_items : (own : Bool) (vs : List Value) (w : Option Bool) → decides ≡ own → as_array d ≡ Some (items_view vs) → IsFoundChange (IsOfMembers own (Some text) (codes "item") (HasOf c) vs) w found → IsFoundChange (IsExactly (over_array text d decides (plan_formula (plan_of c)) (as_array d))) w found
-  changed_items own vs w is e h = subst (λ o. IsFoundChange (IsExactly (over_array text d decides (plan_formula (plan_of c)) o)) w found) (sym e) (found_of_one (IsOfMembers decides (Some text) (codes "item") (HasOf c) vs) (has_items c text decides vs) w found (subst (λ z. IsFoundChange (IsOfMembers z (Some text) (codes "item") (HasOf c) vs) w found) (sym is) h))
+module _ (text : List ℕ) (d : Data) (q : Quantifier) (c : Check) (found : Option (Tree CaseNode)) where
+  abbrev IsArrayChange : Quantifier → Option Items → Option Bool → Type 0
+  IsArrayChange z o w = IsFoundChange (IsExactly (over_array text d z (plan_formula (plan_of c)) o)) w found
 
-  pub changed_no_array : (expected : Bool) → as_array d ≡ None → IsAnswer (IsExactly (misfit_leaf text not_an_array d)) expected found → IsFoundChange (IsExactly (over_array text d decides (plan_formula (plan_of c)) (as_array d))) (Some expected) found
-  changed_no_array expected e h = subst (λ o. IsFoundChange (IsExactly (over_array text d decides (plan_formula (plan_of c)) o)) (Some expected) found) (sym e) (answer_changed _ _ expected found h)
+  pub changed_items : (own : Quantifier) (vs : List Value) (F : Formula → Type 0) (w : Option Bool) → q ≡ own → as_array d ≡ Some (items_view vs) → F (over_items text own (plan_formula (plan_of c)) (items_view vs)) → IsFoundChange F w found → IsArrayChange q (as_array d) w
+  changed_items own vs F w is e had h = subst (λ z. IsArrayChange z (as_array d) w) (sym is) (subst (λ o. IsArrayChange own o w) (sym e) (found_of_one F had w found h))
 
-pub changed_nowhere : (text path : List ℕ) (q : Quantifier) (g : Data → Formula) (o : Option Data) (expected : Bool) (found : Option (Tree CaseNode)) → o ≡ None → IsAnswer (IsExactly (nothing_leaf text path)) expected found → IsFoundChange (IsExactly (range_formula text path q g o)) (Some expected) found
-changed_nowhere text path q g o expected found e h = subst (λ z. IsFoundChange (IsExactly (range_formula text path q g z)) (Some expected) found) (sym e) (answer_changed _ _ expected found h)
+  pub changed_no_array : (w : Option Bool) → as_array d ≡ None → IsFound (IsExactly (misfit_leaf text not_an_array d)) w found → IsArrayChange q (as_array d) w
+  changed_no_array w e h = subst (λ o. IsArrayChange q o w) (sym e) (answer_changed _ _ w found h)
+
+pub changed_nowhere : (text path : List ℕ) (q : Quantifier) (g : Data → Formula) (o : Option Data) (w : Option Bool) (found : Option (Tree CaseNode)) → o ≡ None → IsFound (IsExactly (nothing_leaf text path)) w found → IsFoundChange (IsExactly (range_formula text path q g o)) w found
+changed_nowhere text path q g o w found e h = subst (λ z. IsFoundChange (IsExactly (range_formula text path q g z)) w found) (sym e) (answer_changed _ _ w found h)
 
 pub changed_somewhere : (text path : List ℕ) (q : Quantifier) (g : Data → Formula) (o : Option Data) (w : Option Bool) (d : Data) (found : Option (Tree CaseNode)) → o ≡ Some d → IsFoundChange (IsExactly (range_formula text path q g (Some d))) w found → IsFoundChange (IsExactly (range_formula text path q g o)) w found
 changed_somewhere text path q g o w d found e h = subst (λ z. IsFoundChange (IsExactly (range_formula text path q g z)) w found) (sym e) h
 
+-- what would turn a check that is a range
+pub changed_range : {E : Type 0} (d : Data) (w : Option Bool) (r : Result (Option (Tree CaseNode)) E) {check inner : Check} {text path : List ℕ} {shown place : String Global} {q : Quantifier} {b : Box Check Global} → check ≡ Quantified shown q place b → inner ≡ b.value → text ≡ string_bytes shown → path ≡ string_bytes place → IfOk r (IsFoundChange (IsExactly (plan_formula (Ranges text path q (plan_of inner)) d)) w) → IfOk r (IsFoundChange (Has d check) w)
+changed_range d w r {check} {inner} {text} {path} {shown} {place} {q} {b} is of_inner of_text of_path h =
+    let own : plan_of (Quantified shown q place b) ≡ Ranges (string_bytes shown) (string_bytes place) q (plan_of b.value) = ap plan_of (sym (rolls-Quantified shown q place b)) ∙ fold-roll-Check Plan plan_step (Check-F.Quantified shown q place b) in
+    let same : plan_of check ≡ Ranges text path q (plan_of inner) = ap plan_of is ∙ own ∙ sym (λ i. Ranges (of_text i) (of_path i) q (plan_of (of_inner i))) in
+    subst (λ z. IfOk r (IsFoundChange (IsExactly (plan_formula z d)) w)) (sym same) h
+
 -- ---- parts
 
-pub change_of_only_first : (decides : Bool) {U : Type 0} (name : List ℕ) (has : U → Formula → Type 0) (text : Entry) (us : List U) {u : U} {rest : List U} {k : ℕ} {c d t : Tree CaseNode} {bytes : List ℕ} → us ≡ u ∷ rest → length rest ≤ k → EachPasses decides name has (take k rest) → IsNode (Some bytes) (not decides) ((name, d) ∷ []) t → Fits text bytes → IsChangeOf (has u) (not decides) c → IsShowing (codes "index") (Some (decimal 0)) c d → IsChangeOf (IsOfMembers decides text name has us) (not decides) t
-change_of_only_first decides name has text us {u} {rest} {k} e all h written fits x tells = rw e (change_of_first decides name has text u rest written fits x tells (passes_all _ rest k all h))
+differ_is : (a b : Bool) → differ a b ≡ not (beq a b)
+differ_is true true = refl
+differ_is true false = refl
+differ_is false true = refl
+differ_is false false = refl
+
+differ_false : (b : Bool) → differ b false ≡ b
+differ_false true = refl
+differ_false false = refl
 
 same_name : (name : List ℕ) → bytes_eq name name ≡ true
 same_name name = (bytes_eq-Decides name name).1 refl
@@ -167,8 +169,34 @@ module _ {U : Type 0} (name : List ℕ) (has : U → Formula → Type 0) where
             });
       }
 
-  pub change_of_no_part : (text : Entry) {b : Bool} {us : List U} {t : Tree CaseNode} → us ≡ [] → HasTruth (IsOfDiffering text name has us) b → IsCaseOf (IsExactly (no_members text b)) b t → IsChangeOf (IsOfDiffering text name has us) b t
-  change_of_no_part text e h c = leaf_case (λ f p. exact_leaf f (p.of_none e)) (differing_none name has text e h c)
+  no_part_has : (text : Entry) (us : List U) → us ≡ [] → IsOfDiffering text name has us (no_members text false)
+  no_part_has text us e = record { of_none = λ _. record { is = refl }; of_some = λ some. absurd (some e) }
+
+  -- the truth of the whole, by those of the first part and of the others
+  pub truth_of_first : (text : Entry) (us : List U) {u : U} {rest : List U} {a b : Bool} → us ≡ u ∷ rest → HasTruth (has u) a → HasTruth (IsOfDiffering text name has rest) b → HasTruth (IsOfDiffering text name has us) (not (beq a b))
+  truth_of_first text us {u} {rest} {a} {b} e h k = record {
+    at = λ f p.
+        let some : us ≢ [] = λ none. (let both : u ∷ rest ≡ [] = sym e ∙ none in absurd (cc)) in
+        let s = p.of_some some in
+        ap truth s.is ∙ by_first s.formulas (subst (λ z. AreOfEach name has z s.formulas) e s.of_each) ∙ differ_is a b;
+  }
+    where
+      others : (rs : List U) (n : List ℕ) (f : Formula) (fs : Formulas) → AreOfEach name has rs fs → rs ≡ rest → truth (Join Xor (plain text) fs) ≡ b
+      others [] n f fs of is = absurd of
+      others (r ∷ rs) n f fs of is = k.at (Join Xor (plain text) fs) (subst (λ z. IsOfDiffering text name has z (Join Xor (plain text) fs)) is (record {
+        of_none = λ none. absurd (cc);
+        of_some = λ some. record { formulas = fs; of_each = of; is = refl };
+      }))
+
+      by_first : (fs : Formulas) → AreOfEach name has (u ∷ rest) fs → truth (Join Xor (plain text) fs) ≡ differ a b
+      by_first (one n f) of =
+          let no : b ≡ false = sym (k.at (no_members text false) (no_part_has text rest of.2)) ∙ truth-Leaf _ false in
+          truth-one Xor (plain text) n f ∙ h.at f of.1 ∙ sym (differ_false a) ∙ ap (differ a) (sym no)
+      by_first (more n f fs) of = truth-more Xor (plain text) n f fs ∙ (λ i. differ (h.at f of.1 i) (others rest n f fs of.2 refl i))
+
+  -- there is a formula of the first part
+  pub no_part_change : (text : Entry) (us : List U) (w : Option Bool) (found : Option (Tree CaseNode)) → us ≡ [] → IsFound (IsExactly (no_members text false)) w found → IsFoundChange (IsOfDiffering text name has us) w found
+  no_part_change text us w found e h = found_change_fewer w found (λ f p. p.of_none e) (answer_changed _ false w found h)
 
 -- ---- a rule
 

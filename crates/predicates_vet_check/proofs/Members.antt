@@ -1,21 +1,24 @@
 -- The formula of a check over others is one that the library has over their formulas.
-use Rattle.std.proofs.Common.{◌≡◌, ℕ, Bool, true, false, List, [], ◌∷◌, Option, Some, None, codes, map, refl, sym, ◌∙◌, subst}
+use Rattle.std.proofs.Common.{◌≡◌, ℕ, suc, Bool, true, false, List, [], ◌∷◌, Option, Some, None, codes, length, map, refl, sym, ap, ◌∙◌, subst}
 use Rattle.std.specs.Prelude.{not}
-use Rattle.predicates_core.specs.Formula.{Formula, truth, HasTruth}
+use Rattle.predicates_core.specs.Formula.{Formula, more, truth, HasTruth}
 use Rattle.predicates_core.specs.Describe.{CaseNode}
 use Rattle.std.specs.Fmt.{decimal}
 use Rattle.predicates_core.specs.Label.{Entry, Fits}
 use Rattle.predicates_core.specs.Leaves.{IsExactly, IsShowing}
-use Rattle.predicates_core.specs.Several.{AreOfEach, IsOfMembers}
+use Rattle.predicates_core.specs.Several.{AreOfEach, IsOfMembers, formulas_of}
+use Rattle.predicates_core.specs.Thresholds.{IsOfThreshold, threshold_formula}
 use Rattle.predicates_core.specs.Shows.{Explains, IsCaseOf, IsAnswer, IsNode}
 use Rattle.predicates_core.specs.Tree.{Tree}
 use Rattle.predicates_core.specs.Combined.{IsNot}
 use Rattle.predicates_core.proofs.CombinedLemmas.{has_not, HasTruth-not, IsCaseOf-not}
-use Rattle.serde_json.specs.Data.{Data}
+use Rattle.serde_json.specs.Data.{Data, Items}
 use Rattle.serde_json.specs.Find.{as_array}
 use Rattle.predicates_core.proofs.Leaves.{HasTruth-exactly}
 use Rattle.predicates_core.proofs.Several.{IsFirstAt, decided_case}
+use Rattle.predicates_core.proofs.ThresholdCases.{has_threshold}
 use Rattle.predicates_rules.specs.declared.expression.Quantifier.{Quantifier}
+use Rattle.predicates_rules.specs.declared.expression.Quantifier.TheVariants.{Each, Any, AtLeast}
 use Rattle.serde_json.specs.View.{view, items_view}
 use Rattle.serde_json.specs.declared.value.Value.{Value}
 use Rattle.predicates_rules.specs.declared.expression.Connective.{Connective}
@@ -23,7 +26,7 @@ use Rattle.predicates_rules.specs.declared.expression.Connective.TheVariants.{Or
 use Rattle.predicates_vet_check.specs.declared.check.Check.{Check}
 use Rattle.predicates_vet_check.specs.Checks.{plan_of, Has, HasOf}
 use Rattle.predicates_vet_check.specs.Differ.{IsOfDiffering}
-use Rattle.predicates_vet_check.specs.Plans.{Denies, Joins, plans_of, plan_formula, part_formulas, item_formulas, over_items, over_array, range_formula, nothing_leaf, decides_all}
+use Rattle.predicates_vet_check.specs.Plans.{Denies, Joins, Counts, plans_of, plan_formula, plan_formulas, part_formulas, item_formulas, deciding_items, over_items, over_array, listed, range_formula, nothing_leaf}
 
 -- a node over the case of the first member that decides, with its number
 pub case_of_member : (decides : Bool) {U : Type 0} (name : List ℕ) (has : U → Formula → Type 0) {text : Entry} {us : List U} {k : ℕ} {u : U} {c t s : Tree CaseNode} {bytes : List ℕ} → IsNode (Some bytes) decides ((name, c) ∷ []) t → IsShowing (codes "index") (Some (decimal k)) t s → Fits text bytes → IsFirstAt decides name has us k u → IsCaseOf (has u) decides c → IsCaseOf (IsOfMembers decides text name has us) decides s
@@ -49,7 +52,30 @@ never_both {g} {b} h k = apart b (sym (h.at g (record { is = refl })) ∙ k.at g
     apart true e = cc
     apart false e = cc
 
+-- the formula over what a list is made of is that over the list
+module _ {U V : Type 0} (name : List ℕ) (g : V → Formula) (f : U → V) where
+  formulas_of_map : (u : U) (us : List U) → formulas_of name g (f u) (map f us) ≡ formulas_of name (λ x. g (f x)) u us
+  formulas_of_map u [] = refl
+  formulas_of_map u (v ∷ us) = ap (more name (g (f u))) (formulas_of_map v us)
+
+  length_of_map : (us : List U) → length (map f us) ≡ length us
+  length_of_map [] = refl
+  length_of_map (u ∷ us) = ap suc (length_of_map us)
+
+  threshold_of_map : (k : ℕ) (text : Entry) (us : List U) → threshold_formula k text name g (map f us) ≡ threshold_formula k text name (λ x. g (f x)) us
+  threshold_of_map k text [] = refl
+  threshold_of_map k text (u ∷ us) = rw (length_of_map us, formulas_of_map u us) refl
+
 module _ (d : Data) where
+  formulas_of_parts : (es : List Check) → plan_formulas (plans_of (map plan_of es)) d ≡ map (λ e. plan_formula (plan_of e) d) es
+  formulas_of_parts [] = refl
+  formulas_of_parts (e ∷ es) = ap (λ fs. plan_formula (plan_of e) d ∷ fs) (formulas_of_parts es)
+
+  pub has_counted : (text : List ℕ) (k : ℕ) (es : List Check) → IsOfThreshold k (Some text) (codes "part") (Has d) es (plan_formula (Counts text k (plans_of (map plan_of es))) d)
+  has_counted text k es = subst (IsOfThreshold k (Some text) (codes "part") (Has d) es)
+      (sym (ap (threshold_formula k (Some text) (codes "part") (λ f. f)) (formulas_of_parts es) ∙ threshold_of_map (codes "part") (λ f. f) (λ e. plan_formula (plan_of e) d) k (Some text) es))
+      (has_threshold k (λ e. plan_formula (plan_of e) d) es (λ e. record { is = refl }))
+
   pub are_parts : (e : Check) (es : List Check) → AreOfEach (codes "part") (Has d) (e ∷ es) (part_formulas (plan_formula (plan_of e) d) (plans_of (map plan_of es)) d)
   are_parts e [] = (refl, record { is = refl }, refl)
   are_parts e (x ∷ xs) = (refl, record { is = refl }, are_parts x xs)
@@ -80,12 +106,21 @@ module _ (c : Check) where
   are_items v [] = (refl, record { is = refl }, refl)
   are_items v (w ∷ vs) = (refl, record { is = refl }, are_items w vs)
 
-  pub has_items : (text : List ℕ) (decides : Bool) (vs : List Value) → IsOfMembers decides (Some text) (codes "item") (HasOf c) vs (over_items text decides (plan_formula (plan_of c)) (items_view vs))
+  pub has_items : (text : List ℕ) (decides : Bool) (vs : List Value) → IsOfMembers decides (Some text) (codes "item") (HasOf c) vs (deciding_items text decides (plan_formula (plan_of c)) (items_view vs))
   has_items text decides [] = record { of_none = λ e. record { is = refl }; of_some = λ some. absurd (some refl) }
   has_items text decides (v ∷ vs) = record {
     of_none = λ z. absurd (cc);
     of_some = λ some. record { formulas = _; of_each = are_items v vs; is = refl };
   }
+
+  listed_items : (vs : List Value) → listed (items_view vs) ≡ map view vs
+  listed_items [] = refl
+  listed_items (v ∷ vs) = ap (λ ds. view v ∷ ds) (listed_items vs)
+
+  pub has_counted_items : (text : List ℕ) (k : ℕ) (vs : List Value) → IsOfThreshold k (Some text) (codes "item") (HasOf c) vs (over_items text (AtLeast k) (plan_formula (plan_of c)) (items_view vs))
+  has_counted_items text k vs = subst (IsOfThreshold k (Some text) (codes "item") (HasOf c) vs)
+      (sym (ap (threshold_formula k (Some text) (codes "item") (plan_formula (plan_of c))) (listed_items vs) ∙ threshold_of_map (codes "item") (plan_formula (plan_of c)) view k (Some text) vs))
+      (has_threshold k (λ v. plan_formula (plan_of c) (view v)) vs (λ v. record { is = refl }))
 
 -- what denies a check
 pub truth_of_not : (text : List ℕ) (e : Check) (d : Data) {b : Bool} → HasTruth (Has d e) b → HasTruth (IsExactly (plan_formula (Denies text (plan_of e)) d)) (not b)
@@ -96,18 +131,22 @@ case_of_not text bytes e d written fits h = case_of_one (IsNot (Some text) (Has 
 
 -- ---- what is over the items of a value
 
-module _ (text : List ℕ) (d : Data) (decides : Bool) (c : Check) where
-  pub truth_of_items : (own : Bool) (vs : List Value) {b : Bool} → decides ≡ own → as_array d ≡ Some (items_view vs) → HasTruth (IsOfMembers own (Some text) (codes "item") (HasOf c) vs) b → HasTruth (IsExactly (over_array text d decides (plan_formula (plan_of c)) (as_array d))) b
-  truth_of_items own vs {b} is e h = subst (λ o. HasTruth (IsExactly (over_array text d decides (plan_formula (plan_of c)) o)) b) (sym e) (truth_of_one (IsOfMembers decides (Some text) (codes "item") (HasOf c) vs) (has_items c text decides vs) (subst (λ z. HasTruth (IsOfMembers z (Some text) (codes "item") (HasOf c) vs) b) (sym is) h))
+module _ (text : List ℕ) (d : Data) (q : Quantifier) (c : Check) where
+  abbrev array_of : Quantifier → Option Items → Formula
+  array_of z o = over_array text d z (plan_formula (plan_of c)) o
 
-  pub answer_of_items : (own : Bool) (vs : List Value) (expected : Bool) (found : Option (Tree CaseNode)) → decides ≡ own → as_array d ≡ Some (items_view vs) → IsAnswer (IsOfMembers own (Some text) (codes "item") (HasOf c) vs) expected found → IsAnswer (IsExactly (over_array text d decides (plan_formula (plan_of c)) (as_array d))) expected found
-  answer_of_items own vs expected found is e h = subst (λ o. IsAnswer (IsExactly (over_array text d decides (plan_formula (plan_of c)) o)) expected found) (sym e) (answer_of_one (IsOfMembers decides (Some text) (codes "item") (HasOf c) vs) (has_items c text decides vs) expected found (subst (λ z. IsAnswer (IsOfMembers z (Some text) (codes "item") (HasOf c) vs) expected found) (sym is) h))
+  -- the quantifier is the one, and the value the array of the items
+  pub truth_of_items : (own : Quantifier) (vs : List Value) (F : Formula → Type 0) {b : Bool} → q ≡ own → as_array d ≡ Some (items_view vs) → F (over_items text own (plan_formula (plan_of c)) (items_view vs)) → HasTruth F b → HasTruth (IsExactly (array_of q (as_array d))) b
+  truth_of_items own vs F {b} is e had h = subst (λ z. HasTruth (IsExactly (array_of z (as_array d))) b) (sym is) (subst (λ o. HasTruth (IsExactly (array_of own o)) b) (sym e) (truth_of_one F had h))
 
-  pub truth_of_no_array : as_array d ≡ None → HasTruth (IsExactly (over_array text d decides (plan_formula (plan_of c)) (as_array d))) false
-  truth_of_no_array e = subst (λ o. HasTruth (IsExactly (over_array text d decides (plan_formula (plan_of c)) o)) false) (sym e) (HasTruth-exactly refl)
+  pub answer_of_items : (own : Quantifier) (vs : List Value) (F : Formula → Type 0) (expected : Bool) (found : Option (Tree CaseNode)) → q ≡ own → as_array d ≡ Some (items_view vs) → F (over_items text own (plan_formula (plan_of c)) (items_view vs)) → IsAnswer F expected found → IsAnswer (IsExactly (array_of q (as_array d))) expected found
+  answer_of_items own vs F expected found is e had h = subst (λ z. IsAnswer (IsExactly (array_of z (as_array d))) expected found) (sym is) (subst (λ o. IsAnswer (IsExactly (array_of own o)) expected found) (sym e) (answer_of_one F had expected found h))
+
+  pub truth_of_no_array : as_array d ≡ None → HasTruth (IsExactly (array_of q (as_array d))) false
+  truth_of_no_array e = subst (λ o. HasTruth (IsExactly (array_of q o)) false) (sym e) (HasTruth-exactly refl)
 
 module _ (text path : List ℕ) (q : Quantifier) (g : Data → Formula) (o : Option Data) where
-  pub truth_at : (d : Data) {b : Bool} → o ≡ Some d → HasTruth (IsExactly (over_array text d (decides_all q) g (as_array d))) b → HasTruth (IsExactly (range_formula text path q g o)) b
+  pub truth_at : (d : Data) {b : Bool} → o ≡ Some d → HasTruth (IsExactly (over_array text d q g (as_array d))) b → HasTruth (IsExactly (range_formula text path q g o)) b
   truth_at d {b} e h = subst (λ z. HasTruth (IsExactly (range_formula text path q g z)) b) (sym e) h
 
   pub truth_nowhere : o ≡ None → HasTruth (IsExactly (range_formula text path q g o)) false
@@ -116,7 +155,16 @@ module _ (text path : List ℕ) (q : Quantifier) (g : Data → Formula) (o : Opt
   pub answer_nowhere : (expected : Bool) (found : Option (Tree CaseNode)) → o ≡ None → IsAnswer (IsExactly (nothing_leaf text path)) expected found → IsAnswer (IsExactly (range_formula text path q g o)) expected found
   answer_nowhere expected found e h = subst (λ z. IsAnswer (IsExactly (range_formula text path q g z)) expected found) (sym e) h
 
--- ---- by the connective and by the quantifier
+-- ---- by the number
+
+module _ (text : List ℕ) (k : ℕ) (es : List Check) (d : Data) where
+  pub truth_of_counted : {b : Bool} → HasTruth (IsOfThreshold k (Some text) (codes "part") (Has d) es) b → HasTruth (IsExactly (plan_formula (Counts text k (plans_of (map plan_of es))) d)) b
+  truth_of_counted h = truth_of_one _ (has_counted d text k es) h
+
+  pub answer_of_counted : (expected : Bool) (found : Option (Tree CaseNode)) → IsAnswer (IsOfThreshold k (Some text) (codes "part") (Has d) es) expected found → IsAnswer (IsExactly (plan_formula (Counts text k (plans_of (map plan_of es))) d)) expected found
+  answer_of_counted expected found h = answer_of_one _ (has_counted d text k es) expected found h
+
+-- ---- by the connective
 
 module _ (text : List ℕ) (c : Connective) (es : List Check) (d : Data) where
   abbrev row : Formula → Type 0

@@ -17,8 +17,8 @@ use Rattle.predicates_text.specs.Expressions.{IsReadFrom}
 use Rattle.predicates_rules.specs.declared.condition.Relation.{Relation}
 use Rattle.predicates_rules.specs.declared.condition.Relation.TheVariants as relations
 use Rattle.predicates_vet_check.specs.Queries as queries
-use Rattle.predicates_vet_check.specs.Plans.{Plan, plans_of}
-use Rattle.predicates_vet_check.specs.Planned.{grouped, group_texts, separated, IsPlan, ArePlans, IsRelation}
+use Rattle.predicates_vet_check.specs.Plans.{Plan, plan_text, plans_of}
+use Rattle.predicates_vet_check.specs.Planned.{grouped, group_texts, listed_texts, separated, IsPlan, ArePlans, IsRelation}
 
 or_assoc : (a b c : Bool) → ((a || b) || c) ≡ (a || (b || c))
 or_assoc true b c = refl
@@ -89,6 +89,10 @@ map_of_map g f (x ∷ xs) = ap (λ z. g (f x) ∷ z) (map_of_map g f xs)
 pub groups_of : {X : Type 0} (f : X → Plan) (xs : List X) → map (λ x. grouped (f x)) xs ≡ group_texts (plans_of (map f xs))
 groups_of f [] = refl
 groups_of f (x ∷ xs) = ap (λ z. grouped (f x) ∷ z) (groups_of f xs)
+
+pub texts_of : {X : Type 0} (f : X → Plan) (xs : List X) → map (λ x. plan_text (f x)) xs ≡ listed_texts (plans_of (map f xs))
+texts_of f [] = refl
+texts_of f (x ∷ xs) = ap (λ z. plan_text (f x) ∷ z) (texts_of f xs)
 
 -- ---- the checks of expressions
 

@@ -7,7 +7,7 @@ use Rattle.predicates_core.specs.Leaves.{IsExactly}
 use Rattle.serde_json.specs.Data.{Data}
 use Rattle.serde_json.specs.View.{view}
 use Rattle.serde_json.specs.declared.value.Value.{Value}
-use Rattle.predicates_vet_check.specs.Plans.{Plan, Asks, Denies, Joins, Ranges, plans_of, plan_formula}
+use Rattle.predicates_vet_check.specs.Plans.{Plan, Asks, Denies, Joins, Counts, Ranges, plans_of, plan_formula}
 use Rattle.predicates_vet_check.specs.Tests.{text_of_test, path_of_test, query_of_test}
 
 -- one level, with each part already seen as its plan
@@ -15,6 +15,7 @@ abbrev pub plan_step : Check-F Plan → Plan
 plan_step (Check-F.Test t) = Asks (text_of_test t) (path_of_test t) (query_of_test t)
 plan_step (Check-F.Not text e) = Denies (string_bytes text) (box_value e)
 plan_step (Check-F.Joined text c es) = Joins (string_bytes text) c (plans_of es.items)
+plan_step (Check-F.AtLeast text k es) = Counts (string_bytes text) k (plans_of es.items)
 plan_step (Check-F.Quantified text q path e) = Ranges (string_bytes text) (string_bytes path) q (box_value e)
 
 abbrev pub plan_of : Check → Plan

@@ -1,16 +1,18 @@
 -- What a check prints is the text of its formula.
 use Rattle.std.proofs.Common.{◌≡◌, ℕ, List, Bool, true, false, Option, Some, None, refl, sym, subst}
-use Rattle.std.specs.Prelude.{cond}
+use Rattle.std.specs.Prelude.{cond, [], ◌∷◌}
 use Rattle.predicates_core.specs.Label.{FitsEntry, plain}
-use Rattle.predicates_core.specs.Formula.{Formula, Formulas, Leaf, text_of}
+use Rattle.predicates_core.specs.Formula.{Formula, Formulas, Leaf, AtLeast, text_of}
 use Rattle.predicates_core.specs.Leaves.{IsExactly}
+use Rattle.predicates_core.specs.Thresholds.{settled, threshold_formula}
 use Rattle.serde_json.specs.Data.{Data, Items, no_items, item}
 use Rattle.serde_json.specs.Find.{pointer, as_array}
 use Rattle.predicates_rules.specs.declared.expression.Connective.{Connective}
 use Rattle.predicates_rules.specs.declared.expression.Connective.TheVariants.{Or, Xor, And}
 use Rattle.predicates_rules.specs.declared.expression.Quantifier.{Quantifier}
+use Rattle.predicates_rules.specs.declared.expression.Quantifier.TheVariants as quantifiers
 use Rattle.predicates_vet_check.specs.Queries.{Query, verdict, is_of_presence, nothing_verdict}
-use Rattle.predicates_vet_check.specs.Plans.{Plan, Asks, Denies, Joins, Ranges, nothing, also, plan_formula, plan_text, asked_formula, leaf_of_verdict, range_formula, over_items, over_array, joined_formula, nothing_leaf, part_formulas, decides_all}
+use Rattle.predicates_vet_check.specs.Plans.{Plan, Asks, Denies, Joins, Counts, Ranges, nothing, also, plan_formula, plan_formulas, plan_text, asked_formula, leaf_of_verdict, range_formula, deciding_items, over_items, over_array, listed, joined_formula, nothing_leaf, part_formulas}
 use Rattle.predicates_vet_check.specs.RuleChecks.{rule_formula}
 
 -- the formula has the text at its root, and so what is exactly that formula fits it
@@ -35,23 +37,37 @@ module _ (text : List ℕ) where
   joined_text Xor fs = refl
   joined_text And fs = refl
 
-  over_text : (decides : Bool) (g : Data → Formula) (ds : Items) → text_of (over_items text decides g ds) ≡ Some text
-  over_text decides g no_items = refl
-  over_text decides g (item d ds) = refl
+  counted_or_settled : (counted : Bool) (k n : ℕ) (fs : Formulas) → text_of (cond counted (AtLeast k (plain (Some text)) fs) (settled (Some text) k n)) ≡ Some text
+  counted_or_settled true k n fs = refl
+  counted_or_settled false k n fs = refl
 
-  array_text : (d : Data) (decides : Bool) (g : Data → Formula) (o : Option Items) → text_of (over_array text d decides g o) ≡ Some text
-  array_text d decides g None = refl
-  array_text d decides g (Some ds) = over_text decides g ds
+  threshold_text : {U : Type 0} (k : ℕ) (name : List ℕ) (g : U → Formula) (us : List U) → text_of (threshold_formula k (Some text) name g us) ≡ Some text
+  threshold_text k name g [] = refl
+  threshold_text k name g (u ∷ us) = counted_or_settled _ k _ _
+
+  deciding_text : (decides : Bool) (g : Data → Formula) (ds : Items) → text_of (deciding_items text decides g ds) ≡ Some text
+  deciding_text decides g no_items = refl
+  deciding_text decides g (item d ds) = refl
+
+  over_text : (q : Quantifier) (g : Data → Formula) (ds : Items) → text_of (over_items text q g ds) ≡ Some text
+  over_text quantifiers.Each g ds = deciding_text false g ds
+  over_text quantifiers.Any g ds = deciding_text true g ds
+  over_text (quantifiers.AtLeast k) g ds = threshold_text k _ g (listed ds)
+
+  array_text : (d : Data) (q : Quantifier) (g : Data → Formula) (o : Option Items) → text_of (over_array text d q g o) ≡ Some text
+  array_text d q g None = refl
+  array_text d q g (Some ds) = over_text q g ds
 
   ranged_text : (path : List ℕ) (q : Quantifier) (g : Data → Formula) (o : Option Data) → text_of (range_formula text path q g o) ≡ Some text
   ranged_text path q g None = refl
-  ranged_text path q g (Some d) = array_text d (decides_all q) g (as_array d)
+  ranged_text path q g (Some d) = array_text d q g (as_array d)
 
 root_text : (p : Plan) (d : Data) → text_of (plan_formula p d) ≡ Some (plan_text p)
 root_text (Asks text path q) d = asked_text text path q (pointer path d)
 root_text (Denies text e) d = refl
 root_text (Joins text c nothing) d = refl
 root_text (Joins text c (also e es)) d = joined_text text c (part_formulas (plan_formula e d) es d)
+root_text (Counts text k es) d = threshold_text text k _ (λ f. f) (plan_formulas es d)
 root_text (Ranges text path q e) d = ranged_text text path q (plan_formula e) (pointer path d)
 
 pub plan_text_fits : (p : Plan) (d : Data) {f : Formula} → IsExactly (plan_formula p d) f → FitsEntry (text_of f) (Some (plan_text p))

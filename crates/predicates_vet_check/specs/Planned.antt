@@ -13,16 +13,17 @@ use Rattle.predicates_rules.specs.declared.expression.Connective.{Connective}
 use Rattle.predicates_rules.specs.declared.expression.Connective.TheVariants.{Or, Xor, And}
 use Rattle.predicates_rules.specs.declared.expression.Quantifier.{Quantifier}
 use Rattle.predicates_rules.specs.declared.expression.Quantifier.TheVariants.{Each, Any}
+use Rattle.predicates_rules.specs.declared.expression.Quantifier.TheVariants as quantifiers
 use Rattle.predicates_rules.specs.declared.condition.State.{State}
 use Rattle.predicates_rules.specs.declared.condition.State.TheVariants as states
 use Rattle.predicates_rules.specs.declared.condition.Comparison.{Comparison}
 use Rattle.predicates_rules.specs.declared.condition.Comparison.TheVariants as comparisons
 use Rattle.predicates_rules.specs.declared.condition.Relation.{Relation}
 use Rattle.predicates_rules.specs.declared.condition.Relation.TheVariants as relations
-use Rattle.predicates_rules.specs.Trees.{Value, Natural, Negative, Text, Boolean, Null, Test, TheValueIs, Compares, Relates, IsAmong, Tree, At, Denied, Quantified, Joined, Trees, none, more}
+use Rattle.predicates_rules.specs.Trees.{Value, Natural, Negative, Text, Boolean, Null, Test, TheValueIs, Compares, Relates, IsAmong, Tree, At, Denied, Quantified, Joined, AtLeast, Trees, none, more}
 use Rattle.predicates_vet_check.specs.Queries as queries
 use Rattle.predicates_vet_check.specs.Queries.{Query}
-use Rattle.predicates_vet_check.specs.Plans.{Plan, Asks, Denies, Joins, Ranges, Plans, nothing, also, plan_text, path_text}
+use Rattle.predicates_vet_check.specs.Plans.{Plan, Asks, Denies, Joins, Counts, Ranges, Plans, nothing, also, plan_text, path_text}
 
 -- ---- texts
 
@@ -71,6 +72,7 @@ abbrev pub grouped : Plan → List ℕ
 grouped (Asks text path q) = text
 grouped (Denies text e) = text
 grouped (Joins text c es) = codes "(" ++ (text ++ codes ")")
+grouped (Counts text k es) = text
 grouped (Ranges text path q e) = text
 
 abbrev pub connective_word : Connective → List ℕ
@@ -85,12 +87,22 @@ group_texts (also e es) = grouped e ∷ group_texts es
 abbrev pub row_text : Connective → Plans → List ℕ
 row_text c es = separated (connective_word c) (group_texts es)
 
-abbrev pub quantifier_word : Quantifier → List ℕ
-quantifier_word Each = codes "each "
-quantifier_word Any = codes "any "
+abbrev pub listed_texts : Plans → List (List ℕ)
+listed_texts nothing = []
+listed_texts (also e es) = plan_text e ∷ listed_texts es
+
+-- in parentheses, so that no part needs its own
+abbrev pub threshold_text : ℕ → Plans → List ℕ
+threshold_text k es = codes "at least " ++ (decimal k ++ (codes " of (" ++ (separated (codes ", ") (listed_texts es) ++ codes ")")))
+
+-- a text behind the number of items that have to meet it
+abbrev pub behind_quantifier : Quantifier → List ℕ → List ℕ
+behind_quantifier Each text = codes "each " ++ text
+behind_quantifier Any text = codes "any " ++ text
+behind_quantifier (quantifiers.AtLeast k) text = codes "at least " ++ (decimal k ++ (codes " " ++ text))
 
 abbrev pub range_text : Quantifier → List ℕ → Plan → List ℕ
-range_text q path e = quantifier_word q ++ (path_text path ++ (codes " (" ++ (plan_text e ++ codes ")")))
+range_text q path e = behind_quantifier q (path_text path ++ (codes " (" ++ (plan_text e ++ codes ")")))
 
 -- ---- the check of an expression
 
@@ -117,6 +129,7 @@ abbrev mutual
   IsPlan (Denied e) (Denies text p) = (text ≡ codes "not " ++ grouped p) × IsPlan e p
   IsPlan (Quantified q path e) (Ranges text p r f) = (text ≡ range_text q path f) × (p ≡ path) × (r ≡ q) × IsPlan e f
   IsPlan (Joined c es) (Joins text d ps) = (text ≡ row_text c ps) × (d ≡ c) × ArePlans es ps
+  IsPlan (AtLeast k es) (Counts text j ps) = (text ≡ threshold_text k ps) × (j ≡ k) × ArePlans es ps
   IsPlan _ _ = ⊥
 
   pub ArePlans : Trees → Plans → Type 0

@@ -7,10 +7,11 @@ use Rattle.predicates_core.specs.Label.{Entry, plain, showing, showing_both}
 use Rattle.predicates_core.specs.declared.custom.join.Operator.TheVariants as operators
 use Rattle.predicates_core.specs.Formula.{Formula, Leaf, Join, Not, Formulas, one, more}
 use Rattle.predicates_core.specs.Several.{decided_by, numbered, no_members}
+use Rattle.predicates_core.specs.Thresholds.{threshold_formula}
 use Rattle.predicates_rules.specs.declared.expression.Connective.{Connective}
 use Rattle.predicates_rules.specs.declared.expression.Connective.TheVariants.{Or, Xor, And}
 use Rattle.predicates_rules.specs.declared.expression.Quantifier.{Quantifier}
-use Rattle.predicates_rules.specs.declared.expression.Quantifier.TheVariants.{Each, Any}
+use Rattle.predicates_rules.specs.declared.expression.Quantifier.TheVariants.{Each, Any, AtLeast}
 use Rattle.predicates_vet_check.specs.Queries.{Query, verdict, nothing_verdict, is_of_presence, misfit_text}
 
 mutual
@@ -19,6 +20,7 @@ mutual
     Asks : (text path : List ℕ) → (q : Query) → Plan
     Denies : (text : List ℕ) → (e : Plan) → Plan
     Joins : (text : List ℕ) → (c : Connective) → (es : Plans) → Plan
+    Counts : (text : List ℕ) → (k : ℕ) → (es : Plans) → Plan
     Ranges : (text path : List ℕ) → (q : Quantifier) → (e : Plan) → Plan
 
   pub data Plans : Type 0 where
@@ -65,30 +67,36 @@ asked_formula text path q (Some d) = leaf_of_verdict text q d (verdict q d)
 
 -- ---- what is over several
 
--- the truth of a part that decides the whole
-abbrev pub decides_all : Quantifier → Bool
-decides_all Each = false
-decides_all Any = true
-
 -- a formula of each item, under `item`
 abbrev pub item_formulas : (Data → Formula) → Data → Items → Formulas
 item_formulas g d no_items = one (codes "item") (g d)
 item_formulas g d (item e ds) = more (codes "item") (g d) (item_formulas g e ds)
 
-abbrev pub over_items : List ℕ → Bool → (Data → Formula) → Items → Formula
-over_items text decides g no_items = no_members (Some text) (not decides)
-over_items text decides g (item d ds) = Join (decided_by decides) (numbered (Some text) decides (item_formulas g d ds)) (item_formulas g d ds)
+-- of items of which one with the truth decides
+abbrev pub deciding_items : List ℕ → Bool → (Data → Formula) → Items → Formula
+deciding_items text decides g no_items = no_members (Some text) (not decides)
+deciding_items text decides g (item d ds) = Join (decided_by decides) (numbered (Some text) decides (item_formulas g d ds)) (item_formulas g d ds)
+
+abbrev pub listed : Items → List Data
+listed no_items = []
+listed (item d ds) = d ∷ listed ds
+
+-- as many items meet it as the quantifier wants
+abbrev pub over_items : List ℕ → Quantifier → (Data → Formula) → Items → Formula
+over_items text Each g ds = deciding_items text false g ds
+over_items text Any g ds = deciding_items text true g ds
+over_items text (AtLeast k) g ds = threshold_formula k (Some text) (codes "item") g (listed ds)
 
 abbrev pub not_an_array : List ℕ
 not_an_array = codes "not an array"
 
-abbrev pub over_array : List ℕ → Data → Bool → (Data → Formula) → Option Items → Formula
-over_array text d decides g None = misfit_leaf text not_an_array d
-over_array text d decides g (Some ds) = over_items text decides g ds
+abbrev pub over_array : List ℕ → Data → Quantifier → (Data → Formula) → Option Items → Formula
+over_array text d q g None = misfit_leaf text not_an_array d
+over_array text d q g (Some ds) = over_items text q g ds
 
 abbrev pub range_formula : List ℕ → List ℕ → Quantifier → (Data → Formula) → Option Data → Formula
 range_formula text path q g None = nothing_leaf text path
-range_formula text path q g (Some d) = over_array text d (decides_all q) g (as_array d)
+range_formula text path q g (Some d) = over_array text d q g (as_array d)
 
 -- formulas that a connective joins
 abbrev pub joined_formula : List ℕ → Connective → Formulas → Formula
@@ -109,6 +117,7 @@ abbrev mutual
   plan_formula (Denies text e) d = Not (plain (Some text)) (plan_formula e d)
   plan_formula (Joins text c nothing) d = no_members (Some text) (empty_truth c)
   plan_formula (Joins text c (also e es)) d = joined_formula text c (part_formulas (plan_formula e d) es d)
+  plan_formula (Counts text k es) d = threshold_formula k (Some text) (codes "part") (λ f. f) (plan_formulas es d)
   plan_formula (Ranges text path q e) d = range_formula text path q (plan_formula e) (pointer path d)
 
   -- a first formula, and those of the others, under `part`
@@ -116,8 +125,13 @@ abbrev mutual
   part_formulas f nothing d = one (codes "part") f
   part_formulas f (also e es) d = more (codes "part") f (part_formulas (plan_formula e d) es d)
 
+  pub plan_formulas : Plans → Data → List Formula
+  plan_formulas nothing d = []
+  plan_formulas (also e es) d = plan_formula e d ∷ plan_formulas es d
+
 abbrev pub plan_text : Plan → List ℕ
 plan_text (Asks text path q) = text
 plan_text (Denies text e) = text
 plan_text (Joins text c es) = text
+plan_text (Counts text k es) = text
 plan_text (Ranges text path q e) = text

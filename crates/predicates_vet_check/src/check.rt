@@ -10,12 +10,15 @@ ghost use Rattle.predicates_vet_check.specs.PlanLaws.{plan_text_fits};
 ghost use Rattle.predicates_vet_check.specs.Checks.{plan_of};
 
 mod change;
+mod counted;
 mod find;
 mod hold;
+mod steps;
 
 use crate::matchers::Matchers;
 use crate::path_test::PathTest;
 use change::changed;
+use counted::{threshold_case, threshold_hold};
 use find::{joined_case, not_case, range_case};
 use hold::{joined_hold, not_hold, range_hold};
 use predicates_core::reflection::{Case, Child, Parameter, PredicateReflection};
@@ -35,8 +38,11 @@ pub enum Check {
     Not(String, Box<Check>),
     /// As many parts hold as the connective wants. A row without parts holds under `And` alone.
     Joined(String, Connective, Vec<Check>),
-    /// The check holds of each item of the array at the path, or of one. What is no array is a
-    /// false leaf that says so.
+    /// At least so many of the parts hold. Where that is so whatever they answer, or is not, it is a
+    /// leaf that says how many there are.
+    AtLeast(String, usize, Vec<Check>),
+    /// The check holds of each item of the array at the path, of one, or of at least so many. What
+    /// is no array is a false leaf that says so.
     Quantified(String, Quantifier, String, Box<Check>),
 }
 
@@ -71,6 +77,7 @@ impl Check {
             Check::Test(test) => &test.text,
             Check::Not(text, _) => text,
             Check::Joined(text, _, _) => text,
+            Check::AtLeast(text, _, _) => text,
             Check::Quantified(text, _, _, _) => text,
         }
     }
@@ -91,6 +98,9 @@ impl Check {
             Check::Not(_, inner) => not_hold(alloc, matchers, inner, item),
             Check::Joined(_, connective, parts) => {
                 joined_hold(alloc, matchers, *connective, parts, item)
+            }
+            Check::AtLeast(_, least, parts) => {
+                threshold_hold(alloc, matchers, *least, parts, item)
             }
             Check::Quantified(_, quantifier, path, inner) => {
                 range_hold(alloc, matchers, *quantifier, path, inner, item)
@@ -127,6 +137,9 @@ impl Predicate<Value> for Check {
             Check::Joined(text, connective, parts) => {
                 joined_case(alloc, text, *connective, parts, expected, item)
             }
+            Check::AtLeast(text, least, parts) => {
+                threshold_case(alloc, text, *least, parts, expected, item)
+            }
             Check::Quantified(text, quantifier, path, inner) => {
                 let found = range_case(alloc, text, *quantifier, path, inner, expected, item)?;
                 Ok(found)
@@ -142,13 +155,7 @@ impl PredicateChange<Value> for Check {
         wanted: Option<bool>,
         item: &Value,
     ) -> Result<Option<Case>, AllocError> {
-        match wanted {
-            Some(expected) => changed(alloc, self, expected, item),
-            None => {
-                let holds = self.eval(alloc, item)?;
-                changed(alloc, self, holds, item)
-            }
-        }
+        changed(alloc, self, wanted, item)
     }
 }
 

@@ -7,10 +7,10 @@ ghost use Rattle.predicates_vet_check.specs.Queries.{query_of};
 ghost use Rattle.std.specs.Prelude.{◌≡◌, ◌++◌, IfOk, OnOk, map, string_bytes};
 ghost use Rattle.predicates_rules.specs.Trees.{At, value_of, test_of, tree_of, trees_of};
 ghost use Rattle.predicates_vet_check.specs.Checks.{plan_of};
-ghost use Rattle.predicates_vet_check.specs.Plans.{plans_of};
+ghost use Rattle.predicates_vet_check.specs.Plans.{plan_text, plans_of};
 ghost use Rattle.predicates_vet_check.specs.Planned.{literal_text, state_word, comparison_word};
-ghost use Rattle.predicates_vet_check.specs.Planned.{relation_word, connective_word, quantifier_word};
-ghost use Rattle.predicates_vet_check.specs.Planned.{separated, condition_text};
+ghost use Rattle.predicates_vet_check.specs.Planned.{relation_word, connective_word, threshold_text};
+ghost use Rattle.predicates_vet_check.specs.Planned.{separated, listed_texts, condition_text};
 ghost use Rattle.predicates_vet_check.specs.Planned.{test_text, grouped, row_text};
 ghost use Rattle.predicates_vet_check.specs.Planned.{range_text, IsPlan, ArePlans, IsQuery, IsRelation};
 
@@ -67,15 +67,6 @@ fn connective_text(connective: Connective) -> &'static str
         Connective::Or => " or ",
         Connective::Xor => " xor ",
         Connective::And => " and ",
-    }
-}
-
-fn quantifier_text(quantifier: Quantifier) -> &'static str
-    ensures { result.now ≡ quantifier_word quantifier }
-{
-    match quantifier {
-        Quantifier::Each => "each ",
-        Quantifier::Any => "any ",
     }
 }
 
@@ -255,10 +246,41 @@ fn text_of_range(
     ensures { IfOk result (λ text. string_bytes text
         ≡ range_text quantifier path.now (plan_of inner.now)) }
 {
-    let word = quantifier_text(quantifier);
     let shown = path_shown(path);
     let inner = inner.text();
-    format!(in alloc; "{word}{shown} ({inner})")
+    match quantifier {
+        Quantifier::Each => format!(in alloc; "each {shown} ({inner})"),
+        Quantifier::Any => format!(in alloc; "any {shown} ({inner})"),
+        Quantifier::AtLeast(least) => format!(in alloc; "at least {least} {shown} ({inner})"),
+    }
+}
+
+fn texts_of_parts(alloc: Global, parts: &[Check]) -> Result<Vec<String>, AllocError>
+    ensures { IfOk result (λ texts. map string_bytes texts.items
+        ≡ map (λ part. plan_text (plan_of part)) parts.now) }
+{
+    let mut texts = Vec::new(alloc);
+    for part in parts {
+        texts.push(String::from_str(alloc, part.text())?)?;
+    }
+    Ok(texts)
+}
+
+// The parts with commas between them.
+fn text_of_parts(alloc: Global, parts: &[Check]) -> Result<String, AllocError>
+    ensures { IfOk result (λ text. string_bytes text
+        ≡ separated (codes ", ") (listed_texts (plans_of (map plan_of parts.now)))) }
+{
+    let texts = texts_of_parts(alloc, parts)?;
+    separated_by(alloc, ", ", texts.as_slice())
+}
+
+fn text_of_threshold(alloc: Global, least: u64, parts: &[Check]) -> Result<String, AllocError>
+    ensures { IfOk result (λ text. string_bytes text
+        ≡ threshold_text least (plans_of (map plan_of parts.now))) }
+{
+    let parts = text_of_parts(alloc, parts)?;
+    format!(in alloc; "at least {least} of ({parts})")
 }
 
 /// The check of a rule's expression. It takes memory for the check and its texts, and is refused
@@ -284,6 +306,11 @@ pub fn check_of(alloc: Global, expression: Expression) -> Result<Check, CheckErr
             let parts = checks_of(alloc, parts)?;
             let text = text_of_row(alloc, connective, &parts)?;
             Ok(Check::Joined(text, connective, parts))
+        }
+        Expression::AtLeast(least, parts) => {
+            let parts = checks_of(alloc, parts)?;
+            let text = text_of_threshold(alloc, least, &parts)?;
+            Ok(Check::AtLeast(text, least as usize, parts))
         }
     }
 }

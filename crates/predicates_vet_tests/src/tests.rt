@@ -6,6 +6,7 @@ mod malformed_rules;
 mod pieces;
 mod program;
 mod reference;
+mod thresholds;
 
 use predicates_vet::settings::{Report, Settings};
 use predicates_vet::{Counts, ReadChecksError, RunFault, read_checks, run_records};

@@ -1,23 +1,26 @@
 //! What would turn the verdicts of checks over others, as the predicates of the library show it.
-ghost use Rattle.std.specs.Fmt.{decimal};
-ghost use Rattle.std.specs.Prelude.{◌≡◌, IfOk, Some, codes, map, not};
+ghost use Rattle.std.specs.Prelude.{◌≡◌, IfOk, None, Some, codes, map, not};
 ghost use Rattle.predicates_core.specs.Change.{IsFoundChange};
 ghost use Rattle.predicates_core.specs.Leaves.{IsExactly};
 ghost use Rattle.predicates_core.specs.Several.{IsOfMembers};
-ghost use Rattle.predicates_core.specs.Turning.{IsNextNode};
 ghost use Rattle.serde_json.specs.Find.{as_array};
 ghost use Rattle.serde_json.specs.View.{view};
 ghost use Rattle.predicates_vet_check.specs.Checks.{Has, HasOf, plan_of};
 ghost use Rattle.predicates_vet_check.specs.Differ.{IsOfDiffering};
-ghost use Rattle.predicates_vet_check.specs.Plans.{over_array, decides_all};
+ghost use Rattle.predicates_vet_check.specs.Plans.{over_array};
 ghost use Rattle.predicates_vet_check.specs.Plans.{plan_formula, plans_of, Denies, Joins, Ranges};
 
-use super::find::{no_array_case, no_member, nowhere_case};
+mod counted;
+
 use super::hold::parts_differ;
+use super::steps::{
+    first_alone, next_change, no_array_found, no_member, no_part_found, nowhere_found,
+};
 use crate::check::Check;
 use crate::leaf::copied;
 use crate::matchers::Matchers;
-use predicates_core::custom::with_index;
+use counted::{counted_members, threshold_changed};
+use predicates_core::custom::{asked_at, is_first_passed, is_other, opposite_of, with_index};
 use predicates_core::node::unary_node;
 use predicates_core::reflection::Case;
 use predicates_core::{Predicate, PredicateChange};
@@ -26,25 +29,27 @@ use predicates_rules::expression::{Connective, Quantifier};
 use serde_json::Value;
 use std::alloc::{AllocError, Global};
 
-// What would turn the verdict of the check, where it is the expected one.
+// The `find_change` of the check.
 #[cycle(change)]
 pub(super) fn changed(
     alloc: Global,
     check: &Check,
-    expected: bool,
+    wanted: Option<bool>,
     item: &Value,
 ) -> Result<Option<Case>, AllocError>
-    ensures { IfOk result (IsFoundChange (Has (view item.now) check.now) (Some expected)) }
+    ensures { IfOk result (IsFoundChange (Has (view item.now) check.now) wanted) }
 {
     match check {
-        Check::Test(test) => test.find_change(alloc, Some(expected), item),
-        Check::Not(text, inner) => not_changed(alloc, inner, text, expected, item),
+        Check::Test(test) => test.find_change(alloc, wanted, item),
+        Check::Not(text, inner) => not_changed(alloc, inner, text, wanted, item),
         Check::Joined(text, connective, parts) => {
-            joined_changed(alloc, parts, text, *connective, expected, item)
+            joined_changed(alloc, parts, text, *connective, wanted, item)
+        }
+        Check::AtLeast(text, least, parts) => {
+            threshold_changed(alloc, parts, text, *least, wanted, item)
         }
         Check::Quantified(text, quantifier, path, inner) => {
-            let found = range_changed(alloc, inner, text, *quantifier, path, expected, item)?;
-            Ok(found)
+            range_changed(alloc, inner, text, *quantifier, path, wanted, item)
         }
     }
 }
@@ -55,17 +60,18 @@ fn not_changed(
     alloc: Global,
     inner: &Check,
     text: &str,
-    expected: bool,
+    wanted: Option<bool>,
     item: &Value,
 ) -> Result<Option<Case>, AllocError>
     ensures { IfOk result (IsFoundChange (IsExactly (plan_formula
-        (Denies text.now (plan_of inner.now)) (view item.now))) (Some expected)) }
+        (Denies text.now (plan_of inner.now)) (view item.now))) wanted) }
 {
-    let Some(part) = changed(alloc, inner, !expected, item)? else {
+    let Some(part) = changed(alloc, inner, opposite_of(wanted), item)? else {
         return Ok(None);
     };
     let text = copied(alloc, text)?;
-    Ok(Some(unary_node(alloc, text, expected, "predicate", part)?))
+    let outcome = !part.root().result();
+    Ok(Some(unary_node(alloc, text, outcome, "predicate", part)?))
 }
 
 // The same of parts that a connective joins.
@@ -75,47 +81,25 @@ fn joined_changed(
     parts: &[Check],
     text: &str,
     connective: Connective,
-    expected: bool,
+    wanted: Option<bool>,
     item: &Value,
 ) -> Result<Option<Case>, AllocError>
     ensures { IfOk result (IsFoundChange (IsExactly (plan_formula
         (Joins text.now connective (plans_of (map plan_of parts.now))) (view item.now)))
-        (Some expected)) }
+        wanted) }
 {
     match connective {
         Connective::Or => {
-            let found = parts_changed(alloc, parts, text, true, expected, item)?;
+            let found = parts_changed(alloc, parts, text, true, wanted, item)?;
             Ok(found)
         }
         Connective::Xor => {
-            let found = differ_changed(alloc, parts, text, expected, item)?;
+            let found = differ_changed(alloc, parts, text, wanted, item)?;
             Ok(found)
         }
         Connective::And => {
-            let found = parts_changed(alloc, parts, text, false, expected, item)?;
+            let found = parts_changed(alloc, parts, text, false, wanted, item)?;
             Ok(found)
-        }
-    }
-}
-
-// The node over the cases so far with one more, which tells its number, or the first node.
-fn next_node(
-    alloc: Global,
-    text: &str,
-    name: &'static str,
-    decides: bool,
-    index: usize,
-    found: Option<Case>,
-    told: Case,
-) -> Result<Case, AllocError>
-    ensures { IfOk result (IsNextNode decides (Some text.now) name.entry.now index found told) }
-{
-    match found {
-        Some(node) => node.add_child(name, told),
-        None => {
-            let text = copied(alloc, text)?;
-            let node = unary_node(alloc, text, decides, name, told)?;
-            with_index(alloc, index, node)
         }
     }
 }
@@ -127,16 +111,22 @@ fn parts_changed(
     parts: &[Check],
     text: &str,
     decides: bool,
-    expected: bool,
+    wanted: Option<bool>,
     item: &Value,
 ) -> Result<Option<Case>, AllocError>
     ensures { IfOk result (IsFoundChange (IsOfMembers decides (Some text.now) (codes "part")
-        (Has (view item.now)) parts.now) (Some expected)) }
+        (Has (view item.now)) parts.now) wanted) }
 {
-    if expected == decides {
-        return deciding_parts(alloc, parts, text, decides, item);
+    match wanted {
+        Some(expected) => {
+            if expected == decides {
+                deciding_parts(alloc, parts, text, decides, item)
+            } else {
+                passing_parts(alloc, parts, text, decides, item)
+            }
+        }
+        None => whichever_parts(alloc, parts, text, decides, item),
     }
-    passing_parts(alloc, parts, text, decides, item)
 }
 
 // What would turn all the parts that decide, where one does.
@@ -153,11 +143,11 @@ fn deciding_parts(
 {
     let mut found: Option<Case> = None;
     for (index, part) in parts.iter().enumerate() {
-        let Some(case) = changed(alloc, part, decides, item)? else {
+        let Some(case) = changed(alloc, part, Some(decides), item)? else {
             continue;
         };
         let told = with_index(alloc, index, case)?;
-        found = Some(next_node(alloc, text, "part", decides, index, found, told)?);
+        found = Some(next_change(alloc, text, "part", decides, index, found, told)?);
     }
     Ok(found)
 }
@@ -177,7 +167,7 @@ fn passing_parts(
     let Some((first, rest)) = parts.split_first() else {
         return Ok(Some(no_member(alloc, text, !decides)?));
     };
-    let Some(case) = changed(alloc, first, !decides, item)? else {
+    let Some(case) = changed(alloc, first, Some(!decides), item)? else {
         return Ok(None);
     };
     for part in rest {
@@ -185,9 +175,43 @@ fn passing_parts(
             return Ok(None);
         }
     }
-    let told = with_index(alloc, 0, case)?;
-    let text = copied(alloc, text)?;
-    Ok(Some(unary_node(alloc, text, !decides, "part", told)?))
+    first_alone(alloc, text, "part", decides, Some(case))
+}
+
+// What would turn the whole, whichever its verdict. The first part is asked for its change, and
+// each other only for that of a part that decides.
+#[cycle(change)]
+fn whichever_parts(
+    alloc: Global,
+    parts: &[Check],
+    text: &str,
+    decides: bool,
+    item: &Value,
+) -> Result<Option<Case>, AllocError>
+    ensures { IfOk result (IsFoundChange (IsOfMembers decides (Some text.now) (codes "part")
+        (Has (view item.now)) parts.now) None) }
+{
+    if parts.is_empty() {
+        return Ok(Some(no_member(alloc, text, !decides)?));
+    }
+    let mut found: Option<Case> = None;
+    let mut first: Option<Case> = None;
+    for (index, part) in parts.iter().enumerate() {
+        let asked = asked_at(index, decides);
+        let Some(case) = changed(alloc, part, asked, item)? else {
+            continue;
+        };
+        if is_first_passed(index, decides, &case) {
+            first = Some(case);
+            continue;
+        }
+        let told = with_index(alloc, index, case)?;
+        found = Some(next_change(alloc, text, "part", decides, index, found, told)?);
+    }
+    match found {
+        Some(node) => Ok(Some(node)),
+        None => first_alone(alloc, text, "part", decides, first),
+    }
 }
 
 // As `custom::members_change`.
@@ -197,16 +221,22 @@ fn members_changed(
     part: &Check,
     text: &str,
     decides: bool,
-    expected: bool,
+    wanted: Option<bool>,
     members: &[Value],
 ) -> Result<Option<Case>, AllocError>
     ensures { IfOk result (IsFoundChange (IsOfMembers decides (Some text.now) (codes "item")
-        (HasOf part.now) members.now) (Some expected)) }
+        (HasOf part.now) members.now) wanted) }
 {
-    if expected == decides {
-        return deciding_members(alloc, part, text, decides, members);
+    match wanted {
+        Some(expected) => {
+            if expected == decides {
+                deciding_members(alloc, part, text, decides, members)
+            } else {
+                passing_members(alloc, part, text, decides, members)
+            }
+        }
+        None => whichever_members(alloc, part, text, decides, members),
     }
-    passing_members(alloc, part, text, decides, members)
 }
 
 // What would turn all the members that decide, where one does.
@@ -223,11 +253,11 @@ fn deciding_members(
 {
     let mut found: Option<Case> = None;
     for (index, member) in members.iter().enumerate() {
-        let Some(case) = changed(alloc, part, decides, member)? else {
+        let Some(case) = changed(alloc, part, Some(decides), member)? else {
             continue;
         };
         let told = with_index(alloc, index, case)?;
-        found = Some(next_node(alloc, text, "item", decides, index, found, told)?);
+        found = Some(next_change(alloc, text, "item", decides, index, found, told)?);
     }
     Ok(found)
 }
@@ -247,7 +277,7 @@ fn passing_members(
     let Some((first, rest)) = members.split_first() else {
         return Ok(Some(no_member(alloc, text, !decides)?));
     };
-    let Some(case) = changed(alloc, part, !decides, first)? else {
+    let Some(case) = changed(alloc, part, Some(!decides), first)? else {
         return Ok(None);
     };
     for member in rest {
@@ -255,9 +285,43 @@ fn passing_members(
             return Ok(None);
         }
     }
-    let told = with_index(alloc, 0, case)?;
-    let text = copied(alloc, text)?;
-    Ok(Some(unary_node(alloc, text, !decides, "item", told)?))
+    first_alone(alloc, text, "item", decides, Some(case))
+}
+
+// What would turn the whole, whichever its verdict. The first member is asked for its change, and
+// each other only for that of a member that decides.
+#[cycle(change)]
+fn whichever_members(
+    alloc: Global,
+    part: &Check,
+    text: &str,
+    decides: bool,
+    members: &[Value],
+) -> Result<Option<Case>, AllocError>
+    ensures { IfOk result (IsFoundChange (IsOfMembers decides (Some text.now) (codes "item")
+        (HasOf part.now) members.now) None) }
+{
+    if members.is_empty() {
+        return Ok(Some(no_member(alloc, text, !decides)?));
+    }
+    let mut found: Option<Case> = None;
+    let mut first: Option<Case> = None;
+    for (index, member) in members.iter().enumerate() {
+        let asked = asked_at(index, decides);
+        let Some(case) = changed(alloc, part, asked, member)? else {
+            continue;
+        };
+        if is_first_passed(index, decides, &case) {
+            first = Some(case);
+            continue;
+        }
+        let told = with_index(alloc, index, case)?;
+        found = Some(next_change(alloc, text, "item", decides, index, found, told)?);
+    }
+    match found {
+        Some(node) => Ok(Some(node)),
+        None => first_alone(alloc, text, "item", decides, first),
+    }
 }
 
 // The same over the items of what stands at the path.
@@ -268,20 +332,20 @@ fn range_changed(
     text: &str,
     quantifier: Quantifier,
     path: &str,
-    expected: bool,
+    wanted: Option<bool>,
     item: &Value,
 ) -> Result<Option<Case>, AllocError>
     ensures { IfOk result (IsFoundChange (IsExactly (plan_formula
         (Ranges text.now path.now quantifier (plan_of inner.now)) (view item.now)))
-        (Some expected)) }
+        wanted) }
 {
     match value_at(item, path) {
         Some(value) => {
-            let found = array_changed(alloc, inner, text, quantifier, expected, value)?;
+            let found = array_changed(alloc, inner, text, quantifier, wanted, value)?;
             Ok(found)
         }
         None => {
-            let found = nowhere_case(alloc, text, path, expected)?;
+            let found = nowhere_found(alloc, text, path, wanted)?;
             Ok(found)
         }
     }
@@ -294,54 +358,60 @@ fn array_changed(
     inner: &Check,
     text: &str,
     quantifier: Quantifier,
-    expected: bool,
+    wanted: Option<bool>,
     value: &Value,
 ) -> Result<Option<Case>, AllocError>
     ensures { IfOk result (IsFoundChange (IsExactly (over_array text.now (view value.now)
-        (decides_all quantifier) (plan_formula (plan_of inner.now)) (as_array (view value.now))))
-        (Some expected)) }
+        quantifier (plan_formula (plan_of inner.now)) (as_array (view value.now)))) wanted) }
 {
     let Some(items) = value.as_array() else {
-        let found = no_array_case(alloc, text, expected, value)?;
+        let found = no_array_found(alloc, text, wanted, value)?;
         return Ok(found);
     };
     match quantifier {
         Quantifier::Each => {
-            let found = members_changed(alloc, inner, text, false, expected, items)?;
+            let found = members_changed(alloc, inner, text, false, wanted, items)?;
             Ok(found)
         }
         Quantifier::Any => {
-            let found = members_changed(alloc, inner, text, true, expected, items)?;
+            let found = members_changed(alloc, inner, text, true, wanted, items)?;
+            Ok(found)
+        }
+        Quantifier::AtLeast(least) => {
+            let least = least as usize;
+            let found = counted_members(alloc, inner, text, least, wanted, items)?;
             Ok(found)
         }
     }
 }
 
-// What would turn the first of parts of which an odd number holds, or an even one.
+// The same of parts of which an odd number holds, or an even one: what would turn the first part,
+// whichever its verdict. Each further one is asked for its verdict alone.
 #[cycle(change)]
 fn differ_changed(
     alloc: Global,
     parts: &[Check],
     text: &str,
-    expected: bool,
+    wanted: Option<bool>,
     item: &Value,
 ) -> Result<Option<Case>, AllocError>
     ensures { IfOk result (IsFoundChange (IsOfDiffering (Some text.now) (codes "part")
-        (Has (view item.now)) parts.now) (Some expected)) }
+        (Has (view item.now)) parts.now) wanted) }
 {
+    let Some((first, rest)) = parts.split_first() else {
+        let found = no_part_found(alloc, text, wanted)?;
+        return Ok(found);
+    };
+    let Some(case) = changed(alloc, first, None, item)? else {
+        return Ok(None);
+    };
     let mut matchers = Matchers::new(alloc);
-    let odd = parts_differ(alloc, &mut matchers, parts, item)?;
-    if odd != expected {
+    let odd = parts_differ(alloc, &mut matchers, rest, item)?;
+    let outcome = case.root().result() != odd;
+    if is_other(wanted, outcome) {
         return Ok(None);
     }
-    let Some((first, _)) = parts.split_first() else {
-        return Ok(Some(no_member(alloc, text, expected)?));
-    };
-    let holds = first.eval(alloc, item)?;
-    let Some(case) = changed(alloc, first, holds, item)? else {
-        unreachable!()
-    };
     let told = with_index(alloc, 0, case)?;
     let text = copied(alloc, text)?;
-    Ok(Some(unary_node(alloc, text, expected, "part", told)?))
+    Ok(Some(unary_node(alloc, text, outcome, "part", told)?))
 }

@@ -4,21 +4,23 @@ ghost use Rattle.std.specs.Prelude.{◌≡◌, ◌≢◌, [], IfOk, Some, codes,
 ghost use Rattle.std.specs.Prelude.{map};
 ghost use Rattle.predicates_core.specs.Formula.{HasTruth};
 ghost use Rattle.predicates_core.specs.Leaves.{IsExactly};
-ghost use Rattle.predicates_core.specs.Several.{IsOfMembers, no_members};
+ghost use Rattle.predicates_core.specs.Several.{IsOfMembers};
 ghost use Rattle.predicates_core.specs.Shows.{IsAnswer, IsCaseOf};
 ghost use Rattle.serde_json.specs.Find.{as_array};
 ghost use Rattle.serde_json.specs.View.{view};
 ghost use Rattle.predicates_vet_check.specs.Checks.{Has, HasOf, plan_of};
 ghost use Rattle.predicates_vet_check.specs.Differ.{IsOfDiffering};
-ghost use Rattle.predicates_vet_check.specs.Plans.{over_array, decides_all, misfit_leaf, nothing_leaf, not_an_array};
+ghost use Rattle.predicates_vet_check.specs.Plans.{over_array};
 ghost use Rattle.predicates_vet_check.specs.Plans.{plan_formula, plans_of, Denies, Joins, Ranges};
 
+use super::counted::counted_members;
 use super::hold::{members_hold, parts_differ, parts_hold};
+use super::steps::{no_array_found, no_member, nowhere_found};
 use crate::check::Check;
-use crate::leaf::{bare_node, copied, misfit_at, nothing_at};
+use crate::leaf::{bare_node, copied};
 use crate::matchers::Matchers;
 use predicates_core::Predicate;
-use predicates_core::node::{showing, showing_text, unary_node};
+use predicates_core::node::{showing, unary_node};
 use predicates_core::reflection::Case;
 use predicates_json::value_at;
 use predicates_rules::expression::{Connective, Quantifier};
@@ -71,14 +73,6 @@ pub(super) fn joined_case(
             Ok(found)
         }
     }
-}
-
-// The case of a list without members.
-pub(super) fn no_member(alloc: Global, text: &str, outcome: bool) -> Result<Case, AllocError>
-    ensures { IfOk result (IsCaseOf (IsExactly (no_members (Some text.now) outcome)) outcome) }
-{
-    let node = bare_node(alloc, text, outcome)?;
-    Ok(showing_text(alloc, node, "len", "0")?)
 }
 
 // As `custom::parts_case`.
@@ -245,27 +239,10 @@ pub(super) fn range_case(
             Ok(found)
         }
         None => {
-            let found = nowhere_case(alloc, text, path, expected)?;
+            let found = nowhere_found(alloc, text, path, Some(expected))?;
             Ok(found)
         }
     }
-}
-
-// The case where nothing stands at the path.
-#[tactic(auto, using(predicates_core::proofs::Leaves::leaves))]
-pub(super) fn nowhere_case(
-    alloc: Global,
-    text: &str,
-    path: &str,
-    expected: bool,
-) -> Result<Option<Case>, AllocError>
-    ensures { IfOk result (IsAnswer (IsExactly (nothing_leaf text.now path.now)) expected) }
-{
-    if expected {
-        return Ok(None);
-    }
-    let case = nothing_at(alloc, text, path)?;
-    Ok(Some(case))
 }
 
 // The case over the items of the value.
@@ -279,11 +256,10 @@ fn array_case(
     value: &Value,
 ) -> Result<Option<Case>, AllocError>
     ensures { IfOk result (IsAnswer (IsExactly (over_array text.now (view value.now)
-        (decides_all quantifier) (plan_formula (plan_of inner.now)) (as_array (view value.now))))
-        expected) }
+        quantifier (plan_formula (plan_of inner.now)) (as_array (view value.now)))) expected) }
 {
     let Some(items) = value.as_array() else {
-        return no_array_case(alloc, text, expected, value);
+        return no_array_found(alloc, text, Some(expected), value);
     };
     match quantifier {
         Quantifier::Each => {
@@ -294,25 +270,12 @@ fn array_case(
             let found = members_case(alloc, text, inner, true, expected, items)?;
             Ok(found)
         }
+        Quantifier::AtLeast(least) => {
+            let least = least as usize;
+            let found = counted_members(alloc, text, least, inner, expected, items)?;
+            Ok(found)
+        }
     }
-}
-
-// The case of a value that is no array.
-#[tactic(auto, using(predicates_core::proofs::Leaves::leaves))]
-pub(super) fn no_array_case(
-    alloc: Global,
-    text: &str,
-    expected: bool,
-    value: &Value,
-) -> Result<Option<Case>, AllocError>
-    ensures { IfOk result (IsAnswer (IsExactly (misfit_leaf text.now not_an_array (view value.now)))
-        expected) }
-{
-    if expected {
-        return Ok(None);
-    }
-    let case = misfit_at(alloc, text, value, "not an array")?;
-    Ok(Some(case))
 }
 
 // The case of the part, whichever its truth is.

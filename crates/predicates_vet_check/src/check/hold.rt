@@ -2,7 +2,7 @@
 ghost use Rattle.std.specs.Prelude.{ℕ, List, IfOk, map};
 ghost use Rattle.predicates_core.specs.Leaves.{IsExactly};
 ghost use Rattle.serde_json.specs.Find.{as_array};
-ghost use Rattle.predicates_vet_check.specs.Plans.{Denies, Joins, plans_of, plan_formula, Ranges, over_array, decides_all};
+ghost use Rattle.predicates_vet_check.specs.Plans.{Denies, Joins, plans_of, plan_formula, Ranges, over_array};
 ghost use Rattle.predicates_core.specs.Formula.{HasTruth};
 ghost use Rattle.predicates_core.specs.Label.{Entry};
 ghost use Rattle.predicates_core.specs.Several.{IsOfMembers};
@@ -11,6 +11,7 @@ ghost use Rattle.predicates_vet_check.specs.Checks.{Has, HasOf, plan_of};
 ghost use Rattle.predicates_vet_check.specs.Differ.{IsOfDiffering};
 
 use crate::check::Check;
+use crate::check::counted::members_counted;
 use crate::matchers::Matchers;
 use predicates_json::value_at;
 use predicates_rules::expression::{Connective, Quantifier};
@@ -151,8 +152,8 @@ fn array_hold<'r>(
     value: &Value,
 ) -> Result<bool, AllocError>
     ensures { IfOk result (λ held. (text : List ℕ) → HasTruth (IsExactly (over_array text
-        (view value.now) (decides_all quantifier) (plan_formula (plan_of inner.now))
-        (as_array (view value.now)))) held) }
+        (view value.now) quantifier (plan_formula (plan_of inner.now)) (as_array (view value.now))))
+        held) }
 {
     let Some(items) = value.as_array() else {
         return Ok(false);
@@ -165,6 +166,10 @@ fn array_hold<'r>(
         Quantifier::Any => {
             let some = members_hold(alloc, matchers, inner, true, items)?;
             Ok(some)
+        }
+        Quantifier::AtLeast(least) => {
+            let enough = members_counted(alloc, matchers, least as usize, inner, items)?;
+            Ok(enough)
         }
     }
 }

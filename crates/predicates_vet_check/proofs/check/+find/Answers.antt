@@ -1,15 +1,17 @@
-use Rattle.std.proofs.Common.{rules, ◌≡◌, ℕ, List, Some, true, false, not, take, codes, refl, sym, ap, ◌∙◌, subst, arith}
+use Rattle.std.proofs.Common.{rules, ◌+◌, ◌≡◌, ℕ, List, Some, true, false, not, take, codes, refl, sym, ap, ◌∙◌, subst, arith}
 use Rattle.std.proofs.lemmas.List.{take_all}
 use Rattle.predicates_core.specs.Formula.{HasTruth}
 use Rattle.predicates_core.specs.Leaves.{IsShowing}
 use Rattle.predicates_core.proofs.Values.{same_truths, other_truths, not-not}
+use Rattle.predicates_core.proofs.ThresholdCases.{sift_none, sift_passed, sift_kept, sifted_case, sifted_few, enough_some, settled_found}
 use Rattle.predicates_core.proofs.Several.{member_decides, passes_by_cases, IsBuilt, built_none, built_more, case_of_built, members_pass, passes_more, passes_all}
 use Rattle.serde_json.specs.Find.{pointer}
 use Rattle.serde_json.specs.View.{view}
-use Rattle.predicates_vet_check.specs.Plans.{decides_all, plan_formula}
+use Rattle.predicates_rules.specs.declared.expression.Quantifier.TheVariants.{Each, Any, AtLeast}
+use Rattle.predicates_vet_check.specs.Plans.{plan_formula}
 use Rattle.predicates_vet_check.specs.Checks.{Has, HasOf, plan_of}
 use Rattle.predicates_vet_check.proofs.Differing as differing
-use Rattle.predicates_vet_check.proofs.Members.{case_of_member, never_both, answer_nowhere, truth_of_not, case_of_not, answer_of_or, answer_of_xor, answer_of_and, answer_of_items}
+use Rattle.predicates_vet_check.proofs.Members.{case_of_member, never_both, answer_nowhere, truth_of_not, case_of_not, answer_of_or, answer_of_xor, answer_of_and, answer_of_counted, answer_of_items, has_items, has_counted_items}
 use Rattle.predicates_vet_check.proofs.check.+find.Goals as goal
 
 -- ---- parts
@@ -153,10 +155,13 @@ find::joined_case-returns-in_ok-found-in-And t c = answer_of_and c.args.text.now
 -- ---- what is over the items of a value
 
 pub find::array_case-returns-in_ok-found-in-Each : goal.find::array_case-returns-in_ok-found-in-Each
-find::array_case-returns-in_ok-found-in-Each t c = answer_of_items c.args.text.now (view c.args.value.now) (decides_all c.args.quantifier) c.args.inner.now false _ c.args.expected c.in_ok-found-in-Each.found (ap decides_all c.in-Each.is) (search rules) c.in_ok-found-in-Each.ensures
+find::array_case-returns-in_ok-found-in-Each t c = answer_of_items c.args.text.now (view c.args.value.now) c.args.quantifier c.args.inner.now Each _ _ c.args.expected c.in_ok-found-in-Each.found c.in-Each.is (search rules) (has_items c.args.inner.now c.args.text.now false _) c.in_ok-found-in-Each.ensures
 
 pub find::array_case-returns-in_ok-found-in-Any : goal.find::array_case-returns-in_ok-found-in-Any
-find::array_case-returns-in_ok-found-in-Any t c = answer_of_items c.args.text.now (view c.args.value.now) (decides_all c.args.quantifier) c.args.inner.now true _ c.args.expected c.in_ok-found-in-Any.found (ap decides_all c.in-Any.is) (search rules) c.in_ok-found-in-Any.ensures
+find::array_case-returns-in_ok-found-in-Any t c = answer_of_items c.args.text.now (view c.args.value.now) c.args.quantifier c.args.inner.now Any _ _ c.args.expected c.in_ok-found-in-Any.found c.in-Any.is (search rules) (has_items c.args.inner.now c.args.text.now true _) c.in_ok-found-in-Any.ensures
+
+pub find::array_case-returns-in_ok-found-in-AtLeast : goal.find::array_case-returns-in_ok-found-in-AtLeast
+find::array_case-returns-in_ok-found-in-AtLeast t c = answer_of_items c.args.text.now (view c.args.value.now) c.args.quantifier c.args.inner.now (AtLeast c.in-AtLeast.least) _ _ c.args.expected c.in_ok-found-in-AtLeast.found c.in-AtLeast.is (search rules) (has_counted_items c.args.inner.now c.args.text.now c.in-AtLeast.least _) c.in_ok-found-in-AtLeast.ensures
 
 pub find::range_case-returns-in_ok-found-in-None : goal.find::range_case-returns-in_ok-found-in-None
 find::range_case-returns-in_ok-found-in-None t c = answer_nowhere c.args.text.now c.args.path.now c.args.quantifier (plan_formula (plan_of c.args.inner.now)) (pointer c.args.path.now (view c.args.item.now)) c.args.expected c.in_ok-found-in-None.found (search rules) c.in_ok-found-in-None.ensures
@@ -168,3 +173,68 @@ find::not_case-returns-in_default t c = subst (HasTruth _) (ap not (not-not c.ar
 
 pub find::not_case-returns : goal.find::not_case-returns
 find::not_case-returns t c = case_of_not c.args.text.now _ c.args.inner.now (view c.args.item.now) c.in_ok-unary_node.ensures c.in_ok-text.ensures (rw c.in-Some.is at c.in_ok-part.ensures)
+
+-- ---- as many as have to hold
+
+pub counted::threshold_case-returns : goal.counted::threshold_case-returns
+counted::threshold_case-returns t c = answer_of_counted c.args.text.now c.args.least c.args.parts.now (view c.args.item.now) c.args.expected c.in_ok-found.found c.in_ok-found.ensures
+
+pub counted::counted_parts-returns-then-is_settled : goal.counted::counted_parts-returns-then-is_settled
+counted::counted_parts-returns-then-is_settled t c = settled_found (Some c.args.text.now) (codes "part") (Has (view c.args.item.now)) c.args.parts.now c.args.least (Some c.args.decides) c.settled_found.result (c.is_settled.ensures.settled c.if-is_settled.true) c.settled_found.ensures
+
+pub counted::counted_parts-loop-index-init : goal.counted::counted_parts-loop-index-init
+counted::counted_parts-loop-index-init t c =
+    let e = enough_some c.args.decides c.args.least _ (c.is_settled.ensures.some c.if-is_settled.false) (c.is_settled.ensures.within c.if-is_settled.false) in
+    (sift_none c.args.decides (Has (view c.args.item.now)) c.in_ok-node.ensures refl, rw c.enough_of-enough.ensures e)
+
+pub counted::counted_parts-loop-index-preserved-in_default : goal.counted::counted_parts-loop-index-preserved-in_default
+counted::counted_parts-loop-index-preserved-in_default t c =
+    (sift_passed c.args.decides (Has (view c.args.item.now)) c.args.parts.now (omega arith) c.index-parts-index.is c.loop-index.invariant.0 (rw c.in_default.is at c.in_ok-case.ensures), c.loop-index.invariant.1)
+
+pub counted::counted_parts-overflow_add-kept : goal.counted::counted_parts-overflow_add-kept
+counted::counted_parts-overflow_add-kept t c = omega (arith, c.loop-index.invariant.1)
+
+pub counted::counted_parts-returns-then-kept-enough : goal.counted::counted_parts-returns-then-kept-enough
+counted::counted_parts-returns-then-kept-enough t c =
+    sifted_case c.args.decides (Has (view c.args.item.now)) (c.loop-index.index + 1) c.args.least (c.is_settled.ensures.some c.if-is_settled.false) (c.is_settled.ensures.within c.if-is_settled.false)
+    (sift_kept c.args.decides (Has (view c.args.item.now)) c.args.parts.now (omega arith) c.index-parts-index.is c.loop-index.invariant.0 (rw c.in-Some.is at c.in_ok-case.ensures) c.in_ok-told.ensures c.in_ok-node-2.ensures)
+    (omega (arith, c.enough_of-enough.ensures))
+
+pub counted::counted_parts-loop-index-preserved : goal.counted::counted_parts-loop-index-preserved
+counted::counted_parts-loop-index-preserved t c =
+    (sift_kept c.args.decides (Has (view c.args.item.now)) c.args.parts.now (omega arith) c.index-parts-index.is c.loop-index.invariant.0 (rw c.in-Some.is at c.in_ok-case.ensures) c.in_ok-told.ensures c.in_ok-node-2.ensures, omega (arith, c.loop-index.invariant.1))
+
+pub counted::counted_parts-returns : goal.counted::counted_parts-returns
+counted::counted_parts-returns t c =
+    sifted_few c.args.decides (Has (view c.args.item.now)) c.args.least (c.is_settled.ensures.some c.if-is_settled.false) (c.is_settled.ensures.within c.if-is_settled.false)
+    (omega arith) c.loop-index.invariant.0 (rw (← c.enough_of-enough.ensures) c.loop-index.invariant.1)
+
+pub counted::counted_members-returns-then-is_settled : goal.counted::counted_members-returns-then-is_settled
+counted::counted_members-returns-then-is_settled t c = settled_found (Some c.args.text.now) (codes "item") (HasOf c.args.part.now) c.args.members.now c.args.least (Some c.args.decides) c.settled_found.result (c.is_settled.ensures.settled c.if-is_settled.true) c.settled_found.ensures
+
+pub counted::counted_members-loop-index-init : goal.counted::counted_members-loop-index-init
+counted::counted_members-loop-index-init t c =
+    let e = enough_some c.args.decides c.args.least _ (c.is_settled.ensures.some c.if-is_settled.false) (c.is_settled.ensures.within c.if-is_settled.false) in
+    (sift_none c.args.decides (HasOf c.args.part.now) c.in_ok-node.ensures refl, rw c.enough_of-enough.ensures e)
+
+pub counted::counted_members-loop-index-preserved-in_default : goal.counted::counted_members-loop-index-preserved-in_default
+counted::counted_members-loop-index-preserved-in_default t c =
+    (sift_passed c.args.decides (HasOf c.args.part.now) c.args.members.now (omega arith) c.index-members-index.is c.loop-index.invariant.0 (rw c.in_default.is at c.in_ok-case.ensures), c.loop-index.invariant.1)
+
+pub counted::counted_members-overflow_add-kept : goal.counted::counted_members-overflow_add-kept
+counted::counted_members-overflow_add-kept t c = omega (arith, c.loop-index.invariant.1)
+
+pub counted::counted_members-returns-then-kept-enough : goal.counted::counted_members-returns-then-kept-enough
+counted::counted_members-returns-then-kept-enough t c =
+    sifted_case c.args.decides (HasOf c.args.part.now) (c.loop-index.index + 1) c.args.least (c.is_settled.ensures.some c.if-is_settled.false) (c.is_settled.ensures.within c.if-is_settled.false)
+    (sift_kept c.args.decides (HasOf c.args.part.now) c.args.members.now (omega arith) c.index-members-index.is c.loop-index.invariant.0 (rw c.in-Some.is at c.in_ok-case.ensures) c.in_ok-told.ensures c.in_ok-node-2.ensures)
+    (omega (arith, c.enough_of-enough.ensures))
+
+pub counted::counted_members-loop-index-preserved : goal.counted::counted_members-loop-index-preserved
+counted::counted_members-loop-index-preserved t c =
+    (sift_kept c.args.decides (HasOf c.args.part.now) c.args.members.now (omega arith) c.index-members-index.is c.loop-index.invariant.0 (rw c.in-Some.is at c.in_ok-case.ensures) c.in_ok-told.ensures c.in_ok-node-2.ensures, omega (arith, c.loop-index.invariant.1))
+
+pub counted::counted_members-returns : goal.counted::counted_members-returns
+counted::counted_members-returns t c =
+    sifted_few c.args.decides (HasOf c.args.part.now) c.args.least (c.is_settled.ensures.some c.if-is_settled.false) (c.is_settled.ensures.within c.if-is_settled.false)
+    (omega arith) c.loop-index.invariant.0 (rw (← c.enough_of-enough.ensures) c.loop-index.invariant.1)

@@ -1,7 +1,8 @@
-use Rattle.std.proofs.Common.{take, not, codes, Some}
+use Rattle.std.proofs.Common.{take, not, codes, Some, ◌<◌}
 use Rattle.std.specs.List.{AllByRecursion}
 use Rattle.predicates_core.specs.Formula.{HasTruth}
 use Rattle.predicates_core.proofs.Several.{IsBuilt}
+use Rattle.predicates_core.proofs.ThresholdCases.{IsSifted}
 use Rattle.serde_json.specs.View.{view}
 use Rattle.predicates_vet_check.specs.Checks.{Has, HasOf}
 use Rattle.predicates_vet_check.proofs.Differing as differing
@@ -21,3 +22,9 @@ invariant-find::every_member-loop-member l = IsBuilt l.decides (codes "item") (H
 
 abbrev pub invariant-find::differ_shown-loop-part : goal.invariant-find::differ_shown-loop-part
 invariant-find::differ_shown-loop-part l = differing.IsBuilt (codes "part") (Has (view l.item)) (Some l.text) l.outcome (take l.part-index l.parts) l.node
+
+abbrev pub invariant-counted::counted_parts-loop-index : goal.invariant-counted::counted_parts-loop-index
+invariant-counted::counted_parts-loop-index l = IsSifted l.decides (Has (view l.item)) (Some l.text) (codes "part") (take l.index l.parts) l.node l.kept × (l.kept < l.enough)
+
+abbrev pub invariant-counted::counted_members-loop-index : goal.invariant-counted::counted_members-loop-index
+invariant-counted::counted_members-loop-index l = IsSifted l.decides (HasOf l.part) (Some l.text) (codes "item") (take l.index l.members) l.node l.kept × (l.kept < l.enough)

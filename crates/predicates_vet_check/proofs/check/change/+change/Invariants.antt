@@ -1,6 +1,8 @@
-use Rattle.std.proofs.Common.{take, codes, Some}
+use Rattle.std.proofs.Common.{take, codes, length, Some, true, false, ◌+◌, ◌≡◌}
 use Rattle.predicates_core.proofs.Several.{EachPasses}
-use Rattle.predicates_core.proofs.SeveralChanges.{IsTurned}
+use Rattle.predicates_core.proofs.SeveralChanges.{IsTurned, IsWhichever}
+use Rattle.predicates_core.proofs.ThresholdCases.{Sifted}
+use Rattle.predicates_core.proofs.ThresholdChanges.{IsOwnChange}
 use Rattle.serde_json.specs.View.{view}
 use Rattle.predicates_vet_check.specs.Checks.{Has, HasOf}
 use Rattle.predicates_vet_check.proofs.check.change.+change.Given as goal
@@ -16,3 +18,25 @@ invariant-deciding_members-loop-index l = IsTurned l.decides (codes "item") (Has
 
 abbrev pub invariant-passing_members-loop-member : goal.invariant-passing_members-loop-member
 invariant-passing_members-loop-member l = EachPasses l.decides (codes "item") (HasOf l.part) (take l.member-index l.rest)
+
+abbrev pub invariant-whichever_parts-loop-index : goal.invariant-whichever_parts-loop-index
+invariant-whichever_parts-loop-index l = IsWhichever l.decides (codes "part") (Has (view l.item)) (Some l.text) l.parts l.index l.first l.found
+
+abbrev pub invariant-whichever_members-loop-index : goal.invariant-whichever_members-loop-index
+invariant-whichever_members-loop-index l = IsWhichever l.decides (codes "item") (HasOf l.part) (Some l.text) l.members l.index l.first l.found
+
+abbrev pub invariant-counted::turned_parts-loop-index : goal.invariant-counted::turned_parts-loop-index
+invariant-counted::turned_parts-loop-index l = Sifted l.decides (Has (view l.item)) (IsOwnChange l.decides (codes "part") (Has (view l.item))) 0 (take l.index l.parts) l.cases.items
+
+abbrev pub invariant-counted::either_parts-loop-index : goal.invariant-counted::either_parts-loop-index
+invariant-counted::either_parts-loop-index l = Sifted true (Has (view l.item)) (IsOwnChange true (codes "part") (Has (view l.item))) 0 (take l.index l.parts) l.held.items
+    × Sifted false (Has (view l.item)) (IsOwnChange false (codes "part") (Has (view l.item))) 0 (take l.index l.parts) l.failed.items
+    × (length l.held.items + length l.failed.items ≡ l.index)
+
+abbrev pub invariant-counted::turned_members-loop-index : goal.invariant-counted::turned_members-loop-index
+invariant-counted::turned_members-loop-index l = Sifted l.decides (HasOf l.part) (IsOwnChange l.decides (codes "item") (HasOf l.part)) 0 (take l.index l.members) l.cases.items
+
+abbrev pub invariant-counted::either_members-loop-index : goal.invariant-counted::either_members-loop-index
+invariant-counted::either_members-loop-index l = Sifted true (HasOf l.part) (IsOwnChange true (codes "item") (HasOf l.part)) 0 (take l.index l.members) l.held.items
+    × Sifted false (HasOf l.part) (IsOwnChange false (codes "item") (HasOf l.part)) 0 (take l.index l.members) l.failed.items
+    × (length l.held.items + length l.failed.items ≡ l.index)

@@ -1,0 +1,217 @@
+//! What would turn the verdicts of checks of which at least so many have to hold: as many of those
+//! with that verdict as are too many for the other.
+ghost use Rattle.std.specs.Prelude.{◌≤◌, IfOk, None, Some, codes, length, map};
+ghost use Rattle.predicates_core.specs.Change.{IsFoundChange};
+ghost use Rattle.predicates_core.specs.Leaves.{IsExactly};
+ghost use Rattle.predicates_core.specs.Thresholds.{IsOfThreshold};
+ghost use Rattle.serde_json.specs.View.{view};
+ghost use Rattle.predicates_vet_check.specs.Checks.{Has, HasOf, plan_of};
+ghost use Rattle.predicates_vet_check.specs.Plans.{plan_formula, plans_of, Counts};
+
+use super::changed;
+use crate::check::Check;
+use crate::check::counted::settled_found;
+use crate::leaf::copied;
+use predicates_core::custom::{enough_of, is_settled, node_of_first, with_index};
+use predicates_core::reflection::Case;
+use serde_json::Value;
+use std::alloc::{AllocError, Global};
+
+// The change of parts of which at least so many have to hold.
+#[cycle(change)]
+pub(super) fn threshold_changed(
+    alloc: Global,
+    parts: &[Check],
+    text: &str,
+    least: usize,
+    wanted: Option<bool>,
+    item: &Value,
+) -> Result<Option<Case>, AllocError>
+    ensures { IfOk result (IsFoundChange (IsExactly (plan_formula
+        (Counts text.now least (plans_of (map plan_of parts.now))) (view item.now))) wanted) }
+{
+    let found = counted_parts(alloc, parts, text, least, wanted, item)?;
+    Ok(found)
+}
+
+// The same, as `custom::threshold_change`.
+#[cycle(change)]
+fn counted_parts(
+    alloc: Global,
+    parts: &[Check],
+    text: &str,
+    least: usize,
+    wanted: Option<bool>,
+    item: &Value,
+) -> Result<Option<Case>, AllocError>
+    ensures { IfOk result (IsFoundChange (IsOfThreshold least (Some text.now) (codes "part")
+        (Has (view item.now)) parts.now) wanted) }
+{
+    if is_settled(least, parts.len()) {
+        return settled_found(alloc, text, least, parts.len(), wanted);
+    }
+    match wanted {
+        Some(decides) => turned_parts(alloc, parts, text, least, decides, item),
+        None => either_parts(alloc, parts, text, least, item),
+    }
+}
+
+// The change of a whole that is wanted to have the verdict.
+#[cycle(change)]
+fn turned_parts(
+    alloc: Global,
+    parts: &[Check],
+    text: &str,
+    least: usize,
+    decides: bool,
+    item: &Value,
+) -> Result<Option<Case>, AllocError>
+    requires some { 1 ≤ least }
+    requires within { least ≤ length parts.now }
+    ensures { IfOk result (IsFoundChange (IsOfThreshold least (Some text.now) (codes "part")
+        (Has (view item.now)) parts.now) (Some decides)) }
+{
+    let enough = enough_of(decides, least, parts.len());
+    let mut cases: Vec<Case> = Vec::new(alloc);
+    for (index, part) in parts.iter().enumerate() {
+        let Some(case) = changed(alloc, part, Some(decides), item)? else {
+            continue;
+        };
+        let told = with_index(alloc, index, case)?;
+        cases.push(told)?;
+    }
+    if cases.len() < enough {
+        return Ok(None);
+    }
+    let turns = cases.len() - enough + 1;
+    let whole = copied(alloc, text)?;
+    Ok(Some(node_of_first(alloc, &whole, "part", decides, cases, turns)?))
+}
+
+// The change of a whole, whichever its verdict. Each part is asked once.
+#[cycle(change)]
+fn either_parts(
+    alloc: Global,
+    parts: &[Check],
+    text: &str,
+    least: usize,
+    item: &Value,
+) -> Result<Option<Case>, AllocError>
+    requires some { 1 ≤ least }
+    requires within { least ≤ length parts.now }
+    ensures { IfOk result (IsFoundChange (IsOfThreshold least (Some text.now) (codes "part")
+        (Has (view item.now)) parts.now) None) }
+{
+    let whole = copied(alloc, text)?;
+    let mut held: Vec<Case> = Vec::new(alloc);
+    let mut failed: Vec<Case> = Vec::new(alloc);
+    for (index, part) in parts.iter().enumerate() {
+        let Some(case) = changed(alloc, part, None, item)? else {
+            return Ok(None);
+        };
+        let holds = case.root().result();
+        let told = with_index(alloc, index, case)?;
+        if holds {
+            held.push(told)?;
+        } else {
+            failed.push(told)?;
+        }
+    }
+    if held.len() >= least {
+        let turns = held.len() - least + 1;
+        return Ok(Some(node_of_first(alloc, &whole, "part", true, held, turns)?));
+    }
+    let turns = failed.len() - enough_of(false, least, parts.len()) + 1;
+    Ok(Some(node_of_first(alloc, &whole, "part", false, failed, turns)?))
+}
+
+// As `custom::members_threshold_change`.
+#[cycle(change)]
+pub(super) fn counted_members(
+    alloc: Global,
+    part: &Check,
+    text: &str,
+    least: usize,
+    wanted: Option<bool>,
+    members: &[Value],
+) -> Result<Option<Case>, AllocError>
+    ensures { IfOk result (IsFoundChange (IsOfThreshold least (Some text.now) (codes "item")
+        (HasOf part.now) members.now) wanted) }
+{
+    if is_settled(least, members.len()) {
+        return settled_found(alloc, text, least, members.len(), wanted);
+    }
+    match wanted {
+        Some(decides) => turned_members(alloc, part, text, least, decides, members),
+        None => either_members(alloc, part, text, least, members),
+    }
+}
+
+// The change of a whole that is wanted to have the verdict.
+#[cycle(change)]
+fn turned_members(
+    alloc: Global,
+    part: &Check,
+    text: &str,
+    least: usize,
+    decides: bool,
+    members: &[Value],
+) -> Result<Option<Case>, AllocError>
+    requires some { 1 ≤ least }
+    requires within { least ≤ length members.now }
+    ensures { IfOk result (IsFoundChange (IsOfThreshold least (Some text.now) (codes "item")
+        (HasOf part.now) members.now) (Some decides)) }
+{
+    let enough = enough_of(decides, least, members.len());
+    let mut cases: Vec<Case> = Vec::new(alloc);
+    for (index, member) in members.iter().enumerate() {
+        let Some(case) = changed(alloc, part, Some(decides), member)? else {
+            continue;
+        };
+        let told = with_index(alloc, index, case)?;
+        cases.push(told)?;
+    }
+    if cases.len() < enough {
+        return Ok(None);
+    }
+    let turns = cases.len() - enough + 1;
+    let whole = copied(alloc, text)?;
+    Ok(Some(node_of_first(alloc, &whole, "item", decides, cases, turns)?))
+}
+
+// The change of a whole, whichever its verdict. Each member is asked once.
+#[cycle(change)]
+fn either_members(
+    alloc: Global,
+    part: &Check,
+    text: &str,
+    least: usize,
+    members: &[Value],
+) -> Result<Option<Case>, AllocError>
+    requires some { 1 ≤ least }
+    requires within { least ≤ length members.now }
+    ensures { IfOk result (IsFoundChange (IsOfThreshold least (Some text.now) (codes "item")
+        (HasOf part.now) members.now) None) }
+{
+    let whole = copied(alloc, text)?;
+    let mut held: Vec<Case> = Vec::new(alloc);
+    let mut failed: Vec<Case> = Vec::new(alloc);
+    for (index, member) in members.iter().enumerate() {
+        let Some(case) = changed(alloc, part, None, member)? else {
+            return Ok(None);
+        };
+        let holds = case.root().result();
+        let told = with_index(alloc, index, case)?;
+        if holds {
+            held.push(told)?;
+        } else {
+            failed.push(told)?;
+        }
+    }
+    if held.len() >= least {
+        let turns = held.len() - least + 1;
+        return Ok(Some(node_of_first(alloc, &whole, "item", true, held, turns)?));
+    }
+    let turns = failed.len() - enough_of(false, least, members.len()) + 1;
+    Ok(Some(node_of_first(alloc, &whole, "item", false, failed, turns)?))
+}
