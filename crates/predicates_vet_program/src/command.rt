@@ -1,6 +1,11 @@
 //! The command line of `vet`.
+ghost use Rattle.std.specs.Prelude.{◌≡◌, IfOk, option_map, string_bytes};
+ghost use Rattle.clap.specs.Matches.{found_of};
+ghost use Rattle.predicates_vet_program.specs.Words.{IsWanted, label_of, pointer_of};
+
+use crate::flags::Flags;
 use clap::{Arg, ArgAction, ArgMatches, Command};
-use predicates_vet::settings::{Report, Settings};
+use predicates_vet::settings::Settings;
 use std::alloc::{AllocError, Global};
 
 // An argument, and what help says of it.
@@ -74,33 +79,34 @@ pub(crate) fn command<'a>(alloc: Global) -> Result<Command<'a>, AllocError> {
         .arg(id(alloc))
 }
 
-fn report_of(matches: &ArgMatches<'_>) -> Report {
-    if matches.get_flag("failed") {
-        Report::Lines(false)
-    } else if matches.get_flag("passed") {
-        Report::Lines(true)
-    } else if matches.get_flag("json") {
-        Report::Json {
-            all: matches.get_flag("all"),
-        }
-    } else if matches.get_flag("change") {
-        Report::Change
-    } else if matches.get_flag("all") {
-        Report::All
-    } else {
-        Report::First
+// The path as JSON Pointer has it: `/` alone stands for the record itself.
+fn pointer(alloc: Global, path: &str) -> Result<String, AllocError>
+    ensures { IfOk result (λ pointer. string_bytes pointer ≡ pointer_of path.now) }
+{
+    if path == "/" {
+        return Ok(String::new(alloc));
+    }
+    String::from_str(alloc, path)
+}
+
+// The path that labels a record, where one is given.
+fn label_of(alloc: Global, matches: &ArgMatches<'_>) -> Result<Option<String>, AllocError>
+    ensures { IfOk result (λ path.
+        option_map string_bytes path ≡ label_of (found_of matches.now)) }
+{
+    match matches.get_str("id") {
+        Some(path) => Ok(Some(pointer(alloc, path)?)),
+        None => Ok(None),
     }
 }
 
 /// How the words want a run to report.
-pub(crate) fn settings_of(alloc: Global, matches: &ArgMatches<'_>) -> Result<Settings, AllocError> {
-    let id = match matches.get_str("id") {
-        Some(path) if path == "/" => Some(String::new(alloc)),
-        Some(path) => Some(String::from_str(alloc, path)?),
-        None => None,
-    };
-    Ok(Settings {
-        report: report_of(matches),
-        id,
-    })
+pub(crate) fn settings_of(alloc: Global, matches: &ArgMatches<'_>) -> Result<Settings, AllocError>
+    ensures report { IfOk result (λ settings. IsWanted (found_of matches.now) settings.report) }
+    ensures id { IfOk result (λ settings.
+        option_map string_bytes settings.id ≡ label_of (found_of matches.now)) }
+{
+    let report = Flags::of(matches).report();
+    let id = label_of(alloc, matches)?;
+    Ok(Settings { report, id })
 }

@@ -2,6 +2,7 @@
 #![tactic(auto)]
 
 mod command;
+mod flags;
 mod runtime;
 mod stderr;
 mod words_fault;

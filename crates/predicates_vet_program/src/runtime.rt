@@ -1,4 +1,7 @@
 //! The program over what its process is given.
+ghost use Rattle.std.specs.Prelude.{◌≡◌, ◌≤◌, IfOk};
+ghost use Rattle.predicates_vet.specs.Runs.{status_of};
+
 use crate::command::{command, settings_of};
 use crate::stderr::Stderr;
 use crate::words_fault::fault_line;
@@ -13,7 +16,9 @@ use std::rt::{Env, Files};
 use std::{env, fs, io};
 
 // The totals of a run, and the status that they give.
-fn end<E: Eprint>(rt: &E, counts: Counts) -> io::Result<u8> {
+fn end<E: Eprint>(rt: &E, counts: Counts) -> io::Result<u8>
+    ensures { IfOk result (λ status. status ≡ status_of counts) }
+{
     let Counts {
         records,
         failed,
@@ -28,24 +33,32 @@ fn end<E: Eprint>(rt: &E, counts: Counts) -> io::Result<u8> {
 }
 
 // Tells what went wrong; and the status.
-fn tell<E: Eprint, T: Display>(rt: &E, fault: &T) -> io::Result<u8> {
+fn tell<E: Eprint, T: Display>(rt: &E, fault: &T) -> io::Result<u8>
+    ensures { IfOk result (λ status. status ≡ 2) }
+{
     eprintln!(rt; "vet: {fault}")?;
     Ok(2)
 }
 
 // Tells what is wrong with the rules at the path; and the status.
-fn tell_rules<E: Eprint, T: Display>(rt: &E, path: &str, fault: &T) -> io::Result<u8> {
+fn tell_rules<E: Eprint, T: Display>(rt: &E, path: &str, fault: &T) -> io::Result<u8>
+    ensures { IfOk result (λ status. status ≡ 2) }
+{
     eprintln!(rt; "vet: {path}: {fault}")?;
     Ok(2)
 }
 
-fn tell_no_path<E: Eprint>(rt: &E, path: &str) -> io::Result<u8> {
+fn tell_no_path<E: Eprint>(rt: &E, path: &str) -> io::Result<u8>
+    ensures { IfOk result (λ status. status ≡ 2) }
+{
     eprintln!(rt; "vet: --id {path}: not a path, which begins with `/`")?;
     Ok(2)
 }
 
 // Prints the help where the words ask for it, and else what is wrong with them; and the status.
-fn tell_words<E: Print + Eprint + AllocGlobal>(rt: &E, error: &clap::Error) -> io::Result<u8> {
+fn tell_words<E: Print + Eprint + AllocGlobal>(rt: &E, error: &clap::Error) -> io::Result<u8>
+    ensures { IfOk result (λ status. status ≤ 2) }
+{
     if !error.use_stderr() {
         error.print(rt)?;
         return Ok(0);
@@ -80,7 +93,9 @@ fn run_by<E: Input + Print + Eprint + AllocGlobal>(
     rt: &E,
     rules: &[RuleCheck],
     settings: &Settings,
-) -> io::Result<u8> {
+) -> io::Result<u8>
+    ensures { IfOk result (λ status. status ≤ 2) }
+{
     match run_streams(rt, rules, settings)? {
         Ok(counts) => end(rt, counts),
         Err(fault) => tell(rt, &fault),
@@ -92,7 +107,9 @@ fn run_by_file<E: Files + Input + Print + Eprint + AllocGlobal>(
     rt: &E,
     path: &str,
     settings: &Settings,
-) -> io::Result<u8> {
+) -> io::Result<u8>
+    ensures { IfOk result (λ status. status ≤ 2) }
+{
     let text = match fs::read(rt, path) {
         Ok(text) => text,
         Err(error) => return tell_rules(rt, path, &error),
@@ -107,7 +124,9 @@ fn run_by_file<E: Files + Input + Print + Eprint + AllocGlobal>(
 fn run_as<E: Files + Input + Print + Eprint + AllocGlobal>(
     rt: &E,
     matches: &ArgMatches<'_>,
-) -> io::Result<u8> {
+) -> io::Result<u8>
+    ensures { IfOk result (λ status. status ≤ 2) }
+{
     let settings = settings_of(rt.alloc(), matches)?;
     if let Some(path) = &settings.id {
         if !is_pointer(path) {
@@ -117,7 +136,9 @@ fn run_as<E: Files + Input + Print + Eprint + AllocGlobal>(
     run_by_file(rt, matches.get_str("RULES").unwrap_or(""), &settings)
 }
 
-fn try_run<E: Env + Files + Input + Print + Eprint + AllocGlobal>(rt: &E) -> io::Result<u8> {
+fn try_run<E: Env + Files + Input + Print + Eprint + AllocGlobal>(rt: &E) -> io::Result<u8>
+    ensures { IfOk result (λ status. status ≤ 2) }
+{
     let alloc = rt.alloc();
     let words: Vec<String> = env::args(rt)?.collect(alloc)?;
     let parsed = command(alloc)?.try_get_matches_from(words.as_slice());
@@ -131,7 +152,9 @@ fn try_run<E: Env + Files + Input + Print + Eprint + AllocGlobal>(rt: &E) -> io:
 /// its status: 0 where every record keeps every rule, 1 where one breaks a rule, and 2 for wrong
 /// words, rules that can't be read, lines that are no JSON, faults of reading and writing, and out
 /// of memory, each told in a line on standard error.
-pub fn run_program<E: Env + Files + Input + Print + Eprint + AllocGlobal>(rt: &E) -> u8 {
+pub fn run_program<E: Env + Files + Input + Print + Eprint + AllocGlobal>(rt: &E) -> u8
+    ensures { result ≤ 2 }
+{
     match try_run(rt) {
         Ok(status) => status,
         // Where this line can't be written either, the status alone tells.

@@ -1,0 +1,55 @@
+//! The flags of the command line.
+ghost use Rattle.std.specs.Prelude.{◌≡◌, codes};
+ghost use Rattle.clap.specs.Matches.{found_of};
+ghost use Rattle.predicates_vet_program.specs.Words.{IsFlag, report_by};
+
+use clap::ArgMatches;
+use predicates_vet::settings::Report;
+
+/// Which flags are set.
+#[derive(Clone, Copy)]
+pub(crate) struct Flags {
+    pub(crate) failed: bool,
+    pub(crate) passed: bool,
+    pub(crate) json: bool,
+    pub(crate) change: bool,
+    pub(crate) all: bool,
+}
+
+impl Flags {
+    /// The flags that the words have.
+    pub(crate) fn of(matches: &ArgMatches<'_>) -> Flags
+        ensures failed { IsFlag (found_of matches.now) (codes "failed") result.failed }
+        ensures passed { IsFlag (found_of matches.now) (codes "passed") result.passed }
+        ensures json { IsFlag (found_of matches.now) (codes "json") result.json }
+        ensures change { IsFlag (found_of matches.now) (codes "change") result.change }
+        ensures all { IsFlag (found_of matches.now) (codes "all") result.all }
+    {
+        Flags {
+            failed: matches.get_flag("failed"),
+            passed: matches.get_flag("passed"),
+            json: matches.get_flag("json"),
+            change: matches.get_flag("change"),
+            all: matches.get_flag("all"),
+        }
+    }
+
+    /// What they want a run to report.
+    pub(crate) fn report(self) -> Report
+        ensures { result ≡ report_by self }
+    {
+        if self.failed {
+            Report::Lines(false)
+        } else if self.passed {
+            Report::Lines(true)
+        } else if self.json {
+            Report::Json { all: self.all }
+        } else if self.change {
+            Report::Change
+        } else if self.all {
+            Report::All
+        } else {
+            Report::First
+        }
+    }
+}
