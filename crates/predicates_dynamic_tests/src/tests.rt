@@ -5,7 +5,9 @@ use predicates::custom::{Test, TestPredicate, leaf};
 use predicates::reflection::{Case, render};
 use predicates::{PredicateChange, Total};
 use predicates_dynamic::Check;
-use predicates_testing::{ReferenceFormula, explains, first_change, first_reason, is_described};
+use predicates_testing::{
+    ReferenceFormula, counted, explains, first_change, first_reason, is_described,
+};
 use std::alloc::{AllocError, Global};
 use std::cell::Cell;
 use std::fmt;
@@ -85,8 +87,8 @@ impl Leaves {
 
 // The last digit of the code to the base of so many kinds, which is taken from it.
 fn kind_of(code: &mut u32) -> u32 {
-    let kind = *code % 9;
-    *code /= 9;
+    let kind = *code % 11;
+    *code /= 11;
     kind
 }
 
@@ -148,6 +150,16 @@ fn row(alloc: Global, is_any: bool, first: Both, second: Both) -> Result<Both, A
     })
 }
 
+// At least two of the parts and a leaf with the verdict.
+fn two_of_three(alloc: Global, first: Both, second: Both, third: Both) -> Result<Both, AllocError> {
+    let parts = vec![in alloc; first.check, second.check, third.check]?;
+    let formulas = vec![in alloc; first.formula, second.formula, third.formula]?;
+    Ok(Both {
+        check: Check::at_least(2, parts),
+        formula: counted(alloc, 2, formulas)?,
+    })
+}
+
 // The check that the code means, of at most so many levels above the leaves.
 fn build(
     alloc: Global,
@@ -161,14 +173,18 @@ fn build(
         return leaves.both(alloc, verdict);
     }
     let kind = kind_of(code);
-    if kind >= 7 {
-        return leaves.both(alloc, kind == 7);
+    if kind >= 9 {
+        return leaves.both(alloc, kind == 9);
     }
     let first = build(alloc, leaves, code, depth - 1)?;
-    if kind >= 5 {
-        return of_one(alloc, kind == 5, first);
+    if kind >= 7 {
+        return of_one(alloc, kind == 7, first);
     }
     let second = build(alloc, leaves, code, depth - 1)?;
+    if kind >= 5 {
+        let third = leaves.both(alloc, kind == 5)?;
+        return two_of_three(alloc, first, second, third);
+    }
     if kind >= 3 {
         return row(alloc, kind == 3, first, second);
     }
@@ -263,7 +279,7 @@ fn agrees(alloc: Global, both: &Both) -> Result<bool, AllocError> {
 fn checks_are_explained_as_the_reference_program_does(rt: HostRuntime) -> Result<(), Fail> {
     let alloc = rt.alloc();
     let mut tried = 0u32;
-    for first in 0..11664u32 {
+    for first in 0..21296u32 {
         let mut code = first;
         let mut leaves = Leaves {
             asked: Vec::new(alloc),
@@ -288,11 +304,12 @@ fn chain(
     let mut check = leaves.next(alloc, verdict)?;
     for level in 0..depth {
         let own = leaves.next(alloc, level % 2 == 0)?;
-        check = match level % 6 {
+        check = match level % 7 {
             0 => own.and(alloc, check)?,
             1 => own.or(alloc, check)?,
             2 => own.xor(alloc, check)?,
             3 => check.not(alloc)?.name(alloc, "named")?,
+            4 => Check::at_least(2, vec![in alloc; own, check, leaves.next(alloc, true)?]?),
             kind => {
                 let parts = vec![in alloc; own, check]?;
                 if kind == 5 {
@@ -421,5 +438,63 @@ fn rows_print_describe_and_explain_their_parts(rt: HostRuntime) -> Result<(), Fa
     let row = some_row(alloc)?;
     assert!(rt; is_described(alloc, &row, DESCRIBED)?);
     assert!(rt; explains_total(alloc, &row, EXPLAINED)?);
+    Ok(())
+}
+
+// The text, and a line for each part.
+const COUNTED: &str = "\
+at_least(2, 0, 1, (! 2))
+rule: 0
+rule: 1
+rule: (! 2)
+  predicate: 2
+";
+
+// The first parts that hold, as many as are needed.
+const ENOUGH: &str = "\
+at_least(2, 0, 1, (! 2)) = true
+  rule: 0 = true
+    - var: 0
+    - index: 0
+  rule: (! 2) = true
+    - index: 2
+    predicate: 2 = false
+      - var: 0
+";
+
+// What is told where the number alone settles it.
+const SETTLED: &str = "\
+at_least(2, 0) = false
+  - len: 1
+";
+
+#[test]
+fn thresholds_print_describe_and_explain_their_parts(rt: HostRuntime) -> Result<(), Fail> {
+    let alloc = rt.alloc();
+    let mut leaves = Leaves {
+        asked: Vec::new(alloc),
+    };
+    let first = leaves.next(alloc, true)?;
+    let second = leaves.next(alloc, false)?;
+    let third = leaves.next(alloc, false)?.not(alloc)?;
+    let check = Check::at_least(2, vec![in alloc; first, second, third]?);
+    assert!(rt; is_described(alloc, &check, COUNTED)?);
+    assert!(rt; explains_total(alloc, &check, ENOUGH)?);
+    Ok(())
+}
+
+// Its parts are not asked.
+#[test]
+fn a_threshold_that_its_number_settles_is_a_leaf(rt: HostRuntime) -> Result<(), Fail> {
+    let alloc = rt.alloc();
+    let mut leaves = Leaves {
+        asked: Vec::new(alloc),
+    };
+    let few = Check::at_least(2, vec![in alloc; leaves.next(alloc, true)?]?);
+    assert!(rt; explains_total(alloc, &few, SETTLED)?);
+    assert!(rt; changes(alloc, &few, false)?.wanted.as_str() == SETTLED);
+    let none = Check::at_least(0, vec![in alloc; leaves.next(alloc, false)?]?);
+    assert!(rt; holds(alloc, &none)?);
+    assert!(rt; leaves.greatest() == 0);
     Ok(())
 }

@@ -111,3 +111,16 @@ impl Answers {
         })
     }
 }
+
+/// Whether the predicate's verdict on the item is the formula's truth, and its case and what would
+/// turn it keep just the leaves that the reference program finds.
+pub fn is_explained<P: PredicateChange<Item>, Item>(
+    alloc: Global,
+    predicate: &P,
+    item: &Item,
+    formula: &ReferenceFormula,
+) -> Result<bool, AllocError>
+    requires { P.lawful predicate.now }
+{
+    ask(alloc, predicate, item)?.explain(alloc, formula)
+}

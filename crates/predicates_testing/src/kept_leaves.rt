@@ -1,6 +1,6 @@
 //! The leaves that a case keeps, read from the places of its nodes and never from their texts.
 use crate::reference::ReferenceFormula;
-use crate::shown::told_number;
+use crate::shown::{names_member, told_number};
 use predicates_core::reflection::{Case, CaseChild, CaseChildren, CaseView};
 use std::alloc::{AllocError, Global};
 
@@ -61,7 +61,7 @@ fn add_counted(
     };
     let mut cut = 0_usize;
     for CaseChild { name, case } in node.children() {
-        let is_told = name == "rule" && told_number(&case) == Some(number);
+        let is_told = names_member(name) && told_number(&case) == Some(number);
         if is_told && add_kept(kept, member, &case, first)? {
             cut = cut.saturating_add(1);
         }

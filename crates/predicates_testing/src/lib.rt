@@ -26,7 +26,7 @@ mod text_words;
 mod texts;
 mod words;
 
-pub use answers::{Answers, ask, verdict};
+pub use answers::{Answers, ask, is_explained, verdict};
 pub use at_least::AtLeast;
 pub use changes::{Changes, find_changes};
 pub use choices::greatest_choice;
@@ -43,7 +43,7 @@ pub use number_leaf::NumberLeaf;
 pub use numbers::{answer_number, number_formula};
 pub use one_of::OneOf;
 pub use printed::{keeps_text, print_in_combinators, print_under_flags};
-pub use reference::{ReferenceFormula, counted, first_change, first_reason};
+pub use reference::{ReferenceFormula, counted, first_change, first_reason, named_leaf};
 pub use text_leaf::TextLeaf;
 pub use text_level::TextLevel;
 pub use text_reference::{bytes_formula, text_formula};

@@ -144,6 +144,11 @@ pub fn counted(
     Ok(ReferenceFormula::Counted(least, Box::new(alloc, list)?))
 }
 
+/// The formula of a leaf of this truth under a name.
+pub fn named_leaf(alloc: Global, truth: bool) -> Result<ReferenceFormula, AllocError> {
+    Ok(ReferenceFormula::Named(Box::new(alloc, ReferenceFormula::Leaf(truth))?))
+}
+
 /// The formula of a combinator over one part or two; none where it takes not as many.
 pub fn combined(
     alloc: Global,

@@ -35,13 +35,17 @@ pub fn told_number(node: &CaseView<'_>) -> Option<usize> {
     }
 }
 
-// Whether the next children are the members of a list cut down to the set, each under the name and
-// with its number; the first of these members has the number `number`.
+/// Whether members of a list, or of a list of predicates, stand under the name.
+pub fn names_member(name: &str) -> bool {
+    name == "item" || name == "rule"
+}
+
+// Whether the next children are the members of a list cut down to the set, each with its number; the
+// first of these members has the number `number`.
 #[cycle(shows)]
 fn shows_members(
     set: &[usize],
     members: &ReferenceFormula,
-    name: &str,
     children: &mut CaseChildren<'_>,
     number: usize,
     first: usize,
@@ -53,13 +57,13 @@ fn shows_members(
         let Some(CaseChild { name: told, case }) = children.next() else {
             return false;
         };
-        let is_told = told == name && told_number(&case) == Some(number);
+        let is_told = names_member(told) && told_number(&case) == Some(number);
         if !is_told || !shows(set, member, &case, first) {
             return false;
         }
     }
     let behind = first.saturating_add(member.leaf_count());
-    shows_members(set, rest, name, children, number.saturating_add(1), behind)
+    shows_members(set, rest, children, number.saturating_add(1), behind)
 }
 
 /// Whether the node is the formula, whose first leaf has the number `first`, cut down to the set.
@@ -79,11 +83,8 @@ pub fn shows(set: &[usize], formula: &ReferenceFormula, node: &CaseView<'_>, fir
             Some(CaseChild { case, .. }) => shows(set, part, &case, first),
             None => false,
         },
-        ReferenceFormula::Members(members) => {
-            shows_members(set, members, "item", &mut children, 0, first)
-        }
-        ReferenceFormula::Counted(_, members) => {
-            shows_members(set, members, "rule", &mut children, 0, first)
+        ReferenceFormula::Members(members) | ReferenceFormula::Counted(_, members) => {
+            shows_members(set, members, &mut children, 0, first)
         }
         ReferenceFormula::NoMore(_) => false,
     };

@@ -74,3 +74,27 @@ fn failing_expectations(rt: HostRuntime) -> Result<(), Fail> {
     assert!(rt; check_all(alloc, expected.as_slice())?.len() == 1);
     Ok(())
 }
+
+#[test]
+fn printed_failure(rt: HostRuntime) -> Result<(), Fail> {
+    let alloc = rt.alloc();
+
+    let mut expected = Vec::new(alloc);
+    expected.push(expect(alloc, "request 17", 3, predicate::ge(5))?)?;
+    let mut failures = check_all(alloc, expected.as_slice())?;
+    let failure = failures.pop().ok_or("met")?;
+    let text = failure.to_string(alloc)?;
+    assert!(rt; text.as_str() == "request 17: var >= 5 = false\n  - var: 3\n");
+    Ok(())
+}
+
+#[test]
+fn required_expectations(rt: HostRuntime) -> Result<(), Fail> {
+    let alloc = rt.alloc();
+
+    let mut expected = Vec::new(alloc);
+    expected.push(expect(alloc, "request 17", 7, predicate::ge(5))?)?;
+    expected.push(expect(alloc, "request 18", 9, predicate::ge(5))?)?;
+    require_all(alloc, expected.as_slice())?;
+    Ok(())
+}

@@ -179,3 +179,66 @@ fn expectations(rt: HostRuntime) -> Result<(), Fail> {
     );
     Ok(())
 }
+
+// Whether each failure prints its label and the lines of its case, as `Display` and as `Debug`.
+fn print_themselves(alloc: Global, failures: &[Failure]) -> Result<bool, AllocError> {
+    let expected = render_failures(alloc, failures)?;
+    let (mut shown, mut debugged) = (String::new(alloc), String::new(alloc));
+    for failure in failures {
+        write!(shown, "{failure}")?;
+        write!(debugged, "{failure:?}")?;
+    }
+    Ok(shown.as_str() == expected.as_str() && debugged.as_str() == expected.as_str())
+}
+
+// Of numbers that are not to be between 5 and 10, two are; their cases have three levels.
+fn two_print_themselves(alloc: Global) -> Result<bool, AllocError> {
+    let mut expected = Vec::new(alloc);
+    for (label, number) in [("seven", 7), ("four", 4), ("six", 6)] {
+        let between = predicate::ge(5i32).and(predicate::le(10i32)).not();
+        expected.push(expect(alloc, label, number, between)?)?;
+    }
+    let failures = check_all(alloc, expected.as_slice())?;
+    Ok(failures.len() == 2 && print_themselves(alloc, failures.as_slice())?)
+}
+
+#[test]
+fn failures_print_themselves(rt: HostRuntime) -> Result<(), Fail> {
+    assert!(rt; two_print_themselves(rt.alloc())?);
+    Ok(())
+}
+
+// How requiring ends that one, two and three tickets cost so much, at most 9 each.
+fn are_required(alloc: Global, prices: [u32; 3], expected: &str) -> Result<bool, AllocError> {
+    let [one, two, three] = prices;
+    let mut expectations = Vec::new(alloc);
+    expectations.push(expect(alloc, "one ticket", one, predicate::le(9u32))?)?;
+    expectations.push(expect(alloc, "two tickets", two, predicate::le(18))?)?;
+    expectations.push(expect(alloc, "three tickets", three, predicate::le(27))?)?;
+    ends_in(alloc, require_all(alloc, expectations.as_slice()), expected)
+}
+
+const THREE_PRICES: &str = "\
+one ticket: var <= 9 = false
+  - var: 11
+two tickets: var <= 18 = false
+  - var: 22
+three tickets: var <= 27 = false
+  - var: 33
+";
+
+const OUTER_PRICES: &str = "\
+one ticket: var <= 9 = false
+  - var: 10
+three tickets: var <= 27 = false
+  - var: 28
+";
+
+#[test]
+fn all_required(rt: HostRuntime) -> Result<(), Fail> {
+    let alloc = rt.alloc();
+    assert!(rt; are_required(alloc, [9, 18, 27], "met")?);
+    assert!(rt; are_required(alloc, [11, 22, 33], THREE_PRICES)?);
+    assert!(rt; are_required(alloc, [10, 18, 28], OUTER_PRICES)?);
+    Ok(())
+}

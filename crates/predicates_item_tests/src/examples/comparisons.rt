@@ -111,6 +111,16 @@ fn hashed(rt: HostRuntime) -> Result<(), Fail> {
 }
 
 #[test]
+fn same(rt: HostRuntime) -> Result<(), Fail> {
+    let alloc = rt.alloc();
+
+    let same = predicate::same_members(alloc, [3, 1, 3])?;
+    assert!(rt; same.eval(alloc, &vec![in alloc; 3, 3, 1]?)?);
+    assert!(rt; !same.eval(alloc, &vec![in alloc; 1, 3, 1]?)?);
+    Ok(())
+}
+
+#[test]
 fn searched(rt: HostRuntime) -> Result<(), Fail> {
     let alloc = rt.alloc();
 

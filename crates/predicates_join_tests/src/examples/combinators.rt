@@ -62,3 +62,25 @@ fn two_of_three(rt: HostRuntime) -> Result<(), Fail> {
     assert!(rt; !two_of_three.eval(alloc, &11)?);
     Ok(())
 }
+
+#[test]
+fn one_at_most(rt: HostRuntime) -> Result<(), Fail> {
+    let alloc = rt.alloc();
+
+    let grades = vec![in alloc; predicate::ge(5), predicate::le(10), predicate::lt(3)]?;
+    let one_at_most = predicate::at_most(1, grades);
+    assert!(rt; one_at_most.eval(alloc, &11)?);
+    assert!(rt; !one_at_most.eval(alloc, &7)?);
+    Ok(())
+}
+
+#[test]
+fn exactly_two(rt: HostRuntime) -> Result<(), Fail> {
+    let alloc = rt.alloc();
+
+    let grades = vec![in alloc; predicate::ge(5), predicate::le(10), predicate::lt(3)]?;
+    let two = predicate::exactly(2, grades)?;
+    assert!(rt; two.eval(alloc, &7)?);
+    assert!(rt; !two.eval(alloc, &11)?);
+    Ok(())
+}

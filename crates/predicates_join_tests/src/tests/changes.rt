@@ -108,6 +108,12 @@ fn of_any(alloc: Global, verdict: bool) -> Result<[usize; 3], AllocError> {
     counts(alloc, cell, any, list(alloc)?)
 }
 
+fn of_two_members(alloc: Global, verdict: bool) -> Result<[usize; 3], AllocError> {
+    let cell = none_yet(alloc)?;
+    let two = leaf::<u32>(&cell, verdict)?.of_at_least(2);
+    counts(alloc, cell, two, list(alloc)?)
+}
+
 // Lists within joins and lists: a list of a list is asked by a join that wants whichever verdict.
 fn of_nested_lists(alloc: Global) -> Result<[usize; 3], AllocError> {
     let cell = none_yet(alloc)?;
@@ -137,6 +143,8 @@ fn lists_ask_each_member_once(rt: HostRuntime) -> Result<(), Fail> {
     assert_eq!(rt; of_each(alloc, false)?, [1, 10_000, 10_000]);
     assert_eq!(rt; of_any(alloc, true)?, [10_000, 1, 10_000]);
     assert_eq!(rt; of_any(alloc, false)?, [10_000, 10_000, 10_000]);
+    assert_eq!(rt; of_two_members(alloc, true)?, [10_000, 10_000, 10_000]);
+    assert_eq!(rt; of_two_members(alloc, false)?, [10_000, 10_000, 10_000]);
     assert_eq!(rt; of_nested_lists(alloc)?, [5, 5, 5]);
     Ok(())
 }

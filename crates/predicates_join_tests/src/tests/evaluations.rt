@@ -329,6 +329,18 @@ fn counts_of_all_of_denied(alloc: Global) -> Result<Counts, AllocError> {
     counts(alloc, cell, predicate::all_of(denied), 5u32)
 }
 
+fn counts_of_two_rules(alloc: Global) -> Result<Counts, AllocError> {
+    let cell = none_yet(alloc)?;
+    let two = predicate::at_least(2, three_rules(alloc, &cell)?);
+    counts(alloc, cell, two.xor(never()), 5u32)
+}
+
+fn counts_of_two_members(alloc: Global) -> Result<Counts, AllocError> {
+    let cell = none_yet(alloc)?;
+    let two = true_leaf(&cell)?.of_at_least(2);
+    counts(alloc, cell, two.xor(never()), four_members(alloc)?)
+}
+
 // A case of all evaluates each before it makes one; that of one evaluates up to the member that
 // decides, and asks it once more.
 #[test]
@@ -340,6 +352,8 @@ fn members_and_rules(rt: HostRuntime) -> Result<(), Fail> {
     assert_eq!(rt; counts_of_each_denied(rt.alloc())?, (1, 1, 2));
     assert_eq!(rt; counts_of_any_of(rt.alloc())?, (1, 2, 1));
     assert_eq!(rt; counts_of_all_of_denied(rt.alloc())?, (1, 1, 2));
+    assert_eq!(rt; counts_of_two_rules(rt.alloc())?, (2, 4, 2));
+    assert_eq!(rt; counts_of_two_members(rt.alloc())?, (2, 4, 2));
     Ok(())
 }
 

@@ -2,7 +2,7 @@
 //! leaves.
 use predicates::prelude::*;
 use predicates_json::{PredicateJsonExt, has_pointer, is_null, lacks_pointer};
-use predicates_testing::{ReferenceFormula, ask, text};
+use predicates_testing::{ReferenceFormula, is_explained, named_leaf, text};
 use serde_json::{Error, Value};
 use std::alloc::{AllocError, Global};
 use std::test::Fail;
@@ -17,26 +17,20 @@ fn is_turned<P: PredicateChange<Value>>(
     requires { P.lawful predicate.now }
 {
     let value = Value::from_str(alloc, json)?;
-    let answers = ask(alloc, predicate, &value)?;
-    Ok(answers.explain(alloc, formula)?)
-}
-
-// A leaf of this truth under a name or a pointer.
-fn named(alloc: Global, truth: bool) -> Result<ReferenceFormula, AllocError> {
-    Ok(ReferenceFormula::Named(Box::new(alloc, ReferenceFormula::Leaf(truth))?))
+    Ok(is_explained(alloc, predicate, &value, formula)?)
 }
 
 // The formula of the rule over a record, by the truths of its three leaves.
 fn record_formula(alloc: Global, truths: [bool; 3]) -> Result<ReferenceFormula, AllocError> {
     let [adult, titled, guarded] = truths;
-    let untitled = ReferenceFormula::Not(Box::new(alloc, named(alloc, titled)?)?);
+    let untitled = ReferenceFormula::Not(Box::new(alloc, named_leaf(alloc, titled)?)?);
     let both = ReferenceFormula::And(
-        Box::new(alloc, named(alloc, adult)?)?,
+        Box::new(alloc, named_leaf(alloc, adult)?)?,
         Box::new(alloc, untitled)?,
     );
     Ok(ReferenceFormula::Or(
         Box::new(alloc, both)?,
-        Box::new(alloc, named(alloc, guarded)?)?,
+        Box::new(alloc, named_leaf(alloc, guarded)?)?,
     ))
 }
 

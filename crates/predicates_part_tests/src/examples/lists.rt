@@ -42,6 +42,36 @@ fn any_member(rt: HostRuntime) -> Result<(), Fail> {
 }
 
 #[test]
+fn two_members(rt: HostRuntime) -> Result<(), Fail> {
+    let alloc = rt.alloc();
+
+    let two_adults = predicate::ge(18).of_at_least(2);
+    assert!(rt; two_adults.eval(alloc, &vec![in alloc; 17, 40, 18]?)?);
+    assert!(rt; !two_adults.eval(alloc, &vec![in alloc; 17, 40, 16]?)?);
+    Ok(())
+}
+
+#[test]
+fn one_member_at_most(rt: HostRuntime) -> Result<(), Fail> {
+    let alloc = rt.alloc();
+
+    let one_child = predicate::lt(18).of_at_most(1);
+    assert!(rt; one_child.eval(alloc, &vec![in alloc; 17, 40, 18]?)?);
+    assert!(rt; !one_child.eval(alloc, &vec![in alloc; 17, 40, 16]?)?);
+    Ok(())
+}
+
+#[test]
+fn exactly_two_members(rt: HostRuntime) -> Result<(), Fail> {
+    let alloc = rt.alloc();
+
+    let two_adults = predicate::ge(18).of_exactly(2)?;
+    assert!(rt; two_adults.eval(alloc, &vec![in alloc; 17, 40, 18]?)?);
+    assert!(rt; !two_adults.eval(alloc, &vec![in alloc; 20, 40, 18]?)?);
+    Ok(())
+}
+
+#[test]
 fn lengths(rt: HostRuntime) -> Result<(), Fail> {
     let alloc = rt.alloc();
 

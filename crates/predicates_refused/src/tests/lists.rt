@@ -2,9 +2,12 @@
 ghost use Rattle.std.specs.Prelude.{◌≡◌, option_copied, slice_get};
 
 use super::predicate_calls::{Row, over, sweep_calls};
+use super::sweep::Memory::{Never, Taken};
+use predicates::iter::same_members;
 use predicates::ord::{OrdPredicate, eq, ge, le};
 use predicates::part::PredicatePartExt;
 use predicates::rules::{all_of, any_of};
+use predicates::threshold::{at_least, exactly};
 use std::alloc::{AllocError, Global};
 use std::fmt::Write;
 use std::test::Fail;
@@ -44,6 +47,31 @@ fn members(rt: HostRuntime) -> Result<(), Fail> {
         &none,
         over("of_each of none", true, lines, children),
     )
+}
+
+// The members of a list of the same length, and of a longer one, which takes no memory to evaluate.
+#[test]
+fn same_members_in_any_order(rt: HostRuntime) -> Result<(), Fail> {
+    let alloc = rt.alloc();
+    let same = same_members(alloc, [3u32, 1, 3])?;
+    let row = Row {
+        name: "same_members",
+        verdict: false,
+        eval: Taken,
+        case: Taken,
+        opposite: Taken,
+        lines: "var == values in any order = false\n  - missing: [3]\n  - extra: [1]\n",
+        parameters: "values=[1, 3, 3]\n",
+        children: "",
+    };
+    sweep_calls(&rt, &same, &Vec::from_slice(alloc, &[1, 3, 1])?, row)?;
+    let longer = Row {
+        name: "same_members of a longer list",
+        eval: Never,
+        lines: "var == values in any order = false\n  - missing: []\n  - extra: [2]\n",
+        ..row
+    };
+    sweep_calls(&rt, &same, &Vec::from_slice(alloc, &[3, 3, 2, 1])?, longer)
 }
 
 // The least numbers of rules, a number, whether all hold and one does, and the lines of both.
@@ -118,6 +146,66 @@ fn rules(rt: HostRuntime) -> Result<(), Fail> {
         sweep_calls(&rt, &any_of(rules), &number, row)?;
     }
     Ok(())
+}
+
+// "At least two of the rules hold", of three of which the last does not.
+const TWO_RULES: &str = "\
+at_least(2, var >= 1, var >= 5, var >= 9) = true
+  rule: var >= 1 = true
+    - var: 7
+    - index: 0
+  rule: var >= 5 = true
+    - var: 7
+    - index: 1
+";
+
+// "At least two of the members are 18 or more", of a list of which the second alone is.
+const TWO_MEMBERS: &str = "\
+at_least(2, var >= 18) = false
+  item: var >= 18 = false
+    - var: 17
+    - index: 0
+  item: var >= 18 = false
+    - var: 3
+    - index: 2
+";
+
+// "Exactly one of the rules holds", where the first does.
+const ONE_RULE: &str = "\
+(at_least(1, var >= 1, var >= 9) && (! at_least(2, var >= 1, var >= 9))) = true
+  left: at_least(1, var >= 1, var >= 9) = true
+    rule: var >= 1 = true
+      - var: 7
+      - index: 0
+  right: (! at_least(2, var >= 1, var >= 9)) = true
+    predicate: at_least(2, var >= 1, var >= 9) = false
+      rule: var >= 9 = false
+        - var: 7
+        - index: 1
+";
+
+const PARTS_OF_ONE_RULE: &str = "\
+left: at_least(1, var >= 1, var >= 9)
+  rule: var >= 1
+  rule: var >= 9
+right: (! at_least(2, var >= 1, var >= 9))
+  predicate: at_least(2, var >= 1, var >= 9)
+    rule: var >= 1
+    rule: var >= 9
+";
+
+#[test]
+fn thresholds(rt: HostRuntime) -> Result<(), Fail> {
+    let alloc = rt.alloc();
+    let (rules, children) = rules_of(alloc, &[1, 5, 9])?;
+    let row = over("at_least", true, TWO_RULES, children.as_str());
+    sweep_calls(&rt, &at_least(2, rules), &7, row)?;
+    let members = Vec::from_slice(alloc, &[17, 18, 3])?;
+    let row = over("of_at_least", false, TWO_MEMBERS, "item: var >= 18\n");
+    sweep_calls(&rt, &ge(18u32).of_at_least(2), &members, row)?;
+    let (rules, _) = rules_of(alloc, &[1, 9])?;
+    let row = over("exactly", true, ONE_RULE, PARTS_OF_ONE_RULE);
+    sweep_calls(&rt, &exactly(1, rules)?, &7, row)
 }
 
 fn first_of(list: &Vec<u32>) -> Option<&u32>

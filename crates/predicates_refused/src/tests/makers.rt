@@ -3,7 +3,7 @@ use super::answer::Answer;
 use super::sweep::Memory::{GoesOn, Taken};
 use super::sweep::{Call, sweep};
 use predicates::boolean::{NotPredicate, PredicateBooleanExt};
-use predicates::iter::{InPredicate, in_hash, in_iter};
+use predicates::iter::{InPredicate, in_hash, in_iter, same_members};
 use predicates::{BoxPredicate, Predicate};
 use predicates_path::Snapshot;
 use predicates_testing::text;
@@ -22,6 +22,7 @@ enum Membership {
     Listed,
     Hashed,
     Sorted,
+    SameMembers,
 }
 
 impl Call for Membership {
@@ -36,6 +37,10 @@ impl Call for Membership {
             Membership::Listed => in_iter(alloc, MEMBERS)?.eval(alloc, &23)?,
             Membership::Hashed => in_hash(alloc, MEMBERS)?.eval(alloc, &24)?,
             Membership::Sorted => list.sort()?.eval(alloc, &23)?,
+            Membership::SameMembers => {
+                let same = same_members(alloc, MEMBERS)?;
+                same.eval(alloc, &Vec::from_slice(alloc, &MEMBERS)?)?
+            }
         };
         Ok(Answer::Verdict(verdict))
     }
@@ -45,7 +50,14 @@ impl Call for Membership {
 fn memberships(rt: HostRuntime) -> Result<(), Fail> {
     sweep(&rt, "in_iter", &Membership::Listed, "true", GoesOn)?;
     sweep(&rt, "in_hash", &Membership::Hashed, "false", GoesOn)?;
-    sweep(&rt, "sort", &Membership::Sorted, "true", Taken)
+    sweep(&rt, "sort", &Membership::Sorted, "true", Taken)?;
+    sweep(
+        &rt,
+        "same_members",
+        &Membership::SameMembers,
+        "true",
+        GoesOn,
+    )
 }
 
 #[derive(Drop)]

@@ -17,7 +17,9 @@ use predicates_path::{
     is_file, is_symlink, missing,
 };
 use predicates_testing::text;
-use predicates_text::{PredicateStrExt, contains, ends_with, is_empty, is_match, starts_with};
+use predicates_text::{
+    PredicateStrExt, contains, ends_with, eq_ignore_case, is_empty, is_match, starts_with,
+};
 use std::process::Abort;
 use std::test::Fail;
 
@@ -110,6 +112,9 @@ fn tests_of_texts(rt: HostRuntime) -> Result<(), Fail> {
     holds(&rt, refusing(alloc, "ends_with"), &ends_with(part), &item)?;
     let part = text(alloc, "b")?;
     holds(&rt, refusing(alloc, "contains"), &contains(part), &item)?;
+    let other = text(alloc, "ABA")?;
+    let begun = refusing(alloc, "eq_ignore_case");
+    holds(&rt, begun, &eq_ignore_case(other), &item)?;
     let once = contains(text(alloc, "b")?);
     holds(&rt, refusing(alloc, "count"), &once.count(1), &item)?;
     let pattern = is_match(alloc, text(alloc, "b")?)?;
@@ -128,6 +133,11 @@ fn views_of_texts(rt: HostRuntime) -> Result<(), Fail> {
     is_made(&rt, refusing(alloc, "trim"), &is_empty().trim(), &item)?;
     let equal = eq(text(alloc, " \n")?);
     is_made(&rt, refusing(alloc, "normalize"), &equal.normalize(), &item)?;
+    let (masse, item) = (eq(text(alloc, "masse")?), text(alloc, "MASSE")?);
+    is_made(&rt, refusing(alloc, "fold_case"), &masse.fold_case(), &item)?;
+    let (masse, item) = (eq(text(alloc, "masse")?), text(alloc, "masse")?);
+    let begun = refusing(alloc, "fold_case of a folded text");
+    holds(&rt, begun, &masse.fold_case(), &item)?;
     let bytes = Vec::from_slice(alloc, b"a")?;
     let full = is_empty().not();
     is_made(&rt, refusing(alloc, "from_utf8"), &full.from_utf8(), &bytes)

@@ -5,7 +5,7 @@ use super::sweep::{Call, sweep};
 use predicates::boolean::PredicateBooleanExt;
 use predicates_core::reflection::{Case, Product, describe, render, render_onto};
 use predicates_testing::text;
-use predicates_text::{is_empty, lines_even, trimmed};
+use predicates_text::{case_folded, is_empty, lines_even, trimmed};
 use std::alloc::{AllocError, Global};
 use std::test::Fail;
 
@@ -144,10 +144,17 @@ impl Call for Describing {
     }
 }
 
+#[derive(Clone, Copy)]
+enum Kind {
+    Trimmed,
+    LinesEven,
+    CaseFolded,
+}
+
 #[derive(Drop)]
 struct View<'a> {
     item: &'a str,
-    trims: bool,
+    kind: Kind,
 }
 
 impl Call for View<'_> {
@@ -158,10 +165,12 @@ impl Call for View<'_> {
     }
 
     fn call(&self, alloc: Global, _operand: ()) -> Result<Answer, AllocError> {
-        if self.trims {
-            return Ok(Answer::Text(trimmed(alloc, self.item)?));
-        }
-        Ok(Answer::Text(lines_even(alloc, self.item)?))
+        let view = match self.kind {
+            Kind::Trimmed => trimmed(alloc, self.item)?,
+            Kind::LinesEven => lines_even(alloc, self.item)?,
+            Kind::CaseFolded => case_folded(alloc, self.item)?,
+        };
+        Ok(Answer::Text(view))
     }
 }
 
@@ -175,17 +184,22 @@ fn descriptions(rt: HostRuntime) -> Result<(), Fail> {
 fn views(rt: HostRuntime) -> Result<(), Fail> {
     let words = View {
         item: " a b ",
-        trims: true,
+        kind: Kind::Trimmed,
     };
     sweep(&rt, "trimmed", &words, "a b", Taken)?;
     let blanks = View {
         item: "  ",
-        trims: true,
+        kind: Kind::Trimmed,
     };
     sweep(&rt, "trimmed of blanks", &blanks, "", Never)?;
     let lines = View {
         item: "a\r\nb\r",
-        trims: false,
+        kind: Kind::LinesEven,
     };
-    sweep(&rt, "lines_even", &lines, "a\nb\n", Taken)
+    sweep(&rt, "lines_even", &lines, "a\nb\n", Taken)?;
+    let masse = View {
+        item: "Maße",
+        kind: Kind::CaseFolded,
+    };
+    sweep(&rt, "case_folded", &masse, "masse", Taken)
 }

@@ -5,9 +5,10 @@ use super::sweep::{Call, sweep};
 use super::words::check_of;
 use predicates::boolean::PredicateBooleanExt;
 use predicates::check::{
-    Unmet, add_failure, check_all, expect, failures, require, require_as, sift,
+    Expectation, Unmet, add_failure, check_all, expect, failures, require, require_all, require_as,
+    sift,
 };
-use predicates::ord::{ge, le};
+use predicates::ord::{OrdPredicate, ge, le};
 use predicates_core::reflection::render_onto;
 use predicates_explain::{RunFault, TextCheck, filter_lines};
 use std::alloc::{AllocError, Global};
@@ -34,11 +35,16 @@ impl Call for Requiring {
             Some(label) => require_as(alloc, label, &between, &self.number),
             None => require(alloc, &between, &self.number),
         };
-        match ended {
-            Ok(()) => Ok(Answer::Verdict(true)),
-            Err(Unmet::Fails(lines)) => Ok(Answer::Text(lines)),
-            Err(Unmet::NoMemory) => Err(AllocError),
-        }
+        answer_of(ended)
+    }
+}
+
+// How a requirement ended.
+fn answer_of(ended: Result<(), Unmet>) -> Result<Answer, AllocError> {
+    match ended {
+        Ok(()) => Ok(Answer::Verdict(true)),
+        Err(Unmet::Fails(lines)) => Ok(Answer::Text(lines)),
+        Err(Unmet::NoMemory) => Err(AllocError),
     }
 }
 
@@ -66,6 +72,48 @@ fn requirements(rt: HostRuntime) -> Result<(), Fail> {
     let expected = format!(in rt.alloc(); "eleven: {ELEVEN}")?;
     let call = Requiring { label, number };
     sweep(&rt, "require_as on 11", &call, expected.as_str(), Taken)
+}
+
+// A requirement that each of three numbers is so great.
+#[derive(Drop)]
+struct RequiringAll {
+    least: i64,
+}
+
+impl Call for RequiringAll {
+    type Operand = Vec<Expectation<i64, OrdPredicate<i64>>>;
+
+    fn operand(&self, alloc: Global) -> Result<Self::Operand, AllocError> {
+        let mut expected = Vec::new(alloc);
+        for (label, number) in [("a", 10i64), ("b", 20), ("c", 7)] {
+            expected.push(expect(alloc, label, number, ge(self.least))?)?;
+        }
+        Ok(expected)
+    }
+
+    fn call(&self, alloc: Global, expected: Self::Operand) -> Result<Answer, AllocError> {
+        answer_of(require_all(alloc, expected.as_slice()))
+    }
+}
+
+#[test]
+fn requirements_of_all(rt: HostRuntime) -> Result<(), Fail> {
+    let least = 5;
+    sweep(
+        &rt,
+        "require_all from 5",
+        &RequiringAll { least },
+        "true",
+        Never,
+    )?;
+    let least = 20;
+    sweep(
+        &rt,
+        "require_all from 20",
+        &RequiringAll { least },
+        "a: var >= 20 = false\n  - var: 10\nc: var >= 20 = false\n  - var: 7\n",
+        Taken,
+    )
 }
 
 // What fails of some numbers, as the lines of the cases.

@@ -169,6 +169,7 @@ fn adapters_give_their_parts_no_flags(rt: HostRuntime) -> Result<(), Fail> {
     let alloc = rt.alloc();
     assert!(rt; prints(alloc, wide::<String>(alloc)?.trim(), "true\n")?);
     assert!(rt; prints(alloc, wide::<String>(alloc)?.normalize(), "true\n")?);
+    assert!(rt; prints(alloc, wide::<String>(alloc)?.fold_case(), "true\n")?);
     assert!(rt; prints(alloc, wide::<String>(alloc)?.from_utf8(), "true\n")?);
     let of_file = wide::<String>(alloc)?.from_utf8().from_file_path();
     assert!(rt; prints(alloc, of_file, "true\n")?);

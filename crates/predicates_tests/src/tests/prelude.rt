@@ -34,15 +34,17 @@ fn print_comparisons(alloc: Global) -> Result<[bool; 6], AllocError> {
     ])
 }
 
-fn print_texts(alloc: Global) -> Result<[bool; 4], AllocError> {
+fn print_texts(alloc: Global) -> Result<[bool; 5], AllocError> {
     let starts = predicate::str::starts_with(text(alloc, "a")?);
     let starts = print(alloc, starts, "var.starts_with(\"a\")")?;
     let ends = predicate::str::ends_with(text(alloc, "a")?);
     let ends = print(alloc, ends, "var.ends_with(\"a\")")?;
     let part = predicate::str::contains(text(alloc, "a")?);
     let part = print(alloc, part, "var.contains(a)")?;
+    let same = predicate::str::eq_ignore_case(text(alloc, "a")?);
+    let same = print(alloc, same, "var.eq_ignore_case(\"a\")")?;
     let empty = print(alloc, predicate::str::is_empty(), "var.is_empty()")?;
-    Ok([starts, ends, part, empty])
+    Ok([starts, ends, part, same, empty])
 }
 
 fn print_paths(alloc: Global) -> Result<[bool; 5], AllocError> {
@@ -67,6 +69,12 @@ fn describe_set(alloc: Global) -> Result<bool, AllocError> {
     is_described(alloc, &hashed, "var in values\nvalues={3}\n")
 }
 
+// Whether members in any order describe theirs.
+fn describe_members(alloc: Global) -> Result<bool, AllocError> {
+    let same = predicate::same_members(alloc, [3i64, 1])?;
+    is_described(alloc, &same, "var == values in any order\nvalues=[1, 3]\n")
+}
+
 fn print_pattern(alloc: Global) -> Result<bool, Fail> {
     let digits = predicate::str::is_match(alloc, text(alloc, "^[0-9]+$")?)?;
     Ok(print(alloc, digits, "var.is_match(^[0-9]+$)")?)
@@ -76,10 +84,11 @@ fn print_pattern(alloc: Global) -> Result<bool, Fail> {
 fn each_name_prints_its_own_text(rt: HostRuntime) -> Result<(), Fail> {
     assert_eq!(rt; print_constants(rt.alloc())?, [true; 3]);
     assert_eq!(rt; print_comparisons(rt.alloc())?, [true; 6]);
-    assert_eq!(rt; print_texts(rt.alloc())?, [true; 4]);
+    assert_eq!(rt; print_texts(rt.alloc())?, [true; 5]);
     assert_eq!(rt; print_paths(rt.alloc())?, [true; 5]);
     assert!(rt; describe_list(rt.alloc())?);
     assert!(rt; describe_set(rt.alloc())?);
+    assert!(rt; describe_members(rt.alloc())?);
     assert!(rt; print_pattern(rt.alloc())?);
     Ok(())
 }

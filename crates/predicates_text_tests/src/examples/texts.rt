@@ -2,7 +2,8 @@
 //! of its own.
 use predicates_core::Predicate;
 use predicates_text::{
-    PredicateStrExt, contains, ends_with, is_empty, is_match, lines_even, starts_with, trimmed,
+    PredicateStrExt, case_folded, contains, ends_with, eq_ignore_case, is_case_folded, is_empty,
+    is_match, lines_even, starts_with, trimmed,
 };
 use std::test::Fail;
 
@@ -87,6 +88,24 @@ fn with_even_line_ends(rt: HostRuntime) -> Result<(), Fail> {
 }
 
 #[test]
+fn another_text_but_for_case(rt: HostRuntime) -> Result<(), Fail> {
+    let alloc = rt.alloc();
+    let is_street = eq_ignore_case("Straße".to_owned(alloc)?);
+    assert!(rt; is_street.eval(alloc, &"STRASSE".to_owned(alloc)?)?);
+    assert!(rt; !is_street.eval(alloc, &"Straßen".to_owned(alloc)?)?);
+    Ok(())
+}
+
+#[test]
+fn without_regard_to_case(rt: HostRuntime) -> Result<(), Fail> {
+    let alloc = rt.alloc();
+    let has_street = contains("strasse".to_owned(alloc)?).fold_case();
+    assert!(rt; has_street.eval(alloc, &"Lange Straße".to_owned(alloc)?)?);
+    assert!(rt; has_street.eval(alloc, &"LANGE STRASSE".to_owned(alloc)?)?);
+    Ok(())
+}
+
+#[test]
 fn bytes_as_a_text(rt: HostRuntime) -> Result<(), Fail> {
     let alloc = rt.alloc();
     let has_umlaut = contains("ä".to_owned(alloc)?).from_utf8();
@@ -100,5 +119,13 @@ fn views(rt: HostRuntime) -> Result<(), Fail> {
     let alloc = rt.alloc();
     assert!(rt; trimmed(alloc, " \ta b\u{a0}")?.as_str() == "a b");
     assert!(rt; lines_even(alloc, "a\r\nb\r")?.as_str() == "a\nb\n");
+    assert!(rt; case_folded(alloc, "Maße")?.as_str() == "masse");
+    Ok(())
+}
+
+#[test]
+fn texts_that_are_their_own_folding(rt: HostRuntime) -> Result<(), Fail> {
+    assert!(rt; is_case_folded("masse"));
+    assert!(rt; !is_case_folded("Maße"));
     Ok(())
 }

@@ -2,7 +2,7 @@
 use crate::tests::asked::are_apart;
 use predicates_testing::text;
 use predicates_text::{
-    ContainsPredicate, PredicateStrExt, contains, ends_with, is_empty, starts_with,
+    ContainsPredicate, PredicateStrExt, contains, ends_with, eq_ignore_case, is_empty, starts_with,
 };
 use std::alloc::{AllocError, Global};
 use std::fmt;
@@ -46,6 +46,11 @@ fn are_parts_apart(alloc: Global) -> Result<bool, AllocError> {
     are_apart(alloc, a, b)
 }
 
+fn are_texts_apart(alloc: Global) -> Result<bool, AllocError> {
+    let (a, b) = letters(alloc)?;
+    are_apart(alloc, eq_ignore_case(a), eq_ignore_case(b))
+}
+
 fn are_counts_apart(alloc: Global) -> Result<bool, AllocError> {
     let once = contains(text(alloc, "a")?).count(1);
     let twice = contains(text(alloc, "a")?).count(2);
@@ -62,6 +67,11 @@ fn are_normalized_apart(alloc: Global) -> Result<bool, AllocError> {
     are_apart(alloc, a.normalize(), b.normalize())
 }
 
+fn are_folded_apart(alloc: Global) -> Result<bool, AllocError> {
+    let (a, b) = parts(alloc)?;
+    are_apart(alloc, a.fold_case(), b.fold_case())
+}
+
 fn are_decoded_apart(alloc: Global) -> Result<bool, AllocError> {
     let (a, b) = parts(alloc)?;
     are_apart(alloc, a.from_utf8(), b.from_utf8())
@@ -73,6 +83,7 @@ fn copied(rt: HostRuntime) -> Result<(), Fail> {
     assert!(rt; is_copied(alloc, is_empty())?);
     assert!(rt; is_copied(alloc, is_empty().trim())?);
     assert!(rt; is_copied(alloc, is_empty().normalize())?);
+    assert!(rt; is_copied(alloc, is_empty().fold_case())?);
     assert!(rt; is_copied(alloc, is_empty().from_utf8())?);
     Ok(())
 }
@@ -82,9 +93,11 @@ fn adapters_are_shown(rt: HostRuntime) -> Result<(), Fail> {
     let (alloc, part) = (rt.alloc(), is_empty());
     let trim = "TrimPredicate { inner: IsEmptyPredicate }";
     let normalized = "NormalizedPredicate { inner: IsEmptyPredicate }";
+    let folded = "FoldCasePredicate { inner: IsEmptyPredicate }";
     let utf8 = "Utf8Predicate { inner: IsEmptyPredicate }";
     assert!(rt; is_shown_as(alloc, &part.trim(), trim)?);
     assert!(rt; is_shown_as(alloc, &part.normalize(), normalized)?);
+    assert!(rt; is_shown_as(alloc, &part.fold_case(), folded)?);
     assert!(rt; is_shown_as(alloc, &part.from_utf8(), utf8)?);
     Ok(())
 }
@@ -94,6 +107,7 @@ fn leaves_are_compared(rt: HostRuntime) -> Result<(), Fail> {
     assert!(rt; are_starts_apart(rt.alloc())?);
     assert!(rt; are_ends_apart(rt.alloc())?);
     assert!(rt; are_parts_apart(rt.alloc())?);
+    assert!(rt; are_texts_apart(rt.alloc())?);
     assert!(rt; are_counts_apart(rt.alloc())?);
     Ok(())
 }
@@ -102,6 +116,7 @@ fn leaves_are_compared(rt: HostRuntime) -> Result<(), Fail> {
 fn adapters_are_compared(rt: HostRuntime) -> Result<(), Fail> {
     assert!(rt; are_trimmed_apart(rt.alloc())?);
     assert!(rt; are_normalized_apart(rt.alloc())?);
+    assert!(rt; are_folded_apart(rt.alloc())?);
     assert!(rt; are_decoded_apart(rt.alloc())?);
     Ok(())
 }
