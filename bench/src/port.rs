@@ -17,6 +17,14 @@ unsafe extern "C" {
     fn bench_function(ages: *const i64, len: usize, question: u8, rounds: usize) -> usize;
     fn bench_part(ages: *const i64, len: usize, question: u8, rounds: usize) -> usize;
     fn bench_each(least: i64, members: *const i64, len: usize, question: u8, rounds: usize) -> usize;
+    fn bench_at_least(
+        least: i64,
+        needed: usize,
+        members: *const i64,
+        len: usize,
+        question: u8,
+        rounds: usize,
+    ) -> usize;
     fn bench_nots(depth: usize, t: *const u8, tlen: usize, copies: usize, question: u8, rounds: usize) -> usize;
     fn bench_row(leaves: usize, t: *const u8, tlen: usize, copies: usize, question: u8, rounds: usize) -> usize;
     fn bench_xors(
@@ -99,6 +107,10 @@ pub fn part(ages: &[i64], question: Question, rounds: usize) -> usize {
 
 pub fn each(least: i64, members: &[i64], question: Question, rounds: usize) -> usize {
     unsafe { bench_each(least, members.as_ptr(), members.len(), question.number(), rounds) }
+}
+
+pub fn at_least(least: i64, needed: usize, members: &[i64], question: Question, rounds: usize) -> usize {
+    unsafe { bench_at_least(least, needed, members.as_ptr(), members.len(), question.number(), rounds) }
 }
 
 /// How the members of a membership are held.

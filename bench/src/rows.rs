@@ -6,6 +6,7 @@ mod lists;
 mod members;
 mod numbers;
 mod texts;
+mod thresholds;
 
 use crate::clock::{assert_same, beside};
 use crate::question::Question;
@@ -65,6 +66,7 @@ pub fn print(only: &str) {
     checks::print(only);
     texts::print(only);
     lists::print(only);
+    thresholds::print(only);
     // Where one question alone is asked, both sides answer it.
     if Question::asked().len() == Question::ALL.len() {
         println!("\n|What would have to change, the port alone|owned case|change|");

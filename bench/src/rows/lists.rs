@@ -28,7 +28,7 @@ fn find<'a, P: Predicate<i64>>(least: &'a P, members: &[i64], expected: bool) ->
 }
 
 /// Writes the lines of a member's case under the list's node.
-fn write_member(case: &Case<'_>, naming: Naming, lines: &mut String, text: &mut String) {
+pub(super) fn write_member(case: &Case<'_>, naming: Naming, lines: &mut String, text: &mut String) {
     lines.clear();
     render(case, naming, lines);
     let mut before = "  item: ";
@@ -71,29 +71,37 @@ fn holds<P: Predicate<i64>>(least: &P, members: &[i64]) -> bool {
     members.iter().all(|member| least.eval(member))
 }
 
-/// The sum of the answers about all lists over all rounds.
-fn by_hand(lists: &[Vec<i64>], question: Question, naming: Naming, rounds: usize) -> usize {
-    let least = predicate::ge(black_box(LEAST));
+/// The sum of the answers about all lists over all rounds: of the verdicts, of what is found of the expected ones, owned
+/// or written.
+pub(super) fn answers<F>(
+    lists: &[Vec<i64>],
+    question: Question,
+    rounds: usize,
+    holds: impl Fn(&[i64]) -> bool,
+    find: impl Fn(&[i64], bool) -> Option<F>,
+    own: impl Fn(&F) -> usize,
+    write: impl Fn(&F, &mut String, &mut String),
+) -> usize {
     let mut sum = 0;
     if question == Question::Verdict {
         for _ in 0..rounds {
             for members in black_box(lists) {
-                sum += usize::from(holds(&least, members));
+                sum += usize::from(holds(members));
             }
         }
         return sum;
     }
     let opposite = question == Question::OtherCase;
-    let expected: Vec<bool> = lists.iter().map(|members| holds(&least, members) != opposite).collect();
+    let expected: Vec<bool> = lists.iter().map(|members| holds(members) != opposite).collect();
     let (mut lines, mut text) = (String::new(), String::new());
     for _ in 0..rounds {
         for (members, &expected) in black_box(lists).iter().zip(&expected) {
-            let found = find(&least, members, expected);
+            let found = find(members, expected);
             match question {
-                Question::Case => sum += found.as_ref().map_or(0, own),
+                Question::Case => sum += found.as_ref().map_or(0, &own),
                 Question::Lines => {
                     if let Some(found) = &found {
-                        write_found(found, naming, &mut lines, &mut text);
+                        write(found, &mut lines, &mut text);
                     }
                     sum += black_box(&text).len();
                 }
@@ -102,6 +110,19 @@ fn by_hand(lists: &[Vec<i64>], question: Question, naming: Naming, rounds: usize
         }
     }
     sum
+}
+
+fn by_hand(lists: &[Vec<i64>], question: Question, naming: Naming, rounds: usize) -> usize {
+    let least = predicate::ge(black_box(LEAST));
+    answers(
+        lists,
+        question,
+        rounds,
+        |members| holds(&least, members),
+        |members, expected| find(&least, members, expected),
+        own,
+        |found, lines, text| write_found(found, naming, lines, text),
+    )
 }
 
 pub fn print(only: &str) {

@@ -26,3 +26,20 @@ pub extern "C" fn bench_each(
         Err(_) => 0,
     }
 }
+
+/// Asks whether so many of the members are at least `least`.
+#[unsafe(no_mangle)]
+pub extern "C" fn bench_at_least(
+    alloc: Global,
+    least: i64,
+    needed: usize,
+    members: &[i64],
+    question: u8,
+    rounds: usize,
+) -> usize {
+    let enough = ge(least).of_at_least(needed);
+    match only_item(alloc, members) {
+        Ok(items) => ask(alloc, &enough, &items, question, rounds),
+        Err(_) => 0,
+    }
+}
