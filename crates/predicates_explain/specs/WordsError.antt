@@ -21,4 +21,4 @@ error_text (BadWord place word problem) =
     Some (codes "word ") ++? Some (decimal place) ++? Some (codes ", ")
     ++? debug_str (string_bytes word) ++? Some (codes ": ") ++? Some (problem_text problem)
 error_text (NotOne count) = Some (decimal count ++ codes " checks are left, not one")
-error_text NoMemory = Some (codes "out of memory")
+error_text NoMemory = Some (codes "no memory")

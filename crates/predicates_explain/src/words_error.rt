@@ -29,7 +29,7 @@ impl fmt::Display for WordsError {
                 write!(f, "word {place}, {word:?}: {problem}")
             }
             WordsError::NotOne(count) => write!(f, "{count} checks are left, not one"),
-            WordsError::NoMemory => write!(f, "out of memory"),
+            WordsError::NoMemory => write!(f, "no memory"),
         }
     }
 }

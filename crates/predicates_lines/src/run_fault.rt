@@ -27,7 +27,7 @@ impl fmt::Display for RunFault {
 
     fn fmt<W: fmt::Write>(&self, f: &mut fmt::Formatter<W>) -> fmt::Result {
         match self {
-            RunFault::NoMemory => write!(f, "out of memory"),
+            RunFault::NoMemory => write!(f, "no memory"),
             RunFault::Input => write!(f, "input could not be read"),
             RunFault::Output => write!(f, "output could not be written"),
         }

@@ -3,7 +3,7 @@ use Rattle.std.proofs.Common.{◌≡◌, ℕ, zero, suc, ◌+◌, ◌<◌, ◌�
 use Rattle.std.proofs.lemmas.List.{append-nil}
 use Rattle.predicates_rules.specs.declared.error.Reason.{Reason}
 use Rattle.predicates_rules.specs.declared.error.RulesError.{RulesError}
-use Rattle.predicates_rules.specs.declared.error.RulesError.TheVariants.{OutOfMemory, Unreadable}
+use Rattle.predicates_rules.specs.declared.error.RulesError.TheVariants.{NoMemory, Unreadable}
 use Rattle.predicates_rules.specs.declared.stop.Stop.{Stop}
 use Rattle.predicates_rules.specs.declared.stop.ReadError.{ReadError}
 use Rattle.predicates_rules.specs.declared.stop.ReadError.TheVariants as errors
@@ -80,15 +80,15 @@ no_line h (taken {r = r} l d) = h (Some r) l
 
 module _ (lines : List (List ℕ)) (line : List ℕ) (left : List (List ℕ)) (k : ℕ) (front : List (List ℕ × Tree)) (g : Goes lines (line ∷ left) k front) where
   pub cannot : (e : RulesError) → IsLineError (k + 1) line e → (rs : List (List ℕ × Tree)) → AreRules max_depth lines rs → AreRead (Err e) rs
-  cannot OutOfMemory h rs d = tt
+  cannot NoMemory h rs d = tt
   cannot (Unreadable at column reason) h rs d = no_line h.1 (g.only max_depth rs d).2
 
   pub never : (e : RulesError) → IsLineError (k + 1) line e → IsSyntaxError e → (n : ℕ) (rs : List (List ℕ × Tree)) → AreRules n lines rs → ⊥
-  never OutOfMemory h x n rs d = absurd x
+  never NoMemory h x n rs d = absurd x
   never (Unreadable at column reason) h x n rs d = no_line (h.2 x n) (g.only n rs d).2
 
   pub first_fault : (e : RulesError) → IsLineError (k + 1) line e → IsFaultOf lines e
-  first_fault OutOfMemory h = tt
+  first_fault NoMemory h = tt
   first_fault (Unreadable at column reason) h =
       subst (λ (n : ℕ). IsFirstFault lines n column reason) (sym h.0) (g.fault 1 column reason (in_this h.3.0 h.3.1 h.3.2 h.3.3))
 

@@ -3,7 +3,7 @@ use Rattle.std.specs.Prelude.{◌≡◌, ◌≢◌, ℕ, suc, ◌+◌, ◌-◌, 
 use Rattle.predicates_rules.specs.declared.error.Reason.{Reason}
 use Rattle.predicates_rules.specs.declared.error.Reason.TheVariants.{TooDeep}
 use Rattle.predicates_rules.specs.declared.error.RulesError.{RulesError}
-use Rattle.predicates_rules.specs.declared.error.RulesError.TheVariants.{OutOfMemory, Unreadable}
+use Rattle.predicates_rules.specs.declared.error.RulesError.TheVariants.{NoMemory, Unreadable}
 use Rattle.predicates_rules.specs.declared.stop.Stop.{Stop}
 use Rattle.predicates_rules.specs.declared.stop.ReadError.{ReadError}
 use Rattle.predicates_rules.specs.declared.stop.ReadError.TheVariants as errors
@@ -57,22 +57,22 @@ pub data IsFirstFault : List (List ℕ) → ℕ → ℕ → Reason → Type 0 wh
 
 -- where and why lines are no rules, unless memory ran out
 abbrev pub IsFaultOf : List (List ℕ) → RulesError → Type 0
-IsFaultOf lines OutOfMemory = Unit {0}
+IsFaultOf lines NoMemory = Unit {0}
 IsFaultOf lines (Unreadable line column reason) = IsFirstFault lines line column reason
 
 -- neither memory nor the depth was too little
 abbrev pub IsSyntaxError : RulesError → Type 0
-IsSyntaxError OutOfMemory = ⊥
+IsSyntaxError NoMemory = ⊥
 IsSyntaxError (Unreadable line column reason) = reason ≢ TooDeep
 
 -- an error of the line with this number
 abbrev pub error_at : ℕ → List ℕ → ReadError → RulesError
-error_at number line errors.Memory = OutOfMemory
+error_at number line errors.Memory = NoMemory
 error_at number line (errors.Stopped s) = Unreadable number (column_at line s.left) s.reason
 
 -- the line with this number has no rule and is not blank
 abbrev pub IsLineError : ℕ → List ℕ → RulesError → Type 0
-IsLineError number line OutOfMemory = Unit {0}
+IsLineError number line NoMemory = Unit {0}
 IsLineError number line (Unreadable at column reason) =
     (at ≡ number) × ((o : Option (List ℕ × Tree)) → IsLine max_depth line o → ⊥) × (reason ≢ TooDeep → (n : ℕ) (o : Option (List ℕ × Tree)) → IsLine n line o → ⊥)
     × ((s : Stop) × IsLineFault line s × (column ≡ column_at line s.left) × (reason ≡ s.reason))

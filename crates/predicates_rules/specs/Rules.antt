@@ -6,7 +6,7 @@ use Rattle.std.specs.Str.{is_utf8}
 use Rattle.predicates_rules.specs.declared.lexer.Class.TheVariants.{Space, Name}
 use Rattle.predicates_rules.specs.declared.rule.Rule.{Rule}
 use Rattle.predicates_rules.specs.declared.error.RulesError.{RulesError}
-use Rattle.predicates_rules.specs.declared.error.RulesError.TheVariants.{OutOfMemory, Unreadable}
+use Rattle.predicates_rules.specs.declared.error.RulesError.TheVariants.{NoMemory, Unreadable}
 use Rattle.predicates_rules.specs.Trees.{Sign, Tree, tree_of}
 use Rattle.predicates_rules.specs.Grammar.{IsSpelled}
 use Rattle.predicates_rules.specs.Lexemes.{continues, is_over, IsLexed}
@@ -50,5 +50,5 @@ rule_of r = (string_bytes r.name, tree_of r.expression)
 -- what was read is these rules, unless memory ran out
 abbrev pub AreRead : Result (Vec Rule Global) RulesError → List (List ℕ × Tree) → Type 0
 AreRead (Ok v) rs = map rule_of v.items ≡ rs
-AreRead (Err OutOfMemory) rs = Unit {0}
+AreRead (Err NoMemory) rs = Unit {0}
 AreRead (Err (Unreadable line column reason)) rs = ⊥

@@ -97,7 +97,7 @@ impl fmt::Display for Reason {
 /// Why rules were not read.
 #[derive(Clone, Copy, Debug, PartialEq, Eq)]
 pub enum RulesError {
-    OutOfMemory,
+    NoMemory,
     /// Where the text stops being rules. Lines and columns count from 1, and a column counts bytes.
     Unreadable {
         line: usize,
@@ -109,7 +109,7 @@ pub enum RulesError {
 impl fmt::Display for RulesError {
     fn fmt<W: fmt::Write>(&self, f: &mut fmt::Formatter<W>) -> fmt::Result {
         match self {
-            RulesError::OutOfMemory => f.write_str("out of memory"),
+            RulesError::NoMemory => f.write_str("no memory"),
             RulesError::Unreadable {
                 line,
                 column,

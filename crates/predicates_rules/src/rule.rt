@@ -1,7 +1,7 @@
 //! The rules of a file.
 
 ghost use Rattle.std.specs.Prelude.{◌≡◌, ◌≢◌, ℕ, ◌+◌, ◌≤◌, List, Option, IfOk, IfErr, map, option_map, length};
-ghost use Rattle.predicates_rules.specs.declared.error.RulesError.TheVariants.{OutOfMemory};
+ghost use Rattle.predicates_rules.specs.declared.error.RulesError.TheVariants.{NoMemory};
 ghost use Rattle.predicates_rules.specs.Trees.{Tree};
 ghost use Rattle.predicates_rules.specs.declared.expression.Connective.TheVariants.{Or};
 ghost use Rattle.predicates_rules.specs.Grammar.{By, max_depth};
@@ -23,18 +23,18 @@ pub struct Rule {
 }
 
 impl From<AllocError> for RulesError {
-    ghost from_gives = { λ _ e. e ≡ OutOfMemory };
+    ghost from_gives = { λ _ e. e ≡ NoMemory };
 
     fn from(_e: AllocError) -> RulesError {
-        RulesError::OutOfMemory
+        RulesError::NoMemory
     }
 }
 
 impl<T: Drop> From<AllocFailed<T>> for RulesError {
-    ghost from_gives = { λ _ e. e ≡ OutOfMemory };
+    ghost from_gives = { λ _ e. e ≡ NoMemory };
 
     fn from(_e: AllocFailed<T>) -> RulesError {
-        RulesError::OutOfMemory
+        RulesError::NoMemory
     }
 }
 
@@ -42,7 +42,7 @@ fn placed(error: ReadError, number: usize, line: &[u8]) -> RulesError
     ensures { result ≡ error_at number line.now error }
 {
     match error {
-        ReadError::Memory => RulesError::OutOfMemory,
+        ReadError::Memory => RulesError::NoMemory,
         ReadError::Stopped(stop) => RulesError::Unreadable {
             line: number,
             column: line.len().saturating_sub(stop.left) + 1,

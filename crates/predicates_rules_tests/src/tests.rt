@@ -417,7 +417,7 @@ fn stops_on_the_last_line(alloc: Global, front: &[u8]) -> bool {
                 ..
             },
         ) => at == line && place <= column,
-        Err(RulesError::OutOfMemory) => false,
+        Err(RulesError::NoMemory) => false,
     }
 }
 

@@ -16,7 +16,7 @@ use std::fmt;
 /// Why the rules of a file were not read.
 #[derive(Debug, Drop)]
 pub enum ReadChecksError {
-    OutOfMemory,
+    NoMemory,
     /// The text says no rules.
     Unreadable(RulesError),
     /// The rule on this line, from 1, has a pattern that is no regular expression, or too large.
@@ -30,7 +30,7 @@ pub enum ReadChecksError {
 impl fmt::Display for ReadChecksError {
     fn fmt<W: fmt::Write>(&self, f: &mut fmt::Formatter<W>) -> fmt::Result {
         match self {
-            ReadChecksError::OutOfMemory => f.write_str("out of memory"),
+            ReadChecksError::NoMemory => f.write_str("no memory"),
             ReadChecksError::Unreadable(error) => write!(f, "{error}"),
             ReadChecksError::Pattern {
                 line,
@@ -48,13 +48,13 @@ impl Error for ReadChecksError {}
 
 impl From<AllocError> for ReadChecksError {
     fn from(_e: AllocError) -> ReadChecksError {
-        ReadChecksError::OutOfMemory
+        ReadChecksError::NoMemory
     }
 }
 
 impl<T: Drop> From<AllocFailed<T>> for ReadChecksError {
     fn from(_e: AllocFailed<T>) -> ReadChecksError {
-        ReadChecksError::OutOfMemory
+        ReadChecksError::NoMemory
     }
 }
 
@@ -91,7 +91,7 @@ fn rule_check(
     let Rule { name, expression } = rule;
     match check_of(alloc, expression) {
         Ok(check) => Ok(RuleCheck { name, check }),
-        Err(CheckError::OutOfMemory) => Err(ReadChecksError::OutOfMemory),
+        Err(CheckError::NoMemory) => Err(ReadChecksError::NoMemory),
         Err(CheckError::Pattern(pattern)) => Err(ReadChecksError::Pattern {
             line: line_of(text, before),
             rule: name,
@@ -105,7 +105,7 @@ fn rules_of(alloc: Global, text: &[u8]) -> Result<Vec<Rule>, ReadChecksError>
 {
     match read_rules(alloc, text) {
         Ok(rules) => Ok(rules),
-        Err(RulesError::OutOfMemory) => Err(ReadChecksError::OutOfMemory),
+        Err(RulesError::NoMemory) => Err(ReadChecksError::NoMemory),
         Err(error) => Err(ReadChecksError::Unreadable(error)),
     }
 }

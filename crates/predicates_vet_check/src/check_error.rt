@@ -1,6 +1,6 @@
 //! Why a check was not made of an expression.
 ghost use Rattle.std.specs.Prelude.{◌≡◌};
-ghost use Rattle.predicates_vet_check.specs.declared.check_error.CheckError.TheVariants.{OutOfMemory};
+ghost use Rattle.predicates_vet_check.specs.declared.check_error.CheckError.TheVariants.{NoMemory};
 
 use std::alloc::{AllocError, AllocFailed};
 use std::error::Error;
@@ -10,7 +10,7 @@ use std::fmt;
 #[derive(Debug, Drop)]
 pub enum CheckError {
     /// Memory was refused.
-    OutOfMemory,
+    NoMemory,
     /// The pattern is no regular expression, or too large.
     Pattern(String),
 }
@@ -18,7 +18,7 @@ pub enum CheckError {
 impl fmt::Display for CheckError {
     fn fmt<W: fmt::Write>(&self, f: &mut fmt::Formatter<W>) -> fmt::Result {
         match self {
-            CheckError::OutOfMemory => f.write_str("out of memory"),
+            CheckError::NoMemory => f.write_str("no memory"),
             CheckError::Pattern(pattern) => write!(f, "no regular expression: {pattern:?}"),
         }
     }
@@ -27,17 +27,17 @@ impl fmt::Display for CheckError {
 impl Error for CheckError {}
 
 impl From<AllocError> for CheckError {
-    ghost from_gives = { λ _ e. e ≡ OutOfMemory };
+    ghost from_gives = { λ _ e. e ≡ NoMemory };
 
     fn from(_e: AllocError) -> CheckError {
-        CheckError::OutOfMemory
+        CheckError::NoMemory
     }
 }
 
 impl<T: Drop> From<AllocFailed<T>> for CheckError {
-    ghost from_gives = { λ _ e. e ≡ OutOfMemory };
+    ghost from_gives = { λ _ e. e ≡ NoMemory };
 
     fn from(_e: AllocFailed<T>) -> CheckError {
-        CheckError::OutOfMemory
+        CheckError::NoMemory
     }
 }

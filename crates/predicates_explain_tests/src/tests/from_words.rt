@@ -43,7 +43,7 @@ fn texts_of_errors(rt: HostRuntime) -> Result<(), Fail> {
         let right = is_told(alloc, texts_of(alloc, tokens)?, expected)?;
         assert!(rt; right, "{expected}");
     }
-    assert!(rt; is_shown(alloc, WordsError::NoMemory, "out of memory")?);
+    assert!(rt; is_shown(alloc, WordsError::NoMemory, "no memory")?);
     Ok(())
 }
 

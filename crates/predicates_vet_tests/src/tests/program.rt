@@ -283,7 +283,7 @@ const ROWS: [Row; 28] = [
         Closed::Neither,
         2,
         "",
-        "vet: out of memory\n",
+        "vet: no memory\n",
     ),
     (
         PLAIN,
