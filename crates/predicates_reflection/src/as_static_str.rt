@@ -16,6 +16,10 @@ pub trait AsStaticStr {
     ghost bytes: { Self → List ℕ };
 
     /// The text itself. It takes no memory.
+    ///
+    /// ```
+    /// assert!(rt; StaticText::new("any").text() == "any");
+    /// ```
     fn text(&self) -> &'static str
         ensures { result.now ≡ bytes self.now };
 }

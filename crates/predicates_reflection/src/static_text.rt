@@ -81,6 +81,10 @@ impl StaticText {
     }
 
     /// The text, which is still there once `self` is gone.
+    ///
+    /// ```
+    /// assert!(rt; StaticText::new("any").as_str() == "any");
+    /// ```
     pub fn as_str(&self) -> &'static str
         ensures { result.now ≡ self.now }
     {

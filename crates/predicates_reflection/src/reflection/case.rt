@@ -81,6 +81,12 @@ impl Case {
 
     /// Adds a product to the root, behind those that are there. Where memory runs out, the case and
     /// the product are dropped.
+    ///
+    /// ```
+    /// let case = Case::new(alloc, None, false)
+    ///     .add_product(Product::new("var", "3".to_owned(alloc)?))?;
+    /// assert!(rt; case.root().products()[0].value() == "3");
+    /// ```
     #[inline(always)] // a call would copy the case
     pub fn add_product(mut self, product: Product) -> Result<Case, AllocError>
         ensures { IfOk result (λ c. c ≡ with_product self product) }
@@ -91,6 +97,12 @@ impl Case {
 
     /// Adds a child to the root under the name, behind those that are there. Where memory runs out,
     /// the case and the child are dropped.
+    ///
+    /// ```
+    /// let part = Case::new(alloc, None, false);
+    /// let whole = Case::new(alloc, None, true).add_child("inner", part)?;
+    /// assert!(rt; whole.root().children().all(|child| !child.case.result()));
+    /// ```
     pub fn add_child(self, name: &'static str, child: Case) -> Result<Case, AllocError>
         ensures { IfOk result (λ c. c ≡ with_child self name.entry.now child) }
     {
@@ -120,6 +132,11 @@ impl Case {
     }
 
     /// A view of the root. Views copy nothing and take no memory.
+    ///
+    /// ```
+    /// let case = Case::new(alloc, None, true);
+    /// assert!(rt; case.root().result() && case.root().products().is_empty());
+    /// ```
     pub fn root(&self) -> CaseView<'_>
         ensures value { result ≡ self.now }
         ensures countable { node_count self.now.children < 2 ^ 64 }
@@ -155,6 +172,11 @@ impl<'a> Model for CaseView<'a> {
 
 impl<'a> CaseView<'a> {
     /// The printed text of the predicate that the node explains, if it has one.
+    ///
+    /// ```
+    /// let case = Case::new(alloc, Some("var >= 5".to_owned(alloc)?), true);
+    /// assert!(rt; case.root().predicate() == Some("var >= 5"));
+    /// ```
     pub fn predicate(&self) -> Option<&'a str>
         ensures { option_copied result ≡ self.now.root.text }
     {
@@ -165,6 +187,10 @@ impl<'a> CaseView<'a> {
     }
 
     /// What that predicate answers on its item.
+    ///
+    /// ```
+    /// assert!(rt; !Case::new(alloc, None, false).root().result());
+    /// ```
     pub fn result(&self) -> bool
         ensures { result ≡ self.now.root.result }
     {
@@ -172,6 +198,12 @@ impl<'a> CaseView<'a> {
     }
 
     /// The values that the node shows, in order.
+    ///
+    /// ```
+    /// for product in case.root().products() {
+    ///     println!(rt; "{} is {}", product.name(), product.value())?;
+    /// }
+    /// ```
     pub fn products(&self) -> &'a [Product]
         ensures { result.now ≡ self.now.root.products }
     {
@@ -179,6 +211,14 @@ impl<'a> CaseView<'a> {
     }
 
     /// The children of the node, each under its name, in order.
+    ///
+    /// ```
+    /// let part = Case::new(alloc, None, true);
+    /// let whole = Case::new(alloc, None, true).add_child("left", part)?;
+    /// for child in whole.root().children() {
+    ///     assert!(rt; child.name == "left" && child.case.result());
+    /// }
+    /// ```
     pub fn children(&self) -> CaseChildren<'a>
         ensures children { result ≡ named_trees self.now.children }
         ensures countable { length result < 2 ^ 64 }

@@ -43,6 +43,12 @@ impl Model for Child {
 
 impl Child {
     /// The description of a part that stands under the name; all four are kept as they are.
+    ///
+    /// ```
+    /// let text = "true".to_owned(alloc)?;
+    /// let part = Child::new("left", text, Vec::new(alloc), Vec::new(alloc));
+    /// assert!(rt; part.name() == "left" && part.text() == "true");
+    /// ```
     pub fn new(
         name: &'static str,
         text: String,
@@ -61,6 +67,10 @@ impl Child {
     }
 
     /// The name that the part stands under, such as `left`.
+    ///
+    /// ```
+    /// assert!(rt; describe(alloc, "left", &predicate::ge(5))?.name() == "left");
+    /// ```
     pub fn name(&self) -> &'static str
         ensures { result.now ≡ self.now.0 }
     {
@@ -68,6 +78,10 @@ impl Child {
     }
 
     /// The printed text of the part.
+    ///
+    /// ```
+    /// assert!(rt; describe(alloc, "left", &predicate::ge(5))?.text() == "var >= 5");
+    /// ```
     pub fn text(&self) -> &str
         ensures { result.now ≡ self.now.1.root.text }
     {
@@ -75,6 +89,12 @@ impl Child {
     }
 
     /// The values that the part was made with.
+    ///
+    /// ```
+    /// let two = predicate::str::contains("a".to_owned(alloc)?).count(2);
+    /// let part = describe(alloc, "inner", &two)?;
+    /// assert!(rt; part.parameters().iter().any(|p| p.name() == "count" && p.value() == "2"));
+    /// ```
     pub fn parameters(&self) -> &[Parameter]
         ensures { result.now ≡ self.now.1.root.parameters }
     {
@@ -82,6 +102,11 @@ impl Child {
     }
 
     /// The parts that the part itself is made of.
+    ///
+    /// ```
+    /// let part = describe(alloc, "inner", &predicate::ge(5).not())?;
+    /// assert!(rt; part.children().iter().all(|child| child.text() == "var >= 5"));
+    /// ```
     pub fn children(&self) -> &[Child]
         ensures { result.now ≡ named_trees self.now.1.children }
     {

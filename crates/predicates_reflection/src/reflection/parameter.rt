@@ -37,6 +37,10 @@ impl Parameter {
     }
 
     /// The name that the value stands under.
+    ///
+    /// ```
+    /// assert!(rt; Parameter::new("count", "2".to_owned(alloc)?).name() == "count");
+    /// ```
     pub fn name(&self) -> &'static str
         ensures { result.now ≡ self.now.0 }
     {
@@ -44,6 +48,10 @@ impl Parameter {
     }
 
     /// The value, as it is printed.
+    ///
+    /// ```
+    /// assert!(rt; Parameter::new("count", "2".to_owned(alloc)?).value() == "2");
+    /// ```
     pub fn value(&self) -> &str
         ensures { result.now ≡ self.now.1 }
     {

@@ -37,6 +37,10 @@ impl Product {
     }
 
     /// The name that the value stands under.
+    ///
+    /// ```
+    /// assert!(rt; Product::new("var", "3".to_owned(alloc)?).name() == "var");
+    /// ```
     pub fn name(&self) -> &'static str
         ensures { result.now ≡ self.now.0 }
     {
@@ -44,6 +48,10 @@ impl Product {
     }
 
     /// The value, as it is printed.
+    ///
+    /// ```
+    /// assert!(rt; Product::new("var", "3".to_owned(alloc)?).value() == "3");
+    /// ```
     pub fn value(&self) -> &str
         ensures { result.now ≡ self.now.1 }
     {
