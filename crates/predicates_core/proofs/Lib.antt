@@ -13,6 +13,7 @@ pub mod Thresholds
 pub mod Shown
 pub mod CombinedLemmas
 pub mod Leaves
+pub mod Details
 pub mod PresentCases
 pub mod Added
 pub mod Found

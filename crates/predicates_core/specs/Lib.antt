@@ -16,6 +16,7 @@ pub mod Combined
 pub mod Asked
 pub mod Alike
 pub mod Leaves
+pub mod Details
 pub mod LeafLaws
 pub mod Present
 pub mod Several

@@ -7,6 +7,7 @@
 mod ask;
 mod changes;
 mod children;
+mod detailed_test;
 mod join;
 mod leaf_cases;
 mod list_changes;
@@ -22,6 +23,7 @@ mod threshold_changes;
 
 pub use changes::{join_change, leaf_change, named_change, not_change};
 pub use children::{one_child, two_children};
+pub use detailed_test::{DetailedPredicate, DetailedTest, TestParameters, detailed_leaf};
 pub use join::{Operator, is_other, join_case, join_explained, join_truth, kept_if, shown_verdict};
 pub use leaf_cases::{absent_case, bare_case, showing_case};
 pub use list_changes::{asked_at, first_alone, is_first_passed, next_change};

@@ -8,6 +8,7 @@
 //! A call fails only where memory runs out, and then drops its arguments.
 ghost use Rattle.std.specs.Prelude.{◌≡◌, [], ◌∷◌, codes, Some, IfOk, string_bytes};
 ghost use Rattle.predicates_core.specs.Shows.{IsNode, found_parts};
+ghost use Rattle.predicates_core.specs.Details.{with_products};
 ghost use Rattle.predicates_core.specs.Leaves.{IsShowing};
 
 use crate::reflection::{Case, Product};
@@ -106,6 +107,27 @@ pub fn showing(case: Case, name: &'static str, value: String) -> Result<Case, Al
     ensures { IfOk result (IsShowing name.entry.now (Some (string_bytes value)) case) }
 {
     case.add_product(Product::new(name, value))
+}
+
+/// Adds the products to the root, behind those that are there and in their order. They are moved
+/// into the case.
+///
+/// ```
+/// let mut products = Vec::new(alloc);
+/// products.push(Product::new("quotient", "3".to_owned(alloc)?))?;
+/// products.push(Product::new("remainder", "1".to_owned(alloc)?))?;
+/// let case = leaf_node(alloc, "even".to_owned(alloc)?, false);
+/// let lines = render(alloc, &showing_all(case, products)?)?;
+/// assert!(rt; lines.as_str() == "even = false\n  - quotient: 3\n  - remainder: 1\n");
+/// ```
+pub fn showing_all(case: Case, products: Vec<Product>) -> Result<Case, AllocError>
+    ensures { IfOk result (λ c. c ≡ with_products case products.items) }
+{
+    let mut shown = case;
+    for product in products {
+        shown = shown.add_product(product)?;
+    }
+    Ok(shown)
 }
 
 /// Adds a product to the root, behind those that are there. The text is copied.
