@@ -3,6 +3,7 @@
 
 mod answer;
 mod boxed;
+mod divisible;
 mod either;
 mod files;
 mod multiple;
@@ -12,6 +13,7 @@ mod right_first;
 
 pub use answer::IsTheAnswer;
 pub use boxed::eval_boxed;
+pub use divisible::DivisibleBy;
 pub use either::Either;
 pub use files::{is_copy, no_script};
 pub use multiple::MultipleOf;

@@ -1,11 +1,11 @@
 //! Custom predicates: a leaf, combinators and an adapter.
 use super::has_lines;
-use predicates::custom::{Operator, bare_case, join_case, leaf, not_case};
+use predicates::custom::{Operator, bare_case, detailed_leaf, join_case, leaf, not_case};
 use predicates::iter::InPredicate;
 use predicates::ord::OrdPredicate;
 use predicates::prelude::*;
 use predicates_testing::{describe, explains, is_described, render_verdict};
-use predicates_uses::{Either, IsTheAnswer, MultipleOf, RightFirst, is_known};
+use predicates_uses::{DivisibleBy, Either, IsTheAnswer, MultipleOf, RightFirst, is_known};
 use std::alloc::{AllocError, Global};
 use std::test::Fail;
 
@@ -214,6 +214,40 @@ answer = false
       - var: 41
 ";
     assert!(rt; is_multiple_or_greater(rt.alloc(), lines)?);
+    Ok(())
+}
+
+fn explains_divisible(
+    alloc: Global,
+    divisor: u32,
+    number: i64,
+    lines: &str,
+) -> Result<bool, AllocError> {
+    explains(
+        alloc,
+        &detailed_leaf(DivisibleBy { divisor }),
+        &number,
+        lines,
+    )
+}
+
+fn describes_divisible(alloc: Global, lines: &str) -> Result<bool, AllocError> {
+    is_described(alloc, &detailed_leaf(DivisibleBy { divisor: 3 }), lines)
+}
+
+// The remainder has the sign of the item, and 0 divides 0 alone.
+#[test]
+fn a_leaf_with_a_product_and_a_parameter_of_its_own(rt: HostRuntime) -> Result<(), Fail> {
+    let alloc = rt.alloc();
+    let lines = "var % 3 == 0 = false\n  - var: -7\n  - remainder: -1\n";
+    assert!(rt; explains_divisible(alloc, 3, -7, lines)?);
+    let lines = "var % 3 == 0 = true\n  - var: 9\n  - remainder: 0\n";
+    assert!(rt; explains_divisible(alloc, 3, 9, lines)?);
+    let lines = "var % 0 == 0 = false\n  - var: 5\n  - remainder: 5\n";
+    assert!(rt; explains_divisible(alloc, 0, 5, lines)?);
+    let lines = "var % 0 == 0 = true\n  - var: 0\n  - remainder: 0\n";
+    assert!(rt; explains_divisible(alloc, 0, 0, lines)?);
+    assert!(rt; describes_divisible(alloc, "var % 3 == 0\ndivisor=3\n")?);
     Ok(())
 }
 
