@@ -120,6 +120,11 @@ impl Snapshot {
     }
 
     /// The path as it was given.
+    ///
+    /// ```
+    /// let gone = Snapshot::take(&rt, alloc, "no such file")?;
+    /// assert!(rt; gone.path() == "no such file");
+    /// ```
     pub fn path(&self) -> &str
         ensures { result.now ≡ path_of self.now }
     {
@@ -127,6 +132,11 @@ impl Snapshot {
     }
 
     /// The kind of file at the path itself, without following a link, or why there is none.
+    ///
+    /// ```
+    /// let gone = Snapshot::take(&rt, alloc, "no such file")?;
+    /// assert!(rt; gone.plain() == Err(PathFault::NotFound));
+    /// ```
     pub fn plain(&self) -> Result<FileType, PathFault>
         ensures { result ≡ plain_of self.now }
     {
@@ -134,6 +144,11 @@ impl Snapshot {
     }
 
     /// The kind of file that the path leads to, after following links, or why there is none.
+    ///
+    /// ```
+    /// let here = Snapshot::take(&rt, alloc, ".")?;
+    /// assert!(rt; here.followed() == Ok(FileType::Dir));
+    /// ```
     pub fn followed(&self) -> Result<FileType, PathFault>
         ensures { result ≡ followed_of self.now }
     {
@@ -141,6 +156,12 @@ impl Snapshot {
     }
 
     /// The bytes of the file that the path leads to, after following links, or why there are none.
+    ///
+    /// ```
+    /// let (kind, content) = (Ok(FileType::File), Ok(Vec::from_slice(alloc, b"hello")?));
+    /// let file = Snapshot::from_parts("a".to_owned(alloc)?, kind, kind, content);
+    /// assert!(rt; file.content().unwrap_or(&[]).len() == 5);
+    /// ```
     pub fn content(&self) -> Result<&[u8], PathFault>
         ensures { read_bytes (λ bytes. bytes.now) result ≡ content_of self.now }
     {

@@ -25,6 +25,11 @@ pub struct BoxPredicate {
 impl BoxPredicate {
     /// The predicate that is in the box. It prints it once and keeps the text, and so takes memory;
     /// where that is refused, the box is dropped.
+    ///
+    /// ```
+    /// let boxed = BoxPredicate::new(alloc, Box::new(alloc, predicate::str::is_empty())?)?;
+    /// assert!(rt; boxed.eval(alloc, &String::new(alloc))?);
+    /// ```
     #[tactic(auto, using(crate::proofs::OpenRoots::boxes))]
     pub fn new(alloc: Global, inner: Box<dyn TextPredicate>) -> Result<Self, AllocError>
         ensures holds { IfOk result (λ made. inner_of made ≡ inner) }
