@@ -18,6 +18,13 @@ pub trait PredicateChange<Item>: Predicate<Item> {
     ///
     /// It takes memory for the case, and what `explain` takes. The one error is that memory ran
     /// out: there is then no answer, and the predicate is as before.
+    ///
+    /// ```
+    /// let between = predicate::ge(5).and(predicate::le(10));
+    /// let change = between.find_change(alloc, None, &7)?.ok_or("no change")?;
+    /// let lines = "(var >= 5 && var <= 10) = true\n  left: var >= 5 = true\n    - var: 7\n";
+    /// assert!(rt; render(alloc, &change)?.as_str() == lines);
+    /// ```
     fn find_change(
         &self,
         alloc: Global,

@@ -4,6 +4,19 @@
 //! The `find_case` of the library's combinators evaluates once before it asks the parts to
 //! `explain` the verdict. So each leaf is evaluated at most twice, however deep the combinators are
 //! nested.
+//!
+//! A combinator over two parts answers each question by one call, and so does one over a list:
+//!
+//! ```
+//! let holds = join_truth(alloc, Operator::Or, &self.left, &self.right, item)?;
+//! let case = join_explained(alloc, Operator::Or, self, &self.left, &self.right, wanted, item)?;
+//! let change = join_change(alloc, Operator::Or, self, &self.left, &self.right, wanted, item)?;
+//! let children = two_children(alloc, &self.left, &self.right)?;
+//!
+//! let holds = members_hold(alloc, &self.part, false, members)?;
+//! let case = members_explained(alloc, self, &self.part, "item", false, wanted, members)?;
+//! let change = members_change(alloc, self, &self.part, "item", false, wanted, members)?;
+//! ```
 mod ask;
 mod changes;
 mod children;

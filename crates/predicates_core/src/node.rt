@@ -75,6 +75,13 @@ pub fn binary_node(
 }
 
 /// A node over the parts whose cases were found: the left one, the right one, both or none.
+///
+/// ```
+/// let right = leaf_node(alloc, "b".to_owned(alloc)?, false);
+/// let whole = binary_node_of(alloc, "(a && b)".to_owned(alloc)?, false, None, Some(right))?;
+/// let lines = render(alloc, &whole)?;
+/// assert!(rt; lines.as_str() == "(a && b) = false\n  right: b = false\n");
+/// ```
 #[inline(never)]
 pub fn binary_node_of(
     alloc: Global,

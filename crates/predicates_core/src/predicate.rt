@@ -31,6 +31,11 @@ pub trait Predicate<Item>: PredicateReflection {
     ///
     /// The one error is that memory ran out, never where the predicate is infallible. There is then
     /// no verdict, and the predicate is as before.
+    ///
+    /// ```
+    /// assert!(rt; predicate::ge(5).eval(alloc, &7)?);
+    /// assert!(rt; !predicate::ge(5).eval(alloc, &3)?);
+    /// ```
     fn eval(&self, alloc: Global, item: &Item) -> Result<bool, AllocError>
         requires { lawful self.now }
         ensures truth { IfOk result (HasTruth (formula self.now item.now)) }
@@ -40,6 +45,11 @@ pub trait Predicate<Item>: PredicateReflection {
     ///
     /// It takes memory for the case, and what `eval` takes. The one error is that memory ran
     /// out: there is then no answer, and the predicate is as before.
+    ///
+    /// ```
+    /// let case = predicate::ge(5).find_case(alloc, false, &3)?.ok_or("no case")?;
+    /// assert!(rt; render(alloc, &case)?.as_str() == "var >= 5 = false\n  - var: 3\n");
+    /// ```
     fn find_case(
         &self,
         alloc: Global,
@@ -56,6 +66,11 @@ pub trait Predicate<Item>: PredicateReflection {
     /// its leaves evaluated at most twice. So a predicate over parts overrides it by calls of
     /// `custom`. For a leaf it is enough to override it where its verdict takes long: an operator
     /// that needs the case of whichever verdict asks twice otherwise.
+    ///
+    /// ```
+    /// let case = predicate::ge(5).explain(alloc, None, &3)?.ok_or("no case")?;
+    /// assert!(rt; !case.root().result());
+    /// ```
     fn explain(
         &self,
         alloc: Global,

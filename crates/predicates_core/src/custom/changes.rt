@@ -19,6 +19,11 @@ use std::alloc::{AllocError, Global};
 use std::fmt;
 
 /// The `find_change` of a predicate whose formula is a single leaf.
+///
+/// ```
+/// let change = leaf_change(alloc, &predicate::ge(5), None, &3)?.ok_or("no change")?;
+/// assert!(rt; render(alloc, &change)?.as_str() == "var >= 5 = false\n  - var: 3\n");
+/// ```
 pub fn leaf_change<P: Predicate<Item>, Item>(
     alloc: Global,
     leaf: &P,
@@ -33,6 +38,13 @@ pub fn leaf_change<P: Predicate<Item>, Item>(
 }
 
 /// The `find_change` of a predicate that holds where its part does not.
+///
+/// ```
+/// let (whole, part) = (predicate::ge(5).not(), predicate::ge(5));
+/// let change = not_change(alloc, &whole, &part, None, &3)?.ok_or("no change")?;
+/// let lines = "(! var >= 5) = true\n  predicate: var >= 5 = false\n    - var: 3\n";
+/// assert!(rt; render(alloc, &change)?.as_str() == lines);
+/// ```
 pub fn not_change<W: fmt::Display, P: PredicateChange<Item>, Item>(
     alloc: Global,
     whole: &W,
@@ -53,6 +65,12 @@ pub fn not_change<W: fmt::Display, P: PredicateChange<Item>, Item>(
 }
 
 /// The `find_change` of a predicate that holds where its part does, and prints a name in its place.
+///
+/// ```
+/// let found = named_change(alloc, "adult", &predicate::ge(18), None, &17)?;
+/// let lines = render(alloc, &found.ok_or("no change")?)?;
+/// assert!(rt; lines.as_str() == "adult = false\n  adult: var >= 18 = false\n    - var: 17\n");
+/// ```
 pub fn named_change<P: PredicateChange<Item>, Item>(
     alloc: Global,
     name: &'static str,
@@ -110,6 +128,14 @@ fn right_change<P: PredicateChange<Item>, Item>(
 
 /// The `find_change` of a predicate that joins two parts by an operator. Both are always evaluated,
 /// the left one first.
+///
+/// ```
+/// let (low, high) = (predicate::ge(5), predicate::le(10));
+/// let text = "between".to_owned(alloc)?;
+/// let found = join_change(alloc, Operator::And, &text, &low, &high, None, &7)?;
+/// let lines = "between = true\n  left: var >= 5 = true\n    - var: 7\n";
+/// assert!(rt; render(alloc, &found.ok_or("no change")?)?.as_str() == lines);
+/// ```
 pub fn join_change<W: fmt::Display, P: PredicateChange<Item>, Q: PredicateChange<Item>, Item>(
     alloc: Global,
     operator: Operator,

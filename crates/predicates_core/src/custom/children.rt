@@ -8,6 +8,11 @@ use crate::reflection::{Child, PredicateReflection, describe};
 use std::alloc::{AllocError, Global};
 
 /// The description of one part under the name, for `children`.
+///
+/// ```
+/// let children = one_child(alloc, "predicate", &predicate::ge(5))?;
+/// assert!(rt; children.len() == 1);
+/// ```
 pub fn one_child<P: PredicateReflection, N: AsStaticStr + Copy>(
     alloc: Global,
     name: N,
@@ -24,6 +29,11 @@ pub fn one_child<P: PredicateReflection, N: AsStaticStr + Copy>(
 }
 
 /// The descriptions of a left and a right part, for `children`.
+///
+/// ```
+/// let children = two_children(alloc, &predicate::ge(5), &predicate::le(10))?;
+/// assert!(rt; children.len() == 2);
+/// ```
 pub fn two_children<P: PredicateReflection, Q: PredicateReflection>(
     alloc: Global,
     left: &P,

@@ -36,6 +36,10 @@ impl Operator {
     }
 
     /// The truth of the whole, from those of its parts.
+    ///
+    /// ```
+    /// assert!(rt; Operator::Xor.apply(true, false) && !Operator::Xor.apply(true, true));
+    /// ```
     pub fn apply(self, left: bool, right: bool) -> bool
         ensures { result ≡ apply self left right }
     {
@@ -131,6 +135,11 @@ pub fn shown_verdict(wanted: Option<bool>, found: &Option<Case>) -> bool
 
 /// The `eval` of a predicate that joins two parts by an operator. It evaluates the left part first,
 /// and the right one only if that can change the verdict.
+///
+/// ```
+/// let (low, high) = (predicate::ge(5), predicate::le(10));
+/// assert!(rt; join_truth(alloc, Operator::And, &low, &high, &7)?);
+/// ```
 pub fn join_truth<P: Predicate<Item>, Q: Predicate<Item>, Item>(
     alloc: Global,
     operator: Operator,
@@ -154,6 +163,14 @@ pub fn join_truth<P: Predicate<Item>, Q: Predicate<Item>, Item>(
 
 /// The `find_case` of a predicate that joins two parts by an operator. It evaluates them as
 /// `join_truth` does, and then makes the cases of those that belong to the reason.
+///
+/// ```
+/// let (low, high) = (predicate::ge(5), predicate::le(10));
+/// let text = "between".to_owned(alloc)?;
+/// let found = join_case(alloc, Operator::And, &text, &low, &high, false, &11)?;
+/// let lines = "between = false\n  right: var <= 10 = false\n    - var: 11\n";
+/// assert!(rt; render(alloc, &found.ok_or("no case")?)?.as_str() == lines);
+/// ```
 pub fn join_case<W: fmt::Display, P: Predicate<Item>, Q: Predicate<Item>, Item>(
     alloc: Global,
     operator: Operator,
@@ -177,6 +194,13 @@ pub fn join_case<W: fmt::Display, P: Predicate<Item>, Q: Predicate<Item>, Item>(
 
 /// The `explain` of such a predicate. It asks its parts for their cases, the left one first, and
 /// the right one only if that can change the verdict.
+///
+/// ```
+/// let (low, high) = (predicate::ge(5), predicate::le(10));
+/// let text = "between".to_owned(alloc)?;
+/// let found = join_explained(alloc, Operator::And, &text, &low, &high, None, &7)?;
+/// assert!(rt; found.ok_or("no case")?.root().result());
+/// ```
 pub fn join_explained<W: fmt::Display, P: Predicate<Item>, Q: Predicate<Item>, Item>(
     alloc: Global,
     operator: Operator,
@@ -208,6 +232,10 @@ pub fn join_explained<W: fmt::Display, P: Predicate<Item>, Q: Predicate<Item>, I
 }
 
 /// Whether a verdict is wanted, and another than this one.
+///
+/// ```
+/// assert!(rt; is_other(Some(false), true) && !is_other(None, true));
+/// ```
 pub fn is_other(wanted: Option<bool>, holds: bool) -> bool
     ensures { result ≡ is_other wanted holds }
 {

@@ -51,6 +51,11 @@ fn make_bare_case<P: fmt::Display>(
 }
 
 /// The same for a leaf that shows the item's debug form as its product `var`.
+///
+/// ```
+/// let case = showing_case(alloc, &predicate::ge(5), false, None, &3)?.ok_or("no case")?;
+/// assert!(rt; render(alloc, &case)?.as_str() == "var >= 5 = false\n  - var: 3\n");
+/// ```
 pub fn showing_case<P: fmt::Display, Item: fmt::Debug>(
     alloc: Global,
     leaf: &P,
@@ -87,6 +92,11 @@ fn make_showing_case<P: fmt::Display, Item: fmt::Debug>(
 
 /// The case of a predicate of a value that is absent: a false leaf with the text of the predicate,
 /// and with the reason as the product `error`.
+///
+/// ```
+/// let case = absent_case(alloc, &predicate::ge(5), "absent")?;
+/// assert!(rt; render(alloc, &case)?.as_str() == "var >= 5 = false\n  - error: absent\n");
+/// ```
 pub fn absent_case<P: fmt::Display>(
     alloc: Global,
     predicate: &P,

@@ -20,6 +20,12 @@ use std::fmt;
 
 /// The `eval` of a predicate of a list that one member with the verdict `decides` decides. It stops
 /// at the first such member.
+///
+/// ```
+/// let even = leaf(MultipleOf { divisor: 2 });
+/// assert!(rt; members_hold(alloc, &even, true, &[1, 4])?); // one that holds suffices
+/// assert!(rt; !members_hold(alloc, &even, false, &[1, 4])?); // each has to hold
+/// ```
 pub fn members_hold<P: Predicate<Item>, Item>(
     alloc: Global,
     part: &P,
@@ -88,6 +94,11 @@ pub fn members_change<W: fmt::Display, P: PredicateChange<Item>, Item>(
 
 /// The `eval` of a predicate that holds where at least so many of its members do. It stops at the
 /// member that decides.
+///
+/// ```
+/// let even = leaf(MultipleOf { divisor: 2 });
+/// assert!(rt; members_threshold_holds(alloc, 2, &even, &[1, 2, 4])?);
+/// ```
 pub fn members_threshold_holds<P: Predicate<Item>, Item>(
     alloc: Global,
     least: usize,

@@ -10,6 +10,13 @@ use std::alloc::{AllocError, Global};
 use std::fmt;
 
 /// The `find_case` of a predicate that holds where its part does not.
+///
+/// ```
+/// let (whole, part) = (predicate::ge(5).not(), predicate::ge(5));
+/// let case = not_case(alloc, &whole, &part, true, &3)?.ok_or("no case")?;
+/// let lines = "(! var >= 5) = true\n  predicate: var >= 5 = false\n    - var: 3\n";
+/// assert!(rt; render(alloc, &case)?.as_str() == lines);
+/// ```
 #[tactic(auto, using(crate::proofs::CombinedLemmas::combined))]
 pub fn not_case<W: fmt::Display, P: Predicate<Item>, Item>(
     alloc: Global,
@@ -30,6 +37,10 @@ pub fn not_case<W: fmt::Display, P: Predicate<Item>, Item>(
 }
 
 /// The verdict that the part has to have, where one of the whole is wanted.
+///
+/// ```
+/// assert!(rt; opposite_of(Some(true)) == Some(false) && opposite_of(None).is_none());
+/// ```
 pub fn opposite_of(wanted: Option<bool>) -> Option<bool>
     ensures { result ≡ option_map not wanted }
 {
@@ -40,6 +51,12 @@ pub fn opposite_of(wanted: Option<bool>) -> Option<bool>
 }
 
 /// The `explain` of such a predicate.
+///
+/// ```
+/// let (whole, part) = (predicate::ge(5).not(), predicate::ge(5));
+/// let case = not_explained(alloc, &whole, &part, None, &3)?.ok_or("no case")?;
+/// assert!(rt; case.root().result());
+/// ```
 pub fn not_explained<W: fmt::Display, P: Predicate<Item>, Item>(
     alloc: Global,
     whole: &W,

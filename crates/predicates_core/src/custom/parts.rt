@@ -22,6 +22,12 @@ use std::fmt;
 
 /// The `eval` of a predicate that one part with the verdict `decides` decides. It stops at the
 /// first such part.
+///
+/// ```
+/// let rules = [predicate::ge(5), predicate::le(10)];
+/// assert!(rt; parts_hold(alloc, &rules, true, &11)?); // one that holds suffices
+/// assert!(rt; !parts_hold(alloc, &rules, false, &11)?); // each has to hold
+/// ```
 pub fn parts_hold<P: Predicate<Item>, Item>(
     alloc: Global,
     parts: &[P],
@@ -90,6 +96,11 @@ pub fn parts_change<W: fmt::Display, P: PredicateChange<Item>, Item>(
 
 /// The `eval` of a predicate that holds where at least so many of its parts do. It stops at the
 /// part that decides.
+///
+/// ```
+/// let rules = [predicate::ge(5), predicate::le(10), predicate::gt(7)];
+/// assert!(rt; threshold_holds(alloc, 2, &rules, &7)?);
+/// ```
 pub fn threshold_holds<P: Predicate<Item>, Item>(
     alloc: Global,
     least: usize,
@@ -159,6 +170,11 @@ pub fn threshold_change<W: fmt::Display, P: PredicateChange<Item>, Item>(
 }
 
 /// The descriptions of several parts under one name, for `children`.
+///
+/// ```
+/// let rules = [predicate::ge(5), predicate::le(10)];
+/// assert!(rt; each_child(alloc, "rule", &rules)?.len() == 2);
+/// ```
 pub fn each_child<P: PredicateReflection>(
     alloc: Global,
     name: &'static str,

@@ -7,6 +7,10 @@ pub trait Quantifier {
     ghost one_suffices: { Bool };
 
     /// Whether one that holds suffices; otherwise each has to.
+    ///
+    /// ```
+    /// assert!(rt; AtLeastOne::one_suffices() && !Every::one_suffices());
+    /// ```
     fn one_suffices() -> bool
         ensures { result ≡ one_suffices };
 }

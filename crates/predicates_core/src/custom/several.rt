@@ -118,6 +118,10 @@ pub(super) fn is_passed<A: Ask<Common, Member>, Common, Member>(
 }
 
 /// Whether this verdict is wanted.
+///
+/// ```
+/// assert!(rt; is_wanted(Some(true), true) && !is_wanted(None, true));
+/// ```
 pub fn is_wanted(wanted: Option<bool>, verdict: bool) -> bool
     ensures wanted { result ≡ true → wanted ≡ Some verdict }
     ensures other { result ≡ false → wanted ≢ Some verdict }
@@ -140,6 +144,13 @@ pub fn is_deciding(wanted: Option<bool>, decides: bool, case: &Case) -> bool
 
 /// The case of a whole that a part decides, from the part's number and case. It takes memory for the
 /// node, its text and its product `index`.
+///
+/// ```
+/// let part = leaf_node(alloc, "a".to_owned(alloc)?, false);
+/// let case = deciding_case(alloc, &predicate::ge(5), "rule", false, 2, part)?;
+/// let lines = "var >= 5 = false\n  - index: 2\n  rule: a = false\n";
+/// assert!(rt; render(alloc, &case)?.as_str() == lines);
+/// ```
 pub fn deciding_case<W: fmt::Display>(
     alloc: Global,
     whole: &W,
@@ -156,6 +167,11 @@ pub fn deciding_case<W: fmt::Display>(
 }
 
 /// The case with a part's number, from 0, as the last of its products, `index`.
+///
+/// ```
+/// let case = with_index(alloc, 2, leaf_node(alloc, "a".to_owned(alloc)?, true))?;
+/// assert!(rt; render(alloc, &case)?.as_str() == "a = true\n  - index: 2\n");
+/// ```
 pub fn with_index(alloc: Global, index: usize, case: Case) -> Result<Case, AllocError>
     ensures { IfOk result (IsShowing (codes "index") (Some (decimal index)) case) }
 {
@@ -163,6 +179,11 @@ pub fn with_index(alloc: Global, index: usize, case: Case) -> Result<Case, Alloc
 }
 
 /// The case of a list without members: a leaf with the whole's text and the product `len`.
+///
+/// ```
+/// let case = no_member(alloc, &predicate::ge(5), true)?;
+/// assert!(rt; render(alloc, &case)?.as_str() == "var >= 5 = true\n  - len: 0\n");
+/// ```
 pub fn no_member<W: fmt::Display>(
     alloc: Global,
     whole: &W,

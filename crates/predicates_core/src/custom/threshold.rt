@@ -18,6 +18,10 @@ use std::fmt;
 
 /// Whether so many of the number hold, or fail to, whatever they answer: none is needed, or more than
 /// there are.
+///
+/// ```
+/// assert!(rt; is_settled(0, 3) && is_settled(4, 3) && !is_settled(2, 3));
+/// ```
 pub fn is_settled(least: usize, number: usize) -> bool
     ensures settled { result ≡ true → IsSettled least number }
     ensures some { result ≡ false → 1 ≤ least }
@@ -27,6 +31,10 @@ pub fn is_settled(least: usize, number: usize) -> bool
 }
 
 /// How many of the number decide by having the verdict, where at least so many have to hold.
+///
+/// ```
+/// assert!(rt; enough_of(true, 2, 5) == 2 && enough_of(false, 2, 5) == 4);
+/// ```
 pub fn enough_of(decides: bool, least: usize, number: usize) -> usize
     requires some { 1 ≤ least }
     requires within { least ≤ number }
