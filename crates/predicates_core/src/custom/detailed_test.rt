@@ -4,7 +4,7 @@ ghost use Rattle.predicates_core.specs.Formula.{Leaf};
 ghost use Rattle.predicates_core.specs.Label.{Product, FitsProducts};
 ghost use Rattle.predicates_core.specs.Leaves.{IsExactly};
 ghost use Rattle.predicates_core.specs.Details.{showing_details};
-ghost use Rattle.predicates_core.specs.Shows.{IsAnswer};
+ghost use Rattle.predicates_core.specs.Shows.{IsAnswer, IsFound};
 ghost use Rattle.predicates_core.specs.Tree.{empty};
 ghost use Rattle.predicates_core.specs.Custom.{detailed_test_of};
 ghost use Rattle.predicates_core.specs.LeafLaws.{exactly_text_fits, one_exactly};
@@ -102,6 +102,24 @@ fn make_detailed_case<T: DetailedTest<Item>, Item: fmt::Debug>(
     Ok(Some(showing_all(case, products)?))
 }
 
+// The `explain` of the leaf, from the verdict `holds` of its test.
+fn detailed_case<T: DetailedTest<Item>, Item: fmt::Debug>(
+    alloc: Global,
+    test: &T,
+    holds: bool,
+    wanted: Option<bool>,
+    item: &Item,
+) -> Result<Option<Case>, AllocError>
+    ensures { IfOk result (IsFound (IsExactly (Leaf (showing_details
+        (T.output test.now) (Item.debug_output item.now) (T.products_of test.now item.now))
+        holds)) wanted) }
+{
+    if is_other(wanted, holds) {
+        return Ok(None);
+    }
+    make_detailed_case(alloc, test, holds, item)
+}
+
 impl<T: DetailedTest<Item>, Item: fmt::Debug> Predicate<Item> for DetailedPredicate<T> {
     ghost formula = { λ p v. IsExactly (Leaf
         (showing_details (T.output p.test) (Item.debug_output v) (T.products_of p.test v))
@@ -133,11 +151,7 @@ impl<T: DetailedTest<Item>, Item: fmt::Debug> Predicate<Item> for DetailedPredic
         wanted: Option<bool>,
         item: &Item,
     ) -> Result<Option<Case>, AllocError> {
-        let holds = self.test.holds(item);
-        if is_other(wanted, holds) {
-            return Ok(None);
-        }
-        make_detailed_case(alloc, &self.test, holds, item)
+        detailed_case(alloc, &self.test, self.test.holds(item), wanted, item)
     }
 }
 
