@@ -1,0 +1,3 @@
+pub mod Characters
+mod Plain
+mod Children

@@ -1,0 +1,19 @@
+//! Cases rendered for people: with limits on what is shown, without control characters, in colours.
+//!
+//! ```
+//! let style = Style {
+//!     children: Some(10),
+//!     ..Style::new()
+//! };
+//! print!(rt; "{}", render_styled(alloc, &style, &case)?)?;
+//! ```
+#![tactic(auto)]
+
+mod character;
+mod style;
+#[cfg(test)]
+mod tests;
+mod text;
+
+pub use style::Style;
+pub use text::{render_styled, render_styled_onto};
