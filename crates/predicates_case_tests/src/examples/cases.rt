@@ -1,10 +1,11 @@
+use predicates::as_static_str::AsStaticStr;
 use predicates::custom::{bare_case, leaf, named_case, named_explained};
 use predicates::default_find_case;
 use predicates::node::{
     binary_node, leaf_node, printed, showing, showing_item, showing_text, unary_node,
 };
 use predicates::prelude::*;
-use predicates::reflection::{Case, Parameter, Product, describe, render_onto};
+use predicates::reflection::{Case, Child, Parameter, Product, describe, render_onto};
 use predicates_uses::MultipleOf;
 use std::test::Fail;
 
@@ -193,5 +194,79 @@ fn named_explanations(rt: HostRuntime) -> Result<(), Fail> {
     let found = named_explained(alloc, "adult", &predicate::ge(18), None, &17)?;
     let lines = render(alloc, &found.ok_or("no case")?)?;
     assert!(rt; lines.as_str() == "adult = false\n  adult: var >= 18 = false\n    - var: 17\n");
+    Ok(())
+}
+
+#[test]
+fn readers_of_cases(rt: HostRuntime) -> Result<(), Fail> {
+    let alloc = rt.alloc();
+
+    let case = Case::new(alloc, None, false).add_product(Product::new(
+        "var",
+        "3".to_owned(alloc)?,
+    ))?;
+    assert!(rt; case.root().products()[0].value() == "3");
+    for product in case.root().products() {
+        println!(rt; "{} is {}", product.name(), product.value())?;
+    }
+
+    let part = Case::new(alloc, None, false);
+    let whole = Case::new(alloc, None, true).add_child("inner", part)?;
+    assert!(rt; whole.root().children().all(|child| !child.case.result()));
+
+    let case = Case::new(alloc, None, true);
+    assert!(rt; case.root().result() && case.root().products().is_empty());
+
+    let case = Case::new(alloc, Some("var >= 5".to_owned(alloc)?), true);
+    assert!(rt; case.root().predicate() == Some("var >= 5"));
+
+    assert!(rt; !Case::new(alloc, None, false).root().result());
+
+    let part = Case::new(alloc, None, true);
+    let whole = Case::new(alloc, None, true).add_child("left", part)?;
+    for child in whole.root().children() {
+        assert!(rt; child.name == "left" && child.case.result());
+    }
+    Ok(())
+}
+
+#[test]
+fn readers_of_children(rt: HostRuntime) -> Result<(), Fail> {
+    let alloc = rt.alloc();
+
+    let text = "true".to_owned(alloc)?;
+    let part = Child::new("left", text, Vec::new(alloc), Vec::new(alloc));
+    assert!(rt; part.name() == "left" && part.text() == "true");
+
+    assert!(rt; describe(alloc, "left", &predicate::ge(5))?.name() == "left");
+    assert!(rt; describe(alloc, "left", &predicate::ge(5))?.text() == "var >= 5");
+
+    let two = predicate::str::contains("a".to_owned(alloc)?).count(2);
+    let part = describe(alloc, "inner", &two)?;
+    assert!(rt;
+        part.parameters()
+            .iter()
+            .any(|p| p.name() == "count" && p.value() == "2")
+    );
+
+    let part = describe(alloc, "inner", &predicate::ge(5).not())?;
+    assert!(rt;
+        part.children()
+            .iter()
+            .all(|child| child.text() == "var >= 5")
+    );
+    Ok(())
+}
+
+#[test]
+fn readers_of_named_values(rt: HostRuntime) -> Result<(), Fail> {
+    let alloc = rt.alloc();
+
+    assert!(rt; Parameter::new("count", "2".to_owned(alloc)?).name() == "count");
+    assert!(rt; Parameter::new("count", "2".to_owned(alloc)?).value() == "2");
+    assert!(rt; Product::new("var", "3".to_owned(alloc)?).name() == "var");
+    assert!(rt; Product::new("var", "3".to_owned(alloc)?).value() == "3");
+    assert!(rt; StaticText::new("any").as_str() == "any");
+    assert!(rt; StaticText::new("any").text() == "any");
     Ok(())
 }
