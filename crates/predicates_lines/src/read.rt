@@ -14,6 +14,14 @@ use std::io::BufRead;
 /// it takes memory where the line is longer than `line` has room for. It fails where a read fails
 /// or memory is refused; then `line` holds what was taken of the line, and the next call goes on
 /// behind that.
+///
+/// ```
+/// let mut input = b"one\ntwo".as_slice();
+/// let mut line = Vec::new(alloc);
+/// assert!(rt; next_line(&mut input, &mut line)? && line.ends_with(b"one\n"));
+/// assert!(rt; next_line(&mut input, &mut line)? && line.ends_with(b"two"));
+/// assert!(rt; !next_line(&mut input, &mut line)?);
+/// ```
 pub fn next_line<R: BufRead>(input: &mut R, line: &mut Vec<u8>) -> Result<bool, RunFault>
     ensures more { result ≡ Ok true → ForSome (R.remaining input.old) (λ bytes. (left : List ℕ)
         × (R.remaining input.new ≡ Some left)

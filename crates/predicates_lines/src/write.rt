@@ -10,6 +10,12 @@ use std::io::Write;
 ///
 /// It takes no memory but what the writer takes. It fails where a write fails or takes nothing;
 /// then a front of the bytes may have been written.
+///
+/// ```
+/// let mut output = Vec::new(alloc);
+/// write_bytes(&mut output, b"one\n")?;
+/// assert!(rt; output.ends_with(b"one\n"));
+/// ```
 pub fn write_bytes<W: Write>(output: &mut W, bytes: &[u8]) -> Result<(), RunFault>
     ensures written { OnOk result (Appends (W.contents output.old) (W.contents output.new)
         bytes.now) }
@@ -23,6 +29,12 @@ pub fn write_bytes<W: Write>(output: &mut W, bytes: &[u8]) -> Result<(), RunFaul
 /// Passes on to the system what the writer keeps back.
 ///
 /// It takes no memory but what the writer takes, and fails where a write fails.
+///
+/// ```
+/// let mut output = BufWriter::new(alloc, rt.stdout())?;
+/// write_bytes(&mut output, b"one\n")?;
+/// flush(&mut output)?;
+/// ```
 pub fn flush<W: Write>(output: &mut W) -> Result<(), RunFault>
     ensures kept { OnOk result (Keeps (W.contents output.old) (W.contents output.new)) }
     ensures fault { result ≢ Err Input }
