@@ -8,7 +8,7 @@ use Rattle.predicates_lines.specs.Lines.{ended_lines}
 use Rattle.predicates_explain.specs.Runs.{input_lines, AreAnswers}
 
 -- an answer after others
-AreAnswers-more : (IsAnswer : ℕ → List ℕ → List ℕ → Type 0) (number : ℕ) (done : List (List ℕ)) (line written more : List ℕ)
+pub AreAnswers-more : {Line : Type 0} (IsAnswer : ℕ → Line → List ℕ → Type 0) (number : ℕ) (done : List Line) (line : Line) (written more : List ℕ)
     → AreAnswers IsAnswer number done written → IsAnswer (number + length done) line more
     → AreAnswers IsAnswer number (done ++ line ∷ []) (written ++ more)
 AreAnswers-more IsAnswer number [] line written more e answer =

@@ -1,4 +1,4 @@
--- Which lines of an input a filter writes.
+-- Which lines of an input a filter writes, and what it tells of the others.
 use Rattle.std.specs.Prelude.{◌≡◌, ℕ, Bool, true, false, not, List, [], Option, Some, None}
 use Rattle.std.specs.Prelude.{All, map, filter, flat_map, length, string_bytes, is_none}
 use Rattle.std.specs.Option.{ForSome}
@@ -8,6 +8,8 @@ use Rattle.std.specs.Io.KnownBytes.{Appends}
 use Rattle.predicates_core.specs.Text.{Text}
 use Rattle.predicates_core.specs.Formula.{Formula, HasTruth}
 use Rattle.predicates_lines.specs.Lines.{ended_lines}
+use Rattle.predicates_explain.specs.Runs.{AreAnswers}
+use Rattle.predicates_explain.specs.TextAnswers.{IsTextAnswer}
 use Rattle.predicates_explain.specs.declared.filter.Filtered.{Filtered}
 
 -- the truth that each formula has on a text with the line's bytes before its line feed; none where
@@ -39,3 +41,23 @@ pub record HasFiltered (has : Text → Formula → Type 0) (wanted : Bool)
       (flat_map (λ l. l.0) (filter (λ l. is_wanted wanted l.1) lines))
   pub written : counts.written ≡ length (filter (λ l. is_wanted wanted l.1) lines)
   pub not_utf8 : counts.not_utf8 ≡ length (filter (λ l. is_none l.1) lines)
+
+-- what is told of the line of this number: nothing where it is written, and else what a run over
+-- texts answers to it
+pub data IsReason (has : Text → Formula → Type 0) (wanted : Bool) (number : ℕ) (line : Judged)
+    (told : List ℕ) : Type 0
+  where
+    kept : is_wanted wanted line.1 ≡ true → told ≡ [] → IsReason has wanted number line told
+    rejected : is_wanted wanted line.1 ≡ false
+        → IsTextAnswer has number (strip_last 10 line.0) told
+        → IsReason has wanted number line told
+
+-- so it is, and what is told is what may be told of each line in order, and nothing else
+pub record HasFilteredTelling (has : Text → Formula → Type 0)
+    (IsTold : ℕ → Judged → List ℕ → Type 0) (wanted : Bool)
+    (reader_before reader_after writer_before writer_after : Option (List ℕ))
+    (reasons_before reasons_after : Option (List ℕ)) (counts : Filtered) : Type 0 where
+  pub filtered : HasFiltered has wanted reader_before reader_after writer_before writer_after counts
+  pub told : List ℕ
+  pub tells : Appends reasons_before reasons_after told
+  pub reasons : AreAnswers IsTold 1 filtered.lines told

@@ -82,6 +82,13 @@ fn make_check(alloc: Global, stack: &mut Vec<TextCheck>, word: Word) -> Result<T
 ///
 /// After `Operand` and `Pattern` the stack is as before, and the word is dropped. After `NoMemory`
 /// operands may be gone.
+///
+/// ```
+/// let mut stack = Vec::new(alloc);
+/// apply_word(alloc, &mut stack, Word::Empty)?;
+/// apply_word(alloc, &mut stack, Word::Trim)?;
+/// assert!(rt; stack.len() == 1);
+/// ```
 pub fn apply_word(alloc: Global, stack: &mut Vec<TextCheck>, word: Word) -> Result<(), WordFault>
     ensures applied { OnOk result (IsApplied word stack.old.items stack.new.items) }
     ensures operand { (result ≡ Err WordFault.Operand) ↔ (length stack.old.items < operand_count word) }

@@ -77,6 +77,13 @@ impl<P: Total<i64>> AnswerLine for Numbers<'_, P> {
 /// Lines end by a line feed, and one carriage return before it is dropped. A line that is no number
 /// is answered by `line K: not a number`, with K from 1. It takes memory for one line and one block
 /// at a time. After a fault nothing is said of how much was written.
+///
+/// ```
+/// let mut input = b"7\n11\n".as_slice();
+/// let mut output = Vec::new(alloc);
+/// let all = run_between(alloc, 5, 10, &mut input, &mut output)?;
+/// assert!(rt; all && output.starts_with(b"7: true\n"));
+/// ```
 pub fn run_between<R: BufRead, W: Write>(
     alloc: Global,
     lo: i64,

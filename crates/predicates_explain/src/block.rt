@@ -7,7 +7,7 @@ use predicates_core::{Predicate, Total};
 use std::alloc::{AllocError, Global};
 
 // Puts the verdict behind the label that the text holds, and ends the line.
-fn write_verdict(text: &mut String, holds: bool) -> Result<(), AllocError>
+pub(crate) fn write_verdict(text: &mut String, holds: bool) -> Result<(), AllocError>
     ensures { OnOk result (string_bytes text.new ≡ heading (string_bytes text.old) holds) }
 {
     if holds {
@@ -41,6 +41,12 @@ pub(crate) fn complete_block<P: Predicate<Item>, Item>(
 
 /// The label with the verdict, and the lines of a case that explains it: `11: false`, and the case
 /// below. It is refused only where memory is.
+///
+/// ```
+/// let between = predicate::ge(5).and(predicate::le(10));
+/// let block = explain_one(alloc, &between, "11", &11)?;
+/// assert!(rt; block.as_str().starts_with("11: false\n"));
+/// ```
 pub fn explain_one<P: Predicate<Item>, Item>(
     alloc: Global,
     predicate: &P,
@@ -58,6 +64,12 @@ pub fn explain_one<P: Predicate<Item>, Item>(
 
 /// What `explain_one` writes, for a predicate that has a formula on every item: the block of that
 /// formula.
+///
+/// ```
+/// let between = predicate::ge(5).and(predicate::le(10));
+/// let block = explain_total(alloc, &between, "7", &7)?;
+/// assert!(rt; block.as_str().starts_with("7: true\n"));
+/// ```
 pub fn explain_total<P: Total<Item>, Item>(
     alloc: Global,
     predicate: &P,

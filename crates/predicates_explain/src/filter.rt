@@ -1,15 +1,20 @@
 //! A filter over the lines of an input.
 ghost use Rattle.std.specs.Prelude.{◌≡◌, ◌+◌, ◌<◌, ◌^◌, [], IfOk, OnOk, if◌then◌else◌, is_none};
 ghost use Rattle.std.specs.Io.KnownBytes.{Appends};
-ghost use Rattle.predicates_explain.specs.Filtered.{is_wanted, IsVerdict, HasFiltered};
+ghost use Rattle.predicates_explain.specs.Filtered.{is_wanted, IsReason};
+ghost use Rattle.predicates_explain.specs.Filtered.{HasFiltered, HasFilteredTelling};
 
-use crate::run::drop_last;
-use crate::text::set_item;
+mod judge;
+mod reasons;
+mod verdicts;
+
+use judge::JudgeLine;
 use predicates_core::Predicate;
 use predicates_lines::{RunFault, flush, next_line, write_bytes};
-use std::alloc::{AllocError, Global};
+use reasons::Reasons;
+use std::alloc::Global;
 use std::io::{BufRead, Write};
-use std::str;
+use verdicts::Verdicts;
 
 /// How many lines a filter wrote, and how many are no text.
 #[derive(Clone, Copy, Debug, PartialEq, Eq)]
@@ -45,26 +50,6 @@ impl Filtered {
     }
 }
 
-// The verdict on the text of a line; none where that is not UTF-8. The item is used again for the
-// next line.
-fn find_verdict<P: Predicate<String>>(
-    alloc: Global,
-    predicate: &P,
-    line: &[u8],
-    item: &mut String,
-) -> Result<Option<bool>, AllocError>
-    requires { P.lawful predicate.now }
-    ensures { IfOk result (IsVerdict (P.formula predicate.now) line.now) }
-{
-    match str::from_utf8(drop_last(line, b'\n')) {
-        Ok(text) => {
-            set_item(item, text)?;
-            Ok(Some(predicate.eval(alloc, &*item)?))
-        }
-        Err(_) => Ok(None),
-    }
-}
-
 // Writes the line where the verdict is the wanted one.
 fn write_wanted<W: Write>(
     output: &mut W,
@@ -79,6 +64,48 @@ fn write_wanted<W: Write>(
         Some(verdict) if verdict == wanted => write_bytes(output, line),
         _ => Ok(()),
     }
+}
+
+// Writes the lines of the wanted verdict, and what is told of each line.
+fn filter_judged<J: JudgeLine, R: BufRead, W: Write, T: Write>(
+    alloc: Global,
+    judge: &J,
+    wanted: bool,
+    input: &mut R,
+    output: &mut W,
+    reasons: &mut T,
+) -> Result<Filtered, RunFault>
+    requires { J.lawful judge.now }
+    ensures { IfOk result (HasFilteredTelling (J.has judge.now) (J.is_told judge.now) wanted
+        (R.remaining input.old) (R.remaining input.new)
+        (W.contents output.old) (W.contents output.new)
+        (T.contents reasons.old) (T.contents reasons.new)) }
+{
+    let mut line = Vec::new(alloc);
+    let mut item = String::new(alloc);
+    let mut told = String::new(alloc);
+    let mut counts = Filtered {
+        written: 0,
+        not_utf8: 0,
+    };
+    for taken in 0..u64::MAX {
+        if !next_line(input, &mut line)? {
+            flush(output)?;
+            flush(reasons)?;
+            return Ok(counts);
+        }
+        let verdict = judge.judge(alloc, taken + 1, &line, &mut item, &mut told)?;
+        write_wanted(output, &line, wanted, verdict)?;
+        write_bytes(reasons, told.as_bytes())?;
+        counts = counts.count(wanted, verdict);
+    }
+    // More lines than can be counted.
+    if next_line(input, &mut line)? {
+        return Err(RunFault::Input);
+    }
+    flush(output)?;
+    flush(reasons)?;
+    Ok(counts)
 }
 
 /// Writes those lines of the input of which the verdict is the wanted one, byte for byte, and
@@ -105,25 +132,45 @@ pub fn filter_lines<P: Predicate<String>, R: BufRead, W: Write>(
         (R.remaining input.old) (R.remaining input.new)
         (W.contents output.old) (W.contents output.new)) }
 {
-    let mut line = Vec::new(alloc);
-    let mut item = String::new(alloc);
-    let mut counts = Filtered {
-        written: 0,
-        not_utf8: 0,
-    };
-    for taken in 0..u64::MAX {
-        if !next_line(input, &mut line)? {
-            flush(output)?;
-            return Ok(counts);
-        }
-        let verdict = find_verdict(alloc, predicate, &line, &mut item)?;
-        write_wanted(output, &line, wanted, verdict)?;
-        counts = counts.count(wanted, verdict);
-    }
-    // More lines than can be counted.
-    if next_line(input, &mut line)? {
-        return Err(RunFault::Input);
-    }
-    flush(output)?;
-    Ok(counts)
+    let mut untold = Vec::new(alloc);
+    filter_judged(
+        alloc,
+        &Verdicts { predicate },
+        wanted,
+        input,
+        output,
+        &mut untold,
+    )
+}
+
+/// Does what `filter_lines` does, and writes to `reasons` why each line that is not written has
+/// another verdict: the block that `run_text` writes for it, or `line K: not UTF-8`.
+///
+/// The lines are numbered from 1, those that are written among them; of these nothing is told. The
+/// predicate is asked once for each line, by `explain` with the verdict that is not wanted. It
+/// takes memory for the longest line and the longest block, which are kept between lines, and what
+/// `explain` takes. Where either writer fails, it ends by `RunFault::Output`.
+///
+/// ```
+/// let marked = predicate::str::contains("#".to_owned(alloc)?);
+/// let kept =
+///     filter_with_reasons(alloc, &marked, false, &mut input, &mut output, &mut reasons)?;
+/// ```
+pub fn filter_with_reasons<P: Predicate<String>, R: BufRead, W: Write, T: Write>(
+    alloc: Global,
+    predicate: &P,
+    wanted: bool,
+    input: &mut R,
+    output: &mut W,
+    reasons: &mut T,
+) -> Result<Filtered, RunFault>
+    requires { P.lawful predicate.now }
+    ensures { IfOk result (HasFilteredTelling (P.formula predicate.now)
+        (IsReason (P.formula predicate.now) wanted) wanted
+        (R.remaining input.old) (R.remaining input.new)
+        (W.contents output.old) (W.contents output.new)
+        (T.contents reasons.old) (T.contents reasons.new)) }
+{
+    let judge = Reasons { predicate, wanted };
+    filter_judged(alloc, &judge, wanted, input, output, reasons)
 }

@@ -37,7 +37,7 @@ pub use apply::apply_word;
 pub use between::run_between;
 pub use block::{explain_one, explain_total};
 pub use check::TextCheck;
-pub use filter::{Filtered, filter_lines};
+pub use filter::{Filtered, filter_lines, filter_with_reasons};
 pub use from_words::MAX_DEPTH;
 pub use parse_number::number;
 pub use predicates_lines::RunFault;

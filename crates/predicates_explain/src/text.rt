@@ -20,7 +20,7 @@ struct Texts<'a, P> {
 }
 
 // Writes the label of a line, in place of what the text held.
-fn write_label(text: &mut String, number: u64) -> Result<(), AllocError>
+pub(crate) fn write_label(text: &mut String, number: u64) -> Result<(), AllocError>
     ensures { OnOk result (string_bytes text.new ≡ line_label number) }
 {
     text.clear();
@@ -28,7 +28,7 @@ fn write_label(text: &mut String, number: u64) -> Result<(), AllocError>
 }
 
 // Writes that the line is no text, in place of what the text held.
-fn write_no_text(text: &mut String, number: u64) -> Result<(), AllocError>
+pub(crate) fn write_no_text(text: &mut String, number: u64) -> Result<(), AllocError>
     ensures { OnOk result (string_bytes text.new ≡ no_text number) }
 {
     text.clear();
@@ -81,6 +81,14 @@ impl<P: Predicate<String>> AnswerLine for Texts<'_, P> {
 /// 1, and a line that is no text is answered by `line K: not UTF-8`. It takes memory for the
 /// longest line and the longest block, which is kept between lines, and what the predicate takes.
 /// After a fault nothing is said of how much was written.
+///
+/// ```
+/// let mut input = b"one\n\xff\n".as_slice();
+/// let mut output = Vec::new(alloc);
+/// let blank = predicate::str::is_empty().trim();
+/// let all = run_text(alloc, &blank, &mut input, &mut output)?;
+/// assert!(rt; !all && output.ends_with(b"line 2: not UTF-8\n"));
+/// ```
 pub fn run_text<P: Predicate<String>, R: BufRead, W: Write>(
     alloc: Global,
     predicate: &P,

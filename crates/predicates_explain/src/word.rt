@@ -60,6 +60,11 @@ fn read_with_text(alloc: Global, token: &str) -> Result<Option<Word>, AllocError
 
 /// The word with the token, or `None` where no word has it. A text is all after the first `=`, in
 /// memory of its own.
+///
+/// ```
+/// assert!(rt; read_word(alloc, "trim")? == Some(Word::Trim));
+/// assert!(rt; read_word(alloc, "trimmed")?.is_none());
+/// ```
 pub fn read_word(alloc: Global, token: &str) -> Result<Option<Word>, AllocError>
     ensures { IfOk result (λ found. MatchOption found
         ((word : Word) → token.now ≢ token_of word)

@@ -59,6 +59,12 @@ fn run_words<R: BufRead, W: Write>(
 ///
 /// A word that is no text is a wrong word. Wrong words, refused patterns and checks nested too deep
 /// leave the input and the output untouched.
+///
+/// ```
+/// // The words `between`, `5`, `10`, and an input of numbers.
+/// let (end, told) = run_command_line(alloc, &words, &mut input, &mut output, &mut messages);
+/// assert!(rt; end == Exit::AllItems && told);
+/// ```
 pub fn run_command_line<R: BufRead, W: Write, M: Write>(
     alloc: Global,
     words: &[Vec<u8>],

@@ -77,6 +77,12 @@ fn try_run<E: Env + Input + Print + AllocGlobal, M: Write>(
 /// process's status: 0 where every line was an item, 1 where some was not, 2 for wrong words,
 /// refused patterns and checks nested too deep, 3 where memory runs out and for faults of the
 /// streams.
+///
+/// ```
+/// fn main(rt: HostRuntime) -> ExitCode {
+///     ExitCode::from(run_program(&rt))
+/// }
+/// ```
 pub fn run_program<E: Env + Input + Print + Eprint + AllocGlobal>(rt: &E) -> u8 {
     let mut messages = Stderr { rt };
     let end = match try_run(rt, &mut messages) {

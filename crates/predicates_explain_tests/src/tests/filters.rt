@@ -1,8 +1,12 @@
-//! The filter over lines: which are written, with their ends, and how many.
+//! The filters over lines: which are written, with their ends, and how many; and what is told of
+//! the others.
+use super::read_check;
 use predicates::prelude::*;
-use predicates_explain::{Filtered, filter_lines};
+use predicates_explain::{Filtered, RunFault, filter_lines, filter_with_reasons};
+use predicates_fakes::FailingWriter;
 use predicates_testing::text;
 use std::alloc::{AllocError, Global};
+use std::io::ErrorKind;
 use std::test::Fail;
 
 // Whether the lines of the input that contain `#`, or those that do not, are these, with the
@@ -39,6 +43,117 @@ fn lines_by_their_verdict(rt: HostRuntime) -> Result<(), Fail> {
             keeps(rt.alloc(), wanted, input, lines, counts)?,
             "{input:?}"
         );
+    }
+    Ok(())
+}
+
+// Whether the filter that tells writes the lines to the one writer and the reasons to the other.
+fn tells(
+    alloc: Global,
+    words: &[&str],
+    wanted: bool,
+    input: &[u8],
+    lines: &[u8],
+    told: &str,
+) -> Result<bool, Fail> {
+    let check = read_check(alloc, words)?;
+    let mut reader = input;
+    let (mut output, mut reasons) = (Vec::new(alloc), Vec::new(alloc));
+    filter_with_reasons(
+        alloc,
+        &check,
+        wanted,
+        &mut reader,
+        &mut output,
+        &mut reasons,
+    )?;
+    Ok(output.as_slice() == lines && reasons.as_slice() == told.as_bytes())
+}
+
+// The wanted verdict, the input, what is written, and what is told of the other lines, where lines
+// with a `#` pass.
+const MARKED: [(bool, &[u8], &[u8], &str); 6] = [
+    (true, b"", b"", ""),
+    (
+        true,
+        b"a#\n\n#",
+        b"a#\n#",
+        "line 2: false\nvar.contains(#) = false\n  - var: \n",
+    ),
+    (
+        false,
+        b"a#\nb\n#",
+        b"b\n",
+        "line 1: true\nvar.contains(#) = true\n  - var: a#\nline 3: true\nvar.contains(#) = true\n  - var: #\n",
+    ),
+    (
+        false,
+        b"\n\r\n#\r\n\xff\n",
+        b"\n\r\n",
+        "line 3: true\nvar.contains(#) = true\n  - var: #\r\nline 4: not UTF-8\n",
+    ),
+    (
+        true,
+        b"#\r\n#\xff\n\xff",
+        b"#\r\n",
+        "line 2: not UTF-8\nline 3: not UTF-8\n",
+    ),
+    (false, b"b", b"b", ""),
+];
+
+#[test]
+fn reasons_of_the_lines_left_out(rt: HostRuntime) -> Result<(), Fail> {
+    for (wanted, input, lines, told) in MARKED {
+        let holds = tells(rt.alloc(), &["contains=#"], wanted, input, lines, told)?;
+        assert!(rt; holds, "{input:?}");
+    }
+    Ok(())
+}
+
+// What is told of a comment, and of a line that is no text.
+const COMMENT: &str = "line 2: false
+(! (var.is_empty() || var.starts_with(\"#\"))) = false
+  predicate: (var.is_empty() || var.starts_with(\"#\")) = true
+    right: var.starts_with(\"#\") = true
+      - var: # a note
+line 4: not UTF-8
+";
+
+#[test]
+fn reasons_of_a_comment(rt: HostRuntime) -> Result<(), Fail> {
+    let words = ["empty", "trim", "starts=#", "trim", "or", "not"];
+    let input = b"one\n  # a note\ntwo\n\xff\n".as_slice();
+    let holds = tells(rt.alloc(), &words, true, input, b"one\ntwo\n", COMMENT)?;
+    assert!(rt; holds);
+    Ok(())
+}
+
+// Whether the filter over two lines that are left out and one that is written ends by the fault,
+// where the writer of the reasons fails after this many calls.
+fn ends_by(alloc: Global, calls: usize, kind: ErrorKind, fault: RunFault) -> Result<bool, Fail> {
+    let check = read_check(alloc, &["contains=#"])?;
+    let mut reader = b"a\n#\nb\n".as_slice();
+    let mut output = Vec::new(alloc);
+    let mut reasons = FailingWriter { calls, kind };
+    let ended = filter_with_reasons(alloc, &check, true, &mut reader, &mut output, &mut reasons);
+    Ok(ended == Err(fault))
+}
+
+const FAULTS: [(ErrorKind, RunFault); 2] = [
+    (ErrorKind::BrokenPipe, RunFault::Output),
+    (ErrorKind::OutOfMemory, RunFault::NoMemory),
+];
+
+// Each write of a reason in turn fails, and then the flush.
+#[test]
+fn failing_writes_of_reasons(rt: HostRuntime) -> Result<(), Fail> {
+    for (kind, fault) in FAULTS {
+        for calls in 0..3usize {
+            assert!(rt;
+                ends_by(rt.alloc(), calls, kind, fault)?,
+                "{fault}, {calls}"
+            );
+        }
     }
     Ok(())
 }
