@@ -35,14 +35,12 @@ use Rattle.predicates_rules.specs.declared.expression.Connective.{Connective}
 use Rattle.predicates_rules.specs.declared.expression.Connective.TheVariants.{Or, Xor as OddOf, And}
 use Rattle.predicates_rules.specs.declared.expression.Quantifier.{Quantifier}
 use Rattle.predicates_vet_check.specs.declared.check.Check.{Check}
-use Rattle.predicates_vet_check.specs.declared.check.Check.TheFolds.{fold-roll-Check}
-use Rattle.predicates_vet_check.specs.declared.check.Check.TheOpen.{Check-F}
-use Rattle.predicates_vet_check.specs.declared.check.Check.TheVariants.{Quantified, rolls-Quantified}
-use Rattle.predicates_vet_check.specs.Checks.{plan_of, plan_step, Has, HasOf}
+use Rattle.predicates_vet_check.specs.declared.check.Check.TheVariants.{Quantified}
+use Rattle.predicates_vet_check.specs.Checks.{plan_of, Has}
 use Rattle.predicates_vet_check.specs.Differ.{IsOfDiffering}
-use Rattle.predicates_vet_check.specs.Plans.{Plan, Denies, Joins, Counts, Ranges, plans_of, plan_formula, over_items, over_array, range_formula, nothing_leaf, misfit_leaf, not_an_array}
+use Rattle.predicates_vet_check.specs.Plans.{Denies, Joins, Counts, Ranges, plans_of, plan_formula, over_items, over_array, range_formula, nothing_leaf, misfit_leaf, not_an_array}
 use Rattle.predicates_vet_check.proofs.Ruling.{under_rule, HasTruth-rule}
-use Rattle.predicates_vet_check.proofs.Members.{has_or, has_xor, has_and, has_counted}
+use Rattle.predicates_vet_check.proofs.Members.{has_or, has_xor, has_and, has_counted, plan_of_range}
 
 -- what is found of formulas, of which this is one
 found_of_one : (F : Formula → Type 0) {g : Formula} → F g → (w : Option Bool) (found : Option (Tree CaseNode)) → IsFoundChange F w found → IsFoundChange (IsExactly g) w found
@@ -99,10 +97,7 @@ changed_somewhere text path q g o w d found e h = subst (λ z. IsFoundChange (Is
 
 -- what would turn a check that is a range
 pub changed_range : {E : Type 0} (d : Data) (w : Option Bool) (r : Result (Option (Tree CaseNode)) E) {check inner : Check} {text path : List ℕ} {shown place : String Global} {q : Quantifier} {b : Box Check Global} → check ≡ Quantified shown q place b → inner ≡ b.value → text ≡ string_bytes shown → path ≡ string_bytes place → IfOk r (IsFoundChange (IsExactly (plan_formula (Ranges text path q (plan_of inner)) d)) w) → IfOk r (IsFoundChange (Has d check) w)
-changed_range d w r {check} {inner} {text} {path} {shown} {place} {q} {b} is of_inner of_text of_path h =
-    let own : plan_of (Quantified shown q place b) ≡ Ranges (string_bytes shown) (string_bytes place) q (plan_of b.value) = ap plan_of (sym (rolls-Quantified shown q place b)) ∙ fold-roll-Check Plan plan_step (Check-F.Quantified shown q place b) in
-    let same : plan_of check ≡ Ranges text path q (plan_of inner) = ap plan_of is ∙ own ∙ sym (λ i. Ranges (of_text i) (of_path i) q (plan_of (of_inner i))) in
-    subst (λ z. IfOk r (IsFoundChange (IsExactly (plan_formula z d)) w)) (sym same) h
+changed_range d w r is of_inner of_text of_path h = subst (λ z. IfOk r (IsFoundChange (IsExactly (plan_formula z d)) w)) (sym (plan_of_range is of_inner of_text of_path)) h
 
 -- ---- parts
 
@@ -204,15 +199,14 @@ pub no_change_of_rule : (name : List ℕ) (g : Formula) (w : Option Bool) → Is
 no_change_of_rule name g (Some e) x = HasTruth-rule name g x
 no_change_of_rule name g None x = λ f p. x g (record { is = refl })
 
-IsChangeOf-rule : (name bytes : List ℕ) (g : Formula) {b : Bool} {c t : Tree CaseNode} → IsNode (Some bytes) b ((codes "rule", c) ∷ []) t → Fits (Some name) bytes → IsChangeOf (IsExactly g) b c → IsChangeOf (IsExactly (under_rule name g)) b t
-IsChangeOf-rule name bytes g {b} {c} {t} written fits x =
-    let node : IsNode (Some name) b ((codes "rule", c) ∷ []) t = node_of_text written fits in
+IsChangeOf-rule : (name : List ℕ) (g : Formula) {b : Bool} {c t : Tree CaseNode} → IsNode (Some name) b ((codes "rule", c) ∷ []) t → IsChangeOf (IsExactly g) b c → IsChangeOf (IsExactly (under_rule name g)) b t
+IsChangeOf-rule name g {b} {c} {t} node x =
     let whole : HasTruth (IsExactly (under_rule name g)) b = HasTruth-rule name g x.truth in
     record {
       truth = whole;
       explains = λ f h. subst (λ z. ExplainsChange z t) (sym h.is) (named_change g b t c (Some name) (codes "rule") (x.explains g (record { is = refl })) node (whole.at (under_rule name g) (record { is = refl })));
     }
 
-pub change_of_rule : (name bytes : List ℕ) (g : Formula) (w : Option Bool) {c t : Tree CaseNode} → IsNode (Some bytes) c.root.result ((codes "rule", c) ∷ []) t → Fits (Some name) bytes → IsFoundChange (IsExactly g) w (Some c) → IsFoundChange (IsExactly (under_rule name g)) w (Some t)
-change_of_rule name bytes g (Some e) written fits x = record { truth = HasTruth-rule name g x.truth; explains = (IsChangeOf-rule name bytes g written fits (change_by_result x)).explains }
-change_of_rule name bytes g None written fits x = change_by_result (IsChangeOf-rule name bytes g written fits x)
+pub change_of_rule : (name : List ℕ) (g : Formula) (w : Option Bool) {c t : Tree CaseNode} → IsNode (Some name) c.root.result ((codes "rule", c) ∷ []) t → IsFoundChange (IsExactly g) w (Some c) → IsFoundChange (IsExactly (under_rule name g)) w (Some t)
+change_of_rule name g (Some e) node x = record { truth = HasTruth-rule name g x.truth; explains = (IsChangeOf-rule name g node (change_by_result x)).explains }
+change_of_rule name g None node x = change_by_result (IsChangeOf-rule name g node x)

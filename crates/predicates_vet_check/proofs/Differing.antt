@@ -4,25 +4,25 @@ use Rattle.std.proofs.Common.{◌≡◌, ◌≢◌, ℕ, suc, ◌+◌, ◌<◌, 
 use Rattle.std.specs.Prelude.{not, ◌==◌}
 use Rattle.std.proofs.lemmas.Bool.Decides.{nat_tests}
 use Rattle.std.specs.List.{AllZip}
-use Rattle.std.proofs.lemmas.List.{take_more, map-append}
+use Rattle.std.proofs.lemmas.List.{take_more}
 use mathlib.Core.Bool.{beq}
-use Rattle.predicates_core.specs.Label.{Label, Entry, plain, Fits}
+use Rattle.predicates_core.specs.Label.{Label, Entry, plain}
 use Rattle.predicates_core.specs.declared.custom.join.Operator.TheVariants.{Xor}
 use Rattle.predicates_core.specs.Formula.{Formula, Formulas, one, more, Join, differ, truth, size, HasTruth}
 use Rattle.predicates_core.specs.Reason.{IsFirstReason}
-use Rattle.predicates_core.specs.Tree.{Tree, Forest, empty, branch, forest, add_last}
-use Rattle.predicates_core.specs.Describe.{CaseNode, NamedCase, with_child}
+use Rattle.predicates_core.specs.Tree.{Tree, Forest, empty, branch, forest}
+use Rattle.predicates_core.specs.Describe.{CaseNode, NamedCase}
 use Rattle.predicates_core.specs.Shows.{FitsNode, ShowsPart, Shows, ShowsParts, Explains, IsCaseOf, IsNode}
-use Rattle.predicates_core.specs.Leaves.{IsExactly}
-use Rattle.predicates_core.specs.Several.{AreOfEach, no_members}
+use Rattle.predicates_core.specs.Several.{AreOfEach}
 use Rattle.predicates_core.proofs.Numbers.{shifted}
 use Rattle.predicates_core.proofs.Joins.{joins}
-use Rattle.predicates_core.proofs.Values.{truth-one, truth-more, truth-Leaf}
+use Rattle.predicates_core.proofs.Values.{truth-one, truth-more}
 use Rattle.predicates_core.proofs.FirstOfJoins.{both_first}
 use Rattle.predicates_core.proofs.FirstReasonOf.{first-one, xor_both}
 use Rattle.predicates_core.proofs.Shown.{not_empty, numbers_of, shows_part, left_share-joined, right_share-joined}
-use Rattle.predicates_core.proofs.CombinedLemmas.{node_fits, node_of_text}
+use Rattle.predicates_core.proofs.CombinedLemmas.{node_fits}
 use Rattle.predicates_core.proofs.Leaves.{HasTruth-exactly}
+use Rattle.predicates_core.proofs.Several.{all_zip_last}
 use Rattle.predicates_vet_check.specs.Differ.{IsOfDiffering}
 
 -- whether an odd number of truths holds
@@ -49,26 +49,12 @@ parity_more (a ∷ bs) b = ap (differ a) (parity_more bs b) ∙ differ_more a (p
 suc_not_zero : (n : ℕ) → (suc n == 0) ≡ false
 suc_not_zero n = grind (arith, nat_tests)
 
-pub none_of_length : {U : Type 0} (us : List U) → (length us == 0) ≡ true → us ≡ []
-none_of_length [] e = refl
-none_of_length (u ∷ us) e = absurd (let apart : true ≡ false = sym e ∙ suc_not_zero (length us) in cc)
-
 pub some_of_length : {U : Type 0} (us : List U) → (length us == 0) ≡ false → us ≢ []
 some_of_length [] e is = absurd (let apart : true ≡ false = e in cc)
 some_of_length (u ∷ us) e is = cc
 
-zip_last : {A B : Type 0} (R : A → B → Type 0) {x : A} {y : B} (xs : List A) (ys : List B) → AllZip R xs ys → R x y → AllZip R (xs ++ x ∷ []) (ys ++ y ∷ [])
-zip_last R [] [] h r = (r, tt)
-zip_last R [] (y ∷ ys) h r = absurd h
-zip_last R (x ∷ xs) [] h r = absurd h
-zip_last R (x ∷ xs) (y ∷ ys) h r = (h.0, zip_last R xs ys h.1 r)
-
-zip_more : {A B : Type 0} (R : A → B → Type 0) (us : List A) (ys : List B) (k : ℕ) (u : A) (y : B) → k < length us → u ≡ get_or us k u → AllZip R (take k us) ys → R u y → AllZip R (take (k + 1) us) (ys ++ y ∷ [])
-zip_more R us ys k u y within is h r = subst (λ z. AllZip R z (ys ++ y ∷ [])) (ap (λ z. take k us ++ z ∷ []) is ∙ sym (take_more us k u within)) (zip_last R (take k us) ys h r)
-
-last_child : (cs : List NamedCase) (name : List ℕ) (c : Tree CaseNode) → add_last (forest cs) name c ≡ forest (cs ++ (name, c) ∷ [])
-last_child [] name c = refl
-last_child (d ∷ cs) name c = ap (branch d.0 d.1.root d.1.children) (last_child cs name c)
+pub zip_more : {A B : Type 0} (R : A → B → Type 0) (us : List A) (ys : List B) (k : ℕ) (u : A) (y : B) → k < length us → u ≡ get_or us k u → AllZip R (take k us) ys → R u y → AllZip R (take (k + 1) us) (ys ++ y ∷ [])
+zip_more R us ys k u y within is h r = subst (λ z. AllZip R z (ys ++ y ∷ [])) (ap (λ z. take k us ++ z ∷ []) is ∙ sym (take_more us k u within)) (all_zip_last R (take k us) ys h r)
 
 module _ {U : Type 0} (has : U → Formula → Type 0) where
   -- ---- truths
@@ -155,39 +141,14 @@ module _ {U : Type 0} (name : List ℕ) (has : U → Formula → Type 0) where
       )
 
   -- a node with the truth over the cases of the parts, in order
-  pub record IsBuilt (text : Entry) (b : Bool) (us : List U) (t : Tree CaseNode) : Type 0 where
-    pub cases : List (Tree CaseNode)
-    pub bytes : List ℕ
-    pub fits : Fits text bytes
-    pub written : IsNode (Some bytes) b (map (λ c. (name, c)) cases) t
-    pub are : AllZip (IsSomeCase has) us cases
-
-  pub built_none : (text : Entry) {b : Bool} {t : Tree CaseNode} {bytes : List ℕ} → IsNode (Some bytes) b [] t → Fits text bytes → IsBuilt text b [] t
-  built_none text {b} {t} {bytes} written fits = record { cases = []; bytes = bytes; fits = fits; written = written; are = tt }
-
-  pub built_more : (text : Entry) {b : Bool} (us : List U) {k : ℕ} {u : U} {c t s : Tree CaseNode} → k < length us → u ≡ get_or us k u → IsBuilt text b (take k us) t → IsSomeCase has u c → s ≡ with_child t name c → IsBuilt text b (take (k + 1) us) s
-  built_more text {b} us {k} {u} {c} {t} {s} within is p h e = record {
-    cases = p.cases ++ c ∷ [];
-    bytes = p.bytes;
-    fits = p.fits;
-    written = rw e (record {
-      text = p.written.text;
-      result = p.written.result;
-      products = p.written.products;
-      children = ap (λ f. add_last f name c) p.written.children ∙ last_child (map (λ d. (name, d)) p.cases) name c ∙ ap forest (sym (map-append (λ d. (name, d)) p.cases (c ∷ [])));
-    });
-    are = zip_more (IsSomeCase has) us p.cases k u c within is p.are h;
-  }
-
-  pub differing_case : (text : Entry) {b : Bool} {us : List U} {t : Tree CaseNode} → us ≢ [] → HasTruth (IsOfDiffering text name has us) b → IsBuilt text b us t → IsCaseOf (IsOfDiffering text name has us) b t
+  pub differing_case : (text : Entry) {b : Bool} {us : List U} {t : Tree CaseNode} (cs : List (Tree CaseNode)) → us ≢ [] → HasTruth (IsOfDiffering text name has us) b → AllZip (IsSomeCase has) us cs → IsNode text b (map (λ c. (name, c)) cs) t → IsCaseOf (IsOfDiffering text name has us) b t
   unfolding Shows
-  differing_case text {b} {us} {t} some h p = record {
+  differing_case text {b} {us} {t} cs some h are node = record {
     truth = h;
     explains = λ f x.
         let s = x.of_some some in
         let fs = s.formulas in
-        let shown = every_shown (plain text) us fs p.cases s.of_each p.are in
-        let node : IsNode text b (map (λ c. (name, c)) p.cases) t = node_of_text p.written p.fits in
+        let shown = every_shown (plain text) us fs cs s.of_each are in
         let fit : FitsNode (plain text) (truth (Join Xor (plain text) fs)) t.root = node_fits text b _ _ t node (ap truth (sym s.is) ∙ h.at f x) in
         subst (λ g. Explains g t) (sym s.is) (record {
           leaves = shown.0;
@@ -195,12 +156,3 @@ module _ {U : Type 0} (name : List ℕ) (has : U → Formula → Type 0) where
           shown = (fit, subst (λ ch. ShowsParts fs ch shown.0) (sym node.children) shown.2);
         });
   }
-
-  pub differing_none : (text : Entry) {b : Bool} {us : List U} {t : Tree CaseNode} → us ≡ [] → HasTruth (IsOfDiffering text name has us) b → IsCaseOf (IsExactly (no_members text b)) b t → IsCaseOf (IsOfDiffering text name has us) b t
-  differing_none text {b} {us} {t} e h c =
-      let leaf : IsOfDiffering text name has us (no_members text false) = record { of_none = λ _. record { is = refl }; of_some = λ some. absurd (some e) } in
-      let is_false : false ≡ b = sym (truth-Leaf _ false) ∙ h.at (no_members text false) leaf in
-      record {
-        truth = h;
-        explains = λ f x. c.explains f (subst (λ z. IsExactly (no_members text z) f) is_false (x.of_none e));
-      }

@@ -4,7 +4,7 @@ use Rattle.std.specs.Prelude.{IfSome, cond}
 use Rattle.predicates_core.specs.Formula.{Leaf, HasTruth}
 use Rattle.predicates_core.specs.Label.{plain}
 use Rattle.predicates_core.specs.Leaves.{IsExactly}
-use Rattle.predicates_core.specs.Shows.{IsAnswer, IsCaseOf}
+use Rattle.predicates_core.specs.Shows.{IsFound, IsCaseOf}
 use Rattle.predicates_core.proofs.Leaves.{HasTruth-exactly}
 use Rattle.serde_json.specs.Data.{Data}
 use Rattle.predicates_rules.specs.declared.condition.State.TheVariants as states
@@ -53,11 +53,11 @@ module _ (text path : List ℕ) (q : Query) (o : Option Data) where
 
   -- ---- cases
 
-  pub answer_of_value : {d : Data} (expected : Bool) (found : Option (Tree CaseNode)) → o ≡ Some d → IsAnswer (IsExactly (leaf_of_verdict text q d (verdict q d))) expected found → IsAnswer (IsExactly (asked_formula text path q o)) expected found
-  answer_of_value {d} expected found e h = subst (λ z. IsAnswer (IsExactly (asked_formula text path q z)) expected found) (sym e) h
+  pub found_at_value : {d : Data} (w : Option Bool) (found : Option (Tree CaseNode)) → o ≡ Some d → IsFound (IsExactly (leaf_of_verdict text q d (verdict q d))) w found → IsFound (IsExactly (asked_formula text path q o)) w found
+  found_at_value {d} w found e h = subst (λ z. IsFound (IsExactly (asked_formula text path q z)) w found) (sym e) h
 
-  pub answer_of_nowhere : (expected : Bool) (found : Option (Tree CaseNode)) → o ≡ None → IsAnswer (IsExactly (asked_formula text path q None)) expected found → IsAnswer (IsExactly (asked_formula text path q o)) expected found
-  answer_of_nowhere expected found e h = subst (λ z. IsAnswer (IsExactly (asked_formula text path q z)) expected found) (sym e) h
+  pub found_nowhere : (w : Option Bool) (found : Option (Tree CaseNode)) → o ≡ None → IsFound (IsExactly (asked_formula text path q None)) w found → IsFound (IsExactly (asked_formula text path q o)) w found
+  found_nowhere w found e h = subst (λ z. IsFound (IsExactly (asked_formula text path q z)) w found) (sym e) h
 
 module _ (text path : List ℕ) (q : Query) where
   pub case_of_bare : {t : Tree CaseNode} {b : Bool} → is_of_presence q ≡ true → b ≡ nothing_verdict q → IsCaseOf (IsExactly (Leaf (plain (Some text)) b)) b t → IsCaseOf (IsExactly (asked_formula text path q None)) b t
@@ -67,10 +67,10 @@ module _ (text path : List ℕ) (q : Query) where
   case_of_no_value {t} {b} e is h = subst (λ z. IsCaseOf (IsExactly (cond z (Leaf (plain (Some text)) (nothing_verdict q)) (nothing_leaf text path))) b t) (sym e) (subst (λ z. IsCaseOf (IsExactly (nothing_leaf text path)) z t) (sym (is ∙ no_presence q e)) h)
 
 module _ (text : List ℕ) (q : Query) (d : Data) where
-  pub answer_of_found : (expected : Bool) (found : Option (Tree CaseNode)) {b : Bool} → verdict q d ≡ Some b → IsAnswer (IsExactly (found_leaf text d b)) expected found → IsAnswer (IsExactly (leaf_of_verdict text q d (verdict q d))) expected found
-  answer_of_found expected found e h = subst (λ z. IsAnswer (IsExactly (leaf_of_verdict text q d z)) expected found) (sym e) h
+  pub found_of_answer : (w : Option Bool) (found : Option (Tree CaseNode)) {b : Bool} → verdict q d ≡ Some b → IsFound (IsExactly (found_leaf text d b)) w found → IsFound (IsExactly (leaf_of_verdict text q d (verdict q d))) w found
+  found_of_answer w found e h = subst (λ z. IsFound (IsExactly (leaf_of_verdict text q d z)) w found) (sym e) h
 
-  pub answer_of_misfit : (expected : Bool) (found : Option (Tree CaseNode)) → verdict q d ≡ None → IsAnswer (IsExactly (misfit_leaf text (misfit_text q) d)) expected found → IsAnswer (IsExactly (leaf_of_verdict text q d (verdict q d))) expected found
-  answer_of_misfit expected found e h = subst (λ z. IsAnswer (IsExactly (leaf_of_verdict text q d z)) expected found) (sym e) h
+  pub found_of_misfit : (w : Option Bool) (found : Option (Tree CaseNode)) → verdict q d ≡ None → IsFound (IsExactly (misfit_leaf text (misfit_text q) d)) w found → IsFound (IsExactly (leaf_of_verdict text q d (verdict q d))) w found
+  found_of_misfit w found e h = subst (λ z. IsFound (IsExactly (leaf_of_verdict text q d z)) w found) (sym e) h
 
-pub ruleset leavings = (HasTruth-found, HasTruth-misfit, HasTruth-nothing, case_of_bare, case_of_no_value, answer_of_value, answer_of_nowhere, answer_of_found, answer_of_misfit)
+pub ruleset leavings = (HasTruth-found, HasTruth-misfit, HasTruth-nothing, case_of_bare, case_of_no_value, found_at_value, found_nowhere, found_of_answer, found_of_misfit)

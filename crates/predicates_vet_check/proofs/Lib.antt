@@ -1,6 +1,7 @@
 mod Alike
 mod Changes
 mod Differing
+mod Finding
 mod Leaving
 mod Members
 mod Rows

@@ -1,21 +1,17 @@
 -- The formula of a check over others is one that the library has over their formulas.
 use Rattle.std.proofs.Common.{◌≡◌, ℕ, suc, Bool, true, false, List, [], ◌∷◌, Option, Some, None, codes, length, map, refl, sym, ap, ◌∙◌, subst}
-use Rattle.std.specs.Prelude.{not}
+use Rattle.std.specs.Prelude.{not, String, string_bytes}
+use Rattle.std.proofs.Common.{Box, Global}
 use Rattle.predicates_core.specs.Formula.{Formula, more, truth, HasTruth}
-use Rattle.predicates_core.specs.Describe.{CaseNode}
-use Rattle.std.specs.Fmt.{decimal}
-use Rattle.predicates_core.specs.Label.{Entry, Fits}
-use Rattle.predicates_core.specs.Leaves.{IsExactly, IsShowing}
+use Rattle.predicates_core.specs.Label.{Entry}
+use Rattle.predicates_core.specs.Leaves.{IsExactly}
 use Rattle.predicates_core.specs.Several.{AreOfEach, IsOfMembers, formulas_of}
 use Rattle.predicates_core.specs.Thresholds.{IsOfThreshold, threshold_formula}
-use Rattle.predicates_core.specs.Shows.{Explains, IsCaseOf, IsAnswer, IsNode}
-use Rattle.predicates_core.specs.Tree.{Tree}
 use Rattle.predicates_core.specs.Combined.{IsNot}
-use Rattle.predicates_core.proofs.CombinedLemmas.{has_not, HasTruth-not, IsCaseOf-not}
+use Rattle.predicates_core.proofs.CombinedLemmas.{has_not, HasTruth-not}
 use Rattle.serde_json.specs.Data.{Data, Items}
 use Rattle.serde_json.specs.Find.{as_array}
 use Rattle.predicates_core.proofs.Leaves.{HasTruth-exactly}
-use Rattle.predicates_core.proofs.Several.{IsFirstAt, decided_case}
 use Rattle.predicates_core.proofs.ThresholdCases.{has_threshold}
 use Rattle.predicates_rules.specs.declared.expression.Quantifier.{Quantifier}
 use Rattle.predicates_rules.specs.declared.expression.Quantifier.TheVariants.{Each, Any, AtLeast}
@@ -24,33 +20,16 @@ use Rattle.serde_json.specs.declared.value.Value.{Value}
 use Rattle.predicates_rules.specs.declared.expression.Connective.{Connective}
 use Rattle.predicates_rules.specs.declared.expression.Connective.TheVariants.{Or, Xor, And}
 use Rattle.predicates_vet_check.specs.declared.check.Check.{Check}
-use Rattle.predicates_vet_check.specs.Checks.{plan_of, Has, HasOf}
+use Rattle.predicates_vet_check.specs.declared.check.Check.TheFolds.{fold-roll-Check}
+use Rattle.predicates_vet_check.specs.declared.check.Check.TheOpen.{Check-F}
+use Rattle.predicates_vet_check.specs.declared.check.Check.TheVariants.{Quantified, rolls-Quantified}
+use Rattle.predicates_vet_check.specs.Checks.{plan_of, plan_step, Has, HasOf}
 use Rattle.predicates_vet_check.specs.Differ.{IsOfDiffering}
-use Rattle.predicates_vet_check.specs.Plans.{Denies, Joins, Counts, plans_of, plan_formula, plan_formulas, part_formulas, item_formulas, deciding_items, over_items, over_array, listed, range_formula, nothing_leaf}
-
--- a node over the case of the first member that decides, with its number
-pub case_of_member : (decides : Bool) {U : Type 0} (name : List ℕ) (has : U → Formula → Type 0) {text : Entry} {us : List U} {k : ℕ} {u : U} {c t s : Tree CaseNode} {bytes : List ℕ} → IsNode (Some bytes) decides ((name, c) ∷ []) t → IsShowing (codes "index") (Some (decimal k)) t s → Fits text bytes → IsFirstAt decides name has us k u → IsCaseOf (has u) decides c → IsCaseOf (IsOfMembers decides text name has us) decides s
-case_of_member decides name has {t = t} {bytes = bytes} written shown fits a d =
-    decided_case decides name has (record { bytes = bytes; fits = fits; node = t; written = written; numbers = shown }) a d
+use Rattle.predicates_vet_check.specs.Plans.{Plan, Denies, Joins, Counts, Ranges, plans_of, plan_formula, plan_formulas, part_formulas, item_formulas, deciding_items, over_items, over_array, listed, range_formula}
 
 module _ (F : Formula → Type 0) {g : Formula} (had : F g) where
   pub truth_of_one : {b : Bool} → HasTruth F b → HasTruth (IsExactly g) b
   truth_of_one {b} h = record { at = λ f x. subst (λ z. truth z ≡ b) (sym x.is) (h.at g had) }
-
-  pub case_of_one : {b : Bool} {t : Tree CaseNode} → IsCaseOf F b t → IsCaseOf (IsExactly g) b t
-  case_of_one {b} {t} h = record { truth = truth_of_one h.truth; explains = λ f x. subst (λ z. Explains z t) (sym x.is) (h.explains g had) }
-
-  pub answer_of_one : (expected : Bool) (found : Option (Tree CaseNode)) → IsAnswer F expected found → IsAnswer (IsExactly g) expected found
-  answer_of_one expected None h = truth_of_one h
-  answer_of_one expected (Some t) h = case_of_one h
-
--- a formula has one truth
-pub never_both : {g : Formula} {b : Bool} → HasTruth (IsExactly g) b → HasTruth (IsExactly g) (not b) → ⊥
-never_both {g} {b} h k = apart b (sym (h.at g (record { is = refl })) ∙ k.at g (record { is = refl }))
-  where
-    apart : (x : Bool) → x ≡ not x → ⊥
-    apart true e = cc
-    apart false e = cc
 
 -- the formula over what a list is made of is that over the list
 module _ {U V : Type 0} (name : List ℕ) (g : V → Formula) (f : U → V) where
@@ -122,12 +101,15 @@ module _ (c : Check) where
       (sym (ap (threshold_formula k (Some text) (codes "item") (plan_formula (plan_of c))) (listed_items vs) ∙ threshold_of_map (codes "item") (plan_formula (plan_of c)) view k (Some text) vs))
       (has_threshold k (λ v. plan_formula (plan_of c) (view v)) vs (λ v. record { is = refl }))
 
+-- the plan of a check that is a range
+pub plan_of_range : {check inner : Check} {text path : List ℕ} {shown place : String Global} {q : Quantifier} {b : Box Check Global} → check ≡ Quantified shown q place b → inner ≡ b.value → text ≡ string_bytes shown → path ≡ string_bytes place → plan_of check ≡ Ranges text path q (plan_of inner)
+plan_of_range {shown = shown} {place = place} {q = q} {b = b} is of_inner of_text of_path =
+    let own : plan_of (Quantified shown q place b) ≡ Ranges (string_bytes shown) (string_bytes place) q (plan_of b.value) = ap plan_of (sym (rolls-Quantified shown q place b)) ∙ fold-roll-Check Plan plan_step (Check-F.Quantified shown q place b) in
+    ap plan_of is ∙ own ∙ sym (λ i. Ranges (of_text i) (of_path i) q (plan_of (of_inner i)))
+
 -- what denies a check
 pub truth_of_not : (text : List ℕ) (e : Check) (d : Data) {b : Bool} → HasTruth (Has d e) b → HasTruth (IsExactly (plan_formula (Denies text (plan_of e)) d)) (not b)
 truth_of_not text e d h = truth_of_one (IsNot (Some text) (Has d e)) (has_not (record { is = refl })) (HasTruth-not h refl)
-
-pub case_of_not : (text bytes : List ℕ) (e : Check) (d : Data) {b : Bool} {c t : Tree CaseNode} → IsNode (Some bytes) b ((codes "predicate", c) ∷ []) t → bytes ≡ text → IsCaseOf (Has d e) (not b) c → IsCaseOf (IsExactly (plan_formula (Denies text (plan_of e)) d)) b t
-case_of_not text bytes e d written fits h = case_of_one (IsNot (Some text) (Has d e)) (has_not (record { is = refl })) (IsCaseOf-not written fits h)
 
 -- ---- what is over the items of a value
 
@@ -139,9 +121,6 @@ module _ (text : List ℕ) (d : Data) (q : Quantifier) (c : Check) where
   pub truth_of_items : (own : Quantifier) (vs : List Value) (F : Formula → Type 0) {b : Bool} → q ≡ own → as_array d ≡ Some (items_view vs) → F (over_items text own (plan_formula (plan_of c)) (items_view vs)) → HasTruth F b → HasTruth (IsExactly (array_of q (as_array d))) b
   truth_of_items own vs F {b} is e had h = subst (λ z. HasTruth (IsExactly (array_of z (as_array d))) b) (sym is) (subst (λ o. HasTruth (IsExactly (array_of own o)) b) (sym e) (truth_of_one F had h))
 
-  pub answer_of_items : (own : Quantifier) (vs : List Value) (F : Formula → Type 0) (expected : Bool) (found : Option (Tree CaseNode)) → q ≡ own → as_array d ≡ Some (items_view vs) → F (over_items text own (plan_formula (plan_of c)) (items_view vs)) → IsAnswer F expected found → IsAnswer (IsExactly (array_of q (as_array d))) expected found
-  answer_of_items own vs F expected found is e had h = subst (λ z. IsAnswer (IsExactly (array_of z (as_array d))) expected found) (sym is) (subst (λ o. IsAnswer (IsExactly (array_of own o)) expected found) (sym e) (answer_of_one F had expected found h))
-
   pub truth_of_no_array : as_array d ≡ None → HasTruth (IsExactly (array_of q (as_array d))) false
   truth_of_no_array e = subst (λ o. HasTruth (IsExactly (array_of q o)) false) (sym e) (HasTruth-exactly refl)
 
@@ -152,17 +131,11 @@ module _ (text path : List ℕ) (q : Quantifier) (g : Data → Formula) (o : Opt
   pub truth_nowhere : o ≡ None → HasTruth (IsExactly (range_formula text path q g o)) false
   truth_nowhere e = subst (λ z. HasTruth (IsExactly (range_formula text path q g z)) false) (sym e) (HasTruth-exactly refl)
 
-  pub answer_nowhere : (expected : Bool) (found : Option (Tree CaseNode)) → o ≡ None → IsAnswer (IsExactly (nothing_leaf text path)) expected found → IsAnswer (IsExactly (range_formula text path q g o)) expected found
-  answer_nowhere expected found e h = subst (λ z. IsAnswer (IsExactly (range_formula text path q g z)) expected found) (sym e) h
-
 -- ---- by the number
 
 module _ (text : List ℕ) (k : ℕ) (es : List Check) (d : Data) where
   pub truth_of_counted : {b : Bool} → HasTruth (IsOfThreshold k (Some text) (codes "part") (Has d) es) b → HasTruth (IsExactly (plan_formula (Counts text k (plans_of (map plan_of es))) d)) b
   truth_of_counted h = truth_of_one _ (has_counted d text k es) h
-
-  pub answer_of_counted : (expected : Bool) (found : Option (Tree CaseNode)) → IsAnswer (IsOfThreshold k (Some text) (codes "part") (Has d) es) expected found → IsAnswer (IsExactly (plan_formula (Counts text k (plans_of (map plan_of es))) d)) expected found
-  answer_of_counted expected found h = answer_of_one _ (has_counted d text k es) expected found h
 
 -- ---- by the connective
 
@@ -178,12 +151,3 @@ module _ (text : List ℕ) (c : Connective) (es : List Check) (d : Data) where
 
   pub truth_of_and : {b : Bool} → c ≡ And → HasTruth (IsOfMembers false (Some text) (codes "part") (Has d) es) b → HasTruth row b
   truth_of_and {b} e h = subst (λ z. HasTruth (IsExactly (plan_formula (Joins text z (plans_of (map plan_of es))) d)) b) (sym e) (truth_of_one _ (has_and d text es) h)
-
-  pub answer_of_or : (expected : Bool) (found : Option (Tree CaseNode)) → c ≡ Or → IsAnswer (IsOfMembers true (Some text) (codes "part") (Has d) es) expected found → IsAnswer row expected found
-  answer_of_or expected found e h = subst (λ z. IsAnswer (IsExactly (plan_formula (Joins text z (plans_of (map plan_of es))) d)) expected found) (sym e) (answer_of_one _ (has_or d text es) expected found h)
-
-  pub answer_of_xor : (expected : Bool) (found : Option (Tree CaseNode)) → c ≡ Xor → IsAnswer (IsOfDiffering (Some text) (codes "part") (Has d) es) expected found → IsAnswer row expected found
-  answer_of_xor expected found e h = subst (λ z. IsAnswer (IsExactly (plan_formula (Joins text z (plans_of (map plan_of es))) d)) expected found) (sym e) (answer_of_one _ (has_xor d text es) expected found h)
-
-  pub answer_of_and : (expected : Bool) (found : Option (Tree CaseNode)) → c ≡ And → IsAnswer (IsOfMembers false (Some text) (codes "part") (Has d) es) expected found → IsAnswer row expected found
-  answer_of_and expected found e h = subst (λ z. IsAnswer (IsExactly (plan_formula (Joins text z (plans_of (map plan_of es))) d)) expected found) (sym e) (answer_of_one _ (has_and d text es) expected found h)

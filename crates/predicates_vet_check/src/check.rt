@@ -11,15 +11,15 @@ ghost use Rattle.predicates_vet_check.specs.Checks.{plan_of};
 
 mod change;
 mod counted;
-mod find;
+mod explain;
 mod hold;
 mod steps;
 
 use crate::matchers::Matchers;
 use crate::path_test::PathTest;
 use change::changed;
-use counted::{threshold_case, threshold_hold};
-use find::{joined_case, not_case, range_case};
+use counted::threshold_hold;
+use explain::explained;
 use hold::{joined_hold, not_hold, range_hold};
 use predicates_core::reflection::{Case, Child, Parameter, PredicateReflection};
 use predicates_core::{Predicate, PredicateChange, Total};
@@ -30,6 +30,7 @@ use std::fmt;
 
 /// A check of a JSON value, with a variant for each form of a rule's expression. It has no
 /// parameters and no children, and what is over a path or over parts has its printed text with it.
+/// `find_case` and `explain` ask each test once of an item, at most, however deep it stands.
 #[derive(Drop)]
 pub enum Check {
     /// A test of the value at a path.
@@ -83,6 +84,11 @@ impl Check {
     }
 
     /// Whether it holds of the value, as `eval` says, by the matchers of a run.
+    ///
+    /// ```
+    /// let record = Value::from_str(alloc, "{\"age\": 18}")?;
+    /// assert!(rt; rule.check.holds(alloc, &mut matchers, &record)?);
+    /// ```
     #[cycle(hold)]
     pub fn holds<'r>(
         &'r self,
@@ -124,27 +130,22 @@ impl Predicate<Value> for Check {
         Ok(held)
     }
 
-    #[cycle(find)]
     fn find_case(
         &self,
         alloc: Global,
         expected: bool,
         item: &Value,
     ) -> Result<Option<Case>, AllocError> {
-        match self {
-            Check::Test(test) => test.find_case(alloc, expected, item),
-            Check::Not(text, inner) => not_case(alloc, text, inner, expected, item),
-            Check::Joined(text, connective, parts) => {
-                joined_case(alloc, text, *connective, parts, expected, item)
-            }
-            Check::AtLeast(text, least, parts) => {
-                threshold_case(alloc, text, *least, parts, expected, item)
-            }
-            Check::Quantified(text, quantifier, path, inner) => {
-                let found = range_case(alloc, text, *quantifier, path, inner, expected, item)?;
-                Ok(found)
-            }
-        }
+        explained(alloc, self, Some(expected), item)
+    }
+
+    fn explain(
+        &self,
+        alloc: Global,
+        wanted: Option<bool>,
+        item: &Value,
+    ) -> Result<Option<Case>, AllocError> {
+        explained(alloc, self, wanted, item)
     }
 }
 

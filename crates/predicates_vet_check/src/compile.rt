@@ -285,6 +285,13 @@ fn text_of_threshold(alloc: Global, least: u64, parts: &[Check]) -> Result<Strin
 
 /// The check of a rule's expression. It takes memory for the check and its texts, and is refused
 /// where a pattern is.
+///
+/// ```
+/// let mut rules = read_rules(alloc, b"adult: /age >= 18")?;
+/// let Rule { name, expression } = rules.pop().ok_or("no rule")?;
+/// let check = check_of(alloc, expression)?;
+/// assert!(rt; check.text() == "/age >= 18");
+/// ```
 #[cycle(compile)]
 pub fn check_of(alloc: Global, expression: Expression) -> Result<Check, CheckError>
     ensures { IfOk result (λ check. IsPlan (tree_of expression) (plan_of check)) }

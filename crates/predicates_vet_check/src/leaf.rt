@@ -5,10 +5,11 @@ ghost use Rattle.std.specs.Prelude.{◌≡◌, IfOk, IfSome, Some, string_bytes}
 ghost use Rattle.predicates_core.specs.Formula.{Leaf};
 ghost use Rattle.predicates_core.specs.Label.{plain};
 ghost use Rattle.predicates_core.specs.Leaves.{IsExactly};
-ghost use Rattle.predicates_core.specs.Shows.{IsCaseOf};
+ghost use Rattle.predicates_core.specs.Shows.{IsCaseOf, IsFound};
 ghost use Rattle.serde_json.specs.View.{view};
 ghost use Rattle.predicates_vet_check.specs.Plans.{path_text, found_text, nothing_text, nothing_leaf, misfit_leaf, found_leaf};
 
+use predicates_core::custom::is_other;
 use predicates_core::node::{leaf_node, showing, showing_text};
 use predicates_core::reflection::Case;
 use serde_json::Value;
@@ -86,4 +87,39 @@ pub(crate) fn misfit_at(
     let found = found(alloc, value)?;
     let shown = showing(node, "found", found)?;
     Ok(showing_text(alloc, shown, "error", error)?)
+}
+
+/// What is found of a leaf that shows the value, and holds or not.
+pub(crate) fn answer_found(
+    alloc: Global,
+    text: &str,
+    value: &Value,
+    holds: bool,
+    wanted: Option<bool>,
+) -> Result<Option<Case>, AllocError>
+    ensures { IfOk result (IsFound (IsExactly (found_leaf text.now (view value.now) holds)) wanted) }
+{
+    if is_other(wanted, holds) {
+        return Ok(None);
+    }
+    let case = found_at(alloc, text, value, holds)?;
+    Ok(Some(case))
+}
+
+/// What is found of a false leaf that shows the value, and says why it can't answer.
+pub(crate) fn misfit_found(
+    alloc: Global,
+    text: &str,
+    error: &str,
+    value: &Value,
+    wanted: Option<bool>,
+) -> Result<Option<Case>, AllocError>
+    ensures { IfOk result
+        (IsFound (IsExactly (misfit_leaf text.now error.now (view value.now))) wanted) }
+{
+    if is_other(wanted, false) {
+        return Ok(None);
+    }
+    let case = misfit_at(alloc, text, value, error)?;
+    Ok(Some(case))
 }

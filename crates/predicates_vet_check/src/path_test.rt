@@ -7,17 +7,17 @@ ghost use Rattle.predicates_core.specs.LeafLaws.{one_exactly};
 ghost use Rattle.serde_json.specs.Find.{pointer};
 ghost use Rattle.serde_json.specs.View.{view};
 ghost use Rattle.std.specs.Prelude.{IfOk, None};
-ghost use Rattle.predicates_core.specs.Shows.{IsAnswer, IsCaseOf};
+ghost use Rattle.predicates_core.specs.Shows.{IsCaseOf, IsFound};
 ghost use Rattle.predicates_vet_check.specs.Queries.{verdict};
 ghost use Rattle.predicates_vet_check.specs.PlanLaws.{asked_text_fits};
-ghost use Rattle.predicates_vet_check.specs.Plans.{asked_formula, leaf_of_verdict, found_leaf, misfit_leaf};
-ghost use Rattle.predicates_vet_check.specs.Queries.{misfit_text, nothing_verdict};
+ghost use Rattle.predicates_vet_check.specs.Plans.{asked_formula, leaf_of_verdict};
+ghost use Rattle.predicates_vet_check.specs.Queries.{nothing_verdict};
 ghost use Rattle.predicates_vet_check.specs.Tests.{text_of_test, path_of_test, query_of_test};
 
-use crate::leaf::{bare_leaf, found_at, misfit_at, nothing_at};
+use crate::leaf::{answer_found, bare_leaf, misfit_found, nothing_at};
 use crate::matchers::Matchers;
 use crate::question::Question;
-use predicates_core::custom::leaf_change;
+use predicates_core::custom::{is_other, leaf_change};
 use predicates_core::reflection::{Case, Child, Parameter, PredicateReflection};
 use predicates_core::{Predicate, PredicateChange, Total};
 use predicates_json::value_at;
@@ -78,80 +78,44 @@ impl PathTest {
         }
     }
 
-    // The case of a value that was found.
+    // What is found of a value that stands at the path.
     #[tactic(auto, using(crate::proofs::Leaving::leavings))]
-    fn case_of(
+    fn value_found(
         &self,
         alloc: Global,
         value: &Value,
-        expected: bool,
+        wanted: Option<bool>,
     ) -> Result<Option<Case>, AllocError>
-        ensures { IfOk result (IsAnswer (IsExactly (leaf_of_verdict (text_of_test self.now)
+        ensures { IfOk result (IsFound (IsExactly (leaf_of_verdict (text_of_test self.now)
             (query_of_test self.now) (view value.now)
-            (verdict (query_of_test self.now) (view value.now)))) expected) }
+            (verdict (query_of_test self.now) (view value.now)))) wanted) }
     {
         let mut matchers = Matchers::new(alloc);
         match self.question.verdict(alloc, &mut matchers, value)? {
             Some(holds) => {
-                let found = self.case_of_found(alloc, value, holds, expected)?;
+                let found = answer_found(alloc, &self.text, value, holds, wanted)?;
                 Ok(found)
             }
             None => {
-                let found = self.case_of_misfit(alloc, value, expected)?;
+                let error = self.question.misfit();
+                let found = misfit_found(alloc, &self.text, error, value, wanted)?;
                 Ok(found)
             }
         }
     }
 
-    // The case of a value that answers.
-    #[tactic(auto, using(predicates_core::proofs::Leaves::leaves))]
-    fn case_of_found(
-        &self,
-        alloc: Global,
-        value: &Value,
-        holds: bool,
-        expected: bool,
-    ) -> Result<Option<Case>, AllocError>
-        ensures { IfOk result (IsAnswer (IsExactly (found_leaf (text_of_test self.now)
-            (view value.now) holds)) expected) }
-    {
-        if holds != expected {
-            return Ok(None);
-        }
-        let case = found_at(alloc, &self.text, value, holds)?;
-        Ok(Some(case))
-    }
-
-    // The case of a value that can't answer.
-    #[tactic(auto, using(predicates_core::proofs::Leaves::leaves))]
-    fn case_of_misfit(
-        &self,
-        alloc: Global,
-        value: &Value,
-        expected: bool,
-    ) -> Result<Option<Case>, AllocError>
-        ensures { IfOk result (IsAnswer (IsExactly (misfit_leaf (text_of_test self.now)
-            (misfit_text (query_of_test self.now)) (view value.now))) expected) }
-    {
-        if expected {
-            return Ok(None);
-        }
-        let case = misfit_at(alloc, &self.text, value, self.question.misfit())?;
-        Ok(Some(case))
-    }
-
-    // The case where nothing stands at the path.
+    // What is found where nothing stands at the path.
     #[tactic(auto, using(crate::proofs::Leaving::leavings))]
-    fn case_of_nothing(&self, alloc: Global, expected: bool) -> Result<Option<Case>, AllocError>
-        ensures { IfOk result (IsAnswer (IsExactly (asked_formula (text_of_test self.now)
-            (path_of_test self.now) (query_of_test self.now) None)) expected) }
+    fn nothing_found(&self, alloc: Global, wanted: Option<bool>) -> Result<Option<Case>, AllocError>
+        ensures { IfOk result (IsFound (IsExactly (asked_formula (text_of_test self.now)
+            (path_of_test self.now) (query_of_test self.now) None)) wanted) }
     {
         let holds = self.question.holds_of_nothing();
-        if holds == expected {
-            let case = self.nothing_case(alloc, holds)?;
-            return Ok(Some(case));
+        if is_other(wanted, holds) {
+            return Ok(None);
         }
-        Ok(None)
+        let case = self.nothing_case(alloc, holds)?;
+        Ok(Some(case))
     }
 
     #[tactic(auto, using(crate::proofs::Leaving::leavings))]
@@ -186,20 +150,29 @@ impl Predicate<Value> for PathTest {
         Ok(held)
     }
 
-    #[tactic(auto, using(crate::proofs::Leaving::leavings))]
     fn find_case(
         &self,
         alloc: Global,
         expected: bool,
         item: &Value,
     ) -> Result<Option<Case>, AllocError> {
+        self.explain(alloc, Some(expected), item)
+    }
+
+    #[tactic(auto, using(crate::proofs::Leaving::leavings))]
+    fn explain(
+        &self,
+        alloc: Global,
+        wanted: Option<bool>,
+        item: &Value,
+    ) -> Result<Option<Case>, AllocError> {
         match value_at(item, &self.path) {
             Some(value) => {
-                let found = self.case_of(alloc, value, expected)?;
+                let found = self.value_found(alloc, value, wanted)?;
                 Ok(found)
             }
             None => {
-                let found = self.case_of_nothing(alloc, expected)?;
+                let found = self.nothing_found(alloc, wanted)?;
                 Ok(found)
             }
         }

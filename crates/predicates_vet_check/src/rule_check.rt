@@ -1,9 +1,10 @@
 //! A rule that a record keeps or breaks.
-ghost use Rattle.std.specs.Prelude.{◌≡◌, refl, [], Some, IfOk};
+ghost use Rattle.std.specs.Prelude.{◌≡◌, ◌∷◌, refl, [], Some, IfOk, codes};
 ghost use Rattle.predicates_core.specs.Tree.{empty};
 ghost use Rattle.predicates_core.specs.Formula.{HasTruth};
 ghost use Rattle.predicates_core.specs.Leaves.{IsExactly};
 ghost use Rattle.predicates_core.specs.LeafLaws.{one_exactly};
+ghost use Rattle.predicates_core.specs.Shows.{IsNode};
 ghost use Rattle.serde_json.specs.View.{view};
 ghost use Rattle.predicates_vet_check.specs.RuleChecks.{rule_formula, name_of, plan_of_rule};
 ghost use Rattle.predicates_vet_check.specs.PlanLaws.{rule_text_fits};
@@ -19,6 +20,14 @@ use std::fmt;
 
 /// A rule of a file: what it is called, and the check that it makes. It prints its name, and the
 /// check stands under `rule`.
+///
+/// ```
+/// let rule = RuleCheck { name, check }; // `adult`, and the check of `/age >= 18`
+/// let record = Value::from_str(alloc, "{\"age\": 17}")?;
+/// let case = rule.find_case(alloc, false, &record)?.ok_or("no case")?;
+/// let lines = "adult = false\n  rule: /age >= 18 = false\n    - found: 17\n";
+/// assert!(rt; render(alloc, &case)?.as_str() == lines);
+/// ```
 #[derive(Drop)]
 pub struct RuleCheck {
     pub name: String,
@@ -49,6 +58,11 @@ impl PredicateReflection for RuleCheck {
 
 impl RuleCheck {
     /// Whether it holds of the value, as `eval` says, by the matchers of a run.
+    ///
+    /// ```
+    /// let mut matchers = Matchers::new(alloc);
+    /// assert!(rt; !rule.holds(alloc, &mut matchers, &record)?);
+    /// ```
     pub fn holds<'r>(
         &'r self,
         alloc: Global,
@@ -60,6 +74,16 @@ impl RuleCheck {
     {
         let holds = self.check.holds(alloc, matchers, item)?;
         Ok(holds)
+    }
+
+    // The node of the rule over what was found of its check.
+    fn node_over(&self, alloc: Global, case: Case) -> Result<Case, AllocError>
+        ensures { IfOk result (IsNode (Some (name_of self.now)) case.root.result
+            ((codes "rule", case) ∷ [])) }
+    {
+        let name = String::from_str(alloc, &self.name)?;
+        let outcome = case.root().result();
+        unary_node(alloc, name, outcome, "rule", case)
     }
 }
 
@@ -84,11 +108,20 @@ impl Predicate<Value> for RuleCheck {
         expected: bool,
         item: &Value,
     ) -> Result<Option<Case>, AllocError> {
-        let Some(case) = self.check.find_case(alloc, expected, item)? else {
+        self.explain(alloc, Some(expected), item)
+    }
+
+    fn explain(
+        &self,
+        alloc: Global,
+        wanted: Option<bool>,
+        item: &Value,
+    ) -> Result<Option<Case>, AllocError> {
+        let Some(case) = self.check.explain(alloc, wanted, item)? else {
             return Ok(None);
         };
-        let name = String::from_str(alloc, &self.name)?;
-        Ok(Some(unary_node(alloc, name, expected, "rule", case)?))
+        let node = self.node_over(alloc, case)?;
+        Ok(Some(node))
     }
 }
 
@@ -102,9 +135,8 @@ impl PredicateChange<Value> for RuleCheck {
         let Some(case) = self.check.find_change(alloc, wanted, item)? else {
             return Ok(None);
         };
-        let name = String::from_str(alloc, &self.name)?;
-        let outcome = case.root().result();
-        Ok(Some(unary_node(alloc, name, outcome, "rule", case)?))
+        let node = self.node_over(alloc, case)?;
+        Ok(Some(node))
     }
 }
 

@@ -13,11 +13,9 @@ ghost use Rattle.predicates_vet_check.specs.Plans.{plan_formula, plans_of, Denie
 mod counted;
 
 use super::hold::parts_differ;
-use super::steps::{
-    first_alone, next_change, no_array_found, no_member, no_part_found, nowhere_found,
-};
+use super::steps::{first_alone, next_change, no_member, no_part_found, nowhere_found};
 use crate::check::Check;
-use crate::leaf::copied;
+use crate::leaf::{copied, misfit_found};
 use crate::matchers::Matchers;
 use counted::{counted_members, threshold_changed};
 use predicates_core::custom::{asked_at, is_first_passed, is_other, opposite_of, with_index};
@@ -365,7 +363,7 @@ fn array_changed(
         quantifier (plan_formula (plan_of inner.now)) (as_array (view value.now)))) wanted) }
 {
     let Some(items) = value.as_array() else {
-        let found = no_array_found(alloc, text, wanted, value)?;
+        let found = misfit_found(alloc, text, "not an array", value, wanted)?;
         return Ok(found);
     };
     match quantifier {

@@ -1,17 +1,16 @@
 //! Steps of the cases of checks over others, none of which asks a check.
 ghost use Rattle.std.specs.Prelude.{IfOk, None, Some, false, not};
 ghost use Rattle.predicates_core.specs.Leaves.{IsExactly};
-ghost use Rattle.predicates_core.specs.Several.{no_members};
+ghost use Rattle.predicates_core.specs.Several.{IsDecidedBy, no_members};
 ghost use Rattle.predicates_core.specs.Shows.{IsCaseOf, IsFound};
+ghost use Rattle.predicates_core.specs.Thresholds.{settled};
 ghost use Rattle.predicates_core.specs.Turning.{IsFirstAlone, IsNextNode};
-ghost use Rattle.serde_json.specs.View.{view};
-ghost use Rattle.predicates_vet_check.specs.Plans.{misfit_leaf, nothing_leaf, not_an_array};
+ghost use Rattle.predicates_vet_check.specs.Plans.{nothing_leaf};
 
-use crate::leaf::{bare_node, copied, misfit_at, nothing_at};
-use predicates_core::custom::{is_other, with_index};
+use crate::leaf::{bare_node, copied, nothing_at};
+use predicates_core::custom::{is_other, settled_case, with_index};
 use predicates_core::node::{showing_text, unary_node};
 use predicates_core::reflection::Case;
-use serde_json::Value;
 use std::alloc::{AllocError, Global};
 
 // The case of a list without members.
@@ -53,21 +52,34 @@ pub(super) fn nowhere_found(
     Ok(Some(case))
 }
 
-// What is found of a value that is no array.
-pub(super) fn no_array_found(
+// What is found of a whole that is decided whatever its parts answer.
+pub(super) fn settled_found(
     alloc: Global,
     text: &str,
+    least: usize,
+    number: usize,
     wanted: Option<bool>,
-    value: &Value,
 ) -> Result<Option<Case>, AllocError>
-    ensures { IfOk result (IsFound (IsExactly (misfit_leaf text.now not_an_array (view value.now)))
-        wanted) }
+    ensures { IfOk result (IsFound (IsExactly (settled (Some text.now) least number)) wanted) }
 {
-    if is_other(wanted, false) {
-        return Ok(None);
-    }
-    let case = misfit_at(alloc, text, value, "not an array")?;
-    Ok(Some(case))
+    let whole = copied(alloc, text)?;
+    settled_case(alloc, &whole, least, number, wanted)
+}
+
+// The case of a whole that a part decides, from the part's number and case.
+pub(super) fn deciding_node(
+    alloc: Global,
+    text: &str,
+    name: &'static str,
+    decides: bool,
+    index: usize,
+    case: Case,
+) -> Result<Case, AllocError>
+    ensures { IfOk result (IsDecidedBy decides (Some text.now) name.entry.now index case) }
+{
+    let text = copied(alloc, text)?;
+    let node = unary_node(alloc, text, decides, name, case)?;
+    with_index(alloc, index, node)
 }
 
 // The node over the change of the first part, where none decides.
@@ -103,10 +115,6 @@ pub(super) fn next_change(
 {
     match found {
         Some(node) => node.add_child(name, told),
-        None => {
-            let text = copied(alloc, text)?;
-            let node = unary_node(alloc, text, decides, name, told)?;
-            with_index(alloc, index, node)
-        }
+        None => deciding_node(alloc, text, name, decides, index, told),
     }
 }

@@ -10,7 +10,7 @@ ghost use Rattle.predicates_vet_check.specs.Plans.{plan_formula, plans_of, Count
 
 use super::changed;
 use crate::check::Check;
-use crate::check::counted::settled_found;
+use crate::check::steps::settled_found;
 use crate::leaf::copied;
 use predicates_core::custom::{enough_of, is_settled, node_of_first, with_index};
 use predicates_core::reflection::Case;
