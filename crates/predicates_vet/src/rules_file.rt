@@ -127,6 +127,12 @@ fn checks_of(
 
 /// Reads the rules of a file, as `read_rules`, and makes the check of each. It fails where the text
 /// says no rules, and where a pattern is no regular expression.
+///
+/// ```
+/// let rules = read_checks(alloc, b"adult: /age>=18 and(/name exists)")?;
+/// assert!(rt; rules.len() == 1 && rules[0].name.as_str() == "adult");
+/// assert!(rt; rules[0].check.text() == "/age >= 18 and /name exists");
+/// ```
 pub fn read_checks(alloc: Global, text: &[u8]) -> Result<Vec<RuleCheck>, ReadChecksError>
     // What is read is what the text says.
     ensures { IfOk result (λ checks. (rules : List (List ℕ × Tree))

@@ -311,6 +311,27 @@ fn tell_record<'r, W: Write>(
 /// It takes memory for the longest line, for the record on it, for what is written of it and for a
 /// matcher of each pattern of the rules, and no more however long the input is. After a fault
 /// nothing is said of how much was written.
+///
+/// ```
+/// let rules = read_checks(alloc, b"adult: /age >= 18")?;
+/// let settings = Settings {
+///     report: Report::First,
+///     id: None,
+/// };
+/// let mut records: &[u8] = b"{\"age\": 30}\n{\"age\": 17}\n";
+/// let (mut output, mut messages) = (Vec::new(alloc), Vec::new(alloc));
+/// let counts = run_records(
+///     alloc,
+///     &rules,
+///     &settings,
+///     &mut records,
+///     &mut output,
+///     &mut messages,
+/// )?;
+/// assert!(rt; counts.records == 2 && counts.failed == 1 && counts.status() == 1);
+/// let told = b"record 2: false\nadult = false\n  rule: /age >= 18 = false\n    - found: 17\n";
+/// assert!(rt; output.as_slice() == told.as_slice() && messages.is_empty());
+/// ```
 pub fn run_records<R: BufRead, W: Write, M: Write>(
     alloc: Global,
     rules: &[RuleCheck],

@@ -152,6 +152,12 @@ fn try_run<E: Env + Files + Input + Print + Eprint + AllocGlobal>(rt: &E) -> io:
 /// its status: 0 where every record keeps every rule, 1 where one breaks a rule, and 2 for wrong
 /// words, rules that can't be read, lines that are no JSON, faults of reading and writing, and out
 /// of memory, each told in a line on standard error.
+///
+/// ```
+/// fn main(rt: HostRuntime) -> ExitCode {
+///     ExitCode::from(run_program(&rt))
+/// }
+/// ```
 pub fn run_program<E: Env + Files + Input + Print + Eprint + AllocGlobal>(rt: &E) -> u8
     ensures { result ≤ 2 }
 {

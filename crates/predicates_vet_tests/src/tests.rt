@@ -1,5 +1,6 @@
 //! Rules and records, and what a run writes for them.
 mod combined;
+mod examples;
 mod faults;
 mod malformed_records;
 mod malformed_rules;
