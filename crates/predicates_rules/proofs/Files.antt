@@ -1,9 +1,11 @@
 -- Reading lines one after the other, as a loop does.
-use Rattle.std.proofs.Common.{◌≡◌, ℕ, zero, suc, ◌+◌, ◌<◌, ◌≤◌, Bor, List, [], ◌∷◌, ◌++◌, map, length, get_or, drop, Option, Some, None, Result, Ok, Err, refl, sym, ap, subst, ◌∙◌, arith, append_assoc}
+use Rattle.std.proofs.Common.{◌≡◌, ◌≢◌, ℕ, zero, suc, ◌+◌, ◌<◌, ◌≤◌, Bor, List, [], ◌∷◌, ◌++◌, map, length, get_or, drop, Option, Some, None, Result, Ok, Err, refl, sym, ap, subst, ◌∙◌, arith, append_assoc}
 use Rattle.std.proofs.lemmas.List.{append-nil}
 use Rattle.predicates_rules.specs.declared.error.Reason.{Reason}
+use Rattle.predicates_rules.specs.declared.error.Reason.TheVariants.{TooDeep}
 use Rattle.predicates_rules.specs.declared.error.RulesError.{RulesError}
 use Rattle.predicates_rules.specs.declared.error.RulesError.TheVariants.{NoMemory, Unreadable}
+use Rattle.predicates_rules.specs.declared.fault.Fault.{Fault}
 use Rattle.predicates_rules.specs.declared.stop.Stop.{Stop}
 use Rattle.predicates_rules.specs.declared.stop.ReadError.{ReadError}
 use Rattle.predicates_rules.specs.declared.stop.ReadError.TheVariants as errors
@@ -11,18 +13,20 @@ use Rattle.predicates_rules.specs.Trees.{Tree}
 use Rattle.predicates_rules.specs.Grammar.{max_depth}
 use Rattle.predicates_rules.specs.Answers.{Fails, IsStop, IsSyntax}
 use Rattle.predicates_rules.specs.Rules.{IsLine, AreRules, no_more, skipped, taken, AreRead}
-use Rattle.predicates_rules.specs.Faults.{IsLineFault, IsFirstFault, in_this, in_later, IsFaultOf, IsSyntaxError, error_at, IsLineError}
+use Rattle.predicates_rules.specs.Faults.{IsLineFault, IsFirstFault, in_this, in_later, IsFaultOf, IsSyntaxError, IsErrorAt, IsLineError}
 use Rattle.predicates_rules.proofs.Lines.{one_line}
 
 -- ---- one line
 
-pub line_error : (number : ℕ) (line : List ℕ) (e : ReadError) → ((o : Option (List ℕ × Tree)) → IsLine max_depth line o → Fails {Y = Option (List ℕ × Tree)} e (Ok o))
-    → (IsSyntax e → (n : ℕ) (o : Option (List ℕ × Tree)) → IsLine n line o → ⊥) → IsStop (IsLineFault line) e → IsLineError number line (error_at number line e)
-line_error number line errors.Memory only never fault = tt
-line_error number line (errors.Stopped s) only never fault = (refl, λ o d. not_ok o (only o d), never, (s, fault, refl, refl))
-  where
-    not_ok : (o : Option (List ℕ × Tree)) → ◌≡◌ {A = Result (Option (List ℕ × Tree)) Stop} (Ok o) (Err s) → ⊥
-    not_ok o h = cc
+not_ok : (s : Stop) (o : Option (List ℕ × Tree)) → ◌≡◌ {A = Result (Option (List ℕ × Tree)) Stop} (Ok o) (Err s) → ⊥
+not_ok s o h = cc
+
+pub line_error : (number : ℕ) (line : List ℕ) (e : ReadError) (x : RulesError) → ((o : Option (List ℕ × Tree)) → IsLine max_depth line o → Fails {Y = Option (List ℕ × Tree)} e (Ok o))
+    → (IsSyntax e → (n : ℕ) (o : Option (List ℕ × Tree)) → IsLine n line o → ⊥) → IsStop (IsLineFault line) e → IsErrorAt number line e x → IsLineError number line x
+line_error number line e NoMemory only never fault at = tt
+line_error number line errors.Memory (Unreadable f) only never fault at = absurd at
+line_error number line (errors.Stopped s) (Unreadable f) only never fault at =
+    (λ o d. not_ok s o (only o d), subst (λ (r : Reason). r ≢ TooDeep → (n : ℕ) (o : Option (List ℕ × Tree)) → IsLine n line o → ⊥) (sym at.2) never, (s, fault, at))
 
 -- ---- many lines
 
@@ -34,13 +38,13 @@ list_of (Some r) = r ∷ []
 pub record Goes (lines left : List (List ℕ)) (k : ℕ) (front : List (List ℕ × Tree)) : Type 0 where
   pub found : (rs : List (List ℕ × Tree)) → AreRules max_depth left rs → AreRules max_depth lines (front ++ rs)
   pub only : (n : ℕ) (rs : List (List ℕ × Tree)) → AreRules n lines rs → (us : List (List ℕ × Tree)) × (rs ≡ front ++ us) × AreRules n left us
-  pub fault : (m column : ℕ) (reason : Reason) → IsFirstFault left m column reason → IsFirstFault lines (k + m) column reason
+  pub fault : (f : Fault) → IsFirstFault left (k + 1) f → IsFirstFault lines 1 f
 
 pub starts : (lines : List (List ℕ)) → Goes lines lines 0 []
 starts lines = record {
   found = λ rs d. d;
   only = λ n rs d. (rs, refl, d);
-  fault = λ m column reason d. let same : 0 + m ≡ m = omega arith in rw same d;
+  fault = λ f d. d;
 }
 
 with_line : {line : List ℕ} {left : List (List ℕ)} {rs : List (List ℕ × Tree)} (r : Option (List ℕ × Tree)) → IsLine max_depth line r → AreRules max_depth left rs → AreRules max_depth (line ∷ left) (list_of r ++ rs)
@@ -60,7 +64,7 @@ past_line lines line left k front r l g = record {
       let o = g.only n rs d in
       let b = behind_line r l o.2 in
       (b.0, o.1 ∙ ap (λ (us : List (List ℕ × Tree)). front ++ us) b.1 ∙ sym (append_assoc front (list_of r) b.0), b.2);
-  fault = λ m column reason d. let same : k + 1 + m ≡ k + suc m = omega arith in rw same (g.fault (suc m) column reason (in_later r l d));
+  fault = λ f d. let next : suc (k + 1) ≡ k + 1 + 1 = omega arith in g.fault f (in_later r l (subst (λ (n : ℕ). IsFirstFault left n f) (sym next) d));
 }
 
 pub all_found : (lines : List (List ℕ)) (k : ℕ) (front : List (List ℕ × Tree)) → Goes lines [] k front → AreRules max_depth lines front
@@ -81,16 +85,15 @@ no_line h (taken {r = r} l d) = h (Some r) l
 module _ (lines : List (List ℕ)) (line : List ℕ) (left : List (List ℕ)) (k : ℕ) (front : List (List ℕ × Tree)) (g : Goes lines (line ∷ left) k front) where
   pub cannot : (e : RulesError) → IsLineError (k + 1) line e → (rs : List (List ℕ × Tree)) → AreRules max_depth lines rs → AreRead (Err e) rs
   cannot NoMemory h rs d = tt
-  cannot (Unreadable at column reason) h rs d = no_line h.1 (g.only max_depth rs d).2
+  cannot (Unreadable f) h rs d = no_line h.0 (g.only max_depth rs d).2
 
   pub never : (e : RulesError) → IsLineError (k + 1) line e → IsSyntaxError e → (n : ℕ) (rs : List (List ℕ × Tree)) → AreRules n lines rs → ⊥
   never NoMemory h x n rs d = absurd x
-  never (Unreadable at column reason) h x n rs d = no_line (h.2 x n) (g.only n rs d).2
+  never (Unreadable f) h x n rs d = no_line (h.1 x n) (g.only n rs d).2
 
   pub first_fault : (e : RulesError) → IsLineError (k + 1) line e → IsFaultOf lines e
   first_fault NoMemory h = tt
-  first_fault (Unreadable at column reason) h =
-      subst (λ (n : ℕ). IsFirstFault lines n column reason) (sym h.0) (g.fault 1 column reason (in_this h.3.0 h.3.1 h.3.2 h.3.3))
+  first_fault (Unreadable f) h = g.fault f (in_this h.2.0 h.2.1 h.2.2)
 
 -- ---- borrowed lines
 

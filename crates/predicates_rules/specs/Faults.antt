@@ -1,15 +1,18 @@
 -- Where a text stops being rules, and why.
-use Rattle.std.specs.Prelude.{◌≡◌, ◌≢◌, ℕ, suc, ◌+◌, ◌-◌, true, false, List, [], ◌∷◌, map, length, drop, Option, Some, None, Err}
-use Rattle.predicates_rules.specs.declared.error.Reason.{Reason}
+use Rattle.std.specs.Prelude.{◌≡◌, ◌≢◌, ℕ, suc, ◌+◌, ◌-◌, true, false, List, [], ◌∷◌, map, length, take, drop, Option, Some, None, unwrap_or, Err}
+use Rattle.std.specs.List.{prefix_len}
 use Rattle.predicates_rules.specs.declared.error.Reason.TheVariants.{TooDeep}
 use Rattle.predicates_rules.specs.declared.error.RulesError.{RulesError}
 use Rattle.predicates_rules.specs.declared.error.RulesError.TheVariants.{NoMemory, Unreadable}
+use Rattle.predicates_rules.specs.declared.fault.Fault.{Fault}
+use Rattle.predicates_rules.specs.declared.lexer.Class.{Class}
+use Rattle.predicates_rules.specs.declared.lexer.Class.TheVariants.{Letter, Quote, Slash, Name, Other}
 use Rattle.predicates_rules.specs.declared.stop.Stop.{Stop}
 use Rattle.predicates_rules.specs.declared.stop.ReadError.{ReadError}
 use Rattle.predicates_rules.specs.declared.stop.ReadError.TheVariants as errors
 use Rattle.predicates_rules.specs.Trees.{Sign, Tree}
 use Rattle.predicates_rules.specs.Grammar.{max_depth}
-use Rattle.predicates_rules.specs.Lexemes.{is_space, is_over, cut, IsWritten, IsLexed}
+use Rattle.predicates_rules.specs.Lexemes.{class_of, continues, text_end, is_space, is_over, cut, IsWritten, IsLexed}
 use Rattle.predicates_rules.specs.Scanning.{token_at, after_space}
 use Rattle.predicates_rules.specs.Reading.{all_of}
 use Rattle.predicates_rules.specs.Heading.{head_at}
@@ -50,29 +53,59 @@ pub data IsLineFault : List ℕ → Stop → Type 0 where
 abbrev pub column_at : List ℕ → ℕ → ℕ
 column_at line left = length line - left + 1
 
--- the first line, from 1, that has no rule and is not blank, and the column in it
-pub data IsFirstFault : List (List ℕ) → ℕ → ℕ → Reason → Type 0 where
-  in_this : {line : List ℕ} {lines : List (List ℕ)} {column : ℕ} {reason : Reason} (s : Stop) → IsLineFault line s → column ≡ column_at line s.left → reason ≡ s.reason → IsFirstFault (line ∷ lines) 1 column reason
-  in_later : {line : List ℕ} {lines : List (List ℕ)} {n column : ℕ} {reason : Reason} (r : Option (List ℕ × Tree)) → IsLine max_depth line r → IsFirstFault lines n column reason → IsFirstFault (line ∷ lines) (suc n) column reason
+-- ---- what a fault tells
+
+-- a word goes on as a name does, and what begins no token up to a space, a mark, an operator or #
+abbrev pub told_class : Class → Class
+told_class Letter = Name
+told_class Other = Slash
+told_class c = c
+
+-- a text that isn't closed is told to its end
+abbrev pub told_rest : Class → List ℕ → ℕ
+told_rest Quote text = unwrap_or (text_end false text) (length text)
+told_rest c text = prefix_len (continues c) text
+
+-- how many bytes at the front are told
+abbrev pub told_len : List ℕ → ℕ
+told_len [] = 0
+told_len (b ∷ text) = suc (told_rest (told_class (class_of b)) text)
+
+abbrev pub told : List ℕ → List ℕ
+told text = take (told_len text) text
+
+-- what stands, behind spaces, where this many bytes of the line are left
+abbrev pub found_at : List ℕ → ℕ → List ℕ
+found_at line left = told (after_spaces (drop (length line - left) line))
+
+-- the fault where the line with this number stops
+abbrev pub IsFaultAt : ℕ → List ℕ → Stop → Fault → Type 0
+IsFaultAt number line s f = (f.line ≡ number) × (f.column ≡ column_at line s.left) × (f.reason ≡ s.reason) × (f.found.items ≡ found_at line s.left)
+
+-- the first line, from 1, that has no rule and is not blank, with the place in it
+pub data IsFirstFault : List (List ℕ) → ℕ → Fault → Type 0 where
+  in_this : {line : List ℕ} {lines : List (List ℕ)} {f : Fault} {n : ℕ} (s : Stop) → IsLineFault line s → IsFaultAt n line s f → IsFirstFault (line ∷ lines) n f
+  in_later : {line : List ℕ} {lines : List (List ℕ)} {n : ℕ} {f : Fault} (r : Option (List ℕ × Tree)) → IsLine max_depth line r → IsFirstFault lines (suc n) f → IsFirstFault (line ∷ lines) n f
 
 -- where and why lines are no rules, unless memory ran out
 abbrev pub IsFaultOf : List (List ℕ) → RulesError → Type 0
 IsFaultOf lines NoMemory = Unit {0}
-IsFaultOf lines (Unreadable line column reason) = IsFirstFault lines line column reason
+IsFaultOf lines (Unreadable f) = IsFirstFault lines 1 f
 
 -- neither memory nor the depth was too little
 abbrev pub IsSyntaxError : RulesError → Type 0
 IsSyntaxError NoMemory = ⊥
-IsSyntaxError (Unreadable line column reason) = reason ≢ TooDeep
+IsSyntaxError (Unreadable f) = f.reason ≢ TooDeep
 
--- an error of the line with this number
-abbrev pub error_at : ℕ → List ℕ → ReadError → RulesError
-error_at number line errors.Memory = NoMemory
-error_at number line (errors.Stopped s) = Unreadable number (column_at line s.left) s.reason
+-- an error of the line with this number, where memory may run out as well
+abbrev pub IsErrorAt : ℕ → List ℕ → ReadError → RulesError → Type 0
+IsErrorAt number line e NoMemory = Unit {0}
+IsErrorAt number line errors.Memory (Unreadable f) = ⊥
+IsErrorAt number line (errors.Stopped s) (Unreadable f) = IsFaultAt number line s f
 
 -- the line with this number has no rule and is not blank
 abbrev pub IsLineError : ℕ → List ℕ → RulesError → Type 0
 IsLineError number line NoMemory = Unit {0}
-IsLineError number line (Unreadable at column reason) =
-    (at ≡ number) × ((o : Option (List ℕ × Tree)) → IsLine max_depth line o → ⊥) × (reason ≢ TooDeep → (n : ℕ) (o : Option (List ℕ × Tree)) → IsLine n line o → ⊥)
-    × ((s : Stop) × IsLineFault line s × (column ≡ column_at line s.left) × (reason ≡ s.reason))
+IsLineError number line (Unreadable f) =
+    ((o : Option (List ℕ × Tree)) → IsLine max_depth line o → ⊥) × (f.reason ≢ TooDeep → (n : ℕ) (o : Option (List ℕ × Tree)) → IsLine n line o → ⊥)
+    × ((s : Stop) × IsLineFault line s × IsFaultAt number line s f)

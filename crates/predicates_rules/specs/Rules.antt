@@ -51,4 +51,4 @@ rule_of r = (string_bytes r.name, tree_of r.expression)
 abbrev pub AreRead : Result (Vec Rule Global) RulesError → List (List ℕ × Tree) → Type 0
 AreRead (Ok v) rs = map rule_of v.items ≡ rs
 AreRead (Err NoMemory) rs = Unit {0}
-AreRead (Err (Unreadable line column reason)) rs = ⊥
+AreRead (Err (Unreadable fault)) rs = ⊥

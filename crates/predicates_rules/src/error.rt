@@ -1,6 +1,7 @@
 //! Why rules could not be read.
 
 use crate::expression::MAX_DEPTH;
+use crate::fault::Fault;
 use std::error::Error;
 use std::fmt;
 
@@ -95,26 +96,18 @@ impl fmt::Display for Reason {
 }
 
 /// Why rules were not read.
-#[derive(Clone, Copy, Debug, PartialEq, Eq)]
+#[derive(Debug, Drop)]
 pub enum RulesError {
     NoMemory,
-    /// Where the text stops being rules. Lines and columns count from 1, and a column counts bytes.
-    Unreadable {
-        line: usize,
-        column: usize,
-        reason: Reason,
-    },
+    /// The first fault of the text.
+    Unreadable(Fault),
 }
 
 impl fmt::Display for RulesError {
     fn fmt<W: fmt::Write>(&self, f: &mut fmt::Formatter<W>) -> fmt::Result {
         match self {
             RulesError::NoMemory => f.write_str("no memory"),
-            RulesError::Unreadable {
-                line,
-                column,
-                reason,
-            } => write!(f, "line {line}, column {column}: {reason}"),
+            RulesError::Unreadable(fault) => write!(f, "{fault}"),
         }
     }
 }

@@ -46,7 +46,8 @@ pub enum Fixed {
     Comma,
 }
 
-const ALL: [Fixed; 31] = [
+/// All of them.
+pub const ALL: [Fixed; 31] = [
     Fixed::Or,
     Fixed::Xor,
     Fixed::And,
@@ -80,7 +81,8 @@ const ALL: [Fixed; 31] = [
     Fixed::Comma,
 ];
 
-fn text(fixed: Fixed) -> &'static [u8]
+/// How the token is written.
+pub fn text(fixed: Fixed) -> &'static [u8]
     ensures { result.now ≡ text_of fixed }
 {
     match fixed {

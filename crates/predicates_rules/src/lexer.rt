@@ -7,7 +7,7 @@ ghost use Rattle.predicates_rules.specs.Trees.{Sign, sign_of, value_of};
 ghost use Rattle.predicates_rules.specs.Lexemes.{class_of, continues, is_space, is_over, text_end, token_len, cut, pointer, IsLexed};
 ghost use Rattle.predicates_rules.specs.Scanning.{number_in, value_in, value_at, front_class, sign_in, token_at, after_space, placed};
 ghost use Rattle.predicates_rules.specs.Answers.{Gives, IsStop, stop_at};
-ghost use Rattle.predicates_rules.specs.Faults.{NoToken};
+ghost use Rattle.predicates_rules.specs.Faults.{NoToken, told_class, told_len};
 
 use crate::error::{Expected, Reason};
 use crate::fixed::{fixed_of, kind};
@@ -125,6 +125,32 @@ fn front_len(text: &[u8]) -> Option<usize>
             Some(len + 1)
         }
         class => Some(run_len(class, rest) + 1),
+    }
+}
+
+// What a fault tells together: a name for a word, and for what begins no token all up to a space
+// or a mark.
+fn told_class(class: Class) -> Class
+    ensures { result ≡ told_class class }
+{
+    match class {
+        Class::Letter => Class::Name,
+        Class::Other => Class::Slash,
+        class => class,
+    }
+}
+
+/// How many bytes at the front a fault tells.
+pub fn told_len(text: &[u8]) -> usize
+    ensures value { result ≡ told_len text.now }
+    ensures within { result ≤ length text.now }
+{
+    let [first, rest @ ..] = text else {
+        return 0;
+    };
+    match told_class(class_at(*first)) {
+        Class::Quote => quoted_len(rest).unwrap_or(rest.len()) + 1,
+        class => run_len(class, rest) + 1,
     }
 }
 

@@ -21,10 +21,13 @@
 pub mod condition;
 pub mod error;
 pub mod expression;
+pub mod fault;
 mod fixed;
+pub mod hint;
 mod lexer;
 pub mod literal;
 mod parser;
+mod quoted;
 mod reader;
 pub mod rule;
 mod stop;

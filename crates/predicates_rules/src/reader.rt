@@ -73,7 +73,8 @@ pub fn read_expression(alloc: Global, text: &[u8]) -> Result<Expression, ReadErr
     }
 }
 
-fn behind_spaces(line: &[u8]) -> &[u8]
+/// What follows the spaces at the front.
+pub fn behind_spaces(line: &[u8]) -> &[u8]
     ensures { result.now ≡ after_spaces line.now }
 {
     &line[run_len(Class::Space, line)..]

@@ -7,12 +7,15 @@ ghost use Rattle.predicates_rules.specs.declared.expression.Connective.TheVarian
 ghost use Rattle.predicates_rules.specs.Grammar.{By, max_depth};
 ghost use Rattle.predicates_rules.specs.Printing.{IsProper, IsPlain, nesting_at, printed};
 ghost use Rattle.predicates_rules.specs.Rules.{AreRules, AreRulesOf, AreRead, IsLine, Says, lines_of, rule_of};
-ghost use Rattle.predicates_rules.specs.Faults.{IsFaultOf, IsLineError, IsSyntaxError, error_at};
+ghost use Rattle.predicates_rules.specs.Faults.{IsFaultAt, IsFaultOf, IsErrorAt, IsLineError, IsSyntaxError};
 
 use crate::error::RulesError;
 use crate::expression::Expression;
-use crate::reader::read_line;
-use crate::stop::ReadError;
+use crate::fault::Fault;
+use crate::hint::hint_at;
+use crate::lexer::told_len;
+use crate::reader::{behind_spaces, read_line};
+use crate::stop::{ReadError, Stop};
 use std::alloc::{AllocError, AllocFailed, Global};
 
 /// A rule: what it is called, and what it says of a record.
@@ -38,15 +41,32 @@ impl<T: Drop> From<AllocFailed<T>> for RulesError {
     }
 }
 
-fn placed(error: ReadError, number: usize, line: &[u8]) -> RulesError
-    ensures { result ≡ error_at number line.now error }
+// The fault where a line of this number stops.
+fn fault_at(alloc: Global, stop: Stop, number: usize, line: &[u8]) -> Result<Fault, AllocError>
+    ensures { IfOk result (IsFaultAt number line.now stop) }
+{
+    let (before, rest) = line.split_at(line.len().saturating_sub(stop.left));
+    let rest = behind_spaces(rest);
+    let (word, after) = rest.split_at(told_len(rest));
+    let mut found = Vec::new(alloc);
+    found.extend_from_slice(word)?;
+    Ok(Fault {
+        line: number,
+        column: line.len().saturating_sub(stop.left) + 1,
+        reason: stop.reason,
+        found,
+        hint: hint_at(alloc, before, word, after)?,
+    })
+}
+
+fn placed(alloc: Global, error: ReadError, number: usize, line: &[u8]) -> RulesError
+    ensures { IsErrorAt number line.now error result }
 {
     match error {
         ReadError::Memory => RulesError::NoMemory,
-        ReadError::Stopped(stop) => RulesError::Unreadable {
-            line: number,
-            column: line.len().saturating_sub(stop.left) + 1,
-            reason: stop.reason,
+        ReadError::Stopped(stop) => match fault_at(alloc, stop, number, line) {
+            Ok(fault) => RulesError::Unreadable(fault),
+            Err(_) => RulesError::NoMemory,
         },
     }
 }
@@ -58,7 +78,7 @@ fn rule_at(alloc: Global, number: usize, line: &[u8]) -> Result<Option<Rule>, Ru
 {
     match read_line(alloc, line) {
         Ok(rule) => Ok(rule),
-        Err(error) => Err(placed(error, number, line)),
+        Err(error) => Err(placed(alloc, error, number, line)),
     }
 }
 
@@ -106,7 +126,7 @@ pub fn read_rules(alloc: Global, text: &[u8]) -> Result<Vec<Rule>, RulesError>
     // Where it is refused for another reason than its depth, it says no rules, however deep.
     ensures never { IfErr result (λ e. IsSyntaxError e → (n : ℕ) (rs : List (List ℕ × Tree))
         → AreRulesOf n text.now rs → ⊥) }
-    // The line and the column of the first fault, and what was expected there.
+    // The line and the column of the first fault, what was expected there and what stands there.
     ensures fault { IfErr result (IsFaultOf (lines_of text.now)) }
 {
     let lines = parted(alloc, text)?;

@@ -93,158 +93,173 @@ fn reads_rules(rt: HostRuntime) -> Result<(), Fail> {
 const REFUSED: [(&str, &str); 44] = [
     (
         "a: / exists\n\"b\": / exists",
-        "line 2, column 1: expected the name of a rule",
+        "line 2, column 1: expected the name of a rule, found `\"b\"`",
     ),
     (
         "  a / exists",
-        "line 1, column 4: expected `:` behind the name of a rule",
+        "line 1, column 4: expected `:` behind the name of a rule, found `/`",
     ),
     (
         "a: or",
-        "line 1, column 4: expected a path, `not`, `each`, `any`, `at` or `(`",
+        "line 1, column 4: expected a path, `not`, `each`, `any`, `at` or `(`, found `or`",
     ),
     (
         "a:   # later",
-        "line 1, column 6: expected a path, `not`, `each`, `any`, `at` or `(`",
+        "line 1, column 6: expected a path, `not`, `each`, `any`, `at` or `(`, found a comment",
     ),
-    ("a: each (", "line 1, column 9: expected a path"),
+    ("a: each (", "line 1, column 9: expected a path, found `(`"),
     (
         "a: /b 1",
-        "line 1, column 7: expected an operator, `exists`, `missing` or `is_empty`",
+        "line 1, column 7: expected an operator, `exists`, `missing` or `is_empty`, found `1`",
     ),
-    ("\n\na: /b == ", "line 3, column 10: expected a literal"),
-    ("a: /b == [1]", "line 1, column 10: expected a literal"),
-    ("a: /b in [1, ]", "line 1, column 14: expected a literal"),
+    (
+        "\n\na: /b == ",
+        "line 3, column 10: expected a literal, found the end of the line",
+    ),
+    (
+        "a: /b == [1]",
+        "line 1, column 10: expected a literal, found `[`",
+    ),
+    (
+        "a: /b in [1, ]",
+        "line 1, column 14: expected a literal, found `]`",
+    ),
     (
         "a: /b matches 1",
-        "line 1, column 15: expected a text in quotes",
+        "line 1, column 15: expected a text in quotes, found `1`",
     ),
-    ("a: /b in 1", "line 1, column 10: expected `[`"),
-    ("a: /b in [1 2]", "line 1, column 13: expected `,` or `]`"),
-    ("a: any /b /c", "line 1, column 11: expected `(`"),
+    ("a: /b in 1", "line 1, column 10: expected `[`, found `1`"),
+    (
+        "a: /b in [1 2]",
+        "line 1, column 13: expected `,` or `]`, found `2`",
+    ),
+    (
+        "a: any /b /c",
+        "line 1, column 11: expected `(`, found `/c`",
+    ),
     (
         "a: (/b exists",
-        "line 1, column 14: expected `)`, `or`, `xor` or `and`",
+        "line 1, column 14: expected `)`, `or`, `xor` or `and`, found the end of the line",
     ),
     (
         "a: /b exists)",
-        "line 1, column 13: expected the end of the line, `or`, `xor` or `and`",
+        "line 1, column 13: expected the end of the line, `or`, `xor` or `and`, found `)`",
     ),
     (
         "a: /b exists /c exists",
-        "line 1, column 14: expected the end of the line, `or`, `xor` or `and`",
+        "line 1, column 14: expected the end of the line, `or`, `xor` or `and`, found `/c`",
     ),
     (
         "a: /b = 1",
-        "line 1, column 7: expected a word, an operator, a path or a literal",
+        "line 1, column 7: expected a word, an operator, a path or a literal, found `=`; did you mean `==`?",
     ),
     (
         "a: /b exist",
-        "line 1, column 7: expected a word, an operator, a path or a literal",
+        "line 1, column 7: expected a word, an operator, a path or a literal, found `exist`; did you mean `exists`?",
     ),
     (
         "a: ü",
-        "line 1, column 4: expected a word, an operator, a path or a literal",
+        "line 1, column 4: expected a word, an operator, a path or a literal, found `ü`; a path begins with `/`",
     ),
     (
         "a: /b == 1.5",
-        "line 1, column 10: expected a whole number from -2^63 to 2^64 - 1",
+        "line 1, column 10: expected a whole number from -2^63 to 2^64 - 1, found `1.5`",
     ),
     (
         "a: /b == 01",
-        "line 1, column 10: expected a whole number from -2^63 to 2^64 - 1",
+        "line 1, column 10: expected a whole number from -2^63 to 2^64 - 1, found `01`",
     ),
     (
         "a: /b == 18446744073709551616",
-        "line 1, column 10: expected a whole number from -2^63 to 2^64 - 1",
+        "line 1, column 10: expected a whole number from -2^63 to 2^64 - 1, found `18446744073709551616`",
     ),
     (
         "a: /b == -0",
-        "line 1, column 10: expected a whole number from -2^63 to 2^64 - 1",
+        "line 1, column 10: expected a whole number from -2^63 to 2^64 - 1, found `-0`",
     ),
     (
         "a: /b == \"\\x\"",
-        "line 1, column 10: expected a text as JSON writes it",
+        "line 1, column 10: expected a text as JSON writes it, found `\"\\x\"`",
     ),
     (
         "a: /b == \"c\\\" # d",
-        "line 1, column 10: expected the quote that ends the text",
+        "line 1, column 10: expected the quote that ends the text, found `\"c\\\" # d`",
     ),
     (
         "a:\tnot\t/b\tin\t[ 1 , 2 ,\t3\t",
-        "line 1, column 26: expected `,` or `]`",
+        "line 1, column 26: expected `,` or `]`, found the end of the line",
     ),
     (
         "a: at 2 of (/b exists)",
-        "line 1, column 7: expected `least`",
+        "line 1, column 7: expected `least`, found `2`",
     ),
     (
         "a: least 2 of (/b exists)",
-        "line 1, column 4: expected a path, `not`, `each`, `any`, `at` or `(`",
+        "line 1, column 4: expected a path, `not`, `each`, `any`, `at` or `(`, found `least`",
     ),
     (
         "a: at least of (/b exists)",
-        "line 1, column 13: expected a whole number from 0 to 2^64 - 1",
+        "line 1, column 13: expected a whole number from 0 to 2^64 - 1, found `of`",
     ),
     (
         "a: at least /b (/ exists)",
-        "line 1, column 13: expected a whole number from 0 to 2^64 - 1",
+        "line 1, column 13: expected a whole number from 0 to 2^64 - 1, found `/b`",
     ),
     (
         "a: at least -1 of (/b exists)",
-        "line 1, column 13: expected a whole number from 0 to 2^64 - 1",
+        "line 1, column 13: expected a whole number from 0 to 2^64 - 1, found `-1`",
     ),
     (
         "a: at least \"2\" of (/b exists)",
-        "line 1, column 13: expected a whole number from 0 to 2^64 - 1",
+        "line 1, column 13: expected a whole number from 0 to 2^64 - 1, found `\"2\"`",
     ),
     (
         "a: at least 18446744073709551616 of (/b exists)",
-        "line 1, column 13: expected a whole number from -2^63 to 2^64 - 1",
+        "line 1, column 13: expected a whole number from -2^63 to 2^64 - 1, found `18446744073709551616`",
     ),
     (
         "a: at least 1.5 /b (/ exists)",
-        "line 1, column 13: expected a whole number from -2^63 to 2^64 - 1",
+        "line 1, column 13: expected a whole number from -2^63 to 2^64 - 1, found `1.5`",
     ),
     (
         "a: at least 2 (/b exists)",
-        "line 1, column 15: expected `of` or a path",
+        "line 1, column 15: expected `of` or a path, found `(`",
     ),
     (
         "a: at least 2",
-        "line 1, column 14: expected `of` or a path",
+        "line 1, column 14: expected `of` or a path, found the end of the line",
     ),
     (
         "a: at least 2 of /b exists",
-        "line 1, column 18: expected `(`",
+        "line 1, column 18: expected `(`, found `/b`",
     ),
     (
         "a: at least 2 of ()",
-        "line 1, column 19: expected a path, `not`, `each`, `any`, `at` or `(`",
+        "line 1, column 19: expected a path, `not`, `each`, `any`, `at` or `(`, found `)`",
     ),
     (
         "a: at least 2 of (/b exists,)",
-        "line 1, column 29: expected a path, `not`, `each`, `any`, `at` or `(`",
+        "line 1, column 29: expected a path, `not`, `each`, `any`, `at` or `(`, found `)`",
     ),
     (
         "a: at least 2 of (, /b exists)",
-        "line 1, column 19: expected a path, `not`, `each`, `any`, `at` or `(`",
+        "line 1, column 19: expected a path, `not`, `each`, `any`, `at` or `(`, found `,`",
     ),
     (
         "a: at least 2 of (/b exists, /c exists",
-        "line 1, column 39: expected `,`, `)`, `or`, `xor` or `and`",
+        "line 1, column 39: expected `,`, `)`, `or`, `xor` or `and`, found the end of the line",
     ),
     (
         "a: at least 2 of (/b exists /c exists)",
-        "line 1, column 29: expected `,`, `)`, `or`, `xor` or `and`",
+        "line 1, column 29: expected `,`, `)`, `or`, `xor` or `and`, found `/c`",
     ),
     (
         "a: at least 2 /b / exists",
-        "line 1, column 18: expected `(`",
+        "line 1, column 18: expected `(`, found `/`",
     ),
     (
         "a: at least 2 /b (/ exists, / exists)",
-        "line 1, column 27: expected `)`, `or`, `xor` or `and`",
+        "line 1, column 27: expected `)`, `or`, `xor` or `and`, found `,`",
     ),
 ];
 
@@ -257,6 +272,90 @@ fn says_what_was_expected(rt: HostRuntime) -> Result<(), Fail> {
     Ok(())
 }
 
+// A slip of a rule, and what is told behind what was expected.
+const SLIPS: [(&str, &str); 34] = [
+    ("/b=1", "found `=`; did you mean `==`?"),
+    ("/b === 1", "found `===`; did you mean `==`?"),
+    ("/b =< 1", "found `=<`; did you mean `<=`?"),
+    ("/b <> 1", "found `<>`; did you mean `!=`?"),
+    ("/b is 1", "found `is`; did you mean `==`?"),
+    ("/b exists && /c exists", "found `&&`; did you mean `and`?"),
+    ("/b exists &&/c exists", "found `&&/c`; did you mean `and`?"),
+    ("/b exists || /c exists", "found `||`; did you mean `or`?"),
+    ("!/b exists", "found `!`; did you mean `not`?"),
+    (
+        "/b exists AND /c exists",
+        "found `AND`; did you mean `and`?",
+    ),
+    ("/b exists Or /c exists", "found `Or`; did you mean `or`?"),
+    ("NOT /b exists", "found `NOT`; did you mean `not`?"),
+    ("/b == True", "found `True`; did you mean `true`?"),
+    ("/b == NULL", "found `NULL`; did you mean `null`?"),
+    ("/b == nil", "found `nil`; did you mean `null`?"),
+    (
+        "/b == 'Zoe'",
+        "found `'Zoe'`; a text stands in double quotes",
+    ),
+    (
+        "/b == “Zoe”",
+        "found `“Zoe”`; a text stands in double quotes",
+    ),
+    ("/b == Zoe", "found `Zoe`; a text stands in double quotes"),
+    (
+        "/b contains Zoe",
+        "found `Zoe`; a text stands in double quotes",
+    ),
+    ("x == 1", "found `x`; a path begins with `/`"),
+    ("note==1", "found `note`; a path begins with `/`"),
+    ("$.x == 1", "found `$.x`; a path begins with `/`"),
+    (
+        "any lines (/b exists)",
+        "found `lines`; a path begins with `/`",
+    ),
+    (
+        "/b startswith \"c\"",
+        "found `startswith`; did you mean `starts_with`?",
+    ),
+    (
+        "/b starts-with \"c\"",
+        "found `starts-with`; did you mean `starts_with`?",
+    ),
+    (
+        "/b begins_with \"c\"",
+        "found `begins_with`; did you mean `starts_with`?",
+    ),
+    (
+        "/b contians \"c\"",
+        "found `contians`; did you mean `contains`?",
+    ),
+    ("/b isEmpty", "found `isEmpty`; did you mean `is_empty`?"),
+    ("all /b (/ exists)", "found `all`; did you mean `each`?"),
+    ("/b len 3", "found `len`"),
+    ("/b between 1 and 2", "found `between`"),
+    ("/b == .5", "found `.5`"),
+    ("/b {1}", "found `{1}`"),
+    (
+        "/b abcdefghijklmnopqrstuvwxyzabcdefghijk exists",
+        "found `abcdefghijklmnopqrstuvwxyzabcdef...`",
+    ),
+];
+
+// Whether the expression is refused at a place, for want of a token, and this is told behind it.
+fn tells(alloc: Global, text: &str, told: &str) -> Result<bool, AllocError> {
+    let line = format!(in alloc; "a: {text}")?;
+    let shown = shown(alloc, &line)?;
+    let end = format!(in alloc; ": expected a word, an operator, a path or a literal, {told}")?;
+    Ok(shown.starts_with("line 1, column ") && shown.ends_with(end.as_str()))
+}
+
+#[test]
+fn tells_what_was_likely_meant(rt: HostRuntime) -> Result<(), Fail> {
+    for (text, told) in &SLIPS {
+        assert!(rt; tells(rt.alloc(), text, told)?, "{text}");
+    }
+    Ok(())
+}
+
 // Whether this is why bytes have no rules, or they have some and it is `none`.
 fn has_fault(alloc: Global, text: &[u8], expected: &str) -> Result<bool, AllocError> {
     match read_rules(alloc, text) {
@@ -265,21 +364,33 @@ fn has_fault(alloc: Global, text: &[u8], expected: &str) -> Result<bool, AllocEr
     }
 }
 
-const NO_UTF8: [(&[u8], &str); 3] = [
+const RAW: [(&[u8], &str); 6] = [
+    (
+        b"a: /b == \x1b[31m",
+        "line 1, column 10: expected a word, an operator, a path or a literal, found `\\u{1b}`",
+    ),
+    (
+        b"a: /b matches \"[\x1b\x00",
+        "line 1, column 15: expected the quote that ends the text, found `\"[\\u{1b}\\0`",
+    ),
+    (
+        b"a: /b == \"\xc2\xa0\x07\xc2\x85\\\"",
+        "line 1, column 10: expected the quote that ends the text, found `\"\\u{a0}\\u{7}\\u{85}\\\"`",
+    ),
     (
         b"a\xff: /b exists",
-        "line 1, column 1: expected text in UTF-8",
+        "line 1, column 1: expected text in UTF-8, found `a\\xff`",
     ),
     (
         b"a: /b\xff exists",
-        "line 1, column 4: expected text in UTF-8",
+        "line 1, column 4: expected text in UTF-8, found `/b\\xff`",
     ),
     (b"# \xff", "none"),
 ];
 
 #[test]
-fn refuses_what_is_no_utf8(rt: HostRuntime) -> Result<(), Fail> {
-    for (text, expected) in &NO_UTF8 {
+fn escapes_what_does_not_print(rt: HostRuntime) -> Result<(), Fail> {
+    for (text, expected) in &RAW {
         assert!(rt; has_fault(rt.alloc(), text, expected)?, "{expected}");
     }
     Ok(())
@@ -319,12 +430,10 @@ fn ends_as(alloc: Global, times: u32, part: &str) -> Result<Ending, AllocError> 
     let text = repeated(alloc, times, part)?;
     let ending = match read_rules(alloc, text.as_bytes()) {
         Ok(rules) => ending_of(&rules),
-        Err(
-            RulesError::Unreadable {
-                reason: Reason::TooDeep,
-                ..
-            },
-        ) => Ending::TooDeep,
+        Err(RulesError::Unreadable(fault)) => match fault.reason {
+            Reason::TooDeep => Ending::TooDeep,
+            Reason::Expected(_) => Ending::Otherwise,
+        },
         Err(_) => Ending::Otherwise,
     };
     Ok(ending)
@@ -410,13 +519,7 @@ fn stops_on_the_last_line(alloc: Global, front: &[u8]) -> bool {
     }
     match read_rules(alloc, front) {
         Ok(rules) => rules.len() == line || rules.len() + 1 == line,
-        Err(
-            RulesError::Unreadable {
-                line: at,
-                column: place,
-                ..
-            },
-        ) => at == line && place <= column,
+        Err(RulesError::Unreadable(fault)) => fault.line == line && fault.column <= column,
         Err(RulesError::NoMemory) => false,
     }
 }

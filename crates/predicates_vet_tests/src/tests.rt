@@ -370,11 +370,11 @@ const REFUSED: [(&str, &str); 4] = [
     ),
     (
         "a: / exists\nb: /x ==",
-        "line 2, column 9: expected a literal",
+        "line 2, column 9: expected a literal, found the end of the line",
     ),
     (
         "a / exists",
-        "line 1, column 2: expected `:` behind the name of a rule",
+        "line 1, column 2: expected `:` behind the name of a rule, found `/`",
     ),
 ];
 

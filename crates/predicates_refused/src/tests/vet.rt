@@ -68,7 +68,7 @@ const RULES: [(&str, &[u8], &str, Memory); 4] = [
     (
         "read_checks of a fault",
         b"a: / exists\nb: / >=",
-        "line 2, column 8: expected a literal",
+        "line 2, column 8: expected a literal, found the end of the line",
         GoesOn,
     ),
 ];

@@ -170,7 +170,7 @@ const ROWS: [Row; 28] = [
         Closed::Neither,
         2,
         "",
-        "vet: rules: line 3, column 8: expected a literal\n",
+        "vet: rules: line 3, column 8: expected a literal, found the end of the line\n",
     ),
     (
         PLAIN,

@@ -1,0 +1,171 @@
+//! What was likely meant where a rule could not be read.
+
+use crate::fixed::{ALL, fixed_of, text};
+use std::alloc::{AllocError, Global};
+use std::fmt;
+use std::str::from_utf8;
+use strsim::levenshtein;
+
+/// What was likely meant where a rule could not be read.
+#[derive(Clone, Copy, Debug, PartialEq, Eq)]
+pub enum Hint {
+    /// This word or operator.
+    Meant(&'static str),
+    /// A path, whose `/` is missing.
+    Path,
+    /// A text, whose double quotes are missing.
+    Text,
+}
+
+impl fmt::Display for Hint {
+    fn fmt<W: fmt::Write>(&self, f: &mut fmt::Formatter<W>) -> fmt::Result {
+        match self {
+            Hint::Meant(word) => write!(f, "did you mean `{word}`?"),
+            Hint::Path => f.write_str("a path begins with `/`"),
+            Hint::Text => f.write_str("a text stands in double quotes"),
+        }
+    }
+}
+
+// What other languages write, and what a rule writes.
+const OTHER_NAMES: [(&str, &str); 22] = [
+    ("=", "=="),
+    ("===", "=="),
+    ("!==", "!="),
+    ("<>", "!="),
+    ("=<", "<="),
+    ("=>", ">="),
+    ("!", "not"),
+    ("is", "=="),
+    ("eq", "=="),
+    ("equals", "=="),
+    ("ne", "!="),
+    ("lt", "<"),
+    ("le", "<="),
+    ("gt", ">"),
+    ("ge", ">="),
+    ("all", "each"),
+    ("every", "each"),
+    ("some", "any"),
+    ("empty", "is_empty"),
+    ("begins_with", "starts_with"),
+    ("like", "matches"),
+    ("nil", "null"),
+];
+
+fn other_name(word: &str) -> Option<&'static str> {
+    for (other, meant) in OTHER_NAMES {
+        if other.eq_ignore_ascii_case(word) {
+            return Some(meant);
+        }
+    }
+    None
+}
+
+// Longer ones are misspelt from no word.
+const LONGEST_WORD: usize = 16;
+
+// The word of rules that is nearest, if less than a third of the letters differ.
+fn nearest(alloc: Global, word: &str) -> Result<Option<&'static str>, AllocError> {
+    if word.len() > LONGEST_WORD {
+        return Ok(None);
+    }
+    let mut lower = String::from_str(alloc, word)?;
+    lower.make_ascii_lowercase();
+    let mut limit = lower.len() / 3 + 1;
+    let mut found = None;
+    for fixed in ALL {
+        if let Ok(known) = from_utf8(text(fixed)) {
+            let distance = levenshtein(alloc, &lower, known)?;
+            if distance < limit {
+                limit = distance;
+                found = Some(known);
+            }
+        }
+    }
+    Ok(found)
+}
+
+// What stands at a place by what is before it.
+enum Place {
+    Expression,
+    Literal,
+    Unknown,
+}
+
+fn last_word(text: &[u8]) -> &[u8] {
+    match text
+        .rsplit(|b| !b.is_ascii_alphanumeric() && *b != b'_')
+        .next()
+    {
+        Some(word) => word,
+        None => text,
+    }
+}
+
+fn place_behind(before: &[u8]) -> Place {
+    let before = before.trim_ascii_end();
+    match before.last() {
+        Some(b':' | b'(') => return Place::Expression,
+        Some(b'=' | b'<' | b'>' | b'[') => return Place::Literal,
+        _ => {}
+    }
+    match last_word(before) {
+        b"not" | b"and" | b"or" | b"xor" | b"each" | b"any" => Place::Expression,
+        b"starts_with" | b"ends_with" | b"contains" | b"matches" => Place::Literal,
+        _ => Place::Unknown,
+    }
+}
+
+// Whether an operator is next.
+fn is_compared(after: &[u8]) -> bool {
+    match after.trim_ascii_start() {
+        [b'=' | b'!' | b'<' | b'>', ..] => true,
+        _ => false,
+    }
+}
+
+// Of a word that is none of the words of rules.
+fn unknown_word(
+    alloc: Global,
+    before: &[u8],
+    word: &str,
+    after: &[u8],
+) -> Result<Option<Hint>, AllocError> {
+    if is_compared(after) {
+        return Ok(Some(Hint::Path));
+    }
+    if let Some(meant) = nearest(alloc, word)? {
+        return Ok(Some(Hint::Meant(meant)));
+    }
+    Ok(match place_behind(before) {
+        Place::Expression => Some(Hint::Path),
+        Place::Literal => Some(Hint::Text),
+        Place::Unknown => None,
+    })
+}
+
+/// What `found` was likely meant as, between what is before it on its line and what is after it.
+pub fn hint_at(
+    alloc: Global,
+    before: &[u8],
+    found: &[u8],
+    after: &[u8],
+) -> Result<Option<Hint>, AllocError> {
+    let Ok(word) = from_utf8(found) else {
+        return Ok(None);
+    };
+    if let Some(meant) = other_name(word) {
+        return Ok(Some(Hint::Meant(meant)));
+    }
+    match word.chars().next() {
+        Some('&') => Ok(Some(Hint::Meant("and"))),
+        Some('|') => Ok(Some(Hint::Meant("or"))),
+        Some('\'' | '\u{2018}' | '\u{201c}') => Ok(Some(Hint::Text)),
+        Some(c) if c.is_alphabetic() || c == '_' || c == '$' => match fixed_of(found) {
+            Some(_) => Ok(None),
+            None => unknown_word(alloc, before, word, after),
+        },
+        _ => Ok(None),
+    }
+}
