@@ -112,17 +112,21 @@ is_mark b = b == 40 || b == 41 || b == 44 || b == 91 || b == 93
 abbrev pub is_space : ℕ → Bool
 is_space b = b == 32 || b == 9 || b == 13
 
+-- no character of a line, though a space may be one
+abbrev pub is_control : ℕ → Bool
+is_control b = nat_le b 31 || b == 127
+
 -- the token that the byte begins; a number may begin with a minus
 abbrev pub class_of : ℕ → Class
 class_of b = if is_letter b then Letter else if is_digit b || b == 45 then Digit else if is_symbol b then Symbol else if is_mark b then Mark else if b == 47 then Slash else if b == 34 then Quote else Other
 
--- Which bytes belong together. A path ends at a space, a mark, an operator and a comment; the name
--- of a rule has letters, digits, _ - . and bytes beyond ASCII.
+-- Which bytes belong together. A path ends at a space, a mark, an operator, a comment and a control
+-- character; the name of a rule has letters, digits, _ - . and bytes beyond ASCII.
 abbrev pub continues : Class → ℕ → Bool
 continues Letter b = is_letter b || is_digit b
 continues Digit b = is_letter b || is_digit b || b == 43 || b == 45 || b == 46
 continues Symbol b = is_symbol b
-continues Slash b = not (is_space b || is_mark b || is_symbol b || b == 35)
+continues Slash b = not (is_space b || is_mark b || is_symbol b || b == 35 || is_control b)
 continues Space b = is_space b
 continues Name b = is_letter b || is_digit b || b == 45 || b == 46 || nat_le 128 b
 continues c b = false

@@ -1,7 +1,7 @@
 -- Which text says which rules.
-use Rattle.std.specs.Prelude.{◌≡◌, ℕ, ◌<◌, ◌==◌, true, List, [], ◌∷◌, ◌++◌, map, length, drop, string_bytes, Vec, Option, Some, None, Result, Ok, Err}
+use Rattle.std.specs.Prelude.{◌≡◌, ℕ, ◌<◌, ◌==◌, nat_eq, true, List, [], ◌∷◌, ◌++◌, map, length, drop, string_bytes, Vec, Option, Some, None, if◌then◌else◌, Result, Ok, Err}
 use Rattle.std.specs.declared.alloc.Global.{Global}
-use Rattle.std.specs.List.{prefix_len, list_all, slice_split}
+use Rattle.std.specs.List.{prefix_len, list_all, slice_split, starts_with}
 use Rattle.std.specs.Str.{is_utf8}
 use Rattle.predicates_rules.specs.declared.lexer.Class.TheVariants.{Space, Name}
 use Rattle.predicates_rules.specs.declared.rule.Rule.{Rule}
@@ -35,9 +35,16 @@ pub data AreRules : ℕ → List (List ℕ) → List (List ℕ × Tree) → Type
   skipped : {n : ℕ} {line : List ℕ} {lines : List (List ℕ)} {rs : List (List ℕ × Tree)} → IsLine n line None → AreRules n lines rs → AreRules n (line ∷ lines) rs
   taken : {n : ℕ} {line : List ℕ} {r : List ℕ × Tree} {lines : List (List ℕ)} {rs : List (List ℕ × Tree)} → IsLine n line (Some r) → AreRules n lines rs → AreRules n (line ∷ lines) (r ∷ rs)
 
--- the lines of a text, which line feeds part
+-- the byte order mark that an editor may put before a text
+abbrev pub mark : List ℕ
+mark = 239 ∷ 187 ∷ 191 ∷ []
+
+abbrev pub without_mark : List ℕ → List ℕ
+without_mark text = if starts_with nat_eq text mark then drop 3 text else text
+
+-- the lines of a text, which line feeds part, without its byte order mark
 abbrev pub lines_of : List ℕ → List (List ℕ)
-lines_of text = slice_split (λ b. b == 10) text
+lines_of text = slice_split (λ b. b == 10) (without_mark text)
 
 -- the rules of a text
 abbrev pub AreRulesOf : ℕ → List ℕ → List (List ℕ × Tree) → Type 0

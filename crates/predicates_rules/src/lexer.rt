@@ -4,7 +4,7 @@ ghost use Rattle.std.specs.Prelude.{◌≡◌, ℕ, ◌+◌, ◌≤◌, List, ma
 ghost use Rattle.std.specs.List.{prefix_len};
 ghost use Rattle.serde_json.specs.View.{view, number_view};
 ghost use Rattle.predicates_rules.specs.Trees.{Sign, sign_of, value_of};
-ghost use Rattle.predicates_rules.specs.Lexemes.{class_of, continues, is_space, is_over, text_end, token_len, cut, pointer, IsLexed};
+ghost use Rattle.predicates_rules.specs.Lexemes.{class_of, continues, is_control, is_space, is_over, text_end, token_len, cut, pointer, IsLexed};
 ghost use Rattle.predicates_rules.specs.Scanning.{number_in, value_in, value_at, front_class, sign_in, token_at, after_space, placed};
 ghost use Rattle.predicates_rules.specs.Answers.{Gives, IsStop, stop_at};
 ghost use Rattle.predicates_rules.specs.Faults.{NoToken, told_class, told_len};
@@ -52,6 +52,12 @@ fn is_blank(b: u8) -> bool
     b == b' ' || b == b'\t' || b == b'\r'
 }
 
+fn is_control(b: u8) -> bool
+    ensures { result ≡ is_control b }
+{
+    b < b' ' || b == 127
+}
+
 fn belongs(class: Class, b: u8) -> bool
     ensures { result ≡ continues class b }
 {
@@ -63,7 +69,7 @@ fn belongs(class: Class, b: u8) -> bool
         Class::Symbol => b'<' <= b && b <= b'>' || b == b'!',
         Class::Slash => match class_at(b) {
             Class::Mark | Class::Symbol => false,
-            _ => !(is_blank(b) || b == b'#'),
+            _ => !(is_blank(b) || b == b'#' || is_control(b)),
         },
         Class::Space => is_blank(b),
         Class::Name => b.is_ascii_alphanumeric() || b == b'_' || b == b'-' || b == b'.' || 128 <= b,

@@ -6,7 +6,7 @@ ghost use Rattle.predicates_rules.specs.Trees.{Tree};
 ghost use Rattle.predicates_rules.specs.declared.expression.Connective.TheVariants.{Or};
 ghost use Rattle.predicates_rules.specs.Grammar.{By, max_depth};
 ghost use Rattle.predicates_rules.specs.Printing.{IsProper, IsPlain, nesting_at, printed};
-ghost use Rattle.predicates_rules.specs.Rules.{AreRules, AreRulesOf, AreRead, IsLine, Says, lines_of, rule_of};
+ghost use Rattle.predicates_rules.specs.Rules.{AreRules, AreRulesOf, AreRead, IsLine, Says, lines_of, without_mark, rule_of};
 ghost use Rattle.predicates_rules.specs.Faults.{IsFaultAt, IsFaultOf, IsErrorAt, IsLineError, IsSyntaxError};
 
 use crate::error::RulesError;
@@ -82,10 +82,21 @@ fn rule_at(alloc: Global, number: usize, line: &[u8]) -> Result<Option<Rule>, Ru
     }
 }
 
+/// What a text says, behind the byte order mark that an editor may have put before it.
+pub fn without_mark(text: &[u8]) -> &[u8]
+    ensures { result.now ≡ without_mark text.now }
+{
+    if text.starts_with(b"\xef\xbb\xbf") {
+        &text[3..]
+    } else {
+        text
+    }
+}
+
 fn parted<'a>(alloc: Global, text: &'a [u8]) -> Result<Vec<&'a [u8]>, AllocError>
     ensures { IfOk result (λ v. map (λ x. x.now) v.items ≡ lines_of text.now) }
 {
-    text.split(|b| *b == b'\n').collect(alloc)
+    without_mark(text).split(|b| *b == b'\n').collect(alloc)
 }
 
 fn rules_of(alloc: Global, lines: &[&[u8]]) -> Result<Vec<Rule>, RulesError>
@@ -108,7 +119,8 @@ fn rules_of(alloc: Global, lines: &[&[u8]]) -> Result<Vec<Rule>, RulesError>
 
 /// Reads the rules of a file, one on a line: `NAME: EXPRESSION`.
 ///
-/// `#` begins a comment, blank lines are skipped, tabs and carriage returns count as spaces. A name
+/// `#` begins a comment, blank lines are skipped, tabs and carriage returns count as spaces. A byte
+/// order mark before the text is skipped, and no column counts it. A name
 /// has letters, digits, `_`, `-`, `.` and any characters beyond ASCII, and may stand on more than
 /// one line. What nests deeper than 100 is refused as `TooDeep`. Takes memory for the lines, the
 /// tokens of a line and the rules.

@@ -31,7 +31,11 @@ fn shows(alloc: Global, text: &str, expected: &str) -> Result<bool, AllocError> 
 }
 
 // A text, and the rules that it says, as `Debug` shows them.
-const READ: [(&str, &str); 13] = [
+const READ: [(&str, &str); 14] = [
+    (
+        "\u{feff}# a\na: /b == 1",
+        "Rule { name: \"a\", expression: Test(\"/b\", Compare(Equal, Natural(1))) }\n",
+    ),
     (
         SAMPLE,
         "Rule { name: \"adult\", expression: Test(\"/age\", Compare(AtLeast, Natural(18))) }\nRule { name: \"known\", expression: Joined(Or, [Test(\"/name\", Relate(StartsWith, \"A\")), Test(\"/name\", Compare(Equal, Text(\"Zoe\")))]) }\nRule { name: \"seated\", expression: Joined(And, [Test(\"/seat\", Is(Exists)), Not(Test(\"/seat\", In([Natural(13), Natural(17)])))]) }\nRule { name: \"lines\", expression: Quantified(Each, \"/lines\", Joined(And, [Test(\"/quantity\", Compare(AtLeast, Natural(1))), Test(\"/sku\", Relate(Matches, \"^[A-Z]{3}$\"))])) }\n",
@@ -364,7 +368,16 @@ fn has_fault(alloc: Global, text: &[u8], expected: &str) -> Result<bool, AllocEr
     }
 }
 
-const RAW: [(&[u8], &str); 6] = [
+const RAW: [(&[u8], &str); 9] = [
+    (b"\xef\xbb\xbfa: /b == 1", "none"),
+    (
+        b"\xef\xbb\xbfa: /b == x\n",
+        "line 1, column 10: expected a word, an operator, a path or a literal, found `x`; a text stands in double quotes",
+    ),
+    (
+        b"a: /b\x1bc == 1",
+        "line 1, column 6: expected a word, an operator, a path or a literal, found `\\u{1b}c`",
+    ),
     (
         b"a: /b == \x1b[31m",
         "line 1, column 10: expected a word, an operator, a path or a literal, found `\\u{1b}`",

@@ -7,7 +7,8 @@ ghost use Rattle.predicates_rules.specs.Trees.{Tree};
 ghost use Rattle.predicates_vet.specs.RulesFile.{IsCheckOf};
 
 use predicates_rules::error::RulesError;
-use predicates_rules::rule::{Rule, read_rules};
+use predicates_rules::quoted::Quoted;
+use predicates_rules::rule::{Rule, read_rules, without_mark};
 use predicates_vet_check::{CheckError, RuleCheck, check_of};
 use std::alloc::{AllocError, AllocFailed, Global};
 use std::error::Error;
@@ -38,7 +39,9 @@ impl fmt::Display for ReadChecksError {
                 pattern,
             } => write!(
                 f,
-                "line {line}, rule {rule}: no regular expression: {pattern}"
+                "line {line}, rule {}: no regular expression: {}",
+                Quoted(rule.as_bytes()),
+                Quoted(pattern.as_bytes())
             ),
         }
     }
@@ -69,7 +72,7 @@ fn has_rule(line: &[u8]) -> bool {
 // The line, from 1, of the rule that has this many before it.
 fn line_of(text: &[u8], before: usize) -> usize {
     let mut left = before;
-    for (index, line) in text.split(|byte| *byte == b'\n').enumerate() {
+    for (index, line) in without_mark(text).split(|byte| *byte == b'\n').enumerate() {
         if has_rule(line) {
             if left == 0 {
                 return index.saturating_add(1);

@@ -359,7 +359,7 @@ fn is_refused(alloc: Global, rules: &str, message: &str) -> Result<bool, AllocEr
 }
 
 // Rules, and why they are not read.
-const REFUSED: [(&str, &str); 4] = [
+const REFUSED: [(&str, &str); 5] = [
     (
         "a: / matches \"[\"",
         "line 1, rule a: no regular expression: [",
@@ -367,6 +367,10 @@ const REFUSED: [(&str, &str); 4] = [
     (
         "# a\n\nb: / exists\r\n \t# c\nb: / matches \"[\"",
         "line 5, rule b: no regular expression: [",
+    ),
+    (
+        "\u{feff}# a\nb: / matches \"[\"",
+        "line 2, rule b: no regular expression: [",
     ),
     (
         "a: / exists\nb: /x ==",
