@@ -1,8 +1,8 @@
 -- A token at the front of a text.
 use Rattle.std.proofs.Common.{◌≡◌, ℕ, suc, ◌+◌, ◌<◌, ◌≤◌, Bool, true, false, cond, List, [], ◌∷◌, length, get_or, take, drop, Option, Some, None, Result, Ok, Err, refl, sym, ap, subst, ◌∙◌, arith, length-drop, drop-cons}
 use Rattle.std.specs.Prelude.{◌&&◌, not, ◌==◌, option_map, option_and_then}
-use Rattle.std.specs.List.{find, prefix_len}
-use Rattle.std.specs.Str.{IsUtf8, is_utf8, bytes_eq}
+use Rattle.std.specs.List.{find, list_any, prefix_len}
+use Rattle.std.specs.Str.{IsUtf8, is_utf8, chars, bytes_eq}
 use Rattle.std.proofs.lemmas.Str.{IsUtf8-from_is_utf8, is_utf8-from_IsUtf8}
 use Rattle.std.proofs.lemmas.Slice.Eq.{bytes_eq-Decides}
 use Rattle.serde_json.specs.Data.{Num, unsigned, negative, float, Data, null, boolean, number, string, array, object}
@@ -16,7 +16,7 @@ use Rattle.predicates_rules.specs.declared.error.Expected.TheVariants as expecte
 use Rattle.predicates_rules.specs.declared.stop.Stop.{Stop}
 use Rattle.predicates_rules.specs.Trees.{Value, Natural, Negative, Text, Boolean, Null, Sign, Path, Plain}
 use Rattle.predicates_rules.specs.Answers.{◌>>=◌, stop_at}
-use Rattle.predicates_rules.specs.Lexemes.{text_of, sign_of_fixed, all_fixed, fixed_at, class_of, continues, text_end, class_len, cut, data_of, begins_literal, pointer, IsWritten, fixed_text, literal, path}
+use Rattle.predicates_rules.specs.Lexemes.{text_of, sign_of_fixed, all_fixed, fixed_at, class_of, continues, text_end, class_len, cut, data_of, begins_literal, is_hidden, is_shown, pointer, IsWritten, fixed_text, literal, path}
 use Rattle.predicates_rules.specs.Scanning.{number_in, value_in, value_at, sign_or, value_or, path_or, front_class, sign_in, with_word, token_at}
 use Rattle.predicates_rules.proofs.Loop.{ok_is}
 
@@ -90,15 +90,23 @@ value_is word v e = value_by (is_utf8 word) (read word) v e
 
 -- ---- words of one token
 
-pub path_given : (c : Class) (left : ℕ) (word text p : List ℕ) → c ≡ Slash → IsUtf8 word → text ≡ word → ◌≡◌ {A = Result (List ℕ) Stop} (Ok (pointer text)) (Ok p) → sign_in c left word ≡ Ok (Path p)
+pub text_shows : (word text : List ℕ) → IsUtf8 word → text ≡ word → list_any is_hidden (chars text) ≡ false → is_shown word ≡ true
+unfolding is_shown
+text_shows word text u same h = rw (is_utf8-from_IsUtf8 word u, subst (λ (w : List ℕ). list_any is_hidden (chars w) ≡ false) same h) refl
+
+pub no_text_shows : (word : List ℕ) → (IsUtf8 word → ⊥) → is_shown word ≡ false
+unfolding is_shown
+no_text_shows word h = rw (utf8_is_false word h) refl
+
+pub path_given : (c : Class) (left : ℕ) (word text p : List ℕ) → c ≡ Slash → is_shown word ≡ true → text ≡ word → ◌≡◌ {A = Result (List ℕ) Stop} (Ok (pointer text)) (Ok p) → sign_in c left word ≡ Ok (Path p)
 unfolding sign_in
 path_given c left word text p s u same e =
     let e' : pointer word ≡ p = subst (λ (w : List ℕ). pointer w ≡ p) same (ok_is (pointer text) p e) in
-    rw (s, is_utf8-from_IsUtf8 word u, e') refl
+    rw (s, u, e') refl
 
-pub path_lacking : (c : Class) (left : ℕ) (word : List ℕ) → c ≡ Slash → (IsUtf8 word → ⊥) → sign_in c left word ≡ Err (stop_at expected.Utf8 left)
+pub path_lacking : (c : Class) (left : ℕ) (word : List ℕ) → c ≡ Slash → is_shown word ≡ false → sign_in c left word ≡ Err (stop_at expected.Utf8 left)
 unfolding sign_in
-path_lacking c left word s h = rw (s, utf8_is_false word h) refl
+path_lacking c left word s h = rw (s, h) refl
 
 fixed_again : (left : ℕ) (f : Fixed) → sign_in (front_class (text_of f)) left (text_of f) ≡ Ok (sign_of_fixed f)
 unfolding sign_in fixed_at
@@ -140,7 +148,7 @@ literal_in Digit left word v h e = rw e refl
 literal_in Quote left word v h e = rw e refl
 literal_in c left word v h e = absurd cc
 
-path_in : (c : Class) (left : ℕ) (word : List ℕ) → c ≡ Slash → is_utf8 word ≡ true → sign_in c left word ≡ Ok (Path (pointer word))
+path_in : (c : Class) (left : ℕ) (word : List ℕ) → c ≡ Slash → is_shown word ≡ true → sign_in c left word ≡ Ok (Path (pointer word))
 unfolding sign_in
 path_in c left word s u = rw (s, u) refl
 
@@ -172,7 +180,7 @@ literal_is x left b bytes t (Some v) c e h =
     let q = value_is (b ∷ bytes) v e in
     subst (λ (s : Sign). IsWritten s (b ∷ bytes)) (ok_is (Plain v) t h) (literal b bytes v c q.0 q.1)
 
-path_is : (left b : ℕ) (bytes : List ℕ) (t : Sign) (u : Bool) → class_of b ≡ Slash → is_utf8 (b ∷ bytes) ≡ u → path_or left (b ∷ bytes) u ≡ Ok t → IsWritten t (b ∷ bytes)
+path_is : (left b : ℕ) (bytes : List ℕ) (t : Sign) (u : Bool) → class_of b ≡ Slash → is_shown (b ∷ bytes) ≡ u → path_or left (b ∷ bytes) u ≡ Ok t → IsWritten t (b ∷ bytes)
 path_is left b bytes t false c e h = absurd cc
 path_is left b bytes t true c e h = subst (λ (s : Sign). IsWritten s (b ∷ bytes)) (ok_is (Path (pointer (b ∷ bytes))) t h) (path b bytes c e)
 
@@ -183,7 +191,7 @@ written_by Symbol left b bytes t c h = word_is left (b ∷ bytes) t (fixed_at (b
 written_by Mark left b bytes t c h = word_is left (b ∷ bytes) t (fixed_at (b ∷ bytes)) refl h
 written_by Digit left b bytes t c h = literal_is expected.Number left b bytes t (value_at (b ∷ bytes)) (ap begins_literal c) refl h
 written_by Quote left b bytes t c h = literal_is expected.Escapes left b bytes t (value_at (b ∷ bytes)) (ap begins_literal c) refl h
-written_by Slash left b bytes t c h = path_is left b bytes t (is_utf8 (b ∷ bytes)) c refl h
+written_by Slash left b bytes t c h = path_is left b bytes t (is_shown (b ∷ bytes)) c refl h
 written_by c left b bytes t d h = absurd cc
 
 written_is : (left : ℕ) (word : List ℕ) (t : Sign) → sign_in (front_class word) left word ≡ Ok t → IsWritten t word

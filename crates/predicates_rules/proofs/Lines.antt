@@ -2,8 +2,6 @@
 use Rattle.std.proofs.Common.{◌≡◌, ℕ, zero, suc, ◌+◌, ◌<◌, Bool, true, false, cond, List, [], ◌∷◌, ◌++◌, map, length, take, drop, Option, Some, None, Result, Ok, Err, refl, sym, ap, subst, ◌∙◌, arith, one-add}
 use Rattle.std.specs.Prelude.{◌&&◌, ◌==◌}
 use Rattle.std.specs.List.{prefix_len, list_all}
-use Rattle.std.specs.Str.{IsUtf8, is_utf8}
-use Rattle.std.proofs.lemmas.Str.{is_utf8-from_IsUtf8}
 use Rattle.std.proofs.lemmas.Bool.{eqb-true}
 use Rattle.std.proofs.lemmas.Bool.Decides.{nat_tests}
 use Rattle.std.proofs.lemmas.List.{take_at, drop_at, take-append-drop}
@@ -15,11 +13,11 @@ use Rattle.predicates_rules.specs.declared.stop.ReadError.TheVariants as errors
 use Rattle.predicates_rules.specs.Trees.{Sign, Tree}
 use Rattle.predicates_rules.specs.Grammar.{IsSpelled}
 use Rattle.predicates_rules.specs.Answers.{◌>>=◌, Fails, stops}
-use Rattle.predicates_rules.specs.Lexemes.{continues, is_over}
+use Rattle.predicates_rules.specs.Lexemes.{continues, is_over, is_shown}
 use Rattle.predicates_rules.specs.Rules.{Says, after_spaces, Heads, IsLine, blank, rule, AreRules, no_more, skipped, taken}
 use Rattle.predicates_rules.specs.Heading.{after_colon, named, head_at}
 use Rattle.predicates_rules.proofs.Loop.{ok_is}
-use Rattle.predicates_rules.proofs.Lexed.{some_is, utf8_is_false}
+use Rattle.predicates_rules.proofs.Lexed.{some_is}
 use Rattle.predicates_rules.proofs.Grow.{one_tree}
 use Rattle.predicates_rules.proofs.LexLoop.{one_lexing}
 
@@ -46,7 +44,7 @@ run_passes p (b ∷ text) = passes_more p b text (p b) refl (run_passes p text)
 no_colon_in_name : (text : List ℕ) → prefix_len (continues Name) (58 ∷ text) ≡ 0
 no_colon_in_name text = refl
 
-heads_again : (name text : List ℕ) → 0 < length name → list_all (continues Name) name ≡ true → is_utf8 name ≡ true → head_at (name ++ 58 ∷ text) ≡ Ok (name, text)
+heads_again : (name text : List ℕ) → 0 < length name → list_all (continues Name) name ≡ true → is_shown name ≡ true → head_at (name ++ 58 ∷ text) ≡ Ok (name, text)
 unfolding head_at
 heads_again [] text lt h u = absurd (omega arith)
 heads_again (b ∷ name) text lt h u =
@@ -72,22 +70,22 @@ name_ok (Ok text) name x h =
     (ap (λ (y : List ℕ × List ℕ). y.0) same, ap (λ (y : List ℕ × List ℕ). Ok y.1) same)
 name_ok (Err s) name x h = absurd cc
 
-utf8_then : (u : Bool) (left : ℕ) (r : Result (List ℕ × List ℕ) Stop) (x : List ℕ × List ℕ) → cond u r (stops expected.Utf8 left) ≡ Ok x → (u ≡ true) × (r ≡ Ok x)
-utf8_then true left r x h = (refl, h)
-utf8_then false left r x h = absurd cc
+shown_then : (u : Bool) (left : ℕ) (r : Result (List ℕ × List ℕ) Stop) (x : List ℕ × List ℕ) → cond u r (stops expected.Utf8 left) ≡ Ok x → (u ≡ true) × (r ≡ Ok x)
+shown_then true left r x h = (refl, h)
+shown_then false left r x h = absurd cc
 
 named_is : (line : List ℕ) (k : ℕ) (x : List ℕ × List ℕ) → k ≡ prefix_len (continues Name) line → named k line ≡ Ok x
-    → (0 < length x.0) × (list_all (continues Name) x.0 ≡ true) × (is_utf8 x.0 ≡ true) × (line ≡ x.0 ++ 58 ∷ x.1)
+    → (0 < length x.0) × (list_all (continues Name) x.0 ≡ true) × (is_shown x.0 ≡ true) × (line ≡ x.0 ++ 58 ∷ x.1)
 named_is line zero x e h = absurd cc
 named_is [] (suc k) x e h = absurd (omega (arith, e))
 named_is (b ∷ line) (suc k) x e h =
-    let u = utf8_then (is_utf8 (take (suc k) (b ∷ line))) (length (b ∷ line)) (after_colon (drop (suc k) (b ∷ line)) >>= λ text. Ok (take (suc k) (b ∷ line), text)) x h in
+    let u = shown_then (is_shown (take (suc k) (b ∷ line))) (length (b ∷ line)) (after_colon (drop (suc k) (b ∷ line)) >>= λ text. Ok (take (suc k) (b ∷ line), text)) x h in
     let c = name_ok (after_colon (drop (suc k) (b ∷ line))) (take (suc k) (b ∷ line)) x u.1 in
     let passes = subst (λ (n : ℕ). list_all (continues Name) (take n (b ∷ line)) ≡ true) (sym e) (run_passes (continues Name) (b ∷ line)) in
     let some : 0 < length (b ∷ take k line) = omega arith in (
       subst (λ (w : List ℕ). 0 < length w) c.0 some,
       subst (λ (w : List ℕ). list_all (continues Name) w ≡ true) c.0 passes,
-      subst (λ (w : List ℕ). is_utf8 w ≡ true) c.0 u.0,
+      subst (λ (w : List ℕ). is_shown w ≡ true) c.0 u.0,
       sym (take-append-drop (suc k) (b ∷ line)) ∙ ap (λ (w : List ℕ). w ++ drop (suc k) (b ∷ line)) c.0 ∙ ap (λ (w : List ℕ). x.0 ++ w) (colon_is (drop (suc k) (b ∷ line)) x.1 c.1),
     )
 
@@ -96,16 +94,16 @@ unfolding head_at
 head_is line name text h = named_is (after_spaces line) (prefix_len (continues Name) (after_spaces line)) (name, text) refl h
 
 by_name : (line name : List ℕ) (k : ℕ) → (k ≡ 0 → ⊥) → k ≡ prefix_len (continues Name) line → name ≡ take k line
-    → head_at line ≡ cond (is_utf8 name) (after_colon (drop k line) >>= λ text. Ok (name, text)) (stops expected.Utf8 (length line))
+    → head_at line ≡ cond (is_shown name) (after_colon (drop k line) >>= λ text. Ok (name, text)) (stops expected.Utf8 (length line))
 unfolding head_at
 by_name line name zero some e n = absurd (some refl)
 by_name line name (suc k) some e n = ap (λ (m : ℕ). named m line) (sym e) ∙ rw n refl
 
-pub head_no_text : (line name : List ℕ) (k : ℕ) → (k ≡ 0 → ⊥) → k ≡ prefix_len (continues Name) line → name ≡ take k line → (IsUtf8 name → ⊥) → head_at line ≡ stops expected.Utf8 (length line)
-head_no_text line name k some e n u = by_name line name k some e n ∙ rw (utf8_is_false name u) refl
+pub head_no_text : (line name : List ℕ) (k : ℕ) → (k ≡ 0 → ⊥) → k ≡ prefix_len (continues Name) line → name ≡ take k line → is_shown name ≡ false → head_at line ≡ stops expected.Utf8 (length line)
+head_no_text line name k some e n u = by_name line name k some e n ∙ rw u refl
 
-pub head_named : (line name : List ℕ) (k : ℕ) → (k ≡ 0 → ⊥) → k ≡ prefix_len (continues Name) line → name ≡ take k line → IsUtf8 name → head_at line ≡ (after_colon (drop k line) >>= λ text. Ok (name, text))
-head_named line name k some e n u = by_name line name k some e n ∙ rw (is_utf8-from_IsUtf8 name u) refl
+pub head_named : (line name : List ℕ) (k : ℕ) → (k ≡ 0 → ⊥) → k ≡ prefix_len (continues Name) line → name ≡ take k line → is_shown name ≡ true → head_at line ≡ (after_colon (drop k line) >>= λ text. Ok (name, text))
+head_named line name k some e n u = by_name line name k some e n ∙ rw u refl
 
 abbrev with_name : List ℕ → List ℕ → Result (List ℕ × List ℕ) Stop
 with_name name text = Ok (name, text)

@@ -2,12 +2,13 @@
 use Rattle.std.proofs.Common.{◌≡◌, true≢false, ℕ, suc, ◌+◌, ◌<◌, ◌≤◌, ◌^◌, ◌/◌, ◌%◌, pos, negsuc, Bool, true, false, cond, List, [], ◌∷◌, ◌++◌, map, length, Option, Some, None, option_map, refl, sym, ap, subst, ◌∙◌, arith, append_assoc, append-nil, length-append}
 use Rattle.std.specs.Prelude.{◌==◌, nat_lt, option_and_then}
 use Rattle.std.specs.List.{prefix_len, list_all}
-use Rattle.std.specs.Str.{IsUtf8, is_utf8}
+use Rattle.std.specs.Str.{IsAscii, IsUtf8, is_utf8}
 use Rattle.std.specs.Str.Parse.{AllDigits, IsNumeral}
 use Rattle.std.specs.Int.{IsInRange}
 use Rattle.std.specs.Fmt.{decimal, signed_decimal}
 use Rattle.std.specs.Char.{digit_char}
-use Rattle.std.proofs.lemmas.Str.{is_utf8-from_IsUtf8, IsUtf8-from_ascii}
+use Rattle.std.proofs.lemmas.Str.{chars-IsAscii, is_utf8-from_IsUtf8, IsUtf8-from_ascii}
+use Rattle.std.proofs.lemmas.Str.Ascii.{IsAscii-cons, IsAscii-nil}
 use Rattle.std.proofs.lemmas.Str.Parse.{digit_from_value}
 use Rattle.std.proofs.lemmas.Fmt.{decimal_is_IsNumeral, IsAscii-decimal, IsAscii-signed}
 use Rattle.std.proofs.lemmas.Bool.{ltb-true, eqb-true}
@@ -21,7 +22,7 @@ use Rattle.json.specs.Print.{print_from, quoted, escape, escape_letter, escape_b
 use Rattle.json.proofs.Printed.Trees.{value-json_tokens, ArePrintable-json_tokens}
 use Rattle.json.proofs.Printed.Tokens.{tokens-print}
 use Rattle.json.proofs.Printed.Decimals.{IsNumber-decimal, IsNumber-signed_decimal}
-use Rattle.json.proofs.Printed.Utf8.{IsUtf8-quoted, IsUtf8-are_ascii}
+use Rattle.json.proofs.Printed.Utf8.{IsUtf8-quoted}
 use Rattle.serde_json.specs.Data.{Data, number, string, unsigned, negative}
 use Rattle.serde_json.specs.Read.{read, of_json}
 use Rattle.serde_json.proofs.Numbers.{number_of-decimal, number_of-negative}
@@ -43,7 +44,7 @@ use Rattle.predicates_rules.specs.declared.fixed.Fixed.{Fixed}
 use Rattle.predicates_rules.specs.declared.fixed.Fixed.TheVariants as fixed
 use Rattle.predicates_rules.specs.Trees.{Value, Natural, Negative, Text, Boolean, Null, Sign, Join, Close, Path, Compare, Relate, Is, Plain, End, Test, TheValueIs, Compares, Relates, IsAmong, Tree, At, Denied, Quantified, Joined, AtLeast, Trees, none, more}
 use Rattle.predicates_rules.specs.Grammar.{Level, By, Single, separator_sign, part_level, IsSpelled}
-use Rattle.predicates_rules.specs.Lexemes.{text_of, sign_of_fixed, class_of, continues, text_end, class_len, token_len, cut, begins_literal, IsWritten, fixed_text, literal, path, IsLexed, over, space, token}
+use Rattle.predicates_rules.specs.Lexemes.{text_of, sign_of_fixed, class_of, continues, text_end, class_len, token_len, cut, begins_literal, is_shown, IsWritten, fixed_text, literal, path, IsLexed, over, space, token}
 use Rattle.predicates_rules.specs.Rules.{Says}
 use Rattle.predicates_rules.specs.Printing.{items_signs, test_signs, quantifier_signs, in_parentheses, fits, signs_at, part_signs, follow_signs, nesting_at, IsProper, path_text, word_of, spaced, printed, IsPath, IsValue, AreValues, IsPlainTest, IsPlainQuantifier, IsPlain, ArePlain}
 use Rattle.predicates_rules.proofs.Printed.{printed as printed_spelled}
@@ -259,15 +260,21 @@ fixed_cut fixed.Comma rest = refl
 fixed_word : (f : Fixed) → IsWord (sign_of_fixed f) (text_of f)
 fixed_word f = (fixed_text f, fixed_cut f)
 
+slash_shows : is_shown (47 ∷ []) ≡ true
+unfolding is_shown
+slash_shows =
+    let a : IsAscii (47 ∷ []) = IsAscii-cons 47 [] (omega arith) IsAscii-nil in
+    rw (is_utf8-from_IsUtf8 (47 ∷ []) (IsUtf8-from_ascii (47 ∷ []) a), chars-IsAscii (47 ∷ []) a) refl
+
 slash_class : class_of 47 ≡ Slash
 slash_class = refl
 
 path_word : (p : List ℕ) → IsPath p → IsWord (Path p) (path_text p)
-path_word [] h = (path 47 [] slash_class (is_utf8-from_IsUtf8 (47 ∷ []) (IsUtf8-are_ascii (47 ∷ []) refl)), λ rest. cut_run Slash 47 [] rest slash_class refl refl)
+path_word [] h = (path 47 [] slash_class slash_shows, λ rest. cut_run Slash 47 [] rest slash_class refl refl)
 path_word (b ∷ []) h = absurd h
 path_word (b ∷ c ∷ bytes) h =
     let d : class_of b ≡ Slash = ap class_of h.0 ∙ slash_class in
-    (path b (c ∷ bytes) d (is_utf8-from_IsUtf8 (b ∷ c ∷ bytes) h.2), λ rest. cut_run Slash b (c ∷ bytes) rest d refl h.1)
+    (path b (c ∷ bytes) d h.2, λ rest. cut_run Slash b (c ∷ bytes) rest d refl h.1)
 
 value_word : (v : Value) → IsValue v → IsWord (Plain v) (word_of (Plain v))
 value_word (Natural n) h = natural_word (decimal n) n h refl (decimal_is_IsNumeral n h).0

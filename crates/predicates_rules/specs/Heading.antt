@@ -1,12 +1,11 @@
 -- Taking the name from the front of a line.
 use Rattle.std.specs.Prelude.{ℕ, zero, suc, ◌==◌, List, [], ◌∷◌, length, take, drop, if◌then◌else◌, Result, Ok}
 use Rattle.std.specs.List.{prefix_len}
-use Rattle.std.specs.Str.{is_utf8}
 use Rattle.predicates_rules.specs.declared.error.Expected.TheVariants as expected
 use Rattle.predicates_rules.specs.declared.lexer.Class.TheVariants.{Name}
 use Rattle.predicates_rules.specs.declared.stop.Stop.{Stop}
 use Rattle.predicates_rules.specs.Answers.{◌>>=◌, stops}
-use Rattle.predicates_rules.specs.Lexemes.{continues}
+use Rattle.predicates_rules.specs.Lexemes.{continues, is_shown}
 
 abbrev pub after_colon : List ℕ → Result (List ℕ) Stop
 after_colon [] = stops expected.Colon 0
@@ -15,7 +14,7 @@ after_colon (b ∷ text) = if b == 58 then Ok text else stops expected.Colon (le
 -- a name of k bytes, and the text behind its colon
 abbrev pub named : ℕ → List ℕ → Result (List ℕ × List ℕ) Stop
 named zero line = stops expected.Name (length line)
-named (suc k) line = if is_utf8 (take (suc k) line) then (after_colon (drop (suc k) line) >>= λ text. Ok (take (suc k) line, text)) else stops expected.Utf8 (length line)
+named (suc k) line = if is_shown (take (suc k) line) then (after_colon (drop (suc k) line) >>= λ text. Ok (take (suc k) line, text)) else stops expected.Utf8 (length line)
 
 unfoldable pub head_at : List ℕ → Result (List ℕ × List ℕ) Stop
 head_at line = named (prefix_len (continues Name) line) line

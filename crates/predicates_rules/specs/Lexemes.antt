@@ -1,7 +1,7 @@
 -- How each token is written.
 use Rattle.std.specs.Prelude.{◌≡◌, ℕ, Bool, true, false, not, ◌&&◌, ◌||◌, ◌==◌, nat_le, List, [], ◌∷◌, length, codes, Option, Some, None, option_map, if◌then◌else◌, take, drop, suc}
-use Rattle.std.specs.List.{find, prefix_len}
-use Rattle.std.specs.Str.{bytes_eq, is_utf8}
+use Rattle.std.specs.List.{find, list_any, prefix_len}
+use Rattle.std.specs.Str.{bytes_eq, chars, is_utf8}
 use Rattle.serde_json.specs.Data.{Data, null, boolean, number, string, unsigned, negative}
 use Rattle.serde_json.specs.Read.{read}
 use Rattle.predicates_rules.specs.declared.expression.Connective.TheVariants as connectives
@@ -151,6 +151,16 @@ token_len (b ∷ text) = class_len (class_of b) text
 unfoldable pub cut : List ℕ → Option (List ℕ × List ℕ)
 cut text = option_map (λ n. (take n text, drop n text)) (token_len text)
 
+-- ---- names and paths
+
+-- the control characters beyond ASCII, and the no-break spaces
+abbrev pub is_hidden : ℕ → Bool
+is_hidden c = is_between 128 160 c || c == 8199 || c == 8239 || c == 8288 || c == 65279
+
+-- UTF-8 of which each character shows
+unfoldable pub is_shown : List ℕ → Bool
+is_shown word = is_utf8 word && not (list_any is_hidden (chars word))
+
 -- ---- tokens
 
 -- a literal as JSON has it
@@ -177,7 +187,7 @@ pub data IsWritten : Sign → List ℕ → Type 0 where
   fixed_text : (f : Fixed) → IsWritten (sign_of_fixed f) (text_of f)
   -- a number or a text in quotes: what JSON reads there
   literal : (b : ℕ) (bytes : List ℕ) (v : Value) → begins_literal (class_of b) ≡ true → is_utf8 (b ∷ bytes) ≡ true → read (b ∷ bytes) ≡ Some (data_of v) → IsWritten (Plain v) (b ∷ bytes)
-  path : (b : ℕ) (bytes : List ℕ) → class_of b ≡ Slash → is_utf8 (b ∷ bytes) ≡ true → IsWritten (Path (pointer (b ∷ bytes))) (b ∷ bytes)
+  path : (b : ℕ) (bytes : List ℕ) → class_of b ≡ Slash → is_shown (b ∷ bytes) ≡ true → IsWritten (Path (pointer (b ∷ bytes))) (b ∷ bytes)
 
 -- the end, or a comment
 abbrev pub is_over : List ℕ → Bool

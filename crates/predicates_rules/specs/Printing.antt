@@ -16,7 +16,7 @@ use Rattle.predicates_rules.specs.declared.fixed.Fixed.TheVariants as fixed
 use Rattle.predicates_rules.specs.declared.lexer.Class.TheVariants.{Slash}
 use Rattle.predicates_rules.specs.Trees.{Value, Natural, Negative, Text, Boolean, Null, Sign, Join, Not, Each, Any, AtWord, Least, Of, Open, Close, OpenList, CloseList, Comma, Path, Compare, Relate, In, Is, Plain, End, Test, TheValueIs, Compares, Relates, IsAmong, Tree, At, Denied, Quantified, Joined, AtLeast, Trees, none, more}
 use Rattle.predicates_rules.specs.Grammar.{Level, By, Single, separator_sign, part_level}
-use Rattle.predicates_rules.specs.Lexemes.{continues, text_of, data_of}
+use Rattle.predicates_rules.specs.Lexemes.{continues, is_shown, text_of, data_of}
 
 -- ---- the tokens of an expression
 
@@ -148,11 +148,11 @@ spaced (t ∷ ts) = word_of t ++ 32 ∷ spaced ts
 abbrev pub printed : Tree → List ℕ
 printed e = spaced (signs_at (By Or) e)
 
--- a path that a rule can write: empty, or / and more with no space, mark, operator or #
+-- a path that a rule can write: empty, or / and more that shows, with no space, mark, operator or #
 abbrev pub IsPath : List ℕ → Type 0
 IsPath [] = Unit {0}
 IsPath (b ∷ []) = ⊥
-IsPath (b ∷ c ∷ bytes) = (b ≡ 47) × (list_all (continues Slash) (c ∷ bytes) ≡ true) × IsUtf8 (b ∷ c ∷ bytes)
+IsPath (b ∷ c ∷ bytes) = (b ≡ 47) × (list_all (continues Slash) (c ∷ bytes) ≡ true) × (is_shown (b ∷ c ∷ bytes) ≡ true)
 
 -- a literal that Rust holds
 abbrev pub IsValue : Value → Type 0

@@ -2,14 +2,13 @@
 use Rattle.std.specs.Prelude.{◌≡◌, ℕ, ◌<◌, ◌==◌, nat_eq, true, List, [], ◌∷◌, ◌++◌, map, length, drop, string_bytes, Vec, Option, Some, None, if◌then◌else◌, Result, Ok, Err}
 use Rattle.std.specs.declared.alloc.Global.{Global}
 use Rattle.std.specs.List.{prefix_len, list_all, slice_split, starts_with}
-use Rattle.std.specs.Str.{is_utf8}
 use Rattle.predicates_rules.specs.declared.lexer.Class.TheVariants.{Space, Name}
 use Rattle.predicates_rules.specs.declared.rule.Rule.{Rule}
 use Rattle.predicates_rules.specs.declared.error.RulesError.{RulesError}
 use Rattle.predicates_rules.specs.declared.error.RulesError.TheVariants.{NoMemory, Unreadable}
 use Rattle.predicates_rules.specs.Trees.{Sign, Tree, tree_of}
 use Rattle.predicates_rules.specs.Grammar.{IsSpelled}
-use Rattle.predicates_rules.specs.Lexemes.{continues, is_over, IsLexed}
+use Rattle.predicates_rules.specs.Lexemes.{continues, is_over, is_shown, IsLexed}
 
 -- the text is spaces and tokens, and the tokens spell the expression, which nests at most n deep
 abbrev pub Says : ℕ → List ℕ → Tree → Type 0
@@ -20,7 +19,7 @@ after_spaces line = drop (prefix_len (continues Space) line) line
 
 -- behind spaces the line begins with the name of a rule, a colon and a text
 abbrev pub Heads : List ℕ → List ℕ → List ℕ → Type 0
-Heads line name text = (0 < length name) × (list_all (continues Name) name ≡ true) × (is_utf8 name ≡ true) × (after_spaces line ≡ name ++ 58 ∷ text)
+Heads line name text = (0 < length name) × (list_all (continues Name) name ≡ true) × (is_shown name ≡ true) × (after_spaces line ≡ name ++ 58 ∷ text)
 
 -- a line, and its rule if it has one
 pub data IsLine : ℕ → List ℕ → Option (List ℕ × Tree) → Type 0 where

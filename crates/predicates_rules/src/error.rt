@@ -45,7 +45,7 @@ pub enum Expected {
     Escapes,
     /// The quote that closes a text.
     Quote,
-    /// Bytes that are UTF-8.
+    /// UTF-8 with no control character and no no-break space.
     Utf8,
 }
 
@@ -72,7 +72,7 @@ impl fmt::Display for Expected {
             Expected::Number => "a whole number from -2^63 to 2^64 - 1",
             Expected::Escapes => "a text as JSON writes it",
             Expected::Quote => "the quote that ends the text",
-            Expected::Utf8 => "text in UTF-8",
+            Expected::Utf8 => "text in UTF-8 without no-break spaces",
         };
         f.write_str(text)
     }

@@ -1,5 +1,6 @@
 //! What was likely meant where a rule could not be read.
 
+use crate::error::{Expected, Reason};
 use crate::fixed::{ALL, fixed_of, text};
 use std::alloc::{AllocError, Global};
 use std::fmt;
@@ -145,13 +146,29 @@ fn unknown_word(
     })
 }
 
+// Whether a token of an expression was expected; else a name, or another end of a token.
+fn is_of_expression(reason: Reason) -> bool {
+    match reason {
+        Reason::TooDeep => false,
+        Reason::Expected(expected) => match expected {
+            Expected::Name | Expected::Colon | Expected::Utf8 => false,
+            Expected::Number | Expected::Escapes | Expected::Quote => false,
+            _ => true,
+        },
+    }
+}
+
 /// What `found` was likely meant as, between what is before it on its line and what is after it.
 pub fn hint_at(
     alloc: Global,
+    reason: Reason,
     before: &[u8],
     found: &[u8],
     after: &[u8],
 ) -> Result<Option<Hint>, AllocError> {
+    if !is_of_expression(reason) {
+        return Ok(None);
+    }
     let Ok(word) = from_utf8(found) else {
         return Ok(None);
     };

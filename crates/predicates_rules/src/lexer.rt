@@ -1,11 +1,12 @@
 //! Takes an expression's text apart into tokens.
 
-ghost use Rattle.std.specs.Prelude.{◌≡◌, ℕ, ◌+◌, ◌≤◌, List, map, option_map, length, IfOk, IfErr, IfSome, Ok, Some, None, string_bytes, take, drop, ◌∷◌, [], false, not, ◌&&◌, ◌==◌};
-ghost use Rattle.std.specs.List.{prefix_len};
+ghost use Rattle.std.specs.Prelude.{◌≡◌, ℕ, ◌+◌, ◌≤◌, List, map, option_map, length, IfOk, IfErr, IfSome, MatchOption, Ok, Some, None, string_bytes, take, drop, ◌∷◌, [], false, not, ◌&&◌, ◌==◌, true};
+ghost use Rattle.std.specs.List.{list_any, prefix_len};
+ghost use Rattle.std.specs.Str.{chars};
 ghost use Rattle.serde_json.specs.View.{view, number_view};
 ghost use Rattle.predicates_rules.specs.Trees.{Sign, sign_of, value_of};
-ghost use Rattle.predicates_rules.specs.Lexemes.{class_of, continues, is_control, is_space, is_over, text_end, token_len, cut, pointer, IsLexed};
-ghost use Rattle.predicates_rules.specs.Scanning.{number_in, value_in, value_at, front_class, sign_in, token_at, after_space, placed};
+ghost use Rattle.predicates_rules.specs.Lexemes.{class_of, continues, is_control, is_hidden, is_shown, is_space, is_over, text_end, token_len, cut, pointer, IsLexed};
+ghost use Rattle.predicates_rules.specs.Scanning.{number_in, value_in, value_at, front_class, path_or, sign_in, token_at, after_space, placed};
 ghost use Rattle.predicates_rules.specs.Answers.{Gives, IsStop, stop_at};
 ghost use Rattle.predicates_rules.specs.Faults.{NoToken, told_class, told_len};
 
@@ -235,6 +236,42 @@ fn pointer_of(alloc: Global, path: &str) -> Result<String, ReadError>
     }
 }
 
+fn is_hidden(c: char) -> bool
+    ensures { result ≡ is_hidden c }
+{
+    match c {
+        '\u{80}'..='\u{a0}' | '\u{2007}' | '\u{202f}' | '\u{2060}' | '\u{feff}' => true,
+        _ => false,
+    }
+}
+
+fn hides(text: &str) -> bool
+    ensures { result ≡ list_any is_hidden (chars text.now) }
+{
+    text.chars().any(|c| is_hidden(c))
+}
+
+/// The text that bytes are, if each of its characters shows.
+#[tactic(auto, unfolding(crate::specs::Lexemes::is_shown))]
+pub fn shown(bytes: &[u8]) -> Option<&str>
+    ensures cases { MatchOption result (is_shown bytes.now ≡ false)
+        (λ text. (text.now ≡ bytes.now) × (is_shown bytes.now ≡ true)) }
+{
+    match from_utf8(bytes) {
+        Ok(text) => { if hides(text) { None } else { Some(text) } }
+        Err(_) => None,
+    }
+}
+
+fn path_token(alloc: Global, left: usize, word: &[u8]) -> Result<Kind, ReadError>
+    ensures { Gives sign_of result (path_or left word.now (is_shown word.now)) }
+{
+    let Some(path) = shown(word) else {
+        return Err(stop(Expected::Utf8, left));
+    };
+    Ok(Kind::Path(pointer_of(alloc, path)?))
+}
+
 // The token that is written so, with this many bytes from it on.
 #[tactic(auto, unfolding(crate::specs::Scanning::sign_in))]
 fn token_of(alloc: Global, class: Class, left: usize, word: &[u8]) -> Result<Kind, ReadError>
@@ -253,10 +290,7 @@ fn token_of(alloc: Global, class: Class, left: usize, word: &[u8]) -> Result<Kin
             Some(literal) => Ok(Kind::Literal(literal)),
             None => Err(stop(Expected::Escapes, left)),
         },
-        Class::Slash => match from_utf8(word) {
-            Ok(path) => Ok(Kind::Path(pointer_of(alloc, path)?)),
-            Err(_) => Err(stop(Expected::Utf8, left)),
-        },
+        Class::Slash => path_token(alloc, left, word),
         Class::Space | Class::Name | Class::Other => Err(stop(Expected::Token, left)),
     }
 }

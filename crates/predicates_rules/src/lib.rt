@@ -12,7 +12,8 @@
 //! ```
 //!
 //! A path is a JSON pointer, and `/` alone the record. It ends at a space, a parenthesis, a
-//! bracket, a comma, an operator, a `#` and a control character. A literal L is a text as JSON writes it, a whole number
+//! bracket, a comma, an operator, a `#` and a control character. Paths and names of rules have no
+//! no-break space. A literal L is a text as JSON writes it, a whole number
 //! from -2^63 to 2^64 - 1 with no zero in front, `true`, `false` or `null`, and T is such a text. A
 //! number K is such a whole number that is not below 0. Numbers with a fraction or an exponent are
 //! refused, as are lists and objects. Names of rules may repeat, and may be any of the words above.

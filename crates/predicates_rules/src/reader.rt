@@ -12,13 +12,12 @@ ghost use Rattle.predicates_rules.specs.Faults.{first_left, left_behind, error_i
 
 use crate::error::Expected;
 use crate::expression::Expression;
-use crate::lexer::{Class, is_at_end, lex, run_len, stop};
+use crate::lexer::{Class, is_at_end, lex, run_len, shown, stop};
 use crate::parser::parse;
 use crate::rule::Rule;
 use crate::stop::{ReadError, Stop};
 use crate::token::Token;
 use std::alloc::Global;
-use std::str::from_utf8;
 
 fn first_of(tokens: &[Token]) -> usize
     ensures { result ≡ first_left (map placed tokens.now) }
@@ -103,7 +102,7 @@ fn head(alloc: Global, line: &[u8]) -> Result<(String, &[u8]), ReadError>
         return Err(stop(Expected::Name, line.len()));
     }
     let (name, rest) = line.split_at(len);
-    let Ok(name) = from_utf8(name) else {
+    let Some(name) = shown(name) else {
         return Err(stop(Expected::Utf8, line.len()));
     };
     let text = behind_colon(rest)?;

@@ -55,7 +55,7 @@ fn fault_at(alloc: Global, stop: Stop, number: usize, line: &[u8]) -> Result<Fau
         column: line.len().saturating_sub(stop.left) + 1,
         reason: stop.reason,
         found,
-        hint: hint_at(alloc, before, word, after)?,
+        hint: hint_at(alloc, stop.reason, before, word, after)?,
     })
 }
 

@@ -94,7 +94,7 @@ fn reads_rules(rt: HostRuntime) -> Result<(), Fail> {
 }
 
 // A text, and the line that says why it has no rules.
-const REFUSED: [(&str, &str); 44] = [
+const REFUSED: [(&str, &str); 45] = [
     (
         "a: / exists\n\"b\": / exists",
         "line 2, column 1: expected the name of a rule, found `\"b\"`",
@@ -102,6 +102,10 @@ const REFUSED: [(&str, &str); 44] = [
     (
         "  a / exists",
         "line 1, column 4: expected `:` behind the name of a rule, found `/`",
+    ),
+    (
+        "an = /b exists",
+        "line 1, column 3: expected `:` behind the name of a rule, found `=`",
     ),
     (
         "a: or",
@@ -368,8 +372,24 @@ fn has_fault(alloc: Global, text: &[u8], expected: &str) -> Result<bool, AllocEr
     }
 }
 
-const RAW: [(&[u8], &str); 9] = [
+const RAW: [(&[u8], &str); 13] = [
     (b"\xef\xbb\xbfa: /b == 1", "none"),
+    (
+        b"a: /b\xc2\xa0== 1",
+        "line 1, column 4: expected text in UTF-8 without no-break spaces, found `/b\\u{a0}`",
+    ),
+    (
+        b"a\xe2\x80\xaf: /b == 1",
+        "line 1, column 1: expected text in UTF-8 without no-break spaces, found `a\\u{202f}`",
+    ),
+    (
+        b"a: /b ==\xc2\xa01",
+        "line 1, column 9: expected a word, an operator, a path or a literal, found `\\u{a0}1`",
+    ),
+    (
+        b"a: /b == \"\xc2\xa0\" and /\xc2\xa1\xc2\xbf exists #\xc2\xa0\x1b",
+        "none",
+    ),
     (
         b"\xef\xbb\xbfa: /b == x\n",
         "line 1, column 10: expected a word, an operator, a path or a literal, found `x`; a text stands in double quotes",
@@ -392,11 +412,11 @@ const RAW: [(&[u8], &str); 9] = [
     ),
     (
         b"a\xff: /b exists",
-        "line 1, column 1: expected text in UTF-8, found `a\\xff`",
+        "line 1, column 1: expected text in UTF-8 without no-break spaces, found `a\\xff`",
     ),
     (
         b"a: /b\xff exists",
-        "line 1, column 4: expected text in UTF-8, found `/b\\xff`",
+        "line 1, column 4: expected text in UTF-8 without no-break spaces, found `/b\\xff`",
     ),
     (b"# \xff", "none"),
 ];

@@ -108,7 +108,7 @@ const TOKEN: &str = "a word, an operator, a path or a literal";
 
 const QUOTE: &str = "the quote that ends the text";
 
-const UTF8: &str = "text in UTF-8";
+const UTF8: &str = "text in UTF-8 without no-break spaces";
 
 const CONDITION: &str = "an operator, `exists`, `missing` or `is_empty`";
 
