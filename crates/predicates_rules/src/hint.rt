@@ -159,7 +159,7 @@ fn is_of_expression(reason: Reason) -> bool {
 }
 
 /// What `found` was likely meant as, between what is before it on its line and what is after it.
-pub fn hint_at(
+pub(crate) fn hint_at(
     alloc: Global,
     reason: Reason,
     before: &[u8],

@@ -83,6 +83,10 @@ fn rule_at(alloc: Global, number: usize, line: &[u8]) -> Result<Option<Rule>, Ru
 }
 
 /// What a text says, behind the byte order mark that an editor may have put before it.
+///
+/// ```
+/// assert!(rt; without_mark(b"\xef\xbb\xbfa: / exists") == b"a: / exists");
+/// ```
 pub fn without_mark(text: &[u8]) -> &[u8]
     ensures { result.now ≡ without_mark text.now }
 {
@@ -129,6 +133,9 @@ fn rules_of(alloc: Global, lines: &[&[u8]]) -> Result<Vec<Rule>, RulesError>
 /// let rules = read_rules(alloc, b"adult: /age >= 18 and not /name is_empty")?;
 /// assert!(rt; rules.len() == 1 && rules[0].name.as_str() == "adult");
 /// ```
+///
+/// The error has the first fault: its place, what was expected there, what stands there and, for a
+/// likely slip, what was meant.
 pub fn read_rules(alloc: Global, text: &[u8]) -> Result<Vec<Rule>, RulesError>
     // What is read is what the text says.
     ensures found { IfOk result (λ v. AreRulesOf max_depth text.now (map rule_of v.items)) }

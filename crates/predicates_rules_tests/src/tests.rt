@@ -2,7 +2,7 @@
 
 use predicates_rules::error::{Reason, RulesError};
 use predicates_rules::expression::Expression;
-use predicates_rules::rule::{Rule, read_rules};
+use predicates_rules::rule::{Rule, read_rules, without_mark};
 use std::alloc::{AllocError, Global};
 use std::test::Fail;
 
@@ -564,5 +564,13 @@ fn stops_within_each_front_of_the_sample(rt: HostRuntime) -> Result<(), Fail> {
         let sound = stops_on_the_last_line(rt.alloc(), &sample[..len]);
         assert!(rt; sound, "{len} bytes");
     }
+    Ok(())
+}
+
+#[test]
+fn skips_a_byte_order_mark(rt: HostRuntime) -> Result<(), Fail> {
+    assert!(rt; without_mark(b"\xef\xbb\xbfa: / exists") == b"a: / exists");
+    assert!(rt; without_mark(b"a: / exists") == b"a: / exists");
+    assert!(rt; without_mark(b"\xef\xbb") == b"\xef\xbb");
     Ok(())
 }
