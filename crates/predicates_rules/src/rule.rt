@@ -85,7 +85,7 @@ fn rule_at(alloc: Global, number: usize, line: &[u8]) -> Result<Option<Rule>, Ru
 /// What a text says, behind the byte order mark that an editor may have put before it.
 ///
 /// ```
-/// assert!(rt; without_mark(b"\xef\xbb\xbfa: / exists") == b"a: / exists");
+/// assert!(rt; without_mark(b"\xef\xbb\xbfa: / exists") == b"a: / exists".as_slice());
 /// ```
 pub fn without_mark(text: &[u8]) -> &[u8]
     ensures { result.now ≡ without_mark text.now }
