@@ -1,6 +1,6 @@
 -- Reading lines one after the other, as a loop does.
 use Rattle.std.proofs.Common.{◌≡◌, ◌≢◌, ℕ, zero, suc, ◌+◌, ◌<◌, ◌≤◌, Bor, List, [], ◌∷◌, ◌++◌, map, length, get_or, drop, Option, Some, None, Result, Ok, Err, refl, sym, ap, subst, ◌∙◌, arith, append_assoc}
-use Rattle.std.proofs.lemmas.List.{append-nil}
+use Rattle.std.proofs.lemmas.List.{append-nil, length-map}
 use Rattle.predicates_rules.specs.declared.error.Reason.{Reason}
 use Rattle.predicates_rules.specs.declared.error.Reason.TheVariants.{TooDeep}
 use Rattle.predicates_rules.specs.declared.error.RulesError.{RulesError}
@@ -13,7 +13,7 @@ use Rattle.predicates_rules.specs.Trees.{Tree}
 use Rattle.predicates_rules.specs.Grammar.{max_depth}
 use Rattle.predicates_rules.specs.Answers.{Fails, IsStop, IsSyntax}
 use Rattle.predicates_rules.specs.Rules.{IsLine, AreRules, no_more, skipped, taken, AreRead}
-use Rattle.predicates_rules.specs.Faults.{IsLineFault, IsFirstFault, in_this, in_later, IsFaultOf, IsSyntaxError, IsErrorAt, IsLineError}
+use Rattle.predicates_rules.specs.Faults.{IsLineFault, IsFirstFault, in_this, in_later, IsFaultOf, IsSyntaxError, IsErrorAt, IsLineError, IsTold, AreFaults, none_yet, no_fault, one_fault, HasFaults}
 use Rattle.predicates_rules.proofs.Lines.{one_line}
 
 -- ---- one line
@@ -144,3 +144,17 @@ module _ (lines : List (Bor (List ℕ))) (i : ℕ) (front : List (List ℕ × Tr
 
   pub only_in : (rs : List (List ℕ × Tree)) → AreRules max_depth (texts lines) rs → front ≡ rs
   only_in rs d = only_these (texts lines) i front rs ended d
+
+-- ---- all faults
+
+pub no_fault_yet : (lines : List (List ℕ)) → AreFaults lines 0 []
+no_fault_yet lines = none_yet
+
+pub next_sound : (lines : List (Bor (List ℕ))) (i : ℕ) (d : Bor (List ℕ)) (fs : List Fault) (r : Option (List ℕ × Tree)) → i < length lines → IsLine max_depth (get_or lines i d).now r → AreFaults (texts lines) i fs → AreFaults (texts lines) (i + 1) fs
+next_sound lines i d fs r lt l g = no_fault r (next_line lines i d lt) l g
+
+pub next_faulty : (lines : List (Bor (List ℕ))) (i : ℕ) (d : Bor (List ℕ)) (fs : List Fault) (f : Fault) → i < length lines → IsTold (i + 1) (get_or lines i d).now (Some f) → AreFaults (texts lines) i fs → AreFaults (texts lines) (i + 1) (fs ++ f ∷ [])
+next_faulty lines i d fs f lt h g = one_fault f h.0 (next_line lines i d lt) h.1 h.2 g
+
+pub all_told : (lines : List (Bor (List ℕ))) (i : ℕ) (fs : List Fault) → length lines ≤ i → AreFaults (texts lines) i fs → HasFaults (texts lines) fs
+all_told lines i fs le g = (i, g, λ lt. subst (λ (n : ℕ). n ≤ i) (sym (length-map lines (λ (x : Bor (List ℕ)). x.now))) le)

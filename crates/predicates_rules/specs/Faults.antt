@@ -1,5 +1,5 @@
 -- Where a text stops being rules, and why.
-use Rattle.std.specs.Prelude.{◌≡◌, ◌≢◌, ℕ, suc, ◌+◌, ◌-◌, true, false, List, [], ◌∷◌, map, length, take, drop, Option, Some, None, unwrap_or, Err}
+use Rattle.std.specs.Prelude.{◌≡◌, ◌≢◌, ℕ, suc, ◌+◌, ◌-◌, ◌<◌, ◌≤◌, true, false, List, [], ◌∷◌, ◌++◌, map, length, take, drop, Option, Some, None, unwrap_or, Err}
 use Rattle.std.specs.List.{prefix_len}
 use Rattle.predicates_rules.specs.declared.error.Reason.TheVariants.{TooDeep}
 use Rattle.predicates_rules.specs.declared.error.RulesError.{RulesError}
@@ -109,3 +109,23 @@ IsLineError number line NoMemory = Unit {0}
 IsLineError number line (Unreadable f) =
     ((o : Option (List ℕ × Tree)) → IsLine max_depth line o → ⊥) × (f.reason ≢ TooDeep → (n : ℕ) (o : Option (List ℕ × Tree)) → IsLine n line o → ⊥)
     × ((s : Stop) × IsLineFault line s × IsFaultAt number line s f)
+
+-- ---- all faults
+
+-- the fault of a line with this number, or none where it is blank or has a rule
+abbrev pub IsTold : ℕ → List ℕ → Option Fault → Type 0
+IsTold number line None = (r : Option (List ℕ × Tree)) × IsLine max_depth line r
+IsTold number line (Some f) = (s : Stop) × IsLineFault line s × IsFaultAt number line s f
+
+-- the faults of the first lines, so many of them, in their order
+pub data AreFaults (lines : List (List ℕ)) : ℕ → List Fault → Type 0 where
+  none_yet : AreFaults lines 0 []
+  no_fault : {i : ℕ} {fs : List Fault} {line : List ℕ} {rest : List (List ℕ)} (r : Option (List ℕ × Tree)) → drop i lines ≡ line ∷ rest → IsLine max_depth line r → AreFaults lines i fs → AreFaults lines (i + 1) fs
+  one_fault : {i : ℕ} {fs : List Fault} {line : List ℕ} {rest : List (List ℕ)} (f : Fault) (s : Stop) → drop i lines ≡ line ∷ rest → IsLineFault line s → IsFaultAt (i + 1) line s f → AreFaults lines i fs → AreFaults lines (i + 1) (fs ++ f ∷ [])
+
+abbrev pub most_faults : ℕ
+most_faults = 20
+
+-- the faults of all lines, or so many that no more are told
+abbrev pub HasFaults : List (List ℕ) → List Fault → Type 0
+HasFaults lines fs = (i : ℕ) × AreFaults lines i fs × (length fs < most_faults → length lines ≤ i)

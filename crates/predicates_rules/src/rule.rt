@@ -7,7 +7,7 @@ ghost use Rattle.predicates_rules.specs.declared.expression.Connective.TheVarian
 ghost use Rattle.predicates_rules.specs.Grammar.{By, max_depth};
 ghost use Rattle.predicates_rules.specs.Printing.{IsProper, IsPlain, nesting_at, printed};
 ghost use Rattle.predicates_rules.specs.Rules.{AreRules, AreRulesOf, AreRead, IsLine, Says, lines_of, without_mark, rule_of};
-ghost use Rattle.predicates_rules.specs.Faults.{IsFaultAt, IsFaultOf, IsErrorAt, IsLineError, IsSyntaxError};
+ghost use Rattle.predicates_rules.specs.Faults.{HasFaults, IsFaultAt, IsTold, IsFaultOf, IsErrorAt, IsLineError, IsSyntaxError};
 
 use crate::error::RulesError;
 use crate::expression::Expression;
@@ -150,6 +150,49 @@ pub fn read_rules(alloc: Global, text: &[u8]) -> Result<Vec<Rule>, RulesError>
 {
     let lines = parted(alloc, text)?;
     rules_of(alloc, &lines)
+}
+
+// How many faults of a text are told at most.
+const MOST_FAULTS: usize = 20;
+
+// The fault of a line with this number, if it has one.
+fn fault_on(alloc: Global, number: usize, line: &[u8]) -> Result<Option<Fault>, AllocError>
+    ensures { IfOk result (IsTold number line.now) }
+{
+    match read_line(alloc, line) {
+        Ok(_rule) => Ok(None),
+        Err(ReadError::Memory) => Err(AllocError),
+        Err(ReadError::Stopped(stop)) => Ok(Some(fault_at(alloc, stop, number, line)?)),
+    }
+}
+
+fn faults_of(alloc: Global, lines: &[&[u8]]) -> Result<Vec<Fault>, AllocError>
+    ensures { IfOk result (λ fs. HasFaults (map (λ x. x.now) lines.now) fs.items) }
+{
+    let mut faults = Vec::new(alloc);
+    for (i, line) in lines.iter().enumerate() {
+        if faults.len() == MOST_FAULTS {
+            return Ok(faults);
+        }
+        if let Some(fault) = fault_on(alloc, i + 1, line)? {
+            faults.push(fault)?;
+        }
+    }
+    Ok(faults)
+}
+
+/// The fault of each line that has one, in the order of the lines, 20 at most; none where
+/// `read_rules` reads the text. Takes memory as `read_rules`.
+///
+/// ```
+/// let faults = read_faults(alloc, b"a: /b = 1\nb: /c exists\nc: d == 1")?;
+/// assert!(rt; faults.len() == 2 && faults[0].line == 1 && faults[1].line == 3);
+/// ```
+pub fn read_faults(alloc: Global, text: &[u8]) -> Result<Vec<Fault>, AllocError>
+    ensures { IfOk result (λ fs. HasFaults (lines_of text.now) fs.items) }
+{
+    let lines = parted(alloc, text)?;
+    faults_of(alloc, &lines)
 }
 
 /// A text says one list of rules at most, however deep they may nest.

@@ -2,7 +2,7 @@
 
 use predicates_rules::error::{Reason, RulesError};
 use predicates_rules::expression::Expression;
-use predicates_rules::rule::{Rule, read_rules, without_mark};
+use predicates_rules::rule::{Rule, read_faults, read_rules, without_mark};
 use std::alloc::{AllocError, Global};
 use std::test::Fail;
 
@@ -572,5 +572,30 @@ fn skips_a_byte_order_mark(rt: HostRuntime) -> Result<(), Fail> {
     assert!(rt; without_mark(b"\xef\xbb\xbfa: / exists") == b"a: / exists".as_slice());
     assert!(rt; without_mark(b"a: / exists") == b"a: / exists".as_slice());
     assert!(rt; without_mark(b"\xef\xbb") == b"\xef\xbb".as_slice());
+    Ok(())
+}
+
+// How many faults a text of so many faulty lines has, and the line of the last one.
+fn last_fault(alloc: Global, lines: u32) -> Result<(usize, usize), AllocError> {
+    let mut text = String::new(alloc);
+    for _ in 0..lines {
+        text.push_str("a: / exist\n# b\n")?;
+    }
+    let faults = read_faults(alloc, text.as_bytes())?;
+    let line = match faults.last() {
+        Some(fault) => fault.line,
+        None => 0,
+    };
+    Ok((faults.len(), line))
+}
+
+#[test]
+fn reads_all_faults(rt: HostRuntime) -> Result<(), Fail> {
+    let faults = read_faults(rt.alloc(), b"a: /b = 1\nb: /c exists\nc: d == 1")?;
+    assert!(rt; faults.len() == 2 && faults[0].line == 1 && faults[1].line == 3);
+    assert!(rt; last_fault(rt.alloc(), 0)? == (0, 0));
+    assert!(rt; last_fault(rt.alloc(), 19)? == (19, 37));
+    assert!(rt; last_fault(rt.alloc(), 20)? == (20, 39));
+    assert!(rt; last_fault(rt.alloc(), 30)? == (20, 39));
     Ok(())
 }
