@@ -114,9 +114,9 @@ fn write_problem(
     let bytes = source.as_bytes();
     let read = bytes.get(..error.column()).unwrap_or(bytes);
     if is_too_deep(read) {
-        write!(text, "no JSON: nested more than {MAX_NESTING} deep")?;
+        write!(text, "not JSON: nested more than {MAX_NESTING} deep")?;
     } else {
-        write!(text, "no JSON: {error}")?;
+        write!(text, "not JSON: {error}")?;
     }
     Ok(())
 }
@@ -305,7 +305,7 @@ fn tell_record<'r, W: Write>(
 }
 
 /// Writes what is told of each record of the input, in order, and counts the lines. A line on which
-/// no record stands, as it is no JSON or nests more than 127 deep, is told by a message, and the
+/// no record stands, as it is not JSON or nests more than 127 deep, is told by a message, and the
 /// run goes on.
 ///
 /// It takes memory for the longest line, for the record on it, for what is written of it and for a

@@ -39,7 +39,7 @@ fn passed<'a>(alloc: Global) -> Result<Arg<'a>, AllocError> {
 }
 
 fn all<'a>(alloc: Global) -> Arg<'a> {
-    let help = "Explain each rule that a record breaks, not the first alone";
+    let help = "Explain every rule that a record breaks, not just the first";
     flag(alloc, "all", help)
 }
 

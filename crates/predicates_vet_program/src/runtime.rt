@@ -1,5 +1,5 @@
 //! The program over what its process is given.
-ghost use Rattle.std.specs.Prelude.{◌≡◌, ◌≤◌, IfOk};
+ghost use Rattle.std.specs.Prelude.{◌≡◌, ◌≤◌, ◌==◌, IfOk, if◌then◌else◌};
 ghost use Rattle.predicates_vet.specs.Runs.{status_of};
 
 use crate::command::{command, settings_of};
@@ -15,6 +15,13 @@ use std::io::{BufReader, BufWriter};
 use std::rt::{Env, Files};
 use std::{env, fs, io};
 
+// The noun for so many things.
+fn noun(count: u64, one: &'static str, several: &'static str) -> &'static str
+    ensures { result.now ≡ (if count == 1 then one.now else several.now) }
+{
+    if count == 1 { one } else { several }
+}
+
 // The totals of a run, and the status that they give.
 fn end<E: Eprint>(rt: &E, counts: Counts) -> io::Result<u8>
     ensures { IfOk result (λ status. status ≡ status_of counts) }
@@ -24,10 +31,11 @@ fn end<E: Eprint>(rt: &E, counts: Counts) -> io::Result<u8>
         failed,
         unreadable,
     } = counts;
+    let (record, line) = (noun(records, "record", "records"), noun(unreadable, "line", "lines"));
     if unreadable > 0 {
-        eprintln!(rt; "{records} records, {failed} failed, {unreadable} lines unreadable")?;
+        eprintln!(rt; "{records} {record}, {failed} failed, {unreadable} {line} unreadable")?;
     } else {
-        eprintln!(rt; "{records} records, {failed} failed")?;
+        eprintln!(rt; "{records} {record}, {failed} failed")?;
     }
     Ok(counts.status())
 }
@@ -150,7 +158,7 @@ fn try_run<E: Env + Files + Input + Print + Eprint + AllocGlobal>(rt: &E) -> io:
 
 /// Runs the program on the words, the files, the streams and the memory of a process, and answers
 /// its status: 0 where every record keeps every rule, 1 where one breaks a rule, and 2 for wrong
-/// words, rules that can't be read, lines that are no JSON, faults of reading and writing, and out
+/// words, rules that can't be read, lines that are not JSON, faults of reading and writing, and out
 /// of memory, each told in a line on standard error.
 ///
 /// ```

@@ -146,7 +146,7 @@ const RUNS: [(&str, &[u8], Report, Option<&str>, &[u8], &str, Memory); 9] = [
         Report::First,
         None,
         RECORDS,
-        "false\nrecord 1: false\na = false\n  rule: /x == 1 or /x == 2 = false\n    part: /x == 1 = false\n      - found: 3\n    part: /x == 2 = false\n      - found: 3\nvet: record 3: no JSON: EOF while parsing at line 1 column 2\n",
+        "false\nrecord 1: false\na = false\n  rule: /x == 1 or /x == 2 = false\n    part: /x == 1 = false\n      - found: 3\n    part: /x == 2 = false\n      - found: 3\nvet: record 3: not JSON: EOF while parsing at line 1 column 2\n",
         Taken,
     ),
     (

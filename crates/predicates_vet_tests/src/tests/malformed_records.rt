@@ -141,7 +141,7 @@ fn is_rejected(alloc: Global, line: &[u8], message: &[u8]) -> Result<bool, Alloc
     }
 }
 
-const TOO_DEEP: &[u8] = b"vet: record 2: no JSON: nested more than 127 deep\n";
+const TOO_DEEP: &[u8] = b"vet: record 2: not JSON: nested more than 127 deep\n";
 
 #[test]
 fn records_that_nest_too_deep(rt: HostRuntime) -> Result<(), Fail> {

@@ -87,7 +87,7 @@ const ROWS: [Row; 28] = [
         Closed::Neither,
         0,
         "{\"holds\":true,\"record\":1}\n",
-        "1 records, 0 failed\n",
+        "1 record, 0 failed\n",
     ),
     (
         &[b"vet", b"--json", b"--all", b"--id", b"/", b"rules"],
@@ -97,7 +97,7 @@ const ROWS: [Row; 28] = [
         Closed::Neither,
         0,
         "{\"cases\":[],\"holds\":true,\"record\":1}\n",
-        "1 records, 0 failed\n",
+        "1 record, 0 failed\n",
     ),
     (
         &[b"vet", b"--id", b"/", b"--all", b"rules"],
@@ -107,7 +107,7 @@ const ROWS: [Row; 28] = [
         Closed::Neither,
         1,
         "record 2: false\na = false\n  rule: / == 1 = false\n    - found: 2\n",
-        "1 records, 1 failed\n",
+        "1 record, 1 failed\n",
     ),
     (
         &[b"vet", b"--change", b"rules"],
@@ -117,7 +117,7 @@ const ROWS: [Row; 28] = [
         Closed::Neither,
         1,
         "record 1: false\na = false\n  rule: / == 1 = false\n    - found: 4\nb = false\n  rule: / == 2 or / == 3 = false\n    part: / == 2 = false\n      - found: 4\n      - index: 0\n",
-        "1 records, 1 failed\n",
+        "1 record, 1 failed\n",
     ),
     // A line holds no record.
     (
@@ -128,7 +128,7 @@ const ROWS: [Row; 28] = [
         Closed::Neither,
         2,
         "",
-        "vet: record 2: no JSON: EOF while parsing at line 1 column 2\n1 records, 0 failed, 1 lines unreadable\n",
+        "vet: record 2: not JSON: EOF while parsing at line 1 column 2\n1 record, 0 failed, 1 line unreadable\n",
     ),
     // The column of what ends with its line is that of the line behind.
     (
@@ -139,7 +139,7 @@ const ROWS: [Row; 28] = [
         Closed::Neither,
         2,
         "",
-        "vet: record 1: no JSON: EOF while parsing at line 2 column 0\n1 records, 0 failed, 1 lines unreadable\n",
+        "vet: record 1: not JSON: EOF while parsing at line 2 column 0\n1 record, 0 failed, 1 line unreadable\n",
     ),
     (
         PLAIN,
@@ -149,7 +149,7 @@ const ROWS: [Row; 28] = [
         Closed::Neither,
         2,
         "record 2: false\na = false\n  rule: / == 1 = false\n    - found: 2\n",
-        "vet: record 1: not UTF-8\n1 records, 1 failed, 1 lines unreadable\n",
+        "vet: record 1: not UTF-8\n1 record, 1 failed, 1 line unreadable\n",
     ),
     // Rules that can't be read.
     (
