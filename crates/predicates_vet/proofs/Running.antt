@@ -1,5 +1,5 @@
 -- How far a run has come in its input.
-use Rattle.std.proofs.Common.{◌≡◌, ℕ, ◌+◌, ◌≤◌, Bool, true, false, not, List, [], ◌∷◌, ◌++◌, length, Option, Some, None, refl, sym, ◌∙◌, ap, subst, arith, append_assoc, append-nil, length-append, if◌then◌else◌, map}
+use Rattle.std.proofs.Common.{◌≡◌, ℕ, ◌+◌, ◌≤◌, ◌||◌, Bool, true, false, not, List, [], ◌∷◌, ◌++◌, length, Option, Some, None, refl, sym, ◌∙◌, ap, subst, arith, append_assoc, append-nil, length-append, if◌then◌else◌, map}
 use Rattle.std.specs.Prelude.{filter, flat_map, is_some, option_map}
 use Rattle.std.specs.Io.KnownBytes.{Appends}
 use Rattle.std.proofs.KnownBytes.{Appends-nil, Appends-trans}
@@ -14,7 +14,7 @@ use Rattle.serde_json.specs.Data.{Data}
 use Rattle.predicates_lines.specs.Lines.{ended_lines}
 use Rattle.predicates_vet_check.specs.declared.rule_check.RuleCheck.{RuleCheck}
 use Rattle.predicates_vet.specs.Records.{keeps}
-use Rattle.predicates_vet.specs.Runs.{record_on, IsLineWritten, Told, AreTold, breaks, is_false}
+use Rattle.predicates_vet.specs.Runs.{record_on, is_blank, is_unreadable, IsLineWritten, Told, AreTold, breaks, is_false}
 use Rattle.predicates_vet.specs.declared.settings.Settings.{Settings}
 use Rattle.predicates_vet.specs.declared.run.Counts.{Counts}
 
@@ -48,7 +48,7 @@ module _ (s : Settings) (rules : List RuleCheck) where
     pub appends : Appends w0 w1 (flat_map (λ (l : Told). l.1) lines)
     pub records : counts.records ≡ length (filter (λ (l : Told). is_some (record_on l.0)) lines)
     pub failed : counts.failed ≡ length (filter (λ (l : Told). breaks rules (record_on l.0)) lines)
-    pub unreadable : counts.unreadable ≡ length (filter (λ (l : Told). not (is_some (record_on l.0))) lines)
+    pub unreadable : counts.unreadable ≡ length (filter (λ (l : Told). is_unreadable l.0) lines)
 
   pub has_told_none : (reader writer : Option (List ℕ)) → HasTold reader reader writer writer 0 (record { records = 0; failed = 0; unreadable = 0 })
   has_told_none reader writer = record {
@@ -73,14 +73,14 @@ module _ (s : Settings) (rules : List RuleCheck) where
       → held ≡ option_map (keeps rules) (record_on line)
       → after.records ≡ before.records + (if is_some held then 1 else 0)
       → after.failed ≡ before.failed + (if is_false held then 1 else 0)
-      → after.unreadable ≡ before.unreadable + (if not (is_some held) then 1 else 0)
+      → after.unreadable ≡ before.unreadable + (if not (is_some held || is_blank line) then 1 else 0)
       → HasTold r0 r2 w0 w2 (count + 1) after
   has_told_more r0 r1 r2 w0 w1 w2 count before after line held h next told is records failed unreadable =
       let written = told.0 in
       let l : Told = (line, written) in
       let p : Told → Bool = λ l. is_some (record_on l.0) in
       let q : Told → Bool = λ l. breaks rules (record_on l.0) in
-      let r : Told → Bool = λ l. not (is_some (record_on l.0)) in
+      let r : Told → Bool = λ l. is_unreadable l.0 in
       let some : is_some held ≡ is_some (record_on line) = ap is_some is ∙ some_of_map (keeps rules) (record_on line) in
       let wrong : is_false held ≡ breaks rules (record_on line) = ap is_false is ∙ false_of_map rules (record_on line) in
       record {
@@ -97,7 +97,7 @@ module _ (s : Settings) (rules : List RuleCheck) where
         appends = rw (flat_more h.lines l) (Appends-trans _ _ _ _ _ h.appends told.2);
         records = records ∙ ap (λ n. n + (if is_some held then 1 else 0)) h.records ∙ ap (λ b. length (filter p h.lines) + (if b then 1 else 0)) some ∙ sym (filter-more p h.lines l (is_some (record_on line)) refl);
         failed = failed ∙ ap (λ n. n + (if is_false held then 1 else 0)) h.failed ∙ ap (λ b. length (filter q h.lines) + (if b then 1 else 0)) wrong ∙ sym (filter-more q h.lines l (breaks rules (record_on line)) refl);
-        unreadable = unreadable ∙ ap (λ n. n + (if not (is_some held) then 1 else 0)) h.unreadable ∙ ap (λ b. length (filter r h.lines) + (if not b then 1 else 0)) some ∙ sym (filter-more r h.lines l (not (is_some (record_on line))) refl);
+        unreadable = unreadable ∙ ap (λ n. n + (if not (is_some held || is_blank line) then 1 else 0)) h.unreadable ∙ ap (λ b. length (filter r h.lines) + (if not (b || is_blank line) then 1 else 0)) some ∙ sym (filter-more r h.lines l (is_unreadable line) refl);
       }
 
   -- no more lines are counted than are taken
@@ -111,7 +111,7 @@ module _ (s : Settings) (rules : List RuleCheck) where
   failed_within h = omega (arith, h.failed, h.counted, within (λ (l : Told). breaks rules (record_on l.0)) h.lines)
 
   pub unreadable_within : {r0 r1 w0 w1 : Option (List ℕ)} {count : ℕ} {counts : Counts} → HasTold r0 r1 w0 w1 count counts → counts.unreadable ≤ count
-  unreadable_within h = omega (arith, h.unreadable, h.counted, within (λ (l : Told). not (is_some (record_on l.0))) h.lines)
+  unreadable_within h = omega (arith, h.unreadable, h.counted, within (λ (l : Told). is_unreadable l.0) h.lines)
 
 -- ---- the record on a line
 

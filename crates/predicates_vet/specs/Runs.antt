@@ -1,5 +1,6 @@
 -- What a run writes.
-use Rattle.std.specs.Prelude.{nat_lt, ◌≡◌, ℕ, ◌+◌, List, [], ◌∷◌, Bool, false, not, Option, Some, None, if◌then◌else◌, map, filter, flat_map, length, is_some}
+use Rattle.std.specs.Prelude.{nat_lt, ◌≡◌, ◌==◌, ◌||◌, ℕ, ◌+◌, List, [], ◌∷◌, Bool, false, not, Option, Some, None, if◌then◌else◌, map, filter, flat_map, length, is_some}
+use Rattle.std.specs.List.{list_all}
 use Rattle.std.specs.Option.{ForSome}
 use Rattle.std.specs.Str.{is_utf8}
 use Rattle.std.specs.Io.KnownBytes.{Appends}
@@ -14,6 +15,18 @@ use Rattle.predicates_vet.specs.declared.run.Counts.{Counts}
 -- the record that stands on a line, if one does: text that JSON reads
 abbrev pub record_on : List ℕ → Option Data
 record_on line = if is_utf8 line then read line else None
+
+-- white space, as JSON has it
+abbrev pub is_white : ℕ → Bool
+is_white byte = byte == 32 || byte == 9 || byte == 10 || byte == 13
+
+-- nothing but white space stands on the line
+abbrev pub is_blank : List ℕ → Bool
+is_blank line = list_all is_white line
+
+-- something stands on the line that is no record
+abbrev pub is_unreadable : List ℕ → Bool
+is_unreadable line = not (is_some (record_on line) || is_blank line)
 
 -- what is written for a line of this number: nothing where no record stands on it
 abbrev pub IsLineWritten : Settings → List RuleCheck → ℕ → List ℕ → Option Data → List ℕ → Type 0
@@ -46,7 +59,7 @@ pub record HasRun (s : Settings) (rules : List RuleCheck) (reader_before reader_
   pub appends : Appends writer_before writer_after (flat_map (λ l. l.1) lines)
   pub records : counts.records ≡ length (filter (λ l. is_some (record_on l.0)) lines)
   pub failed : counts.failed ≡ length (filter (λ l. breaks rules (record_on l.0)) lines)
-  pub unreadable : counts.unreadable ≡ length (filter (λ l. not (is_some (record_on l.0))) lines)
+  pub unreadable : counts.unreadable ≡ length (filter (λ l. is_unreadable l.0) lines)
 
 -- the status of a process after a run
 abbrev pub status_of : Counts → ℕ

@@ -1,6 +1,6 @@
 //! A run over the records of an input, one on a line.
 ghost use Rattle.std.specs.Prelude.{◌≡◌, ◌+◌, ◌<◌, ◌^◌, ℕ, List, IfOk, option_map, if◌then◌else◌, is_some};
-ghost use Rattle.std.specs.Prelude.{not, cond, []};
+ghost use Rattle.std.specs.Prelude.{not, cond, [], ◌||◌};
 ghost use mathlib.Core.Bool.{beq};
 ghost use Rattle.std.specs.Io.KnownBytes.{Appends};
 ghost use Rattle.serde_json.specs.Read.{read};
@@ -8,7 +8,7 @@ ghost use Rattle.serde_json.specs.View.{view};
 ghost use Rattle.predicates_vet.specs.Records.{keeps, label, IsBlock, IsChangeBlock, IsWritten};
 ghost use Rattle.predicates_vet.specs.Settings.{id_of};
 ghost use Rattle.predicates_vet.specs.Runs.{is_false, status_of};
-ghost use Rattle.predicates_vet.specs.Runs.{record_on, HasRun, IsLineWritten};
+ghost use Rattle.predicates_vet.specs.Runs.{is_blank, record_on, HasRun, IsLineWritten};
 
 use crate::job::Job;
 use crate::record::{keeps, write_broken, write_changes, write_object};
@@ -29,13 +29,13 @@ pub struct Counts {
     pub records: u64,
     /// Records that break a rule.
     pub failed: u64,
-    /// Lines on which no record stands. Each is told by a message.
+    /// Lines on which something stands that is no record. Each is told by a message.
     pub unreadable: u64,
 }
 
 impl Counts {
-    /// The status of a process after the run: 2 where no record stands on a line, else 1 where a
-    /// record breaks a rule, else 0.
+    /// The status of a process after the run: 2 where a line is unreadable, else 1 where a record
+    /// breaks a rule, else 0.
     pub fn status(self) -> u8
         ensures { result ≡ status_of self }
     {
@@ -49,14 +49,15 @@ impl Counts {
     }
 
     // Counts one line more: whether its record keeps every rule, or none where no record stands on
-    // it.
-    fn count(self, held: Option<bool>) -> Counts
+    // it. A blank line is not counted.
+    fn count(self, held: Option<bool>, blank: bool) -> Counts
         requires records { self.records + 1 < 2 ^ 64 }
         requires failed { self.failed + 1 < 2 ^ 64 }
         requires unreadable { self.unreadable + 1 < 2 ^ 64 }
         ensures records { result.records ≡ self.records + (if is_some held then 1 else 0) }
         ensures failed { result.failed ≡ self.failed + (if is_false held then 1 else 0) }
-        ensures unreadable { result.unreadable ≡ self.unreadable + (if not (is_some held) then 1 else 0) }
+        ensures unreadable { result.unreadable ≡ self.unreadable
+            + (if not (is_some held || blank) then 1 else 0) }
     {
         let Counts {
             records,
@@ -74,6 +75,7 @@ impl Counts {
                 failed: failed + 1,
                 unreadable,
             },
+            None if blank => self,
             None => Counts {
                 records,
                 failed,
@@ -103,6 +105,14 @@ fn is_too_deep(source: &[u8]) -> bool {
         }
     }
     false
+}
+
+// Whether nothing but white space of JSON stands on the line.
+fn is_blank(line: &[u8]) -> bool
+    ensures { result ≡ is_blank line.now }
+{
+    line.iter()
+        .all(|byte| matches!(byte, b' ' | b'\t' | b'\n' | b'\r'))
 }
 
 // Writes why JSON reads nothing in the source.
@@ -166,8 +176,8 @@ fn write_message<M: Write>(
     write_bytes(messages, line.as_bytes())
 }
 
-// Writes what is told of the record on the line, and says whether it keeps every rule; where no
-// record stands there, a message says so.
+// Writes what is told of the record on the line, and says whether it keeps every rule; where
+// something else stands there, a message says so.
 fn tell_line<'r, W: Write, M: Write>(
     alloc: Global,
     job: &Job<'r>,
@@ -190,7 +200,9 @@ fn tell_line<'r, W: Write, M: Write>(
             Ok(Some(held))
         }
         None => {
-            write_message(messages, number, &workspace.text, &mut workspace.message)?;
+            if !is_blank(line) {
+                write_message(messages, number, &workspace.text, &mut workspace.message)?;
+            }
             Ok(None)
         }
     }
@@ -306,7 +318,7 @@ fn tell_record<'r, W: Write>(
 
 /// Writes what is told of each record of the input, in order, and counts the lines. A line on which
 /// no record stands, as it is not JSON or nests more than 127 deep, is told by a message, and the
-/// run goes on.
+/// run goes on. A blank line is passed over.
 ///
 /// It takes memory for the longest line, for the record on it, for what is written of it and for a
 /// matcher of each pattern of the rules, and no more however long the input is. After a fault
@@ -365,7 +377,7 @@ pub fn run_records<R: BufRead, W: Write, M: Write>(
             output,
             messages,
         )?;
-        counts = counts.count(held);
+        counts = counts.count(held, is_blank(&line));
     }
     // More lines than can be counted.
     if next_line(input, &mut line)? {

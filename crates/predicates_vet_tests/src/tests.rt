@@ -240,10 +240,13 @@ fn changes_of_records(rt: HostRuntime) -> Result<(), Fail> {
 }
 
 // The records, those that break the rule, those that keep it, and the counts.
-const LINES: [(&[u8], &[u8], &[u8], (u64, u64, u64)); 3] = [
+const LINES: [(&[u8], &[u8], &[u8], (u64, u64, u64)); 5] = [
     (b"", b"", b"", (0, 0, 0)),
     (b"1\n 2 \n1", b" 2 \n", b"1\n1", (3, 1, 0)),
-    (b"1\n[\n\xff\n\n3\r\n", b"3\r\n", b"1\n", (2, 1, 3)),
+    (b"1\n[\n\xff\n\n3\r\n", b"3\r\n", b"1\n", (2, 1, 2)),
+    // Blank lines, and those with white space that JSON does not have.
+    (b"\n1\n \t\r\n\n\n2\n ", b"2\n", b"1\n", (2, 1, 0)),
+    (b"\x0c\n1\n\xc2\xa0\n\x0b\n\0\n", b"", b"1\n", (1, 0, 4)),
 ];
 
 #[test]

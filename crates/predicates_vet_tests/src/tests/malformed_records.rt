@@ -51,13 +51,20 @@ fn count_of(bytes: &[u8], byte: u8) -> u64 {
     count
 }
 
-// Whether this many lines hold no record, each with its message, and the records before and after
-// are told as they are without it.
-fn is_told(alloc: Global, middle: &[u8], unreadable: u64) -> Result<bool, AllocError> {
+// Whether so many lines between the others hold a record, and so many are unreadable, each with its
+// message, the first with this one; and the records before and after are told as they are without
+// them.
+fn is_counted(
+    alloc: Global,
+    middle: &[u8],
+    between: u64,
+    unreadable: u64,
+    message: &[u8],
+) -> Result<bool, AllocError> {
     let Some((output, messages, counts)) = ran(alloc, middle)? else {
         return Ok(false);
     };
-    let read = if unreadable == 0 { 3 } else { 2 };
+    let read = between.saturating_add(2);
     let expected = Counts {
         records: read,
         failed: read,
@@ -70,15 +77,21 @@ fn is_told(alloc: Global, middle: &[u8], unreadable: u64) -> Result<bool, AllocE
             && output.starts_with(TOLD_BEFORE)
             && output.ends_with(TOLD_AFTER)
             && output.len() >= others
-            && is_alone == (unreadable > 0)
+            && is_alone == (between == 0)
             && count_of(&messages, b'\n') == unreadable
-            && (unreadable == 0 || messages.starts_with(b"vet: record 2: ")),
+            && (unreadable == 0 || messages.starts_with(message)),
     )
+}
+
+// The same of one line, which holds a record where it is not unreadable.
+fn is_told(alloc: Global, middle: &[u8], unreadable: u64) -> Result<bool, AllocError> {
+    let between = if unreadable == 0 { 1 } else { 0 };
+    is_counted(alloc, middle, between, unreadable, b"vet: record 2: ")
 }
 
 #[test]
 fn records_that_are_cut(rt: HostRuntime) -> Result<(), Fail> {
-    for len in 0..RECORD.len() {
+    for len in 1..RECORD.len() {
         let right = is_told(rt.alloc(), &RECORD[..len], 1)?;
         assert!(rt; right, "{len} bytes");
     }
@@ -86,8 +99,8 @@ fn records_that_are_cut(rt: HostRuntime) -> Result<(), Fail> {
     Ok(())
 }
 
-// A byte, and how many lines hold no record where it stands in place of each byte of the record.
-const CHANGED: [(u8, [u64; 8]); 9] = [
+// A byte, and how many lines are unreadable where it stands in place of each byte of the record.
+const CHANGED: [(u8, [u64; 8]); 8] = [
     (b' ', [1, 1, 0, 1, 1, 0, 1, 1]),
     (b'"', [1, 0, 1, 0, 1, 1, 1, 1]),
     (b'\\', [1, 1, 1, 1, 1, 1, 1, 1]),
@@ -95,7 +108,6 @@ const CHANGED: [(u8, [u64; 8]); 9] = [
     (b'.', [1, 1, 0, 1, 1, 1, 1, 1]),
     (b'e', [1, 1, 0, 1, 1, 1, 1, 1]),
     (b'}', [1, 1, 0, 1, 1, 1, 1, 0]),
-    (b'\n', [2, 2, 2, 2, 2, 2, 2, 2]),
     (255, [1, 1, 1, 1, 1, 1, 1, 1]),
 ];
 
@@ -115,6 +127,40 @@ fn records_with_a_byte_changed(rt: HostRuntime) -> Result<(), Fail> {
             let right = is_told(rt.alloc(), &changed, *unreadable)?;
             assert!(rt; right, "{byte} at {place}");
         }
+    }
+    Ok(())
+}
+
+// How many lines are unreadable where a line feed stands in place of each byte of the record, and
+// the first message: the line that is then blank is told by none.
+const BROKEN: [(u64, &[u8]); 8] = [
+    (1, b"vet: record 3: "),
+    (2, b"vet: record 2: "),
+    (2, b"vet: record 2: "),
+    (2, b"vet: record 2: "),
+    (2, b"vet: record 2: "),
+    (2, b"vet: record 2: "),
+    (2, b"vet: record 2: "),
+    (1, b"vet: record 2: "),
+];
+
+#[test]
+fn records_on_two_lines(rt: HostRuntime) -> Result<(), Fail> {
+    for (place, (unreadable, message)) in BROKEN.iter().enumerate() {
+        let broken = with_byte(rt.alloc(), place, b'\n')?;
+        let right = is_counted(rt.alloc(), &broken, 0, *unreadable, message)?;
+        assert!(rt; right, "{place}");
+    }
+    Ok(())
+}
+
+const BLANK: [&[u8]; 5] = [b"", b"\r", b" ", b"\t \r", b"\n\n \n"];
+
+#[test]
+fn lines_that_are_blank(rt: HostRuntime) -> Result<(), Fail> {
+    for lines in BLANK {
+        let right = is_counted(rt.alloc(), lines, 0, 0, b"")?;
+        assert!(rt; right, "{lines:?}");
     }
     Ok(())
 }

@@ -26,7 +26,7 @@ const PASSED: &[&[u8]] = &[b"vet", b"rules", b"--passed"];
 
 const BLOCK: &str = "record 1: false\na = false\n  rule: / == 1 = false\n    - found: 2\n";
 
-const ROWS: [Row; 28] = [
+const ROWS: [Row; 30] = [
     // Every record keeps every rule.
     (
         PLAIN,
@@ -150,6 +150,27 @@ const ROWS: [Row; 28] = [
         2,
         "record 2: false\na = false\n  rule: / == 1 = false\n    - found: 2\n",
         "vet: record 1: not UTF-8\n1 record, 1 failed, 1 line unreadable\n",
+    ),
+    (
+        PLAIN,
+        b"a: / == 1",
+        b"[\n1\n\xff",
+        None,
+        Closed::Neither,
+        2,
+        "",
+        "vet: record 1: not JSON: EOF while parsing at line 2 column 0\nvet: record 3: not UTF-8\n1 record, 0 failed, 2 lines unreadable\n",
+    ),
+    // Blank lines hold no record, and count as lines.
+    (
+        PLAIN,
+        b"a: / == 1",
+        b"1\n\n \t\r\n2\n\n",
+        None,
+        Closed::Neither,
+        1,
+        "record 4: false\na = false\n  rule: / == 1 = false\n    - found: 2\n",
+        "2 records, 1 failed\n",
     ),
     // Rules that can't be read.
     (

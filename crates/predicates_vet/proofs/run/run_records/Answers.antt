@@ -21,4 +21,6 @@ loop-taken-preserved g c =
     (c.in_ok-next_line.ensures.more (ap Ok c.if-not-branch.false))
     (rw c.deref.ensures.value at c.in_ok-held.ensures.written)
     (rw c.deref.ensures.value at c.in_ok-held.ensures.held)
-    c.count-counts.ensures.records c.count-counts.ensures.failed c.count-counts.ensures.unreadable
+    c.count-counts.ensures.records c.count-counts.ensures.failed
+    (rw c.deref-in-loop-taken.ensures.value at
+    rw c.is_blank.ensures at c.count-counts.ensures.unreadable)
