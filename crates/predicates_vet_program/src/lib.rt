@@ -5,6 +5,7 @@ mod command;
 mod flags;
 mod runtime;
 mod stderr;
+mod stdout;
 mod words_fault;
 
 pub use runtime::run_program;

@@ -4,6 +4,7 @@ ghost use Rattle.predicates_vet.specs.Runs.{status_of};
 
 use crate::command::{command, settings_of};
 use crate::stderr::Stderr;
+use crate::stdout::Stdout;
 use crate::words_fault::fault_line;
 use clap::ArgMatches;
 use predicates_json::is_pointer;
@@ -31,7 +32,10 @@ fn end<E: Eprint>(rt: &E, counts: Counts) -> io::Result<u8>
         failed,
         unreadable,
     } = counts;
-    let (record, line) = (noun(records, "record", "records"), noun(unreadable, "line", "lines"));
+    let (record, line) = (
+        noun(records, "record", "records"),
+        noun(unreadable, "line", "lines"),
+    );
     if unreadable > 0 {
         eprintln!(rt; "{records} {record}, {failed} failed, {unreadable} {line} unreadable")?;
     } else {
@@ -76,27 +80,44 @@ fn tell_words<E: Print + Eprint + AllocGlobal>(rt: &E, error: &clap::Error) -> i
     Ok(2)
 }
 
+// How a run ended.
+enum Ended {
+    Whole(Counts),
+    Early(RunFault),
+    // Nothing reads the output any more.
+    Unread,
+}
+
 // How a run over the streams of the process ends.
 fn run_streams<E: Input + Print + Eprint + AllocGlobal>(
     rt: &E,
     rules: &[RuleCheck],
     settings: &Settings,
-) -> io::Result<Result<Counts, RunFault>> {
+) -> io::Result<Ended> {
     let alloc = rt.alloc();
     let mut input = BufReader::new(alloc, rt.reader())?;
-    let mut output = BufWriter::new(alloc, io::writer(rt))?;
+    let stdout = Stdout {
+        rt,
+        is_closed: false,
+    };
+    let mut output = BufWriter::new(alloc, stdout)?;
     let mut messages = Stderr { rt };
-    Ok(run_records(
+    let ended = run_records(
         alloc,
         rules,
         settings,
         &mut input,
         &mut output,
         &mut messages,
-    ))
+    );
+    Ok(match ended {
+        Ok(counts) => Ended::Whole(counts),
+        Err(RunFault::Output) if output.get_ref().is_closed => Ended::Unread,
+        Err(fault) => Ended::Early(fault),
+    })
 }
 
-// Runs by these rules; and the status.
+// Runs by these rules; and the status. Where nothing reads the output any more, nothing is told.
 fn run_by<E: Input + Print + Eprint + AllocGlobal>(
     rt: &E,
     rules: &[RuleCheck],
@@ -105,8 +126,9 @@ fn run_by<E: Input + Print + Eprint + AllocGlobal>(
     ensures { IfOk result (λ status. status ≤ 2) }
 {
     match run_streams(rt, rules, settings)? {
-        Ok(counts) => end(rt, counts),
-        Err(fault) => tell(rt, &fault),
+        Ended::Whole(counts) => end(rt, counts),
+        Ended::Early(fault) => tell(rt, &fault),
+        Ended::Unread => Ok(2),
     }
 }
 
@@ -159,7 +181,8 @@ fn try_run<E: Env + Files + Input + Print + Eprint + AllocGlobal>(rt: &E) -> io:
 /// Runs the program on the words, the files, the streams and the memory of a process, and answers
 /// its status: 0 where every record keeps every rule, 1 where one breaks a rule, and 2 for wrong
 /// words, rules that can't be read, lines that are not JSON, faults of reading and writing, and out
-/// of memory, each told in a line on standard error.
+/// of memory, each told in a line on standard error; and 2 without a line where nothing reads
+/// standard output any more.
 ///
 /// ```
 /// fn main(rt: HostRuntime) -> ExitCode {

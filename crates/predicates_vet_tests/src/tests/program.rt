@@ -314,7 +314,7 @@ const ROWS: [Row; 30] = [
         Closed::Output,
         2,
         "",
-        "vet: output could not be written\n",
+        "",
     ),
     (PLAIN, b"a: / == 1", b"1", None, Closed::Error, 2, "", ""),
     (PLAIN, b"a: / == 1", b"[", None, Closed::Error, 2, "", ""),
