@@ -1,3 +1,4 @@
+mod asked;
 mod boxes;
 mod derives;
 mod flags;

@@ -1,0 +1,182 @@
+//! How often a part is asked below what stands around it.
+use super::counting::{CountingLeaf, leaf_that_counts};
+use super::needed::{Call, needed};
+use predicates::prelude::*;
+use predicates_testing::ReferenceFormula;
+use std::alloc::{AllocError, Global};
+use std::cell::Cell;
+use std::fmt;
+
+/// What stands around a part: nothing, a combinator of one, or one of two with a leaf behind the
+/// part, or before it.
+#[derive(Debug, Clone, Copy, PartialEq, Eq)]
+pub enum Around {
+    Alone,
+    Not,
+    Name,
+    And,
+    Or,
+    Xor,
+    AfterXor,
+}
+
+pub const AROUND: [Around; 7] = [
+    Around::Alone,
+    Around::Not,
+    Around::Name,
+    Around::And,
+    Around::Or,
+    Around::Xor,
+    Around::AfterXor,
+];
+
+/// How often the leaves are evaluated by `eval`, by `find_case` of true and of false, by `explain`
+/// and by `find_change` of either, of true and of false each, and by `require`.
+pub type Counts = [usize; 10];
+
+const CALLS: [Call; 9] = [
+    Call::Eval,
+    Call::FindCase(true),
+    Call::FindCase(false),
+    Call::Explain(None),
+    Call::Explain(Some(true)),
+    Call::Explain(Some(false)),
+    Call::FindChange(None),
+    Call::FindChange(Some(true)),
+    Call::FindChange(Some(false)),
+];
+
+fn call<P: PredicateChange<Item>, Item>(
+    alloc: Global,
+    predicate: &P,
+    item: &Item,
+    call: Call,
+) -> Result<(), AllocError>
+    requires { P.lawful predicate.now }
+{
+    match call {
+        Call::Eval => {
+            predicate.eval(alloc, item)?;
+        }
+        Call::FindCase(expected) => {
+            predicate.find_case(alloc, expected, item)?;
+        }
+        Call::Explain(wanted) => {
+            predicate.explain(alloc, wanted, item)?;
+        }
+        Call::FindChange(wanted) => {
+            predicate.find_change(alloc, wanted, item)?;
+        }
+    }
+    Ok(())
+}
+
+/// What is asked: a part whose leaves have a verdict, and what stands around it, with the verdict
+/// of the leaf beside it.
+#[derive(Clone, Copy)]
+pub struct Asked<'a> {
+    pub cell: &'a Cell<usize>,
+    pub holds: bool,
+    pub around: Around,
+    pub beside: bool,
+}
+
+impl<'a> Asked<'a> {
+    /// A leaf of the part.
+    pub fn leaf<Item>(self) -> CountingLeaf<'a, Item> {
+        leaf_that_counts(self.cell, self.holds)
+    }
+
+    /// A leaf of the part with the opposite verdict.
+    pub fn other<Item>(self) -> CountingLeaf<'a, Item> {
+        leaf_that_counts(self.cell, !self.holds)
+    }
+
+    /// How often the leaves are evaluated.
+    pub fn counts<P: PredicateChange<Item> + Drop, Item: fmt::Debug + Drop>(
+        self,
+        alloc: Global,
+        part: P,
+        item: Item,
+    ) -> Result<Counts, AllocError>
+        requires { P.lawful part }
+    {
+        let beside = leaf_that_counts::<Item>(self.cell, self.beside);
+        match self.around {
+            Around::Alone => self.of(alloc, part, &item),
+            Around::Not => self.of(alloc, part.not(), &item),
+            Around::Name => self.of(alloc, part.name("named"), &item),
+            Around::And => self.of(alloc, part.and(beside), &item),
+            Around::Or => self.of(alloc, part.or(beside), &item),
+            Around::Xor => self.of(alloc, part.xor(beside), &item),
+            Around::AfterXor => self.of(alloc, beside.xor(part), &item),
+        }
+    }
+
+    fn of<P: PredicateChange<Item> + Drop, Item>(
+        self,
+        alloc: Global,
+        predicate: P,
+        item: &Item,
+    ) -> Result<Counts, AllocError>
+        requires { P.lawful predicate }
+    {
+        let mut counts = [0; 10];
+        for (place, asks) in CALLS.into_iter().enumerate() {
+            self.cell.set(0);
+            call(alloc, &predicate, item, asks)?;
+            counts[place] = self.cell.get();
+        }
+        self.cell.set(0);
+        let _unmet = require(alloc, &predicate, item);
+        counts[9] = self.cell.get();
+        Ok(counts)
+    }
+}
+
+// The formula of a join of the part and a leaf, in the order in which they stand.
+fn joined(
+    alloc: Global,
+    around: Around,
+    left: ReferenceFormula,
+    right: ReferenceFormula,
+) -> Result<ReferenceFormula, AllocError> {
+    let (left, right) = (Box::new(alloc, left)?, Box::new(alloc, right)?);
+    Ok(match around {
+        Around::And => ReferenceFormula::And(left, right),
+        Around::Or => ReferenceFormula::Or(left, right),
+        _ => ReferenceFormula::Xor(left, right),
+    })
+}
+
+/// The formula of the part below what stands around it, beside a leaf of the verdict.
+pub fn formula_around(
+    alloc: Global,
+    around: Around,
+    part: ReferenceFormula,
+    beside: bool,
+) -> Result<ReferenceFormula, AllocError> {
+    let other = ReferenceFormula::Leaf(beside);
+    match around {
+        Around::Alone => Ok(part),
+        Around::Not => Ok(ReferenceFormula::Not(Box::new(alloc, part)?)),
+        Around::Name => Ok(ReferenceFormula::Named(Box::new(alloc, part)?)),
+        Around::And | Around::Or | Around::Xor => joined(alloc, around, part, other),
+        Around::AfterXor => joined(alloc, around, other, part),
+    }
+}
+
+/// How many evaluations of leaves each call needs.
+pub fn counts_needed(formula: &ReferenceFormula) -> Counts {
+    let mut counts = [0; 10];
+    for (place, call) in CALLS.into_iter().enumerate() {
+        counts[place] = needed(call, formula);
+    }
+    let verdict = needed(Call::Eval, formula);
+    counts[9] = if formula.truth() {
+        verdict
+    } else {
+        verdict.saturating_add(needed(Call::Explain(Some(false)), formula))
+    };
+    counts
+}
