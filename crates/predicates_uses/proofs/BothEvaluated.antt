@@ -5,7 +5,7 @@ use Rattle.std.specs.Ordering.{is_lt, nat_cmp}
 use Rattle.predicates_core.specs.declared.custom.join.Operator.TheVariants.{Or}
 use Rattle.predicates_core.specs.Formula.{Formula, HasTruth, Leaf, pair}
 use Rattle.predicates_core.specs.Tree.{Tree}
-use Rattle.predicates_core.specs.Describe.{CaseNode}
+use Rattle.predicates_core.specs.Describe.{CaseNode, NamedCase}
 use Rattle.predicates_core.specs.Shows.{IsNode, IsCaseOf}
 use Rattle.predicates_core.specs.Label.{Label, plain, Fits}
 use Rattle.predicates_core.specs.Leaves.{IsExactly}
@@ -30,6 +30,27 @@ module _ {text : Option (List ℕ)} {left right : Formula → Type 0} {b : Bool}
 
   pub IsCaseOf-or_right : {d : Tree CaseNode} → IsNode (Some bytes) b ((codes "right", d) ∷ []) t → Fits text bytes → HasTruth left (not b) → IsCaseOf right b d → b ≡ true → IsCaseOf (IsPair Or text left right) b t
   IsCaseOf-or_right written fits x y e = case_of_right Or (rw e or_right) written fits x y (rw e refl)
+
+-- the same of whichever truth the whole has, where those of the parts are read from their cases
+module _ {text : Option (List ℕ)} {left right : Formula → Type 0} {t : Tree CaseNode} {bytes : List ℕ} where
+  whole : (b : Bool) {parts : List NamedCase} → IsNode (Some bytes) b parts t → IsCaseOf (IsPair Or text left right) b t → IsCaseOf (IsPair Or text left right) t.root.result t
+  whole b written x = subst (λ r. IsCaseOf (IsPair Or text left right) r t) (sym written.result) x
+
+  pub IsFound-or_left : {c : Tree CaseNode} → IsNode (Some bytes) true ((codes "left", c) ∷ []) t → Fits text bytes → IsCaseOf left c.root.result c → c.root.result ≡ true → IsCaseOf (IsPair Or text left right) t.root.result t
+  IsFound-or_left {c} written fits x e = whole true written (IsCaseOf-or_left written fits (subst (λ b. IsCaseOf left b c) e x) refl)
+
+  pub IsFound-or_right : {c d : Tree CaseNode} → IsNode (Some bytes) true ((codes "right", d) ∷ []) t → Fits text bytes → IsCaseOf left c.root.result c → c.root.result ≡ false → IsCaseOf right d.root.result d → d.root.result ≡ true → IsCaseOf (IsPair Or text left right) t.root.result t
+  IsFound-or_right {c} {d} written fits x is_c y is_d = whole true written (IsCaseOf-or_right written fits (subst (HasTruth left) is_c x.truth) (subst (λ b. IsCaseOf right b d) is_d y) refl)
+
+  pub IsFound-or_both : {c d : Tree CaseNode} → IsNode (Some bytes) false ((codes "left", c) ∷ (codes "right", d) ∷ []) t → Fits text bytes → IsCaseOf left c.root.result c → c.root.result ≡ false → IsCaseOf right d.root.result d → d.root.result ≡ false → IsCaseOf (IsPair Or text left right) t.root.result t
+  IsFound-or_both {c} {d} written fits x is_c y is_d = whole false written (IsCaseOf-or_both written fits (subst (λ b. IsCaseOf left b c) is_c x) (subst (λ b. IsCaseOf right b d) is_d y) refl)
+
+module _ {text : Option (List ℕ)} {left right : Formula → Type 0} where
+  pub no_left : ((f : Formula) → left f → ⊥) → (f : Formula) → IsPair Or text left right f → ⊥
+  no_left none f h = none h.left_formula h.of_left
+
+  pub no_right : ((f : Formula) → right f → ⊥) → (f : Formula) → IsPair Or text left right f → ⊥
+  no_right none f h = none h.right_formula h.of_right
 
 -- what is answered of two leaves, where no memory is requested
 truth_of_either : {text : Option (List ℕ)} {left right : Label} {a b e : Bool} → HasTruth (IsPair Or text (IsExactly (Leaf left a)) (IsExactly (Leaf right b))) e → e ≡ (a || b)

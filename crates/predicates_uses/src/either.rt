@@ -1,17 +1,17 @@
-//! A combinator of the caller's own.
-ghost use Rattle.std.specs.Prelude.{◌≡◌, [], codes};
+//! A combinator of the caller's own, by the trait and the calls of cases alone.
+ghost use Rattle.std.specs.Prelude.{◌≡◌, ◌↔◌, [], ◌∷◌, codes, None, Some, IfOk};
+ghost use Rattle.std.specs.Prelude.{string_bytes};
 ghost use Rattle.predicates_core.specs.declared.custom.join.Operator.TheVariants.{Or};
 ghost use Rattle.predicates_core.specs.Label.{plain};
-ghost use Rattle.predicates_core.specs.Formula.{pair};
+ghost use Rattle.predicates_core.specs.Formula.{Formula, pair};
 ghost use Rattle.predicates_core.specs.Parts.{two_parts};
 ghost use Rattle.predicates_core.specs.Combined.{IsPair};
+ghost use Rattle.predicates_core.specs.Shows.{IsNode, IsAnswer, IsFound};
 ghost use Rattle.predicates_core.proofs.CombinedLemmas.{pair_text_fits, one_pair, has_pair};
 ghost use Rattle.predicates_uses.specs.Either.{either_text, left_of, right_of};
 
-use predicates::custom::{
-    Operator, join_case, join_change, join_explained, join_truth, two_children,
-};
-use predicates::reflection::{Case, Child, Parameter, PredicateReflection};
+use predicates::custom::{Operator, join_change};
+use predicates::reflection::{Case, Child, Parameter, PredicateReflection, describe};
 use predicates::{Predicate, PredicateChange, Total};
 use std::alloc::{AllocError, Global};
 use std::fmt;
@@ -57,8 +57,110 @@ impl<P: PredicateReflection, Q: PredicateReflection> PredicateReflection for Eit
     }
 
     fn children(&self, alloc: Global) -> Result<Vec<Child>, AllocError> {
-        two_children(alloc, &self.left, &self.right)
+        let mut children = Vec::new(alloc);
+        children.push(describe(alloc, "left", &self.left)?)?;
+        children.push(describe(alloc, "right", &self.right)?)?;
+        Ok(children)
     }
+}
+
+// A node over one part.
+fn over_one(
+    alloc: Global,
+    text: String,
+    outcome: bool,
+    name: &'static str,
+    part: Case,
+) -> Result<Case, AllocError>
+    ensures { IfOk result
+        (IsNode (Some (string_bytes text)) outcome ((name.entry.now, part) ∷ [])) }
+{
+    Case::new(alloc, Some(text), outcome).add_child(name, part)
+}
+
+// A node over both parts.
+fn over_both(
+    alloc: Global,
+    text: String,
+    outcome: bool,
+    left: Case,
+    right: Case,
+) -> Result<Case, AllocError>
+    ensures { IfOk result
+        (IsNode (Some (string_bytes text)) outcome
+        ((codes "left", left) ∷ (codes "right", right) ∷ [])) }
+{
+    Case::new(alloc, Some(text), outcome)
+        .add_child("left", left)?
+        .add_child("right", right)
+}
+
+// The case where the verdict is the expected one. It asks the left part for its case, and the right
+// one where the left one does not decide.
+#[tactic(auto, using(crate::proofs::BothEvaluated::both_evaluated))]
+fn wanted_case<P: Predicate<Item>, Q: Predicate<Item>, Item>(
+    alloc: Global,
+    either: &Either<P, Q>,
+    expected: bool,
+    item: &Item,
+) -> Result<Option<Case>, AllocError>
+    requires left { P.lawful (left_of either.now) }
+    requires right { Q.lawful (right_of either.now) }
+    ensures { IfOk result (IsAnswer (IsPair Or
+        (either_text (P.output (left_of either.now)) (Q.output (right_of either.now)))
+        (P.formula (left_of either.now) item.now)
+        (Q.formula (right_of either.now) item.now)) expected) }
+{
+    match either.left.explain(alloc, Some(expected), item)? {
+        None if !expected => Ok(None),
+        None => {
+            let Some(right) = either.right.explain(alloc, Some(expected), item)? else {
+                return Ok(None);
+            };
+            let text = either.to_string(alloc)?;
+            Ok(Some(over_one(alloc, text, expected, "right", right)?))
+        }
+        Some(left) if expected => {
+            let text = either.to_string(alloc)?;
+            Ok(Some(over_one(alloc, text, expected, "left", left)?))
+        }
+        Some(left) => {
+            let Some(right) = either.right.explain(alloc, Some(expected), item)? else {
+                return Ok(None);
+            };
+            let text = either.to_string(alloc)?;
+            Ok(Some(over_both(alloc, text, expected, left, right)?))
+        }
+    }
+}
+
+// The case of whichever verdict it has, asked for in the same order.
+fn whichever_case<P: Predicate<Item>, Q: Predicate<Item>, Item>(
+    alloc: Global,
+    either: &Either<P, Q>,
+    item: &Item,
+) -> Result<Option<Case>, AllocError>
+    requires left { P.lawful (left_of either.now) }
+    requires right { Q.lawful (right_of either.now) }
+    ensures { IfOk result (IsFound (IsPair Or
+        (either_text (P.output (left_of either.now)) (Q.output (right_of either.now)))
+        (P.formula (left_of either.now) item.now)
+        (Q.formula (right_of either.now) item.now)) None) }
+{
+    let Some(left) = either.left.explain(alloc, None, item)? else {
+        return Ok(None);
+    };
+    let text = either.to_string(alloc)?;
+    if left.root().result() {
+        return Ok(Some(over_one(alloc, text, true, "left", left)?));
+    }
+    let Some(right) = either.right.explain(alloc, None, item)? else {
+        return Ok(None);
+    };
+    if right.root().result() {
+        return Ok(Some(over_one(alloc, text, true, "right", right)?));
+    }
+    Ok(Some(over_both(alloc, text, false, left, right)?))
 }
 
 impl<P: Predicate<Item>, Q: Predicate<Item>, Item> Predicate<Item> for Either<P, Q> {
@@ -77,8 +179,9 @@ impl<P: Predicate<Item>, Q: Predicate<Item>, Item> Predicate<Item> for Either<P,
         (λ x y. P.one_formula (left_of p) v x y lawful.0)
         (λ x y. Q.one_formula (right_of p) v x y lawful.1) };
 
+    #[tactic(auto, using(crate::proofs::BothEvaluated::both_evaluated))]
     fn eval(&self, alloc: Global, item: &Item) -> Result<bool, AllocError> {
-        join_truth(alloc, Operator::Or, &self.left, &self.right, item)
+        Ok(self.left.eval(alloc, item)? || self.right.eval(alloc, item)?)
     }
 
     fn find_case(
@@ -87,15 +190,10 @@ impl<P: Predicate<Item>, Q: Predicate<Item>, Item> Predicate<Item> for Either<P,
         expected: bool,
         item: &Item,
     ) -> Result<Option<Case>, AllocError> {
-        join_case(
-            alloc,
-            Operator::Or,
-            self,
-            &self.left,
-            &self.right,
-            expected,
-            item,
-        )
+        if self.eval(alloc, item)? != expected {
+            return Ok(None);
+        }
+        self.explain(alloc, Some(expected), item)
     }
 
     fn explain(
@@ -104,8 +202,10 @@ impl<P: Predicate<Item>, Q: Predicate<Item>, Item> Predicate<Item> for Either<P,
         wanted: Option<bool>,
         item: &Item,
     ) -> Result<Option<Case>, AllocError> {
-        let operator = Operator::Or;
-        join_explained(alloc, operator, self, &self.left, &self.right, wanted, item)
+        match wanted {
+            Some(expected) => wanted_case(alloc, self, expected, item),
+            None => whichever_case(alloc, self, item),
+        }
     }
 }
 
@@ -134,3 +234,28 @@ impl<P: Total<Item>, Q: Total<Item>, Item> Total<Item> for Either<P, Q> {
         (P.has_formula (left_of p) v)
         (Q.has_formula (right_of p) v) };
 }
+
+/// What `Either` means: its formulas are `Or` over a formula of each part. It may be evaluated where
+/// its parts may, and takes no memory where they take none.
+pub fn alternatives<P: Predicate<Item>, Q: Predicate<Item>, Item>(
+    either: &Either<P, Q>,
+    item: &Item,
+)
+    ensures formula { (f : Formula)
+        → ⟦<Either<P, Q> as Predicate<Item>>⟧.formula either.now item.now f
+        ↔ IsPair Or
+        (either_text (P.output (left_of either.now)) (Q.output (right_of either.now)))
+        (P.formula (left_of either.now) item.now)
+        (Q.formula (right_of either.now) item.now)
+        f }
+    ensures lawful { ⟦<Either<P, Q> as Predicate<Item>>⟧.lawful either.now
+        ↔ P.lawful (left_of either.now) × Q.lawful (right_of either.now) }
+    ensures infallible { ⟦<Either<P, Q> as Predicate<Item>>⟧.infallible either.now item.now
+        ↔ P.infallible (left_of either.now) item.now × Q.infallible (right_of either.now) item.now }
+    ensures values { ⟦<Either<P, Q> as PredicateReflection>⟧.parameters_of either.now ≡ [] }
+    ensures parts { ⟦<Either<P, Q> as PredicateReflection>⟧.children_of either.now ≡ two_parts
+        (codes "left") (P.output (left_of either.now))
+        (P.parameters_of (left_of either.now)) (P.children_of (left_of either.now))
+        (codes "right") (Q.output (right_of either.now))
+        (Q.parameters_of (right_of either.now)) (Q.children_of (right_of either.now)) }
+{}

@@ -14,7 +14,7 @@ mod right_first;
 pub use answer::IsTheAnswer;
 pub use boxed::eval_boxed;
 pub use divisible::DivisibleBy;
-pub use either::Either;
+pub use either::{Either, alternatives};
 pub use files::{is_copy, no_script};
 pub use multiple::MultipleOf;
 pub use order::{Line, Order, Policy, allow_order};
