@@ -1,4 +1,3 @@
-mod asked;
 mod boxes;
 mod derives;
 mod flags;
