@@ -306,16 +306,7 @@ const ROWS: [Row; 30] = [
         "",
         "vet: no memory\n",
     ),
-    (
-        PLAIN,
-        b"a: / == 1",
-        b"2",
-        None,
-        Closed::Output,
-        2,
-        "",
-        "",
-    ),
+    (PLAIN, b"a: / == 1", b"2", None, Closed::Output, 2, "", ""),
     (PLAIN, b"a: / == 1", b"1", None, Closed::Error, 2, "", ""),
     (PLAIN, b"a: / == 1", b"[", None, Closed::Error, 2, "", ""),
 ];
