@@ -73,22 +73,22 @@ module _ {W : Type 0} (took : W → List ℕ → W → Type 0) where
       ap (λ z. further_texts (map output z)) one_more ∙ ap further_texts (map-append output (take k us) (u ∷ [])) ∙ further_last (map output (take k us)) (output u) in
       subst (λ o. DisplaysOnOk took f (Ok tt) o h) (sym texts) (displays_on_IsOk_append took f g h (Ok tt) (Ok tt) _ _ (λ ok. refl) x y)
 
-module _ {L : Type 0} (text : L → Entry) where
-  each_text : (cs : List (Check L)) → tree_texts text (trees_of (map tree_of cs)) ≡ map (check_text text) cs
+module _ {L V : Type 0} (text : L → Entry) (view_text : V → Entry) where
+  each_text : (cs : List (Check L V)) → tree_texts text view_text (trees_of (map tree_of cs)) ≡ map (check_text text view_text) cs
   each_text [] = refl
-  each_text (c ∷ cs) = ap (λ ts. check_text text c ∷ ts) (each_text cs)
+  each_text (c ∷ cs) = ap (λ ts. check_text text view_text c ∷ ts) (each_text cs)
 
-  pub row_is : (decides : Bool) (cs : List (Check L)) → tree_text text (Rows decides (trees_of (map tree_of cs))) ≡ row_text (word decides) (joined_texts (map (check_text text) cs))
-  row_is decides cs = ap (listed_text (word decides)) (each_text cs) ∙ listed (word decides) (map (check_text text) cs)
+  pub row_is : (decides : Bool) (cs : List (Check L V)) → tree_text text view_text (Rows decides (trees_of (map tree_of cs))) ≡ row_text (word decides) (joined_texts (map (check_text text view_text) cs))
+  row_is decides cs = ap (listed_text (word decides)) (each_text cs) ∙ listed (word decides) (map (check_text text view_text) cs)
 
-  pub counted_is : (least : ℕ) (cs : List (Check L)) → tree_text text (Counts least (trees_of (map tree_of cs))) ≡ counted_text (codes "at_least") least (map (check_text text) cs)
+  pub counted_is : (least : ℕ) (cs : List (Check L V)) → tree_text text view_text (Counts least (trees_of (map tree_of cs))) ≡ counted_text (codes "at_least") least (map (check_text text view_text) cs)
   counted_is least cs = ap (counted_text (codes "at_least") least) (each_text cs)
 
   module _ (parameters : L → List Product) (below : L → Forest Part) where
-    pub each_described : (cs : List (Check L)) → row_parts text parameters below (trees_of (map tree_of cs)) ≡ part_of_each (codes "rule") (check_text text) (check_parameters parameters) (check_parts text parameters below) cs
+    pub each_described : (cs : List (Check L V)) → row_parts text view_text parameters below (trees_of (map tree_of cs)) ≡ part_of_each (codes "rule") (check_text text view_text) (check_parameters parameters) (check_parts text view_text parameters below) cs
     each_described [] = refl
-    each_described (c ∷ cs) = λ i. branch (codes "rule") (record { text = check_text text c; parameters = check_parameters parameters c }) (check_parts text parameters below c) (each_described cs i)
+    each_described (c ∷ cs) = λ i. branch (codes "rule") (record { text = check_text text view_text c; parameters = check_parameters parameters c }) (check_parts text view_text parameters below c) (each_described cs i)
 
-    pub no_parts : (cs : List (Check L)) → row_parts text parameters below (trees_of (map tree_of cs)) ≡ empty → cs ≡ []
+    pub no_parts : (cs : List (Check L V)) → row_parts text view_text parameters below (trees_of (map tree_of cs)) ≡ empty → cs ≡ []
     no_parts [] e = refl
     no_parts (c ∷ cs) e = absurd (cc)

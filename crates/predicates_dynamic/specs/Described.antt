@@ -5,43 +5,50 @@ use Rattle.predicates_core.specs.Parts.{Part, part, two_parts}
 use Rattle.predicates_core.specs.Tree.{Forest, empty, branch}
 use Rattle.predicates_dynamic.specs.declared.check.Check.{Check}
 use Rattle.predicates_dynamic.specs.Trees.{Tree, Trees, Asks, Denies, Names, Pairs, Rows, Counts}
+use Rattle.predicates_dynamic.specs.Trees.{Quantifies, CountsMembers}
 use Rattle.predicates_dynamic.specs.Trees.{nothing, also, tree_of}
 use Rattle.predicates_dynamic.specs.Formulas.{tree_text}
 
-module _ {L : Type 0} (parameters : L → List Product) where
+module _ {L V : Type 0} (parameters : L → List Product) where
   -- only a leaf has parameters
-  abbrev pub tree_parameters : Tree L → List Product
+  abbrev pub tree_parameters : Tree L V → List Product
   tree_parameters (Asks l) = parameters l
   tree_parameters (Denies t) = []
   tree_parameters (Names name t) = []
   tree_parameters (Pairs op a b) = []
   tree_parameters (Rows decides ts) = []
   tree_parameters (Counts least ts) = []
+  tree_parameters (Quantifies decides view t) = []
+  tree_parameters (CountsMembers least view t) = []
 
-  abbrev pub check_parameters : Check L → List Product
+  abbrev pub check_parameters : Check L V → List Product
   check_parameters c = tree_parameters (tree_of c)
 
-module _ {L : Type 0} (text : L → Entry) (parameters : L → List Product)
+module _ {L V : Type 0} (text : L → Entry) (view_text : V → Entry) (parameters : L → List Product)
     (below : L → Forest Part) where
   abbrev mutual
     -- a leaf has its own parts
-    pub tree_parts : Tree L → Forest Part
+    pub tree_parts : Tree L V → Forest Part
     tree_parts (Asks l) = below l
-    tree_parts (Denies t) = part (codes "predicate") (tree_text text t)
+    tree_parts (Denies t) = part (codes "predicate") (tree_text text view_text t)
         (tree_parameters parameters t) (tree_parts t)
-    tree_parts (Names name t) = part name (tree_text text t) (tree_parameters parameters t)
-        (tree_parts t)
+    tree_parts (Names name t) = part name (tree_text text view_text t)
+        (tree_parameters parameters t) (tree_parts t)
     tree_parts (Pairs op a b) = two_parts
-        (codes "left") (tree_text text a) (tree_parameters parameters a) (tree_parts a)
-        (codes "right") (tree_text text b) (tree_parameters parameters b) (tree_parts b)
+        (codes "left") (tree_text text view_text a) (tree_parameters parameters a) (tree_parts a)
+        (codes "right") (tree_text text view_text b) (tree_parameters parameters b) (tree_parts b)
     tree_parts (Rows decides ts) = row_parts ts
     tree_parts (Counts least ts) = row_parts ts
+    tree_parts (Quantifies decides view t) = part (codes "item") (tree_text text view_text t)
+        (tree_parameters parameters t) (tree_parts t)
+    tree_parts (CountsMembers least view t) = part (codes "item") (tree_text text view_text t)
+        (tree_parameters parameters t) (tree_parts t)
 
-    pub row_parts : Trees L → Forest Part
+    pub row_parts : Trees L V → Forest Part
     row_parts nothing = empty
     row_parts (also t ts) = branch (codes "rule")
-        (record { text = tree_text text t; parameters = tree_parameters parameters t })
+        (record { text = tree_text text view_text t; parameters = tree_parameters parameters t })
         (tree_parts t) (row_parts ts)
 
-  abbrev pub check_parts : Check L → Forest Part
+  abbrev pub check_parts : Check L V → Forest Part
   check_parts c = tree_parts (tree_of c)

@@ -1,174 +1,310 @@
 -- The laws of a check: its printed text fits its formulas, and it has one where each leaf has.
-use Rattle.std.specs.Prelude.{◌≡◌, refl, ℕ, zero, suc, ◌≤◌, List, [], ◌∷◌, length, codes}
+use Rattle.std.specs.Prelude.{◌≡◌, refl, ℕ, suc, List, [], ◌∷◌, length, map, codes}
+use Rattle.std.specs.Prelude.{Bool, ◌&&◌, cond, nat_le, Option, Some, None, option_map}
 use Rattle.std.specs.List.{AllByRecursion}
 use Rattle.std.proofs.Common.{sym, ap, ◌∙◌, subst}
+use Rattle.std.proofs.lemmas.List.{length-map, map-id}
 use Rattle.predicates_core.specs.Label.{Entry, FitsEntry}
-use Rattle.predicates_core.specs.Formula.{Formula, Formulas, one, more, Join, text_of}
+use Rattle.predicates_core.specs.Formula.{Formula, Formulas, one, more, Join, AtLeast, text_of}
+use Rattle.predicates_core.specs.Label.{plain}
+use Rattle.predicates_core.specs.Present.{IsOfPresent, present_formula, present_text_fits}
+use Rattle.predicates_core.specs.Present.{one_present, has_present}
 use Rattle.predicates_core.specs.LeafLaws.{exactly_text_fits, one_exactly, fits_itself}
-use Rattle.predicates_core.specs.Several.{AreOfEach, decided_by, numbered}
-use Rattle.predicates_core.specs.Thresholds.{IsOfThreshold}
+use Rattle.predicates_core.specs.Several.{AreOfEach, decided_by, numbered, IsOfMembers}
+use Rattle.predicates_core.specs.Several.{members_formula, formulas_of}
+use Rattle.predicates_core.specs.Thresholds.{IsOfThreshold, threshold_formula, settled}
 use Rattle.predicates_core.proofs.CombinedLemmas.{pair_text_fits, not_text_fits, named_text_fits}
 use Rattle.predicates_core.proofs.CombinedLemmas.{one_pair, one_not, one_named}
 use Rattle.predicates_core.proofs.CombinedLemmas.{has_pair, has_not, has_named}
-use Rattle.predicates_core.proofs.Several.{HasOne}
+use Rattle.predicates_core.proofs.Several.{HasOne, each_holds, members_text_fits, one_members}
+use Rattle.predicates_core.proofs.Several.{has_members}
 use Rattle.predicates_core.proofs.ThresholdCases.{threshold_text_fits, one_by_threshold}
 use Rattle.predicates_core.proofs.ThresholdCases.{has_threshold}
 use Rattle.predicates_dynamic.specs.Trees.{Tree, Trees, Asks, Denies, Names, Pairs, Rows, Counts}
+use Rattle.predicates_dynamic.specs.Trees.{Quantifies, CountsMembers}
 use Rattle.predicates_dynamic.specs.Trees.{nothing, also, AllLeaves, AllOfTrees}
-use Rattle.predicates_dynamic.specs.Formulas.{tree_text, tree_texts, HasFormula, AreFormulas}
+use Rattle.predicates_dynamic.specs.Formulas.{tree_text, HasFormula, AreFormulas}
+use Rattle.predicates_dynamic.specs.Formulas.{quantified_text, members_text}
 use Rattle.predicates_dynamic.specs.Formulas.{IsNothing, IsThresholdOf, number_of}
 use Rattle.predicates_dynamic.specs.Formulas.{tree_formula, tree_formulas, part_formulas}
 
-module _ {L : Type 0} where
-  abbrev listed : Trees L → List (Tree L)
+module _ {L V : Type 0} where
+  abbrev listed : Trees L V → List (Tree L V)
   listed nothing = []
   listed (also t ts) = t ∷ listed ts
 
-  no_trees : (ts : Trees L) → IsNothing ts → listed ts ≡ []
+  no_trees : (ts : Trees L V) → IsNothing ts → listed ts ≡ []
   no_trees nothing h = refl
   no_trees (also t ts) h = absurd h
 
-  number_listed : (ts : Trees L) → number_of ts ≡ length (listed ts)
+  number_listed : (ts : Trees L V) → number_of ts ≡ length (listed ts)
   number_listed nothing = refl
   number_listed (also t ts) = ap suc (number_listed ts)
 
-module _ {L : Type 0} (text : L → Entry) (has : L → Formula → Type 0) where
-  are_of_each : (ts : Trees L) (fs : Formulas) → AreFormulas text has ts fs
-      → AreOfEach (codes "rule") (HasFormula text has) (listed ts) fs
-  are_of_each nothing fs h = h
-  are_of_each (also t ts) (one n f) h = (h.0, h.1, no_trees ts h.2)
-  are_of_each (also t ts) (more n f fs) h = (h.0, h.1, are_of_each ts fs h.2)
+-- the formulas of the members, by what is read of each
+formulas_read : {U K : Type 0} (name : List ℕ) (read : U → K) (g : K → Formula) (u : U)
+    (us : List U)
+    → formulas_of name g (read u) (map read us) ≡ formulas_of name (λ w. g (read w)) u us
+formulas_read name read g u [] = refl
+formulas_read name read g u (w ∷ us) =
+    ap (more name (g (read u))) (formulas_read name read g w us)
 
-  of_listed : (least : ℕ) (ts : Trees L) (f : Formula) → HasFormula text has (Counts least ts) f
-      → IsOfThreshold least (tree_text text (Counts least ts)) (codes "rule")
-      (HasFormula text has) (listed ts) f
-  of_listed least ts f h =
-      let x = subst (λ n. IsThresholdOf least n (tree_text text (Counts least ts))
-      (AreFormulas text has ts) f) (number_listed ts) h in
+members_read : {U K : Type 0} (decides : Bool) (text : Entry) (name : List ℕ) (read : U → K)
+    (g : K → Formula) (us : List U) → members_formula decides text name (λ w. g (read w)) us
+    ≡ members_formula decides text name g (map read us)
+members_read decides text name read g [] = refl
+members_read decides text name read g (u ∷ us) =
+    ap (λ fs. Join (decided_by decides) (numbered text decides fs) fs)
+    (sym (formulas_read name read g u us))
+
+threshold_read : {U K : Type 0} (least : ℕ) (text : Entry) (name : List ℕ) (read : U → K)
+    (g : K → Formula) (us : List U) → threshold_formula least text name (λ w. g (read w)) us
+    ≡ threshold_formula least text name g (map read us)
+threshold_read least text name read g [] = refl
+threshold_read least text name read g (u ∷ us) =
+    let number : length (map read us) ≡ length us = length-map us read in
+    (λ i. cond (nat_le 1 least && nat_le least (suc (sym number i)))
+    (AtLeast least (plain text) (sym (formulas_read name read g u us) i))
+    (settled text least (suc (sym number i))))
+
+has_present_read : {U K : Type 0} (text : Entry) (reason : List ℕ)
+    (have : List U → Formula → Type 0) {read : U → K} (form : List K → Formula)
+    (held : Option (List U))
+    → ((us : List U) → have us (form (map read us))) → IsOfPresent text reason have held
+    (present_formula text reason form (option_map (map read) held))
+has_present_read text reason have {read} form None each =
+    has_present text reason have (λ us. form (map read us)) None each
+has_present_read text reason have {read} form (Some us) each =
+    has_present text reason have (λ ws. form (map read ws)) (Some us) each
+
+unread : {Item : Type 0} (held : Option (List Item)) → option_map (map (λ u. u)) held ≡ held
+unread None = refl
+unread (Some us) = ap Some (map-id us)
+
+-- where an item is read as it is
+pub members_as_they_are : {V Item : Type 0} (members : V → Item → Option (List Item)) (view : V)
+    (v : Item) → option_map (map (λ u. u)) (members view v) ≡ members view v
+members_as_they_are members view v = unread (members view v)
+
+module _ {L V Item : Type 0} (text : L → Entry) (view_text : V → Entry)
+    (has : L → Item → Formula → Type 0) (members : V → Item → Option (List Item))
+    (reason : V → Item → List ℕ) where
+  are_of_each : (v : Item) (ts : Trees L V) (fs : Formulas)
+      → AreFormulas text view_text has members reason v ts fs
+      → AreOfEach (codes "rule") (HasFormula text view_text has members reason v) (listed ts) fs
+  are_of_each v nothing fs h = h
+  are_of_each v (also t ts) (one n f) h = (h.0, h.1, no_trees ts h.2)
+  are_of_each v (also t ts) (more n f fs) h = (h.0, h.1, are_of_each v ts fs h.2)
+
+  of_listed : (v : Item) (least : ℕ) (ts : Trees L V) (f : Formula)
+      → HasFormula text view_text has members reason v (Counts least ts) f
+      → IsOfThreshold least (tree_text text view_text (Counts least ts)) (codes "rule")
+      (HasFormula text view_text has members reason v) (listed ts) f
+  of_listed v least ts f h =
+      let x = subst (λ n. IsThresholdOf least n (tree_text text view_text (Counts least ts))
+      (AreFormulas text view_text has members reason v ts) f) (number_listed ts) h in
       record {
         of_settled = x.of_settled;
         of_counted = λ some within.
             let c = x.of_counted some within in
             record {
               formulas = c.formulas;
-              of_each = are_of_each ts c.formulas c.of_each;
+              of_each = are_of_each v ts c.formulas c.of_each;
               is = c.is;
             };
       }
 
-  module _ (fits : (l : L) (f : Formula) → has l f → FitsEntry (text_of f) (text l)) where
-    pub tree_text_fits : (t : Tree L) (f : Formula) → HasFormula text has t f
-        → FitsEntry (text_of f) (tree_text text t)
-    tree_text_fits (Asks l) f h = fits l f h
-    tree_text_fits (Denies t) f h = not_text_fits h
-    tree_text_fits (Names name t) f h = named_text_fits h
-    tree_text_fits (Pairs op a b) f h = pair_text_fits h
-    tree_text_fits (Rows decides nothing) f h = exactly_text_fits h
-    tree_text_fits (Rows decides (also t ts)) f h =
-        let own = tree_text text (Rows decides (also t ts)) in
-        subst (λ entry. FitsEntry entry own) (sym (ap text_of h.is)) (fits_itself own)
-    tree_text_fits (Counts least ts) f h =
-        threshold_text_fits least (listed ts) (of_listed least ts f h)
+  module _ (fits : (l : L) (v : Item) (f : Formula) → has l v f → FitsEntry (text_of f) (text l))
+    where
+      pub tree_text_fits : (v : Item) (t : Tree L V) (f : Formula)
+          → HasFormula text view_text has members reason v t f
+          → FitsEntry (text_of f) (tree_text text view_text t)
+      tree_text_fits v (Asks l) f h = fits l v f h
+      tree_text_fits v (Denies t) f h = not_text_fits h
+      tree_text_fits v (Names name t) f h = named_text_fits h
+      tree_text_fits v (Pairs op a b) f h = pair_text_fits h
+      tree_text_fits v (Rows decides nothing) f h = exactly_text_fits h
+      tree_text_fits v (Rows decides (also t ts)) f h =
+          let own = tree_text text view_text (Rows decides (also t ts)) in
+          subst (λ entry. FitsEntry entry own) (sym (ap text_of h.is)) (fits_itself own)
+      tree_text_fits v (Counts least ts) f h =
+          threshold_text_fits least (listed ts) (of_listed v least ts f h)
+      tree_text_fits v (Quantifies decides view t) f h =
+          present_text_fits (members view v) (λ us g x. members_text_fits us x) h
+      tree_text_fits v (CountsMembers least view t) f h =
+          present_text_fits (members view v) (λ us g x. threshold_text_fits least us x) h
 
   module _ (lawful : L → Type 0)
-      (one_of : (l : L) (f g : Formula) → lawful l → has l f → has l g → f ≡ g) where
+      (one_of : (l : L) (v : Item) (f g : Formula) → lawful l → has l v f → has l v g → f ≡ g)
+    where
+      mutual
+        pub one_tree : (v : Item) (t : Tree L V) (f g : Formula) → AllLeaves lawful t
+            → HasFormula text view_text has members reason v t f
+            → HasFormula text view_text has members reason v t g → f ≡ g
+        one_tree v (Asks l) f g all h k = one_of l v f g all h k
+        one_tree v (Denies t) f g all h k = one_not (λ x y. one_tree v t x y all) h k
+        one_tree v (Names name t) f g all h k = one_named (λ x y. one_tree v t x y all) h k
+        one_tree v (Pairs op a b) f g all h k =
+            one_pair (λ x y. one_tree v a x y all.0) (λ x y. one_tree v b x y all.1) h k
+        one_tree v (Rows decides nothing) f g all h k = one_exactly h k
+        one_tree v (Rows decides (also t ts)) f g all h k =
+            let own = tree_text text view_text (Rows decides (also t ts)) in
+            h.is ∙ ap (λ fs. Join (decided_by decides) (numbered own decides fs) fs)
+            (one_of_trees v (also t ts) h.formulas k.formulas all h.of_each k.of_each) ∙ sym k.is
+        one_tree v (Counts least ts) f g all h k =
+            one_by_threshold least (listed ts) (each_one v ts all)
+            (of_listed v least ts f h) (of_listed v least ts g k)
+        one_tree v (Quantifies decides view t) f g all h k = one_present (members view v)
+            (λ us x y. one_members us (λ u z w. one_tree u t z w all)) h k
+        one_tree v (CountsMembers least view t) f g all h k = one_present (members view v)
+            (λ us x y. one_by_threshold least us
+            (each_holds us (λ u z w. one_tree u t z w all))) h k
+
+        each_one : (v : Item) (ts : Trees L V) → AllOfTrees lawful ts → AllByRecursion
+            (HasOne (codes "rule") (HasFormula text view_text has members reason v)) (listed ts)
+        each_one v nothing all = tt
+        each_one v (also t ts) all = (λ x y. one_tree v t x y all.0, each_one v ts all.1)
+
+        one_of_trees : (v : Item) (ts : Trees L V) (fs gs : Formulas) → AllOfTrees lawful ts
+            → AreFormulas text view_text has members reason v ts fs
+            → AreFormulas text view_text has members reason v ts gs → fs ≡ gs
+        one_of_trees v nothing fs gs all h k = absurd h
+        one_of_trees v (also t ts) (one n f) (one m g) all h k =
+            λ i. one ((h.0 ∙ sym k.0) i) (one_tree v t f g all.0 h.1 k.1 i)
+        one_of_trees v (also t nothing) (one n f) (more m g gs) all h k = absurd k.2
+        one_of_trees v (also t (also u us)) (one n f) (more m g gs) all h k = absurd h.2
+        one_of_trees v (also t nothing) (more n f fs) (one m g) all h k = absurd h.2
+        one_of_trees v (also t (also u us)) (more n f fs) (one m g) all h k = absurd k.2
+        one_of_trees v (also t ts) (more n f fs) (more m g gs) all h k =
+            λ i. more ((h.0 ∙ sym k.0) i) (one_tree v t f g all.0 h.1 k.1 i)
+            (one_of_trees v ts fs gs all.1 h.2 k.2 i)
+
+  -- the one formula is that of what is read of the item, where its members are those of the item
+  module _ {K : Type 0} (read : Item → K) (formula_of : L → K → Formula)
+      (read_members : V → K → Option (List K)) (read_reason : V → K → List ℕ)
+      (had : (l : L) (v : Item) → has l v (formula_of l (read v)))
+      (same_members : (view : V) (v : Item)
+      → option_map (map read) (members view v) ≡ read_members view (read v))
+      (same_reason : (view : V) (v : Item) → reason view v ≡ read_reason view (read v)) where
+    abbrev formula_at : Item → Tree L V → Formula
+    formula_at v t = tree_formula text view_text formula_of read_members read_reason (read v) t
+
+    abbrev formulas_at : Item → Trees L V → List Formula
+    formulas_at v ts =
+        tree_formulas text view_text formula_of read_members read_reason (read v) ts
+
+    number_formed : (v : Item) (ts : Trees L V) → length (formulas_at v ts) ≡ number_of ts
+    number_formed v nothing = refl
+    number_formed v (also t ts) = ap suc (number_formed v ts)
+
+    none_formed : (v : Item) (ts : Trees L V) → formulas_at v ts ≡ [] → IsNothing ts
+    none_formed v nothing h = tt
+    none_formed v (also t ts) h = absurd (cc)
+
+    -- a formula of the members, or the leaf where there are none
+    has_viewed : (own : Entry) (view : V) (v : Item) (have : List Item → Formula → Type 0)
+        (form : List K → Formula) → ((us : List Item) → have us (form (map read us)))
+        → IsOfPresent own (reason view v) have (members view v)
+        (present_formula own (read_reason view (read v)) form (read_members view (read v)))
+    has_viewed own view v have form each =
+        subst (λ held. IsOfPresent own (reason view v) have (members view v)
+        (present_formula own (read_reason view (read v)) form held)) (same_members view v)
+        (subst (λ words. IsOfPresent own (reason view v) have (members view v)
+        (present_formula own words form (option_map (map read) (members view v))))
+        (same_reason view v) (has_present_read own (reason view v) have form (members view v) each))
+
     mutual
-      pub one_tree : (t : Tree L) (f g : Formula) → AllLeaves lawful t
-          → HasFormula text has t f → HasFormula text has t g → f ≡ g
-      one_tree (Asks l) f g all h k = one_of l f g all h k
-      one_tree (Denies t) f g all h k = one_not (λ x y. one_tree t x y all) h k
-      one_tree (Names name t) f g all h k = one_named (λ x y. one_tree t x y all) h k
-      one_tree (Pairs op a b) f g all h k =
-          one_pair (λ x y. one_tree a x y all.0) (λ x y. one_tree b x y all.1) h k
-      one_tree (Rows decides nothing) f g all h k = one_exactly h k
-      one_tree (Rows decides (also t ts)) f g all h k =
-          let own = tree_text text (Rows decides (also t ts)) in
-          h.is ∙ ap (λ fs. Join (decided_by decides) (numbered own decides fs) fs)
-          (one_of_trees (also t ts) h.formulas k.formulas all h.of_each k.of_each) ∙ sym k.is
-      one_tree (Counts least ts) f g all h k = one_by_threshold least (listed ts) (each_one ts all)
-          (of_listed least ts f h) (of_listed least ts g k)
-
-      each_one : (ts : Trees L) → AllOfTrees lawful ts
-          → AllByRecursion (HasOne (codes "rule") (HasFormula text has)) (listed ts)
-      each_one nothing all = tt
-      each_one (also t ts) all = (λ x y. one_tree t x y all.0, each_one ts all.1)
-
-      one_of_trees : (ts : Trees L) (fs gs : Formulas) → AllOfTrees lawful ts
-          → AreFormulas text has ts fs → AreFormulas text has ts gs → fs ≡ gs
-      one_of_trees nothing fs gs all h k = absurd h
-      one_of_trees (also t ts) (one n f) (one m g) all h k =
-          λ i. one ((h.0 ∙ sym k.0) i) (one_tree t f g all.0 h.1 k.1 i)
-      one_of_trees (also t nothing) (one n f) (more m g gs) all h k = absurd k.2
-      one_of_trees (also t (also u us)) (one n f) (more m g gs) all h k = absurd h.2
-      one_of_trees (also t nothing) (more n f fs) (one m g) all h k = absurd h.2
-      one_of_trees (also t (also u us)) (more n f fs) (one m g) all h k = absurd k.2
-      one_of_trees (also t ts) (more n f fs) (more m g gs) all h k =
-          λ i. more ((h.0 ∙ sym k.0) i) (one_tree t f g all.0 h.1 k.1 i)
-          (one_of_trees ts fs gs all.1 h.2 k.2 i)
-
-  module _ (formula_of : L → Formula) (had : (l : L) → has l (formula_of l)) where
-    number_formed : (ts : Trees L) → length (tree_formulas text formula_of ts) ≡ number_of ts
-    number_formed nothing = refl
-    number_formed (also t ts) = ap suc (number_formed ts)
-
-    none_formed : (ts : Trees L) → tree_formulas text formula_of ts ≡ [] → IsNothing ts
-    none_formed nothing h = tt
-    none_formed (also t ts) h = absurd (cc)
-
-    mutual
-      pub has_tree : (t : Tree L) → HasFormula text has t (tree_formula text formula_of t)
-      has_tree (Asks l) = had l
-      has_tree (Denies t) = has_not (has_tree t)
-      has_tree (Names name t) = has_named (has_tree t)
-      has_tree (Pairs op a b) = has_pair (has_tree a) (has_tree b)
-      has_tree (Rows decides nothing) = record { is = refl }
-      has_tree (Rows decides (also t ts)) = record {
-        formulas = part_formulas text formula_of (tree_formula text formula_of t) ts;
-        of_each = have_trees t (tree_formula text formula_of t) (has_tree t) ts;
+      pub has_tree : (v : Item) (t : Tree L V)
+          → HasFormula text view_text has members reason v t (formula_at v t)
+      has_tree v (Asks l) = had l v
+      has_tree v (Denies t) = has_not (has_tree v t)
+      has_tree v (Names name t) = has_named (has_tree v t)
+      has_tree v (Pairs op a b) = has_pair (has_tree v a) (has_tree v b)
+      has_tree v (Rows decides nothing) = record { is = refl }
+      has_tree v (Rows decides (also t ts)) = record {
+        formulas = part_formulas text view_text formula_of read_members read_reason (read v)
+            (formula_at v t) ts;
+        of_each = have_trees v t (formula_at v t) (has_tree v t) ts;
         is = refl;
       }
-      has_tree (Counts least ts) =
+      has_tree v (Counts least ts) =
           let h = has_threshold {name = codes "rule"} {has = λ u f. u ≡ f} least (λ f. f)
-          (tree_formulas text formula_of ts) (λ u. refl) in
-          subst (λ n. IsThresholdOf least n (tree_text text (Counts least ts))
-          (AreFormulas text has ts) (tree_formula text formula_of (Counts least ts)))
-          (number_formed ts) (record {
+          (formulas_at v ts) (λ u. refl) in
+          subst (λ n. IsThresholdOf least n (tree_text text view_text (Counts least ts))
+          (AreFormulas text view_text has members reason v ts) (formula_at v (Counts least ts)))
+          (number_formed v ts) (record {
             of_settled = h.of_settled;
             of_counted = λ some within.
                 let c = h.of_counted some within in
                 record {
                   formulas = c.formulas;
-                  of_each = are_formed ts c.formulas c.of_each;
+                  of_each = are_formed v ts c.formulas c.of_each;
                   is = c.is;
                 };
           })
+      has_tree v (Quantifies decides view t) =
+          has_viewed (quantified_text decides (view_text view) (tree_text text view_text t)) view v
+          (IsOfMembers decides
+          (quantified_text decides (view_text view) (tree_text text view_text t)) (codes "item")
+          (λ u. HasFormula text view_text has members reason u t))
+          (members_formula decides
+          (quantified_text decides (view_text view) (tree_text text view_text t)) (codes "item")
+          (λ k. tree_formula text view_text formula_of read_members read_reason k t))
+          (λ us. subst (IsOfMembers decides
+          (quantified_text decides (view_text view) (tree_text text view_text t)) (codes "item")
+          (λ u. HasFormula text view_text has members reason u t) us)
+          (members_read decides _ (codes "item") read _ us)
+          (has_members (λ u. formula_at u t) us (λ u. has_tree u t)))
+      has_tree v (CountsMembers least view t) =
+          has_viewed (members_text least (view_text view) (tree_text text view_text t)) view v
+          (IsOfThreshold least
+          (members_text least (view_text view) (tree_text text view_text t)) (codes "item")
+          (λ u. HasFormula text view_text has members reason u t))
+          (threshold_formula least
+          (members_text least (view_text view) (tree_text text view_text t)) (codes "item")
+          (λ k. tree_formula text view_text formula_of read_members read_reason k t))
+          (λ us. subst (IsOfThreshold least
+          (members_text least (view_text view) (tree_text text view_text t)) (codes "item")
+          (λ u. HasFormula text view_text has members reason u t) us)
+          (threshold_read least _ (codes "item") read _ us)
+          (has_threshold least (λ u. formula_at u t) us (λ u. has_tree u t)))
 
-      are_formed : (ts : Trees L) (fs : Formulas)
-          → AreOfEach (codes "rule") (λ u f. u ≡ f) (tree_formulas text formula_of ts) fs
-          → AreFormulas text has ts fs
-      are_formed nothing fs h = h
-      are_formed (also t ts) (one n f) h =
-          (h.0, subst (HasFormula text has t) h.1 (has_tree t), none_formed ts h.2)
-      are_formed (also t ts) (more n f fs) h =
-          (h.0, subst (HasFormula text has t) h.1 (has_tree t), are_formed ts fs h.2)
+      are_formed : (v : Item) (ts : Trees L V) (fs : Formulas)
+          → AreOfEach (codes "rule") (λ u f. u ≡ f) (formulas_at v ts) fs
+          → AreFormulas text view_text has members reason v ts fs
+      are_formed v nothing fs h = h
+      are_formed v (also t ts) (one n f) h = (
+        h.0,
+        subst (HasFormula text view_text has members reason v t) h.1 (has_tree v t),
+        none_formed v ts h.2,
+      )
+      are_formed v (also t ts) (more n f fs) h = (
+        h.0,
+        subst (HasFormula text view_text has members reason v t) h.1 (has_tree v t),
+        are_formed v ts fs h.2,
+      )
 
-      have_trees : (t : Tree L) (f : Formula) → HasFormula text has t f → (ts : Trees L)
-          → AreFormulas text has (also t ts) (part_formulas text formula_of f ts)
-      have_trees t f h nothing = (refl, h, tt)
-      have_trees t f h (also u us) =
-          (refl, h, have_trees u (tree_formula text formula_of u) (has_tree u) us)
+      have_trees : (v : Item) (t : Tree L V) (f : Formula)
+          → HasFormula text view_text has members reason v t f → (ts : Trees L V)
+          → AreFormulas text view_text has members reason v (also t ts)
+          (part_formulas text view_text formula_of read_members read_reason (read v) f ts)
+      have_trees v t f h nothing = (refl, h, tt)
+      have_trees v t f h (also u us) =
+          (refl, h, have_trees v u (formula_at v u) (has_tree v u) us)
 
 -- what holds of all leaves holds of those of a tree
-module _ {L : Type 0} (fact : L → Type 0) (all : (l : L) → fact l) where
+module _ {L V : Type 0} (fact : L → Type 0) (all : (l : L) → fact l) where
   mutual
-    pub all_leaves : (t : Tree L) → AllLeaves fact t
+    pub all_leaves : (t : Tree L V) → AllLeaves fact t
     all_leaves (Asks l) = all l
     all_leaves (Denies t) = all_leaves t
     all_leaves (Names name t) = all_leaves t
     all_leaves (Pairs op a b) = (all_leaves a, all_leaves b)
     all_leaves (Rows decides ts) = all_trees ts
     all_leaves (Counts least ts) = all_trees ts
+    all_leaves (Quantifies decides view t) = all_leaves t
+    all_leaves (CountsMembers least view t) = all_leaves t
 
-    all_trees : (ts : Trees L) → AllOfTrees fact ts
+    pub all_trees : (ts : Trees L V) → AllOfTrees fact ts
     all_trees nothing = tt
     all_trees (also t ts) = (all_leaves t, all_trees ts)

@@ -2,7 +2,7 @@
 ghost use Rattle.std.specs.Prelude.{◌≡◌, true, false, IfOk, map};
 ghost use Rattle.predicates_core.specs.declared.custom.join.Operator.TheVariants.{And, Or, Xor};
 ghost use Rattle.predicates_dynamic.specs.Trees.{tree_of, trees_of, Asks, Denies, Names, Pairs};
-ghost use Rattle.predicates_dynamic.specs.Trees.{Rows, Counts};
+ghost use Rattle.predicates_dynamic.specs.Trees.{Rows, Counts, Quantifies, CountsMembers};
 
 use crate::check::Check;
 use predicates_core::custom::Operator;
@@ -22,6 +22,22 @@ impl<L: Drop> Check<L> {
     {
         Check::Leaf(leaf)
     }
+}
+
+impl<L: Drop, V: Drop> Check<L, V> {
+    /// Holds where the leaf does, in a check that asks members too, so with a view `V`. It takes no
+    /// memory.
+    ///
+    /// ```
+    /// let large: Check<TestPredicate<Size>, Entries> =
+    ///     Check::leaf_beside_members(leaf(Size { least: 25 }));
+    /// assert!(rt; large.eval(alloc, &folder)?);
+    /// ```
+    pub fn leaf_beside_members(leaf: L) -> Check<L, V>
+        ensures { tree_of result ≡ Asks leaf }
+    {
+        Check::Leaf(leaf)
+    }
 
     /// Holds where the check does not.
     ///
@@ -30,7 +46,7 @@ impl<L: Drop> Check<L> {
     /// assert!(rt; small.eval(alloc, &3)?);
     /// assert!(rt; !small.eval(alloc, &7)?);
     /// ```
-    pub fn not(self, alloc: Global) -> Result<Check<L>, AllocError>
+    pub fn not(self, alloc: Global) -> Result<Check<L, V>, AllocError>
         ensures { IfOk result (λ made. tree_of made ≡ Denies (tree_of self)) }
     {
         Ok(Check::Not(Box::new(alloc, self)?))
@@ -42,7 +58,7 @@ impl<L: Drop> Check<L> {
     /// let adult = Check::leaf(predicate::ge(18)).name(alloc, "adult")?;
     /// assert!(rt; adult.to_string(alloc)?.as_str() == "adult");
     /// ```
-    pub fn name(self, alloc: Global, name: &'static str) -> Result<Check<L>, AllocError>
+    pub fn name(self, alloc: Global, name: &'static str) -> Result<Check<L, V>, AllocError>
         ensures { IfOk result (λ made. tree_of made ≡ Names name.entry.now (tree_of self)) }
     {
         Ok(Check::Named(StaticText::new(name), Box::new(alloc, self)?))
@@ -55,7 +71,7 @@ impl<L: Drop> Check<L> {
     /// assert!(rt; between.eval(alloc, &7)?);
     /// assert!(rt; !between.eval(alloc, &11)?);
     /// ```
-    pub fn and(self, alloc: Global, other: Check<L>) -> Result<Check<L>, AllocError>
+    pub fn and(self, alloc: Global, other: Check<L, V>) -> Result<Check<L, V>, AllocError>
         ensures { IfOk result (λ made. tree_of made ≡ Pairs And (tree_of self) (tree_of other)) }
     {
         Ok(Check::Pair(
@@ -72,7 +88,7 @@ impl<L: Drop> Check<L> {
     /// assert!(rt; outside.eval(alloc, &11)?);
     /// assert!(rt; !outside.eval(alloc, &7)?);
     /// ```
-    pub fn or(self, alloc: Global, other: Check<L>) -> Result<Check<L>, AllocError>
+    pub fn or(self, alloc: Global, other: Check<L, V>) -> Result<Check<L, V>, AllocError>
         ensures { IfOk result (λ made. tree_of made ≡ Pairs Or (tree_of self) (tree_of other)) }
     {
         Ok(Check::Pair(
@@ -89,7 +105,7 @@ impl<L: Drop> Check<L> {
     /// assert!(rt; one.eval(alloc, &7)?);
     /// assert!(rt; !one.eval(alloc, &11)?);
     /// ```
-    pub fn xor(self, alloc: Global, other: Check<L>) -> Result<Check<L>, AllocError>
+    pub fn xor(self, alloc: Global, other: Check<L, V>) -> Result<Check<L, V>, AllocError>
         ensures { IfOk result (λ made. tree_of made ≡ Pairs Xor (tree_of self) (tree_of other)) }
     {
         Ok(Check::Pair(
@@ -108,7 +124,7 @@ impl<L: Drop> Check<L> {
     /// assert!(rt; all.eval(alloc, &11)?);
     /// assert!(rt; !all.eval(alloc, &7)?);
     /// ```
-    pub fn all(parts: Vec<Check<L>>) -> Check<L>
+    pub fn all(parts: Vec<Check<L, V>>) -> Check<L, V>
         ensures { tree_of result ≡ Rows false (trees_of (map tree_of parts.items)) }
     {
         Check::Row(false, parts)
@@ -123,7 +139,7 @@ impl<L: Drop> Check<L> {
     /// assert!(rt; any.eval(alloc, &10)?);
     /// assert!(rt; !any.eval(alloc, &7)?);
     /// ```
-    pub fn any(parts: Vec<Check<L>>) -> Check<L>
+    pub fn any(parts: Vec<Check<L, V>>) -> Check<L, V>
         ensures { tree_of result ≡ Rows true (trees_of (map tree_of parts.items)) }
     {
         Check::Row(true, parts)
@@ -138,9 +154,53 @@ impl<L: Drop> Check<L> {
     /// assert!(rt; two.eval(alloc, &7)?);
     /// assert!(rt; !two.eval(alloc, &11)?);
     /// ```
-    pub fn at_least(least: usize, parts: Vec<Check<L>>) -> Check<L>
+    pub fn at_least(least: usize, parts: Vec<Check<L, V>>) -> Check<L, V>
         ensures { tree_of result ≡ Counts least (trees_of (map tree_of parts.items)) }
     {
         Check::AtLeast(least, parts)
+    }
+
+    /// Holds of an item where the check does of each of its members, as `of_each`; and not where
+    /// the view gives no list.
+    ///
+    /// ```
+    /// let all_large = large().of_each(alloc, Entries)?;
+    /// assert!(rt; !all_large.eval(alloc, &folder)?);
+    /// ```
+    pub fn of_each(self, alloc: Global, view: V) -> Result<Check<L, V>, AllocError>
+        ensures { IfOk result (λ made. tree_of made ≡ Quantifies false view (tree_of self)) }
+    {
+        Ok(Check::Quantified(false, view, Box::new(alloc, self)?))
+    }
+
+    /// Holds of an item where the check does of one of its members, as `of_any`; and not where the
+    /// view gives no list.
+    ///
+    /// ```
+    /// let some_large = large().of_any(alloc, Entries)?;
+    /// assert!(rt; some_large.eval(alloc, &folder)?);
+    /// ```
+    pub fn of_any(self, alloc: Global, view: V) -> Result<Check<L, V>, AllocError>
+        ensures { IfOk result (λ made. tree_of made ≡ Quantifies true view (tree_of self)) }
+    {
+        Ok(Check::Quantified(true, view, Box::new(alloc, self)?))
+    }
+
+    /// Holds of an item where the check does of at least so many of its members, as `of_at_least`;
+    /// and not where the view gives no list.
+    ///
+    /// ```
+    /// let two_large = large().of_at_least(alloc, 2, Entries)?;
+    /// assert!(rt; !two_large.eval(alloc, &folder)?);
+    /// ```
+    pub fn of_at_least(
+        self,
+        alloc: Global,
+        least: usize,
+        view: V,
+    ) -> Result<Check<L, V>, AllocError>
+        ensures { IfOk result (λ made. tree_of made ≡ CountsMembers least view (tree_of self)) }
+    {
+        Ok(Check::MembersAtLeast(least, view, Box::new(alloc, self)?))
     }
 }

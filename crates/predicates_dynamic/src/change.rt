@@ -10,8 +10,12 @@ ghost use Rattle.predicates_dynamic.specs.Trees.{AllOf, AllLeaves, tree_of, tree
 ghost use Rattle.predicates_dynamic.specs.Trees.{Names, Pairs, Rows, Counts};
 ghost use Rattle.predicates_dynamic.specs.Formulas.{check_text, Has};
 
+mod members;
+
+use self::members::{members_threshold_changed, quantified_changed};
 use crate::check::Check;
 use crate::hold::{are_lawful, holds};
+use crate::members::Members;
 use predicates_core::PredicateChange;
 use predicates_core::custom::{
     Operator, asked_at, enough_of, first_alone, is_first_passed, is_other, is_settled, kept_if,
@@ -23,15 +27,16 @@ use std::alloc::{AllocError, Global};
 
 // The `find_change` of the check.
 #[cycle(change)]
-pub(crate) fn changed<L: PredicateChange<Item>, Item>(
+pub(crate) fn changed<L: PredicateChange<Item>, V: Members<Item>, Item>(
     alloc: Global,
-    check: &Check<L>,
+    check: &Check<L, V>,
     wanted: Option<bool>,
     item: &Item,
 ) -> Result<Option<Case>, AllocError>
     requires { AllOf L.lawful check.now }
     ensures { IfOk result
-        (IsFoundChange (Has L.output (λ l. L.formula l item.now) check.now) wanted) }
+        (IsFoundChange (Has L.output V.output L.formula V.members_of V.reason_of item.now check.now)
+        wanted) }
 {
     match check {
         Check::Leaf(leaf) => leaf.find_change(alloc, wanted, item),
@@ -41,7 +46,7 @@ pub(crate) fn changed<L: PredicateChange<Item>, Item>(
         }
         Check::Pair(operator, left_part, right_part) => {
             let operator = *operator;
-            let left_part: &Check<L> = left_part;
+            let left_part: &Check<L, V> = left_part;
             let left = changed(alloc, left_part, operator.left_wanted(wanted), item)?;
             pair_changed(
                 alloc, right_part, left_part, operator, check, left, wanted, item,
@@ -51,22 +56,29 @@ pub(crate) fn changed<L: PredicateChange<Item>, Item>(
         Check::AtLeast(least, parts) => {
             threshold_changed(alloc, parts, *least, check, wanted, item)
         }
+        Check::Quantified(decides, view, inner) => {
+            quantified_changed(alloc, inner, view, *decides, check, wanted, item)
+        }
+        Check::MembersAtLeast(least, view, inner) => {
+            members_threshold_changed(alloc, inner, view, *least, check, wanted, item)
+        }
     }
 }
 
 // The same of a check that is denied, from the part and the whole.
 #[cycle(change)]
-fn not_changed<L: PredicateChange<Item>, Item>(
+fn not_changed<L: PredicateChange<Item>, V: Members<Item>, Item>(
     alloc: Global,
-    inner: &Check<L>,
-    whole: &Check<L>,
+    inner: &Check<L, V>,
+    whole: &Check<L, V>,
     wanted: Option<bool>,
     item: &Item,
 ) -> Result<Option<Case>, AllocError>
     requires lawful { AllOf L.lawful inner.now }
     requires whole { tree_of whole.now ≡ Denies (tree_of inner.now) }
     ensures { IfOk result
-        (IsFoundChange (Has L.output (λ l. L.formula l item.now) whole.now) wanted) }
+        (IsFoundChange (Has L.output V.output L.formula V.members_of V.reason_of item.now whole.now)
+        wanted) }
 {
     let Some(part) = changed(alloc, inner, opposite_of(wanted), item)? else {
         return Ok(None);
@@ -79,18 +91,19 @@ fn not_changed<L: PredicateChange<Item>, Item>(
 
 // The same of a check under a name.
 #[cycle(change)]
-fn named_changed<L: PredicateChange<Item>, Item>(
+fn named_changed<L: PredicateChange<Item>, V: Members<Item>, Item>(
     alloc: Global,
-    inner: &Check<L>,
+    inner: &Check<L, V>,
     name: &'static str,
-    whole: &Check<L>,
+    whole: &Check<L, V>,
     wanted: Option<bool>,
     item: &Item,
 ) -> Result<Option<Case>, AllocError>
     requires lawful { AllOf L.lawful inner.now }
     requires whole { tree_of whole.now ≡ Names name.now (tree_of inner.now) }
     ensures { IfOk result
-        (IsFoundChange (Has L.output (λ l. L.formula l item.now) whole.now) wanted) }
+        (IsFoundChange (Has L.output V.output L.formula V.members_of V.reason_of item.now whole.now)
+        wanted) }
 {
     let Some(part) = changed(alloc, inner, wanted, item)? else {
         return Ok(None);
@@ -110,15 +123,16 @@ struct PartChange {
 
 // The right part's verdict, and its change where that belongs to the whole's.
 #[cycle(change)]
-fn right_changed<L: PredicateChange<Item>, Item>(
+fn right_changed<L: PredicateChange<Item>, V: Members<Item>, Item>(
     alloc: Global,
-    part: &Check<L>,
+    part: &Check<L, V>,
     operator: Operator,
     item: &Item,
 ) -> Result<PartChange, AllocError>
     requires { AllOf L.lawful part.now }
     ensures { IfOk result (λ right. IsRightChange operator
-        (Has L.output (λ l. L.formula l item.now) part.now) right.holds right.change) }
+        (Has L.output V.output L.formula V.members_of V.reason_of item.now part.now)
+        right.holds right.change) }
 {
     match operator {
         Operator::And => {
@@ -141,23 +155,25 @@ fn right_changed<L: PredicateChange<Item>, Item>(
 
 // The same of two checks that an operator joins, where this was found of the left one.
 #[cycle(change)]
-fn pair_changed<L: PredicateChange<Item>, Item>(
+fn pair_changed<L: PredicateChange<Item>, V: Members<Item>, Item>(
     alloc: Global,
-    right_part: &Check<L>,
-    left_part: &Check<L>,
+    right_part: &Check<L, V>,
+    left_part: &Check<L, V>,
     operator: Operator,
-    whole: &Check<L>,
+    whole: &Check<L, V>,
     left: Option<Case>,
     wanted: Option<bool>,
     item: &Item,
 ) -> Result<Option<Case>, AllocError>
     requires lawful { AllOf L.lawful right_part.now }
-    requires left { IsFoundChange (Has L.output (λ l. L.formula l item.now) left_part.now)
+    requires left { IsFoundChange
+        (Has L.output V.output L.formula V.members_of V.reason_of item.now left_part.now)
         (left_wanted operator wanted) left }
     requires whole { tree_of whole.now ≡ Pairs operator (tree_of left_part.now)
         (tree_of right_part.now) }
     ensures { IfOk result
-        (IsFoundChange (Has L.output (λ l. L.formula l item.now) whole.now) wanted) }
+        (IsFoundChange (Has L.output V.output L.formula V.members_of V.reason_of item.now whole.now)
+        wanted) }
 {
     let left_wanted = operator.left_wanted(wanted);
     let left_holds = shown_verdict(left_wanted, &left);
@@ -174,37 +190,40 @@ fn pair_changed<L: PredicateChange<Item>, Item>(
 
 // The same of a row of checks.
 #[cycle(change)]
-fn row_changed<L: PredicateChange<Item>, Item>(
+fn row_changed<L: PredicateChange<Item>, V: Members<Item>, Item>(
     alloc: Global,
-    parts: &[Check<L>],
+    parts: &[Check<L, V>],
     decides: bool,
-    whole: &Check<L>,
+    whole: &Check<L, V>,
     wanted: Option<bool>,
     item: &Item,
 ) -> Result<Option<Case>, AllocError>
     requires lawful { AllLeaves L.lawful (Rows decides (trees_of (map tree_of parts.now))) }
     requires whole { tree_of whole.now ≡ Rows decides (trees_of (map tree_of parts.now)) }
     ensures { IfOk result
-        (IsFoundChange (Has L.output (λ l. L.formula l item.now) whole.now) wanted) }
+        (IsFoundChange (Has L.output V.output L.formula V.members_of V.reason_of item.now whole.now)
+        wanted) }
 {
-    are_lawful::<L, Item>(parts);
+    are_lawful::<L, V, Item>(parts);
     let found = parts_changed(alloc, parts, decides, whole, wanted, item)?;
     Ok(found)
 }
 
 // The same, as `custom::parts_change`.
 #[cycle(change)]
-fn parts_changed<L: PredicateChange<Item>, Item>(
+fn parts_changed<L: PredicateChange<Item>, V: Members<Item>, Item>(
     alloc: Global,
-    parts: &[Check<L>],
+    parts: &[Check<L, V>],
     decides: bool,
-    whole: &Check<L>,
+    whole: &Check<L, V>,
     wanted: Option<bool>,
     item: &Item,
 ) -> Result<Option<Case>, AllocError>
     requires { AllByRecursion (AllOf L.lawful) parts.now }
-    ensures { IfOk result (IsFoundChange (IsOfMembers decides (check_text L.output whole.now)
-        (codes "rule") (Has L.output (λ l. L.formula l item.now)) parts.now) wanted) }
+    ensures { IfOk result (IsFoundChange (IsOfMembers decides
+        (check_text L.output V.output whole.now) (codes "rule")
+        (Has L.output V.output L.formula V.members_of V.reason_of item.now) parts.now)
+        wanted) }
 {
     match wanted {
         Some(expected) => {
@@ -220,16 +239,18 @@ fn parts_changed<L: PredicateChange<Item>, Item>(
 
 // What would turn all the parts that decide, where one does.
 #[cycle(change)]
-fn deciding_parts<L: PredicateChange<Item>, Item>(
+fn deciding_parts<L: PredicateChange<Item>, V: Members<Item>, Item>(
     alloc: Global,
-    parts: &[Check<L>],
+    parts: &[Check<L, V>],
     decides: bool,
-    whole: &Check<L>,
+    whole: &Check<L, V>,
     item: &Item,
 ) -> Result<Option<Case>, AllocError>
     requires { AllByRecursion (AllOf L.lawful) parts.now }
-    ensures { IfOk result (IsFoundChange (IsOfMembers decides (check_text L.output whole.now)
-        (codes "rule") (Has L.output (λ l. L.formula l item.now)) parts.now) (Some decides)) }
+    ensures { IfOk result (IsFoundChange (IsOfMembers decides
+        (check_text L.output V.output whole.now) (codes "rule")
+        (Has L.output V.output L.formula V.members_of V.reason_of item.now) parts.now)
+        (Some decides)) }
 {
     let mut found: Option<Case> = None;
     for (index, part) in parts.iter().enumerate() {
@@ -244,16 +265,17 @@ fn deciding_parts<L: PredicateChange<Item>, Item>(
 
 // What would turn the first part, where none decides.
 #[cycle(change)]
-fn passing_parts<L: PredicateChange<Item>, Item>(
+fn passing_parts<L: PredicateChange<Item>, V: Members<Item>, Item>(
     alloc: Global,
-    parts: &[Check<L>],
+    parts: &[Check<L, V>],
     decides: bool,
-    whole: &Check<L>,
+    whole: &Check<L, V>,
     item: &Item,
 ) -> Result<Option<Case>, AllocError>
     requires { AllByRecursion (AllOf L.lawful) parts.now }
-    ensures { IfOk result (IsFoundChange (IsOfMembers decides (check_text L.output whole.now)
-        (codes "rule") (Has L.output (λ l. L.formula l item.now)) parts.now)
+    ensures { IfOk result (IsFoundChange (IsOfMembers decides
+        (check_text L.output V.output whole.now) (codes "rule")
+        (Has L.output V.output L.formula V.members_of V.reason_of item.now) parts.now)
         (Some (not decides))) }
 {
     let Some((first, rest)) = parts.split_first() else {
@@ -273,16 +295,18 @@ fn passing_parts<L: PredicateChange<Item>, Item>(
 // What would turn the whole, whichever its verdict. The first part is asked for its change, and
 // each other only for that of a part that decides.
 #[cycle(change)]
-fn whichever_parts<L: PredicateChange<Item>, Item>(
+fn whichever_parts<L: PredicateChange<Item>, V: Members<Item>, Item>(
     alloc: Global,
-    parts: &[Check<L>],
+    parts: &[Check<L, V>],
     decides: bool,
-    whole: &Check<L>,
+    whole: &Check<L, V>,
     item: &Item,
 ) -> Result<Option<Case>, AllocError>
     requires { AllByRecursion (AllOf L.lawful) parts.now }
-    ensures { IfOk result (IsFoundChange (IsOfMembers decides (check_text L.output whole.now)
-        (codes "rule") (Has L.output (λ l. L.formula l item.now)) parts.now) None) }
+    ensures { IfOk result (IsFoundChange (IsOfMembers decides
+        (check_text L.output V.output whole.now) (codes "rule")
+        (Has L.output V.output L.formula V.members_of V.reason_of item.now) parts.now)
+        None) }
 {
     if parts.is_empty() {
         return Ok(Some(no_member(alloc, whole, !decides)?));
@@ -309,37 +333,40 @@ fn whichever_parts<L: PredicateChange<Item>, Item>(
 
 // The same of checks of which at least so many have to hold.
 #[cycle(change)]
-fn threshold_changed<L: PredicateChange<Item>, Item>(
+fn threshold_changed<L: PredicateChange<Item>, V: Members<Item>, Item>(
     alloc: Global,
-    parts: &[Check<L>],
+    parts: &[Check<L, V>],
     least: usize,
-    whole: &Check<L>,
+    whole: &Check<L, V>,
     wanted: Option<bool>,
     item: &Item,
 ) -> Result<Option<Case>, AllocError>
     requires lawful { AllLeaves L.lawful (Counts least (trees_of (map tree_of parts.now))) }
     requires whole { tree_of whole.now ≡ Counts least (trees_of (map tree_of parts.now)) }
     ensures { IfOk result
-        (IsFoundChange (Has L.output (λ l. L.formula l item.now) whole.now) wanted) }
+        (IsFoundChange (Has L.output V.output L.formula V.members_of V.reason_of item.now whole.now)
+        wanted) }
 {
-    are_lawful::<L, Item>(parts);
+    are_lawful::<L, V, Item>(parts);
     let found = counted_changed(alloc, parts, least, whole, wanted, item)?;
     Ok(found)
 }
 
 // The same, as `custom::threshold_change`.
 #[cycle(change)]
-fn counted_changed<L: PredicateChange<Item>, Item>(
+fn counted_changed<L: PredicateChange<Item>, V: Members<Item>, Item>(
     alloc: Global,
-    parts: &[Check<L>],
+    parts: &[Check<L, V>],
     least: usize,
-    whole: &Check<L>,
+    whole: &Check<L, V>,
     wanted: Option<bool>,
     item: &Item,
 ) -> Result<Option<Case>, AllocError>
     requires { AllByRecursion (AllOf L.lawful) parts.now }
-    ensures { IfOk result (IsFoundChange (IsOfThreshold least (check_text L.output whole.now)
-        (codes "rule") (Has L.output (λ l. L.formula l item.now)) parts.now) wanted) }
+    ensures { IfOk result (IsFoundChange (IsOfThreshold least
+        (check_text L.output V.output whole.now) (codes "rule")
+        (Has L.output V.output L.formula V.members_of V.reason_of item.now) parts.now)
+        wanted) }
 {
     if is_settled(least, parts.len()) {
         return settled_case(alloc, whole, least, parts.len(), wanted);
@@ -352,19 +379,21 @@ fn counted_changed<L: PredicateChange<Item>, Item>(
 
 // The change of a whole that is wanted to have the verdict.
 #[cycle(change)]
-fn turned_wanted<L: PredicateChange<Item>, Item>(
+fn turned_wanted<L: PredicateChange<Item>, V: Members<Item>, Item>(
     alloc: Global,
-    parts: &[Check<L>],
+    parts: &[Check<L, V>],
     least: usize,
-    whole: &Check<L>,
+    whole: &Check<L, V>,
     expected: bool,
     item: &Item,
 ) -> Result<Option<Case>, AllocError>
     requires lawful { AllByRecursion (AllOf L.lawful) parts.now }
     requires some { 1 ≤ least }
     requires within { least ≤ length parts.now }
-    ensures { IfOk result (IsFoundChange (IsOfThreshold least (check_text L.output whole.now)
-        (codes "rule") (Has L.output (λ l. L.formula l item.now)) parts.now) (Some expected)) }
+    ensures { IfOk result (IsFoundChange (IsOfThreshold least
+        (check_text L.output V.output whole.now) (codes "rule")
+        (Has L.output V.output L.formula V.members_of V.reason_of item.now) parts.now)
+        (Some expected)) }
 {
     let enough = enough_of(expected, least, parts.len());
     let mut cases: Vec<Case> = Vec::new(alloc);
@@ -384,18 +413,20 @@ fn turned_wanted<L: PredicateChange<Item>, Item>(
 
 // The change of a whole, whichever its verdict. Each part is asked once.
 #[cycle(change)]
-fn turned_either<L: PredicateChange<Item>, Item>(
+fn turned_either<L: PredicateChange<Item>, V: Members<Item>, Item>(
     alloc: Global,
-    parts: &[Check<L>],
+    parts: &[Check<L, V>],
     least: usize,
-    whole: &Check<L>,
+    whole: &Check<L, V>,
     item: &Item,
 ) -> Result<Option<Case>, AllocError>
     requires lawful { AllByRecursion (AllOf L.lawful) parts.now }
     requires some { 1 ≤ least }
     requires within { least ≤ length parts.now }
-    ensures { IfOk result (IsFoundChange (IsOfThreshold least (check_text L.output whole.now)
-        (codes "rule") (Has L.output (λ l. L.formula l item.now)) parts.now) None) }
+    ensures { IfOk result (IsFoundChange (IsOfThreshold least
+        (check_text L.output V.output whole.now) (codes "rule")
+        (Has L.output V.output L.formula V.members_of V.reason_of item.now) parts.now)
+        None) }
 {
     let mut held: Vec<Case> = Vec::new(alloc);
     let mut failed: Vec<Case> = Vec::new(alloc);

@@ -1,19 +1,24 @@
 //! A check whose shape comes at run time.
-ghost use Rattle.std.specs.Prelude.{◌≡◌, ◌<◌, codes, map, IfSome};
+ghost use Rattle.std.specs.Prelude.{◌≡◌, ◌<◌, refl, codes, map, None, Some, IfSome};
 ghost use Rattle.std.specs.Fmt.{DisplaysOnOk};
 ghost use Rattle.predicates_core.specs.Several.{further_texts};
 ghost use Rattle.predicates_core.specs.Thresholds.{counted_text};
-ghost use Rattle.predicates_dynamic.specs.Trees.{tree_of, trees_of, AllOf, Rows, Counts};
+ghost use Rattle.predicates_dynamic.specs.Trees.{tree_of, trees_of, AllOf, AsksAll, Rows};
+ghost use Rattle.predicates_dynamic.specs.Trees.{Counts};
 ghost use Rattle.predicates_dynamic.specs.Formulas.{check_text, tree_text, Has, tree_formula, word};
+ghost use Rattle.predicates_dynamic.specs.Formulas.{member_word, quantified_text, members_text};
+ghost use Rattle.predicates_dynamic.specs.Formulas.{viewed_text};
 ghost use Rattle.predicates_dynamic.specs.Described.{check_parameters, check_parts};
 ghost use Rattle.predicates_dynamic.specs.Listed.{joined_texts, row_text, text_at};
 ghost use Rattle.predicates_dynamic.specs.Sizes.{left_over};
 ghost use Rattle.predicates_dynamic.specs.Laws.{tree_text_fits, one_tree, has_tree, all_leaves};
+ghost use Rattle.predicates_dynamic.specs.Laws.{members_as_they_are};
 
 use crate::change::changed;
 use crate::describe::parts_of;
 use crate::explain::explained;
 use crate::hold::holds;
+use crate::members::{Members, NoMembers};
 use crate::take_apart::{left_first, parts_apart, resumed};
 use predicates_core::custom::Operator;
 use predicates_core::reflection::{Case, Child, Parameter, PredicateReflection};
@@ -26,31 +31,36 @@ use std::fmt;
 /// any predicate.
 ///
 /// It means, prints and explains what the library's own combinators do over the same parts: `not`,
-/// `name`, `and`, `or`, `xor`, and for several parts `all_of`, `any_of` and `at_least`. Each leaf is
-/// evaluated at most twice, however deep it stands.
+/// `name`, `and`, `or`, `xor`, for several parts `all_of`, `any_of` and `at_least`, and over the
+/// members that a view `V` gives of an item `of_each`, `of_any` and `of_at_least`. Each leaf is
+/// evaluated at most twice on an item, however deep it stands.
 ///
 /// Each call takes a stack frame or two a level. Making and dropping a check does not, however deep
 /// it is.
-pub enum Check<L> {
+pub enum Check<L, V = NoMembers> {
     /// The leaf holds. It prints and shows what the leaf does.
     Leaf(L),
     /// The part does not hold.
-    Not(Box<Check<L>>),
+    Not(Box<Check<L, V>>),
     /// The part holds; the name is printed in its place.
-    Named(StaticText, Box<Check<L>>),
+    Named(StaticText, Box<Check<L, V>>),
     /// Two parts that an operator joins.
-    Pair(Operator, Box<Check<L>>, Box<Check<L>>),
+    Pair(Operator, Box<Check<L, V>>, Box<Check<L, V>>),
     /// A row that one part with the verdict decides: with `true` one has to hold, else each.
-    Row(bool, Vec<Check<L>>),
+    Row(bool, Vec<Check<L, V>>),
     /// At least so many of the parts hold.
-    AtLeast(usize, Vec<Check<L>>),
+    AtLeast(usize, Vec<Check<L, V>>),
+    /// The part holds of the members that the view gives: with `true` of one of them, else of each.
+    Quantified(bool, V, Box<Check<L, V>>),
+    /// The part holds of at least so many of the members that the view gives.
+    MembersAtLeast(usize, V, Box<Check<L, V>>),
 }
 
-impl<L: Drop> Check<L> {
+impl<L: Drop, V: Drop> Check<L, V> {
     // What is left of a check that is being dropped, beside what waits: the check to go on with,
     // and what then waits. None where nothing is left. It takes no memory: what waits is put into
     // boxes and into places of rows that get free.
-    fn take_apart(self, waiting: Option<Check<L>>) -> Option<(Check<L>, Option<Check<L>>)>
+    fn take_apart(self, waiting: Option<Check<L, V>>) -> Option<(Check<L, V>, Option<Check<L, V>>)>
         ensures { IfSome result (λ next. left_over next.0 next.1 < left_over self waiting) }
     {
         match self {
@@ -63,14 +73,22 @@ impl<L: Drop> Check<L> {
             Check::Pair(operator, left, right) => Some(left_first(operator, left, right, waiting)),
             Check::Row(_, parts) => parts_apart(parts, waiting),
             Check::AtLeast(_, parts) => parts_apart(parts, waiting),
+            Check::Quantified(_, view, inner) => {
+                drop(view);
+                Some((Box::into_inner(inner), waiting))
+            }
+            Check::MembersAtLeast(_, view, inner) => {
+                drop(view);
+                Some((Box::into_inner(inner), waiting))
+            }
         }
     }
 }
 
 // A loop, so that a deep check does not run out of stack. It takes no memory.
-impl<L: Drop> Drop for Check<L> {
+impl<L: Drop, V: Drop> Drop for Check<L, V> {
     fn drop(mut self) {
-        let mut waiting: Option<Check<L>> = None;
+        let mut waiting: Option<Check<L, V>> = None;
         loop {
             match self.take_apart(waiting) {
                 Some((next, rest)) => {
@@ -90,43 +108,52 @@ fn word_of(decides: bool) -> &'static str
     if decides { "any_of" } else { "all_of" }
 }
 
-impl<L: fmt::Display> Check<L> {
+// What is printed before a view of members.
+fn member_word_of(decides: bool) -> &'static str
+    ensures { result.now ≡ member_word decides }
+{
+    if decides { "any " } else { "each " }
+}
+
+impl<L: fmt::Display, V: fmt::Display> Check<L, V> {
     // A row.
     #[cycle(text)]
     fn fmt_row<W: fmt::Write>(
-        parts: &[Check<L>],
+        parts: &[Check<L, V>],
         decides: bool,
         f: &mut fmt::Formatter<W>,
     ) -> fmt::Result
         ensures { DisplaysOnOk W.write_str_gives f.old result
-            (tree_text L.output (Rows decides (trees_of (map tree_of parts.now)))) f.new }
+            (tree_text L.output V.output (Rows decides (trees_of (map tree_of parts.now)))) f.new }
     {
-        Check::<L>::fmt_listed(parts, word_of(decides), f)
+        Check::<L, V>::fmt_listed(parts, word_of(decides), f)
     }
 
     // The parts of a row in parentheses, behind the word.
     #[cycle(text)]
     fn fmt_listed<W: fmt::Write>(
-        parts: &[Check<L>],
+        parts: &[Check<L, V>],
         word: &str,
         f: &mut fmt::Formatter<W>,
     ) -> fmt::Result
         ensures { DisplaysOnOk W.write_str_gives f.old result
-            (row_text word.now (joined_texts (map (check_text L.output) parts.now))) f.new }
+            (row_text word.now (joined_texts (map (check_text L.output V.output) parts.now)))
+            f.new }
     {
-        write!(f, "{word}(")?;
-        Check::<L>::fmt_parts(parts, f)?;
+        f.write_str(word)?;
+        write!(f, "(")?;
+        Check::<L, V>::fmt_parts(parts, f)?;
         write!(f, ")")
     }
 
     // The parts of a row.
     #[cycle(text)]
-    fn fmt_parts<W: fmt::Write>(parts: &[Check<L>], f: &mut fmt::Formatter<W>) -> fmt::Result
+    fn fmt_parts<W: fmt::Write>(parts: &[Check<L, V>], f: &mut fmt::Formatter<W>) -> fmt::Result
         ensures { DisplaysOnOk W.write_str_gives f.old result
-            (joined_texts (map (check_text L.output) parts.now)) f.new }
+            (joined_texts (map (check_text L.output V.output) parts.now)) f.new }
     {
         for (index, part) in parts.iter().enumerate() {
-            Check::<L>::fmt_part(part, index, f)?;
+            Check::<L, V>::fmt_part(part, index, f)?;
         }
         Ok(())
     }
@@ -134,12 +161,12 @@ impl<L: fmt::Display> Check<L> {
     // A part of a row, behind a comma where it is not the first.
     #[cycle(text)]
     fn fmt_part<W: fmt::Write>(
-        part: &Check<L>,
+        part: &Check<L, V>,
         index: usize,
         f: &mut fmt::Formatter<W>,
     ) -> fmt::Result
         ensures { DisplaysOnOk W.write_str_gives f.old result
-            (text_at index (check_text L.output part.now)) f.new }
+            (text_at index (check_text L.output V.output part.now)) f.new }
     {
         if index == 0 {
             return fmt::Display::fmt(part, f);
@@ -151,46 +178,94 @@ impl<L: fmt::Display> Check<L> {
     // Parts of which at least so many have to hold.
     #[cycle(text)]
     fn fmt_counted<W: fmt::Write>(
-        parts: &[Check<L>],
+        parts: &[Check<L, V>],
         least: usize,
         f: &mut fmt::Formatter<W>,
     ) -> fmt::Result
         ensures { DisplaysOnOk W.write_str_gives f.old result
-            (tree_text L.output (Counts least (trees_of (map tree_of parts.now)))) f.new }
+            (tree_text L.output V.output (Counts least (trees_of (map tree_of parts.now)))) f.new }
     {
-        Check::<L>::fmt_threshold(parts, least, f)
+        Check::<L, V>::fmt_threshold(parts, least, f)
     }
 
     // The number and the parts in parentheses.
     #[cycle(text)]
     fn fmt_threshold<W: fmt::Write>(
-        parts: &[Check<L>],
+        parts: &[Check<L, V>],
         least: usize,
         f: &mut fmt::Formatter<W>,
     ) -> fmt::Result
         ensures { DisplaysOnOk W.write_str_gives f.old result (counted_text (codes "at_least") least
-            (map (check_text L.output) parts.now)) f.new }
+            (map (check_text L.output V.output) parts.now)) f.new }
     {
         write!(f, "at_least({least}")?;
-        Check::<L>::fmt_further(parts, f)?;
+        Check::<L, V>::fmt_further(parts, f)?;
         write!(f, ")")
     }
 
     // The parts, each behind a comma.
     #[cycle(text)]
-    fn fmt_further<W: fmt::Write>(parts: &[Check<L>], f: &mut fmt::Formatter<W>) -> fmt::Result
+    fn fmt_further<W: fmt::Write>(parts: &[Check<L, V>], f: &mut fmt::Formatter<W>) -> fmt::Result
         ensures { DisplaysOnOk W.write_str_gives f.old result
-            (further_texts (map (check_text L.output) parts.now)) f.new }
+            (further_texts (map (check_text L.output V.output) parts.now)) f.new }
     {
         for part in parts {
-            Check::<L>::fmt_part(part, 1, f)?;
+            Check::<L, V>::fmt_part(part, 1, f)?;
         }
         Ok(())
     }
 }
 
-impl<L: fmt::Display> fmt::Display for Check<L> {
-    ghost output = { λ c. check_text L.output c };
+impl<L: fmt::Display, V: fmt::Display> Check<L, V> {
+    // A check of members.
+    #[cycle(text)]
+    fn fmt_quantified<W: fmt::Write>(
+        inner: &Check<L, V>,
+        view: &V,
+        decides: bool,
+        f: &mut fmt::Formatter<W>,
+    ) -> fmt::Result
+        ensures { DisplaysOnOk W.write_str_gives f.old result (quantified_text decides
+            (V.output view.now) (check_text L.output V.output inner.now)) f.new }
+    {
+        f.write_str(member_word_of(decides))?;
+        Check::<L, V>::fmt_viewed(inner, view, f)
+    }
+
+    // A check of which at least so many members have to hold.
+    #[cycle(text)]
+    fn fmt_members<W: fmt::Write>(
+        inner: &Check<L, V>,
+        view: &V,
+        least: usize,
+        f: &mut fmt::Formatter<W>,
+    ) -> fmt::Result
+        ensures { DisplaysOnOk W.write_str_gives f.old result (members_text least
+            (V.output view.now) (check_text L.output V.output inner.now)) f.new }
+    {
+        write!(f, "at_least {least} ")?;
+        Check::<L, V>::fmt_viewed(inner, view, f)
+    }
+
+    // The view of the members, and the check of a member in parentheses.
+    #[cycle(text)]
+    fn fmt_viewed<W: fmt::Write>(
+        inner: &Check<L, V>,
+        view: &V,
+        f: &mut fmt::Formatter<W>,
+    ) -> fmt::Result
+        ensures { DisplaysOnOk W.write_str_gives f.old result (viewed_text
+            (V.output view.now) (check_text L.output V.output inner.now)) f.new }
+    {
+        fmt::Display::fmt(view, f)?;
+        write!(f, "(")?;
+        fmt::Display::fmt(inner, f)?;
+        write!(f, ")")
+    }
+}
+
+impl<L: fmt::Display, V: fmt::Display> fmt::Display for Check<L, V> {
+    ghost output = { λ c. check_text L.output V.output c };
 
     #[cycle(text)]
     fn fmt<W: fmt::Write>(&self, f: &mut fmt::Formatter<W>) -> fmt::Result {
@@ -209,16 +284,22 @@ impl<L: fmt::Display> fmt::Display for Check<L> {
                 (**right).fmt(f)?;
                 write!(f, ")")
             }
-            Check::Row(decides, parts) => Check::<L>::fmt_row(parts, *decides, f),
-            Check::AtLeast(least, parts) => Check::<L>::fmt_counted(parts, *least, f),
+            Check::Row(decides, parts) => Check::<L, V>::fmt_row(parts, *decides, f),
+            Check::AtLeast(least, parts) => Check::<L, V>::fmt_counted(parts, *least, f),
+            Check::Quantified(decides, view, inner) => {
+                Check::<L, V>::fmt_quantified(inner, view, *decides, f)
+            }
+            Check::MembersAtLeast(least, view, inner) => {
+                Check::<L, V>::fmt_members(inner, view, *least, f)
+            }
         }
     }
 }
 
-impl<L: PredicateReflection> PredicateReflection for Check<L> {
+impl<L: PredicateReflection, V: fmt::Display> PredicateReflection for Check<L, V> {
     ghost parameters_of = { λ c. check_parameters L.parameters_of c };
 
-    ghost children_of = { λ c. check_parts L.output L.parameters_of L.children_of c };
+    ghost children_of = { λ c. check_parts L.output V.output L.parameters_of L.children_of c };
 
     fn parameters(&self, alloc: Global) -> Result<Vec<Parameter>, AllocError> {
         match self {
@@ -232,18 +313,18 @@ impl<L: PredicateReflection> PredicateReflection for Check<L> {
     }
 }
 
-impl<L: Predicate<Item>, Item> Predicate<Item> for Check<L> {
+impl<L: Predicate<Item>, V: Members<Item>, Item> Predicate<Item> for Check<L, V> {
     ghost lawful = { λ c. AllOf L.lawful c };
 
-    ghost formula = { λ c v. Has L.output (λ l. L.formula l v) c };
+    ghost formula = { λ c v. Has L.output V.output L.formula V.members_of V.reason_of v c };
 
-    ghost infallible = { λ c v. AllOf (λ l. L.infallible l v) c };
+    ghost infallible = { λ c v. AsksAll L.infallible V.members_of v c };
 
-    ghost text_fits = { λ c v f. tree_text_fits L.output (λ l. L.formula l v)
-        (λ l g. L.text_fits l v g) (tree_of c) f };
+    ghost text_fits = { λ c v f. tree_text_fits L.output V.output L.formula V.members_of
+        V.reason_of L.text_fits v (tree_of c) f };
 
-    ghost one_formula = { λ c v f g. one_tree L.output (λ l. L.formula l v) L.lawful
-        (λ l. L.one_formula l v) (tree_of c) f g };
+    ghost one_formula = { λ c v f g. one_tree L.output V.output L.formula V.members_of
+        V.reason_of L.lawful L.one_formula v (tree_of c) f g };
 
     fn eval(&self, alloc: Global, item: &Item) -> Result<bool, AllocError> {
         holds(alloc, self, item)
@@ -271,7 +352,7 @@ impl<L: Predicate<Item>, Item> Predicate<Item> for Check<L> {
     }
 }
 
-impl<L: PredicateChange<Item>, Item> PredicateChange<Item> for Check<L> {
+impl<L: PredicateChange<Item>, V: Members<Item>, Item> PredicateChange<Item> for Check<L, V> {
     fn find_change(
         &self,
         alloc: Global,
@@ -282,21 +363,25 @@ impl<L: PredicateChange<Item>, Item> PredicateChange<Item> for Check<L> {
     }
 }
 
-impl<L: Total<Item>, Item> Total<Item> for Check<L> {
-    ghost formula_of = { λ c v. tree_formula L.output (λ l. L.formula_of l v) (tree_of c) };
+impl<L: Total<Item>, V: Members<Item>, Item> Total<Item> for Check<L, V> {
+    ghost formula_of = { λ c v. tree_formula L.output V.output L.formula_of V.members_of
+        V.reason_of v (tree_of c) };
 
     ghost always_lawful = { λ c. all_leaves L.lawful L.always_lawful (tree_of c) };
 
-    ghost has_formula = { λ c v. has_tree L.output (λ l. L.formula l v) (λ l. L.formula_of l v)
-        (λ l. L.has_formula l v) (tree_of c) };
+    ghost has_formula = { λ c v. has_tree L.output V.output L.formula V.members_of V.reason_of
+        (λ item. item) L.formula_of V.members_of V.reason_of L.has_formula
+        (members_as_they_are V.members_of) (λ view item. refl) v (tree_of c) };
 }
 
+// A view reads the item, so this is for checks that ask no members.
 impl<L: ReadsContent<Item>, Item: Content> ReadsContent<Item> for Check<L> {
-    ghost content_formula = { λ c bytes. tree_formula L.output
-        (λ l. L.content_formula l bytes) (tree_of c) };
+    ghost content_formula = { λ c bytes. tree_formula L.output (λ _. Some (codes ""))
+        L.content_formula (λ _ _. None) (λ _ _. codes "") bytes (tree_of c) };
 
     ghost always_lawful = { λ c. all_leaves L.lawful L.always_lawful (tree_of c) };
 
-    ghost has_formula = { λ c v. has_tree L.output (λ l. L.formula l v)
-        (λ l. L.content_formula l (Item.content v)) (λ l. L.has_formula l v) (tree_of c) };
+    ghost has_formula = { λ c v. has_tree L.output (λ _. Some (codes "")) L.formula (λ _ _. None)
+        (λ _ _. codes "") Item.content L.content_formula (λ _ _. None) (λ _ _. codes "")
+        L.has_formula (λ view item. refl) (λ view item. refl) v (tree_of c) };
 }

@@ -10,16 +10,18 @@ use crate::check::Check;
 use predicates_core::node::printed;
 use predicates_core::reflection::{Child, PredicateReflection};
 use std::alloc::{AllocError, Global};
+use std::fmt;
 
 // The `children` of the check.
 #[cycle(describe)]
-pub(crate) fn parts_of<L: PredicateReflection>(
+pub(crate) fn parts_of<L: PredicateReflection, V: fmt::Display>(
     alloc: Global,
-    check: &Check<L>,
+    check: &Check<L, V>,
 ) -> Result<Vec<Child>, AllocError>
     ensures fits { IfOk result (λ children. FitsParts
-        (check_parts L.output L.parameters_of L.children_of check.now) (forest children.items)) }
-    ensures none { check_parts L.output L.parameters_of L.children_of check.now ≡ empty
+        (check_parts L.output V.output L.parameters_of L.children_of check.now)
+        (forest children.items)) }
+    ensures none { check_parts L.output V.output L.parameters_of L.children_of check.now ≡ empty
         → IsOk result }
 {
     match check {
@@ -27,25 +29,27 @@ pub(crate) fn parts_of<L: PredicateReflection>(
         Check::Not(inner) => one_part(alloc, inner, "predicate"),
         Check::Named(name, inner) => one_part(alloc, inner, name.as_str()),
         Check::Pair(_, left_part, right_part) => {
-            let left_part: &Check<L> = left_part;
+            let left_part: &Check<L, V> = left_part;
             let left = described(alloc, left_part, "left")?;
             two_parts_of(alloc, right_part, left_part, left)
         }
         Check::Row(_, parts) => parts_children(alloc, parts, check),
         Check::AtLeast(_, parts) => parts_children(alloc, parts, check),
+        Check::Quantified(_, _, inner) => one_part(alloc, inner, "item"),
+        Check::MembersAtLeast(_, _, inner) => one_part(alloc, inner, "item"),
     }
 }
 
 // The description of a part under the name.
 #[cycle(describe)]
-fn described<L: PredicateReflection>(
+fn described<L: PredicateReflection, V: fmt::Display>(
     alloc: Global,
-    part: &Check<L>,
+    part: &Check<L, V>,
     name: &'static str,
 ) -> Result<Child, AllocError>
-    ensures { IfOk result (IsPart name.now (check_text L.output part.now)
+    ensures { IfOk result (IsPart name.now (check_text L.output V.output part.now)
         (check_parameters L.parameters_of part.now)
-        (check_parts L.output L.parameters_of L.children_of part.now)) }
+        (check_parts L.output V.output L.parameters_of L.children_of part.now)) }
 {
     let text = printed(alloc, part)?;
     let parameters = part.parameters(alloc)?;
@@ -55,14 +59,15 @@ fn described<L: PredicateReflection>(
 
 // The description of the one part of a check.
 #[cycle(describe)]
-fn one_part<L: PredicateReflection>(
+fn one_part<L: PredicateReflection, V: fmt::Display>(
     alloc: Global,
-    inner: &Check<L>,
+    inner: &Check<L, V>,
     name: &'static str,
 ) -> Result<Vec<Child>, AllocError>
     ensures { IfOk result (λ children. FitsParts
-        (part name.now (check_text L.output inner.now) (check_parameters L.parameters_of inner.now)
-        (check_parts L.output L.parameters_of L.children_of inner.now))
+        (part name.now (check_text L.output V.output inner.now)
+        (check_parameters L.parameters_of inner.now)
+        (check_parts L.output V.output L.parameters_of L.children_of inner.now))
         (forest children.items)) }
 {
     let mut children = Vec::new(alloc);
@@ -72,22 +77,22 @@ fn one_part<L: PredicateReflection>(
 
 // The descriptions of two parts, of which the left one has its.
 #[cycle(describe)]
-fn two_parts_of<L: PredicateReflection>(
+fn two_parts_of<L: PredicateReflection, V: fmt::Display>(
     alloc: Global,
-    right_part: &Check<L>,
-    left_part: &Check<L>,
+    right_part: &Check<L, V>,
+    left_part: &Check<L, V>,
     left: Child,
 ) -> Result<Vec<Child>, AllocError>
-    requires { IsPart (codes "left") (check_text L.output left_part.now)
+    requires { IsPart (codes "left") (check_text L.output V.output left_part.now)
         (check_parameters L.parameters_of left_part.now)
-        (check_parts L.output L.parameters_of L.children_of left_part.now) left }
+        (check_parts L.output V.output L.parameters_of L.children_of left_part.now) left }
     ensures { IfOk result (λ children. FitsParts (two_parts
-        (codes "left") (check_text L.output left_part.now)
+        (codes "left") (check_text L.output V.output left_part.now)
         (check_parameters L.parameters_of left_part.now)
-        (check_parts L.output L.parameters_of L.children_of left_part.now)
-        (codes "right") (check_text L.output right_part.now)
+        (check_parts L.output V.output L.parameters_of L.children_of left_part.now)
+        (codes "right") (check_text L.output V.output right_part.now)
         (check_parameters L.parameters_of right_part.now)
-        (check_parts L.output L.parameters_of L.children_of right_part.now))
+        (check_parts L.output V.output L.parameters_of L.children_of right_part.now))
         (forest children.items)) }
 {
     let mut children = Vec::new(alloc);
@@ -98,16 +103,18 @@ fn two_parts_of<L: PredicateReflection>(
 
 // The descriptions of several parts.
 #[cycle(describe)]
-fn parts_children<L: PredicateReflection>(
+fn parts_children<L: PredicateReflection, V: fmt::Display>(
     alloc: Global,
-    parts: &[Check<L>],
-    whole: &Check<L>,
+    parts: &[Check<L, V>],
+    whole: &Check<L, V>,
 ) -> Result<Vec<Child>, AllocError>
-    requires { check_parts L.output L.parameters_of L.children_of whole.now
-        ≡ row_parts L.output L.parameters_of L.children_of (trees_of (map tree_of parts.now)) }
+    requires { check_parts L.output V.output L.parameters_of L.children_of whole.now
+        ≡ row_parts L.output V.output L.parameters_of L.children_of
+        (trees_of (map tree_of parts.now)) }
     ensures fits { IfOk result (λ children. FitsParts
-        (check_parts L.output L.parameters_of L.children_of whole.now) (forest children.items)) }
-    ensures none { check_parts L.output L.parameters_of L.children_of whole.now ≡ empty
+        (check_parts L.output V.output L.parameters_of L.children_of whole.now)
+        (forest children.items)) }
+    ensures none { check_parts L.output V.output L.parameters_of L.children_of whole.now ≡ empty
         → IsOk result }
 {
     each_part(alloc, parts)
@@ -115,13 +122,13 @@ fn parts_children<L: PredicateReflection>(
 
 // The same, as `custom::each_child`.
 #[cycle(describe)]
-fn each_part<L: PredicateReflection>(
+fn each_part<L: PredicateReflection, V: fmt::Display>(
     alloc: Global,
-    parts: &[Check<L>],
+    parts: &[Check<L, V>],
 ) -> Result<Vec<Child>, AllocError>
     ensures fits { IfOk result (λ children. FitsParts (part_of_each (codes "rule")
-        (check_text L.output) (check_parameters L.parameters_of)
-        (check_parts L.output L.parameters_of L.children_of) parts.now)
+        (check_text L.output V.output) (check_parameters L.parameters_of)
+        (check_parts L.output V.output L.parameters_of L.children_of) parts.now)
         (forest children.items)) }
     ensures none { parts.now ≡ [] → IsOk result }
 {

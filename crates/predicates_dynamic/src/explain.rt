@@ -9,8 +9,12 @@ ghost use Rattle.predicates_dynamic.specs.Trees.{AllOf, AllLeaves, tree_of, tree
 ghost use Rattle.predicates_dynamic.specs.Trees.{Names, Pairs, Rows, Counts};
 ghost use Rattle.predicates_dynamic.specs.Formulas.{check_text, Has};
 
+mod members;
+
+use self::members::{members_threshold_explained, quantified_explained};
 use crate::check::Check;
 use crate::hold::are_lawful;
+use crate::members::Members;
 use predicates_core::Predicate;
 use predicates_core::custom::{
     Operator, deciding_case, enough_of, is_deciding, is_other, is_settled, is_wanted, kept_if,
@@ -22,14 +26,15 @@ use std::alloc::{AllocError, Global};
 
 // The `explain` of the check.
 #[cycle(explain)]
-pub(crate) fn explained<L: Predicate<Item>, Item>(
+pub(crate) fn explained<L: Predicate<Item>, V: Members<Item>, Item>(
     alloc: Global,
-    check: &Check<L>,
+    check: &Check<L, V>,
     wanted: Option<bool>,
     item: &Item,
 ) -> Result<Option<Case>, AllocError>
     requires { AllOf L.lawful check.now }
-    ensures { IfOk result (IsFound (Has L.output (λ l. L.formula l item.now) check.now) wanted) }
+    ensures { IfOk result (IsFound
+        (Has L.output V.output L.formula V.members_of V.reason_of item.now check.now) wanted) }
 {
     match check {
         Check::Leaf(leaf) => leaf.explain(alloc, wanted, item),
@@ -44,7 +49,7 @@ pub(crate) fn explained<L: Predicate<Item>, Item>(
         ),
         Check::Pair(operator, left_part, right_part) => {
             let operator = *operator;
-            let left_part: &Check<L> = left_part;
+            let left_part: &Check<L, V> = left_part;
             let left = explained(alloc, left_part, operator.left_wanted(wanted), item)?;
             pair_explained(
                 alloc, right_part, left_part, operator, check, left, wanted, item,
@@ -54,21 +59,28 @@ pub(crate) fn explained<L: Predicate<Item>, Item>(
         Check::AtLeast(least, parts) => {
             threshold_explained(alloc, parts, *least, check, wanted, item)
         }
+        Check::Quantified(decides, view, inner) => {
+            quantified_explained(alloc, inner, view, *decides, check, wanted, item)
+        }
+        Check::MembersAtLeast(least, view, inner) => {
+            members_threshold_explained(alloc, inner, view, *least, check, wanted, item)
+        }
     }
 }
 
 // The same of a check that is denied, from the part and the whole.
 #[cycle(explain)]
-fn not_explained<L: Predicate<Item>, Item>(
+fn not_explained<L: Predicate<Item>, V: Members<Item>, Item>(
     alloc: Global,
-    inner: &Check<L>,
-    whole: &Check<L>,
+    inner: &Check<L, V>,
+    whole: &Check<L, V>,
     wanted: Option<bool>,
     item: &Item,
 ) -> Result<Option<Case>, AllocError>
     requires lawful { AllOf L.lawful inner.now }
     requires whole { tree_of whole.now ≡ Denies (tree_of inner.now) }
-    ensures { IfOk result (IsFound (Has L.output (λ l. L.formula l item.now) whole.now) wanted) }
+    ensures { IfOk result (IsFound
+        (Has L.output V.output L.formula V.members_of V.reason_of item.now whole.now) wanted) }
 {
     let Some(part) = explained(alloc, inner, opposite_of(wanted), item)? else {
         return Ok(None);
@@ -81,17 +93,18 @@ fn not_explained<L: Predicate<Item>, Item>(
 
 // The same of a check under a name.
 #[cycle(explain)]
-fn named_explained<L: Predicate<Item>, Item>(
+fn named_explained<L: Predicate<Item>, V: Members<Item>, Item>(
     alloc: Global,
-    inner: &Check<L>,
+    inner: &Check<L, V>,
     name: &'static str,
-    whole: &Check<L>,
+    whole: &Check<L, V>,
     wanted: Option<bool>,
     item: &Item,
 ) -> Result<Option<Case>, AllocError>
     requires lawful { AllOf L.lawful inner.now }
     requires whole { tree_of whole.now ≡ Names name.now (tree_of inner.now) }
-    ensures { IfOk result (IsFound (Has L.output (λ l. L.formula l item.now) whole.now) wanted) }
+    ensures { IfOk result (IsFound
+        (Has L.output V.output L.formula V.members_of V.reason_of item.now whole.now) wanted) }
 {
     let Some(part) = explained(alloc, inner, wanted, item)? else {
         return Ok(None);
@@ -104,22 +117,24 @@ fn named_explained<L: Predicate<Item>, Item>(
 
 // The same of two checks that an operator joins, where this was found of the left one.
 #[cycle(explain)]
-fn pair_explained<L: Predicate<Item>, Item>(
+fn pair_explained<L: Predicate<Item>, V: Members<Item>, Item>(
     alloc: Global,
-    right_part: &Check<L>,
-    left_part: &Check<L>,
+    right_part: &Check<L, V>,
+    left_part: &Check<L, V>,
     operator: Operator,
-    whole: &Check<L>,
+    whole: &Check<L, V>,
     left: Option<Case>,
     wanted: Option<bool>,
     item: &Item,
 ) -> Result<Option<Case>, AllocError>
     requires lawful { AllOf L.lawful right_part.now }
-    requires left { IsFound (Has L.output (λ l. L.formula l item.now) left_part.now)
+    requires left { IsFound
+        (Has L.output V.output L.formula V.members_of V.reason_of item.now left_part.now)
         (left_wanted operator wanted) left }
     requires whole { tree_of whole.now ≡ Pairs operator (tree_of left_part.now)
         (tree_of right_part.now) }
-    ensures { IfOk result (IsFound (Has L.output (λ l. L.formula l item.now) whole.now) wanted) }
+    ensures { IfOk result (IsFound
+        (Has L.output V.output L.formula V.members_of V.reason_of item.now whole.now) wanted) }
 {
     let left_wanted = operator.left_wanted(wanted);
     let left_holds = shown_verdict(left_wanted, &left);
@@ -139,16 +154,17 @@ fn pair_explained<L: Predicate<Item>, Item>(
 
 // What is found of the part if it is `asked`.
 #[cycle(explain)]
-fn explained_if<L: Predicate<Item>, Item>(
+fn explained_if<L: Predicate<Item>, V: Members<Item>, Item>(
     alloc: Global,
-    part: &Check<L>,
+    part: &Check<L, V>,
     asked: bool,
     wanted: Option<bool>,
     item: &Item,
 ) -> Result<Option<Case>, AllocError>
     requires { AllOf L.lawful part.now }
     ensures { IfOk result
-        (IsFoundIf asked (Has L.output (λ l. L.formula l item.now) part.now) wanted) }
+        (IsFoundIf asked
+        (Has L.output V.output L.formula V.members_of V.reason_of item.now part.now) wanted) }
 {
     if asked {
         let found = explained(alloc, part, wanted, item)?;
@@ -160,36 +176,39 @@ fn explained_if<L: Predicate<Item>, Item>(
 
 // The same of a row of checks.
 #[cycle(explain)]
-fn row_explained<L: Predicate<Item>, Item>(
+fn row_explained<L: Predicate<Item>, V: Members<Item>, Item>(
     alloc: Global,
-    parts: &[Check<L>],
+    parts: &[Check<L, V>],
     decides: bool,
-    whole: &Check<L>,
+    whole: &Check<L, V>,
     wanted: Option<bool>,
     item: &Item,
 ) -> Result<Option<Case>, AllocError>
     requires lawful { AllLeaves L.lawful (Rows decides (trees_of (map tree_of parts.now))) }
     requires whole { tree_of whole.now ≡ Rows decides (trees_of (map tree_of parts.now)) }
-    ensures { IfOk result (IsFound (Has L.output (λ l. L.formula l item.now) whole.now) wanted) }
+    ensures { IfOk result (IsFound
+        (Has L.output V.output L.formula V.members_of V.reason_of item.now whole.now) wanted) }
 {
-    are_lawful::<L, Item>(parts);
+    are_lawful::<L, V, Item>(parts);
     let found = parts_explained(alloc, parts, decides, whole, wanted, item)?;
     Ok(found)
 }
 
 // The same, as `custom::parts_explained`.
 #[cycle(explain)]
-fn parts_explained<L: Predicate<Item>, Item>(
+fn parts_explained<L: Predicate<Item>, V: Members<Item>, Item>(
     alloc: Global,
-    parts: &[Check<L>],
+    parts: &[Check<L, V>],
     decides: bool,
-    whole: &Check<L>,
+    whole: &Check<L, V>,
     wanted: Option<bool>,
     item: &Item,
 ) -> Result<Option<Case>, AllocError>
     requires { AllByRecursion (AllOf L.lawful) parts.now }
-    ensures { IfOk result (IsFound (IsOfMembers decides (check_text L.output whole.now)
-        (codes "rule") (Has L.output (λ l. L.formula l item.now)) parts.now) wanted) }
+    ensures { IfOk result (IsFound (IsOfMembers decides
+        (check_text L.output V.output whole.now) (codes "rule")
+        (Has L.output V.output L.formula V.members_of V.reason_of item.now) parts.now)
+        wanted) }
 {
     if is_wanted(wanted, decides) {
         let found = first_part(alloc, parts, decides, whole, item)?;
@@ -204,16 +223,18 @@ fn parts_explained<L: Predicate<Item>, Item>(
 
 // The case of the first part that decides.
 #[cycle(explain)]
-fn first_part<L: Predicate<Item>, Item>(
+fn first_part<L: Predicate<Item>, V: Members<Item>, Item>(
     alloc: Global,
-    parts: &[Check<L>],
+    parts: &[Check<L, V>],
     decides: bool,
-    whole: &Check<L>,
+    whole: &Check<L, V>,
     item: &Item,
 ) -> Result<Option<Case>, AllocError>
     requires { AllByRecursion (AllOf L.lawful) parts.now }
-    ensures { IfOk result (IsAnswer (IsOfMembers decides (check_text L.output whole.now)
-        (codes "rule") (Has L.output (λ l. L.formula l item.now)) parts.now) decides) }
+    ensures { IfOk result (IsAnswer (IsOfMembers decides
+        (check_text L.output V.output whole.now) (codes "rule")
+        (Has L.output V.output L.formula V.members_of V.reason_of item.now) parts.now)
+        decides) }
 {
     for (index, part) in parts.iter().enumerate() {
         let Some(case) = explained(alloc, part, Some(decides), item)? else {
@@ -226,19 +247,21 @@ fn first_part<L: Predicate<Item>, Item>(
 
 // The case of all parts, or of the first that decides, where it is not wanted that none does.
 #[cycle(explain)]
-fn every_part<L: Predicate<Item>, Item>(
+fn every_part<L: Predicate<Item>, V: Members<Item>, Item>(
     alloc: Global,
-    parts: &[Check<L>],
+    parts: &[Check<L, V>],
     decides: bool,
-    whole: &Check<L>,
+    whole: &Check<L, V>,
     wanted: Option<bool>,
     item: &Item,
 ) -> Result<Option<Case>, AllocError>
     requires lawful { AllByRecursion (AllOf L.lawful) parts.now }
     requires some { parts.now ≢ [] }
     requires other { wanted ≢ Some decides }
-    ensures { IfOk result (IsFound (IsOfMembers decides (check_text L.output whole.now)
-        (codes "rule") (Has L.output (λ l. L.formula l item.now)) parts.now) wanted) }
+    ensures { IfOk result (IsFound (IsOfMembers decides
+        (check_text L.output V.output whole.now) (codes "rule")
+        (Has L.output V.output L.formula V.members_of V.reason_of item.now) parts.now)
+        wanted) }
 {
     let mut node = leaf_node(alloc, printed(alloc, whole)?, !decides);
     for (index, part) in parts.iter().enumerate() {
@@ -255,36 +278,39 @@ fn every_part<L: Predicate<Item>, Item>(
 
 // The same of checks of which at least so many have to hold.
 #[cycle(explain)]
-fn threshold_explained<L: Predicate<Item>, Item>(
+fn threshold_explained<L: Predicate<Item>, V: Members<Item>, Item>(
     alloc: Global,
-    parts: &[Check<L>],
+    parts: &[Check<L, V>],
     least: usize,
-    whole: &Check<L>,
+    whole: &Check<L, V>,
     wanted: Option<bool>,
     item: &Item,
 ) -> Result<Option<Case>, AllocError>
     requires lawful { AllLeaves L.lawful (Counts least (trees_of (map tree_of parts.now))) }
     requires whole { tree_of whole.now ≡ Counts least (trees_of (map tree_of parts.now)) }
-    ensures { IfOk result (IsFound (Has L.output (λ l. L.formula l item.now) whole.now) wanted) }
+    ensures { IfOk result (IsFound
+        (Has L.output V.output L.formula V.members_of V.reason_of item.now whole.now) wanted) }
 {
-    are_lawful::<L, Item>(parts);
+    are_lawful::<L, V, Item>(parts);
     let found = counted_explained(alloc, parts, least, whole, wanted, item)?;
     Ok(found)
 }
 
 // The same, as `custom::threshold_explained`.
 #[cycle(explain)]
-fn counted_explained<L: Predicate<Item>, Item>(
+fn counted_explained<L: Predicate<Item>, V: Members<Item>, Item>(
     alloc: Global,
-    parts: &[Check<L>],
+    parts: &[Check<L, V>],
     least: usize,
-    whole: &Check<L>,
+    whole: &Check<L, V>,
     wanted: Option<bool>,
     item: &Item,
 ) -> Result<Option<Case>, AllocError>
     requires { AllByRecursion (AllOf L.lawful) parts.now }
-    ensures { IfOk result (IsFound (IsOfThreshold least (check_text L.output whole.now)
-        (codes "rule") (Has L.output (λ l. L.formula l item.now)) parts.now) wanted) }
+    ensures { IfOk result (IsFound (IsOfThreshold least
+        (check_text L.output V.output whole.now) (codes "rule")
+        (Has L.output V.output L.formula V.members_of V.reason_of item.now) parts.now)
+        wanted) }
 {
     match wanted {
         Some(expected) => counted_wanted(alloc, parts, least, whole, expected, item),
@@ -294,16 +320,18 @@ fn counted_explained<L: Predicate<Item>, Item>(
 
 // The case of whichever verdict the whole has. Each part is asked once.
 #[cycle(explain)]
-fn counted_either<L: Predicate<Item>, Item>(
+fn counted_either<L: Predicate<Item>, V: Members<Item>, Item>(
     alloc: Global,
-    parts: &[Check<L>],
+    parts: &[Check<L, V>],
     least: usize,
-    whole: &Check<L>,
+    whole: &Check<L, V>,
     item: &Item,
 ) -> Result<Option<Case>, AllocError>
     requires { AllByRecursion (AllOf L.lawful) parts.now }
-    ensures { IfOk result (IsFound (IsOfThreshold least (check_text L.output whole.now)
-        (codes "rule") (Has L.output (λ l. L.formula l item.now)) parts.now) None) }
+    ensures { IfOk result (IsFound (IsOfThreshold least
+        (check_text L.output V.output whole.now) (codes "rule")
+        (Has L.output V.output L.formula V.members_of V.reason_of item.now) parts.now)
+        None) }
 {
     if is_settled(least, parts.len()) {
         return settled_case(alloc, whole, least, parts.len(), None);
@@ -338,17 +366,19 @@ fn counted_either<L: Predicate<Item>, Item>(
 
 // The case of a whole that is wanted to have the verdict.
 #[cycle(explain)]
-fn counted_wanted<L: Predicate<Item>, Item>(
+fn counted_wanted<L: Predicate<Item>, V: Members<Item>, Item>(
     alloc: Global,
-    parts: &[Check<L>],
+    parts: &[Check<L, V>],
     least: usize,
-    whole: &Check<L>,
+    whole: &Check<L, V>,
     expected: bool,
     item: &Item,
 ) -> Result<Option<Case>, AllocError>
     requires { AllByRecursion (AllOf L.lawful) parts.now }
-    ensures { IfOk result (IsAnswer (IsOfThreshold least (check_text L.output whole.now)
-        (codes "rule") (Has L.output (λ l. L.formula l item.now)) parts.now) expected) }
+    ensures { IfOk result (IsAnswer (IsOfThreshold least
+        (check_text L.output V.output whole.now) (codes "rule")
+        (Has L.output V.output L.formula V.members_of V.reason_of item.now) parts.now)
+        expected) }
 {
     if is_settled(least, parts.len()) {
         return settled_case(alloc, whole, least, parts.len(), Some(expected));

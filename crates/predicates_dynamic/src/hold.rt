@@ -6,24 +6,29 @@ ghost use Rattle.predicates_core.specs.Label.{Entry};
 ghost use Rattle.predicates_core.specs.Several.{IsOfMembers};
 ghost use Rattle.predicates_core.specs.Thresholds.{IsOfThreshold};
 ghost use Rattle.predicates_dynamic.specs.Trees.{AllOf, AllLeaves, AllOfTrees, tree_of, trees_of};
-ghost use Rattle.predicates_dynamic.specs.Trees.{Denies, Names, Pairs, Rows, Counts};
+ghost use Rattle.predicates_dynamic.specs.Trees.{AsksAll, Denies, Names, Pairs, Rows, Counts};
 ghost use Rattle.predicates_dynamic.specs.Formulas.{Has, HasFormula};
 
+mod members;
+
+use self::members::{members_threshold_holds, quantified_holds};
 use crate::check::Check;
+use crate::members::Members;
 use predicates_core::Predicate;
 use predicates_core::custom::{Operator, is_settled};
 use std::alloc::{AllocError, Global};
 
 // The `eval` of the check.
 #[cycle(hold)]
-pub(crate) fn holds<L: Predicate<Item>, Item>(
+pub(crate) fn holds<L: Predicate<Item>, V: Members<Item>, Item>(
     alloc: Global,
-    check: &Check<L>,
+    check: &Check<L, V>,
     item: &Item,
 ) -> Result<bool, AllocError>
     requires { AllOf L.lawful check.now }
-    ensures truth { IfOk result (HasTruth (Has L.output (λ l. L.formula l item.now) check.now)) }
-    ensures infallible { AllOf (λ l. L.infallible l item.now) check.now → IsOk result }
+    ensures truth { IfOk result (HasTruth
+        (Has L.output V.output L.formula V.members_of V.reason_of item.now check.now)) }
+    ensures infallible { AsksAll L.infallible V.members_of item.now check.now → IsOk result }
 {
     match check {
         Check::Leaf(leaf) => leaf.eval(alloc, item),
@@ -35,20 +40,27 @@ pub(crate) fn holds<L: Predicate<Item>, Item>(
         }
         Check::Row(decides, parts) => row_holds(alloc, parts, *decides, check, item),
         Check::AtLeast(least, parts) => threshold_holds(alloc, parts, *least, check, item),
+        Check::Quantified(decides, view, inner) => {
+            quantified_holds(alloc, inner, view, *decides, check, item)
+        }
+        Check::MembersAtLeast(least, view, inner) => {
+            members_threshold_holds(alloc, inner, view, *least, check, item)
+        }
     }
 }
 
 // The same of a check that is denied.
 #[cycle(hold)]
-fn not_holds<L: Predicate<Item>, Item>(
+fn not_holds<L: Predicate<Item>, V: Members<Item>, Item>(
     alloc: Global,
-    inner: &Check<L>,
+    inner: &Check<L, V>,
     item: &Item,
 ) -> Result<bool, AllocError>
     requires { AllOf L.lawful inner.now }
-    ensures truth { IfOk result (HasTruth (HasFormula L.output (λ l. L.formula l item.now)
+    ensures truth { IfOk result (HasTruth
+        (HasFormula L.output V.output L.formula V.members_of V.reason_of item.now
         (Denies (tree_of inner.now)))) }
-    ensures infallible { AllOf (λ l. L.infallible l item.now) inner.now → IsOk result }
+    ensures infallible { AsksAll L.infallible V.members_of item.now inner.now → IsOk result }
 {
     let held = holds(alloc, inner, item)?;
     Ok(!held)
@@ -56,17 +68,18 @@ fn not_holds<L: Predicate<Item>, Item>(
 
 // The same of a check under a name.
 #[cycle(hold)]
-fn named_holds<L: Predicate<Item>, Item>(
+fn named_holds<L: Predicate<Item>, V: Members<Item>, Item>(
     alloc: Global,
-    inner: &Check<L>,
+    inner: &Check<L, V>,
     name: &str,
-    whole: &Check<L>,
+    whole: &Check<L, V>,
     item: &Item,
 ) -> Result<bool, AllocError>
     requires lawful { AllOf L.lawful inner.now }
     requires whole { tree_of whole.now ≡ Names name.now (tree_of inner.now) }
-    ensures truth { IfOk result (HasTruth (Has L.output (λ l. L.formula l item.now) whole.now)) }
-    ensures infallible { AllOf (λ l. L.infallible l item.now) inner.now → IsOk result }
+    ensures truth { IfOk result (HasTruth
+        (Has L.output V.output L.formula V.members_of V.reason_of item.now whole.now)) }
+    ensures infallible { AsksAll L.infallible V.members_of item.now inner.now → IsOk result }
 {
     let held = holds(alloc, inner, item)?;
     Ok(held)
@@ -75,19 +88,22 @@ fn named_holds<L: Predicate<Item>, Item>(
 // The same of two checks that an operator joins, where the left one has the verdict. The measure
 // is the first check, so the right one comes first.
 #[cycle(hold)]
-fn pair_holds<L: Predicate<Item>, Item>(
+fn pair_holds<L: Predicate<Item>, V: Members<Item>, Item>(
     alloc: Global,
-    right_part: &Check<L>,
-    left_part: &Check<L>,
+    right_part: &Check<L, V>,
+    left_part: &Check<L, V>,
     operator: Operator,
     left_holds: bool,
     item: &Item,
 ) -> Result<bool, AllocError>
     requires lawful { AllOf L.lawful right_part.now }
-    requires left { HasTruth (Has L.output (λ l. L.formula l item.now) left_part.now) left_holds }
-    ensures truth { IfOk result (HasTruth (HasFormula L.output (λ l. L.formula l item.now)
+    requires left { HasTruth
+        (Has L.output V.output L.formula V.members_of V.reason_of item.now left_part.now)
+        left_holds }
+    ensures truth { IfOk result (HasTruth
+        (HasFormula L.output V.output L.formula V.members_of V.reason_of item.now
         (Pairs operator (tree_of left_part.now) (tree_of right_part.now)))) }
-    ensures infallible { AllOf (λ l. L.infallible l item.now) right_part.now → IsOk result }
+    ensures infallible { AsksAll L.infallible V.members_of item.now right_part.now → IsOk result }
 {
     if !operator.asks(left_holds) {
         return Ok(operator.apply(left_holds, false));
@@ -98,34 +114,36 @@ fn pair_holds<L: Predicate<Item>, Item>(
 
 // The same of a row of checks, of which one with the verdict decides.
 #[cycle(hold)]
-fn row_holds<L: Predicate<Item>, Item>(
+fn row_holds<L: Predicate<Item>, V: Members<Item>, Item>(
     alloc: Global,
-    parts: &[Check<L>],
+    parts: &[Check<L, V>],
     decides: bool,
-    whole: &Check<L>,
+    whole: &Check<L, V>,
     item: &Item,
 ) -> Result<bool, AllocError>
     requires lawful { AllLeaves L.lawful (Rows decides (trees_of (map tree_of parts.now))) }
     requires whole { tree_of whole.now ≡ Rows decides (trees_of (map tree_of parts.now)) }
-    ensures truth { IfOk result (HasTruth (Has L.output (λ l. L.formula l item.now) whole.now)) }
-    ensures infallible { AllOf (λ l. L.infallible l item.now) whole.now → IsOk result }
+    ensures truth { IfOk result (HasTruth
+        (Has L.output V.output L.formula V.members_of V.reason_of item.now whole.now)) }
+    ensures infallible { AsksAll L.infallible V.members_of item.now whole.now → IsOk result }
 {
-    are_lawful::<L, Item>(parts);
+    are_lawful::<L, V, Item>(parts);
     parts_hold(alloc, parts, decides, item)
 }
 
 // The same, as `custom::parts_hold`.
 #[cycle(hold)]
-fn parts_hold<L: Predicate<Item>, Item>(
+fn parts_hold<L: Predicate<Item>, V: Members<Item>, Item>(
     alloc: Global,
-    parts: &[Check<L>],
+    parts: &[Check<L, V>],
     decides: bool,
     item: &Item,
 ) -> Result<bool, AllocError>
     requires { AllByRecursion (AllOf L.lawful) parts.now }
     ensures truth { IfOk result (λ held. (text : Entry) → HasTruth (IsOfMembers decides text
-        (codes "rule") (Has L.output (λ l. L.formula l item.now)) parts.now) held) }
-    ensures infallible { AllByRecursion (AllOf (λ l. L.infallible l item.now)) parts.now
+        (codes "rule")
+        (Has L.output V.output L.formula V.members_of V.reason_of item.now) parts.now) held) }
+    ensures infallible { AllByRecursion (AsksAll L.infallible V.members_of item.now) parts.now
         → IsOk result }
 {
     for part in parts {
@@ -138,34 +156,36 @@ fn parts_hold<L: Predicate<Item>, Item>(
 
 // The same of checks of which at least so many have to hold.
 #[cycle(hold)]
-fn threshold_holds<L: Predicate<Item>, Item>(
+fn threshold_holds<L: Predicate<Item>, V: Members<Item>, Item>(
     alloc: Global,
-    parts: &[Check<L>],
+    parts: &[Check<L, V>],
     least: usize,
-    whole: &Check<L>,
+    whole: &Check<L, V>,
     item: &Item,
 ) -> Result<bool, AllocError>
     requires lawful { AllLeaves L.lawful (Counts least (trees_of (map tree_of parts.now))) }
     requires whole { tree_of whole.now ≡ Counts least (trees_of (map tree_of parts.now)) }
-    ensures truth { IfOk result (HasTruth (Has L.output (λ l. L.formula l item.now) whole.now)) }
-    ensures infallible { AllOf (λ l. L.infallible l item.now) whole.now → IsOk result }
+    ensures truth { IfOk result (HasTruth
+        (Has L.output V.output L.formula V.members_of V.reason_of item.now whole.now)) }
+    ensures infallible { AsksAll L.infallible V.members_of item.now whole.now → IsOk result }
 {
-    are_lawful::<L, Item>(parts);
+    are_lawful::<L, V, Item>(parts);
     counted_hold(alloc, parts, least, item)
 }
 
 // The same, as `custom::threshold_holds`.
 #[cycle(hold)]
-fn counted_hold<L: Predicate<Item>, Item>(
+fn counted_hold<L: Predicate<Item>, V: Members<Item>, Item>(
     alloc: Global,
-    parts: &[Check<L>],
+    parts: &[Check<L, V>],
     least: usize,
     item: &Item,
 ) -> Result<bool, AllocError>
     requires { AllByRecursion (AllOf L.lawful) parts.now }
     ensures truth { IfOk result (λ held. (text : Entry) → HasTruth (IsOfThreshold least text
-        (codes "rule") (Has L.output (λ l. L.formula l item.now)) parts.now) held) }
-    ensures infallible { AllByRecursion (AllOf (λ l. L.infallible l item.now)) parts.now
+        (codes "rule")
+        (Has L.output V.output L.formula V.members_of V.reason_of item.now) parts.now) held) }
+    ensures infallible { AllByRecursion (AsksAll L.infallible V.members_of item.now) parts.now
         → IsOk result }
 {
     if is_settled(least, parts.len()) {
@@ -191,7 +211,7 @@ fn counted_hold<L: Predicate<Item>, Item>(
 }
 
 // Says of each part what is known of all. It does nothing.
-pub(crate) fn are_lawful<L: Predicate<Item>, Item>(parts: &[Check<L>])
+pub(crate) fn are_lawful<L: Predicate<Item>, V: Members<Item>, Item>(parts: &[Check<L, V>])
     requires { AllOfTrees L.lawful (trees_of (map tree_of parts.now)) }
     ensures { AllByRecursion (AllOf L.lawful) parts.now }
 {}

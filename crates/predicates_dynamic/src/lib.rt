@@ -13,7 +13,9 @@ mod check;
 mod describe;
 mod explain;
 mod hold;
+mod members;
 pub mod semantics;
 mod take_apart;
 
 pub use check::Check;
+pub use members::{Members, NoMembers};

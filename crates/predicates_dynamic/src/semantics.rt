@@ -11,23 +11,25 @@ ghost use Rattle.std.specs.Prelude.{◌≡◌, ◌↔◌};
 ghost use Rattle.predicates_core.specs.Formula.{Formula};
 ghost use Rattle.predicates_dynamic.specs.Described.{tree_parameters, tree_parts};
 ghost use Rattle.predicates_dynamic.specs.Formulas.{HasFormula};
-ghost use Rattle.predicates_dynamic.specs.Trees.{tree_of, AllLeaves};
+ghost use Rattle.predicates_dynamic.specs.Trees.{tree_of, AllLeaves, AllAsked};
 
 use crate::check::Check;
+use crate::members::Members;
 use predicates_core::Predicate;
 use predicates_core::reflection::PredicateReflection;
 
 /// Its formulas are those of its tree, from those of its leaves.
-pub fn check<L: Predicate<Item>, Item>(check: &Check<L>, item: &Item)
+pub fn check<L: Predicate<Item>, V: Members<Item>, Item>(check: &Check<L, V>, item: &Item)
     ensures formula { (f : Formula)
-        → ⟦<Check<L> as Predicate<Item>>⟧.formula check.now item.now f
-        ↔ HasFormula L.output (λ l. L.formula l item.now) (tree_of check.now) f }
-    ensures lawful { ⟦<Check<L> as Predicate<Item>>⟧.lawful check.now
+        → ⟦<Check<L, V> as Predicate<Item>>⟧.formula check.now item.now f
+        ↔ HasFormula L.output V.output L.formula V.members_of V.reason_of item.now
+        (tree_of check.now) f }
+    ensures lawful { ⟦<Check<L, V> as Predicate<Item>>⟧.lawful check.now
         ↔ AllLeaves L.lawful (tree_of check.now) }
-    ensures infallible { ⟦<Check<L> as Predicate<Item>>⟧.infallible check.now item.now
-        ↔ AllLeaves (λ l. L.infallible l item.now) (tree_of check.now) }
-    ensures values { ⟦<Check<L> as PredicateReflection>⟧.parameters_of check.now
+    ensures infallible { ⟦<Check<L, V> as Predicate<Item>>⟧.infallible check.now item.now
+        ↔ AllAsked L.infallible V.members_of item.now (tree_of check.now) }
+    ensures values { ⟦<Check<L, V> as PredicateReflection>⟧.parameters_of check.now
         ≡ tree_parameters L.parameters_of (tree_of check.now) }
-    ensures parts { ⟦<Check<L> as PredicateReflection>⟧.children_of check.now
-        ≡ tree_parts L.output L.parameters_of L.children_of (tree_of check.now) }
+    ensures parts { ⟦<Check<L, V> as PredicateReflection>⟧.children_of check.now
+        ≡ tree_parts L.output V.output L.parameters_of L.children_of (tree_of check.now) }
 {}

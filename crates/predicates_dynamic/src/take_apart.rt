@@ -8,7 +8,9 @@ use predicates_core::custom::Operator;
 use std::mem;
 
 // What waits.
-pub(crate) fn resumed<L>(waiting: Option<Check<L>>) -> Option<(Check<L>, Option<Check<L>>)>
+pub(crate) fn resumed<L, V>(
+    waiting: Option<Check<L, V>>,
+) -> Option<(Check<L, V>, Option<Check<L, V>>)>
     ensures { IfSome result (λ next.
         (size_left next.1 ≡ 0) × (size_of next.0 ≡ size_left waiting)) }
 {
@@ -17,12 +19,12 @@ pub(crate) fn resumed<L>(waiting: Option<Check<L>>) -> Option<(Check<L>, Option<
 }
 
 // The left part of two; the right one waits.
-pub(crate) fn left_first<L>(
+pub(crate) fn left_first<L, V>(
     operator: Operator,
-    mut left: Box<Check<L>>,
-    right: Box<Check<L>>,
-    waiting: Option<Check<L>>,
-) -> (Check<L>, Option<Check<L>>)
+    mut left: Box<Check<L, V>>,
+    right: Box<Check<L, V>>,
+    waiting: Option<Check<L, V>>,
+) -> (Check<L, V>, Option<Check<L, V>>)
     ensures first { size_of result.0 ≡ size_of left.value }
     ensures total { size_of result.0 + size_left result.1
         ≤ suc (size_of left.value + size_of right.value) + size_left waiting }
@@ -37,10 +39,10 @@ pub(crate) fn left_first<L>(
 }
 
 // The last part of several, where there is one, and else what waits.
-pub(crate) fn parts_apart<L>(
-    mut parts: Vec<Check<L>>,
-    waiting: Option<Check<L>>,
-) -> Option<(Check<L>, Option<Check<L>>)>
+pub(crate) fn parts_apart<L, V>(
+    mut parts: Vec<Check<L, V>>,
+    waiting: Option<Check<L, V>>,
+) -> Option<(Check<L, V>, Option<Check<L, V>>)>
     ensures { IfSome result (λ next. left_over next.0 next.1
         < left_of (suc (sizes_of parts.items)) waiting) }
 {
@@ -55,11 +57,11 @@ pub(crate) fn parts_apart<L>(
 
 // The last part of several; the others wait, as a row, with what waited in its place. A row that is
 // empty does not wait: rows of rows would be taken apart again and again.
-fn last_first<L>(
-    parts: Vec<Check<L>>,
-    last: Check<L>,
-    waiting: Option<Check<L>>,
-) -> (Check<L>, Option<Check<L>>)
+fn last_first<L, V>(
+    parts: Vec<Check<L, V>>,
+    last: Check<L, V>,
+    waiting: Option<Check<L, V>>,
+) -> (Check<L, V>, Option<Check<L, V>>)
     requires { vec_len parts < vec_capacity parts }
     ensures first { size_of result.0 ≡ size_of last }
     ensures total { size_of result.0 + size_left result.1
@@ -74,7 +76,7 @@ fn last_first<L>(
 }
 
 // The parts, and before them what waits: so it waits until they are dropped, and is moved once.
-fn with_waiting<L>(parts: Vec<Check<L>>, waiting: Option<Check<L>>) -> Vec<Check<L>>
+fn with_waiting<L, V>(parts: Vec<Check<L, V>>, waiting: Option<Check<L, V>>) -> Vec<Check<L, V>>
     requires { vec_len parts < vec_capacity parts }
     ensures { sizes_of result.items ≡ sizes_of parts.items + size_left waiting }
 {
@@ -85,7 +87,7 @@ fn with_waiting<L>(parts: Vec<Check<L>>, waiting: Option<Check<L>>) -> Vec<Check
 }
 
 // One more and the parts, for which there is room.
-fn with_first<L>(mut parts: Vec<Check<L>>, first: Check<L>) -> Vec<Check<L>>
+fn with_first<L, V>(mut parts: Vec<Check<L, V>>, first: Check<L, V>) -> Vec<Check<L, V>>
     requires { vec_len parts < vec_capacity parts }
     ensures { result.items ≡ first ∷ parts.items }
 {

@@ -4,6 +4,8 @@
 #[cfg(test)]
 mod examples;
 #[cfg(test)]
+mod folders;
+#[cfg(test)]
 mod orders;
 #[cfg(test)]
 mod tests;

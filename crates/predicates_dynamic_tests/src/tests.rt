@@ -1,10 +1,10 @@
 //! Checks beside the reference program, how often their leaves are asked, and what they print.
-ghost use Rattle.std.specs.Prelude.{Some, decimal};
+ghost use Rattle.std.specs.Prelude.{Some, [], ◌∷◌, codes, decimal};
 
 use predicates::custom::{Test, TestPredicate, leaf};
 use predicates::reflection::{Case, render};
 use predicates::{PredicateChange, Total};
-use predicates_dynamic::Check;
+use predicates_dynamic::{Check, Members};
 use predicates_testing::{
     ReferenceFormula, counted, explains, first_change, first_reason, is_described,
 };
@@ -40,7 +40,33 @@ impl Test<u32> for Numbered {
     }
 }
 
-type Numbers = Check<TestPredicate<Numbered>>;
+// The one member of each item.
+#[derive(Clone, Copy)]
+struct Only;
+
+impl fmt::Display for Only {
+    ghost output = { λ _. Some (codes "only") };
+
+    fn fmt<W: fmt::Write>(&self, f: &mut fmt::Formatter<W>) -> fmt::Result {
+        f.write_str("only")
+    }
+}
+
+impl Members<u32> for Only {
+    ghost members_of = { λ _ _. Some (7 ∷ []) };
+
+    ghost reason_of = { λ _ _. codes "" };
+
+    fn members<'a>(&self, _item: &'a u32) -> Option<&'a [u32]> {
+        Some(&[7])
+    }
+
+    fn reason(&self, _item: &u32) -> &str {
+        ""
+    }
+}
+
+type Numbers = Check<TestPredicate<Numbered>, Only>;
 
 // A check, and its formula for the reference program.
 #[derive(Drop)]
@@ -60,7 +86,7 @@ impl Leaves {
         let number = self.asked.len();
         let asked = Rc::new(alloc, Cell::new(0))?;
         self.asked.push(asked.clone()?)?;
-        Ok(Check::leaf(leaf(Numbered {
+        Ok(Check::leaf_beside_members(leaf(Numbered {
             number,
             verdict,
             asked,
@@ -157,6 +183,26 @@ fn two_of_three(alloc: Global, first: Both, second: Both, third: Both) -> Result
     Ok(Both {
         check: Check::at_least(2, parts),
         formula: counted(alloc, 2, formulas)?,
+    })
+}
+
+// Of the one member: of each, of one, of at least one.
+fn of_members(alloc: Global, kind: u32, part: Both) -> Result<Both, AllocError> {
+    if kind == 2 {
+        return Ok(Both {
+            check: part.check.of_at_least(alloc, 1, Only)?,
+            formula: counted(alloc, 1, vec![in alloc; part.formula]?)?,
+        });
+    }
+    let is_any = kind == 1;
+    let members = joined(alloc, kind, part.formula, ReferenceFormula::NoMore(!is_any))?;
+    Ok(Both {
+        check: if is_any {
+            part.check.of_any(alloc, Only)?
+        } else {
+            part.check.of_each(alloc, Only)?
+        },
+        formula: ReferenceFormula::Members(Box::new(alloc, members)?),
     })
 }
 
@@ -294,6 +340,48 @@ fn checks_are_explained_as_the_reference_program_does(rt: HostRuntime) -> Result
     Ok(())
 }
 
+// A check of one level, which the code means: as a check of members, with a leaf in a row, or
+// again as a check of members.
+fn above_members(
+    alloc: Global,
+    leaves: &mut Leaves,
+    code: &mut u32,
+    kind: u32,
+) -> Result<Both, AllocError> {
+    let inner = build(alloc, leaves, code, 1)?;
+    let members = of_members(alloc, kind % 3, inner)?;
+    match kind / 3 {
+        0 => Ok(members),
+        1 => {
+            let last = leaves.both(alloc, kind == 4)?;
+            row(alloc, kind == 5, members, last)
+        }
+        _ => of_members(alloc, kind % 2, members),
+    }
+}
+
+// Whether it answers as the reference program does, or the code means none.
+fn members_agree(alloc: Global, code: u32, kind: u32) -> Result<bool, AllocError> {
+    let mut code = code;
+    let mut leaves = Leaves {
+        asked: Vec::new(alloc),
+    };
+    let both = above_members(alloc, &mut leaves, &mut code, kind)?;
+    Ok(code != 0 || agrees(alloc, &both)?)
+}
+
+#[test]
+fn checks_of_members_are_explained_as_the_reference_program_does(
+    rt: HostRuntime,
+) -> Result<(), Fail> {
+    for code in 0..88u32 {
+        for kind in 0..9u32 {
+            assert!(rt; members_agree(rt.alloc(), code, kind)?);
+        }
+    }
+    Ok(())
+}
+
 // A chain of so many combinators, each in turn, with a leaf beside the rest at most levels.
 fn chain(
     alloc: Global,
@@ -304,15 +392,18 @@ fn chain(
     let mut check = leaves.next(alloc, verdict)?;
     for level in 0..depth {
         let own = leaves.next(alloc, level % 2 == 0)?;
-        check = match level % 7 {
+        check = match level % 10 {
             0 => own.and(alloc, check)?,
             1 => own.or(alloc, check)?,
             2 => own.xor(alloc, check)?,
             3 => check.not(alloc)?.name(alloc, "named")?,
             4 => Check::at_least(2, vec![in alloc; own, check, leaves.next(alloc, true)?]?),
+            5 => own.or(alloc, check)?.of_each(alloc, Only)?,
+            6 => own.and(alloc, check)?.of_any(alloc, Only)?,
+            7 => own.or(alloc, check)?.of_at_least(alloc, 1, Only)?,
             kind => {
                 let parts = vec![in alloc; own, check]?;
-                if kind == 5 {
+                if kind == 8 {
                     Check::any(parts)
                 } else {
                     Check::all(parts)

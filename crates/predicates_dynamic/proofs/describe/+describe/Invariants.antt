@@ -6,4 +6,4 @@ use Rattle.predicates_dynamic.specs.Described.{check_parameters, check_parts}
 use Rattle.predicates_dynamic.proofs.describe.+describe.Given as goal
 
 abbrev pub invariant-each_part-loop-part : goal.invariant-each_part-loop-part
-invariant-each_part-loop-part g l = FitsParts (part_of_each (codes "rule") (check_text g.L.Display.output) (check_parameters g.L.PredicateReflection.parameters_of) (check_parts g.L.Display.output g.L.PredicateReflection.parameters_of g.L.PredicateReflection.children_of) (take l.part-index l.parts)) (forest l.children.items)
+invariant-each_part-loop-part g l = FitsParts (part_of_each (codes "rule") (check_text g.L.Display.output g.V.Display.output) (check_parameters g.L.PredicateReflection.parameters_of) (check_parts g.L.Display.output g.V.Display.output g.L.PredicateReflection.parameters_of g.L.PredicateReflection.children_of) (take l.part-index l.parts)) (forest l.children.items)

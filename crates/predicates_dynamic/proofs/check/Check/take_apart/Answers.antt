@@ -1,11 +1,11 @@
 use Rattle.std.proofs.Common.{◌≡◌, ◌+◌, suc, arith, ap, ◌∙◌}
 use Rattle.predicates_dynamic.specs.Sizes.{size_of, sizes_of}
-use Rattle.predicates_dynamic.proofs.Dropping.{leaf_size, not_size, named_size, pair_size, row_size, counted_size, smaller, then_waiting}
+use Rattle.predicates_dynamic.proofs.Dropping.{leaf_size, not_size, named_size, pair_size, row_size, counted_size, quantified_size, members_size, smaller, then_waiting}
 use Rattle.predicates_dynamic.proofs.check.Check.take_apart.Goals as goal
 
 pub returns-in-Leaf : goal.returns-in-Leaf
 returns-in-Leaf g c =
-    let is : size_of c.args.self ≡ 1 = ap size_of c.in-Leaf.is ∙ leaf_size c.in-Leaf.leaf in
+    let is : size_of c.args.self ≡ 1 = ap size_of c.in-Leaf.is ∙ leaf_size _ c.in-Leaf.leaf in
     then_waiting (size_of c.args.self) c.args.waiting c.resumed.result (omega (arith, is)) c.resumed.ensures
 
 pub returns-in-Not : goal.returns-in-Not
@@ -34,3 +34,13 @@ pub returns-in-AtLeast : goal.returns-in-AtLeast
 returns-in-AtLeast g c =
     let is : size_of c.args.self ≡ suc (sizes_of c.in-AtLeast.parts.items) = ap size_of c.in-AtLeast.is ∙ counted_size c.in-AtLeast.field-0 c.in-AtLeast.parts in
     rw is c.parts_apart-in-AtLeast.ensures
+
+pub returns-in-Quantified : goal.returns-in-Quantified
+returns-in-Quantified g c =
+    let is : size_of c.args.self ≡ suc (size_of c.in-Quantified.inner.value) = ap size_of c.in-Quantified.is ∙ quantified_size c.in-Quantified.field-0 c.in-Quantified.view c.in-Quantified.inner in
+    rw c.into_inner-in-Quantified.ensures (smaller c.in-Quantified.inner.value (size_of c.args.self) c.args.waiting c.args.waiting (omega (arith, is)) (omega (arith, is)))
+
+pub returns-in-MembersAtLeast : goal.returns-in-MembersAtLeast
+returns-in-MembersAtLeast g c =
+    let is : size_of c.args.self ≡ suc (size_of c.in-MembersAtLeast.inner.value) = ap size_of c.in-MembersAtLeast.is ∙ members_size c.in-MembersAtLeast.field-0 c.in-MembersAtLeast.view c.in-MembersAtLeast.inner in
+    rw c.into_inner-in-MembersAtLeast.ensures (smaller c.in-MembersAtLeast.inner.value (size_of c.args.self) c.args.waiting c.args.waiting (omega (arith, is)) (omega (arith, is)))

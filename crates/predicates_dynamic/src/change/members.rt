@@ -1,0 +1,285 @@
+//! What would turn the verdicts of checks of members.
+ghost use Rattle.std.specs.Prelude.{◌≡◌, ◌≤◌, None, Some, not, codes, length, IfOk};
+ghost use Rattle.predicates_core.specs.Change.{IsFoundChange};
+ghost use Rattle.predicates_core.specs.Several.{IsOfMembers};
+ghost use Rattle.predicates_core.specs.Thresholds.{IsOfThreshold};
+ghost use Rattle.predicates_dynamic.specs.Trees.{AllOf, tree_of, Quantifies, CountsMembers};
+ghost use Rattle.predicates_dynamic.specs.Formulas.{check_text, Has, HasOn};
+
+use crate::change::changed;
+use crate::check::Check;
+use crate::hold::holds;
+use crate::members::Members;
+use predicates_core::PredicateChange;
+use predicates_core::custom::{
+    absent_case, asked_at, enough_of, first_alone, is_first_passed, is_other, is_settled,
+    next_change, no_member, node_of_first, settled_case, with_index,
+};
+use predicates_core::reflection::Case;
+use std::alloc::{AllocError, Global};
+
+// The same of a check of the members that a view gives.
+#[cycle(change)]
+pub(super) fn quantified_changed<L: PredicateChange<Item>, V: Members<Item>, Item>(
+    alloc: Global,
+    inner: &Check<L, V>,
+    view: &V,
+    decides: bool,
+    whole: &Check<L, V>,
+    wanted: Option<bool>,
+    item: &Item,
+) -> Result<Option<Case>, AllocError>
+    requires lawful { AllOf L.lawful inner.now }
+    requires whole { tree_of whole.now ≡ Quantifies decides view.now (tree_of inner.now) }
+    ensures { IfOk result (IsFoundChange
+        (Has L.output V.output L.formula V.members_of V.reason_of item.now whole.now) wanted) }
+{
+    match view.members(item) {
+        Some(members) => members_changed(alloc, inner, decides, whole, wanted, members),
+        None if is_other(wanted, false) => Ok(None),
+        None => Ok(Some(absent_case(alloc, whole, view.reason(item))?)),
+    }
+}
+
+// The same, as `custom::members_change`.
+#[cycle(change)]
+fn members_changed<L: PredicateChange<Item>, V: Members<Item>, Item>(
+    alloc: Global,
+    inner: &Check<L, V>,
+    decides: bool,
+    whole: &Check<L, V>,
+    wanted: Option<bool>,
+    members: &[Item],
+) -> Result<Option<Case>, AllocError>
+    requires { AllOf L.lawful inner.now }
+    ensures { IfOk result (IsFoundChange (IsOfMembers decides
+        (check_text L.output V.output whole.now) (codes "item")
+        (HasOn L.output V.output L.formula V.members_of V.reason_of inner.now) members.now)
+        wanted) }
+{
+    match wanted {
+        Some(expected) => {
+            if expected == decides {
+                deciding_members(alloc, inner, decides, whole, members)
+            } else {
+                passing_members(alloc, inner, decides, whole, members)
+            }
+        }
+        None => whichever_members(alloc, inner, decides, whole, members),
+    }
+}
+
+// What would turn all the members that decide, where one does.
+#[cycle(change)]
+fn deciding_members<L: PredicateChange<Item>, V: Members<Item>, Item>(
+    alloc: Global,
+    inner: &Check<L, V>,
+    decides: bool,
+    whole: &Check<L, V>,
+    members: &[Item],
+) -> Result<Option<Case>, AllocError>
+    requires { AllOf L.lawful inner.now }
+    ensures { IfOk result (IsFoundChange (IsOfMembers decides
+        (check_text L.output V.output whole.now) (codes "item")
+        (HasOn L.output V.output L.formula V.members_of V.reason_of inner.now) members.now)
+        (Some decides)) }
+{
+    let mut found: Option<Case> = None;
+    for (index, member) in members.iter().enumerate() {
+        let Some(case) = changed(alloc, inner, Some(decides), member)? else {
+            continue;
+        };
+        let told = with_index(alloc, index, case)?;
+        found = Some(next_change(alloc, whole, "item", decides, index, found, told)?);
+    }
+    Ok(found)
+}
+
+// What would turn the first member, where none decides.
+#[cycle(change)]
+fn passing_members<L: PredicateChange<Item>, V: Members<Item>, Item>(
+    alloc: Global,
+    inner: &Check<L, V>,
+    decides: bool,
+    whole: &Check<L, V>,
+    members: &[Item],
+) -> Result<Option<Case>, AllocError>
+    requires { AllOf L.lawful inner.now }
+    ensures { IfOk result (IsFoundChange (IsOfMembers decides
+        (check_text L.output V.output whole.now) (codes "item")
+        (HasOn L.output V.output L.formula V.members_of V.reason_of inner.now) members.now)
+        (Some (not decides))) }
+{
+    let Some((first, rest)) = members.split_first() else {
+        return Ok(Some(no_member(alloc, whole, !decides)?));
+    };
+    let Some(case) = changed(alloc, inner, Some(!decides), first)? else {
+        return Ok(None);
+    };
+    for member in rest {
+        if holds(alloc, inner, member)? == decides {
+            return Ok(None);
+        }
+    }
+    first_alone(alloc, whole, "item", decides, Some(case))
+}
+
+// What would turn the whole, whichever its verdict. The first member is asked for its change, and
+// each other only for that of a member that decides.
+#[cycle(change)]
+fn whichever_members<L: PredicateChange<Item>, V: Members<Item>, Item>(
+    alloc: Global,
+    inner: &Check<L, V>,
+    decides: bool,
+    whole: &Check<L, V>,
+    members: &[Item],
+) -> Result<Option<Case>, AllocError>
+    requires { AllOf L.lawful inner.now }
+    ensures { IfOk result (IsFoundChange (IsOfMembers decides
+        (check_text L.output V.output whole.now) (codes "item")
+        (HasOn L.output V.output L.formula V.members_of V.reason_of inner.now) members.now)
+        None) }
+{
+    if members.is_empty() {
+        return Ok(Some(no_member(alloc, whole, !decides)?));
+    }
+    let mut found: Option<Case> = None;
+    let mut first: Option<Case> = None;
+    for (index, member) in members.iter().enumerate() {
+        let asked = asked_at(index, decides);
+        let Some(case) = changed(alloc, inner, asked, member)? else {
+            continue;
+        };
+        if is_first_passed(index, decides, &case) {
+            first = Some(case);
+            continue;
+        }
+        let told = with_index(alloc, index, case)?;
+        found = Some(next_change(alloc, whole, "item", decides, index, found, told)?);
+    }
+    match found {
+        Some(node) => Ok(Some(node)),
+        None => first_alone(alloc, whole, "item", decides, first),
+    }
+}
+
+// The same of the members of which at least so many have to hold.
+#[cycle(change)]
+pub(super) fn members_threshold_changed<L: PredicateChange<Item>, V: Members<Item>, Item>(
+    alloc: Global,
+    inner: &Check<L, V>,
+    view: &V,
+    least: usize,
+    whole: &Check<L, V>,
+    wanted: Option<bool>,
+    item: &Item,
+) -> Result<Option<Case>, AllocError>
+    requires lawful { AllOf L.lawful inner.now }
+    requires whole { tree_of whole.now ≡ CountsMembers least view.now (tree_of inner.now) }
+    ensures { IfOk result (IsFoundChange
+        (Has L.output V.output L.formula V.members_of V.reason_of item.now whole.now) wanted) }
+{
+    match view.members(item) {
+        Some(members) => counted_members_changed(alloc, inner, least, whole, wanted, members),
+        None if is_other(wanted, false) => Ok(None),
+        None => Ok(Some(absent_case(alloc, whole, view.reason(item))?)),
+    }
+}
+
+// The same, as `custom::members_threshold_change`.
+#[cycle(change)]
+fn counted_members_changed<L: PredicateChange<Item>, V: Members<Item>, Item>(
+    alloc: Global,
+    inner: &Check<L, V>,
+    least: usize,
+    whole: &Check<L, V>,
+    wanted: Option<bool>,
+    members: &[Item],
+) -> Result<Option<Case>, AllocError>
+    requires { AllOf L.lawful inner.now }
+    ensures { IfOk result (IsFoundChange (IsOfThreshold least
+        (check_text L.output V.output whole.now) (codes "item")
+        (HasOn L.output V.output L.formula V.members_of V.reason_of inner.now) members.now)
+        wanted) }
+{
+    if is_settled(least, members.len()) {
+        return settled_case(alloc, whole, least, members.len(), wanted);
+    }
+    match wanted {
+        Some(decides) => turned_members(alloc, inner, least, whole, decides, members),
+        None => turned_members_either(alloc, inner, least, whole, members),
+    }
+}
+
+// The change of a whole that is wanted to have the verdict.
+#[cycle(change)]
+fn turned_members<L: PredicateChange<Item>, V: Members<Item>, Item>(
+    alloc: Global,
+    inner: &Check<L, V>,
+    least: usize,
+    whole: &Check<L, V>,
+    expected: bool,
+    members: &[Item],
+) -> Result<Option<Case>, AllocError>
+    requires lawful { AllOf L.lawful inner.now }
+    requires some { 1 ≤ least }
+    requires within { least ≤ length members.now }
+    ensures { IfOk result (IsFoundChange (IsOfThreshold least
+        (check_text L.output V.output whole.now) (codes "item")
+        (HasOn L.output V.output L.formula V.members_of V.reason_of inner.now) members.now)
+        (Some expected)) }
+{
+    let enough = enough_of(expected, least, members.len());
+    let mut cases: Vec<Case> = Vec::new(alloc);
+    for (index, member) in members.iter().enumerate() {
+        let Some(case) = changed(alloc, inner, Some(expected), member)? else {
+            continue;
+        };
+        let told = with_index(alloc, index, case)?;
+        cases.push(told)?;
+    }
+    if cases.len() < enough {
+        return Ok(None);
+    }
+    let turns = cases.len() - enough + 1;
+    Ok(Some(node_of_first(alloc, whole, "item", expected, cases, turns)?))
+}
+
+// The change of a whole, whichever its verdict. Each member is asked once.
+#[cycle(change)]
+fn turned_members_either<L: PredicateChange<Item>, V: Members<Item>, Item>(
+    alloc: Global,
+    inner: &Check<L, V>,
+    least: usize,
+    whole: &Check<L, V>,
+    members: &[Item],
+) -> Result<Option<Case>, AllocError>
+    requires lawful { AllOf L.lawful inner.now }
+    requires some { 1 ≤ least }
+    requires within { least ≤ length members.now }
+    ensures { IfOk result (IsFoundChange (IsOfThreshold least
+        (check_text L.output V.output whole.now) (codes "item")
+        (HasOn L.output V.output L.formula V.members_of V.reason_of inner.now) members.now)
+        None) }
+{
+    let mut held: Vec<Case> = Vec::new(alloc);
+    let mut failed: Vec<Case> = Vec::new(alloc);
+    for (index, member) in members.iter().enumerate() {
+        let Some(case) = changed(alloc, inner, None, member)? else {
+            return Ok(None);
+        };
+        let holds = case.root().result();
+        let told = with_index(alloc, index, case)?;
+        if holds {
+            held.push(told)?;
+        } else {
+            failed.push(told)?;
+        }
+    }
+    if held.len() >= least {
+        let turns = held.len() - least + 1;
+        return Ok(Some(node_of_first(alloc, whole, "item", true, held, turns)?));
+    }
+    let turns = failed.len() - enough_of(false, least, members.len()) + 1;
+    Ok(Some(node_of_first(alloc, whole, "item", false, failed, turns)?))
+}

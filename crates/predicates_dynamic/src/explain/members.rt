@@ -1,0 +1,251 @@
+//! Cases of checks of members.
+ghost use Rattle.std.specs.Prelude.{◌≡◌, ◌≢◌, [], None, Some, codes, IfOk};
+ghost use Rattle.predicates_core.specs.Several.{IsOfMembers};
+ghost use Rattle.predicates_core.specs.Shows.{IsAnswer, IsFound};
+ghost use Rattle.predicates_core.specs.Thresholds.{IsOfThreshold};
+ghost use Rattle.predicates_dynamic.specs.Trees.{AllOf, tree_of, Quantifies, CountsMembers};
+ghost use Rattle.predicates_dynamic.specs.Formulas.{check_text, Has, HasOn};
+
+use crate::check::Check;
+use crate::explain::explained;
+use crate::members::Members;
+use predicates_core::Predicate;
+use predicates_core::custom::{
+    absent_case, deciding_case, enough_of, is_deciding, is_other, is_settled, is_wanted, no_member,
+    settled_case, with_index,
+};
+use predicates_core::node::{leaf_node, printed};
+use predicates_core::reflection::Case;
+use std::alloc::{AllocError, Global};
+
+// The same of a check of the members that a view gives.
+#[cycle(explain)]
+pub(super) fn quantified_explained<L: Predicate<Item>, V: Members<Item>, Item>(
+    alloc: Global,
+    inner: &Check<L, V>,
+    view: &V,
+    decides: bool,
+    whole: &Check<L, V>,
+    wanted: Option<bool>,
+    item: &Item,
+) -> Result<Option<Case>, AllocError>
+    requires lawful { AllOf L.lawful inner.now }
+    requires whole { tree_of whole.now ≡ Quantifies decides view.now (tree_of inner.now) }
+    ensures { IfOk result (IsFound
+        (Has L.output V.output L.formula V.members_of V.reason_of item.now whole.now) wanted) }
+{
+    match view.members(item) {
+        Some(members) => members_explained(alloc, inner, decides, whole, wanted, members),
+        None if is_other(wanted, false) => Ok(None),
+        None => Ok(Some(absent_case(alloc, whole, view.reason(item))?)),
+    }
+}
+
+// The same, as `custom::members_explained`.
+#[cycle(explain)]
+fn members_explained<L: Predicate<Item>, V: Members<Item>, Item>(
+    alloc: Global,
+    inner: &Check<L, V>,
+    decides: bool,
+    whole: &Check<L, V>,
+    wanted: Option<bool>,
+    members: &[Item],
+) -> Result<Option<Case>, AllocError>
+    requires { AllOf L.lawful inner.now }
+    ensures { IfOk result (IsFound (IsOfMembers decides
+        (check_text L.output V.output whole.now) (codes "item")
+        (HasOn L.output V.output L.formula V.members_of V.reason_of inner.now) members.now)
+        wanted) }
+{
+    if is_wanted(wanted, decides) {
+        let found = first_member(alloc, inner, decides, whole, members)?;
+        return Ok(found);
+    }
+    if members.is_empty() {
+        return Ok(Some(no_member(alloc, whole, !decides)?));
+    }
+    let found = every_member(alloc, inner, decides, whole, wanted, members)?;
+    Ok(found)
+}
+
+// The case of the first member that decides.
+#[cycle(explain)]
+fn first_member<L: Predicate<Item>, V: Members<Item>, Item>(
+    alloc: Global,
+    inner: &Check<L, V>,
+    decides: bool,
+    whole: &Check<L, V>,
+    members: &[Item],
+) -> Result<Option<Case>, AllocError>
+    requires { AllOf L.lawful inner.now }
+    ensures { IfOk result (IsAnswer (IsOfMembers decides
+        (check_text L.output V.output whole.now) (codes "item")
+        (HasOn L.output V.output L.formula V.members_of V.reason_of inner.now) members.now)
+        decides) }
+{
+    for (index, member) in members.iter().enumerate() {
+        let Some(case) = explained(alloc, inner, Some(decides), member)? else {
+            continue;
+        };
+        return Ok(Some(deciding_case(alloc, whole, "item", decides, index, case)?));
+    }
+    Ok(None)
+}
+
+// The case of all members, or of the first that decides, where it is not wanted that none does.
+#[cycle(explain)]
+fn every_member<L: Predicate<Item>, V: Members<Item>, Item>(
+    alloc: Global,
+    inner: &Check<L, V>,
+    decides: bool,
+    whole: &Check<L, V>,
+    wanted: Option<bool>,
+    members: &[Item],
+) -> Result<Option<Case>, AllocError>
+    requires lawful { AllOf L.lawful inner.now }
+    requires some { members.now ≢ [] }
+    requires other { wanted ≢ Some decides }
+    ensures { IfOk result (IsFound (IsOfMembers decides
+        (check_text L.output V.output whole.now) (codes "item")
+        (HasOn L.output V.output L.formula V.members_of V.reason_of inner.now) members.now)
+        wanted) }
+{
+    let mut node = leaf_node(alloc, printed(alloc, whole)?, !decides);
+    for (index, member) in members.iter().enumerate() {
+        let Some(case) = explained(alloc, inner, wanted, member)? else {
+            return Ok(None);
+        };
+        if is_deciding(wanted, decides, &case) {
+            return Ok(Some(deciding_case(alloc, whole, "item", decides, index, case)?));
+        }
+        node = node.add_child("item", case)?;
+    }
+    Ok(Some(node))
+}
+
+// The same of the members of which at least so many have to hold.
+#[cycle(explain)]
+pub(super) fn members_threshold_explained<L: Predicate<Item>, V: Members<Item>, Item>(
+    alloc: Global,
+    inner: &Check<L, V>,
+    view: &V,
+    least: usize,
+    whole: &Check<L, V>,
+    wanted: Option<bool>,
+    item: &Item,
+) -> Result<Option<Case>, AllocError>
+    requires lawful { AllOf L.lawful inner.now }
+    requires whole { tree_of whole.now ≡ CountsMembers least view.now (tree_of inner.now) }
+    ensures { IfOk result (IsFound
+        (Has L.output V.output L.formula V.members_of V.reason_of item.now whole.now) wanted) }
+{
+    match view.members(item) {
+        Some(members) => counted_members_explained(alloc, inner, least, whole, wanted, members),
+        None if is_other(wanted, false) => Ok(None),
+        None => Ok(Some(absent_case(alloc, whole, view.reason(item))?)),
+    }
+}
+
+// The same, as `custom::members_threshold_explained`.
+#[cycle(explain)]
+fn counted_members_explained<L: Predicate<Item>, V: Members<Item>, Item>(
+    alloc: Global,
+    inner: &Check<L, V>,
+    least: usize,
+    whole: &Check<L, V>,
+    wanted: Option<bool>,
+    members: &[Item],
+) -> Result<Option<Case>, AllocError>
+    requires { AllOf L.lawful inner.now }
+    ensures { IfOk result (IsFound (IsOfThreshold least
+        (check_text L.output V.output whole.now) (codes "item")
+        (HasOn L.output V.output L.formula V.members_of V.reason_of inner.now) members.now)
+        wanted) }
+{
+    match wanted {
+        Some(expected) => members_wanted(alloc, inner, least, whole, expected, members),
+        None => members_either(alloc, inner, least, whole, members),
+    }
+}
+
+// The case of whichever verdict the whole has. Each member is asked once.
+#[cycle(explain)]
+fn members_either<L: Predicate<Item>, V: Members<Item>, Item>(
+    alloc: Global,
+    inner: &Check<L, V>,
+    least: usize,
+    whole: &Check<L, V>,
+    members: &[Item],
+) -> Result<Option<Case>, AllocError>
+    requires { AllOf L.lawful inner.now }
+    ensures { IfOk result (IsFound (IsOfThreshold least
+        (check_text L.output V.output whole.now) (codes "item")
+        (HasOn L.output V.output L.formula V.members_of V.reason_of inner.now) members.now)
+        None) }
+{
+    if is_settled(least, members.len()) {
+        return settled_case(alloc, whole, least, members.len(), None);
+    }
+    let most = enough_of(false, least, members.len());
+    let mut held_node = leaf_node(alloc, printed(alloc, whole)?, true);
+    let mut failed_node = leaf_node(alloc, printed(alloc, whole)?, false);
+    let mut held = 0usize;
+    let mut failed = 0usize;
+    for (index, member) in members.iter().enumerate() {
+        let Some(case) = explained(alloc, inner, None, member)? else {
+            return Ok(None);
+        };
+        let holds = case.root().result();
+        let told = with_index(alloc, index, case)?;
+        if holds {
+            held_node = held_node.add_child("item", told)?;
+            held += 1;
+            if held == least {
+                return Ok(Some(held_node));
+            }
+        } else {
+            failed_node = failed_node.add_child("item", told)?;
+            failed += 1;
+            if failed == most {
+                return Ok(Some(failed_node));
+            }
+        }
+    }
+    Ok(None)
+}
+
+// The case of a whole that is wanted to have the verdict.
+#[cycle(explain)]
+fn members_wanted<L: Predicate<Item>, V: Members<Item>, Item>(
+    alloc: Global,
+    inner: &Check<L, V>,
+    least: usize,
+    whole: &Check<L, V>,
+    expected: bool,
+    members: &[Item],
+) -> Result<Option<Case>, AllocError>
+    requires { AllOf L.lawful inner.now }
+    ensures { IfOk result (IsAnswer (IsOfThreshold least
+        (check_text L.output V.output whole.now) (codes "item")
+        (HasOn L.output V.output L.formula V.members_of V.reason_of inner.now) members.now)
+        expected) }
+{
+    if is_settled(least, members.len()) {
+        return settled_case(alloc, whole, least, members.len(), Some(expected));
+    }
+    let enough = enough_of(expected, least, members.len());
+    let mut node = leaf_node(alloc, printed(alloc, whole)?, expected);
+    let mut kept = 0usize;
+    for (index, member) in members.iter().enumerate() {
+        let Some(case) = explained(alloc, inner, Some(expected), member)? else {
+            continue;
+        };
+        let told = with_index(alloc, index, case)?;
+        node = node.add_child("item", told)?;
+        kept += 1;
+        if kept == enough {
+            return Ok(Some(node));
+        }
+    }
+    Ok(None)
+}
