@@ -1,5 +1,5 @@
 -- What is known of the parts of a row, as a list.
-use Rattle.std.proofs.Common.{◌≡◌, ◌<◌, ℕ, zero, suc, length, get_or, arith, ap, Bool, true, false, Result, Ok, Err, IfOk, subst, sym, List, [], ◌∷◌, Option, Some, IfSome, codes, map, refl}
+use Rattle.std.proofs.Common.{◌≡◌, ◌<◌, ℕ, zero, suc, length, get_or, arith, ap, Bool, true, false, Result, Ok, Err, IfOk, subst, sym, List, [], ◌∷◌, Option, Some, None, IfSome, codes, map, refl}
 use Rattle.std.specs.List.{AllByRecursion}
 use Rattle.predicates_core.specs.Describe.{CaseNode}
 use Rattle.predicates_core.specs.Label.{Entry}
@@ -15,7 +15,10 @@ use Rattle.predicates_core.specs.Asked.{asks}
 use Rattle.predicates_core.specs.Combined.{IsPair}
 use Rattle.predicates_core.proofs.CombinedLemmas.{HasTruth-left}
 use Rattle.predicates_core.proofs.PresentCases.{HasTruth-present}
-use Rattle.predicates_core.proofs.Fewer.{truth_of_fewer, found_fewer, found_change_fewer}
+use Rattle.predicates_core.proofs.ChangeCases.{exact_leaf, leaf_found}
+use Rattle.predicates_core.specs.Leaves.{IsExactly}
+use Rattle.predicates_core.specs.Present.{IsOfPresent, absent_leaf}
+use Rattle.predicates_core.proofs.Fewer.{truth_of_fewer, found_fewer, found_change_fewer, found_of_fewer, found_change_of_fewer}
 use Rattle.predicates_dynamic.specs.declared.check.Check.{Check}
 use Rattle.predicates_dynamic.specs.Trees.{Rows, Counts, Quantifies, CountsMembers, trees_of, tree_of, AllOfTrees, AllOf, AllAskedOfTrees, AsksAll}
 use Rattle.predicates_dynamic.specs.Formulas.{tree_text, HasFormula, AreFormulas, IsNothing, IsThresholdOf, number_of, Has, HasOn}
@@ -92,6 +95,14 @@ pub each_at : {U : Type 0} (P : U → Type 0) (us : List U) (k : ℕ) (u : U) �
 each_at P [] k u h within is = absurd (omega (arith, within))
 each_at P (x ∷ xs) zero u h within is = subst P (sym is) h.0
 each_at P (x ∷ xs) (suc k) u h within is = each_at P xs k u h.1 (omega (arith, within)) is
+
+-- what is found of an item that has no list
+module _ {U E : Type 0} (text : Entry) (reason : List ℕ) (has : U → Formula → Type 0) (held : Option U) where
+  pub found_absent : (w : Option Bool) (r : Result (Option (Tree CaseNode)) E) → held ≡ None → IfOk r (IsFound (IsExactly (absent_leaf text reason)) w) → IfOk r (IsFound (IsOfPresent text reason has held) w)
+  found_absent w r e = found_of_fewer w r (λ f x. x.of_none e)
+
+  pub change_absent : (w : Option Bool) (r : Result (Option (Tree CaseNode)) E) → held ≡ None → IfOk r (IsFound (IsExactly (absent_leaf text reason)) w) → IfOk r (IsFoundChange (IsOfPresent text reason has held) w)
+  change_absent w r e h = found_change_of_fewer w r (λ f x. x.of_none e) (leaf_found w r exact_leaf h)
 
 -- what is known of the members that a view gives, where it gives them
 module _ {L V Item : Type 0} (fact : L → Item → Type 0) (members : V → Item → Option (List Item)) where

@@ -9,11 +9,11 @@ ghost use Rattle.predicates_dynamic.specs.Formulas.{check_text, Has, HasOn};
 use crate::change::changed;
 use crate::check::Check;
 use crate::hold::holds;
-use crate::members::Members;
+use crate::members::{Members, absent_found};
 use predicates_core::PredicateChange;
 use predicates_core::custom::{
-    absent_case, asked_at, enough_of, first_alone, is_first_passed, is_other, is_settled,
-    next_change, no_member, node_of_first, settled_case, with_index,
+    asked_at, enough_of, first_alone, is_first_passed, is_settled, next_change, no_member,
+    node_of_first, settled_case, with_index,
 };
 use predicates_core::reflection::Case;
 use std::alloc::{AllocError, Global};
@@ -36,8 +36,7 @@ pub(super) fn quantified_changed<L: PredicateChange<Item>, V: Members<Item>, Ite
 {
     match view.members(item) {
         Some(members) => members_changed(alloc, inner, decides, whole, wanted, members),
-        None if is_other(wanted, false) => Ok(None),
-        None => Ok(Some(absent_case(alloc, whole, view.reason(item))?)),
+        None => absent_found(alloc, whole, view, wanted, item),
     }
 }
 
@@ -181,8 +180,7 @@ pub(super) fn members_threshold_changed<L: PredicateChange<Item>, V: Members<Ite
 {
     match view.members(item) {
         Some(members) => counted_members_changed(alloc, inner, least, whole, wanted, members),
-        None if is_other(wanted, false) => Ok(None),
-        None => Ok(Some(absent_case(alloc, whole, view.reason(item))?)),
+        None => absent_found(alloc, whole, view, wanted, item),
     }
 }
 

@@ -8,11 +8,11 @@ ghost use Rattle.predicates_dynamic.specs.Formulas.{check_text, Has, HasOn};
 
 use crate::check::Check;
 use crate::explain::explained;
-use crate::members::Members;
+use crate::members::{Members, absent_found};
 use predicates_core::Predicate;
 use predicates_core::custom::{
-    absent_case, deciding_case, enough_of, is_deciding, is_other, is_settled, is_wanted, no_member,
-    settled_case, with_index,
+    deciding_case, enough_of, is_deciding, is_settled, is_wanted, no_member, settled_case,
+    with_index,
 };
 use predicates_core::node::{leaf_node, printed};
 use predicates_core::reflection::Case;
@@ -36,8 +36,7 @@ pub(super) fn quantified_explained<L: Predicate<Item>, V: Members<Item>, Item>(
 {
     match view.members(item) {
         Some(members) => members_explained(alloc, inner, decides, whole, wanted, members),
-        None if is_other(wanted, false) => Ok(None),
-        None => Ok(Some(absent_case(alloc, whole, view.reason(item))?)),
+        None => absent_found(alloc, whole, view, wanted, item),
     }
 }
 
@@ -141,8 +140,7 @@ pub(super) fn members_threshold_explained<L: Predicate<Item>, V: Members<Item>, 
 {
     match view.members(item) {
         Some(members) => counted_members_explained(alloc, inner, least, whole, wanted, members),
-        None if is_other(wanted, false) => Ok(None),
-        None => Ok(Some(absent_case(alloc, whole, view.reason(item))?)),
+        None => absent_found(alloc, whole, view, wanted, item),
     }
 }
 

@@ -34,7 +34,7 @@ pub(super) fn quantified_holds<L: Predicate<Item>, V: Members<Item>, Item>(
 {
     match view.members(item) {
         Some(members) => members_hold(alloc, inner, decides, members),
-        None => Ok(false),
+        None => Ok(false), // not even where each has to hold
     }
 }
 

@@ -11,10 +11,10 @@ use Rattle.predicates_core.proofs.ThresholdChanges.{IsOwnChange, own_change, cha
 use Rattle.predicates_core.proofs.Several.{passes_more}
 use Rattle.predicates_core.proofs.SeveralChanges.{IsTurned, turned_passed, turned_next, found_turned, change_of_no_member, first_decides, later_decides, found_first, whichever_none, whichever_passed, whichever_first, whichever_turned, whichever_decides, whichever_passes}
 use Rattle.predicates_core.proofs.Values.{other_truths}
-use Rattle.predicates_core.proofs.PresentChanges.{change_present, no_change_absent, change_absent}
+use Rattle.predicates_core.proofs.PresentChanges.{change_present}
 use Rattle.predicates_dynamic.specs.Trees.{Names, tree_of, AllOf}
 use Rattle.predicates_dynamic.specs.Formulas.{tree_text, check_text, Has, HasOn}
-use Rattle.predicates_dynamic.proofs.Rows.{each_at, change_of_row, change_of_counted}
+use Rattle.predicates_dynamic.proofs.Rows.{each_at, change_absent, change_of_row, change_of_counted}
 use Rattle.predicates_dynamic.proofs.change.+change.Goals.{turned_either-then-holds+in_ok-push, turned_either-else-holds+in_ok-push-2, members::turned_members_either-then-holds+in_ok-push, members::turned_members_either-else-holds+in_ok-push-2}
 use Rattle.predicates_dynamic.proofs.change.+change.Goals as goal
 
@@ -307,16 +307,10 @@ pub members::quantified_changed-returns-in-Some : goal.members::quantified_chang
 members::quantified_changed-returns-in-Some g t c = rw c.requires.whole (change_present _ (g.V.Members.reason_of c.args.view.now c.args.item.now) _ (g.V.Members.members_of c.args.view.now c.args.item.now) c.args.wanted c.members_changed.result (sym c.in-Some.ensures) (rw c.requires.whole at c.members_changed.ensures))
 
 pub members::quantified_changed-returns-in-None : goal.members::quantified_changed-returns-in-None
-members::quantified_changed-returns-in-None g t c = rw c.requires.whole (no_change_absent _ _ _ _ c.args.wanted (sym c.in-None.ensures) (rw (← c.is_other.ensures) c.if-is_other.true))
-
-pub members::quantified_changed-returns-in_ok-absent_case-in-None-2 : goal.members::quantified_changed-returns-in_ok-absent_case-in-None-2
-members::quantified_changed-returns-in_ok-absent_case-in-None-2 g t c = rw c.requires.whole (change_absent _ _ _ _ c.args.wanted (sym c.in-None.ensures) (rw (← c.is_other.ensures) c.if-is_other.false) (rw (c.reason.ensures, c.requires.whole) at c.in_ok-absent_case-in-None-2.ensures))
+members::quantified_changed-returns-in-None g t c = rw c.requires.whole (change_absent _ _ _ _ c.args.wanted c.absent_found.result (sym c.in-None.ensures) (rw c.requires.whole at c.absent_found.ensures))
 
 pub members::members_threshold_changed-returns-in-Some : goal.members::members_threshold_changed-returns-in-Some
 members::members_threshold_changed-returns-in-Some g t c = rw c.requires.whole (change_present _ (g.V.Members.reason_of c.args.view.now c.args.item.now) _ (g.V.Members.members_of c.args.view.now c.args.item.now) c.args.wanted c.counted_members_changed.result (sym c.in-Some.ensures) (rw c.requires.whole at c.counted_members_changed.ensures))
 
 pub members::members_threshold_changed-returns-in-None : goal.members::members_threshold_changed-returns-in-None
-members::members_threshold_changed-returns-in-None g t c = rw c.requires.whole (no_change_absent _ _ _ _ c.args.wanted (sym c.in-None.ensures) (rw (← c.is_other.ensures) c.if-is_other.true))
-
-pub members::members_threshold_changed-returns-in_ok-absent_case-in-None-2 : goal.members::members_threshold_changed-returns-in_ok-absent_case-in-None-2
-members::members_threshold_changed-returns-in_ok-absent_case-in-None-2 g t c = rw c.requires.whole (change_absent _ _ _ _ c.args.wanted (sym c.in-None.ensures) (rw (← c.is_other.ensures) c.if-is_other.false) (rw (c.reason.ensures, c.requires.whole) at c.in_ok-absent_case-in-None-2.ensures))
+members::members_threshold_changed-returns-in-None g t c = rw c.requires.whole (change_absent _ _ _ _ c.args.wanted c.absent_found.result (sym c.in-None.ensures) (rw c.requires.whole at c.absent_found.ensures))

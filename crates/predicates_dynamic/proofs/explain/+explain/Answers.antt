@@ -7,10 +7,10 @@ use Rattle.predicates_core.specs.Shows.{IsCaseOf}
 use Rattle.predicates_core.proofs.Found.{case_by_result, none_of_not, case_of_not, none_of_named, case_of_named}
 use Rattle.predicates_core.proofs.ThresholdCases.{sift_none, sift_passed, sift_kept, sifted_case, sifted_few, enough_some, settled_found, own_case, absent_counted}
 use Rattle.predicates_core.proofs.Several.{decided_case, members_pass, passes_more, passes_all, member_missing, case_of_other, passes_by_cases, IsBuilt, built_none, built_more, case_of_built, wanted_other, case_of_none, found_decided}
-use Rattle.predicates_core.proofs.PresentCases.{found_present, none_absent, case_absent}
+use Rattle.predicates_core.proofs.PresentCases.{found_present}
 use Rattle.predicates_dynamic.specs.Trees.{Names, tree_of}
 use Rattle.predicates_dynamic.specs.Formulas.{tree_text, check_text, Has, HasOn}
-use Rattle.predicates_dynamic.proofs.Rows.{found_of_row, found_of_counted}
+use Rattle.predicates_dynamic.proofs.Rows.{found_absent, found_of_row, found_of_counted}
 use Rattle.predicates_dynamic.proofs.explain.+explain.Goals.{counted_either-then-holds+in_ok-held_node+else-held-least, counted_either-else-holds+in_ok-failed_node+else-failed-most, members::members_either-then-holds+in_ok-held_node+else-held-least, members::members_either-else-holds+in_ok-failed_node+else-failed-most}
 use Rattle.predicates_dynamic.proofs.explain.+explain.Goals as goal
 
@@ -303,16 +303,10 @@ pub members::quantified_explained-returns-in-Some : goal.members::quantified_exp
 members::quantified_explained-returns-in-Some g t c = rw c.requires.whole (found_present _ (g.V.Members.reason_of c.args.view.now c.args.item.now) _ (g.V.Members.members_of c.args.view.now c.args.item.now) c.args.wanted c.members_explained.result (sym c.in-Some.ensures) (rw c.requires.whole at c.members_explained.ensures))
 
 pub members::quantified_explained-returns-in-None : goal.members::quantified_explained-returns-in-None
-members::quantified_explained-returns-in-None g t c = rw c.requires.whole (none_absent _ _ _ _ c.args.wanted (sym c.in-None.ensures) (rw (← c.is_other.ensures) c.if-is_other.true))
-
-pub members::quantified_explained-returns-in_ok-absent_case-in-None-2 : goal.members::quantified_explained-returns-in_ok-absent_case-in-None-2
-members::quantified_explained-returns-in_ok-absent_case-in-None-2 g t c = rw c.requires.whole (case_absent _ _ _ _ c.args.wanted (sym c.in-None.ensures) (rw (← c.is_other.ensures) c.if-is_other.false) (rw (c.reason.ensures, c.requires.whole) at c.in_ok-absent_case-in-None-2.ensures))
+members::quantified_explained-returns-in-None g t c = rw c.requires.whole (found_absent _ _ _ _ c.args.wanted c.absent_found.result (sym c.in-None.ensures) (rw c.requires.whole at c.absent_found.ensures))
 
 pub members::members_threshold_explained-returns-in-Some : goal.members::members_threshold_explained-returns-in-Some
 members::members_threshold_explained-returns-in-Some g t c = rw c.requires.whole (found_present _ (g.V.Members.reason_of c.args.view.now c.args.item.now) _ (g.V.Members.members_of c.args.view.now c.args.item.now) c.args.wanted c.counted_members_explained.result (sym c.in-Some.ensures) (rw c.requires.whole at c.counted_members_explained.ensures))
 
 pub members::members_threshold_explained-returns-in-None : goal.members::members_threshold_explained-returns-in-None
-members::members_threshold_explained-returns-in-None g t c = rw c.requires.whole (none_absent _ _ _ _ c.args.wanted (sym c.in-None.ensures) (rw (← c.is_other.ensures) c.if-is_other.true))
-
-pub members::members_threshold_explained-returns-in_ok-absent_case-in-None-2 : goal.members::members_threshold_explained-returns-in_ok-absent_case-in-None-2
-members::members_threshold_explained-returns-in_ok-absent_case-in-None-2 g t c = rw c.requires.whole (case_absent _ _ _ _ c.args.wanted (sym c.in-None.ensures) (rw (← c.is_other.ensures) c.if-is_other.false) (rw (c.reason.ensures, c.requires.whole) at c.in_ok-absent_case-in-None-2.ensures))
+members::members_threshold_explained-returns-in-None g t c = rw c.requires.whole (found_absent _ _ _ _ c.args.wanted c.absent_found.result (sym c.in-None.ensures) (rw c.requires.whole at c.absent_found.ensures))
