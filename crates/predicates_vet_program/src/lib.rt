@@ -3,6 +3,7 @@
 
 mod command;
 mod flags;
+mod io_fault;
 mod runtime;
 mod stderr;
 mod stdout;

@@ -3,6 +3,7 @@ ghost use Rattle.std.specs.Prelude.{◌≡◌, ◌≤◌, ◌==◌, IfOk, if◌t
 ghost use Rattle.predicates_vet.specs.Runs.{status_of};
 
 use crate::command::{command, settings_of};
+use crate::io_fault::IoFault;
 use crate::stderr::Stderr;
 use crate::stdout::Stdout;
 use crate::words_fault::fault_line;
@@ -142,7 +143,7 @@ fn run_by_file<E: Files + Input + Print + Eprint + AllocGlobal>(
 {
     let text = match fs::read(rt, path) {
         Ok(text) => text,
-        Err(error) => return tell_rules(rt, path, &error),
+        Err(error) => return tell_rules(rt, path, &IoFault(&error)),
     };
     match read_checks(rt.alloc(), &text) {
         Ok(rules) => run_by(rt, &rules, settings),
@@ -195,6 +196,6 @@ pub fn run_program<E: Env + Files + Input + Print + Eprint + AllocGlobal>(rt: &E
     match try_run(rt) {
         Ok(status) => status,
         // Where this line can't be written either, the status alone tells.
-        Err(error) => tell(rt, &error).unwrap_or(2),
+        Err(error) => tell(rt, &IoFault(&error)).unwrap_or(2),
     }
 }

@@ -1,0 +1,18 @@
+//! What is told of a fault of the system.
+use predicates_vet::RunFault;
+use std::io::ErrorKind;
+use std::{fmt, io};
+
+// An error of the system. That memory ran out is told as everywhere, and any other in its own words.
+#[derive(Drop)]
+pub(crate) struct IoFault<'a>(pub(crate) &'a io::Error);
+
+impl fmt::Display for IoFault<'_> {
+    fn fmt<W: fmt::Write>(&self, f: &mut fmt::Formatter<W>) -> fmt::Result {
+        if self.0.kind() == ErrorKind::OutOfMemory {
+            write!(f, "{}", RunFault::NoMemory)
+        } else {
+            write!(f, "{}", self.0)
+        }
+    }
+}
