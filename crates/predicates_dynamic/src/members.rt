@@ -46,15 +46,15 @@ pub(crate) fn absent_found<W: fmt::Display, V: Members<Item>, Item>(
     Ok(Some(absent_case(alloc, whole, view.reason(item))?))
 }
 
-/// The view of a check that asks no members: there is none.
+/// The view of a check that asks no members: no item has any.
 #[derive(Debug, Clone, Copy, PartialEq, Eq, Drop)]
-pub enum NoMembers {}
+pub struct NoMembers;
 
 impl fmt::Display for NoMembers {
     ghost output = { λ _. Some (codes "") };
 
-    fn fmt<W: fmt::Write>(&self, _f: &mut fmt::Formatter<W>) -> fmt::Result {
-        match *self {}
+    fn fmt<W: fmt::Write>(&self, f: &mut fmt::Formatter<W>) -> fmt::Result {
+        f.write_str("")
     }
 }
 
@@ -64,10 +64,10 @@ impl<Item> Members<Item> for NoMembers {
     ghost reason_of = { λ _ _. codes "" };
 
     fn members<'a>(&self, _item: &'a Item) -> Option<&'a [Item]> {
-        match *self {}
+        None
     }
 
     fn reason(&self, _item: &Item) -> &str {
-        match *self {}
+        ""
     }
 }
