@@ -1,4 +1,4 @@
-//! How often calls evaluate the leaves of a predicate, beside a plain count and as rows.
+//! How often calls evaluate the leaves of a predicate, as rows.
 #![tactic(auto)]
 
 #[cfg(test)]

@@ -1,106 +1,13 @@
 //! How often the leaves of a predicate are evaluated, which no contract says.
 mod around;
 mod counting;
-mod needed;
 mod shapes;
 
-use around::{AROUND, Around, Asked, counts_needed, formula_around};
-use shapes::{counts_of, formula_of};
+use around::{Around, Asked};
+use shapes::counts_of;
 use std::alloc::{AllocError, Global};
 use std::cell::Cell;
 use std::test::Fail;
-
-// A leaf and combinators over it, adapters, parts, lists of members and of rules, and checks whose
-// shape comes at run time.
-const SHAPES: [&str; 45] = [
-    "leaf",
-    "not",
-    "name",
-    "and",
-    "or",
-    "xor",
-    "deep_left",
-    "deep_right",
-    "either",
-    "trim",
-    "normalize",
-    "fold_case",
-    "from_utf8",
-    "no_text",
-    "from_file_path",
-    "of",
-    "of_ref",
-    "of_field",
-    "of_some_of_ref",
-    "of_some",
-    "absent",
-    "of_ok",
-    "of_err",
-    "of_pointer",
-    "of_bool",
-    "each",
-    "any",
-    "of_at_least",
-    "of_at_most",
-    "of_exactly",
-    "of_len",
-    "all_of",
-    "any_of",
-    "at_least",
-    "at_most",
-    "exactly",
-    "check_leaf",
-    "check_not",
-    "check_name",
-    "check_and",
-    "check_or",
-    "check_xor",
-    "check_all",
-    "check_any",
-    "check_at_least",
-];
-
-// Whether each call asks as often as it needs to: in all at most twice as often as there are
-// leaves, and where it explains or seeks a change, at most once as often.
-fn is_right(alloc: Global, name: &str, asked: Asked<'_>) -> Result<bool, AllocError> {
-    let part = formula_of(alloc, name, asked.holds)?;
-    let formula = formula_around(alloc, asked.around, part, asked.beside)?;
-    let Some(counts) = counts_of(alloc, name, asked)? else {
-        return Ok(false);
-    };
-    let leaves = formula.leaf_count();
-    let most = leaves.saturating_mul(2);
-    let asks_once = counts[3..9].iter().all(|count| *count <= leaves);
-    let asks_twice = counts.iter().all(|count| *count <= most);
-    Ok(counts == counts_needed(&formula) && asks_once && asks_twice)
-}
-
-fn is_right_below(alloc: Global, name: &str, around: Around) -> Result<bool, AllocError> {
-    let cell = Cell::new(0);
-    for (holds, beside) in [(false, false), (false, true), (true, false), (true, true)] {
-        let asked = Asked {
-            cell: &cell,
-            holds,
-            around,
-            beside,
-        };
-        if !is_right(alloc, name, asked)? {
-            return Ok(false);
-        }
-    }
-    Ok(true)
-}
-
-#[test]
-fn each_shape_below_each_combinator(rt: HostRuntime) -> Result<(), Fail> {
-    for name in SHAPES {
-        for around in AROUND {
-            let right = is_right_below(rt.alloc(), name, around)?;
-            assert!(rt; right, "{name} in {around:?}");
-        }
-    }
-    Ok(())
-}
 
 // A predicate, what stands around it, and how often its leaves and that beside it are evaluated: by
 // `eval`; `find_case` of true, of false; `explain` of either, of true, of false; `find_change` of
@@ -142,15 +49,6 @@ any_of alone 1 2 1 1 1 1 3 3 1 1
 at_least alone 3 6 3 3 3 3 3 3 3 3
 at_most alone 3 3 6 3 3 3 3 3 3 6
 exactly alone 5 10 5 5 5 6 6 6 6 5
-check_leaf alone 1 2 1 1 1 1 1 1 1 1
-check_not alone 1 1 2 1 1 1 1 1 1 2
-check_name alone 1 2 1 1 1 1 1 1 1 1
-check_and alone 2 2 4 2 2 2 2 2 2 4
-check_or alone 1 2 1 1 1 1 2 2 2 1
-check_xor alone 2 4 2 2 2 2 2 2 2 2
-check_all alone 2 2 4 2 2 2 3 2 3 4
-check_any alone 1 2 1 1 1 1 3 3 1 1
-check_at_least alone 3 6 3 3 3 3 3 3 3 3
 leaf not 1 1 1 1 1 1 1 1 1 2
 leaf name 1 1 1 1 1 1 1 1 1 1
 leaf and 2 4 2 2 2 2 2 2 2 2
@@ -175,12 +73,6 @@ at_least and 4 8 4 4 4 4 4 4 4 4
 at_least or 3 6 3 3 3 3 4 4 4 3
 at_least xor 4 4 8 4 4 4 4 4 4 8
 at_least after_xor 4 4 8 4 4 4 4 4 4 8
-check_any not 1 1 2 1 1 1 3 1 3 2
-check_any name 1 2 1 1 1 1 3 3 1 1
-check_any and 2 4 2 2 2 2 4 4 2 2
-check_any or 1 2 1 1 1 1 4 4 2 1
-check_any xor 2 2 4 2 2 2 4 4 4 4
-check_any after_xor 2 2 4 2 2 2 2 2 2 4
 ";
 
 fn around_of(name: &str) -> Around {

@@ -1,15 +1,13 @@
 //! How often a part is asked below what stands around it.
 use super::counting::{CountingLeaf, leaf_that_counts};
-use super::needed::{Call, needed};
 use predicates::prelude::*;
-use predicates_testing::ReferenceFormula;
 use std::alloc::{AllocError, Global};
 use std::cell::Cell;
 use std::fmt;
 
 /// What stands around a part: nothing, a combinator of one, or one of two with a leaf behind the
 /// part, or before it.
-#[derive(Debug, Clone, Copy, PartialEq, Eq)]
+#[derive(Clone, Copy)]
 pub enum Around {
     Alone,
     Not,
@@ -20,15 +18,14 @@ pub enum Around {
     AfterXor,
 }
 
-pub const AROUND: [Around; 7] = [
-    Around::Alone,
-    Around::Not,
-    Around::Name,
-    Around::And,
-    Around::Or,
-    Around::Xor,
-    Around::AfterXor,
-];
+/// A call that asks a predicate, with the verdict that it expects or wants.
+#[derive(Clone, Copy)]
+enum Call {
+    Eval,
+    FindCase(bool),
+    Explain(Option<bool>),
+    FindChange(Option<bool>),
+}
 
 /// How often the leaves are evaluated by `eval`, by `find_case` of true and of false, by `explain`
 /// and by `find_change` of either, of true and of false each, and by `require`.
@@ -132,51 +129,4 @@ impl<'a> Asked<'a> {
         counts[9] = self.cell.get();
         Ok(counts)
     }
-}
-
-// The formula of a join of the part and a leaf, in the order in which they stand.
-fn joined(
-    alloc: Global,
-    around: Around,
-    left: ReferenceFormula,
-    right: ReferenceFormula,
-) -> Result<ReferenceFormula, AllocError> {
-    let (left, right) = (Box::new(alloc, left)?, Box::new(alloc, right)?);
-    Ok(match around {
-        Around::And => ReferenceFormula::And(left, right),
-        Around::Or => ReferenceFormula::Or(left, right),
-        _ => ReferenceFormula::Xor(left, right),
-    })
-}
-
-/// The formula of the part below what stands around it, beside a leaf of the verdict.
-pub fn formula_around(
-    alloc: Global,
-    around: Around,
-    part: ReferenceFormula,
-    beside: bool,
-) -> Result<ReferenceFormula, AllocError> {
-    let other = ReferenceFormula::Leaf(beside);
-    match around {
-        Around::Alone => Ok(part),
-        Around::Not => Ok(ReferenceFormula::Not(Box::new(alloc, part)?)),
-        Around::Name => Ok(ReferenceFormula::Named(Box::new(alloc, part)?)),
-        Around::And | Around::Or | Around::Xor => joined(alloc, around, part, other),
-        Around::AfterXor => joined(alloc, around, other, part),
-    }
-}
-
-/// How many evaluations of leaves each call needs.
-pub fn counts_needed(formula: &ReferenceFormula) -> Counts {
-    let mut counts = [0; 10];
-    for (place, call) in CALLS.into_iter().enumerate() {
-        counts[place] = needed(call, formula);
-    }
-    let verdict = needed(Call::Eval, formula);
-    counts[9] = if formula.truth() {
-        verdict
-    } else {
-        verdict.saturating_add(needed(Call::Explain(Some(false)), formula))
-    };
-    counts
 }
