@@ -43,7 +43,7 @@ const CALLS: [Call; 9] = [
     Call::FindChange(Some(false)),
 ];
 
-fn call<P: PredicateChange<Item>, Item>(
+fn ask<P: PredicateChange<Item>, Item>(
     alloc: Global,
     predicate: &P,
     item: &Item,
@@ -119,9 +119,9 @@ impl<'a> Asked<'a> {
         requires { P.lawful predicate }
     {
         let mut counts = [0; 10];
-        for (place, asks) in CALLS.into_iter().enumerate() {
+        for (place, call) in CALLS.into_iter().enumerate() {
             self.cell.set(0);
-            call(alloc, &predicate, item, asks)?;
+            ask(alloc, &predicate, item, call)?;
             counts[place] = self.cell.get();
         }
         self.cell.set(0);
