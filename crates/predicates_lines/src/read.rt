@@ -1,6 +1,7 @@
 //! The lines of an input, one after another.
-ghost use Rattle.std.specs.Prelude.{◌≡◌, ◌≢◌, ℕ, List, [], ◌∷◌, Some, Ok, Err, true, false};
+ghost use Rattle.std.specs.Prelude.{◌≡◌, ◌≢◌, ℕ, List, [], ◌∷◌, Some, Ok, Err, true, false, OnErr};
 ghost use Rattle.std.specs.Option.{ForSome};
+ghost use Rattle.std.specs.Io.KnownBytes.{Consumes};
 ghost use Rattle.predicates_lines.specs.Lines.{ended_lines};
 ghost use Rattle.predicates_lines.specs.declared.run_fault.RunFault.TheVariants.{Output};
 
@@ -28,6 +29,8 @@ pub fn next_line<R: BufRead>(input: &mut R, line: &mut Vec<u8>) -> Result<bool, 
         × (ended_lines bytes ≡ line.new.items ∷ ended_lines left)) }
     ensures end { result ≡ Ok false → ForSome (R.remaining input.old) (λ bytes.
         (R.remaining input.new ≡ Some []) × (ended_lines bytes ≡ [])) }
+    ensures taken { OnErr result (Consumes (R.remaining input.old) (R.remaining input.new)
+        line.new.items) }
     ensures fault { result ≢ Err Output }
 {
     line.clear();
