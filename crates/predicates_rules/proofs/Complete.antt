@@ -5,8 +5,8 @@ use Rattle.predicates_rules.specs.declared.expression.Connective.TheVariants.{Or
 use Rattle.predicates_rules.specs.declared.parser.Separator.{Separator}
 use Rattle.predicates_rules.specs.declared.parser.Separator.TheVariants as separators
 use Rattle.predicates_rules.specs.Trees.{Value, Sign, Close, Test, Tree, AtLeast, Trees, none, more}
-use Rattle.predicates_rules.specs.Grammar.{Level, By, tighter, separator_sign, part_level, Items, last, another, IsTest, word, compare, relate, among_none, among, each, any, at_least_items, Spells, test, denied, group, quantified, at_least, alone, joined, Follow, no_more, and_more, IsSpelled}
-use Rattle.predicates_rules.specs.Reading.{Answer, literal_at, items_at, list_at, after_bracket, text_at, test_at, path_at, after_open, after_close, after_least, count_at, after_separator, with_next, parts_at, join, chain, listed, counted, threshold, single, at_level, below, ended, all_of}
+use Rattle.predicates_rules.specs.Grammar.{Level, By, tighter, separator_sign, part_level, Items, last, another, IsTest, word, compare, compare_with, has_length, of_kind, of_null, relate, among_none, among, each, any, at_least_items, Spells, test, denied, group, quantified, at_least, alone, joined, Follow, no_more, and_more, IsSpelled}
+use Rattle.predicates_rules.specs.Reading.{Answer, items_at, list_at, after_bracket, text_at, compared_at, comparison_at, length_at, kind_at, test_at, path_at, after_open, after_close, after_least, count_at, after_separator, with_next, parts_at, join, chain, listed, counted, threshold, single, at_level, below, ended, all_of}
 use Rattle.predicates_rules.specs.Reading as reading
 use Rattle.predicates_rules.proofs.Lengths.{spells_shortens}
 use Rattle.predicates_rules.proofs.Steps.{level_step, Stops, stops_at_close, stops_at_end, Ends, ends_here, ends_inside, stops_at_separator, row_ends_at_close, separator_found}
@@ -22,9 +22,13 @@ list_again last = items_again last
 list_again (another i) = items_again (another i)
 
 test_again : {ts : List Sign} {t : Test} {rest : List Sign} → IsTest ts t rest → test_at ts ≡ Ok (t, rest)
-unfolding test_at literal_at text_at after_bracket list_at
+unfolding test_at compared_at comparison_at count_at length_at kind_at text_at after_bracket list_at
 test_again word = refl
 test_again compare = refl
+test_again compare_with = refl
+test_again has_length = refl
+test_again of_kind = refl
+test_again of_null = refl
 test_again relate = refl
 test_again among_none = refl
 test_again (among i) = rw (list_again i) refl

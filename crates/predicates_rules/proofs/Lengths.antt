@@ -3,7 +3,7 @@ use Rattle.std.proofs.Common.{ℕ, ◌<◌, ◌≤◌, List, length, arith}
 use Rattle.predicates_rules.specs.declared.expression.Quantifier.{Quantifier}
 use Rattle.predicates_rules.specs.declared.parser.Separator.{Separator}
 use Rattle.predicates_rules.specs.Trees.{Value, Sign, Test, Tree, Trees}
-use Rattle.predicates_rules.specs.Grammar.{Level, Items, last, another, IsTest, word, compare, relate, among_none, among, IsQuantifier, each, any, at_least_items, Spells, test, denied, group, quantified, at_least, alone, joined, Follow, no_more, and_more}
+use Rattle.predicates_rules.specs.Grammar.{Level, Items, last, another, IsTest, word, compare, compare_with, has_length, of_kind, of_null, relate, among_none, among, IsQuantifier, each, any, at_least_items, Spells, test, denied, group, quantified, at_least, alone, joined, Follow, no_more, and_more}
 
 items_shorten : {ts : List Sign} {vs : List Value} {rest : List Sign} → Items ts vs rest → length rest < length ts
 items_shorten last = omega arith
@@ -12,6 +12,10 @@ items_shorten (another i) = omega (arith, items_shorten i)
 test_shortens : {ts : List Sign} {t : Test} {rest : List Sign} → IsTest ts t rest → length rest < length ts
 test_shortens word = omega arith
 test_shortens compare = omega arith
+test_shortens compare_with = omega arith
+test_shortens has_length = omega arith
+test_shortens of_kind = omega arith
+test_shortens of_null = omega arith
 test_shortens relate = omega arith
 test_shortens among_none = omega arith
 test_shortens (among i) = omega (arith, items_shorten i)

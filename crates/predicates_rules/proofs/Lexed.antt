@@ -14,9 +14,9 @@ use Rattle.predicates_rules.specs.declared.lexer.Class.TheVariants.{Letter, Digi
 use Rattle.predicates_rules.specs.declared.error.Expected.{Expected}
 use Rattle.predicates_rules.specs.declared.error.Expected.TheVariants as expected
 use Rattle.predicates_rules.specs.declared.stop.Stop.{Stop}
-use Rattle.predicates_rules.specs.Trees.{Value, Natural, Negative, Text, Boolean, Null, Sign, Path, Plain}
+use Rattle.predicates_rules.specs.Trees.{Value, Natural, Negative, Decimal, Text, Boolean, Null, Sign, Path, Plain}
 use Rattle.predicates_rules.specs.Answers.{◌>>=◌, stop_at}
-use Rattle.predicates_rules.specs.Lexemes.{text_of, sign_of_fixed, all_fixed, fixed_at, class_of, continues, text_end, class_len, cut, data_of, begins_literal, is_hidden, is_shown, pointer, IsWritten, fixed_text, literal, path}
+use Rattle.predicates_rules.specs.Lexemes.{text_of, sign_of_fixed, all_fixed, fixed_at, class_of, continues, text_end, class_len, cut, data_of, IsTextOf, begins_literal, is_hidden, is_shown, pointer, IsWritten, fixed_text, literal, path}
 use Rattle.predicates_rules.specs.Scanning.{number_in, value_in, value_at, sign_or, value_or, path_or, front_class, sign_in, with_word, token_at}
 use Rattle.predicates_rules.proofs.Loop.{ok_is}
 
@@ -36,11 +36,12 @@ pub value_no_text : (word : List ℕ) → (IsUtf8 word → ⊥) → value_at wor
 unfolding value_at
 value_no_text word h = rw (utf8_is_false word h) refl
 
-pub value_read : (word text : List ℕ) (d : Data) (v : Option Value) → IsUtf8 word → text ≡ word → read text ≡ Some d → v ≡ value_in d → value_at word ≡ v
+pub value_read : (word text : List ℕ) (d : Data) (v : Option Value) → IsUtf8 word → text ≡ word → read text ≡ Some d → v ≡ value_in text d → value_at word ≡ v
 unfolding value_at
 value_read word text d v u same r e =
     let r' : read word ≡ Some d = subst (λ (w : List ℕ). read w ≡ Some d) same r in
-    rw (is_utf8-from_IsUtf8 word u, r') (sym e)
+    let e' : v ≡ value_in word d = subst (λ (w : List ℕ). v ≡ value_in w d) same e in
+    rw (is_utf8-from_IsUtf8 word u, r') (sym e')
 
 pub value_not_read : (word text : List ℕ) → IsUtf8 word → text ≡ word → read text ≡ None → value_at word ≡ None
 unfolding value_at
@@ -48,45 +49,50 @@ value_not_read word text u same r =
     let r' : read word ≡ None = subst (λ (w : List ℕ). read w ≡ None) same r in
     rw (is_utf8-from_IsUtf8 word u, r') refl
 
-in_data : (v : Value) → value_in (data_of v) ≡ Some v
-in_data (Natural n) = refl
-in_data (Negative z) = refl
-in_data (Text text) = refl
-in_data (Boolean b) = refl
-in_data Null = refl
+in_data : (word : List ℕ) (v : Value) → IsTextOf v word → value_in word (data_of v) ≡ Some v
+in_data word (Natural n) h = refl
+in_data word (Negative z) h = refl
+in_data word (Decimal text x) h = ap (λ (w : List ℕ). Some (Decimal w x)) (sym h)
+in_data word (Text text) h = refl
+in_data word (Boolean b) h = refl
+in_data word Null h = refl
 
 pub some_is : {A : Type 0} (x y : A) → ◌≡◌ {A = Option A} (Some x) (Some y) → x ≡ y
 some_is x y e = cc
 
-of_number : (n : Num) (v : Value) → number_in n ≡ Some v → number n ≡ data_of v
-of_number (unsigned n) v e = ap data_of (some_is (Natural n) v e)
-of_number (negative z) v e = ap data_of (some_is (Negative z) v e)
-of_number (float x) v e = absurd cc
+-- JSON has these data for a literal that may be written so
+abbrev IsReadAs : List ℕ → Data → Value → Type 0
+IsReadAs word d v = (d ≡ data_of v) × IsTextOf v word
 
-of_data : (d : Data) (v : Value) → value_in d ≡ Some v → d ≡ data_of v
-of_data null v e = ap data_of (some_is Null v e)
-of_data (boolean b) v e = ap data_of (some_is (Boolean b) v e)
-of_data (number n) v e = of_number n v e
-of_data (string text) v e = ap data_of (some_is (Text text) v e)
-of_data (array ds) v e = absurd cc
-of_data (object ms) v e = absurd cc
+of_number : (word : List ℕ) (n : Num) → IsReadAs word (number n) (number_in word n)
+of_number word (unsigned n) = (refl, tt)
+of_number word (negative z) = (refl, tt)
+of_number word (float x) = (refl, refl)
+
+of_data : (word : List ℕ) (d : Data) (v : Value) → value_in word d ≡ Some v → IsReadAs word d v
+of_data word null v e = subst (IsReadAs word null) (some_is Null v e) (refl, tt)
+of_data word (boolean b) v e = subst (IsReadAs word (boolean b)) (some_is (Boolean b) v e) (refl, tt)
+of_data word (number n) v e = subst (IsReadAs word (number n)) (some_is (number_in word n) v e) (of_number word n)
+of_data word (string text) v e = subst (IsReadAs word (string text)) (some_is (Text text) v e) (refl, tt)
+of_data word (array ds) v e = absurd cc
+of_data word (object ms) v e = absurd cc
 
 -- what a literal is
-value_found : (word : List ℕ) (v : Value) → is_utf8 word ≡ true → read word ≡ Some (data_of v) → value_at word ≡ Some v
+value_found : (word : List ℕ) (v : Value) → is_utf8 word ≡ true → read word ≡ Some (data_of v) → IsTextOf v word → value_at word ≡ Some v
 unfolding value_at
-value_found word v u r = rw (u, r) (in_data v)
+value_found word v u r t = rw (u, r) (in_data word v t)
 
-then_data : (r : Option Data) (v : Value) → option_and_then value_in r ≡ Some v → r ≡ Some (data_of v)
-then_data (Some d) v e = ap (λ (x : Data). Some x) (of_data d v e)
-then_data None v e = absurd cc
+then_data : (word : List ℕ) (r : Option Data) (v : Value) → option_and_then (value_in word) r ≡ Some v → (r ≡ Some (data_of v)) × IsTextOf v word
+then_data word (Some d) v e = let q = of_data word d v e in (ap (λ (x : Data). Some x) q.0, q.1)
+then_data word None v e = absurd cc
 
-value_by : (b : Bool) (r : Option Data) (v : Value) → cond b (option_and_then value_in r) None ≡ Some v → (b ≡ true) × (r ≡ Some (data_of v))
-value_by true r v e = (refl, then_data r v e)
-value_by false r v e = absurd cc
+value_by : (word : List ℕ) (b : Bool) (r : Option Data) (v : Value) → cond b (option_and_then (value_in word) r) None ≡ Some v → (b ≡ true) × (r ≡ Some (data_of v)) × IsTextOf v word
+value_by word true r v e = let q = then_data word r v e in (refl, q.0, q.1)
+value_by word false r v e = absurd cc
 
-value_is : (word : List ℕ) (v : Value) → value_at word ≡ Some v → (is_utf8 word ≡ true) × (read word ≡ Some (data_of v))
+value_is : (word : List ℕ) (v : Value) → value_at word ≡ Some v → (is_utf8 word ≡ true) × (read word ≡ Some (data_of v)) × IsTextOf v word
 unfolding value_at
-value_is word v e = value_by (is_utf8 word) (read word) v e
+value_is word v e = value_by word (is_utf8 word) (read word) v e
 
 -- ---- words of one token
 
@@ -127,6 +133,14 @@ fixed_again left fixed.In = refl
 fixed_again left fixed.Exists = refl
 fixed_again left fixed.Missing = refl
 fixed_again left fixed.IsEmpty = refl
+fixed_again left fixed.Length = refl
+fixed_again left fixed.Is = refl
+fixed_again left fixed.Text = refl
+fixed_again left fixed.Number = refl
+fixed_again left fixed.Whole = refl
+fixed_again left fixed.Bool = refl
+fixed_again left fixed.Array = refl
+fixed_again left fixed.Object = refl
 fixed_again left fixed.True = refl
 fixed_again left fixed.False = refl
 fixed_again left fixed.Null = refl
@@ -154,7 +168,7 @@ path_in c left word s u = rw (s, u) refl
 
 written_again : (left : ℕ) {t : Sign} {word : List ℕ} → IsWritten t word → sign_in (front_class word) left word ≡ Ok t
 written_again left (fixed_text f) = fixed_again left f
-written_again left (literal b bytes v h u r) = literal_in (class_of b) left (b ∷ bytes) v h (value_found (b ∷ bytes) v u r)
+written_again left (literal b bytes v h u r t) = literal_in (class_of b) left (b ∷ bytes) v h (value_found (b ∷ bytes) v u r t)
 written_again left (path b bytes s u) = path_in (class_of b) left (b ∷ bytes) s u
 
 found_now : (p : Fixed → Bool) (g : Fixed) (fs : List Fixed) (f : Fixed) (t : Bool) → p g ≡ t → cond t (Some g) (find p fs) ≡ Some f → (find p fs ≡ Some f → p f ≡ true) → p f ≡ true
@@ -178,7 +192,7 @@ literal_is : (x : Expected) (left b : ℕ) (bytes : List ℕ) (t : Sign) (o : Op
 literal_is x left b bytes t None c e h = absurd cc
 literal_is x left b bytes t (Some v) c e h =
     let q = value_is (b ∷ bytes) v e in
-    subst (λ (s : Sign). IsWritten s (b ∷ bytes)) (ok_is (Plain v) t h) (literal b bytes v c q.0 q.1)
+    subst (λ (s : Sign). IsWritten s (b ∷ bytes)) (ok_is (Plain v) t h) (literal b bytes v c q.0 q.1 q.2)
 
 path_is : (left b : ℕ) (bytes : List ℕ) (t : Sign) (u : Bool) → class_of b ≡ Slash → is_shown (b ∷ bytes) ≡ u → path_or left (b ∷ bytes) u ≡ Ok t → IsWritten t (b ∷ bytes)
 path_is left b bytes t false c e h = absurd cc

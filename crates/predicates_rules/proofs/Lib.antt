@@ -14,3 +14,8 @@ pub mod Files
 pub mod Printed
 pub mod Spaced
 pub mod Said
+pub mod Laid
+pub mod Escaped
+pub mod Further
+pub mod Contents
+pub mod Readable

@@ -10,14 +10,16 @@ use Rattle.predicates_rules.specs.declared.error.Expected.TheVariants as expecte
 use Rattle.predicates_rules.specs.declared.stop.Stop.{Stop}
 use Rattle.predicates_rules.specs.declared.stop.ReadError.{ReadError}
 use Rattle.predicates_rules.specs.declared.stop.ReadError.TheVariants as errors
-use Rattle.predicates_rules.specs.Trees.{Sign, Tree}
+use Rattle.predicates_rules.specs.Trees.{Text, Sign, Plain, Tree}
 use Rattle.predicates_rules.specs.Grammar.{IsSpelled}
 use Rattle.predicates_rules.specs.Answers.{◌>>=◌, Fails, stops}
-use Rattle.predicates_rules.specs.Lexemes.{continues, is_over, is_shown}
-use Rattle.predicates_rules.specs.Rules.{Says, after_spaces, Heads, IsLine, blank, rule, AreRules, no_more, skipped, taken}
-use Rattle.predicates_rules.specs.Heading.{after_colon, named, head_at}
+use Rattle.predicates_rules.specs.Lexemes.{continues, cut, is_over, is_quoted, is_shown, is_title, IsWritten}
+use Rattle.predicates_rules.specs.Scanning.{token_at}
+use Rattle.predicates_rules.specs.Rules.{Says, after_spaces, Heads, bare, quoted, IsLine, blank, rule, AreRules, no_more, skipped, taken}
+use Rattle.predicates_rules.specs.Heading.{after_colon, named, bare_head, title_or, quoted_head, head_at}
 use Rattle.predicates_rules.proofs.Loop.{ok_is}
-use Rattle.predicates_rules.proofs.Lexed.{some_is}
+use Rattle.predicates_rules.proofs.Steps.{bind_ok}
+use Rattle.predicates_rules.proofs.Lexed.{some_is, token_again, token_found}
 use Rattle.predicates_rules.proofs.Grow.{one_tree}
 use Rattle.predicates_rules.proofs.LexLoop.{one_lexing}
 
@@ -44,8 +46,8 @@ run_passes p (b ∷ text) = passes_more p b text (p b) refl (run_passes p text)
 no_colon_in_name : (text : List ℕ) → prefix_len (continues Name) (58 ∷ text) ≡ 0
 no_colon_in_name text = refl
 
-heads_again : (name text : List ℕ) → 0 < length name → list_all (continues Name) name ≡ true → is_shown name ≡ true → head_at (name ++ 58 ∷ text) ≡ Ok (name, text)
-unfolding head_at
+heads_again : (name text : List ℕ) → 0 < length name → list_all (continues Name) name ≡ true → is_shown name ≡ true → bare_head (name ++ 58 ∷ text) ≡ Ok (name, text)
+unfolding bare_head
 heads_again [] text lt h u = absurd (omega arith)
 heads_again (b ∷ name) text lt h u =
     let n : prefix_len (continues Name) ((b ∷ name) ++ 58 ∷ text) ≡ suc (length name) = run_is (continues Name) (b ∷ name) (58 ∷ text) h (no_colon_in_name text) in
@@ -53,8 +55,28 @@ heads_again (b ∷ name) text lt h u =
     let d : drop (suc (length name)) ((b ∷ name) ++ 58 ∷ text) ≡ 58 ∷ text = drop_at (b ∷ name) (58 ∷ text) (suc (length name)) refl in
     ap (λ (k : ℕ). named k ((b ∷ name) ++ 58 ∷ text)) n ∙ rw (t, d, u) refl
 
+name_is_no_quote : (b : ℕ) → continues Name b ≡ true → (b == 34) ≡ false
+name_is_no_quote b h = grind (arith, nat_tests)
+
+not_quoted : (name text : List ℕ) → 0 < length name → list_all (continues Name) name ≡ true → is_quoted (name ++ 58 ∷ text) ≡ false
+not_quoted [] text lt h = absurd (omega arith)
+not_quoted (b ∷ name) text lt h = name_is_no_quote b (both_hold (continues Name b) (list_all (continues Name) name) h).0
+
+bare_first : (line : List ℕ) → is_quoted line ≡ false → head_at line ≡ bare_head line
+unfolding head_at
+bare_first line q = rw q refl
+
+quoted_first : (line : List ℕ) → is_quoted line ≡ true → head_at line ≡ quoted_head line
+unfolding head_at
+quoted_first line q = rw q refl
+
+quoted_again : (line word name text : List ℕ) → cut line ≡ Some (word, 58 ∷ text) → IsWritten (Plain (Text name)) word → is_title name ≡ true → quoted_head line ≡ Ok (name, text)
+unfolding quoted_head
+quoted_again line word name text c w t = rw (token_again line (Plain (Text name)) word (58 ∷ text) c w, t) refl
+
 pub head_again : (line name text : List ℕ) → Heads line name text → head_at (after_spaces line) ≡ Ok (name, text)
-head_again line name text h = ap head_at h.3 ∙ heads_again name text h.0 h.1 h.2
+head_again line name text (bare lt h u e) = bare_first (after_spaces line) (ap is_quoted e ∙ not_quoted name text lt h) ∙ ap bare_head e ∙ heads_again name text lt h u
+head_again line name text (quoted {word = word} q c w t) = quoted_first (after_spaces line) q ∙ quoted_again (after_spaces line) word name text c w t
 
 colon_is : (rest text : List ℕ) → after_colon rest ≡ Ok text → rest ≡ 58 ∷ text
 colon_is [] text h = absurd cc
@@ -89,20 +111,49 @@ named_is (b ∷ line) (suc k) x e h =
       sym (take-append-drop (suc k) (b ∷ line)) ∙ ap (λ (w : List ℕ). w ++ drop (suc k) (b ∷ line)) c.0 ∙ ap (λ (w : List ℕ). x.0 ++ w) (colon_is (drop (suc k) (b ∷ line)) x.1 c.1),
     )
 
+bare_is : (line : List ℕ) (x : List ℕ × List ℕ) → bare_head (after_spaces line) ≡ Ok x → Heads line x.0 x.1
+unfolding bare_head
+bare_is line x h = let n = named_is (after_spaces line) (prefix_len (continues Name) (after_spaces line)) x refl h in bare n.0 n.1 n.2 n.3
+
+title_is : (left : ℕ) (t : Sign) (name : List ℕ) → title_or left t ≡ Ok name → (t ≡ Plain (Text name)) × (is_title name ≡ true)
+title_is left (Plain (Text text)) name h = by_test (is_title text) refl h
+  where
+    by_test : (b : Bool) → is_title text ≡ b → cond b (Ok text) (stops expected.Name left) ≡ Ok name → (Plain (Text text) ≡ Plain (Text name)) × (is_title name ≡ true)
+    by_test true e h = let same = ok_is text name h in (ap (λ (w : List ℕ). Plain (Text w)) same, subst (λ (w : List ℕ). is_title w ≡ true) same e)
+    by_test false e h = absurd cc
+title_is left t name h = absurd cc
+
+quoted_is : (line : List ℕ) (x : List ℕ × List ℕ) → is_quoted (after_spaces line) ≡ true → quoted_head (after_spaces line) ≡ Ok x → Heads line x.0 x.1
+unfolding quoted_head
+quoted_is line x q h =
+    let front = after_spaces line in
+    let a = bind_ok (token_at front) (λ t. title_or (length front) t.0 >>= λ name. after_colon t.1 >>= λ text. Ok (name, text)) x h in
+    let b = bind_ok (title_or (length front) a.0.0) (λ name. after_colon a.0.1 >>= λ text. Ok (name, text)) x a.2 in
+    let c = name_ok (after_colon a.0.1) b.0 x b.2 in
+    let n = title_is (length front) a.0.0 b.0 b.1 in
+    let f = token_found front a.0.0 a.0.1 a.1 in
+    let cut_here : cut front ≡ Some (f.0, 58 ∷ x.1) = f.1 ∙ ap (λ (us : List ℕ). Some (f.0, us)) (colon_is a.0.1 x.1 c.1) in
+    let name_here : IsWritten (Plain (Text x.0)) f.0 = subst (λ (w : List ℕ). IsWritten (Plain (Text w)) f.0) c.0 (subst (λ (t : Sign). IsWritten t f.0) n.0 f.2) in
+    quoted q cut_here name_here (subst (λ (w : List ℕ). is_title w ≡ true) c.0 n.1)
+
+head_by : (line : List ℕ) (x : List ℕ × List ℕ) (b : Bool) → is_quoted (after_spaces line) ≡ b → cond b (quoted_head (after_spaces line)) (bare_head (after_spaces line)) ≡ Ok x → Heads line x.0 x.1
+head_by line x true q h = quoted_is line x q h
+head_by line x false q h = bare_is line x h
+
 pub head_is : (line name text : List ℕ) → head_at (after_spaces line) ≡ Ok (name, text) → Heads line name text
 unfolding head_at
-head_is line name text h = named_is (after_spaces line) (prefix_len (continues Name) (after_spaces line)) (name, text) refl h
+head_is line name text h = head_by line (name, text) (is_quoted (after_spaces line)) refl h
 
 by_name : (line name : List ℕ) (k : ℕ) → (k ≡ 0 → ⊥) → k ≡ prefix_len (continues Name) line → name ≡ take k line
-    → head_at line ≡ cond (is_shown name) (after_colon (drop k line) >>= λ text. Ok (name, text)) (stops expected.Utf8 (length line))
-unfolding head_at
+    → bare_head line ≡ cond (is_shown name) (after_colon (drop k line) >>= λ text. Ok (name, text)) (stops expected.Utf8 (length line))
+unfolding bare_head
 by_name line name zero some e n = absurd (some refl)
 by_name line name (suc k) some e n = ap (λ (m : ℕ). named m line) (sym e) ∙ rw n refl
 
-pub head_no_text : (line name : List ℕ) (k : ℕ) → (k ≡ 0 → ⊥) → k ≡ prefix_len (continues Name) line → name ≡ take k line → is_shown name ≡ false → head_at line ≡ stops expected.Utf8 (length line)
+pub head_no_text : (line name : List ℕ) (k : ℕ) → (k ≡ 0 → ⊥) → k ≡ prefix_len (continues Name) line → name ≡ take k line → is_shown name ≡ false → bare_head line ≡ stops expected.Utf8 (length line)
 head_no_text line name k some e n u = by_name line name k some e n ∙ rw u refl
 
-pub head_named : (line name : List ℕ) (k : ℕ) → (k ≡ 0 → ⊥) → k ≡ prefix_len (continues Name) line → name ≡ take k line → is_shown name ≡ true → head_at line ≡ (after_colon (drop k line) >>= λ text. Ok (name, text))
+pub head_named : (line name : List ℕ) (k : ℕ) → (k ≡ 0 → ⊥) → k ≡ prefix_len (continues Name) line → name ≡ take k line → is_shown name ≡ true → bare_head line ≡ (after_colon (drop k line) >>= λ text. Ok (name, text))
 head_named line name k some e n u = by_name line name k some e n ∙ rw u refl
 
 abbrev with_name : List ℕ → List ℕ → Result (List ℕ × List ℕ) Stop
@@ -123,8 +174,13 @@ not_over line [] text lt h e o = omega arith
 not_over line (b ∷ name) text lt h e o =
     name_is_not_over b (both_hold (continues Name b) (list_all (continues Name) name) h).0 (subst (λ (l : List ℕ). is_over l ≡ true) e o)
 
+quote_is_not_over : (text : List ℕ) → is_quoted text ≡ true → is_over text ≡ true → ⊥
+quote_is_not_over [] q o = cc
+quote_is_not_over (b ∷ text) q o = grind (arith, nat_tests)
+
 pub heads_not_blank : (line name text : List ℕ) → Heads line name text → is_over (after_spaces line) ≡ true → ⊥
-heads_not_blank line name text h o = not_over (after_spaces line) name text h.0 h.1 h.3 o
+heads_not_blank line name text (bare lt h u e) o = not_over (after_spaces line) name text lt h e o
+heads_not_blank line name text (quoted {word = word} q c w t) o = quote_is_not_over (after_spaces line) q o
 
 -- ---- one meaning
 

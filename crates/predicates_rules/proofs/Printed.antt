@@ -1,14 +1,17 @@
 -- What is printed is spelled so.
+use Rattle.std.specs.Prelude.{◌&&◌}
 use Rattle.std.proofs.Common.{◌≡◌, ℕ, zero, suc, ◌≤◌, Bool, true, false, cond, List, [], ◌∷◌, ◌++◌, refl, sym, ap, subst, ◌∙◌, append_assoc, arith}
 use Rattle.predicates_rules.specs.declared.expression.Connective.{Connective}
 use Rattle.predicates_rules.specs.declared.expression.Connective.TheVariants.{Or, Xor, And}
 use Rattle.predicates_rules.specs.declared.expression.Quantifier.{Quantifier}
 use Rattle.predicates_rules.specs.declared.expression.Quantifier.TheVariants as quantifiers
+use Rattle.predicates_rules.specs.declared.condition.ValueKind.{ValueKind}
+use Rattle.predicates_rules.specs.declared.condition.ValueKind.TheVariants as value_kinds
 use Rattle.predicates_rules.specs.declared.parser.Separator.{Separator}
 use Rattle.predicates_rules.specs.declared.parser.Separator.TheVariants as separators
-use Rattle.predicates_rules.specs.Trees.{Value, Natural, Sign, AtWord, Least, Of, Open, Close, End, Path, Plain, Test, TheValueIs, Compares, Relates, IsAmong, Tree, At, Denied, Quantified, Joined, AtLeast, Trees, none, more}
-use Rattle.predicates_rules.specs.Grammar.{Level, By, Single, tighter, separator_sign, part_level, Items, last, another, IsTest, word, compare, relate, among_none, among, IsQuantifier, each, any, at_least_items, Spells, test, denied, group, quantified, at_least, alone, joined, Follow, no_more, and_more, IsSpelled}
-use Rattle.predicates_rules.specs.Printing.{items_signs, test_signs, quantifier_signs, in_parentheses, fits, signs_at, part_signs, follow_signs, nesting_at, parts_nesting, IsSome, IsProper, AreMany, AreProper}
+use Rattle.predicates_rules.specs.Trees.{Value, Natural, Sign, AtWord, Least, Of, Open, Close, End, Path, IsKind, Plain, Test, TheValueIs, Compares, ComparesWith, HasLength, IsOfKind, Relates, IsAmong, Tree, At, Denied, Quantified, Joined, AtLeast, Trees, none, more}
+use Rattle.predicates_rules.specs.Grammar.{Level, By, Single, tighter, separator_sign, part_level, Items, last, another, IsTest, word, compare, compare_with, has_length, of_kind, of_null, relate, among_none, among, IsQuantifier, each, any, at_least_items, Spells, test, denied, group, quantified, at_least, alone, joined, Follow, no_more, and_more, IsSpelled}
+use Rattle.predicates_rules.specs.Printing.{items_signs, kind_sign, test_signs, quantifier_signs, in_parentheses, fits, has_parts, stands_at, signs_at, part_signs, follow_signs, nesting_at, parts_nesting, IsSome, IsProper, AreMany, AreProper}
 
 items_spelled : (v : Value) (vs : List Value) (rest : List Sign) → Items (items_signs (v ∷ vs) ++ rest) (v ∷ vs) rest
 items_spelled v [] rest = last
@@ -18,9 +21,21 @@ among_spelled : (vs : List Value) (rest : List Sign) → IsTest (test_signs (IsA
 among_spelled [] rest = among_none
 among_spelled (v ∷ vs) rest = among (items_spelled v vs rest)
 
+kind_spelled : (k : ValueKind) (rest : List Sign) → IsTest (IsKind ∷ kind_sign k ∷ rest) (IsOfKind k) rest
+kind_spelled value_kinds.Text rest = of_kind
+kind_spelled value_kinds.Number rest = of_kind
+kind_spelled value_kinds.Whole rest = of_kind
+kind_spelled value_kinds.Boolean rest = of_kind
+kind_spelled value_kinds.Array rest = of_kind
+kind_spelled value_kinds.Object rest = of_kind
+kind_spelled value_kinds.Null rest = of_null
+
 test_spelled : (t : Test) (rest : List Sign) → IsTest (test_signs t ++ rest) t rest
 test_spelled (TheValueIs s) rest = word
 test_spelled (Compares o v) rest = compare
+test_spelled (ComparesWith o path) rest = compare_with
+test_spelled (HasLength o n) rest = has_length
+test_spelled (IsOfKind k) rest = kind_spelled k rest
 test_spelled (Relates r text) rest = relate
 test_spelled (IsAmong vs) rest = among_spelled vs rest
 
@@ -48,10 +63,14 @@ joined_at l c h d = absurd cc
 closed : (ts rest : List Sign) → in_parentheses ts ++ rest ≡ Open ∷ (ts ++ Close ∷ rest)
 closed ts rest = ap (λ (us : List Sign). Open ∷ us) (append_assoc ts (Close ∷ []) rest)
 
+second_true : (a b : Bool) → (a && b) ≡ true → b ≡ true
+second_true true b h = h
+second_true false b h = absurd cc
+
 -- at its own level, or in parentheses
-placed : (b : Bool) (l : Level) (c : Connective) (n depth : ℕ) (e : Tree) (ts rest : List Sign) → fits l c ≡ b → cond b depth (suc depth) ≤ n
+placed : (b : Bool) (l : Level) (c : Connective) (n depth : ℕ) (e : Tree) (ts rest : List Sign) → (b ≡ true → fits l c ≡ true) → cond b depth (suc depth) ≤ n
     → ((m : ℕ) (us : List Sign) → depth ≤ m → Spells m (By c) (ts ++ us) e us) → Spells n l (cond b ts (in_parentheses ts) ++ rest) e rest
-placed true l c n depth e ts rest h le d = joined_at l c h (d n rest le)
+placed true l c n depth e ts rest h le d = joined_at l c (h refl) (d n rest le)
 placed false l c zero depth e ts rest h le d = absurd (omega arith)
 placed false l c (suc n) depth e ts rest h le d =
     subst (λ (us : List Sign). Spells (suc n) l us e rest) (sym (closed ts rest)) (single_at l (group (joined_at (By Or) c refl (d n (Close ∷ rest) (omega arith)))))
@@ -71,7 +90,7 @@ mutual
       subst (λ (us : List Sign). Spells (suc n) l us (Quantified q path e) rest) (sym front)
       (single_at l (quantified (quantifier_spelled q (Path path ∷ Open ∷ (signs_at (By Or) e ++ Close ∷ rest))) (spelled_at e (By Or) n (Close ∷ rest) p (omega arith))))
   spelled_at (Joined c es) l n rest p le =
-      placed (fits l c) l c n (parts_nesting (separators.Connective c) es) (Joined c es) (part_signs (separators.Connective c) es) rest refl le (λ m us h. many_spelled es c m us p h)
+      placed (stands_at l c es) l c n (parts_nesting (separators.Connective c) es) (Joined c es) (part_signs (separators.Connective c) es) rest (second_true (has_parts es) (fits l c)) le (λ m us h. many_spelled es c m us p h)
   spelled_at (AtLeast k es) l zero rest p le = absurd (omega arith)
   spelled_at (AtLeast k es) l (suc n) rest p le =
       subst (λ (us : List Sign). Spells (suc n) l (AtWord ∷ Least ∷ Plain (Natural k) ∷ Of ∷ us) (AtLeast k es) rest) (sym (closed (part_signs separators.Comma es) rest))

@@ -1,44 +1,56 @@
 -- What is read can be written again, and nests no deeper then.
+use Rattle.std.specs.Prelude.{◌&&◌}
 use Rattle.std.proofs.Common.{◌≡◌, ℕ, suc, ◌≤◌, Bool, true, false, cond, List, refl, arith}
 use Rattle.predicates_rules.specs.declared.expression.Connective.{Connective}
 use Rattle.predicates_rules.specs.declared.expression.Connective.TheVariants.{Or, Xor, And}
+use Rattle.predicates_rules.specs.declared.expression.Quantifier.{Quantifier}
 use Rattle.predicates_rules.specs.declared.parser.Separator.{Separator}
 use Rattle.predicates_rules.specs.declared.parser.Separator.TheVariants as separators
-use Rattle.predicates_rules.specs.Trees.{Sign, Tree, At, Denied, Quantified, Joined, AtLeast, Trees, more}
-use Rattle.predicates_rules.specs.Grammar.{Level, By, Single, tighter, Spells, test, denied, group, quantified, at_least, alone, joined, Follow, no_more, and_more}
+use Rattle.predicates_rules.specs.Trees.{Value, Sign, Test, Tree, At, Denied, Quantified, Joined, AtLeast, Trees, more}
+use Rattle.predicates_rules.specs.Grammar.{Level, By, Single, tighter, Items, last, another, IsTest, word, compare, compare_with, has_length, of_kind, of_null, relate, among_none, among, IsQuantifier, each, any, at_least_items, Spells, test, denied, group, quantified, at_least, alone, joined, Follow, no_more, and_more}
 use Rattle.predicates_rules.specs.Rules.{Says}
-use Rattle.predicates_rules.specs.Printing.{fits, nesting_at, parts_nesting, IsProper, AreProper, IsPlain, printed}
+use Rattle.predicates_rules.specs.Printing.{fits, has_parts, stands_at, nesting_at, parts_nesting, IsProper, AreProper, AreValues, IsPlainTest, IsPlainQuantifier, IsPlain, ArePlain, printed}
+use Rattle.predicates_rules.proofs.Readable.{ArePlainSigns, lexed_plain}
 use Rattle.predicates_rules.proofs.Spaced.{printed_says}
 
-by_fits : (b : Bool) (k : ℕ) → cond b k (suc k) ≤ suc k
-by_fits true k = omega arith
-by_fits false k = omega arith
+by_fits : (a b : Bool) (k : ℕ) → cond a k (suc k) ≤ suc (cond b k (suc k))
+by_fits true true k = omega arith
+by_fits true false k = omega arith
+by_fits false true k = omega arith
+by_fits false false k = omega arith
 
 -- parentheses make one more
 in_parentheses : (l : Level) (e : Tree) → nesting_at l e ≤ suc (nesting_at (By Or) e)
 in_parentheses l (At path t) = omega arith
 in_parentheses l (Denied e) = omega arith
 in_parentheses l (Quantified q path e) = omega arith
-in_parentheses l (Joined c es) = by_fits (fits l c) (parts_nesting (separators.Connective c) es)
+in_parentheses l (Joined c es) = by_fits (stands_at l c es) (stands_at (By Or) c es) (parts_nesting (separators.Connective c) es)
 in_parentheses l (AtLeast k es) = omega arith
 
-looser_join : (c d : Connective) (k : ℕ) → cond (fits (By c) d) k (suc k) ≤ cond (fits (tighter c) d) k (suc k)
-looser_join Or Or k = omega arith
-looser_join Or Xor k = omega arith
-looser_join Or And k = omega arith
-looser_join Xor Or k = omega arith
-looser_join Xor Xor k = omega arith
-looser_join Xor And k = omega arith
-looser_join And Or k = omega arith
-looser_join And Xor k = omega arith
-looser_join And And k = omega arith
+by_less : (parts a b : Bool) (k : ℕ) → (b ≡ true → a ≡ true) → cond (parts && a) k (suc k) ≤ cond (parts && b) k (suc k)
+by_less false a b k h = omega arith
+by_less true true true k h = omega arith
+by_less true true false k h = omega arith
+by_less true false true k h = let e = h refl in absurd cc
+by_less true false false k h = omega arith
+
+fits_looser : (c d : Connective) → fits (tighter c) d ≡ true → fits (By c) d ≡ true
+fits_looser Or Or h = refl
+fits_looser Or Xor h = refl
+fits_looser Or And h = refl
+fits_looser Xor Or h = absurd cc
+fits_looser Xor Xor h = refl
+fits_looser Xor And h = refl
+fits_looser And Or h = absurd cc
+fits_looser And Xor h = absurd cc
+fits_looser And And h = refl
 
 -- where less binds, no more parentheses are needed
 looser : (c : Connective) (e : Tree) → nesting_at (By c) e ≤ nesting_at (tighter c) e
 looser c (At path t) = omega arith
 looser c (Denied e) = omega arith
 looser c (Quantified q path e) = omega arith
-looser c (Joined d es) = looser_join c d (parts_nesting (separators.Connective d) es)
+looser c (Joined d es) = by_less (has_parts es) (fits (By c) d) (fits (tighter c) d) (parts_nesting (separators.Connective d) es) (fits_looser c d)
 looser c (AtLeast k es) = omega arith
 
 fits_itself : (c : Connective) → fits (By c) c ≡ true
@@ -72,5 +84,53 @@ mutual
       let q = follow_proper g in
       ((p.0, q.0), omega (arith, p.1, q.1))
 
-pub said_again : (n : ℕ) (text : List ℕ) (e : Tree) → Says n text e → IsPlain e → Says n (printed e) e
-said_again n text e (ts, c, s) h = let p = spells_proper s in printed_says n e p.0 h p.1
+-- ---- what is read can be written
+
+items_plain : {ts : List Sign} {vs : List Value} {rest : List Sign} → Items ts vs rest → ArePlainSigns ts → AreValues vs × ArePlainSigns rest
+items_plain last a = ((a.0, tt), a.1.1)
+items_plain (another i) a = let p = items_plain i a.1.1 in ((a.0, p.0), p.1)
+
+test_plain : {ts : List Sign} {t : Test} {rest : List Sign} → IsTest ts t rest → ArePlainSigns ts → IsPlainTest t × ArePlainSigns rest
+test_plain word a = (tt, a.1)
+test_plain compare a = (a.1.0, a.1.1)
+test_plain compare_with a = (a.1.0, a.1.1)
+test_plain has_length a = (a.1.1.0, a.1.1.1)
+test_plain of_kind a = (tt, a.1.1)
+test_plain of_null a = (tt, a.1.1)
+test_plain relate a = (a.1.0, a.1.1)
+test_plain among_none a = (tt, a.1.1.1)
+test_plain (among i) a = items_plain i a.1.1
+
+quantifier_plain : {ts : List Sign} {q : Quantifier} {rest : List Sign} → IsQuantifier ts q rest → ArePlainSigns ts → IsPlainQuantifier q × ArePlainSigns rest
+quantifier_plain each a = (tt, a.1)
+quantifier_plain any a = (tt, a.1)
+quantifier_plain at_least_items a = (a.1.1.0, a.1.1.1)
+
+mutual
+  spells_plain : {n : ℕ} {l : Level} {ts : List Sign} {e : Tree} {rest : List Sign} → Spells n l ts e rest → ArePlainSigns ts → IsPlain e × ArePlainSigns rest
+  spells_plain (test t) a = let p = test_plain t a.1 in ((a.0, p.0), p.1)
+  spells_plain (denied d) a = spells_plain d a.1
+  spells_plain (group d) a = let p = spells_plain d a.1 in (p.0, p.1.1)
+  spells_plain (quantified q d) a =
+      let c = quantifier_plain q a in
+      let p = spells_plain d c.1.1.1 in
+      ((c.1.0, p.0, c.0), p.1.1)
+  spells_plain (at_least d g) a =
+      let p = spells_plain d a.1.1.1.1.1 in
+      let q = follow_plain g p.1 in
+      ((a.1.1.0, (p.0, q.0)), q.1.1)
+  spells_plain (alone d) a = spells_plain d a
+  spells_plain (joined d g) a =
+      let p = spells_plain d a in
+      let q = follow_plain g p.1 in
+      ((p.0, q.0), q.1)
+
+  follow_plain : {n : ℕ} {s : Separator} {ts : List Sign} {es : Trees} {rest : List Sign} → Follow n s ts es rest → ArePlainSigns ts → ArePlain es × ArePlainSigns rest
+  follow_plain no_more a = (tt, a)
+  follow_plain (and_more d g) a =
+      let p = spells_plain d a.1 in
+      let q = follow_plain g p.1 in
+      ((p.0, q.0), q.1)
+
+pub said_again : (n : ℕ) (text : List ℕ) (e : Tree) → Says n text e → Says n (printed e) e
+said_again n text e (ts, c, s) = let p = spells_proper s in printed_says n e p.0 (spells_plain s (lexed_plain c)).0 p.1

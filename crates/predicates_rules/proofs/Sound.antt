@@ -7,15 +7,18 @@ use Rattle.predicates_rules.specs.declared.expression.Quantifier.{Quantifier}
 use Rattle.predicates_rules.specs.declared.expression.Quantifier.TheVariants as quantifiers
 use Rattle.predicates_rules.specs.declared.parser.Separator.{Separator}
 use Rattle.predicates_rules.specs.declared.parser.Separator.TheVariants as separators
+use Rattle.predicates_rules.specs.declared.condition.Comparison.{Comparison}
+use Rattle.predicates_rules.specs.declared.condition.ValueKind.{ValueKind}
+use Rattle.predicates_rules.specs.declared.condition.ValueKind.TheVariants as value_kinds
 use Rattle.predicates_rules.specs.declared.stop.ReadError.{ReadError}
 use Rattle.predicates_rules.specs.declared.stop.Stop.{Stop}
 use Rattle.predicates_rules.specs.declared.error.Expected.{Expected}
 use Rattle.predicates_rules.specs.declared.error.Expected.TheVariants as expected
 use Rattle.predicates_rules.specs.declared.expression.Expression.{Expression}
-use Rattle.predicates_rules.specs.Trees.{tree_of, Value, Natural, Text, Sign, Not, Each, Any, AtWord, Least, Of, Open, Close, OpenList, CloseList, Comma, Path, Compare, Relate, In, Is, Plain, End, Test, TheValueIs, Compares, Relates, IsAmong, Tree, At, Denied, Quantified, AtLeast, Trees, none, more}
-use Rattle.predicates_rules.specs.Grammar.{Level, By, Single, tighter, separator_sign, part_level, Items, last, another, IsTest, word, compare, relate, among_none, among, IsQuantifier, each, any, at_least_items, Spells, test, denied, group, quantified, at_least, alone, joined, Follow, no_more, and_more, IsSpelled}
+use Rattle.predicates_rules.specs.Trees.{tree_of, Value, Natural, Text, Null, Sign, Not, Each, Any, AtWord, Least, Of, Open, Close, OpenList, CloseList, Comma, Path, Compare, Relate, In, Is, Length, IsKind, KindName, Plain, End, Test, TheValueIs, Compares, ComparesWith, HasLength, IsOfKind, Relates, IsAmong, Tree, At, Denied, Quantified, AtLeast, Trees, none, more}
+use Rattle.predicates_rules.specs.Grammar.{Level, By, Single, tighter, separator_sign, part_level, Items, last, another, IsTest, word, compare, compare_with, has_length, of_kind, of_null, relate, among_none, among, IsQuantifier, each, any, at_least_items, Spells, test, denied, group, quantified, at_least, alone, joined, Follow, no_more, and_more, IsSpelled}
 use Rattle.predicates_rules.specs.Answers.{◌>>=◌, Gives}
-use Rattle.predicates_rules.specs.Reading.{Answer, literal_at, items_at, list_at, after_bracket, text_at, test_at, path_at, after_open, after_close, after_least, count_at, after_separator, with_next, parts_at, join, chain, listed, counted, threshold, single, at_level, part_at, below, is_end, fails, ended, all_of}
+use Rattle.predicates_rules.specs.Reading.{Answer, items_at, list_at, after_bracket, text_at, compared_at, comparison_at, length_at, kind_at, test_at, path_at, after_open, after_close, after_least, count_at, after_separator, with_next, parts_at, join, chain, listed, counted, threshold, single, at_level, part_at, below, is_end, fails, ended, all_of}
 use Rattle.predicates_rules.specs.Reading as reading
 use Rattle.predicates_rules.proofs.Loop.{ok_is}
 use Rattle.predicates_rules.proofs.Steps.{separator_is, bind_ok}
@@ -37,11 +40,6 @@ list_is (CloseList ∷ ts) x e = subst (λ (y : List Value × List Sign). IsTest
 list_is (t ∷ ts) x e = among (items_are (t ∷ ts) x e)
 list_is [] x e = among (items_are [] x e)
 
-literal_is : (ts : List Sign) (x : Value × List Sign) → literal_at ts ≡ Ok x → ts ≡ Plain x.0 ∷ x.1
-unfolding literal_at
-literal_is (Plain v ∷ ts) x e = ap (λ (y : Value × List Sign). Plain y.0 ∷ y.1) (ok_is (v, ts) x e)
-literal_is ts x e = absurd cc
-
 text_is : (ts : List Sign) (x : List ℕ × List Sign) → text_at ts ≡ Ok x → ts ≡ Plain (Text x.0) ∷ x.1
 unfolding text_at
 text_is (Plain (Text text) ∷ ts) x e = ap (λ (y : List ℕ × List Sign). Plain (Text y.0) ∷ y.1) (ok_is (text, ts) x e)
@@ -52,14 +50,46 @@ unfolding after_bracket
 bracket_is (OpenList ∷ ts) us e = ap (λ (y : List Sign). OpenList ∷ y) (ok_is ts us e)
 bracket_is ts us e = absurd cc
 
+count_is : (ts : List Sign) (x : ℕ × List Sign) → count_at ts ≡ Ok x → ts ≡ Plain (Natural x.0) ∷ x.1
+unfolding count_at
+count_is (Plain (Natural k) ∷ ts) x e = ap (λ (y : ℕ × List Sign). Plain (Natural y.0) ∷ y.1) (ok_is (k, ts) x e)
+count_is ts x e = absurd cc
+
+compared_is : (o : Comparison) (ts : List Sign) (x : Test × List Sign) → compared_at o ts ≡ Ok x → IsTest (Compare o ∷ ts) x.0 x.1
+unfolding compared_at
+compared_is o (Plain v ∷ ts) x e = subst (λ (y : Test × List Sign). IsTest (Compare o ∷ Plain v ∷ ts) y.0 y.1) (ok_is (Compares o v, ts) x e) compare
+compared_is o (Path path ∷ ts) x e = subst (λ (y : Test × List Sign). IsTest (Compare o ∷ Path path ∷ ts) y.0 y.1) (ok_is (ComparesWith o path, ts) x e) compare_with
+compared_is o ts x e = absurd cc
+
+comparison_is : (ts : List Sign) (x : Comparison × List Sign) → comparison_at ts ≡ Ok x → ts ≡ Compare x.0 ∷ x.1
+unfolding comparison_at
+comparison_is (Compare o ∷ ts) x e = ap (λ (y : Comparison × List Sign). Compare y.0 ∷ y.1) (ok_is (o, ts) x e)
+comparison_is ts x e = absurd cc
+
+length_is : (ts : List Sign) (x : Test × List Sign) → length_at ts ≡ Ok x → IsTest (Length ∷ ts) x.0 x.1
+unfolding length_at
+length_is ts x e =
+    let a = bind_ok (comparison_at ts) (λ o. count_at o.1 >>= λ n. Ok (HasLength o.0 n.0, n.1)) x e in
+    let b = bind_ok (count_at a.0.1) (λ n. Ok (HasLength a.0.0 n.0, n.1)) x a.2 in
+    let made : IsTest (Length ∷ Compare a.0.0 ∷ Plain (Natural b.0.0) ∷ b.0.1) (HasLength a.0.0 b.0.0) b.0.1 = has_length in
+    let front : ts ≡ Compare a.0.0 ∷ Plain (Natural b.0.0) ∷ b.0.1 = comparison_is ts a.0 a.1 ∙ ap (λ (us : List Sign). Compare a.0.0 ∷ us) (count_is a.0.1 b.0 b.1) in
+    subst (λ (y : Test × List Sign). IsTest (Length ∷ ts) y.0 y.1) (ok_is (HasLength a.0.0 b.0.0, b.0.1) x b.2)
+    (subst (λ (us : List Sign). IsTest (Length ∷ us) (HasLength a.0.0 b.0.0) b.0.1) (sym front) made)
+
+kind_is : (ts : List Sign) (x : ValueKind × List Sign) → kind_at ts ≡ Ok x → IsTest (IsKind ∷ ts) (IsOfKind x.0) x.1
+unfolding kind_at
+kind_is (KindName k ∷ ts) x e = subst (λ (y : ValueKind × List Sign). IsTest (IsKind ∷ KindName k ∷ ts) (IsOfKind y.0) y.1) (ok_is (k, ts) x e) of_kind
+kind_is (Plain Null ∷ ts) x e = subst (λ (y : ValueKind × List Sign). IsTest (IsKind ∷ Plain Null ∷ ts) (IsOfKind y.0) y.1) (ok_is (value_kinds.Null, ts) x e) of_null
+kind_is ts x e = absurd cc
+
 test_is : (ts : List Sign) (x : Test × List Sign) → test_at ts ≡ Ok x → IsTest ts x.0 x.1
 unfolding test_at
 test_is (Is s ∷ ts) x e = subst (λ (y : Test × List Sign). IsTest (Is s ∷ ts) y.0 y.1) (ok_is (TheValueIs s, ts) x e) word
-test_is (Compare o ∷ ts) x e =
-    let b = bind_ok (literal_at ts) (λ y. Ok (Compares o y.0, y.1)) x e in
-    let made : IsTest (Compare o ∷ Plain b.0.0 ∷ b.0.1) (Compares o b.0.0) b.0.1 = compare in
-    subst (λ (y : Test × List Sign). IsTest (Compare o ∷ ts) y.0 y.1) (ok_is (Compares o b.0.0, b.0.1) x b.2)
-    (subst (λ (us : List Sign). IsTest (Compare o ∷ us) (Compares o b.0.0) b.0.1) (sym (literal_is ts b.0 b.1)) made)
+test_is (Compare o ∷ ts) x e = compared_is o ts x e
+test_is (Length ∷ ts) x e = length_is ts x e
+test_is (IsKind ∷ ts) x e =
+    let b = bind_ok (kind_at ts) (λ y. Ok (IsOfKind y.0, y.1)) x e in
+    subst (λ (y : Test × List Sign). IsTest (IsKind ∷ ts) y.0 y.1) (ok_is (IsOfKind b.0.0, b.0.1) x b.2) (kind_is ts b.0 b.1)
 test_is (Relate r ∷ ts) x e =
     let b = bind_ok (text_at ts) (λ y. Ok (Relates r y.0, y.1)) x e in
     let made : IsTest (Relate r ∷ Plain (Text b.0.0) ∷ b.0.1) (Relates r b.0.0) b.0.1 = relate in
@@ -91,11 +121,6 @@ least_is : (ts us : List Sign) → after_least ts ≡ Ok us → ts ≡ Least ∷
 unfolding after_least
 least_is (Least ∷ ts) us e = ap (λ (y : List Sign). Least ∷ y) (ok_is ts us e)
 least_is ts us e = absurd cc
-
-count_is : (ts : List Sign) (x : ℕ × List Sign) → count_at ts ≡ Ok x → ts ≡ Plain (Natural x.0) ∷ x.1
-unfolding count_at
-count_is (Plain (Natural k) ∷ ts) x e = ap (λ (y : ℕ × List Sign). Plain (Natural y.0) ∷ y.1) (ok_is (k, ts) x e)
-count_is ts x e = absurd cc
 
 -- ---- rows
 

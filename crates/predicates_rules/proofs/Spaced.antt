@@ -1,6 +1,6 @@
--- Tokens with a space behind each are taken apart again.
+-- Tokens that are laid out are taken apart again.
 use Rattle.std.proofs.Common.{◌≡◌, true≢false, ℕ, suc, ◌+◌, ◌<◌, ◌≤◌, ◌^◌, ◌/◌, ◌%◌, pos, negsuc, Bool, true, false, cond, List, [], ◌∷◌, ◌++◌, map, length, Option, Some, None, option_map, refl, sym, ap, subst, ◌∙◌, arith, append_assoc, append-nil, length-append}
-use Rattle.std.specs.Prelude.{◌==◌, nat_lt, option_and_then}
+use Rattle.std.specs.Prelude.{Float, ◌||◌, ◌==◌, nat_lt, option_and_then}
 use Rattle.std.specs.List.{prefix_len, list_all}
 use Rattle.std.specs.Str.{IsAscii, IsUtf8, is_utf8}
 use Rattle.std.specs.Str.Parse.{AllDigits, IsNumeral}
@@ -27,7 +27,7 @@ use Rattle.serde_json.specs.Data.{Data, number, string, unsigned, negative}
 use Rattle.serde_json.specs.Read.{read, of_json}
 use Rattle.serde_json.proofs.Numbers.{number_of-decimal, number_of-negative}
 use Rattle.predicates_rules.specs.declared.lexer.Class.{Class}
-use Rattle.predicates_rules.specs.declared.lexer.Class.TheVariants.{Digit, Slash}
+use Rattle.predicates_rules.specs.declared.lexer.Class.TheVariants.{Letter, Digit, Symbol, Mark, Slash}
 use Rattle.predicates_rules.specs.declared.expression.Connective.{Connective}
 use Rattle.predicates_rules.specs.declared.expression.Connective.TheVariants.{Or, Xor, And}
 use Rattle.predicates_rules.specs.declared.expression.Quantifier.{Quantifier}
@@ -40,13 +40,15 @@ use Rattle.predicates_rules.specs.declared.condition.Relation.{Relation}
 use Rattle.predicates_rules.specs.declared.condition.Relation.TheVariants as relations
 use Rattle.predicates_rules.specs.declared.condition.State.{State}
 use Rattle.predicates_rules.specs.declared.condition.State.TheVariants as states
+use Rattle.predicates_rules.specs.declared.condition.ValueKind.{ValueKind}
+use Rattle.predicates_rules.specs.declared.condition.ValueKind.TheVariants as value_kinds
 use Rattle.predicates_rules.specs.declared.fixed.Fixed.{Fixed}
 use Rattle.predicates_rules.specs.declared.fixed.Fixed.TheVariants as fixed
-use Rattle.predicates_rules.specs.Trees.{Value, Natural, Negative, Text, Boolean, Null, Sign, Join, Close, Path, Compare, Relate, Is, Plain, End, Test, TheValueIs, Compares, Relates, IsAmong, Tree, At, Denied, Quantified, Joined, AtLeast, Trees, none, more}
+use Rattle.predicates_rules.specs.Trees.{Value, Natural, Negative, Decimal, Text, Boolean, Null, Sign, Join, Open, Close, OpenList, CloseList, Comma, Path, Compare, Relate, Is, Plain, End, Test, TheValueIs, Compares, ComparesWith, HasLength, IsOfKind, Relates, IsAmong, Tree, At, Denied, Quantified, Joined, AtLeast, Trees, none, more}
 use Rattle.predicates_rules.specs.Grammar.{Level, By, Single, separator_sign, part_level, IsSpelled}
-use Rattle.predicates_rules.specs.Lexemes.{text_of, sign_of_fixed, class_of, continues, text_end, class_len, token_len, cut, begins_literal, is_shown, IsWritten, fixed_text, literal, path, IsLexed, over, space, token}
+use Rattle.predicates_rules.specs.Lexemes.{text_of, sign_of_fixed, is_space, is_mark, class_of, continues, text_end, class_len, token_len, cut, begins_literal, is_shown, IsWritten, fixed_text, literal, path, IsLexed, over, space, token}
 use Rattle.predicates_rules.specs.Rules.{Says}
-use Rattle.predicates_rules.specs.Printing.{items_signs, test_signs, quantifier_signs, in_parentheses, fits, signs_at, part_signs, follow_signs, nesting_at, IsProper, path_text, word_of, spaced, printed, IsPath, IsValue, AreValues, IsPlainTest, IsPlainQuantifier, IsPlain, ArePlain}
+use Rattle.predicates_rules.specs.Printing.{items_signs, kind_sign, test_signs, quantifier_signs, in_parentheses, stands_at, signs_at, part_signs, follow_signs, nesting_at, IsProper, path_text, word_of, opens, closes, gap, laid_behind, laid, printed, IsDecimal, IsPath, IsValue, AreValues, IsPlainTest, IsPlainQuantifier, IsPlain, ArePlain}
 use Rattle.predicates_rules.proofs.Printed.{printed as printed_spelled}
 use Rattle.predicates_rules.proofs.Lines.{run_is}
 
@@ -76,29 +78,70 @@ read_negative n lt = read_number (signed_decimal (negsuc n)) (number (negative (
 
 -- ---- the end of a word
 
-abbrev is_run : Class → Bool
+-- whether no byte at the front goes on with a word
+abbrev is_apart : List ℕ → Bool
+is_apart [] = true
+is_apart (b ∷ text) = is_space b || is_mark b
+
+abbrev pub is_run : Class → Bool
+is_run Letter = true
 is_run Digit = true
+is_run Symbol = true
+is_run Mark = true
 is_run Slash = true
 is_run c = false
 
-run_len : (c : Class) (text : List ℕ) → is_run c ≡ true → class_len c text ≡ Some (suc (prefix_len (continues c) text))
+pub run_len : (c : Class) (text : List ℕ) → is_run c ≡ true → class_len c text ≡ Some (suc (prefix_len (continues c) text))
+run_len Letter text h = refl
 run_len Digit text h = refl
+run_len Symbol text h = refl
+run_len Mark text h = refl
 run_len Slash text h = refl
 run_len c text h = absurd cc
 
-run_stops : (c : Class) (text : List ℕ) → is_run c ≡ true → prefix_len (continues c) (32 ∷ text) ≡ 0
-run_stops Digit text h = refl
-run_stops Slash text h = refl
-run_stops c text h = absurd cc
+pub or_parted : {A : Type 0} (a b : Bool) → (a ≡ true → A) → (b ≡ true → A) → (a || b) ≡ true → A
+or_parted true b f g h = f refl
+or_parted false b f g h = g h
+
+is_byte : (P : ℕ → Type 0) (b n : ℕ) → P n → (b == n) ≡ true → P b
+is_byte P b n p h = subst P (sym (eqb-true b n h)) p
+
+-- what holds of each space and each mark
+each_apart : (P : ℕ → Type 0) (b : ℕ) → P 32 → P 9 → P 13 → P 40 → P 41 → P 44 → P 91 → P 93 → (is_space b || is_mark b) ≡ true → P b
+each_apart P b blank tab return_mark opening closing comma opening_list closing_list =
+    or_parted (is_space b) (is_mark b)
+    (or_parted (b == 32 || b == 9) (b == 13) (or_parted (b == 32) (b == 9) (is_byte P b 32 blank) (is_byte P b 9 tab)) (is_byte P b 13 return_mark))
+    (or_parted (b == 40 || b == 41 || b == 44 || b == 91) (b == 93)
+    (or_parted (b == 40 || b == 41 || b == 44) (b == 91)
+    (or_parted (b == 40 || b == 41) (b == 44) (or_parted (b == 40) (b == 41) (is_byte P b 40 opening) (is_byte P b 41 closing)) (is_byte P b 44 comma))
+    (is_byte P b 91 opening_list))
+    (is_byte P b 93 closing_list))
+
+apart_run : (c : Class) (b : ℕ) → is_run c ≡ true → (is_space b || is_mark b) ≡ true → continues c b ≡ false
+apart_run Letter b r h = each_apart (λ x. continues Letter x ≡ false) b refl refl refl refl refl refl refl refl h
+apart_run Digit b r h = each_apart (λ x. continues Digit x ≡ false) b refl refl refl refl refl refl refl refl h
+apart_run Symbol b r h = each_apart (λ x. continues Symbol x ≡ false) b refl refl refl refl refl refl refl refl h
+apart_run Mark b r h = refl
+apart_run Slash b r h = each_apart (λ x. continues Slash x ≡ false) b refl refl refl refl refl refl refl refl h
+apart_run c b r h = absurd cc
+
+run_stops : (c : Class) (text : List ℕ) → is_run c ≡ true → is_apart text ≡ true → prefix_len (continues c) text ≡ 0
+run_stops c [] r h = refl
+run_stops c (b ∷ text) r h = let stops : continues c b ≡ false = apart_run c b r h in rw stops refl
+
+-- bytes that are one word
+abbrev IsRun : List ℕ → Type 0
+IsRun [] = ⊥
+IsRun (b ∷ word) = (is_run (class_of b) ≡ true) × (list_all (continues (class_of b)) word ≡ true)
 
 cut_at : (b : ℕ) (word rest : List ℕ) → token_len ((b ∷ word) ++ rest) ≡ Some (suc (length word)) → cut ((b ∷ word) ++ rest) ≡ Some (b ∷ word, rest)
 unfolding cut
 cut_at b word rest n = rw (n, take_at word rest (length word) refl, drop_at word rest (length word) refl) refl
 
-cut_run : (c : Class) (b : ℕ) (word rest : List ℕ) → class_of b ≡ c → is_run c ≡ true → list_all (continues c) word ≡ true → cut ((b ∷ word) ++ 32 ∷ rest) ≡ Some (b ∷ word, 32 ∷ rest)
-cut_run c b word rest d r h =
-    let n : class_len c (word ++ 32 ∷ rest) ≡ Some (suc (length word)) = run_len c (word ++ 32 ∷ rest) r ∙ ap (λ (k : ℕ). Some (suc k)) (run_is (continues c) word (32 ∷ rest) h (run_stops c rest r)) in
-    cut_at b word (32 ∷ rest) (ap (λ (k : Class). class_len k (word ++ 32 ∷ rest)) d ∙ n)
+cut_run : (word rest : List ℕ) → IsRun word → is_apart rest ≡ true → cut (word ++ rest) ≡ Some (word, rest)
+cut_run [] rest r h = absurd r
+cut_run (b ∷ word) rest r h =
+    cut_at b word rest (run_len (class_of b) (word ++ rest) r.0 ∙ ap (λ (k : ℕ). Some (suc k)) (run_is (continues (class_of b)) word rest r.1 (run_stops (class_of b) rest r.0 h)))
 
 -- ---- numbers
 
@@ -112,9 +155,12 @@ digits_go_on : (ds : List ℕ) → AllDigits 10 ds → list_all (continues Digit
 digits_go_on [] h = refl
 digits_go_on (d ∷ ds) h = let e = digit_goes_on d (digit_from_value d h.0) in let f = digits_go_on ds h.1 in rw (e, f) refl
 
--- a word that is written, and ends before a space
+-- a word that is written, and ends where the next one may begin
 abbrev pub IsWord : Sign → List ℕ → Type 0
-IsWord t word = IsWritten t word × ((rest : List ℕ) → cut (word ++ 32 ∷ rest) ≡ Some (word, 32 ∷ rest))
+IsWord t word = IsWritten t word × ((rest : List ℕ) → (opens t || is_apart rest) ≡ true → cut (word ++ rest) ≡ Some (word, rest))
+
+run_of : (c : Class) (b : ℕ) (word : List ℕ) → class_of b ≡ c → is_run c ≡ true → list_all (continues c) word ≡ true → IsRun (b ∷ word)
+run_of c b word d r h = subst (λ (k : Class). (is_run k ≡ true) × (list_all (continues k) word ≡ true)) (sym d) (r, h)
 
 natural_word : (word : List ℕ) (n : ℕ) → n < 2 ^ 64 → word ≡ decimal n → IsNumeral 10 word → IsWord (Plain (Natural n)) word
 natural_word [] n lt e h = absurd (omega (arith, h.0))
@@ -122,7 +168,7 @@ natural_word (b ∷ word) n lt e h =
     let c : class_of b ≡ Digit = digit_class b (digit_from_value b h.1.0) in
     let r : read (b ∷ word) ≡ Some (number (unsigned n)) = subst (λ (w : List ℕ). read w ≡ Some (number (unsigned n))) (sym e) (read_natural n lt) in
     let u : is_utf8 (b ∷ word) ≡ true = subst (λ (w : List ℕ). is_utf8 w ≡ true) (sym e) (is_utf8-from_IsUtf8 (decimal n) (IsUtf8-from_ascii (decimal n) (IsAscii-decimal n lt))) in
-    (literal b word (Natural n) (ap begins_literal c) u r, λ rest. cut_run Digit b word rest c refl (digits_go_on word h.1.1))
+    (literal b word (Natural n) (ap begins_literal c) u r tt, λ rest. cut_run (b ∷ word) rest (run_of Digit b word c refl (digits_go_on word h.1.1)))
 
 minus_is_digit : class_of 45 ≡ Digit
 minus_is_digit = refl
@@ -131,7 +177,11 @@ negative_word : (n : ℕ) → n < 2 ^ 63 → IsWord (Plain (Negative (negsuc n))
 negative_word n lt =
     let u : is_utf8 (signed_decimal (negsuc n)) ≡ true = is_utf8-from_IsUtf8 (signed_decimal (negsuc n)) (IsUtf8-from_ascii (signed_decimal (negsuc n)) (IsAscii-signed (negsuc n) lt)) in
     let h = (decimal_is_IsNumeral (suc n) (omega arith)).0 in
-    (literal 45 (decimal (suc n)) (Negative (negsuc n)) refl u (read_negative n lt), λ rest. cut_run Digit 45 (decimal (suc n)) rest minus_is_digit refl (digits_go_on (decimal (suc n)) h.1))
+    (literal 45 (decimal (suc n)) (Negative (negsuc n)) refl u (read_negative n lt) tt, λ rest. cut_run (45 ∷ decimal (suc n)) rest (run_of Digit 45 (decimal (suc n)) minus_is_digit refl (digits_go_on (decimal (suc n)) h.1)))
+
+decimal_word : (word : List ℕ) (x : Float) → IsDecimal word x → IsWord (Plain (Decimal word x)) word
+decimal_word [] x h = absurd h
+decimal_word (b ∷ word) x h = (literal b word (Decimal (b ∷ word) x) (ap begins_literal h.0) h.2 h.3 refl, λ rest. cut_run (b ∷ word) rest (run_of Digit b word h.0 refl h.1))
 
 -- ---- texts
 
@@ -217,48 +267,66 @@ text_word : (s : List ℕ) → IsUtf8 s → IsWord (Plain (Text s)) (quoted s)
 text_word s u =
     let body = escape s ++ 34 ∷ [] in
     let long : length body ≡ suc (length (escape s)) = omega (arith, length-append (escape s) (34 ∷ [])) in (
-      literal 34 body (Text s) refl (is_utf8-from_IsUtf8 (quoted s) (IsUtf8-quoted s u)) (read_text s),
-      λ rest. cut_at 34 body (32 ∷ rest) (ap (λ (w : List ℕ). option_map suc (text_end false w)) (append_assoc (escape s) (34 ∷ []) (32 ∷ rest)) ∙ ap (λ (o : Option ℕ). option_map suc o) (text_len s (32 ∷ rest)) ∙ ap (λ (k : ℕ). Some (suc k)) (sym long)),
+      literal 34 body (Text s) refl (is_utf8-from_IsUtf8 (quoted s) (IsUtf8-quoted s u)) (read_text s) tt,
+      λ rest apart. cut_at 34 body rest (ap (λ (w : List ℕ). option_map suc (text_end false w)) (append_assoc (escape s) (34 ∷ []) rest) ∙ ap (λ (o : Option ℕ). option_map suc o) (text_len s rest) ∙ ap (λ (k : ℕ). Some (suc k)) (sym long)),
     )
 
 -- ---- words of their own, and paths
 
-fixed_cut : (f : Fixed) (rest : List ℕ) → cut (text_of f ++ 32 ∷ rest) ≡ Some (text_of f, 32 ∷ rest)
-unfolding cut
-fixed_cut fixed.Or rest = refl
-fixed_cut fixed.Xor rest = refl
-fixed_cut fixed.And rest = refl
-fixed_cut fixed.Not rest = refl
-fixed_cut fixed.Each rest = refl
-fixed_cut fixed.Any rest = refl
-fixed_cut fixed.At rest = refl
-fixed_cut fixed.Least rest = refl
-fixed_cut fixed.Of rest = refl
-fixed_cut fixed.StartsWith rest = refl
-fixed_cut fixed.EndsWith rest = refl
-fixed_cut fixed.Contains rest = refl
-fixed_cut fixed.Matches rest = refl
-fixed_cut fixed.In rest = refl
-fixed_cut fixed.Exists rest = refl
-fixed_cut fixed.Missing rest = refl
-fixed_cut fixed.IsEmpty rest = refl
-fixed_cut fixed.True rest = refl
-fixed_cut fixed.False rest = refl
-fixed_cut fixed.Null rest = refl
-fixed_cut fixed.Equal rest = refl
-fixed_cut fixed.Unequal rest = refl
-fixed_cut fixed.Below rest = refl
-fixed_cut fixed.AtMost rest = refl
-fixed_cut fixed.Above rest = refl
-fixed_cut fixed.AtLeast rest = refl
-fixed_cut fixed.Open rest = refl
-fixed_cut fixed.Close rest = refl
-fixed_cut fixed.OpenList rest = refl
-fixed_cut fixed.CloseList rest = refl
-fixed_cut fixed.Comma rest = refl
+fixed_run : (f : Fixed) → IsRun (text_of f)
+fixed_run fixed.Or = (refl, refl)
+fixed_run fixed.Xor = (refl, refl)
+fixed_run fixed.And = (refl, refl)
+fixed_run fixed.Not = (refl, refl)
+fixed_run fixed.Each = (refl, refl)
+fixed_run fixed.Any = (refl, refl)
+fixed_run fixed.At = (refl, refl)
+fixed_run fixed.Least = (refl, refl)
+fixed_run fixed.Of = (refl, refl)
+fixed_run fixed.StartsWith = (refl, refl)
+fixed_run fixed.EndsWith = (refl, refl)
+fixed_run fixed.Contains = (refl, refl)
+fixed_run fixed.Matches = (refl, refl)
+fixed_run fixed.In = (refl, refl)
+fixed_run fixed.Exists = (refl, refl)
+fixed_run fixed.Missing = (refl, refl)
+fixed_run fixed.IsEmpty = (refl, refl)
+fixed_run fixed.Length = (refl, refl)
+fixed_run fixed.Is = (refl, refl)
+fixed_run fixed.Text = (refl, refl)
+fixed_run fixed.Number = (refl, refl)
+fixed_run fixed.Whole = (refl, refl)
+fixed_run fixed.Bool = (refl, refl)
+fixed_run fixed.Array = (refl, refl)
+fixed_run fixed.Object = (refl, refl)
+fixed_run fixed.True = (refl, refl)
+fixed_run fixed.False = (refl, refl)
+fixed_run fixed.Null = (refl, refl)
+fixed_run fixed.Equal = (refl, refl)
+fixed_run fixed.Unequal = (refl, refl)
+fixed_run fixed.Below = (refl, refl)
+fixed_run fixed.AtMost = (refl, refl)
+fixed_run fixed.Above = (refl, refl)
+fixed_run fixed.AtLeast = (refl, refl)
+fixed_run fixed.Open = (refl, refl)
+fixed_run fixed.Close = (refl, refl)
+fixed_run fixed.OpenList = (refl, refl)
+fixed_run fixed.CloseList = (refl, refl)
+fixed_run fixed.Comma = (refl, refl)
 
-fixed_word : (f : Fixed) → IsWord (sign_of_fixed f) (text_of f)
-fixed_word f = (fixed_text f, fixed_cut f)
+fixed_word : (f : Fixed) → opens (sign_of_fixed f) ≡ false → IsWord (sign_of_fixed f) (text_of f)
+fixed_word f o = (fixed_text f, λ rest h. cut_run (text_of f) rest (fixed_run f) (ap (λ (b : Bool). b || is_apart rest) (sym o) ∙ h))
+
+-- behind an opening mark anything may stand
+mark_stops : (text : List ℕ) → prefix_len (continues Mark) text ≡ 0
+mark_stops [] = refl
+mark_stops (b ∷ text) = refl
+
+open_word : IsWord Open (text_of fixed.Open)
+open_word = (fixed_text fixed.Open, λ rest h. cut_at 40 [] rest (ap (λ (k : ℕ). Some (suc k)) (mark_stops rest)))
+
+open_list_word : IsWord OpenList (text_of fixed.OpenList)
+open_list_word = (fixed_text fixed.OpenList, λ rest h. cut_at 91 [] rest (ap (λ (k : ℕ). Some (suc k)) (mark_stops rest)))
 
 slash_shows : is_shown (47 ∷ []) ≡ true
 unfolding is_shown
@@ -270,48 +338,58 @@ slash_class : class_of 47 ≡ Slash
 slash_class = refl
 
 path_word : (p : List ℕ) → IsPath p → IsWord (Path p) (path_text p)
-path_word [] h = (path 47 [] slash_class slash_shows, λ rest. cut_run Slash 47 [] rest slash_class refl refl)
+path_word [] h = (path 47 [] slash_class slash_shows, λ rest. cut_run (47 ∷ []) rest (refl, refl))
 path_word (b ∷ []) h = absurd h
 path_word (b ∷ c ∷ bytes) h =
     let d : class_of b ≡ Slash = ap class_of h.0 ∙ slash_class in
-    (path b (c ∷ bytes) d h.2, λ rest. cut_run Slash b (c ∷ bytes) rest d refl h.1)
+    (path b (c ∷ bytes) d h.2, λ rest. cut_run (b ∷ c ∷ bytes) rest (run_of Slash b (c ∷ bytes) d refl h.1))
 
 value_word : (v : Value) → IsValue v → IsWord (Plain v) (word_of (Plain v))
 value_word (Natural n) h = natural_word (decimal n) n h refl (decimal_is_IsNumeral n h).0
 value_word (Negative (pos n)) h = absurd h
 value_word (Negative (negsuc n)) h = negative_word n h
+value_word (Decimal text x) h = decimal_word text x h
 value_word (Text s) h = text_word s h
-value_word (Boolean true) h = fixed_word fixed.True
-value_word (Boolean false) h = fixed_word fixed.False
-value_word Null h = fixed_word fixed.Null
+value_word (Boolean true) h = fixed_word fixed.True refl
+value_word (Boolean false) h = fixed_word fixed.False refl
+value_word Null h = fixed_word fixed.Null refl
 
 join_word : (c : Connective) → IsWord (Join c) (word_of (Join c))
-join_word Or = fixed_word fixed.Or
-join_word Xor = fixed_word fixed.Xor
-join_word And = fixed_word fixed.And
+join_word Or = fixed_word fixed.Or refl
+join_word Xor = fixed_word fixed.Xor refl
+join_word And = fixed_word fixed.And refl
 
 separator_word : (s : Separator) → IsWord (separator_sign s) (word_of (separator_sign s))
 separator_word (separators.Connective c) = join_word c
-separator_word separators.Comma = fixed_word fixed.Comma
+separator_word separators.Comma = fixed_word fixed.Comma refl
 
 comparison_word : (o : Comparison) → IsWord (Compare o) (word_of (Compare o))
-comparison_word comparisons.Equal = fixed_word fixed.Equal
-comparison_word comparisons.Unequal = fixed_word fixed.Unequal
-comparison_word comparisons.Below = fixed_word fixed.Below
-comparison_word comparisons.AtMost = fixed_word fixed.AtMost
-comparison_word comparisons.Above = fixed_word fixed.Above
-comparison_word comparisons.AtLeast = fixed_word fixed.AtLeast
+comparison_word comparisons.Equal = fixed_word fixed.Equal refl
+comparison_word comparisons.Unequal = fixed_word fixed.Unequal refl
+comparison_word comparisons.Below = fixed_word fixed.Below refl
+comparison_word comparisons.AtMost = fixed_word fixed.AtMost refl
+comparison_word comparisons.Above = fixed_word fixed.Above refl
+comparison_word comparisons.AtLeast = fixed_word fixed.AtLeast refl
 
 relation_word : (r : Relation) → IsWord (Relate r) (word_of (Relate r))
-relation_word relations.StartsWith = fixed_word fixed.StartsWith
-relation_word relations.EndsWith = fixed_word fixed.EndsWith
-relation_word relations.Contains = fixed_word fixed.Contains
-relation_word relations.Matches = fixed_word fixed.Matches
+relation_word relations.StartsWith = fixed_word fixed.StartsWith refl
+relation_word relations.EndsWith = fixed_word fixed.EndsWith refl
+relation_word relations.Contains = fixed_word fixed.Contains refl
+relation_word relations.Matches = fixed_word fixed.Matches refl
 
 state_word : (s : State) → IsWord (Is s) (word_of (Is s))
-state_word states.Exists = fixed_word fixed.Exists
-state_word states.Missing = fixed_word fixed.Missing
-state_word states.IsEmpty = fixed_word fixed.IsEmpty
+state_word states.Exists = fixed_word fixed.Exists refl
+state_word states.Missing = fixed_word fixed.Missing refl
+state_word states.IsEmpty = fixed_word fixed.IsEmpty refl
+
+kind_word : (k : ValueKind) → IsWord (kind_sign k) (word_of (kind_sign k))
+kind_word value_kinds.Text = fixed_word fixed.Text refl
+kind_word value_kinds.Number = fixed_word fixed.Number refl
+kind_word value_kinds.Whole = fixed_word fixed.Whole refl
+kind_word value_kinds.Boolean = fixed_word fixed.Bool refl
+kind_word value_kinds.Array = fixed_word fixed.Array refl
+kind_word value_kinds.Object = fixed_word fixed.Object refl
+kind_word value_kinds.Null = fixed_word fixed.Null refl
 
 -- ---- the tokens of an expression
 
@@ -324,23 +402,26 @@ both_words [] us a b = b
 both_words (t ∷ ts) us a b = (a.0, both_words ts us a.1 b)
 
 closed_words : (ts : List Sign) → AreWords ts → AreWords (in_parentheses ts)
-closed_words ts a = (fixed_word fixed.Open, both_words ts (Close ∷ []) a (fixed_word fixed.Close, tt))
+closed_words ts a = (open_word, both_words ts (Close ∷ []) a (fixed_word fixed.Close refl, tt))
 
 items_words : (vs : List Value) → AreValues vs → AreWords (items_signs vs)
-items_words [] h = (fixed_word fixed.CloseList, tt)
-items_words (v ∷ []) h = (value_word v h.0, (fixed_word fixed.CloseList, tt))
-items_words (v ∷ w ∷ vs) h = (value_word v h.0, (fixed_word fixed.Comma, items_words (w ∷ vs) h.1))
+items_words [] h = (fixed_word fixed.CloseList refl, tt)
+items_words (v ∷ []) h = (value_word v h.0, (fixed_word fixed.CloseList refl, tt))
+items_words (v ∷ w ∷ vs) h = (value_word v h.0, (fixed_word fixed.Comma refl, items_words (w ∷ vs) h.1))
 
 test_words : (t : Test) → IsPlainTest t → AreWords (test_signs t)
 test_words (TheValueIs s) h = (state_word s, tt)
 test_words (Compares o v) h = (comparison_word o, (value_word v h, tt))
+test_words (ComparesWith o other) h = (comparison_word o, (path_word other h, tt))
+test_words (HasLength o n) h = (fixed_word fixed.Length refl, (comparison_word o, (value_word (Natural n) h, tt)))
+test_words (IsOfKind k) h = (fixed_word fixed.Is refl, (kind_word k, tt))
 test_words (Relates r text) h = (relation_word r, (text_word text h, tt))
-test_words (IsAmong vs) h = (fixed_word fixed.In, (fixed_word fixed.OpenList, items_words vs h))
+test_words (IsAmong vs) h = (fixed_word fixed.In refl, (open_list_word, items_words vs h))
 
 quantifier_words : (q : Quantifier) → IsPlainQuantifier q → AreWords (quantifier_signs q)
-quantifier_words quantifiers.Each h = (fixed_word fixed.Each, tt)
-quantifier_words quantifiers.Any h = (fixed_word fixed.Any, tt)
-quantifier_words (quantifiers.AtLeast k) h = (fixed_word fixed.At, (fixed_word fixed.Least, (value_word (Natural k) h, tt)))
+quantifier_words quantifiers.Each h = (fixed_word fixed.Each refl, tt)
+quantifier_words quantifiers.Any h = (fixed_word fixed.Any refl, tt)
+quantifier_words (quantifiers.AtLeast k) h = (fixed_word fixed.At refl, (fixed_word fixed.Least refl, (value_word (Natural k) h, tt)))
 
 placed_words : (b : Bool) (ts : List Sign) → AreWords ts → AreWords (cond b ts (in_parentheses ts))
 placed_words true ts a = a
@@ -349,12 +430,12 @@ placed_words false ts a = closed_words ts a
 mutual
   tree_words : (e : Tree) (l : Level) → IsPlain e → AreWords (signs_at l e)
   tree_words (At p t) l h = (path_word p h.0, test_words t h.1)
-  tree_words (Denied e) l h = (fixed_word fixed.Not, tree_words e Single h)
+  tree_words (Denied e) l h = (fixed_word fixed.Not refl, tree_words e Single h)
   tree_words (Quantified q p e) l h =
       both_words (quantifier_signs q) (Path p ∷ in_parentheses (signs_at (By Or) e)) (quantifier_words q h.2) (path_word p h.0, closed_words (signs_at (By Or) e) (tree_words e (By Or) h.1))
-  tree_words (Joined c es) l h = placed_words (fits l c) (part_signs (separators.Connective c) es) (part_words es (separators.Connective c) h)
+  tree_words (Joined c es) l h = placed_words (stands_at l c es) (part_signs (separators.Connective c) es) (part_words es (separators.Connective c) h)
   tree_words (AtLeast k es) l h =
-      (fixed_word fixed.At, (fixed_word fixed.Least, (value_word (Natural k) h.0, (fixed_word fixed.Of, closed_words (part_signs separators.Comma es) (part_words es separators.Comma h.1)))))
+      (fixed_word fixed.At refl, (fixed_word fixed.Least refl, (value_word (Natural k) h.0, (fixed_word fixed.Of refl, closed_words (part_signs separators.Comma es) (part_words es separators.Comma h.1)))))
 
   part_words : (es : Trees) (s : Separator) → ArePlain es → AreWords (part_signs s es)
   part_words none s h = tt
@@ -364,11 +445,45 @@ mutual
   follow_words none s h = tt
   follow_words (more e es) s h = (separator_word s, both_words (signs_at (part_level s) e) (follow_signs s es) (tree_words e (part_level s) h.0) (follow_words es s h.1))
 
-lexed : (ts : List Sign) → AreWords ts → (us : List (Sign × ℕ)) × (map (λ u. u.0) us ≡ ts ++ End ∷ []) × IsLexed (spaced ts) us
+-- ---- their layout
+
+-- a text that is these tokens
+abbrev Reads : List ℕ → List Sign → Type 0
+Reads text ts = (us : List (Sign × ℕ)) × (map (λ u. u.0) us ≡ ts ++ End ∷ []) × IsLexed text us
+
+past_space : (b : Bool) (text : List ℕ) (ts : List Sign) → Reads text ts → Reads (cond b [] (32 ∷ []) ++ text) ts
+past_space true text ts o = o
+past_space false text ts o = (o.0, o.1, space refl o.2)
+
+nothing_follows : (b : Bool) → (b || is_apart []) ≡ true
+nothing_follows true = refl
+nothing_follows false = refl
+
+-- what closes is a mark
+close_apart : (t : Sign) (text : List ℕ) → closes t ≡ true → is_apart (word_of t ++ text) ≡ true
+close_apart Close text h = refl
+close_apart CloseList text h = refl
+close_apart Comma text h = refl
+close_apart t text h = absurd cc
+
+gap_apart : (opening closing : Bool) (text : List ℕ) → (closing ≡ true → is_apart text ≡ true) → (opening || is_apart (cond (opening || closing) [] (32 ∷ []) ++ text)) ≡ true
+gap_apart true closing text h = refl
+gap_apart false true text h = h refl
+gap_apart false false text h = refl
+
+lexed_from : (ts : List Sign) (t : Sign) → AreWords (t ∷ ts) → Reads (word_of t ++ laid_behind t ts) (t ∷ ts)
+lexed_from [] t a = ((t, length (word_of t ++ [])) ∷ (End, 0) ∷ [], refl, token (a.0.1 [] (nothing_follows (opens t))) a.0.0 (over refl))
+lexed_from (u ∷ ts) t a =
+    let next : List ℕ = word_of u ++ laid_behind u ts in
+    let o = past_space (opens t || closes u) next (u ∷ ts) (lexed_from ts u a.1) in (
+      (t, length (word_of t ++ laid_behind t (u ∷ ts))) ∷ o.0,
+      ap (λ (vs : List Sign). t ∷ vs) o.1,
+      token (a.0.1 (gap t u ++ next) (gap_apart (opens t) (closes u) next (close_apart u (laid_behind u ts)))) a.0.0 o.2,
+    )
+
+lexed : (ts : List Sign) → AreWords ts → Reads (laid ts) ts
 lexed [] a = ((End, 0) ∷ [], refl, over refl)
-lexed (t ∷ ts) a =
-    let o = lexed ts a.1 in
-    ((t, length (spaced (t ∷ ts))) ∷ o.0, ap (λ (vs : List Sign). t ∷ vs) o.1, token (a.0.1 (spaced ts)) a.0.0 (space refl o.2))
+lexed (t ∷ ts) a = lexed_from ts t a
 
 pub printed_says : (n : ℕ) (e : Tree) → IsProper e → IsPlain e → nesting_at (By Or) e ≤ n → Says n (printed e) e
 printed_says n e p h le =

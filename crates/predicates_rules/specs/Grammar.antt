@@ -9,7 +9,9 @@ use Rattle.predicates_rules.specs.declared.parser.Separator.TheVariants as separ
 use Rattle.predicates_rules.specs.declared.condition.Comparison.{Comparison}
 use Rattle.predicates_rules.specs.declared.condition.Relation.{Relation}
 use Rattle.predicates_rules.specs.declared.condition.State.{State}
-use Rattle.predicates_rules.specs.Trees.{Value, Natural, Text, Sign, Join, Not, Each, Any, AtWord, Least, Of, Open, Close, OpenList, CloseList, Comma, Path, Compare, Relate, In, Is, Plain, End, Test, TheValueIs, Compares, Relates, IsAmong, Tree, At, Denied, Quantified, Joined, AtLeast, Trees, none, more}
+use Rattle.predicates_rules.specs.declared.condition.ValueKind.{ValueKind}
+use Rattle.predicates_rules.specs.declared.condition.ValueKind.TheVariants as value_kinds
+use Rattle.predicates_rules.specs.Trees.{Value, Natural, Text, Null, Sign, Join, Not, Each, Any, AtWord, Least, Of, Open, Close, OpenList, CloseList, Comma, Path, Compare, Relate, In, Is, Length, IsKind, KindName, Plain, End, Test, TheValueIs, Compares, ComparesWith, HasLength, IsOfKind, Relates, IsAmong, Tree, At, Denied, Quantified, Joined, AtLeast, Trees, none, more}
 
 -- How tightly an expression holds together: one joined by c or by what binds tighter, or a single
 -- one.
@@ -47,6 +49,14 @@ pub data IsTest : List Sign → Test → List Sign → Type 0 where
   word : {s : State} {rest : List Sign} → IsTest (Is s ∷ rest) (TheValueIs s) rest
   -- OPERATOR LITERAL
   compare : {o : Comparison} {v : Value} {rest : List Sign} → IsTest (Compare o ∷ Plain v ∷ rest) (Compares o v) rest
+  -- OPERATOR PATH
+  compare_with : {o : Comparison} {path : List ℕ} {rest : List Sign} → IsTest (Compare o ∷ Path path ∷ rest) (ComparesWith o path) rest
+  -- length OPERATOR NUMBER
+  has_length : {o : Comparison} {n : ℕ} {rest : List Sign} → IsTest (Length ∷ Compare o ∷ Plain (Natural n) ∷ rest) (HasLength o n) rest
+  -- is KIND
+  of_kind : {k : ValueKind} {rest : List Sign} → IsTest (IsKind ∷ KindName k ∷ rest) (IsOfKind k) rest
+  -- is null
+  of_null : {rest : List Sign} → IsTest (IsKind ∷ Plain Null ∷ rest) (IsOfKind value_kinds.Null) rest
   -- OPERATOR TEXT
   relate : {r : Relation} {text : List ℕ} {rest : List Sign} → IsTest (Relate r ∷ Plain (Text text) ∷ rest) (Relates r text) rest
   -- in [ ]

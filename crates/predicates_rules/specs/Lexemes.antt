@@ -1,18 +1,19 @@
 -- How each token is written.
-use Rattle.std.specs.Prelude.{◌≡◌, ℕ, Bool, true, false, not, ◌&&◌, ◌||◌, ◌==◌, nat_le, List, [], ◌∷◌, length, codes, Option, Some, None, option_map, if◌then◌else◌, take, drop, suc}
+use Rattle.std.specs.Prelude.{◌≡◌, ℕ, Bool, true, false, not, ◌&&◌, ◌||◌, ◌==◌, nat_le, nat_lt, List, [], ◌∷◌, length, codes, Option, Some, None, option_map, if◌then◌else◌, take, drop, suc}
 use Rattle.std.specs.List.{find, list_any, prefix_len}
 use Rattle.std.specs.Str.{bytes_eq, chars, is_utf8}
-use Rattle.serde_json.specs.Data.{Data, null, boolean, number, string, unsigned, negative}
+use Rattle.serde_json.specs.Data.{Data, null, boolean, number, string, unsigned, negative, float}
 use Rattle.serde_json.specs.Read.{read}
 use Rattle.predicates_rules.specs.declared.expression.Connective.TheVariants as connectives
 use Rattle.predicates_rules.specs.declared.condition.Comparison.TheVariants as comparisons
 use Rattle.predicates_rules.specs.declared.condition.Relation.TheVariants as relations
 use Rattle.predicates_rules.specs.declared.condition.State.TheVariants as states
+use Rattle.predicates_rules.specs.declared.condition.ValueKind.TheVariants as value_kinds
 use Rattle.predicates_rules.specs.declared.fixed.Fixed.{Fixed}
 use Rattle.predicates_rules.specs.declared.fixed.Fixed.TheVariants as fixed
 use Rattle.predicates_rules.specs.declared.lexer.Class.{Class}
 use Rattle.predicates_rules.specs.declared.lexer.Class.TheVariants.{Letter, Digit, Symbol, Mark, Slash, Quote, Space, Name, Other}
-use Rattle.predicates_rules.specs.Trees.{Value, Natural, Negative, Text, Boolean, Null, Sign, Join, Not, Each, Any, AtWord, Least, Of, Open, Close, OpenList, CloseList, Comma, Path, Compare, Relate, In, Is, Plain, End}
+use Rattle.predicates_rules.specs.Trees.{Value, Natural, Negative, Decimal, Text, Boolean, Null, Sign, Join, Not, Each, Any, AtWord, Least, Of, Open, Close, OpenList, CloseList, Comma, Path, Compare, Relate, In, Is, Length, IsKind, KindName, Plain, End}
 
 -- ---- tokens with a text of their own
 
@@ -34,6 +35,14 @@ text_of fixed.In = codes "in"
 text_of fixed.Exists = codes "exists"
 text_of fixed.Missing = codes "missing"
 text_of fixed.IsEmpty = codes "is_empty"
+text_of fixed.Length = codes "length"
+text_of fixed.Is = codes "is"
+text_of fixed.Text = codes "text"
+text_of fixed.Number = codes "number"
+text_of fixed.Whole = codes "whole"
+text_of fixed.Bool = codes "bool"
+text_of fixed.Array = codes "array"
+text_of fixed.Object = codes "object"
 text_of fixed.True = codes "true"
 text_of fixed.False = codes "false"
 text_of fixed.Null = codes "null"
@@ -67,6 +76,14 @@ sign_of_fixed fixed.In = In
 sign_of_fixed fixed.Exists = Is states.Exists
 sign_of_fixed fixed.Missing = Is states.Missing
 sign_of_fixed fixed.IsEmpty = Is states.IsEmpty
+sign_of_fixed fixed.Length = Length
+sign_of_fixed fixed.Is = IsKind
+sign_of_fixed fixed.Text = KindName value_kinds.Text
+sign_of_fixed fixed.Number = KindName value_kinds.Number
+sign_of_fixed fixed.Whole = KindName value_kinds.Whole
+sign_of_fixed fixed.Bool = KindName value_kinds.Boolean
+sign_of_fixed fixed.Array = KindName value_kinds.Array
+sign_of_fixed fixed.Object = KindName value_kinds.Object
 sign_of_fixed fixed.True = Plain (Boolean true)
 sign_of_fixed fixed.False = Plain (Boolean false)
 sign_of_fixed fixed.Null = Plain Null
@@ -83,7 +100,7 @@ sign_of_fixed fixed.CloseList = CloseList
 sign_of_fixed fixed.Comma = Comma
 
 abbrev pub all_fixed : List Fixed
-all_fixed = fixed.Or ∷ fixed.Xor ∷ fixed.And ∷ fixed.Not ∷ fixed.Each ∷ fixed.Any ∷ fixed.At ∷ fixed.Least ∷ fixed.Of ∷ fixed.StartsWith ∷ fixed.EndsWith ∷ fixed.Contains ∷ fixed.Matches ∷ fixed.In ∷ fixed.Exists ∷ fixed.Missing ∷ fixed.IsEmpty ∷ fixed.True ∷ fixed.False ∷ fixed.Null ∷ fixed.Equal ∷ fixed.Unequal ∷ fixed.Below ∷ fixed.AtMost ∷ fixed.Above ∷ fixed.AtLeast ∷ fixed.Open ∷ fixed.Close ∷ fixed.OpenList ∷ fixed.CloseList ∷ fixed.Comma ∷ []
+all_fixed = fixed.Or ∷ fixed.Xor ∷ fixed.And ∷ fixed.Not ∷ fixed.Each ∷ fixed.Any ∷ fixed.At ∷ fixed.Least ∷ fixed.Of ∷ fixed.StartsWith ∷ fixed.EndsWith ∷ fixed.Contains ∷ fixed.Matches ∷ fixed.In ∷ fixed.Exists ∷ fixed.Missing ∷ fixed.IsEmpty ∷ fixed.Length ∷ fixed.Is ∷ fixed.Text ∷ fixed.Number ∷ fixed.Whole ∷ fixed.Bool ∷ fixed.Array ∷ fixed.Object ∷ fixed.True ∷ fixed.False ∷ fixed.Null ∷ fixed.Equal ∷ fixed.Unequal ∷ fixed.Below ∷ fixed.AtMost ∷ fixed.Above ∷ fixed.AtLeast ∷ fixed.Open ∷ fixed.Close ∷ fixed.OpenList ∷ fixed.CloseList ∷ fixed.Comma ∷ []
 
 unfoldable pub fixed_at : List ℕ → Option Fixed
 fixed_at word = find (λ f. bytes_eq (text_of f) word) all_fixed
@@ -161,15 +178,33 @@ is_hidden c = is_between 128 160 c || c == 8199 || c == 8239 || c == 8288 || c =
 unfoldable pub is_shown : List ℕ → Bool
 is_shown word = is_utf8 word && not (list_any is_hidden (chars word))
 
+-- the control characters and the no-break spaces
+abbrev pub is_masked : ℕ → Bool
+is_masked c = is_hidden c || is_control c
+
+abbrev pub is_quoted : List ℕ → Bool
+is_quoted [] = false
+is_quoted (b ∷ text) = b == 34
+
+-- what is not empty, and of which each character shows
+unfoldable pub is_title : List ℕ → Bool
+is_title name = nat_lt 0 (length name) && not (list_any is_masked (chars name))
+
 -- ---- tokens
 
 -- a literal as JSON has it
 abbrev pub data_of : Value → Data
 data_of (Natural n) = number (unsigned n)
 data_of (Negative z) = number (negative z)
+data_of (Decimal text x) = number (float x)
 data_of (Text text) = string text
 data_of (Boolean b) = boolean b
 data_of Null = null
+
+-- a literal that keeps its text is written as that
+abbrev pub IsTextOf : Value → List ℕ → Type 0
+IsTextOf (Decimal text x) word = text ≡ word
+IsTextOf v word = Unit {0}
 
 abbrev pub begins_literal : Class → Bool
 begins_literal Digit = true
@@ -186,7 +221,7 @@ pub data IsWritten : Sign → List ℕ → Type 0 where
   -- a word, an operator or a mark
   fixed_text : (f : Fixed) → IsWritten (sign_of_fixed f) (text_of f)
   -- a number or a text in quotes: what JSON reads there
-  literal : (b : ℕ) (bytes : List ℕ) (v : Value) → begins_literal (class_of b) ≡ true → is_utf8 (b ∷ bytes) ≡ true → read (b ∷ bytes) ≡ Some (data_of v) → IsWritten (Plain v) (b ∷ bytes)
+  literal : (b : ℕ) (bytes : List ℕ) (v : Value) → begins_literal (class_of b) ≡ true → is_utf8 (b ∷ bytes) ≡ true → read (b ∷ bytes) ≡ Some (data_of v) → IsTextOf v (b ∷ bytes) → IsWritten (Plain v) (b ∷ bytes)
   path : (b : ℕ) (bytes : List ℕ) → class_of b ≡ Slash → is_shown (b ∷ bytes) ≡ true → IsWritten (Path (pointer (b ∷ bytes))) (b ∷ bytes)
 
 -- the end, or a comment

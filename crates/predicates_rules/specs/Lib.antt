@@ -9,3 +9,4 @@ pub mod Rules
 pub mod Heading
 pub mod Faults
 pub mod Printing
+pub mod Writing

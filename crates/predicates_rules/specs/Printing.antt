@@ -1,7 +1,9 @@
 -- How an expression is written, with no more parentheses than it needs.
-use Rattle.std.specs.Prelude.{◌≡◌, ℕ, suc, ◌<◌, ◌^◌, max, pos, negsuc, Bool, true, false, List, [], ◌∷◌, ◌++◌, if◌then◌else◌}
+use Rattle.std.specs.Prelude.{◌≡◌, ℕ, suc, Some, ◌<◌, ◌^◌, max, pos, negsuc, Float, Bool, true, false, ◌&&◌, ◌||◌, List, [], ◌∷◌, ◌++◌, if◌then◌else◌}
 use Rattle.std.specs.List.{list_all}
-use Rattle.std.specs.Str.{IsUtf8}
+use Rattle.std.specs.Str.{IsUtf8, is_utf8}
+use Rattle.serde_json.specs.Data.{number, float}
+use Rattle.serde_json.specs.Read.{read}
 use Rattle.serde_json.specs.Written.{compact_text}
 use Rattle.predicates_rules.specs.declared.expression.Connective.{Connective}
 use Rattle.predicates_rules.specs.declared.expression.Connective.TheVariants.{Or, Xor, And}
@@ -12,11 +14,13 @@ use Rattle.predicates_rules.specs.declared.parser.Separator.TheVariants as separ
 use Rattle.predicates_rules.specs.declared.condition.Comparison.TheVariants as comparisons
 use Rattle.predicates_rules.specs.declared.condition.Relation.TheVariants as relations
 use Rattle.predicates_rules.specs.declared.condition.State.TheVariants as states
+use Rattle.predicates_rules.specs.declared.condition.ValueKind.{ValueKind}
+use Rattle.predicates_rules.specs.declared.condition.ValueKind.TheVariants as value_kinds
 use Rattle.predicates_rules.specs.declared.fixed.Fixed.TheVariants as fixed
-use Rattle.predicates_rules.specs.declared.lexer.Class.TheVariants.{Slash}
-use Rattle.predicates_rules.specs.Trees.{Value, Natural, Negative, Text, Boolean, Null, Sign, Join, Not, Each, Any, AtWord, Least, Of, Open, Close, OpenList, CloseList, Comma, Path, Compare, Relate, In, Is, Plain, End, Test, TheValueIs, Compares, Relates, IsAmong, Tree, At, Denied, Quantified, Joined, AtLeast, Trees, none, more}
+use Rattle.predicates_rules.specs.declared.lexer.Class.TheVariants.{Digit, Slash}
+use Rattle.predicates_rules.specs.Trees.{Value, Natural, Negative, Decimal, Text, Boolean, Null, Sign, Join, Not, Each, Any, AtWord, Least, Of, Open, Close, OpenList, CloseList, Comma, Path, Compare, Relate, In, Is, Length, IsKind, KindName, Plain, End, Test, TheValueIs, Compares, ComparesWith, HasLength, IsOfKind, Relates, IsAmong, Tree, At, Denied, Quantified, Joined, AtLeast, Trees, none, more}
 use Rattle.predicates_rules.specs.Grammar.{Level, By, Single, separator_sign, part_level}
-use Rattle.predicates_rules.specs.Lexemes.{continues, is_shown, text_of, data_of}
+use Rattle.predicates_rules.specs.Lexemes.{class_of, continues, is_shown, text_of, data_of}
 
 -- ---- the tokens of an expression
 
@@ -26,9 +30,17 @@ items_signs [] = CloseList ∷ []
 items_signs (v ∷ []) = Plain v ∷ CloseList ∷ []
 items_signs (v ∷ w ∷ vs) = Plain v ∷ Comma ∷ items_signs (w ∷ vs)
 
+-- a kind of value, of which null is a literal
+abbrev pub kind_sign : ValueKind → Sign
+kind_sign value_kinds.Null = Plain Null
+kind_sign k = KindName k
+
 abbrev pub test_signs : Test → List Sign
 test_signs (TheValueIs s) = Is s ∷ []
 test_signs (Compares o v) = Compare o ∷ Plain v ∷ []
+test_signs (ComparesWith o path) = Compare o ∷ Path path ∷ []
+test_signs (HasLength o n) = Length ∷ Compare o ∷ Plain (Natural n) ∷ []
+test_signs (IsOfKind k) = IsKind ∷ kind_sign k ∷ []
 test_signs (Relates r text) = Relate r ∷ Plain (Text text) ∷ []
 test_signs (IsAmong vs) = In ∷ OpenList ∷ items_signs vs
 
@@ -49,12 +61,20 @@ fits (By Xor) c = true
 fits (By And) And = true
 fits (By And) c = false
 
+abbrev pub has_parts : Trees → Bool
+has_parts none = false
+has_parts (more e es) = true
+
+-- whether a join may stand at a level without parentheses
+abbrev pub stands_at : Level → Connective → Trees → Bool
+stands_at l c es = has_parts es && fits l c
+
 abbrev mutual
   pub signs_at : Level → Tree → List Sign
   signs_at l (At path t) = Path path ∷ test_signs t
   signs_at l (Denied e) = Not ∷ signs_at Single e
   signs_at l (Quantified q path e) = quantifier_signs q ++ Path path ∷ in_parentheses (signs_at (By Or) e)
-  signs_at l (Joined c es) = if fits l c then part_signs (separators.Connective c) es else in_parentheses (part_signs (separators.Connective c) es)
+  signs_at l (Joined c es) = if stands_at l c es then part_signs (separators.Connective c) es else in_parentheses (part_signs (separators.Connective c) es)
   signs_at l (AtLeast k es) = AtWord ∷ Least ∷ Plain (Natural k) ∷ Of ∷ in_parentheses (part_signs separators.Comma es)
 
   -- E s .. s E
@@ -73,7 +93,7 @@ abbrev mutual
   nesting_at l (At path t) = 0
   nesting_at l (Denied e) = suc (nesting_at Single e)
   nesting_at l (Quantified q path e) = suc (nesting_at (By Or) e)
-  nesting_at l (Joined c es) = if fits l c then parts_nesting (separators.Connective c) es else suc (parts_nesting (separators.Connective c) es)
+  nesting_at l (Joined c es) = if stands_at l c es then parts_nesting (separators.Connective c) es else suc (parts_nesting (separators.Connective c) es)
   nesting_at l (AtLeast k es) = suc (parts_nesting separators.Comma es)
 
   pub parts_nesting : Separator → Trees → ℕ
@@ -107,6 +127,11 @@ abbrev pub path_text : List ℕ → List ℕ
 path_text [] = 47 ∷ []
 path_text (b ∷ bytes) = b ∷ bytes
 
+-- a literal as JSON writes it, or as it was written
+abbrev pub value_text : Value → List ℕ
+value_text (Decimal text x) = text
+value_text v = compact_text (data_of v)
+
 abbrev pub word_of : Sign → List ℕ
 word_of (Join Or) = text_of fixed.Or
 word_of (Join Xor) = text_of fixed.Xor
@@ -137,16 +162,47 @@ word_of In = text_of fixed.In
 word_of (Is states.Exists) = text_of fixed.Exists
 word_of (Is states.Missing) = text_of fixed.Missing
 word_of (Is states.IsEmpty) = text_of fixed.IsEmpty
-word_of (Plain v) = compact_text (data_of v)
+word_of Length = text_of fixed.Length
+word_of IsKind = text_of fixed.Is
+word_of (KindName value_kinds.Text) = text_of fixed.Text
+word_of (KindName value_kinds.Number) = text_of fixed.Number
+word_of (KindName value_kinds.Whole) = text_of fixed.Whole
+word_of (KindName value_kinds.Boolean) = text_of fixed.Bool
+word_of (KindName value_kinds.Array) = text_of fixed.Array
+word_of (KindName value_kinds.Object) = text_of fixed.Object
+word_of (KindName value_kinds.Null) = text_of fixed.Null
+word_of (Plain v) = value_text v
 word_of End = []
 
--- each token with a space behind it
-abbrev pub spaced : List Sign → List ℕ
-spaced [] = []
-spaced (t ∷ ts) = word_of t ++ 32 ∷ spaced ts
+-- whether the next token follows at once
+abbrev pub opens : Sign → Bool
+opens Open = true
+opens OpenList = true
+opens t = false
+
+-- whether it follows the token before at once
+abbrev pub closes : Sign → Bool
+closes Close = true
+closes CloseList = true
+closes Comma = true
+closes t = false
+
+-- what stands between two tokens
+abbrev pub gap : Sign → Sign → List ℕ
+gap t u = if opens t || closes u then [] else 32 ∷ []
+
+-- the tokens behind t
+abbrev pub laid_behind : Sign → List Sign → List ℕ
+laid_behind t [] = []
+laid_behind t (u ∷ ts) = gap t u ++ (word_of u ++ laid_behind u ts)
+
+-- the tokens as a rule lays them out
+abbrev pub laid : List Sign → List ℕ
+laid [] = []
+laid (t ∷ ts) = word_of t ++ laid_behind t ts
 
 abbrev pub printed : Tree → List ℕ
-printed e = spaced (signs_at (By Or) e)
+printed e = laid (signs_at (By Or) e)
 
 -- a path that a rule can write: empty, or / and more that shows, with no space, mark, operator or #
 abbrev pub IsPath : List ℕ → Type 0
@@ -154,11 +210,18 @@ IsPath [] = Unit {0}
 IsPath (b ∷ []) = ⊥
 IsPath (b ∷ c ∷ bytes) = (b ≡ 47) × (list_all (continues Slash) (c ∷ bytes) ≡ true) × (is_shown (b ∷ c ∷ bytes) ≡ true)
 
+-- one word of a number that JSON reads as x
+abbrev pub IsDecimal : List ℕ → Float → Type 0
+IsDecimal [] x = ⊥
+IsDecimal (b ∷ bytes) x =
+    (class_of b ≡ Digit) × (list_all (continues Digit) bytes ≡ true) × (is_utf8 (b ∷ bytes) ≡ true) × (read (b ∷ bytes) ≡ Some (number (float x)))
+
 -- a literal that Rust holds
 abbrev pub IsValue : Value → Type 0
 IsValue (Natural n) = n < 2 ^ 64
 IsValue (Negative (pos n)) = ⊥
 IsValue (Negative (negsuc n)) = n < 2 ^ 63
+IsValue (Decimal text x) = IsDecimal text x
 IsValue (Text text) = IsUtf8 text
 IsValue (Boolean b) = Unit {0}
 IsValue Null = Unit {0}
@@ -170,6 +233,9 @@ AreValues (v ∷ vs) = IsValue v × AreValues vs
 abbrev pub IsPlainTest : Test → Type 0
 IsPlainTest (TheValueIs s) = Unit {0}
 IsPlainTest (Compares o v) = IsValue v
+IsPlainTest (ComparesWith o path) = IsPath path
+IsPlainTest (HasLength o n) = IsValue (Natural n)
+IsPlainTest (IsOfKind k) = Unit {0}
 IsPlainTest (Relates r text) = IsUtf8 text
 IsPlainTest (IsAmong vs) = AreValues vs
 

@@ -6,11 +6,14 @@ use Rattle.predicates_rules.specs.declared.expression.Quantifier.{Quantifier}
 use Rattle.predicates_rules.specs.declared.expression.Quantifier.TheVariants as quantifiers
 use Rattle.predicates_rules.specs.declared.parser.Separator.{Separator}
 use Rattle.predicates_rules.specs.declared.parser.Separator.TheVariants as separators
+use Rattle.predicates_rules.specs.declared.condition.Comparison.{Comparison}
+use Rattle.predicates_rules.specs.declared.condition.ValueKind.{ValueKind}
+use Rattle.predicates_rules.specs.declared.condition.ValueKind.TheVariants as value_kinds
 use Rattle.predicates_rules.specs.declared.error.Expected.{Expected}
 use Rattle.predicates_rules.specs.declared.error.Expected.TheVariants as expected
 use Rattle.predicates_rules.specs.declared.error.Reason.TheVariants.{TooDeep}
 use Rattle.predicates_rules.specs.declared.stop.Stop.{Stop}
-use Rattle.predicates_rules.specs.Trees.{Value, Natural, Text, Sign, Join, Not, Each, Any, AtWord, Least, Of, Open, Close, OpenList, CloseList, Comma, Path, Compare, Relate, In, Is, Plain, End, Test, TheValueIs, Compares, Relates, IsAmong, Tree, At, Denied, Quantified, Joined, AtLeast, Trees, none, more}
+use Rattle.predicates_rules.specs.Trees.{Value, Natural, Text, Null, Sign, Join, Not, Each, Any, AtWord, Least, Of, Open, Close, OpenList, CloseList, Comma, Path, Compare, Relate, In, Is, Length, IsKind, KindName, Plain, End, Test, TheValueIs, Compares, ComparesWith, HasLength, IsOfKind, Relates, IsAmong, Tree, At, Denied, Quantified, Joined, AtLeast, Trees, none, more}
 use Rattle.predicates_rules.specs.Grammar.{Level, By, Single, tighter}
 use Rattle.predicates_rules.specs.Answers.{◌>>=◌, stops}
 
@@ -50,9 +53,37 @@ unfoldable pub text_at : List Sign → Result (List ℕ × List Sign) Stop
 text_at (Plain (Text text) ∷ ts) = Ok (text, ts)
 text_at ts = fails expected.Text ts
 
+unfoldable pub count_at : List Sign → Result (ℕ × List Sign) Stop
+count_at (Plain (Natural k) ∷ ts) = Ok (k, ts)
+count_at ts = fails expected.Count ts
+
+-- what a value is compared with
+unfoldable pub compared_at : Comparison → List Sign → Result (Test × List Sign) Stop
+compared_at o (Plain v ∷ ts) = Ok (Compares o v, ts)
+compared_at o (Path path ∷ ts) = Ok (ComparesWith o path, ts)
+compared_at o ts = fails expected.Operand ts
+
+unfoldable pub comparison_at : List Sign → Result (Comparison × List Sign) Stop
+comparison_at (Compare o ∷ ts) = Ok (o, ts)
+comparison_at ts = fails expected.Comparison ts
+
+-- what a length is compared with
+unfoldable pub length_at : List Sign → Result (Test × List Sign) Stop
+length_at ts = do
+  o ← comparison_at ts
+  n ← count_at o.1
+  Ok (HasLength o.0 n.0, n.1)
+
+unfoldable pub kind_at : List Sign → Result (ValueKind × List Sign) Stop
+kind_at (KindName k ∷ ts) = Ok (k, ts)
+kind_at (Plain Null ∷ ts) = Ok (value_kinds.Null, ts)
+kind_at ts = fails expected.Kind ts
+
 unfoldable pub test_at : List Sign → Result (Test × List Sign) Stop
 test_at (Is s ∷ ts) = Ok (TheValueIs s, ts)
-test_at (Compare o ∷ ts) = literal_at ts >>= λ x. Ok (Compares o x.0, x.1)
+test_at (Compare o ∷ ts) = compared_at o ts
+test_at (Length ∷ ts) = length_at ts
+test_at (IsKind ∷ ts) = kind_at ts >>= λ x. Ok (IsOfKind x.0, x.1)
 test_at (Relate r ∷ ts) = text_at ts >>= λ x. Ok (Relates r x.0, x.1)
 test_at (In ∷ ts) = do
   us ← after_bracket ts
@@ -76,10 +107,6 @@ after_close x ts = fails x ts
 unfoldable pub after_least : List Sign → Result (List Sign) Stop
 after_least (Least ∷ ts) = Ok ts
 after_least ts = fails expected.Least ts
-
-unfoldable pub count_at : List Sign → Result (ℕ × List Sign) Stop
-count_at (Plain (Natural k) ∷ ts) = Ok (k, ts)
-count_at ts = fails expected.Count ts
 
 abbrev pub same : Connective → Connective → Bool
 same Or Or = true

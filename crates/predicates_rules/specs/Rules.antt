@@ -6,9 +6,9 @@ use Rattle.predicates_rules.specs.declared.lexer.Class.TheVariants.{Space, Name}
 use Rattle.predicates_rules.specs.declared.rule.Rule.{Rule}
 use Rattle.predicates_rules.specs.declared.error.RulesError.{RulesError}
 use Rattle.predicates_rules.specs.declared.error.RulesError.TheVariants.{NoMemory, Unreadable}
-use Rattle.predicates_rules.specs.Trees.{Sign, Tree, tree_of}
+use Rattle.predicates_rules.specs.Trees.{Text, Sign, Plain, Tree, tree_of}
 use Rattle.predicates_rules.specs.Grammar.{IsSpelled}
-use Rattle.predicates_rules.specs.Lexemes.{continues, is_over, is_shown, IsLexed}
+use Rattle.predicates_rules.specs.Lexemes.{continues, cut, is_over, is_quoted, is_shown, is_title, IsWritten, IsLexed}
 
 -- the text is spaces and tokens, and the tokens spell the expression, which nests at most n deep
 abbrev pub Says : ℕ → List ℕ → Tree → Type 0
@@ -18,8 +18,11 @@ abbrev pub after_spaces : List ℕ → List ℕ
 after_spaces line = drop (prefix_len (continues Space) line) line
 
 -- behind spaces the line begins with the name of a rule, a colon and a text
-abbrev pub Heads : List ℕ → List ℕ → List ℕ → Type 0
-Heads line name text = (0 < length name) × (list_all (continues Name) name ≡ true) × (is_shown name ≡ true) × (after_spaces line ≡ name ++ 58 ∷ text)
+pub data Heads : List ℕ → List ℕ → List ℕ → Type 0 where
+  -- as it is
+  bare : {line name text : List ℕ} → 0 < length name → list_all (continues Name) name ≡ true → is_shown name ≡ true → after_spaces line ≡ name ++ 58 ∷ text → Heads line name text
+  -- in quotes
+  quoted : {line word name text : List ℕ} → is_quoted (after_spaces line) ≡ true → cut (after_spaces line) ≡ Some (word, 58 ∷ text) → IsWritten (Plain (Text name)) word → is_title name ≡ true → Heads line name text
 
 -- a line, and its rule if it has one
 pub data IsLine : ℕ → List ℕ → Option (List ℕ × Tree) → Type 0 where

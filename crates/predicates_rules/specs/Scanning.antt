@@ -10,27 +10,27 @@ use Rattle.predicates_rules.specs.declared.stop.Stop.{Stop}
 use Rattle.predicates_rules.specs.declared.token.Token.{Token}
 use Rattle.predicates_rules.specs.declared.lexer.Class.{Class}
 use Rattle.predicates_rules.specs.declared.lexer.Class.TheVariants.{Letter, Digit, Symbol, Mark, Slash, Quote, Other}
-use Rattle.predicates_rules.specs.Trees.{Value, Natural, Negative, Text, Boolean, Null, Sign, Path, Plain, sign_of}
+use Rattle.predicates_rules.specs.Trees.{Value, Natural, Negative, Decimal, Text, Boolean, Null, Sign, Path, Plain, sign_of}
 use Rattle.predicates_rules.specs.Answers.{◌>>=◌, stops}
 use Rattle.predicates_rules.specs.Lexemes.{class_of, is_space, fixed_at, sign_of_fixed, cut, is_shown, pointer}
 
--- a number with no fraction
-abbrev pub number_in : Num → Option Value
-number_in (unsigned n) = Some (Natural n)
-number_in (negative z) = Some (Negative z)
-number_in (float x) = None
+-- the number that a word is
+abbrev pub number_in : List ℕ → Num → Value
+number_in word (unsigned n) = Natural n
+number_in word (negative z) = Negative z
+number_in word (float x) = Decimal word x
 
--- the literal that JSON's data are
-abbrev pub value_in : Data → Option Value
-value_in null = Some Null
-value_in (boolean b) = Some (Boolean b)
-value_in (number n) = number_in n
-value_in (string text) = Some (Text text)
-value_in (array ds) = None
-value_in (object ms) = None
+-- the literal that JSON's data are, where they are read from a word
+abbrev pub value_in : List ℕ → Data → Option Value
+value_in word null = Some Null
+value_in word (boolean b) = Some (Boolean b)
+value_in word (number n) = Some (number_in word n)
+value_in word (string text) = Some (Text text)
+value_in word (array ds) = None
+value_in word (object ms) = None
 
 unfoldable pub value_at : List ℕ → Option Value
-value_at word = if is_utf8 word then option_and_then value_in (read word) else None
+value_at word = if is_utf8 word then option_and_then (value_in word) (read word) else None
 
 abbrev pub sign_or : ℕ → Option Fixed → Result Sign Stop
 sign_or left None = stops expected.Token left

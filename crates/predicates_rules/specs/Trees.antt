@@ -1,10 +1,11 @@
 -- Tokens and expressions without where they lie in memory.
-use Rattle.std.specs.Prelude.{ℕ, ℤ, Bool, List, [], ◌∷◌, map, string_bytes, box_value}
+use Rattle.std.specs.Prelude.{ℕ, ℤ, Float, Bool, List, [], ◌∷◌, map, string_bytes, box_value}
 use Rattle.predicates_rules.specs.declared.expression.Connective.{Connective}
 use Rattle.predicates_rules.specs.declared.expression.Quantifier.{Quantifier}
 use Rattle.predicates_rules.specs.declared.condition.Comparison.{Comparison}
 use Rattle.predicates_rules.specs.declared.condition.Relation.{Relation}
 use Rattle.predicates_rules.specs.declared.condition.State.{State}
+use Rattle.predicates_rules.specs.declared.condition.ValueKind.{ValueKind}
 use Rattle.predicates_rules.specs.declared.condition.Condition.{Condition}
 use Rattle.predicates_rules.specs.declared.condition.Condition.TheVariants as conditions
 use Rattle.predicates_rules.specs.declared.literal.Literal.{Literal}
@@ -18,6 +19,8 @@ use Rattle.predicates_rules.specs.declared.expression.Expression.TheOpen.{Expres
 pub data Value : Type 0 where
   Natural : (n : ℕ) → Value
   Negative : (z : ℤ) → Value
+  -- a number as it is written, and the float that JSON reads there
+  Decimal : (text : List ℕ) → (x : Float) → Value
   Text : (text : List ℕ) → Value
   Boolean : (b : Bool) → Value
   Null : Value
@@ -40,6 +43,10 @@ pub data Sign : Type 0 where
   Relate : (r : Relation) → Sign
   In : Sign
   Is : (s : State) → Sign
+  Length : Sign
+  -- the word before the kind of a value
+  IsKind : Sign
+  KindName : (k : ValueKind) → Sign
   Plain : (v : Value) → Sign
   -- behind all others
   End : Sign
@@ -47,6 +54,9 @@ pub data Sign : Type 0 where
 pub data Test : Type 0 where
   TheValueIs : (s : State) → Test
   Compares : (o : Comparison) → (v : Value) → Test
+  ComparesWith : (o : Comparison) → (path : List ℕ) → Test
+  HasLength : (o : Comparison) → (n : ℕ) → Test
+  IsOfKind : (k : ValueKind) → Test
   Relates : (r : Relation) → (text : List ℕ) → Test
   IsAmong : (vs : List Value) → Test
 
@@ -69,6 +79,7 @@ trees_of (e ∷ es) = more e (trees_of es)
 abbrev pub value_of : Literal → Value
 value_of (literals.Natural n) = Natural n
 value_of (literals.Negative z) = Negative z
+value_of (literals.Decimal text x) = Decimal (string_bytes text) x
 value_of (literals.Text text) = Text (string_bytes text)
 value_of (literals.Boolean b) = Boolean b
 value_of literals.Null = Null
@@ -91,6 +102,9 @@ sign_of (kinds.Comparison o) = Compare o
 sign_of (kinds.Relation r) = Relate r
 sign_of kinds.In = In
 sign_of (kinds.State s) = Is s
+sign_of kinds.Length = Length
+sign_of kinds.Is = IsKind
+sign_of (kinds.ValueKind k) = KindName k
 sign_of (kinds.Literal v) = Plain (value_of v)
 sign_of kinds.End = End
 
@@ -100,6 +114,9 @@ signs ts = map (λ t. sign_of t.kind) ts
 abbrev pub test_of : Condition → Test
 test_of (conditions.Is s) = TheValueIs s
 test_of (conditions.Compare o v) = Compares o (value_of v)
+test_of (conditions.CompareWith o path) = ComparesWith o (string_bytes path)
+test_of (conditions.Length o n) = HasLength o n
+test_of (conditions.IsOf k) = IsOfKind k
 test_of (conditions.Relate r text) = Relates r (string_bytes text)
 test_of (conditions.In vs) = IsAmong (map value_of vs.items)
 

@@ -31,11 +31,32 @@ pub enum Relation {
     Matches,
 }
 
+/// What kind of JSON a value is.
+#[derive(Clone, Copy, Debug, PartialEq, Eq)]
+pub enum ValueKind {
+    Text,
+    /// Any number.
+    Number,
+    /// A number that JSON reads as a whole one of 64 bits: from -2^63 to 2^64 - 1, with no point
+    /// and no exponent, and not `-0`.
+    Whole,
+    Boolean,
+    Array,
+    Object,
+    Null,
+}
+
 /// What a test says of a value.
 #[derive(Debug, Drop)]
 pub enum Condition {
     Is(State),
     Compare(Comparison, Literal),
+    /// How it compares with the value at another path, a pointer from where the first one begins.
+    CompareWith(Comparison, String),
+    /// How its length compares with a number: a text has characters, an array items, an object
+    /// members.
+    Length(Comparison, u64),
+    IsOf(ValueKind),
     Relate(Relation, String),
     /// It is one of these, of which there may be none.
     In(Vec<Literal>),

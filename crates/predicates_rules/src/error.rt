@@ -8,7 +8,7 @@ use std::fmt;
 /// What could have stood at a place.
 #[derive(Clone, Copy, Debug, PartialEq, Eq)]
 pub enum Expected {
-    /// The name of a rule.
+    /// The name of a rule, which may be a text in quotes of which each character shows.
     Name,
     /// The colon behind a rule's name.
     Colon,
@@ -18,6 +18,12 @@ pub enum Expected {
     /// An operator, or a word such as `exists`.
     Condition,
     Literal,
+    /// What a value is compared with: a literal, or the path of another value.
+    Operand,
+    /// One of the six operators that compare.
+    Comparison,
+    /// The word for the kind of a value.
+    Kind,
     /// A text, as the operator before it takes nothing else.
     Text,
     /// The bracket that opens a list.
@@ -26,7 +32,7 @@ pub enum Expected {
     ListGoesOn,
     /// The word `least` behind `at`.
     Least,
-    /// The number behind `at least`.
+    /// The number behind `at least`, or that a length is compared with.
     Count,
     /// What is counted: `of` before expressions, or the path of a list.
     Counted,
@@ -39,7 +45,8 @@ pub enum Expected {
     End,
     /// A word, an operator, a path or a literal.
     Token,
-    /// A whole number of 64 bits with no zero in front.
+    /// A number as JSON writes it, with no zero in front, which is not too large for a 64-bit
+    /// float.
     Number,
     /// A text with JSON's escapes alone.
     Escapes,
@@ -56,8 +63,11 @@ impl fmt::Display for Expected {
             Expected::Colon => "`:` behind the name of a rule",
             Expected::Expression => "a path, `not`, `each`, `any`, `at` or `(`",
             Expected::Path => "a path",
-            Expected::Condition => "an operator, `exists`, `missing` or `is_empty`",
+            Expected::Condition => "an operator, `exists`, `missing`, `is_empty`, `length` or `is`",
             Expected::Literal => "a literal",
+            Expected::Operand => "a literal or a path",
+            Expected::Comparison => "`==`, `!=`, `<`, `<=`, `>` or `>=`",
+            Expected::Kind => "`text`, `number`, `whole`, `bool`, `array`, `object` or `null`",
             Expected::Text => "a text in quotes",
             Expected::List => "`[`",
             Expected::ListGoesOn => "`,` or `]`",
@@ -69,7 +79,7 @@ impl fmt::Display for Expected {
             Expected::Close => "`)`, `or`, `xor` or `and`",
             Expected::End => "the end of the line, `or`, `xor` or `and`",
             Expected::Token => "a word, an operator, a path or a literal",
-            Expected::Number => "a whole number from -2^63 to 2^64 - 1",
+            Expected::Number => "a number as JSON writes it, in the range of a 64-bit float",
             Expected::Escapes => "a text as JSON writes it",
             Expected::Quote => "the quote that ends the text",
             Expected::Utf8 => "text in UTF-8 without no-break spaces",

@@ -6,7 +6,7 @@ ghost use Rattle.std.specs.Str.{bytes_eq};
 ghost use Rattle.predicates_rules.specs.Trees.{sign_of};
 ghost use Rattle.predicates_rules.specs.Lexemes.{text_of, sign_of_fixed, fixed_at};
 
-use crate::condition::{Comparison, Relation, State};
+use crate::condition::{Comparison, Relation, State, ValueKind};
 use crate::expression::Connective;
 use crate::literal::Literal;
 use crate::token::Kind;
@@ -30,6 +30,14 @@ pub enum Fixed {
     Exists,
     Missing,
     IsEmpty,
+    Length,
+    Is,
+    Text,
+    Number,
+    Whole,
+    Bool,
+    Array,
+    Object,
     True,
     False,
     Null,
@@ -47,7 +55,7 @@ pub enum Fixed {
 }
 
 /// All of them.
-pub const ALL: [Fixed; 31] = [
+pub const ALL: [Fixed; 39] = [
     Fixed::Or,
     Fixed::Xor,
     Fixed::And,
@@ -65,6 +73,14 @@ pub const ALL: [Fixed; 31] = [
     Fixed::Exists,
     Fixed::Missing,
     Fixed::IsEmpty,
+    Fixed::Length,
+    Fixed::Is,
+    Fixed::Text,
+    Fixed::Number,
+    Fixed::Whole,
+    Fixed::Bool,
+    Fixed::Array,
+    Fixed::Object,
     Fixed::True,
     Fixed::False,
     Fixed::Null,
@@ -103,6 +119,14 @@ pub fn text(fixed: Fixed) -> &'static [u8]
         Fixed::Exists => b"exists",
         Fixed::Missing => b"missing",
         Fixed::IsEmpty => b"is_empty",
+        Fixed::Length => b"length",
+        Fixed::Is => b"is",
+        Fixed::Text => b"text",
+        Fixed::Number => b"number",
+        Fixed::Whole => b"whole",
+        Fixed::Bool => b"bool",
+        Fixed::Array => b"array",
+        Fixed::Object => b"object",
         Fixed::True => b"true",
         Fixed::False => b"false",
         Fixed::Null => b"null",
@@ -142,6 +166,14 @@ pub fn kind(fixed: Fixed) -> Kind
         Fixed::Exists => Kind::State(State::Exists),
         Fixed::Missing => Kind::State(State::Missing),
         Fixed::IsEmpty => Kind::State(State::IsEmpty),
+        Fixed::Length => Kind::Length,
+        Fixed::Is => Kind::Is,
+        Fixed::Text => Kind::ValueKind(ValueKind::Text),
+        Fixed::Number => Kind::ValueKind(ValueKind::Number),
+        Fixed::Whole => Kind::ValueKind(ValueKind::Whole),
+        Fixed::Bool => Kind::ValueKind(ValueKind::Boolean),
+        Fixed::Array => Kind::ValueKind(ValueKind::Array),
+        Fixed::Object => Kind::ValueKind(ValueKind::Object),
         Fixed::True => Kind::Literal(Literal::Boolean(true)),
         Fixed::False => Kind::Literal(Literal::Boolean(false)),
         Fixed::Null => Kind::Literal(Literal::Null),

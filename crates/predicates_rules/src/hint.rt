@@ -29,7 +29,7 @@ impl fmt::Display for Hint {
 }
 
 // What other languages write, and what a rule writes.
-const OTHER_NAMES: [(&str, &str); 22] = [
+const OTHER_NAMES: [(&str, &str); 26] = [
     ("=", "=="),
     ("===", "=="),
     ("!==", "!="),
@@ -37,7 +37,6 @@ const OTHER_NAMES: [(&str, &str); 22] = [
     ("=<", "<="),
     ("=>", ">="),
     ("!", "not"),
-    ("is", "=="),
     ("eq", "=="),
     ("equals", "=="),
     ("ne", "!="),
@@ -52,6 +51,11 @@ const OTHER_NAMES: [(&str, &str); 22] = [
     ("begins_with", "starts_with"),
     ("like", "matches"),
     ("nil", "null"),
+    ("len", "length"),
+    ("string", "text"),
+    ("integer", "whole"),
+    ("int", "whole"),
+    ("boolean", "bool"),
 ];
 
 fn other_name(word: &str) -> Option<&'static str> {
@@ -66,7 +70,7 @@ fn other_name(word: &str) -> Option<&'static str> {
 // Longer ones are misspelt from no word.
 const LONGEST_WORD: usize = 16;
 
-// The word of rules that is nearest, if less than a third of the letters differ.
+// The word of rules that is nearest, if at most a third of the letters differ.
 fn nearest(alloc: Global, word: &str) -> Result<Option<&'static str>, AllocError> {
     if word.len() > LONGEST_WORD {
         return Ok(None);
@@ -146,6 +150,14 @@ fn unknown_word(
     })
 }
 
+// Of a word of rules that stands where none can.
+fn known_word(reason: Reason, after: &[u8]) -> Option<Hint> {
+    match reason {
+        Reason::Expected(Expected::Expression) if is_compared(after) => Some(Hint::Path),
+        _ => None,
+    }
+}
+
 // Whether a token of an expression was expected; else a name, or another end of a token.
 fn is_of_expression(reason: Reason) -> bool {
     match reason {
@@ -180,7 +192,7 @@ pub(crate) fn hint_at(
         Some('|') => Ok(Some(Hint::Meant("or"))),
         Some('\'' | '\u{2018}' | '\u{201c}') => Ok(Some(Hint::Text)),
         Some(c) if c.is_alphabetic() || c == '_' || c == '$' => match fixed_of(found) {
-            Some(_) => Ok(None),
+            Some(_) => Ok(known_word(reason, after)),
             None => unknown_word(alloc, before, word, after),
         },
         _ => Ok(None),

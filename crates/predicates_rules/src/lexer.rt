@@ -5,8 +5,9 @@ ghost use Rattle.std.specs.List.{list_any, prefix_len};
 ghost use Rattle.std.specs.Str.{chars};
 ghost use Rattle.serde_json.specs.View.{view, number_view};
 ghost use Rattle.predicates_rules.specs.Trees.{Sign, sign_of, value_of};
-ghost use Rattle.predicates_rules.specs.Lexemes.{class_of, continues, is_control, is_hidden, is_shown, is_space, is_over, text_end, token_len, cut, pointer, IsLexed};
+ghost use Rattle.predicates_rules.specs.Lexemes.{class_of, continues, is_control, is_hidden, is_masked, is_quoted, is_shown, is_title, is_space, is_over, text_end, token_len, cut, pointer, IsLexed};
 ghost use Rattle.predicates_rules.specs.Scanning.{number_in, value_in, value_at, front_class, path_or, sign_in, token_at, after_space, placed};
+ghost use Rattle.predicates_rules.specs.Heading.{title_or};
 ghost use Rattle.predicates_rules.specs.Answers.{Gives, IsStop, stop_at};
 ghost use Rattle.predicates_rules.specs.Faults.{NoToken, told_class, told_len};
 
@@ -16,7 +17,7 @@ use crate::literal::Literal;
 use crate::stop::{ReadError, Stop};
 use crate::token::{Kind, Token};
 use serde_json::{Number, Value};
-use std::alloc::Global;
+use std::alloc::{AllocError, Global};
 use std::str::from_utf8;
 
 /// Bytes that belong together: tokens by their first byte, spaces, and the name of a rule.
@@ -170,29 +171,33 @@ fn front(text: &[u8]) -> Option<(&[u8], &[u8])>
     Some(text.split_at(len))
 }
 
-fn whole(number: Number) -> Option<Literal>
-    ensures { option_map value_of result ≡ number_in (number_view number) }
+fn number_of(alloc: Global, text: &str, number: Number) -> Result<Literal, AllocError>
+    ensures { IfOk result (λ v. value_of v ≡ number_in text.now (number_view number)) }
 {
     if let Some(n) = number.as_u64() {
-        return Some(Literal::Natural(n));
+        return Ok(Literal::Natural(n));
     }
-    match number.as_i64() {
-        Some(n) => Some(Literal::Negative(n)),
-        None => None,
+    if let Some(n) = number.as_i64() {
+        return Ok(Literal::Negative(n));
     }
+    Ok(Literal::Decimal {
+        text: String::from_str(alloc, text)?,
+        value: number.as_f64().unwrap_or(0.0),
+    })
 }
 
-fn literal_of(value: Value) -> Option<Literal>
-    ensures { option_map value_of result ≡ value_in (view value) }
+// The literal that a value is, which was read from this text.
+fn literal_of(alloc: Global, text: &str, value: Value) -> Result<Option<Literal>, AllocError>
+    ensures { IfOk result (λ o. option_map value_of o ≡ value_in text.now (view value)) }
 {
-    match value {
+    Ok(match value {
         Value::Null => Some(Literal::Null),
         Value::Bool(b) => Some(Literal::Boolean(b)),
-        Value::Number(n) => whole(n),
+        Value::Number(n) => Some(number_of(alloc, text, n)?),
         Value::String(text) => Some(Literal::Text(text)),
         Value::Array(_) => None,
         Value::Object(_) => None,
-    }
+    })
 }
 
 // The literal that JSON reads.
@@ -204,7 +209,7 @@ fn literal(alloc: Global, word: &[u8]) -> Result<Option<Literal>, ReadError>
         return Ok(None);
     };
     match Value::from_str(alloc, text) {
-        Ok(value) => Ok(literal_of(value)),
+        Ok(value) => Ok(literal_of(alloc, text, value)?),
         Err(error) => {
             if error.is_memory() {
                 Err(ReadError::Memory)
@@ -263,6 +268,51 @@ pub fn shown(bytes: &[u8]) -> Option<&str>
     }
 }
 
+fn is_masked(c: char) -> bool
+    ensures { result ≡ is_masked c }
+{
+    is_hidden(c) || c < ' ' || c == '\u{7f}'
+}
+
+fn masks(text: &str) -> bool
+    ensures { result ≡ list_any is_masked (chars text.now) }
+{
+    text.chars().any(|c| is_masked(c))
+}
+
+#[tactic(auto, unfolding(crate::specs::Lexemes::is_title))]
+fn is_title(text: &str) -> bool
+    ensures { result ≡ is_title text.now }
+{
+    !text.is_empty() && !masks(text)
+}
+
+/// The name that a text in quotes is, where the token stands with this many bytes from it on.
+pub fn title_of(left: usize, kind: Kind) -> Result<String, ReadError>
+    ensures { Gives string_bytes result (title_or left (sign_of kind)) }
+{
+    match kind {
+        Kind::Literal(Literal::Text(name)) => {
+            if is_title(&name) {
+                Ok(name)
+            } else {
+                Err(stop(Expected::Name, left))
+            }
+        }
+        _ => Err(stop(Expected::Name, left)),
+    }
+}
+
+/// Whether a text in quotes is at the front.
+pub fn is_quoted(text: &[u8]) -> bool
+    ensures { result ≡ is_quoted text.now }
+{
+    match text {
+        [] => false,
+        [first, ..] => *first == b'"',
+    }
+}
+
 fn path_token(alloc: Global, left: usize, word: &[u8]) -> Result<Kind, ReadError>
     ensures { Gives sign_of result (path_or left word.now (is_shown word.now)) }
 {
@@ -304,9 +354,9 @@ fn first_class(word: &[u8]) -> Class
     }
 }
 
-// The token at the front, and what is behind it.
+/// The token at the front, and what is behind it.
 #[tactic(auto, unfolding(crate::specs::Scanning::token_at))]
-fn token(alloc: Global, text: &[u8]) -> Result<(Kind, &[u8]), ReadError>
+pub fn token(alloc: Global, text: &[u8]) -> Result<(Kind, &[u8]), ReadError>
     ensures { Gives (λ x. (sign_of x.0, x.1.now)) result (token_at text.now) }
 {
     match front(text) {

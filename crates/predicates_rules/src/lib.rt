@@ -2,24 +2,33 @@
 //!
 //! ```text
 //! rule         NAME: expression                  # and a comment
+//!              "a name": expression
 //! expression   E or E    E xor E    E and E      the weakest first; a row of one connective is one join
 //!              not E    ( E )    each PATH ( E )    any PATH ( E )    test
 //!              at least K PATH ( E )    at least K of ( E, .. )    one E or more
 //! test         PATH exists    PATH missing    PATH is_empty
 //!              PATH == L      and != < <= > >=
+//!              PATH == PATH   and the others; both begin at the record, or at the item
+//!              PATH length == K    and the others; of a text, an array or an object
+//!              PATH is text   and number, whole, bool, array, object, null
 //!              PATH in [ L, .. ]
 //!              PATH starts_with T      and ends_with, contains, matches
 //! ```
 //!
 //! A path is a JSON pointer, and `/` alone the record. It ends at a space, a parenthesis, a
 //! bracket, a comma, an operator, a `#` and a control character. Paths and names of rules have no
-//! no-break space. A literal L is a text as JSON writes it, a whole number
-//! from -2^63 to 2^64 - 1 with no zero in front, `true`, `false` or `null`, and T is such a text. A
-//! number K is such a whole number that is not below 0. Numbers with a fraction or an exponent are
-//! refused, as are lists and objects. Names of rules may repeat, and may be any of the words above.
+//! no-break space. A literal L is a text or a number as JSON writes it, `true`, `false` or `null`,
+//! and T is such a text. A number K is a whole number from 0 to 2^64 - 1. Numbers that overflow a
+//! 64-bit float are refused, as are lists and objects. Names of rules may repeat, and may be any of
+//! the words above.
+//!
+//! An `Expression` prints as a rule writes it: a space between two tokens, but none inside
+//! parentheses and brackets and none before a comma, and no more parentheses than it needs. The
+//! text is read again as that expression (`written_is_read`).
 #![tactic(auto)]
 
 pub mod condition;
+mod display;
 pub mod error;
 pub mod expression;
 pub mod fault;

@@ -6,9 +6,9 @@ ghost use Rattle.predicates_rules.specs.Grammar.{tighter, part_level, By, Single
 ghost use Rattle.predicates_rules.specs.declared.expression.Connective.TheVariants.{Or};
 ghost use Rattle.predicates_rules.specs.Levels.{level_of};
 ghost use Rattle.predicates_rules.specs.Answers.{Gives, IsSyntax, stop_at};
-ghost use Rattle.predicates_rules.specs.Reading.{literal_at, goes_on_at, items_at, list_at, after_bracket, text_at, test_at, path_at, after_open, after_close, after_least, count_at, same, after_join, after_comma, after_separator, group, quantified, listed, counted, threshold, single, part_at, parts_at, join, chain, at_level, below, is_end, all_of};
+ghost use Rattle.predicates_rules.specs.Reading.{literal_at, goes_on_at, items_at, list_at, after_bracket, text_at, compared_at, comparison_at, length_at, kind_at, test_at, path_at, after_open, after_close, after_least, count_at, same, after_join, after_comma, after_separator, group, quantified, listed, counted, threshold, single, part_at, parts_at, join, chain, at_level, below, is_end, all_of};
 
-use crate::condition::Condition;
+use crate::condition::{Comparison, Condition, ValueKind};
 use crate::error::{Expected, Reason};
 use crate::expression::{Connective, Expression, MAX_DEPTH, Quantifier};
 use crate::literal::Literal;
@@ -32,6 +32,10 @@ fn copy(literal: &Literal) -> Result<Literal, AllocError>
     match literal {
         Literal::Natural(n) => Ok(Literal::Natural(*n)),
         Literal::Negative(n) => Ok(Literal::Negative(*n)),
+        Literal::Decimal { text, value } => Ok(Literal::Decimal {
+            text: text.clone()?,
+            value: *value,
+        }),
         Literal::Text(text) => Ok(Literal::Text(text.clone()?)),
         Literal::Boolean(b) => Ok(Literal::Boolean(*b)),
         Literal::Null => Ok(Literal::Null),
@@ -188,6 +192,59 @@ fn list(alloc: Global, tokens: &[Token]) -> Result<(Vec<Literal>, &[Token]), Rea
     }
 }
 
+// What a value is compared with.
+#[tactic(auto, unfolding(crate::specs::Reading::compared_at))]
+fn compared(comparison: Comparison, tokens: &[Token]) -> Result<(Condition, &[Token]), ReadError>
+    ensures { Gives (λ x. (test_of x.0, signs x.1.now)) result
+        (compared_at comparison (signs tokens.now)) }
+{
+    let [first, rest @ ..] = tokens else {
+        return Err(stop(Expected::Operand, tokens));
+    };
+    match &first.kind {
+        Kind::Literal(literal) => Ok((Condition::Compare(comparison, copy(literal)?), rest)),
+        Kind::Path(path) => Ok((Condition::CompareWith(comparison, path.clone()?), rest)),
+        _ => Err(stop(Expected::Operand, tokens)),
+    }
+}
+
+#[tactic(auto, unfolding(crate::specs::Reading::comparison_at))]
+fn comparison(tokens: &[Token]) -> Result<(Comparison, &[Token]), ReadError>
+    ensures { Gives (λ x. (x.0, signs x.1.now)) result (comparison_at (signs tokens.now)) }
+{
+    let [first, rest @ ..] = tokens else {
+        return Err(stop(Expected::Comparison, tokens));
+    };
+    match first.kind {
+        Kind::Comparison(comparison) => Ok((comparison, rest)),
+        _ => Err(stop(Expected::Comparison, tokens)),
+    }
+}
+
+// What a length is compared with.
+#[tactic(auto, unfolding(crate::specs::Reading::length_at))]
+fn length(tokens: &[Token]) -> Result<(Condition, &[Token]), ReadError>
+    ensures { Gives (λ x. (test_of x.0, signs x.1.now)) result (length_at (signs tokens.now)) }
+{
+    let (comparison, rest) = comparison(tokens)?;
+    let (count, rest) = count(rest)?;
+    Ok((Condition::Length(comparison, count), rest))
+}
+
+#[tactic(auto, unfolding(crate::specs::Reading::kind_at))]
+fn value_kind(tokens: &[Token]) -> Result<(ValueKind, &[Token]), ReadError>
+    ensures { Gives (λ x. (x.0, signs x.1.now)) result (kind_at (signs tokens.now)) }
+{
+    let [first, rest @ ..] = tokens else {
+        return Err(stop(Expected::Kind, tokens));
+    };
+    match first.kind {
+        Kind::ValueKind(kind) => Ok((kind, rest)),
+        Kind::Literal(Literal::Null) => Ok((ValueKind::Null, rest)),
+        _ => Err(stop(Expected::Kind, tokens)),
+    }
+}
+
 #[tactic(auto, unfolding(crate::specs::Reading::test_at))]
 fn condition(alloc: Global, tokens: &[Token]) -> Result<(Condition, &[Token]), ReadError>
     ensures { Gives (λ x. (test_of x.0, signs x.1.now)) result (test_at (signs tokens.now)) }
@@ -197,9 +254,11 @@ fn condition(alloc: Global, tokens: &[Token]) -> Result<(Condition, &[Token]), R
     };
     match first.kind {
         Kind::State(state) => Ok((Condition::Is(state), rest)),
-        Kind::Comparison(comparison) => {
-            let (literal, rest) = literal(rest)?;
-            Ok((Condition::Compare(comparison, literal), rest))
+        Kind::Comparison(comparison) => compared(comparison, rest),
+        Kind::Length => length(rest),
+        Kind::Is => {
+            let (kind, rest) = value_kind(rest)?;
+            Ok((Condition::IsOf(kind), rest))
         }
         Kind::Relation(relation) => {
             let (text, rest) = text(rest)?;
@@ -227,7 +286,7 @@ fn is_same(a: Connective, b: Connective) -> bool
 
 // What parts the expressions of a row.
 #[derive(Clone, Copy)]
-enum Separator {
+pub enum Separator {
     Connective(Connective),
     Comma,
 }
@@ -286,12 +345,12 @@ fn with_others(
 
 // How tightly an expression holds together.
 #[derive(Clone, Copy)]
-enum Grip {
+pub enum Grip {
     By(Connective),
     Single,
 }
 
-fn next_tighter(connective: Connective) -> Grip
+pub fn next_tighter(connective: Connective) -> Grip
     ensures { level_of result ≡ tighter connective }
 {
     match connective {

@@ -6,13 +6,13 @@ ghost use Rattle.predicates_rules.specs.Grammar.{max_depth};
 ghost use Rattle.predicates_rules.specs.Answers.{Gives, IsStop, IsSyntax};
 ghost use Rattle.predicates_rules.specs.Scanning.{placed};
 ghost use Rattle.predicates_rules.specs.Lexemes.{is_over};
-ghost use Rattle.predicates_rules.specs.Heading.{after_colon, head_at};
+ghost use Rattle.predicates_rules.specs.Heading.{after_colon, bare_head, quoted_head, head_at};
 ghost use Rattle.predicates_rules.specs.Rules.{Says, IsLine, after_spaces, rule_of};
 ghost use Rattle.predicates_rules.specs.Faults.{first_left, left_behind, error_in_bytes, IsFault, IsLineFault};
 
 use crate::error::Expected;
 use crate::expression::Expression;
-use crate::lexer::{Class, is_at_end, lex, run_len, shown, stop};
+use crate::lexer::{Class, is_at_end, is_quoted, lex, run_len, shown, stop, title_of, token};
 use crate::parser::parse;
 use crate::rule::Rule;
 use crate::stop::{ReadError, Stop};
@@ -92,10 +92,10 @@ fn behind_colon(text: &[u8]) -> Result<&[u8], ReadError>
     }
 }
 
-// The name at the front, and what is behind its colon.
-#[tactic(auto, unfolding(crate::specs::Heading::head_at))]
-fn head(alloc: Global, line: &[u8]) -> Result<(String, &[u8]), ReadError>
-    ensures { Gives (λ x. (string_bytes x.0, x.1.now)) result (head_at line.now) }
+// A name as it is, and what is behind its colon.
+#[tactic(auto, unfolding(crate::specs::Heading::bare_head))]
+fn bare_head(alloc: Global, line: &[u8]) -> Result<(String, &[u8]), ReadError>
+    ensures { Gives (λ x. (string_bytes x.0, x.1.now)) result (bare_head line.now) }
 {
     let len = run_len(Class::Name, line);
     if len == 0 {
@@ -107,6 +107,29 @@ fn head(alloc: Global, line: &[u8]) -> Result<(String, &[u8]), ReadError>
     };
     let text = behind_colon(rest)?;
     Ok((String::from_str(alloc, name)?, text))
+}
+
+// A name in quotes, and what is behind its colon.
+#[tactic(auto, unfolding(crate::specs::Heading::quoted_head))]
+fn quoted_head(alloc: Global, line: &[u8]) -> Result<(String, &[u8]), ReadError>
+    ensures { Gives (λ x. (string_bytes x.0, x.1.now)) result (quoted_head line.now) }
+{
+    let (kind, rest) = token(alloc, line)?;
+    let name = title_of(line.len(), kind)?;
+    let text = behind_colon(rest)?;
+    Ok((name, text))
+}
+
+// The name at the front, and what is behind its colon.
+#[tactic(auto, unfolding(crate::specs::Heading::head_at))]
+fn head(alloc: Global, line: &[u8]) -> Result<(String, &[u8]), ReadError>
+    ensures { Gives (λ x. (string_bytes x.0, x.1.now)) result (head_at line.now) }
+{
+    if is_quoted(line) {
+        quoted_head(alloc, line)
+    } else {
+        bare_head(alloc, line)
+    }
 }
 
 /// Reads the rule of a line, which may be blank.

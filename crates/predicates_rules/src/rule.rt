@@ -125,7 +125,8 @@ fn rules_of(alloc: Global, lines: &[&[u8]]) -> Result<Vec<Rule>, RulesError>
 ///
 /// `#` begins a comment, blank lines are skipped, tabs and carriage returns count as spaces. A byte
 /// order mark before the text is skipped, and no column counts it. A name
-/// has letters, digits, `_`, `-`, `.` and any characters beyond ASCII, and may stand on more than
+/// has letters, digits, `_`, `-`, `.` and any characters beyond ASCII, or is a text in quotes as
+/// JSON writes it, which is not empty and of which each character shows. It may stand on more than
 /// one line. What nests deeper than 100 is refused as `TooDeep`. Takes memory for the lines, the
 /// tokens of a line and the rules.
 ///
@@ -201,14 +202,14 @@ pub fn one_meaning()
         → AreRulesOf n text rs → AreRulesOf m text ss → rs ≡ ss }
 {}
 
-/// An expression is written with no more parentheses than it needs, and its text says it again:
-/// with `only` of `read_rules`, a rule that is written so is read as that rule.
+/// An expression is printed with no more parentheses than it needs, and its text says it again:
+/// with `only` of `read_rules`, a rule of that text is read as that expression. `printed` is what
+/// `Display` writes of an `Expression`.
 pub fn written_is_read()
     // Each join has two parts or more, each threshold one or more, and paths, literals and numbers
     // are such as a rule can write.
     ensures made { (n : ℕ) (e : Tree) → IsProper e → IsPlain e → nesting_at (By Or) e ≤ n
         → Says n (printed e) e }
     // What a text says, however many parentheses that text has.
-    ensures said { (n : ℕ) (text : List ℕ) (e : Tree) → Says n text e → IsPlain e
-        → Says n (printed e) e }
+    ensures said { (n : ℕ) (text : List ℕ) (e : Tree) → Says n text e → Says n (printed e) e }
 {}

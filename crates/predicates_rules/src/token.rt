@@ -1,6 +1,6 @@
 //! The tokens of a rule.
 
-use crate::condition::{Comparison, Relation, State};
+use crate::condition::{Comparison, Relation, State, ValueKind};
 use crate::expression::Connective;
 use crate::literal::Literal;
 
@@ -23,6 +23,9 @@ pub enum Kind {
     Relation(Relation),
     In,
     State(State),
+    Length,
+    Is,
+    ValueKind(ValueKind),
     Literal(Literal),
     /// The end of a line or a comment, behind all other tokens.
     End,

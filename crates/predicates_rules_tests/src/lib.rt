@@ -2,4 +2,6 @@
 #![tactic(auto)]
 
 #[cfg(test)]
+mod printing;
+#[cfg(test)]
 mod tests;

@@ -31,7 +31,7 @@ fn shows(alloc: Global, text: &str, expected: &str) -> Result<bool, AllocError> 
 }
 
 // A text, and the rules that it says, as `Debug` shows them.
-const READ: [(&str, &str); 14] = [
+const READ: [(&str, &str); 19] = [
     (
         "\u{feff}# a\na: /b == 1",
         "Rule { name: \"a\", expression: Test(\"/b\", Compare(Equal, Natural(1))) }\n",
@@ -82,6 +82,26 @@ const READ: [(&str, &str); 14] = [
         "at: /at exists\nleast: /least == \"at least\"\nof: /of in [\"of\"]",
         "Rule { name: \"at\", expression: Test(\"/at\", Is(Exists)) }\nRule { name: \"least\", expression: Test(\"/least\", Compare(Equal, Text(\"at least\"))) }\nRule { name: \"of\", expression: Test(\"/of\", In([Text(\"of\")])) }\n",
     ),
+    (
+        "span: /start <= /end and each /a~1b (/ != /c and /d>/)",
+        "Rule { name: \"span\", expression: Joined(And, [Test(\"/start\", CompareWith(AtMost, \"/end\")), Quantified(Each, \"/a~1b\", Joined(And, [Test(\"\", CompareWith(Unequal, \"/c\")), Test(\"/d\", CompareWith(Above, \"\"))]))]) }\n",
+    ),
+    (
+        "long: /b length >= 3 or / length==18446744073709551615 or not /length length < 0",
+        "Rule { name: \"long\", expression: Joined(Or, [Test(\"/b\", Length(AtLeast, 3)), Test(\"\", Length(Equal, 18446744073709551615)), Not(Test(\"/length\", Length(Below, 0)))]) }\n",
+    ),
+    (
+        "is: at least 1 of (/is is text, / is number, /a is whole, /b is bool, /c is array, /d is object, /e is null)",
+        "Rule { name: \"is\", expression: AtLeast(1, [Test(\"/is\", IsOf(Text)), Test(\"\", IsOf(Number)), Test(\"/a\", IsOf(Whole)), Test(\"/b\", IsOf(Boolean)), Test(\"/c\", IsOf(Array)), Test(\"/d\", IsOf(Object)), Test(\"/e\", IsOf(Null))]) }\n",
+    ),
+    (
+        "part: / in [1.5, -0, 18446744073709551616, -9223372036854775809, 1e3, -2.50E-1, 0.10] and / < 1E+2",
+        "Rule { name: \"part\", expression: Joined(And, [Test(\"\", In([Decimal { text: \"1.5\", value: 1.5 }, Decimal { text: \"-0\", value: -0.0 }, Decimal { text: \"18446744073709551616\", value: 1.8446744073709552e19 }, Decimal { text: \"-9223372036854775809\", value: -9.223372036854776e18 }, Decimal { text: \"1e3\", value: 1000.0 }, Decimal { text: \"-2.50E-1\", value: -0.25 }, Decimal { text: \"0.10\", value: 0.1 }])), Test(\"\", Compare(Below, Decimal { text: \"1E+2\", value: 100.0 }))]) }\n",
+    ),
+    (
+        "\"a guest: 18 #1\":/a == 1 # b\n\t\"\\u00e9\\\"\": / exists\n\"c\": / exists",
+        "Rule { name: \"a guest: 18 #1\", expression: Test(\"/a\", Compare(Equal, Natural(1))) }\nRule { name: \"é\\\"\", expression: Test(\"\", Is(Exists)) }\nRule { name: \"c\", expression: Test(\"\", Is(Exists)) }\n",
+    ),
 ];
 
 #[test]
@@ -94,10 +114,30 @@ fn reads_rules(rt: HostRuntime) -> Result<(), Fail> {
 }
 
 // A text, and the line that says why it has no rules.
-const REFUSED: [(&str, &str); 45] = [
+const REFUSED: [(&str, &str); 67] = [
     (
-        "a: / exists\n\"b\": / exists",
-        "line 2, column 1: expected the name of a rule, found `\"b\"`",
+        "a: / exists\n\"\": / exists",
+        "line 2, column 1: expected the name of a rule, found `\"\"`",
+    ),
+    (
+        "\"a\\n\": / exists",
+        "line 1, column 1: expected the name of a rule, found `\"a\\n\"`",
+    ),
+    (
+        " \"\u{a0}\": / exists",
+        "line 1, column 2: expected the name of a rule, found `\"\\u{a0}\"`",
+    ),
+    (
+        "\"a\" / exists",
+        "line 1, column 4: expected `:` behind the name of a rule, found `/`",
+    ),
+    (
+        "\"a: / exists",
+        "line 1, column 1: expected the quote that ends the text, found `\"a: / exists`",
+    ),
+    (
+        "\"\\x\": / exists",
+        "line 1, column 1: expected a text as JSON writes it, found `\"\\x\"`",
     ),
     (
         "  a / exists",
@@ -118,15 +158,15 @@ const REFUSED: [(&str, &str); 45] = [
     ("a: each (", "line 1, column 9: expected a path, found `(`"),
     (
         "a: /b 1",
-        "line 1, column 7: expected an operator, `exists`, `missing` or `is_empty`, found `1`",
+        "line 1, column 7: expected an operator, `exists`, `missing`, `is_empty`, `length` or `is`, found `1`",
     ),
     (
         "\n\na: /b == ",
-        "line 3, column 10: expected a literal, found the end of the line",
+        "line 3, column 10: expected a literal or a path, found the end of the line",
     ),
     (
         "a: /b == [1]",
-        "line 1, column 10: expected a literal, found `[`",
+        "line 1, column 10: expected a literal or a path, found `[`",
     ),
     (
         "a: /b in [1, ]",
@@ -170,20 +210,16 @@ const REFUSED: [(&str, &str); 45] = [
         "line 1, column 4: expected a word, an operator, a path or a literal, found `ü`; a path begins with `/`",
     ),
     (
-        "a: /b == 1.5",
-        "line 1, column 10: expected a whole number from -2^63 to 2^64 - 1, found `1.5`",
-    ),
-    (
         "a: /b == 01",
-        "line 1, column 10: expected a whole number from -2^63 to 2^64 - 1, found `01`",
+        "line 1, column 10: expected a number as JSON writes it, in the range of a 64-bit float, found `01`",
     ),
     (
-        "a: /b == 18446744073709551616",
-        "line 1, column 10: expected a whole number from -2^63 to 2^64 - 1, found `18446744073709551616`",
+        "a: /b == 1.",
+        "line 1, column 10: expected a number as JSON writes it, in the range of a 64-bit float, found `1.`",
     ),
     (
-        "a: /b == -0",
-        "line 1, column 10: expected a whole number from -2^63 to 2^64 - 1, found `-0`",
+        "a: /b in [1e308, -1e309]",
+        "line 1, column 18: expected a number as JSON writes it, in the range of a 64-bit float, found `-1e309`",
     ),
     (
         "a: /b == \"\\x\"",
@@ -223,11 +259,15 @@ const REFUSED: [(&str, &str); 45] = [
     ),
     (
         "a: at least 18446744073709551616 of (/b exists)",
-        "line 1, column 13: expected a whole number from -2^63 to 2^64 - 1, found `18446744073709551616`",
+        "line 1, column 13: expected a whole number from 0 to 2^64 - 1, found `18446744073709551616`",
     ),
     (
         "a: at least 1.5 /b (/ exists)",
-        "line 1, column 13: expected a whole number from -2^63 to 2^64 - 1, found `1.5`",
+        "line 1, column 13: expected a whole number from 0 to 2^64 - 1, found `1.5`",
+    ),
+    (
+        "a: at least 18.0 of (/b exists)",
+        "line 1, column 13: expected a whole number from 0 to 2^64 - 1, found `18.0`",
     ),
     (
         "a: at least 2 (/b exists)",
@@ -269,6 +309,74 @@ const REFUSED: [(&str, &str); 45] = [
         "a: at least 2 /b (/ exists, / exists)",
         "line 1, column 27: expected `)`, `or`, `xor` or `and`, found `,`",
     ),
+    (
+        "a: /b >= (",
+        "line 1, column 10: expected a literal or a path, found `(`",
+    ),
+    (
+        "a: /b in [/c]",
+        "line 1, column 11: expected a literal, found `/c`",
+    ),
+    (
+        "a: /b matches /c",
+        "line 1, column 15: expected a text in quotes, found `/c`",
+    ),
+    (
+        "a: /b length",
+        "line 1, column 13: expected `==`, `!=`, `<`, `<=`, `>` or `>=`, found the end of the line",
+    ),
+    (
+        "a: /b length 3",
+        "line 1, column 14: expected `==`, `!=`, `<`, `<=`, `>` or `>=`, found `3`",
+    ),
+    (
+        "a: /b length in [3]",
+        "line 1, column 14: expected `==`, `!=`, `<`, `<=`, `>` or `>=`, found `in`",
+    ),
+    (
+        "a: /b length >",
+        "line 1, column 15: expected a whole number from 0 to 2^64 - 1, found the end of the line",
+    ),
+    (
+        "a: /b length > -1",
+        "line 1, column 16: expected a whole number from 0 to 2^64 - 1, found `-1`",
+    ),
+    (
+        "a: /b length > 1.0",
+        "line 1, column 16: expected a whole number from 0 to 2^64 - 1, found `1.0`",
+    ),
+    (
+        "a: /b length > /c",
+        "line 1, column 16: expected a whole number from 0 to 2^64 - 1, found `/c`",
+    ),
+    (
+        "a: length > 1",
+        "line 1, column 4: expected a path, `not`, `each`, `any`, `at` or `(`, found `length`; a path begins with `/`",
+    ),
+    (
+        "a: /b is",
+        "line 1, column 9: expected `text`, `number`, `whole`, `bool`, `array`, `object` or `null`, found the end of the line",
+    ),
+    (
+        "a: /b is 1",
+        "line 1, column 10: expected `text`, `number`, `whole`, `bool`, `array`, `object` or `null`, found `1`",
+    ),
+    (
+        "a: /b is true",
+        "line 1, column 10: expected `text`, `number`, `whole`, `bool`, `array`, `object` or `null`, found `true`",
+    ),
+    (
+        "a: /b is not text",
+        "line 1, column 10: expected `text`, `number`, `whole`, `bool`, `array`, `object` or `null`, found `not`",
+    ),
+    (
+        "a: /b is text text",
+        "line 1, column 15: expected the end of the line, `or`, `xor` or `and`, found `text`",
+    ),
+    (
+        "a: /b text",
+        "line 1, column 7: expected an operator, `exists`, `missing`, `is_empty`, `length` or `is`, found `text`",
+    ),
 ];
 
 #[test]
@@ -281,12 +389,11 @@ fn says_what_was_expected(rt: HostRuntime) -> Result<(), Fail> {
 }
 
 // A slip of a rule, and what is told behind what was expected.
-const SLIPS: [(&str, &str); 34] = [
+const SLIPS: [(&str, &str); 38] = [
     ("/b=1", "found `=`; did you mean `==`?"),
     ("/b === 1", "found `===`; did you mean `==`?"),
     ("/b =< 1", "found `=<`; did you mean `<=`?"),
     ("/b <> 1", "found `<>`; did you mean `!=`?"),
-    ("/b is 1", "found `is`; did you mean `==`?"),
     ("/b exists && /c exists", "found `&&`; did you mean `and`?"),
     ("/b exists &&/c exists", "found `&&/c`; did you mean `and`?"),
     ("/b exists || /c exists", "found `||`; did you mean `or`?"),
@@ -338,7 +445,12 @@ const SLIPS: [(&str, &str); 34] = [
     ),
     ("/b isEmpty", "found `isEmpty`; did you mean `is_empty`?"),
     ("all /b (/ exists)", "found `all`; did you mean `each`?"),
-    ("/b len 3", "found `len`"),
+    ("/b len > 3", "found `len`; did you mean `length`?"),
+    ("/b is string", "found `string`; did you mean `text`?"),
+    ("/b is int", "found `int`; did you mean `whole`?"),
+    ("/b is boolean", "found `boolean`; did you mean `bool`?"),
+    ("/b is arrays", "found `arrays`; did you mean `array`?"),
+    ("/b is List", "found `List`"),
     ("/b between 1 and 2", "found `between`"),
     ("/b == .5", "found `.5`"),
     ("/b {1}", "found `{1}`"),

@@ -4,7 +4,7 @@ use Rattle.predicates_rules.specs.declared.stop.Stop.{Stop}
 use Rattle.predicates_rules.specs.Answers.{Fails}
 use Rattle.predicates_rules.specs.Heading.{after_colon}
 use Rattle.predicates_rules.proofs.Lines.{head_no_text, head_named, colon_found, colon_missing}
-use Rattle.predicates_rules.proofs.reader.head.Goals as goal
+use Rattle.predicates_rules.proofs.reader.bare_head.Goals as goal
 
 pub returns-in_default : goal.returns-in_default
 returns-in_default c = rw c.stop-in_default.ensures (head_no_text c.args.line.now _ c.run_len-len.result c.if-len-eq0.false c.run_len-len.ensures.value c.split_at.ensures.front c.in_default.ensures.cases)

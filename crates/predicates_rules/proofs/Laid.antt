@@ -1,0 +1,233 @@
+-- The text of an expression is that of its tokens.
+use Rattle.std.proofs.Common.{◌≡◌, Bool, true, false, cond, List, [], ◌∷◌, ◌++◌, codes, ℕ, refl, sym, ap, subst, ◌∙◌, append_assoc, append-nil}
+use Rattle.std.specs.Prelude.{not, ◌&&◌, ◌||◌}
+use Rattle.std.specs.List.{flat_map}
+use Rattle.predicates_rules.specs.declared.expression.Connective.{Connective}
+use Rattle.predicates_rules.specs.declared.expression.Connective.TheVariants.{Or}
+use Rattle.predicates_rules.specs.declared.expression.Quantifier.{Quantifier}
+use Rattle.predicates_rules.specs.declared.expression.Quantifier.TheVariants as quantifiers
+use Rattle.predicates_rules.specs.declared.condition.ValueKind.{ValueKind}
+use Rattle.predicates_rules.specs.declared.condition.ValueKind.TheVariants as value_kinds
+use Rattle.predicates_rules.specs.declared.parser.Separator.{Separator}
+use Rattle.predicates_rules.specs.declared.parser.Separator.TheVariants as separators
+use Rattle.predicates_rules.specs.Trees.{Value, Natural, Text, Sign, Join, Not, AtWord, Least, Of, Open, Close, OpenList, CloseList, Comma, Path, Compare, Relate, Is, In, Length, IsKind, Plain, Test, TheValueIs, Compares, ComparesWith, HasLength, IsOfKind, Relates, IsAmong, Tree, At, Denied, Quantified, Joined, AtLeast, Trees, none, more}
+use Rattle.predicates_rules.specs.Grammar.{Level, By, Single, separator_sign, part_level}
+use Rattle.predicates_rules.specs.Printing.{items_signs, kind_sign, test_signs, quantifier_signs, in_parentheses, fits, has_parts, stands_at, signs_at, part_signs, follow_signs, path_text, value_text, word_of, opens, closes, gap, laid_behind, laid}
+use Rattle.predicates_rules.specs.Writing.{items_text, test_text, quantifier_text, separator_text, grouped, tree_text, row_text, rest_text}
+
+is_false : (b : Bool) → not b ≡ true → b ≡ false
+is_false true h = absurd cc
+is_false false h = refl
+
+first_true : (a b : Bool) → (a && b) ≡ true → a ≡ true
+first_true true b h = refl
+first_true false b h = absurd cc
+
+-- ---- tokens behind another one
+
+-- where the first token lets a space stand before it
+abbrev starts : List Sign → Bool
+starts [] = false
+starts (t ∷ ts) = not (closes t)
+
+-- where the last token lets a space stand behind it
+abbrev ends : List Sign → Bool
+ends [] = false
+ends (t ∷ []) = not (opens t)
+ends (t ∷ u ∷ ts) = ends (u ∷ ts)
+
+ends_append : (ts us : List Sign) → ends us ≡ true → ends (ts ++ us) ≡ true
+ends_append [] us h = h
+ends_append (t ∷ []) [] h = absurd cc
+ends_append (t ∷ []) (u ∷ us) h = h
+ends_append (t ∷ u ∷ ts) us h = ends_append (u ∷ ts) us h
+
+starts_append : (ts us : List Sign) → starts ts ≡ true → starts (ts ++ us) ≡ true
+starts_append [] us h = absurd cc
+starts_append (t ∷ ts) us h = h
+
+same_behind : (t : Sign) (ts : List Sign) → opens t ≡ false → laid_behind t ts ≡ laid_behind Close ts
+same_behind t [] h = refl
+same_behind t (u ∷ ts) h = rw h refl
+
+behind_space : (t : Sign) (ts : List Sign) → opens t ≡ false → starts ts ≡ true → laid_behind t ts ≡ 32 ∷ laid ts
+behind_space t [] h s = absurd cc
+behind_space t (u ∷ ts) h s = let c : closes u ≡ false = is_false (closes u) s in rw (h, c) refl
+
+behind_open : (ts : List Sign) → laid_behind Open ts ≡ laid ts
+behind_open [] = refl
+behind_open (u ∷ ts) = refl
+
+behind_open_list : (ts : List Sign) → laid_behind OpenList ts ≡ laid ts
+behind_open_list [] = refl
+behind_open_list (u ∷ ts) = refl
+
+regrouped : (a b c d : List ℕ) → a ++ (b ++ (c ++ d)) ≡ (a ++ (b ++ c)) ++ d
+regrouped a b c d = sym (append_assoc a (b ++ c) d ∙ ap (λ (w : List ℕ). a ++ w) (append_assoc b c d))
+
+behind_append : (ts us : List Sign) (t : Sign) → ends (t ∷ ts) ≡ true → laid_behind t (ts ++ us) ≡ laid_behind t ts ++ laid_behind Close us
+behind_append [] us t h = same_behind t us (is_false (opens t) h)
+behind_append (u ∷ ts) us t h = ap (λ (w : List ℕ). gap t u ++ (word_of u ++ w)) (behind_append ts us u h) ∙ regrouped (gap t u) (word_of u) (laid_behind u ts) (laid_behind Close us)
+
+laid_append : (ts us : List Sign) → ends ts ≡ true → laid (ts ++ us) ≡ laid ts ++ laid_behind Close us
+laid_append [] us h = absurd cc
+laid_append (t ∷ ts) us h = ap (λ (w : List ℕ). word_of t ++ w) (behind_append ts us t h) ∙ sym (append_assoc (word_of t) (laid_behind t ts) (laid_behind Close us))
+
+-- ---- phrases
+
+-- spaces may stand around these tokens, which have this text
+record IsPhrase (ts : List Sign) (text : List ℕ) : Type 0 where
+  pub first : starts ts ≡ true
+  pub final : ends ts ≡ true
+  pub whole : laid ts ≡ text
+
+-- what stands between parentheses
+group_is : (ts : List Sign) (text : List ℕ) → laid ts ≡ text → (starts ts ≡ true → ends ts ≡ true) → (starts ts ≡ false → ts ≡ []) → laid (in_parentheses ts) ≡ grouped text
+group_is [] text e h k = ap grouped e
+group_is (t ∷ ts) text e h k = by_start (starts (t ∷ ts)) refl
+  where
+    by_start : (b : Bool) → starts (t ∷ ts) ≡ b → laid (in_parentheses (t ∷ ts)) ≡ grouped text
+    by_start true s = ap (λ (w : List ℕ). 40 ∷ w) (behind_open ((t ∷ ts) ++ Close ∷ []) ∙ laid_append (t ∷ ts) (Close ∷ []) (h s) ∙ ap (λ (w : List ℕ). w ++ 41 ∷ []) e)
+    by_start false s = let n : (t ∷ ts) ≡ [] = k s in absurd cc
+
+group_phrase : (ts : List Sign) (text : List ℕ) → laid (in_parentheses ts) ≡ grouped text → IsPhrase (in_parentheses ts) (grouped text)
+group_phrase ts text e = record { first = refl; final = ends_append (Open ∷ ts) (Close ∷ []) refl; whole = e }
+
+-- a token before a phrase
+before : (t : Sign) (ts : List Sign) (text : List ℕ) → opens t ≡ false → closes t ≡ false → IsPhrase ts text → IsPhrase (t ∷ ts) (word_of t ++ 32 ∷ text)
+before t ts text o c p =
+    record {
+      first = ap not c;
+      final = ends_append (t ∷ []) ts p.final;
+      whole = ap (λ (w : List ℕ). word_of t ++ w) (behind_space t ts o p.first ∙ ap (λ (w : List ℕ). 32 ∷ w) p.whole);
+    }
+
+alone : (t : Sign) → opens t ≡ false → closes t ≡ false → IsPhrase (t ∷ []) (word_of t)
+alone t o c = record { first = ap not c; final = ap not o; whole = append-nil (word_of t) }
+
+-- ---- tests
+
+items_start : (v : Value) (vs : List Value) → starts (items_signs (v ∷ vs)) ≡ true
+items_start v [] = refl
+items_start v (w ∷ vs) = refl
+
+items_end : (vs : List Value) → ends (items_signs vs) ≡ true
+items_end [] = refl
+items_end (v ∷ []) = refl
+items_end (v ∷ w ∷ vs) = ends_append (Plain v ∷ Comma ∷ []) (items_signs (w ∷ vs)) (items_end (w ∷ vs))
+
+more_items : (v : Value) (vs : List Value) → laid (items_signs (v ∷ vs)) ≡ value_text v ++ (flat_map (λ (w : Value). codes ", " ++ value_text w) vs ++ codes "]")
+more_items v [] = refl
+more_items v (w ∷ vs) =
+    let others = flat_map (λ (x : Value). codes ", " ++ value_text x) vs in
+    ap (λ (text : List ℕ). value_text v ++ 44 ∷ text) (behind_space Comma (items_signs (w ∷ vs)) refl (items_start w vs) ∙ ap (λ (text : List ℕ). 32 ∷ text) (more_items w vs ∙ sym (append_assoc (value_text w) others (codes "]"))))
+
+items_are : (vs : List Value) → laid (items_signs vs) ≡ items_text vs ++ codes "]"
+items_are [] = refl
+items_are (v ∷ vs) = more_items v vs ∙ sym (append_assoc (value_text v) (flat_map (λ (w : Value). codes ", " ++ value_text w) vs) (codes "]"))
+
+kind_is : (k : ValueKind) → IsPhrase (kind_sign k ∷ []) (word_of (kind_sign k))
+kind_is value_kinds.Text = alone (kind_sign value_kinds.Text) refl refl
+kind_is value_kinds.Number = alone (kind_sign value_kinds.Number) refl refl
+kind_is value_kinds.Whole = alone (kind_sign value_kinds.Whole) refl refl
+kind_is value_kinds.Boolean = alone (kind_sign value_kinds.Boolean) refl refl
+kind_is value_kinds.Array = alone (kind_sign value_kinds.Array) refl refl
+kind_is value_kinds.Object = alone (kind_sign value_kinds.Object) refl refl
+kind_is value_kinds.Null = alone (kind_sign value_kinds.Null) refl refl
+
+test_phrase : (t : Test) → IsPhrase (test_signs t) (test_text t)
+test_phrase (TheValueIs s) = alone (Is s) refl refl
+test_phrase (Compares o v) = before (Compare o) (Plain v ∷ []) (value_text v) refl refl (alone (Plain v) refl refl)
+test_phrase (ComparesWith o path) = before (Compare o) (Path path ∷ []) (path_text path) refl refl (alone (Path path) refl refl)
+test_phrase (HasLength o n) =
+    before Length (Compare o ∷ Plain (Natural n) ∷ []) (word_of (Compare o) ++ 32 ∷ value_text (Natural n)) refl refl (before (Compare o) (Plain (Natural n) ∷ []) (value_text (Natural n)) refl refl (alone (Plain (Natural n)) refl refl))
+test_phrase (IsOfKind k) = before IsKind (kind_sign k ∷ []) (word_of (kind_sign k)) refl refl (kind_is k)
+test_phrase (Relates r text) = before (Relate r) (Plain (Text text) ∷ []) (value_text (Text text)) refl refl (alone (Plain (Text text)) refl refl)
+test_phrase (IsAmong vs) =
+    record {
+      first = refl;
+      final = ends_append (In ∷ OpenList ∷ []) (items_signs vs) (items_end vs);
+      whole = ap (λ (w : List ℕ). codes "in [" ++ w) (behind_open_list (items_signs vs) ∙ items_are vs);
+    }
+
+pub test_laid : (t : Test) → laid (test_signs t) ≡ test_text t
+test_laid t = (test_phrase t).whole
+
+quantifier_phrase : (q : Quantifier) → IsPhrase (quantifier_signs q) (quantifier_text q)
+quantifier_phrase quantifiers.Each = record { first = refl; final = refl; whole = refl }
+quantifier_phrase quantifiers.Any = record { first = refl; final = refl; whole = refl }
+quantifier_phrase (quantifiers.AtLeast k) =
+    before AtWord (Least ∷ Plain (Natural k) ∷ []) (codes "least " ++ value_text (Natural k)) refl refl (before Least (Plain (Natural k) ∷ []) (value_text (Natural k)) refl refl (alone (Plain (Natural k)) refl refl))
+
+-- ---- expressions
+
+-- the parts of a row, of which there may be none
+record IsRow (es : Trees) (ts : List Sign) (text : List ℕ) : Type 0 where
+  pub first : has_parts es ≡ true → starts ts ≡ true
+  pub final : has_parts es ≡ true → ends ts ≡ true
+  pub none_is : has_parts es ≡ false → ts ≡ []
+  pub whole : laid ts ≡ text
+
+row_group : (es : Trees) (ts : List Sign) (text : List ℕ) → IsRow es ts text → IsPhrase (in_parentheses ts) (grouped text)
+row_group none ts text r =
+    let e : ts ≡ [] = r.none_is refl in
+    group_phrase ts text (subst (λ (us : List Sign). laid (in_parentheses us) ≡ grouped text) (sym e) (ap grouped (subst (λ (us : List Sign). laid us ≡ text) e r.whole)))
+row_group (more e es) ts text r = group_phrase ts text (group_is ts text r.whole (λ s. r.final refl) (λ s. let f : starts ts ≡ true = r.first refl in absurd cc))
+
+placed : (b : Bool) (es : Trees) (ts : List Sign) (text : List ℕ) → (b ≡ true → has_parts es ≡ true) → IsRow es ts text → IsPhrase (cond b ts (in_parentheses ts)) (cond b text (grouped text))
+placed true es ts text h r = record { first = r.first (h refl); final = r.final (h refl); whole = r.whole }
+placed false es ts text h r = row_group es ts text r
+
+separated : (s : Separator) (ts : List Sign) (text : List ℕ) → starts ts ≡ true → laid ts ≡ text → laid_behind Close (separator_sign s ∷ ts) ≡ separator_text s ++ text
+separated (separators.Connective c) ts text f e =
+    ap (λ (w : List ℕ). 32 ∷ w) (ap (λ (w : List ℕ). word_of (Join c) ++ w) (behind_space (Join c) ts refl f ∙ ap (λ (w : List ℕ). 32 ∷ w) e) ∙ sym (append_assoc (word_of (Join c)) (32 ∷ []) text))
+separated separators.Comma ts text f e = ap (λ (w : List ℕ). 44 ∷ w) (behind_space Comma ts refl f ∙ ap (λ (w : List ℕ). 32 ∷ w) e)
+
+mutual
+  tree_phrase : (e : Tree) (l : Level) → IsPhrase (signs_at l e) (tree_text l e)
+  tree_phrase (At path t) l = let p = test_phrase t in before (Path path) (test_signs t) (laid (test_signs t)) refl refl (record { first = p.first; final = p.final; whole = refl })
+  tree_phrase (Denied e) l = before Not (signs_at Single e) (tree_text Single e) refl refl (tree_phrase e Single)
+  tree_phrase (Quantified q path e) l =
+      let inner = tree_phrase e (By Or) in
+      let group = group_phrase (signs_at (By Or) e) (tree_text (By Or) e) (group_is (signs_at (By Or) e) (tree_text (By Or) e) inner.whole (λ s. inner.final) (λ s. let f : starts (signs_at (By Or) e) ≡ true = inner.first in absurd cc)) in
+      let behind = before (Path path) (in_parentheses (signs_at (By Or) e)) (grouped (tree_text (By Or) e)) refl refl group in
+      let front = quantifier_phrase q in
+      let ts = Path path ∷ in_parentheses (signs_at (By Or) e) in
+      record {
+        first = starts_append (quantifier_signs q) ts front.first;
+        final = ends_append (quantifier_signs q) ts behind.final;
+        whole = laid_append (quantifier_signs q) ts front.final ∙ ap (λ (w : List ℕ). laid (quantifier_signs q) ++ 32 ∷ w) behind.whole ∙ ap (λ (w : List ℕ). w ++ 32 ∷ (path_text path ++ 32 ∷ grouped (tree_text (By Or) e))) front.whole;
+      }
+  tree_phrase (Joined c es) l = placed (stands_at l c es) es (part_signs (separators.Connective c) es) (row_text (separators.Connective c) es) (first_true (has_parts es) (fits l c)) (row_is es (separators.Connective c))
+  tree_phrase (AtLeast k es) l =
+      let group = row_group es (part_signs separators.Comma es) (row_text separators.Comma es) (row_is es separators.Comma) in
+      let behind_count = before Of (in_parentheses (part_signs separators.Comma es)) (grouped (row_text separators.Comma es)) refl refl group in
+      let count = before (Plain (Natural k)) (Of ∷ in_parentheses (part_signs separators.Comma es)) (codes "of " ++ grouped (row_text separators.Comma es)) refl refl behind_count in
+      let least = before Least (Plain (Natural k) ∷ Of ∷ in_parentheses (part_signs separators.Comma es)) (value_text (Natural k) ++ 32 ∷ (codes "of " ++ grouped (row_text separators.Comma es))) refl refl count in
+      before AtWord (Least ∷ Plain (Natural k) ∷ Of ∷ in_parentheses (part_signs separators.Comma es)) (codes "least " ++ (value_text (Natural k) ++ 32 ∷ (codes "of " ++ grouped (row_text separators.Comma es)))) refl refl least
+
+  row_is : (es : Trees) (s : Separator) → IsRow es (part_signs s es) (row_text s es)
+  row_is none s = record { first = λ h. absurd cc; final = λ h. absurd cc; none_is = λ h. refl; whole = refl }
+  row_is (more e es) s =
+      let p = tree_phrase e (part_level s) in
+      let r = rest_is es s in
+      record {
+        first = λ h. starts_append (signs_at (part_level s) e) (follow_signs s es) p.first;
+        final = λ h. r.0 (signs_at (part_level s) e) p.final;
+        none_is = λ h. absurd cc;
+        whole = laid_append (signs_at (part_level s) e) (follow_signs s es) p.final ∙ ap (λ (w : List ℕ). laid (signs_at (part_level s) e) ++ w) r.1 ∙ ap (λ (w : List ℕ). w ++ rest_text s es) p.whole;
+      }
+
+  rest_is : (es : Trees) (s : Separator) → ((ts : List Sign) → ends ts ≡ true → ends (ts ++ follow_signs s es) ≡ true) × (laid_behind Close (follow_signs s es) ≡ rest_text s es)
+  rest_is none s = (λ ts h. rw (append-nil ts) h, refl)
+  rest_is (more e es) s =
+      let p = tree_phrase e (part_level s) in
+      let r = rest_is es s in
+      let ts = signs_at (part_level s) e ++ follow_signs s es in (
+        λ us h. ends_append us (separator_sign s ∷ ts) (ends_append (separator_sign s ∷ []) ts (r.0 (signs_at (part_level s) e) p.final)),
+        separated s ts (tree_text (part_level s) e ++ rest_text s es) (starts_append (signs_at (part_level s) e) (follow_signs s es) p.first)
+            (laid_append (signs_at (part_level s) e) (follow_signs s es) p.final ∙ ap (λ (w : List ℕ). laid (signs_at (part_level s) e) ++ w) r.1 ∙ ap (λ (w : List ℕ). w ++ rest_text s es) p.whole),
+      )
+
+pub tree_laid : (e : Tree) → laid (signs_at (By Or) e) ≡ tree_text (By Or) e
+tree_laid e = (tree_phrase e (By Or)).whole

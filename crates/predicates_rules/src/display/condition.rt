@@ -1,0 +1,79 @@
+//! What a test says, as a rule says it.
+ghost use Rattle.std.specs.Prelude.{◌≡◌, ◌++◌, Some, codes, map};
+ghost use Rattle.std.specs.List.{flat_map};
+ghost use Rattle.std.specs.Fmt.{DisplaysOnOk};
+ghost use Rattle.predicates_rules.specs.Trees.{value_of, test_of};
+ghost use Rattle.predicates_rules.specs.Printing.{path_text, value_text, laid, test_signs};
+ghost use Rattle.predicates_rules.specs.Writing.{items_text, test_text};
+
+use crate::condition::Condition;
+use crate::display::literal::fmt_text;
+use crate::literal::Literal;
+use std::fmt;
+
+/// A path as a rule writes it: `/` for the record.
+pub fn path_shown(path: &str) -> &str
+    ensures { result.now ≡ path_text path.now }
+{
+    if path.is_empty() { "/" } else { path }
+}
+
+// The literals, each behind a comma.
+fn fmt_further<W: fmt::Write>(literals: &[Literal], f: &mut fmt::Formatter<W>) -> fmt::Result
+    ensures { DisplaysOnOk W.write_str_gives f.old result
+        (Some (flat_map (λ v. codes ", " ++ value_text v) (map value_of literals.now))) f.new }
+{
+    for literal in literals {
+        write!(f, ", {literal}")?;
+    }
+    Ok(())
+}
+
+// The literals with commas between them.
+fn fmt_items<W: fmt::Write>(literals: &[Literal], f: &mut fmt::Formatter<W>) -> fmt::Result
+    ensures { DisplaysOnOk W.write_str_gives f.old result
+        (Some (items_text (map value_of literals.now))) f.new }
+{
+    match literals {
+        [] => Ok(()),
+        [first, rest @ ..] => {
+            write!(f, "{first}")?;
+            fmt_further(rest, f)
+        }
+    }
+}
+
+// What is said of the value.
+fn fmt_test<W: fmt::Write>(condition: &Condition, f: &mut fmt::Formatter<W>) -> fmt::Result
+    ensures { DisplaysOnOk W.write_str_gives f.old result
+        (Some (test_text (test_of condition.now))) f.new }
+{
+    match condition {
+        Condition::Is(state) => write!(f, "{state}"),
+        Condition::Compare(comparison, literal) => write!(f, "{comparison} {literal}"),
+        Condition::CompareWith(comparison, path) => {
+            write!(f, "{comparison} ")?;
+            f.write_str(path_shown(path))
+        }
+        Condition::Length(comparison, number) => write!(f, "length {comparison} {number}"),
+        Condition::IsOf(kind) => write!(f, "is {kind}"),
+        Condition::Relate(relation, text) => {
+            write!(f, "{relation} ")?;
+            fmt_text(text, f)
+        }
+        Condition::In(literals) => {
+            f.write_str("in [")?;
+            fmt_items(literals, f)?;
+            f.write_str("]")
+        }
+    }
+}
+
+/// As a rule says it behind the path.
+impl fmt::Display for Condition {
+    ghost output = { λ condition. Some (laid (test_signs (test_of condition))) };
+
+    fn fmt<W: fmt::Write>(&self, f: &mut fmt::Formatter<W>) -> fmt::Result {
+        fmt_test(self, f)
+    }
+}

@@ -1,0 +1,278 @@
+//! Rules that are printed, and read again.
+
+use predicates_rules::condition::{Comparison, Condition, Relation, State, ValueKind};
+use predicates_rules::expression::{Connective, Expression, Quantifier};
+use predicates_rules::literal::Literal;
+use predicates_rules::rule::{Rule, read_rules, written_is_read};
+use std::alloc::{AllocError, Global};
+use std::test::Fail;
+
+// The rules of one line, of which the text is the expression.
+fn read(alloc: Global, text: &str) -> Result<Vec<Rule>, AllocError> {
+    let line = format!(in alloc; "a: {text}")?;
+    match read_rules(alloc, line.as_bytes()) {
+        Ok(rules) => Ok(rules),
+        Err(_) => Ok(Vec::new(alloc)),
+    }
+}
+
+fn printed_rules(alloc: Global, rules: &[Rule]) -> Result<String, AllocError> {
+    match rules {
+        [rule] => format!(in alloc; "{}", rule.expression),
+        _ => String::from_str(alloc, "no rule"),
+    }
+}
+
+fn shown_rules(alloc: Global, rules: &[Rule]) -> Result<String, AllocError> {
+    match rules {
+        [rule] => format!(in alloc; "{:?}", rule.expression),
+        _ => String::from_str(alloc, "no rule"),
+    }
+}
+
+// The expression of a text as it is printed.
+fn printed(alloc: Global, text: &str) -> Result<String, AllocError> {
+    let rules = read(alloc, text)?;
+    printed_rules(alloc, rules.as_slice())
+}
+
+// The same as `Debug` shows it.
+fn shown(alloc: Global, text: &str) -> Result<String, AllocError> {
+    let rules = read(alloc, text)?;
+    shown_rules(alloc, rules.as_slice())
+}
+
+fn prints(alloc: Global, text: &str, expected: &str) -> Result<bool, AllocError> {
+    Ok(printed(alloc, text)?.as_str() == expected)
+}
+
+// The expression of a rule, and how it is printed.
+const PRINTED: [(&str, &str); 37] = [
+    ("/a==1", "/a == 1"),
+    ("/\t exists", "/ exists"),
+    ("/a/b~1c missing", "/a/b~1c missing"),
+    ("/a is_empty", "/a is_empty"),
+    ("/a!=-1", "/a != -1"),
+    ("/a<18446744073709551615", "/a < 18446744073709551615"),
+    ("/a<=-9223372036854775808", "/a <= -9223372036854775808"),
+    ("/a>true", "/a > true"),
+    ("/a>=null", "/a >= null"),
+    ("/a==false", "/a == false"),
+    ("/a==1.50", "/a == 1.50"),
+    ("/a==-0", "/a == -0"),
+    ("/a==1E+2", "/a == 1E+2"),
+    ("/start<=/end", "/start <= /end"),
+    ("/start==/", "/start == /"),
+    ("/a length>=3", "/a length >= 3"),
+    ("/a is   text", "/a is text"),
+    ("/a is null", "/a is null"),
+    ("/a starts_with\"b\"", "/a starts_with \"b\""),
+    ("/a ends_with\"\"", "/a ends_with \"\""),
+    (
+        "/a contains\"\\u00e9\\/\\\"\\\\\\b\\f\\n\\r\\t\\u0000\\u001F\\u007f\\ud83d\\ude00\"",
+        "/a contains \"é/\\\"\\\\\\b\\f\\n\\r\\t\\u0000\\u001f\u{7f}😀\"",
+    ),
+    ("/a matches\"^[A-Z]{3}$\"", "/a matches \"^[A-Z]{3}$\""),
+    ("/seat in[ ]", "/seat in []"),
+    ("/seat in[13]", "/seat in [13]"),
+    (
+        "/seat in[13,17 , \"a, b\",null]",
+        "/seat in [13, 17, \"a, b\", null]",
+    ),
+    ("(((/a exists)))", "/a exists"),
+    ("not(not /a exists)", "not not /a exists"),
+    ("not(/a==1 or/b==2)", "not (/a == 1 or /b == 2)"),
+    (
+        "((/a exists and /b exists) or /c exists) or /d exists",
+        "(/a exists and /b exists or /c exists) or /d exists",
+    ),
+    (
+        "(/a exists or /b exists) and (/c exists xor /d exists)",
+        "(/a exists or /b exists) and (/c exists xor /d exists)",
+    ),
+    (
+        "(/a exists and /b exists) xor (/c exists or /d exists)",
+        "/a exists and /b exists xor (/c exists or /d exists)",
+    ),
+    (
+        "(/a exists and /b exists) and /c exists",
+        "(/a exists and /b exists) and /c exists",
+    ),
+    (
+        "each/lines(/quantity>=1 and/sku matches\"^[A-Z]{3}$\")",
+        "each /lines (/quantity >= 1 and /sku matches \"^[A-Z]{3}$\")",
+    ),
+    ("any/((/ exists))", "any / (/ exists)"),
+    (
+        "at\tleast 3/lines(/price>0)",
+        "at least 3 /lines (/price > 0)",
+    ),
+    (
+        "at least 2 of(/a exists,(/b exists or /c exists))",
+        "at least 2 of (/a exists, /b exists or /c exists)",
+    ),
+    (
+        "not at least 0 of((not(/a exists)))# why",
+        "not at least 0 of (not /a exists)",
+    ),
+];
+
+#[test]
+fn prints_rules(rt: HostRuntime) -> Result<(), Fail> {
+    for (text, expected) in &PRINTED {
+        let same = prints(rt.alloc(), text, expected)?;
+        assert!(rt; same, "{text}");
+    }
+    Ok(())
+}
+
+// What stands around one expression, and around and between two.
+const AROUND: [(&str, &str); 4] = [
+    ("not (", ")"),
+    ("each /b (", ")"),
+    ("at least 1 of (", ")"),
+    ("at least 2 /b (", ")"),
+];
+
+const BETWEEN: [(&str, &str, &str); 4] = [
+    ("(", ") or (", ")"),
+    ("(", ") xor (", ")"),
+    ("(", ") and (", ")"),
+    ("at least 1 of (", ", ", ")"),
+];
+
+fn push_around(alloc: Global, texts: &mut Vec<String>, part: &str) -> Result<(), AllocError> {
+    for (before, after) in &AROUND {
+        texts.push(format!(in alloc; "{before}{part}{after}")?)?;
+    }
+    Ok(())
+}
+
+fn push_between(
+    alloc: Global,
+    texts: &mut Vec<String>,
+    first: &str,
+    second: &str,
+) -> Result<(), AllocError> {
+    for (before, between, after) in &BETWEEN {
+        texts.push(format!(in alloc; "{before}{first}{between}{second}{after}")?)?;
+    }
+    Ok(())
+}
+
+// A test, and all expressions of one operator over the parts.
+fn grown(alloc: Global, parts: &[String]) -> Result<Vec<String>, AllocError> {
+    let mut texts = Vec::new(alloc);
+    texts.push(String::from_str(alloc, "/a exists")?)?;
+    for first in parts {
+        push_around(alloc, &mut texts, first)?;
+        for second in parts {
+            push_between(alloc, &mut texts, first, second)?;
+        }
+    }
+    Ok(texts)
+}
+
+// Where the parenthesis at this place is closed.
+fn closing(text: &[u8], open: usize) -> usize {
+    let mut depth = 0usize;
+    for (i, b) in text.iter().enumerate() {
+        if i >= open && *b == b'(' {
+            depth = depth.saturating_add(1);
+        }
+        if i >= open && *b == b')' {
+            depth = depth.saturating_sub(1);
+            if depth == 0 {
+                return i;
+            }
+        }
+    }
+    text.len()
+}
+
+// The text with spaces in place of two of its bytes.
+fn without(alloc: Global, text: &str, open: usize, close: usize) -> Result<String, AllocError> {
+    let mut out = String::new(alloc);
+    for (i, c) in text.char_indices() {
+        out.push(if i == open || i == close { ' ' } else { c })?;
+    }
+    Ok(out)
+}
+
+// Whether no two parentheses can be left out.
+fn is_minimal(alloc: Global, text: &str, meaning: &str) -> Result<bool, AllocError> {
+    for (open, c) in text.char_indices() {
+        if c == '(' {
+            let close = closing(text.as_bytes(), open);
+            let other = without(alloc, text, open, close)?;
+            if shown(alloc, &other)?.as_str() == meaning {
+                return Ok(false);
+            }
+        }
+    }
+    Ok(true)
+}
+
+// Whether the text is printed as one that says the same, with no parentheses that it does not need.
+fn is_read_again(alloc: Global, text: &str) -> Result<bool, AllocError> {
+    let meaning = shown(alloc, text)?;
+    let again = printed(alloc, text)?;
+    let same = shown(alloc, &again)?.as_str() == meaning.as_str();
+    Ok(same && meaning.as_str() != "no rule" && is_minimal(alloc, &again, &meaning)?)
+}
+
+#[test]
+fn reads_short_rules_again(rt: HostRuntime) -> Result<(), Fail> {
+    let none = Vec::new(rt.alloc());
+    let tests = grown(rt.alloc(), &none)?;
+    let joins = grown(rt.alloc(), &tests)?;
+    let texts = grown(rt.alloc(), &joins)?;
+    assert!(rt; texts.len() == 361);
+    for text in &texts {
+        let same = is_read_again(rt.alloc(), text)?;
+        assert!(rt; same, "{text}");
+    }
+    written_is_read();
+    Ok(())
+}
+
+fn is_shown(alloc: Global, expression: Expression, expected: &str) -> Result<bool, AllocError> {
+    Ok(format!(in alloc; "{expression}")?.as_str() == expected)
+}
+
+// What no rule says: a row of no part, or of one.
+#[test]
+fn prints_rows_that_no_rule_has(rt: HostRuntime) -> Result<(), Fail> {
+    let none = Expression::Joined(Connective::Or, Vec::new(rt.alloc()));
+    assert!(rt; is_shown(rt.alloc(), none, "()")?);
+    let none = Expression::AtLeast(2, Vec::new(rt.alloc()));
+    assert!(rt; is_shown(rt.alloc(), none, "at least 2 of ()")?);
+    let mut parts = Vec::new(rt.alloc());
+    let path = String::from_str(rt.alloc(), "/a b")?;
+    parts.push(Expression::Test(path, Condition::Is(State::Exists)))?;
+    let one = Expression::Joined(Connective::And, parts);
+    assert!(rt; is_shown(rt.alloc(), one, "/a b exists")?);
+    Ok(())
+}
+
+#[test]
+fn prints_words(rt: HostRuntime) -> Result<(), Fail> {
+    let words = format!(in rt.alloc();
+        "{} {} {} {} {} {}",
+        Connective::Xor,
+        Quantifier::Any,
+        Quantifier::AtLeast(3),
+        State::IsEmpty,
+        Comparison::Unequal,
+        Relation::Matches
+    )?;
+    assert!(rt; words.as_str() == "xor any at least 3 is_empty != matches");
+    let values = format!(in rt.alloc();
+        "{} {} {}",
+        ValueKind::Boolean,
+        ValueKind::Null,
+        Literal::Negative(-1)
+    )?;
+    assert!(rt; values.as_str() == "bool null -1");
+    Ok(())
+}
