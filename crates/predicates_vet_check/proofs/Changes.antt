@@ -86,7 +86,7 @@ module _ (text : List ℕ) (d : Data) (q : Quantifier) (c : Check) (found : Opti
   pub changed_items : (own : Quantifier) (vs : List Value) (F : Formula → Type 0) (w : Option Bool) → q ≡ own → as_array d ≡ Some (items_view vs) → F (over_items text own (plan_formula (plan_of c)) (items_view vs)) → IsFoundChange F w found → IsArrayChange q (as_array d) w
   changed_items own vs F w is e had h = subst (λ z. IsArrayChange z (as_array d) w) (sym is) (subst (λ o. IsArrayChange own o w) (sym e) (found_of_one F had w found h))
 
-  pub changed_no_array : (w : Option Bool) → as_array d ≡ None → IsFound (IsExactly (misfit_leaf text not_an_array d)) w found → IsArrayChange q (as_array d) w
+  pub changed_no_array : (w : Option Bool) → as_array d ≡ None → IsFound (IsExactly (misfit_leaf text not_an_array d None)) w found → IsArrayChange q (as_array d) w
   changed_no_array w e h = subst (λ o. IsArrayChange q o w) (sym e) (answer_changed _ _ w found h)
 
 pub changed_nowhere : (text path : List ℕ) (q : Quantifier) (g : Data → Formula) (o : Option Data) (w : Option Bool) (found : Option (Tree CaseNode)) → o ≡ None → IsFound (IsExactly (nothing_leaf text path)) w found → IsFoundChange (IsExactly (range_formula text path q g o)) w found

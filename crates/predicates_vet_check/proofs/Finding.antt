@@ -1,5 +1,5 @@
 -- What is found of a check over others is what is found of the library's predicate over them.
-use Rattle.std.proofs.Common.{◌≡◌, ℕ, Bool, true, false, List, [], ◌∷◌, Option, Some, None, option_map, codes, map, refl, sym, ap, ◌∙◌, subst, Result, IfOk}
+use Rattle.std.proofs.Common.{◌≡◌, ℕ, Bool, true, false, List, [], ◌∷◌, Option, Some, None, option_map, codes, map, refl, sym, subst, Result, IfOk}
 use Rattle.std.specs.Prelude.{not, String, string_bytes}
 use Rattle.std.proofs.Common.{Box, Global}
 use Rattle.predicates_core.specs.Formula.{Formula}
@@ -71,7 +71,7 @@ module _ (text : List ℕ) (d : Data) (q : Quantifier) (c : Check) (found : Opti
   pub found_of_items : (own : Quantifier) (vs : List Value) (F : Formula → Type 0) → q ≡ own → as_array d ≡ Some (items_view vs) → F (over_items text own (plan_formula (plan_of c)) (items_view vs)) → IsFound F w found → IsFoundOfArray q (as_array d)
   found_of_items own vs F is e had h = subst (λ z. IsFoundOfArray z (as_array d)) (sym is) (subst (IsFoundOfArray own) (sym e) (found_of_one F had w found h))
 
-  pub found_of_no_array : as_array d ≡ None → IsFound (IsExactly (misfit_leaf text not_an_array d)) w found → IsFoundOfArray q (as_array d)
+  pub found_of_no_array : as_array d ≡ None → IsFound (IsExactly (misfit_leaf text not_an_array d None)) w found → IsFoundOfArray q (as_array d)
   found_of_no_array e h = subst (IsFoundOfArray q) (sym e) h
 
 module _ (text path : List ℕ) (q : Quantifier) (g : Data → Formula) (o : Option Data) (w : Option Bool) (found : Option (Tree CaseNode)) where

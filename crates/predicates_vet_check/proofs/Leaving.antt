@@ -1,15 +1,16 @@
 -- Leaves that show what was found.
 use Rattle.std.proofs.Common.{◌≡◌, ℕ, List, Bool, true, false, Option, Some, None, refl, sym, ◌∙◌, subst}
 use Rattle.std.specs.Prelude.{IfSome, cond}
-use Rattle.predicates_core.specs.Formula.{Leaf, HasTruth}
-use Rattle.predicates_core.specs.Label.{plain}
+use Rattle.predicates_core.specs.Formula.{Leaf, HasTruth, with_product}
+use Rattle.predicates_core.specs.Label.{Label, Product, plain, with_last}
 use Rattle.predicates_core.specs.Leaves.{IsExactly}
 use Rattle.predicates_core.specs.Shows.{IsFound, IsCaseOf}
-use Rattle.predicates_core.proofs.Leaves.{HasTruth-exactly}
+use Rattle.predicates_core.proofs.Leaves.{HasTruth-exactly, own_truth}
+use Rattle.predicates_core.proofs.Added.{IsCaseOf-with_product}
 use Rattle.serde_json.specs.Data.{Data}
 use Rattle.predicates_rules.specs.declared.condition.State.TheVariants as states
-use Rattle.predicates_vet_check.specs.Queries.{Query, Stands, Compares, Begins, Finishes, Holds, Matches, IsAmong, verdict, nothing_verdict, is_of_presence, misfit_text}
-use Rattle.predicates_vet_check.specs.Plans.{asked_formula, leaf_of_verdict, found_leaf, misfit_leaf, nothing_leaf}
+use Rattle.predicates_vet_check.specs.Queries.{Query, Stands, Compares, ComparesWith, HasLength, IsOfKind, Begins, Finishes, Holds, Matches, IsAmong, verdict, nothing_verdict, is_of_presence, misfit_text}
+use Rattle.predicates_vet_check.specs.Plans.{asked_formula, absent_formula, leaf_of_verdict, found_label, found_leaf, misfit_leaf, nothing_leaf, shown_beside, ShowsBeside}
 use Rattle.predicates_core.specs.Label.{Entry}
 use Rattle.predicates_core.specs.Tree.{Tree}
 use Rattle.predicates_core.specs.Describe.{CaseNode}
@@ -29,6 +30,9 @@ no_presence (Stands states.Exists) e = refl
 no_presence (Stands states.Missing) e = absurd (cc)
 no_presence (Stands states.IsEmpty) e = refl
 no_presence (Compares c v) e = refl
+no_presence (ComparesWith o path) e = refl
+no_presence (HasLength o n) e = refl
+no_presence (IsOfKind k) e = refl
 no_presence (Begins s) e = refl
 no_presence (Finishes s) e = refl
 no_presence (Holds s) e = refl
@@ -39,38 +43,56 @@ of_presence : (text path : List ℕ) (presence own : Bool) → (presence ≡ fal
 of_presence text path true own h = HasTruth-exactly refl
 of_presence text path false own h = HasTruth-exactly (sym (h refl))
 
-module _ (text path : List ℕ) (q : Query) (o : Option Data) where
+pub HasTruth-absent : (text path : List ℕ) (q : Query) {b : Bool} → b ≡ nothing_verdict q → HasTruth (IsExactly (absent_formula text path q)) b
+HasTruth-absent text path q is = subst (λ z. HasTruth (IsExactly (absent_formula text path q)) z) (sym is) (of_presence text path (is_of_presence q) (nothing_verdict q) (no_presence q))
+
+module _ (text path : List ℕ) (q : Query) (whole : Data) (o : Option Data) where
   -- ---- truths
 
-  pub HasTruth-found : {d : Data} {b : Bool} → o ≡ Some d → verdict q d ≡ Some b → HasTruth (IsExactly (asked_formula text path q o)) b
-  HasTruth-found {d} {b} e v = subst (λ z. HasTruth (IsExactly (asked_formula text path q z)) b) (sym e) (subst (λ z. HasTruth (IsExactly (leaf_of_verdict text q d z)) b) (sym v) (HasTruth-exactly refl))
+  pub HasTruth-found : {d : Data} {b : Bool} → o ≡ Some d → verdict q whole d ≡ Some b → HasTruth (IsExactly (asked_formula text path q whole o)) b
+  HasTruth-found {d} {b} e v = subst (λ z. HasTruth (IsExactly (asked_formula text path q whole z)) b) (sym e) (subst (λ z. HasTruth (IsExactly (leaf_of_verdict text q whole d z)) b) (sym v) (HasTruth-exactly refl))
 
-  pub HasTruth-misfit : {d : Data} {b : Bool} → o ≡ Some d → verdict q d ≡ None → b ≡ false → HasTruth (IsExactly (asked_formula text path q o)) b
-  HasTruth-misfit {d} {b} e v isnt = subst (λ z. HasTruth (IsExactly (asked_formula text path q z)) b) (sym e) (subst (λ z. HasTruth (IsExactly (leaf_of_verdict text q d z)) b) (sym v) (HasTruth-exactly (sym isnt)))
+  pub HasTruth-misfit : {d : Data} {b : Bool} → o ≡ Some d → verdict q whole d ≡ None → b ≡ false → HasTruth (IsExactly (asked_formula text path q whole o)) b
+  HasTruth-misfit {d} {b} e v isnt = subst (λ z. HasTruth (IsExactly (asked_formula text path q whole z)) b) (sym e) (subst (λ z. HasTruth (IsExactly (leaf_of_verdict text q whole d z)) b) (sym v) (HasTruth-exactly (sym isnt)))
 
-  pub HasTruth-nothing : {b : Bool} → o ≡ None → b ≡ nothing_verdict q → HasTruth (IsExactly (asked_formula text path q o)) b
-  HasTruth-nothing {b} e is = subst (λ z. HasTruth (IsExactly (asked_formula text path q z)) b) (sym e) (subst (λ z. HasTruth (IsExactly (asked_formula text path q None)) z) (sym is) (of_presence text path (is_of_presence q) (nothing_verdict q) (no_presence q)))
+  pub HasTruth-nothing : {b : Bool} → o ≡ None → b ≡ nothing_verdict q → HasTruth (IsExactly (asked_formula text path q whole o)) b
+  HasTruth-nothing {b} e is = subst (λ z. HasTruth (IsExactly (asked_formula text path q whole z)) b) (sym e) (HasTruth-absent text path q is)
 
   -- ---- cases
 
-  pub found_at_value : {d : Data} (w : Option Bool) (found : Option (Tree CaseNode)) → o ≡ Some d → IsFound (IsExactly (leaf_of_verdict text q d (verdict q d))) w found → IsFound (IsExactly (asked_formula text path q o)) w found
-  found_at_value {d} w found e h = subst (λ z. IsFound (IsExactly (asked_formula text path q z)) w found) (sym e) h
+  pub found_at_value : {d : Data} (w : Option Bool) (found : Option (Tree CaseNode)) → o ≡ Some d → IsFound (IsExactly (leaf_of_verdict text q whole d (verdict q whole d))) w found → IsFound (IsExactly (asked_formula text path q whole o)) w found
+  found_at_value {d} w found e h = subst (λ z. IsFound (IsExactly (asked_formula text path q whole z)) w found) (sym e) h
 
-  pub found_nowhere : (w : Option Bool) (found : Option (Tree CaseNode)) → o ≡ None → IsFound (IsExactly (asked_formula text path q None)) w found → IsFound (IsExactly (asked_formula text path q o)) w found
-  found_nowhere w found e h = subst (λ z. IsFound (IsExactly (asked_formula text path q z)) w found) (sym e) h
+  pub found_nowhere : (w : Option Bool) (found : Option (Tree CaseNode)) → o ≡ None → IsFound (IsExactly (absent_formula text path q)) w found → IsFound (IsExactly (asked_formula text path q whole o)) w found
+  found_nowhere w found e h = subst (λ z. IsFound (IsExactly (asked_formula text path q whole z)) w found) (sym e) h
 
 module _ (text path : List ℕ) (q : Query) where
-  pub case_of_bare : {t : Tree CaseNode} {b : Bool} → is_of_presence q ≡ true → b ≡ nothing_verdict q → IsCaseOf (IsExactly (Leaf (plain (Some text)) b)) b t → IsCaseOf (IsExactly (asked_formula text path q None)) b t
+  pub case_of_bare : {t : Tree CaseNode} {b : Bool} → is_of_presence q ≡ true → b ≡ nothing_verdict q → IsCaseOf (IsExactly (Leaf (plain (Some text)) b)) b t → IsCaseOf (IsExactly (absent_formula text path q)) b t
   case_of_bare {t} {b} e is h = subst (λ z. IsCaseOf (IsExactly (cond z (Leaf (plain (Some text)) (nothing_verdict q)) (nothing_leaf text path))) b t) (sym e) (subst (λ z. IsCaseOf (IsExactly (Leaf (plain (Some text)) z)) b t) is h)
 
-  pub case_of_no_value : {t : Tree CaseNode} {b : Bool} → is_of_presence q ≡ false → b ≡ nothing_verdict q → IsCaseOf (IsExactly (nothing_leaf text path)) false t → IsCaseOf (IsExactly (asked_formula text path q None)) b t
+  pub case_of_no_value : {t : Tree CaseNode} {b : Bool} → is_of_presence q ≡ false → b ≡ nothing_verdict q → IsCaseOf (IsExactly (nothing_leaf text path)) false t → IsCaseOf (IsExactly (absent_formula text path q)) b t
   case_of_no_value {t} {b} e is h = subst (λ z. IsCaseOf (IsExactly (cond z (Leaf (plain (Some text)) (nothing_verdict q)) (nothing_leaf text path))) b t) (sym e) (subst (λ z. IsCaseOf (IsExactly (nothing_leaf text path)) z t) (sym (is ∙ no_presence q e)) h)
 
-module _ (text : List ℕ) (q : Query) (d : Data) where
-  pub found_of_answer : (w : Option Bool) (found : Option (Tree CaseNode)) {b : Bool} → verdict q d ≡ Some b → IsFound (IsExactly (found_leaf text d b)) w found → IsFound (IsExactly (leaf_of_verdict text q d (verdict q d))) w found
-  found_of_answer w found e h = subst (λ z. IsFound (IsExactly (leaf_of_verdict text q d z)) w found) (sym e) h
+module _ (text : List ℕ) (q : Query) (whole d : Data) where
+  pub found_of_answer : (w : Option Bool) (found : Option (Tree CaseNode)) {b : Bool} → verdict q whole d ≡ Some b → IsFound (IsExactly (found_leaf text d (shown_beside q whole d) b)) w found → IsFound (IsExactly (leaf_of_verdict text q whole d (verdict q whole d))) w found
+  found_of_answer w found e h = subst (λ z. IsFound (IsExactly (leaf_of_verdict text q whole d z)) w found) (sym e) h
 
-  pub found_of_misfit : (w : Option Bool) (found : Option (Tree CaseNode)) → verdict q d ≡ None → IsFound (IsExactly (misfit_leaf text (misfit_text q) d)) w found → IsFound (IsExactly (leaf_of_verdict text q d (verdict q d))) w found
-  found_of_misfit w found e h = subst (λ z. IsFound (IsExactly (leaf_of_verdict text q d z)) w found) (sym e) h
+  pub found_of_misfit : (w : Option Bool) (found : Option (Tree CaseNode)) → verdict q whole d ≡ None → IsFound (IsExactly (misfit_leaf text (misfit_text q whole) d (shown_beside q whole d))) w found → IsFound (IsExactly (leaf_of_verdict text q whole d (verdict q whole d))) w found
+  found_of_misfit w found e h = subst (λ z. IsFound (IsExactly (leaf_of_verdict text q whole d z)) w found) (sym e) h
+
+-- one product more, the last, on both sides
+pub one_more : (label : Label) {own b : Bool} {c t : Tree CaseNode} (p : Product) → IsShowing p.name p.value c t → IsCaseOf (IsExactly (Leaf label own)) b c → IsCaseOf (IsExactly (Leaf (with_last label p) own)) b t
+unfolding with_product
+one_more label {own} p s h =
+    let more = IsCaseOf-with_product s h in
+    record {
+      truth = HasTruth-exactly (own_truth h.truth);
+      explains = λ f x. more.explains f (record { inner = Leaf label own; of_part = record { is = refl }; is = x.is });
+    }
+
+-- with what is shown beside the value
+pub case_beside : (text : List ℕ) (d : Data) (beside : Option Product) {own b : Bool} {c t : Tree CaseNode} → ShowsBeside beside c t → IsCaseOf (IsExactly (found_leaf text d None own)) b c → IsCaseOf (IsExactly (found_leaf text d beside own)) b t
+case_beside text d None {own} {b} s h = subst (λ z. IsCaseOf (IsExactly (found_leaf text d None own)) b z) (sym s) h
+case_beside text d (Some p) s h = one_more (found_label text d None) p s h
 
 pub ruleset leavings = (HasTruth-found, HasTruth-misfit, HasTruth-nothing, case_of_bare, case_of_no_value, found_at_value, found_nowhere, found_of_answer, found_of_misfit)

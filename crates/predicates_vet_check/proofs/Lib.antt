@@ -4,5 +4,6 @@ mod Differing
 mod Finding
 mod Leaving
 mod Members
+mod Numbers
 mod Rows
 mod Ruling

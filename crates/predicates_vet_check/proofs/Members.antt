@@ -14,7 +14,7 @@ use Rattle.serde_json.specs.Find.{as_array}
 use Rattle.predicates_core.proofs.Leaves.{HasTruth-exactly}
 use Rattle.predicates_core.proofs.ThresholdCases.{has_threshold}
 use Rattle.predicates_rules.specs.declared.expression.Quantifier.{Quantifier}
-use Rattle.predicates_rules.specs.declared.expression.Quantifier.TheVariants.{Each, Any, AtLeast}
+use Rattle.predicates_rules.specs.declared.expression.Quantifier.TheVariants.{AtLeast}
 use Rattle.serde_json.specs.View.{view, items_view}
 use Rattle.serde_json.specs.declared.value.Value.{Value}
 use Rattle.predicates_rules.specs.declared.expression.Connective.{Connective}

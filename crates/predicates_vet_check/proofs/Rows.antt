@@ -1,7 +1,6 @@
 -- Literals and parts, one after the other.
 use Rattle.std.proofs.Common.{◌≡◌, ℕ, suc, ◌+◌, ◌<◌, ◌≤◌, Bool, true, false, List, [], ◌∷◌, ◌++◌, map, length, take, drop, set, get_or, refl, sym, ap, ◌∙◌, subst, arith, append-nil}
-use Rattle.std.specs.Prelude.{◌||◌, ◌==◌, flat_map}
-use Rattle.std.specs.List.{join_by}
+use Rattle.std.specs.Prelude.{◌||◌, ◌==◌}
 use Rattle.std.proofs.lemmas.Bool.Decides.{nat_tests}
 use Rattle.std.proofs.lemmas.List.{set-get_or, set_split, take_more, take_all}
 use Rattle.std.specs.Prelude.{String}
@@ -9,16 +8,17 @@ use Rattle.std.specs.declared.alloc.Global.{Global}
 use Rattle.serde_json.specs.Data.{Data}
 use Rattle.serde_json.specs.declared.value.Value.{Value as JsonValue}
 use Rattle.serde_json.specs.View.{items_view, members_view}
+use Rattle.predicates_rules.specs.Lexemes.{data_of}
 use Rattle.predicates_rules.specs.Trees.{Value, Tree, trees_of}
-use Rattle.predicates_vet_check.specs.Queries.{is_among, is_equal, order, no_item_there, no_member_there}
+use Rattle.predicates_vet_check.specs.Queries.{is_among, is_equal, order, no_item_there, no_member_there, number_of_items, number_of_members}
 use Rattle.regex.specs.Strings.{regex_pattern}
 use Rattle.regex.specs.declared.string.regex.Regex.{Regex}
 use Rattle.predicates_text.specs.Expressions.{IsReadFrom}
 use Rattle.predicates_rules.specs.declared.condition.Relation.{Relation}
 use Rattle.predicates_rules.specs.declared.condition.Relation.TheVariants as relations
 use Rattle.predicates_vet_check.specs.Queries as queries
-use Rattle.predicates_vet_check.specs.Plans.{Plan, plan_text, plans_of}
-use Rattle.predicates_vet_check.specs.Planned.{grouped, group_texts, listed_texts, separated, IsPlan, ArePlans, IsRelation}
+use Rattle.predicates_vet_check.specs.Plans.{Plan, plans_of}
+use Rattle.predicates_vet_check.specs.Planned.{IsPlan, ArePlans, IsRelation}
 
 or_assoc : (a b c : Bool) → ((a || b) || c) ≡ (a || (b || c))
 or_assoc true b c = refl
@@ -34,7 +34,7 @@ or_true false = refl
 
 among_append : (xs ys : List Value) (d : Data) → is_among (xs ++ ys) d ≡ (is_among xs d || is_among ys d)
 among_append [] ys d = refl
-among_append (x ∷ xs) ys d = ap (λ z. is_equal (order x d) || z) (among_append xs ys d) ∙ sym (or_assoc (is_equal (order x d)) (is_among xs d) (is_among ys d))
+among_append (x ∷ xs) ys d = ap (λ z. is_equal (order d (data_of x)) || z) (among_append xs ys d) ∙ sym (or_assoc (is_equal (order d (data_of x))) (is_among xs d) (is_among ys d))
 
 map_append : {X Y : Type 0} (f : X → Y) (xs ys : List X) → map f (xs ++ ys) ≡ map f xs ++ map f ys
 map_append f [] ys = refl
@@ -53,12 +53,12 @@ module _ {X : Type 0} (f : X → Value) (d : Data) where
 
   pub among_found : (us : List X) (k : ℕ) (u : X) → k < length us → u ≡ get_or us k u → is_among (f u ∷ []) d ≡ true → is_among (map f us) d ≡ true
   among_found us k u within is e =
-      ap (λ z. is_among (map f z) d) (sym (set-get_or us k u) ∙ ap (set us k) (sym is) ∙ set_split us k u within) ∙ split_among (take k us) (u ∷ drop (suc k) us) ∙ or_middle (is_among (map f (take k us)) d) (is_equal (order (f u) d)) (is_among (map f (drop (suc k) us)) d) (sym (or_false (is_equal (order (f u) d))) ∙ e)
+      ap (λ z. is_among (map f z) d) (sym (set-get_or us k u) ∙ ap (set us k) (sym is) ∙ set_split us k u within) ∙ split_among (take k us) (u ∷ drop (suc k) us) ∙ or_middle (is_among (map f (take k us)) d) (is_equal (order d (data_of (f u)))) (is_among (map f (drop (suc k) us)) d) (sym (or_false (is_equal (order d (data_of (f u))))) ∙ e)
 
   pub among_none : (us : List X) (k : ℕ) → length us ≤ k → is_among (map f (take k us)) d ≡ false → is_among (map f us) d ≡ false
   among_none us k all h = ap (λ z. is_among (map f z) d) (sym (take_all k us all)) ∙ h
 
--- ---- emptiness
+-- ---- how much is in a value
 
 suc_not_zero : (n : ℕ) → (suc n == 0) ≡ false
 suc_not_zero n = grind (arith, nat_tests)
@@ -71,28 +71,13 @@ pub no_members_are : (ms : List (String Global × JsonValue)) → (length ms == 
 no_members_are [] = refl
 no_members_are (m ∷ ms) = suc_not_zero (length ms)
 
--- ---- texts with a separator
+pub items_counted : (vs : List JsonValue) → length vs ≡ number_of_items (items_view vs)
+items_counted [] = refl
+items_counted (v ∷ vs) = ap suc (items_counted vs)
 
-module _ {X : Type 0} (f : X → List ℕ) (separator : List ℕ) where
-  flat : (xs : List X) → flat_map (λ y. separator ++ f y) xs ≡ flat_map (λ t. separator ++ t) (map f xs)
-  flat [] = refl
-  flat (x ∷ xs) = ap (λ z. (separator ++ f x) ++ z) (flat xs)
-
-  pub joined_texts : (xs : List X) → join_by f separator xs ≡ separated separator (map f xs)
-  joined_texts [] = refl
-  joined_texts (x ∷ xs) = ap (λ z. f x ++ z) (flat xs)
-
-pub map_of_map : {X Y Z : Type 0} (g : Y → Z) (f : X → Y) (xs : List X) → map (λ x. g (f x)) xs ≡ map g (map f xs)
-map_of_map g f [] = refl
-map_of_map g f (x ∷ xs) = ap (λ z. g (f x) ∷ z) (map_of_map g f xs)
-
-pub groups_of : {X : Type 0} (f : X → Plan) (xs : List X) → map (λ x. grouped (f x)) xs ≡ group_texts (plans_of (map f xs))
-groups_of f [] = refl
-groups_of f (x ∷ xs) = ap (λ z. grouped (f x) ∷ z) (groups_of f xs)
-
-pub texts_of : {X : Type 0} (f : X → Plan) (xs : List X) → map (λ x. plan_text (f x)) xs ≡ listed_texts (plans_of (map f xs))
-texts_of f [] = refl
-texts_of f (x ∷ xs) = ap (λ z. plan_text (f x) ∷ z) (texts_of f xs)
+pub members_counted : (ms : List (String Global × JsonValue)) → length ms ≡ number_of_members (members_view ms)
+members_counted [] = refl
+members_counted (m ∷ ms) = ap suc (members_counted ms)
 
 -- ---- the checks of expressions
 

@@ -1,5 +1,6 @@
 pub mod Alike
 pub mod Patterns
+pub mod Numbers
 pub mod Queries
 pub mod Plans
 pub mod PlanLaws

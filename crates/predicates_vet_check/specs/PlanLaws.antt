@@ -24,13 +24,13 @@ module _ (text : List ℕ) where
   absent_text path own true = refl
   absent_text path own false = refl
 
-  verdict_text : (q : Query) (d : Data) (v : Option Bool) → text_of (leaf_of_verdict text q d v) ≡ Some text
-  verdict_text q d None = refl
-  verdict_text q d (Some own) = refl
+  verdict_text : (q : Query) (whole d : Data) (v : Option Bool) → text_of (leaf_of_verdict text q whole d v) ≡ Some text
+  verdict_text q whole d None = refl
+  verdict_text q whole d (Some own) = refl
 
-  pub asked_text : (path : List ℕ) (q : Query) (o : Option Data) → text_of (asked_formula text path q o) ≡ Some text
-  asked_text path q None = absent_text path (nothing_verdict q) (is_of_presence q)
-  asked_text path q (Some d) = verdict_text q d (verdict q d)
+  pub asked_text : (path : List ℕ) (q : Query) (whole : Data) (o : Option Data) → text_of (asked_formula text path q whole o) ≡ Some text
+  asked_text path q whole None = absent_text path (nothing_verdict q) (is_of_presence q)
+  asked_text path q whole (Some d) = verdict_text q whole d (verdict q whole d)
 
   joined_text : (c : Connective) (fs : Formulas) → text_of (joined_formula text c fs) ≡ Some text
   joined_text Or fs = refl
@@ -63,7 +63,7 @@ module _ (text : List ℕ) where
   ranged_text path q g (Some d) = array_text d q g (as_array d)
 
 root_text : (p : Plan) (d : Data) → text_of (plan_formula p d) ≡ Some (plan_text p)
-root_text (Asks text path q) d = asked_text text path q (pointer path d)
+root_text (Asks text path q) d = asked_text text path q d (pointer path d)
 root_text (Denies text e) d = refl
 root_text (Joins text c nothing) d = refl
 root_text (Joins text c (also e es)) d = joined_text text c (part_formulas (plan_formula e d) es d)
@@ -73,8 +73,8 @@ root_text (Ranges text path q e) d = ranged_text text path q (plan_formula e) (p
 pub plan_text_fits : (p : Plan) (d : Data) {f : Formula} → IsExactly (plan_formula p d) f → FitsEntry (text_of f) (Some (plan_text p))
 plan_text_fits p d h = text_fits_exactly (root_text p d) h
 
-pub asked_text_fits : (text path : List ℕ) (q : Query) (o : Option Data) {f : Formula} → IsExactly (asked_formula text path q o) f → FitsEntry (text_of f) (Some text)
-asked_text_fits text path q o h = text_fits_exactly (asked_text text path q o) h
+pub asked_text_fits : (text path : List ℕ) (q : Query) (whole : Data) (o : Option Data) {f : Formula} → IsExactly (asked_formula text path q whole o) f → FitsEntry (text_of f) (Some text)
+asked_text_fits text path q whole o h = text_fits_exactly (asked_text text path q whole o) h
 
 pub rule_text_fits : (name : List ℕ) (p : Plan) (d : Data) {f : Formula} → IsExactly (rule_formula name p d) f → FitsEntry (text_of f) (Some name)
 rule_text_fits name p d h = text_fits_exactly refl h

@@ -1,18 +1,21 @@
 -- What a check is, apart from where it lies in memory, and its formula on a value.
-use Rattle.std.specs.Prelude.{ℕ, List, [], ◌∷◌, ◌++◌, Bool, true, false, not, Option, Some, None, cond, codes}
+use Rattle.std.specs.Prelude.{◌≡◌, ℕ, List, [], ◌∷◌, Bool, true, false, not, Option, Some, None, option_map, cond, codes, decimal}
 use Rattle.serde_json.specs.Data.{Data, Items, no_items, item}
 use Rattle.serde_json.specs.Find.{pointer, as_array}
 use Rattle.serde_json.specs.Written.{has_float, compact_text}
-use Rattle.predicates_core.specs.Label.{Entry, plain, showing, showing_both}
+use Rattle.predicates_core.specs.Label.{Entry, Product, Label, plain, showing, value_of, with_last}
 use Rattle.predicates_core.specs.declared.custom.join.Operator.TheVariants as operators
 use Rattle.predicates_core.specs.Formula.{Formula, Leaf, Join, Not, Formulas, one, more}
+use Rattle.predicates_core.specs.Leaves.{IsShowing}
+use Rattle.predicates_core.specs.Tree.{Tree}
+use Rattle.predicates_core.specs.Describe.{CaseNode}
 use Rattle.predicates_core.specs.Several.{decided_by, numbered, no_members}
 use Rattle.predicates_core.specs.Thresholds.{threshold_formula}
 use Rattle.predicates_rules.specs.declared.expression.Connective.{Connective}
 use Rattle.predicates_rules.specs.declared.expression.Connective.TheVariants.{Or, Xor, And}
 use Rattle.predicates_rules.specs.declared.expression.Quantifier.{Quantifier}
 use Rattle.predicates_rules.specs.declared.expression.Quantifier.TheVariants.{Each, Any, AtLeast}
-use Rattle.predicates_vet_check.specs.Queries.{Query, verdict, nothing_verdict, is_of_presence, misfit_text}
+use Rattle.predicates_vet_check.specs.Queries.{Query, ComparesWith, HasLength, verdict, length_of, nothing_verdict, is_of_presence, nothing_text, misfit_text}
 
 mutual
   -- each with the text that it prints
@@ -37,33 +40,54 @@ plans_of (e ∷ es) = also e (plans_of es)
 abbrev pub found_text : Data → Entry
 found_text d = cond (has_float d) None (Some (compact_text d))
 
--- a path as a rule writes it
-abbrev pub path_text : List ℕ → List ℕ
-path_text [] = codes "/"
-path_text (b ∷ bytes) = b ∷ bytes
-
-abbrev pub nothing_text : List ℕ → List ℕ
-nothing_text path = codes "nothing at " ++ path_text path
-
 -- a false leaf that says that nothing stands at the path
 abbrev pub nothing_leaf : List ℕ → List ℕ → Formula
 nothing_leaf text path = Leaf (showing (Some text) (codes "error") (Some (nothing_text path))) false
 
--- a false leaf that shows a value of a kind that can't answer
-abbrev pub misfit_leaf : List ℕ → List ℕ → Data → Formula
-misfit_leaf text error d = Leaf (showing_both (Some text) (codes "found") (found_text d) (codes "error") (Some error)) false
+-- the value that a leaf asks about, and what else it may show
+abbrev pub found_products : Data → Option Product → List Product
+found_products d None = value_of (codes "found") (found_text d)
+found_products d (Some beside) = record { name = codes "found"; value = found_text d } ∷ beside ∷ []
 
--- a leaf that shows the value that it asks about
-abbrev pub found_leaf : List ℕ → Data → Bool → Formula
-found_leaf text d own = Leaf (showing (Some text) (codes "found") (found_text d)) own
+abbrev pub found_label : List ℕ → Data → Option Product → Label
+found_label text d beside = record { text = Some text; products = found_products d beside }
 
-abbrev pub leaf_of_verdict : List ℕ → Query → Data → Option Bool → Formula
-leaf_of_verdict text q d None = misfit_leaf text (misfit_text q) d
-leaf_of_verdict text q d (Some own) = found_leaf text d own
+abbrev pub found_leaf : List ℕ → Data → Option Product → Bool → Formula
+found_leaf text d beside own = Leaf (found_label text d beside) own
 
-abbrev pub asked_formula : List ℕ → List ℕ → Query → Option Data → Formula
-asked_formula text path q None = cond (is_of_presence q) (Leaf (plain (Some text)) (nothing_verdict q)) (nothing_leaf text path)
-asked_formula text path q (Some d) = leaf_of_verdict text q d (verdict q d)
+-- a false leaf that shows the value, and says why it can't answer
+abbrev pub misfit_leaf : List ℕ → List ℕ → Data → Option Product → Formula
+misfit_leaf text error d beside = Leaf (with_last (found_label text d beside) (record { name = codes "error"; value = Some error })) false
+
+-- the value that stands at another path
+abbrev pub other_product : Data → Product
+other_product d = record { name = codes "other"; value = found_text d }
+
+abbrev pub length_product : ℕ → Product
+length_product n = record { name = codes "len"; value = Some (decimal n) }
+
+-- what is shown beside the value
+abbrev pub shown_beside : Query → (whole d : Data) → Option Product
+shown_beside (ComparesWith o path) whole d = option_map other_product (pointer path whole)
+shown_beside (HasLength o n) whole d = option_map length_product (length_of d)
+shown_beside q whole d = None
+
+-- t is c that shows it too, where there is one
+abbrev pub ShowsBeside : Option Product → (c t : Tree CaseNode) → Type 0
+ShowsBeside None c t = t ≡ c
+ShowsBeside (Some beside) c t = IsShowing beside.name beside.value c t
+
+abbrev pub leaf_of_verdict : List ℕ → Query → (whole d : Data) → Option Bool → Formula
+leaf_of_verdict text q whole d None = misfit_leaf text (misfit_text q whole) d (shown_beside q whole d)
+leaf_of_verdict text q whole d (Some own) = found_leaf text d (shown_beside q whole d) own
+
+-- where nothing stands at the path
+abbrev pub absent_formula : List ℕ → List ℕ → Query → Formula
+absent_formula text path q = cond (is_of_presence q) (Leaf (plain (Some text)) (nothing_verdict q)) (nothing_leaf text path)
+
+abbrev pub asked_formula : List ℕ → List ℕ → Query → (whole : Data) → Option Data → Formula
+asked_formula text path q whole None = absent_formula text path q
+asked_formula text path q whole (Some d) = leaf_of_verdict text q whole d (verdict q whole d)
 
 -- ---- what is over several
 
@@ -91,7 +115,7 @@ abbrev pub not_an_array : List ℕ
 not_an_array = codes "not an array"
 
 abbrev pub over_array : List ℕ → Data → Quantifier → (Data → Formula) → Option Items → Formula
-over_array text d q g None = misfit_leaf text not_an_array d
+over_array text d q g None = misfit_leaf text not_an_array d None
 over_array text d q g (Some ds) = over_items text q g ds
 
 abbrev pub range_formula : List ℕ → List ℕ → Quantifier → (Data → Formula) → Option Data → Formula
@@ -113,7 +137,7 @@ empty_truth And = true
 abbrev mutual
   -- the formula of a check on a value
   pub plan_formula : Plan → Data → Formula
-  plan_formula (Asks text path q) d = asked_formula text path q (pointer path d)
+  plan_formula (Asks text path q) d = asked_formula text path q d (pointer path d)
   plan_formula (Denies text e) d = Not (plain (Some text)) (plan_formula e d)
   plan_formula (Joins text c nothing) d = no_members (Some text) (empty_truth c)
   plan_formula (Joins text c (also e es)) d = joined_formula text c (part_formulas (plan_formula e d) es d)

@@ -1,17 +1,23 @@
 //! The cases of leaves that show what was found, or say what is wrong.
 ghost use Rattle.std.specs.Prelude.{false, []};
 ghost use Rattle.predicates_core.specs.Shows.{IsNode};
-ghost use Rattle.std.specs.Prelude.{◌≡◌, IfOk, IfSome, Some, string_bytes};
+ghost use Rattle.std.specs.Prelude.{◌≡◌, IfOk, IfSome, None, Some, option_map, string_bytes};
 ghost use Rattle.predicates_core.specs.Formula.{Leaf};
 ghost use Rattle.predicates_core.specs.Label.{plain};
 ghost use Rattle.predicates_core.specs.Leaves.{IsExactly};
 ghost use Rattle.predicates_core.specs.Shows.{IsCaseOf, IsFound};
+ghost use Rattle.serde_json.specs.Find.{pointer};
 ghost use Rattle.serde_json.specs.View.{view};
-ghost use Rattle.predicates_vet_check.specs.Plans.{path_text, found_text, nothing_text, nothing_leaf, misfit_leaf, found_leaf};
+ghost use Rattle.predicates_vet_check.specs.Plans.{found_text, nothing_leaf, misfit_leaf};
+ghost use Rattle.predicates_vet_check.specs.Plans.{found_leaf};
+ghost use Rattle.predicates_vet_check.specs.Plans.{ShowsBeside, other_product, length_product};
+ghost use Rattle.predicates_vet_check.specs.Queries.{path_text, apart_text, length_of};
 
+use crate::contents::length;
 use predicates_core::custom::is_other;
 use predicates_core::node::{leaf_node, showing, showing_text};
 use predicates_core::reflection::Case;
+use predicates_json::value_at;
 use serde_json::Value;
 use std::alloc::{AllocError, Global};
 
@@ -67,7 +73,8 @@ pub(crate) fn found_at(
     value: &Value,
     holds: bool,
 ) -> Result<Case, AllocError>
-    ensures { IfOk result (IsCaseOf (IsExactly (found_leaf text.now (view value.now) holds)) holds) }
+    ensures { IfOk result
+        (IsCaseOf (IsExactly (found_leaf text.now (view value.now) None holds)) holds) }
 {
     let node = bare_node(alloc, text, holds)?;
     let found = found(alloc, value)?;
@@ -81,29 +88,52 @@ pub(crate) fn misfit_at(
     value: &Value,
     error: &str,
 ) -> Result<Case, AllocError>
-    ensures { IfOk result (IsCaseOf (IsExactly (misfit_leaf text.now error.now (view value.now))) false) }
+    ensures { IfOk result
+        (IsCaseOf (IsExactly (misfit_leaf text.now error.now (view value.now) None)) false) }
 {
-    let node = bare_node(alloc, text, false)?;
-    let found = found(alloc, value)?;
-    let shown = showing(node, "found", found)?;
-    Ok(showing_text(alloc, shown, "error", error)?)
+    let case = found_at(alloc, text, value, false)?;
+    Ok(showing_text(alloc, case, "error", error)?)
 }
 
-/// What is found of a leaf that shows the value, and holds or not.
-pub(crate) fn answer_found(
+/// The case with the value that stands at another path within the whole, if one does.
+pub(crate) fn showing_other(
     alloc: Global,
-    text: &str,
-    value: &Value,
-    holds: bool,
-    wanted: Option<bool>,
-) -> Result<Option<Case>, AllocError>
-    ensures { IfOk result (IsFound (IsExactly (found_leaf text.now (view value.now) holds)) wanted) }
+    case: Case,
+    whole: &Value,
+    path: &str,
+) -> Result<Case, AllocError>
+    ensures { IfOk result (λ shown. ShowsBeside
+        (option_map other_product (pointer path.now (view whole.now))) case shown) }
 {
-    if is_other(wanted, holds) {
-        return Ok(None);
+    let Some(value) = value_at(whole, path) else {
+        return Ok(case);
+    };
+    let found = found(alloc, value)?;
+    Ok(showing(case, "other", found)?)
+}
+
+/// The case with the number of what is in the value, if it may hold something.
+pub(crate) fn showing_length(alloc: Global, case: Case, value: &Value) -> Result<Case, AllocError>
+    ensures { IfOk result (λ shown. ShowsBeside
+        (option_map length_product (length_of (view value.now))) case shown) }
+{
+    let Some(length) = length(value) else {
+        return Ok(case);
+    };
+    let shown = format!(in alloc; "{length}")?;
+    Ok(showing(case, "len", shown)?)
+}
+
+/// What is said where a value does not compare with what stands at the path within the whole.
+pub(crate) fn apart(alloc: Global, whole: &Value, path: &str) -> Result<String, AllocError>
+    ensures { IfOk result (λ text.
+        string_bytes text ≡ apart_text path.now (pointer path.now (view whole.now))) }
+{
+    let shown = path_shown(path);
+    match value_at(whole, path) {
+        Some(_) => format!(in alloc; "not comparable with {shown}"),
+        None => format!(in alloc; "nothing at {shown}"),
     }
-    let case = found_at(alloc, text, value, holds)?;
-    Ok(Some(case))
 }
 
 /// What is found of a false leaf that shows the value, and says why it can't answer.
@@ -115,7 +145,7 @@ pub(crate) fn misfit_found(
     wanted: Option<bool>,
 ) -> Result<Option<Case>, AllocError>
     ensures { IfOk result
-        (IsFound (IsExactly (misfit_leaf text.now error.now (view value.now))) wanted) }
+        (IsFound (IsExactly (misfit_leaf text.now error.now (view value.now) None)) wanted) }
 {
     if is_other(wanted, false) {
         return Ok(None);

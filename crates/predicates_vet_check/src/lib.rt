@@ -9,9 +9,12 @@
 pub mod check;
 mod check_error;
 mod compile;
+mod contents;
 mod kept_matcher;
 mod leaf;
 mod matchers;
+mod number;
+mod order;
 mod path_test;
 mod pattern;
 mod question;

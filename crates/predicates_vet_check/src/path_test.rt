@@ -6,18 +6,20 @@ ghost use Rattle.predicates_core.specs.Leaves.{IsExactly};
 ghost use Rattle.predicates_core.specs.LeafLaws.{one_exactly};
 ghost use Rattle.serde_json.specs.Find.{pointer};
 ghost use Rattle.serde_json.specs.View.{view};
-ghost use Rattle.std.specs.Prelude.{IfOk, None};
+ghost use Rattle.std.specs.Prelude.{IfOk, false};
 ghost use Rattle.predicates_core.specs.Shows.{IsCaseOf, IsFound};
 ghost use Rattle.predicates_vet_check.specs.Queries.{verdict};
 ghost use Rattle.predicates_vet_check.specs.PlanLaws.{asked_text_fits};
-ghost use Rattle.predicates_vet_check.specs.Plans.{asked_formula, leaf_of_verdict};
-ghost use Rattle.predicates_vet_check.specs.Queries.{nothing_verdict};
+ghost use Rattle.predicates_vet_check.specs.Plans.{asked_formula, absent_formula, leaf_of_verdict};
+ghost use Rattle.predicates_vet_check.specs.Plans.{found_leaf, misfit_leaf, shown_beside};
+ghost use Rattle.predicates_vet_check.specs.Queries.{nothing_verdict, misfit_text};
 ghost use Rattle.predicates_vet_check.specs.Tests.{text_of_test, path_of_test, query_of_test};
 
-use crate::leaf::{answer_found, bare_leaf, misfit_found, nothing_at};
+use crate::leaf::{bare_leaf, found_at, nothing_at};
 use crate::matchers::Matchers;
 use crate::question::Question;
 use predicates_core::custom::{is_other, leaf_change};
+use predicates_core::node::showing;
 use predicates_core::reflection::{Case, Child, Parameter, PredicateReflection};
 use predicates_core::{Predicate, PredicateChange, Total};
 use predicates_json::value_at;
@@ -66,49 +68,119 @@ impl PathTest {
         item: &Value,
     ) -> Result<bool, AllocError>
         ensures { IfOk result (HasTruth (IsExactly (asked_formula (text_of_test self.now)
-            (path_of_test self.now) (query_of_test self.now)
+            (path_of_test self.now) (query_of_test self.now) (view item.now)
             (pointer (path_of_test self.now) (view item.now))))) }
     {
         let Some(value) = value_at(item, &self.path) else {
             return Ok(self.question.holds_of_nothing());
         };
-        match self.question.verdict(alloc, matchers, value)? {
+        match self.question.verdict(alloc, matchers, item, value)? {
             Some(holds) => Ok(holds),
             None => Ok(false),
         }
     }
 
-    // What is found of a value that stands at the path.
+    // What is found of a value that stands at the path within the whole.
     #[tactic(auto, using(crate::proofs::Leaving::leavings))]
     fn value_found(
         &self,
         alloc: Global,
+        whole: &Value,
         value: &Value,
         wanted: Option<bool>,
     ) -> Result<Option<Case>, AllocError>
         ensures { IfOk result (IsFound (IsExactly (leaf_of_verdict (text_of_test self.now)
-            (query_of_test self.now) (view value.now)
-            (verdict (query_of_test self.now) (view value.now)))) wanted) }
+            (query_of_test self.now) (view whole.now) (view value.now)
+            (verdict (query_of_test self.now) (view whole.now) (view value.now)))) wanted) }
     {
         let mut matchers = Matchers::new(alloc);
-        match self.question.verdict(alloc, &mut matchers, value)? {
+        match self.question.verdict(alloc, &mut matchers, whole, value)? {
             Some(holds) => {
-                let found = answer_found(alloc, &self.text, value, holds, wanted)?;
+                let found = self.answer_found(alloc, whole, value, holds, wanted)?;
                 Ok(found)
             }
             None => {
-                let error = self.question.misfit();
-                let found = misfit_found(alloc, &self.text, error, value, wanted)?;
+                let found = self.misfit_found(alloc, whole, value, wanted)?;
                 Ok(found)
             }
         }
     }
 
+    // What is found of a value that answers.
+    fn answer_found(
+        &self,
+        alloc: Global,
+        whole: &Value,
+        value: &Value,
+        holds: bool,
+        wanted: Option<bool>,
+    ) -> Result<Option<Case>, AllocError>
+        ensures { IfOk result (IsFound (IsExactly (found_leaf (text_of_test self.now)
+            (view value.now)
+            (shown_beside (query_of_test self.now) (view whole.now) (view value.now)) holds))
+            wanted) }
+    {
+        if is_other(wanted, holds) {
+            return Ok(None);
+        }
+        let case = self.value_case(alloc, whole, value, holds)?;
+        Ok(Some(case))
+    }
+
+    // What is found of a value that can't answer.
+    fn misfit_found(
+        &self,
+        alloc: Global,
+        whole: &Value,
+        value: &Value,
+        wanted: Option<bool>,
+    ) -> Result<Option<Case>, AllocError>
+        ensures { IfOk result (IsFound (IsExactly (misfit_leaf (text_of_test self.now)
+            (misfit_text (query_of_test self.now) (view whole.now)) (view value.now)
+            (shown_beside (query_of_test self.now) (view whole.now) (view value.now))))
+            wanted) }
+    {
+        if is_other(wanted, false) {
+            return Ok(None);
+        }
+        let case = self.misfit_case(alloc, whole, value)?;
+        Ok(Some(case))
+    }
+
+    // The case that shows the value, and what is shown beside it.
+    fn value_case(
+        &self,
+        alloc: Global,
+        whole: &Value,
+        value: &Value,
+        holds: bool,
+    ) -> Result<Case, AllocError>
+        ensures { IfOk result (IsCaseOf (IsExactly (found_leaf (text_of_test self.now)
+            (view value.now)
+            (shown_beside (query_of_test self.now) (view whole.now) (view value.now)) holds))
+            holds) }
+    {
+        let case = found_at(alloc, &self.text, value, holds)?;
+        let shown = self.question.showing_beside(alloc, case, whole, value)?;
+        Ok(shown)
+    }
+
+    // The same of a value that can't answer, with why.
+    fn misfit_case(&self, alloc: Global, whole: &Value, value: &Value) -> Result<Case, AllocError>
+        ensures { IfOk result (IsCaseOf (IsExactly (misfit_leaf (text_of_test self.now)
+            (misfit_text (query_of_test self.now) (view whole.now)) (view value.now)
+            (shown_beside (query_of_test self.now) (view whole.now) (view value.now)))) false) }
+    {
+        let case = self.value_case(alloc, whole, value, false)?;
+        let error = self.question.misfit(alloc, whole)?;
+        Ok(showing(case, "error", error)?)
+    }
+
     // What is found where nothing stands at the path.
     #[tactic(auto, using(crate::proofs::Leaving::leavings))]
     fn nothing_found(&self, alloc: Global, wanted: Option<bool>) -> Result<Option<Case>, AllocError>
-        ensures { IfOk result (IsFound (IsExactly (asked_formula (text_of_test self.now)
-            (path_of_test self.now) (query_of_test self.now) None)) wanted) }
+        ensures { IfOk result (IsFound (IsExactly (absent_formula (text_of_test self.now)
+            (path_of_test self.now) (query_of_test self.now))) wanted) }
     {
         let holds = self.question.holds_of_nothing();
         if is_other(wanted, holds) {
@@ -121,8 +193,8 @@ impl PathTest {
     #[tactic(auto, using(crate::proofs::Leaving::leavings))]
     fn nothing_case(&self, alloc: Global, holds: bool) -> Result<Case, AllocError>
         requires truth { holds ≡ nothing_verdict (query_of_test self.now) }
-        ensures { IfOk result (IsCaseOf (IsExactly (asked_formula (text_of_test self.now)
-            (path_of_test self.now) (query_of_test self.now) None)) holds) }
+        ensures { IfOk result (IsCaseOf (IsExactly (absent_formula (text_of_test self.now)
+            (path_of_test self.now) (query_of_test self.now))) holds) }
     {
         if self.question.is_of_presence() {
             let case = bare_leaf(alloc, &self.text, holds)?;
@@ -135,12 +207,12 @@ impl PathTest {
 
 impl Predicate<Value> for PathTest {
     ghost formula = { λ t v. IsExactly (asked_formula (text_of_test t) (path_of_test t)
-        (query_of_test t) (pointer (path_of_test t) (view v))) };
+        (query_of_test t) (view v) (pointer (path_of_test t) (view v))) };
 
     ghost infallible = { λ _ _. ⊥ };
 
     ghost text_fits = { λ t v f. asked_text_fits (text_of_test t)
-        (path_of_test t) (query_of_test t) (pointer (path_of_test t) (view v)) };
+        (path_of_test t) (query_of_test t) (view v) (pointer (path_of_test t) (view v)) };
 
     ghost one_formula = { λ t v f g lawful. one_exactly };
 
@@ -168,7 +240,7 @@ impl Predicate<Value> for PathTest {
     ) -> Result<Option<Case>, AllocError> {
         match value_at(item, &self.path) {
             Some(value) => {
-                let found = self.value_found(alloc, value, wanted)?;
+                let found = self.value_found(alloc, item, value, wanted)?;
                 Ok(found)
             }
             None => {
@@ -192,7 +264,7 @@ impl PredicateChange<Value> for PathTest {
 
 impl Total<Value> for PathTest {
     ghost formula_of = { λ t v. asked_formula (text_of_test t) (path_of_test t)
-        (query_of_test t) (pointer (path_of_test t) (view v)) };
+        (query_of_test t) (view v) (pointer (path_of_test t) (view v)) };
 
     ghost always_lawful = { λ _. tt };
 

@@ -1,21 +1,23 @@
 //! What a test asks of the value at its path.
-ghost use Rattle.std.specs.Prelude.{◌∷◌, []};
-ghost use Rattle.predicates_vet_check.specs.Queries.{nothing_verdict, is_of_presence, text_fits, no_item_there, no_member_there};
-ghost use Rattle.std.specs.Prelude.{◌≡◌, IfOk, string_bytes, option_map, map};
-ghost use Rattle.serde_json.specs.View.{view, number_view, items_view, members_view};
-ghost use Rattle.serde_json.specs.Find.{as_integer, as_number};
-ghost use Rattle.predicates_rules.specs.Trees.{value_of};
-ghost use Rattle.predicates_vet_check.specs.Queries.{query_of, verdict, order, is_among, empty_verdict};
-ghost use Rattle.predicates_vet_check.specs.Queries.{holds_in, misfit_text};
+ghost use Rattle.std.specs.Prelude.{◌≡◌, IfOk, option_map, string_bytes};
+ghost use Rattle.std.specs.Ordering.{nat_cmp};
+ghost use Rattle.serde_json.specs.View.{view};
+ghost use Rattle.predicates_vet_check.specs.Plans.{ShowsBeside, shown_beside};
+ghost use Rattle.predicates_vet_check.specs.Queries.{query_of, verdict, text_fits, length_of};
+ghost use Rattle.predicates_vet_check.specs.Queries.{holds_in};
+ghost use Rattle.predicates_vet_check.specs.Queries.{nothing_verdict, is_of_presence, misfit_text};
 
+use crate::contents::{emptiness, is_of, length};
+use crate::leaf::{apart, showing_length, showing_other};
 use crate::matchers::Matchers;
+use crate::order::{is_in, is_one_of, order_to_literal, order_to_place};
 use crate::pattern::Pattern;
-use predicates_rules::condition::{Comparison, State};
+use predicates_core::reflection::Case;
+use predicates_rules::condition::{Comparison, State, ValueKind};
 use predicates_rules::literal::Literal;
 use predicates_text::search;
-use serde_json::{Map, Number, Value};
+use serde_json::Value;
 use std::alloc::{AllocError, Global};
-use std::cmp::Ordering;
 
 /// What a test asks of the value at its path.
 #[derive(Drop)]
@@ -24,6 +26,12 @@ pub enum Question {
     Is(State),
     /// How it compares with a literal of its kind.
     Compare(Comparison, Literal),
+    /// How it compares with what stands at another path, which begins where its own does.
+    CompareWith(Comparison, String),
+    /// How many characters, items or members it has.
+    Length(Comparison, u64),
+    /// Whether it is of this kind.
+    IsOf(ValueKind),
     /// Whether the text begins with another.
     StartsWith(String),
     /// Whether the text ends with another.
@@ -36,104 +44,42 @@ pub enum Question {
     In(Vec<Literal>),
 }
 
-fn integer_of(number: &Number) -> Option<i128>
-    ensures { result ≡ as_integer (number_view number.now) }
+fn compares_in_length(value: &Value, comparison: Comparison, number: u64) -> Option<bool>
+    ensures { result ≡ option_map (λ k. holds_in comparison (nat_cmp k number))
+        (length_of (view value.now)) }
 {
-    if let Some(n) = number.as_u64() {
-        return Some(n as i128);
-    }
-    match number.as_i64() {
-        Some(n) => Some(n as i128),
-        None => None,
-    }
-}
-
-// How the value stands to the literal, where it is of its kind. Every value but null is above null.
-fn order_of(value: &Value, literal: &Literal) -> Option<Ordering>
-    ensures { result ≡ order (value_of literal.now) (view value.now) }
-{
-    match literal {
-        Literal::Natural(n) => Some(integer_of(value.as_number()?)?.cmp(&(*n as i128))),
-        Literal::Negative(n) => Some(integer_of(value.as_number()?)?.cmp(&(*n as i128))),
-        Literal::Text(text) => Some(value.as_str()?.cmp(text.as_str())),
-        Literal::Boolean(truth) => Some(value.as_bool()?.cmp(truth)),
-        Literal::Null if value.is_null() => Some(Ordering::Equal),
-        Literal::Null => Some(Ordering::Greater),
-    }
-}
-
-fn is_in(comparison: Comparison, order: Ordering) -> bool
-    ensures { result ≡ holds_in comparison order }
-{
-    match comparison {
-        Comparison::Equal => order.is_eq(),
-        Comparison::Unequal => order.is_ne(),
-        Comparison::Below => order.is_lt(),
-        Comparison::AtMost => order.is_le(),
-        Comparison::Above => order.is_gt(),
-        Comparison::AtLeast => order.is_ge(),
-    }
-}
-
-fn equals(value: &Value, literal: &Literal) -> bool
-    ensures { result ≡ is_among (value_of literal.now ∷ []) (view value.now) }
-{
-    order_of(value, literal) == Some(Ordering::Equal)
-}
-
-fn is_one_of(value: &Value, literals: &[Literal]) -> bool
-    ensures { result ≡ is_among (map value_of literals.now) (view value.now) }
-{
-    for literal in literals {
-        if equals(value, literal) {
-            return true;
-        }
-    }
-    false
-}
-
-fn has_no_item(items: &Vec<Value>) -> bool
-    ensures { result ≡ no_item_there (items_view items.now.items) }
-{
-    items.is_empty()
-}
-
-fn has_no_member(members: &Map<String, Value>) -> bool
-    ensures { result ≡ no_member_there (members_view members.now.entries) }
-{
-    members.is_empty()
-}
-
-// Whether nothing is in it, if it may hold something.
-fn emptiness(value: &Value) -> Option<bool>
-    ensures { result ≡ empty_verdict (view value.now) }
-{
-    match value {
-        Value::String(text) => Some(text.is_empty()),
-        Value::Array(items) => Some(has_no_item(items)),
-        Value::Object(members) => Some(has_no_member(members)),
-        _ => None,
-    }
+    let length = length(value)? as u64;
+    Some(is_in(comparison, length.cmp(&number)))
 }
 
 impl Question {
-    // Whether the value answers it, or none where the value is of a kind that can't. It takes
-    // memory for a regular expression alone.
+    // Whether the value, which stands at the test's path within the whole, answers it, or none
+    // where it can't. It takes memory for a regular expression alone.
     pub(crate) fn verdict<'r>(
         &'r self,
         alloc: Global,
         matchers: &mut Matchers<'r>,
+        whole: &Value,
         value: &Value,
     ) -> Result<Option<bool>, AllocError>
-        ensures { IfOk result (λ found. found ≡ verdict (query_of self.now) (view value.now)) }
+        ensures { IfOk result (λ found.
+            found ≡ verdict (query_of self.now) (view whole.now) (view value.now)) }
     {
         match self {
             Question::Is(State::Exists) => Ok(Some(true)),
             Question::Is(State::Missing) => Ok(Some(false)),
             Question::Is(State::IsEmpty) => Ok(emptiness(value)),
             Question::Compare(comparison, literal) => {
-                Ok(order_of(value, literal).map(|order| is_in(*comparison, order)))
+                Ok(order_to_literal(value, literal).map(|order| is_in(*comparison, order)))
             }
+            Question::CompareWith(comparison, path) => {
+                let order = order_to_place(value, whole, path);
+                Ok(order.map(|order| is_in(*comparison, order)))
+            }
+            Question::Length(comparison, number) => {
+                Ok(compares_in_length(value, *comparison, *number))
+            }
+            Question::IsOf(kind) => Ok(Some(is_of(*kind, value))),
             Question::In(literals) => Ok(Some(is_one_of(value, literals))),
             _ => match value.as_str() {
                 Some(text) => Ok(Some(self.fits(alloc, matchers, text)?)),
@@ -180,17 +126,48 @@ impl Question {
         }
     }
 
-    // What is said of a value of another kind.
-    pub(crate) fn misfit(&self) -> &'static str
-        ensures { result.now ≡ misfit_text (query_of self.now) }
+    // The case with what is shown beside the value.
+    pub(crate) fn showing_beside(
+        &self,
+        alloc: Global,
+        case: Case,
+        whole: &Value,
+        value: &Value,
+    ) -> Result<Case, AllocError>
+        ensures { IfOk result (λ shown. ShowsBeside
+            (shown_beside (query_of self.now) (view whole.now) (view value.now)) case shown) }
     {
         match self {
-            Question::Compare(_, Literal::Natural(_) | Literal::Negative(_)) => {
-                "not a whole number"
+            Question::CompareWith(_, path) => {
+                let shown = showing_other(alloc, case, whole, path)?;
+                Ok(shown)
             }
-            Question::Compare(_, Literal::Boolean(_)) => "not true or false",
-            Question::Is(_) => "not a string, an array or an object",
-            _ => "not a string",
+            Question::Length(_, _) => {
+                let shown = showing_length(alloc, case, value)?;
+                Ok(shown)
+            }
+            _ => Ok(case),
+        }
+    }
+
+    // What is said of a value that can't answer.
+    pub(crate) fn misfit(&self, alloc: Global, whole: &Value) -> Result<String, AllocError>
+        ensures { IfOk result (λ text.
+            string_bytes text ≡ misfit_text (query_of self.now) (view whole.now)) }
+    {
+        match self {
+            Question::CompareWith(_, path) => apart(alloc, whole, path),
+            Question::Compare(
+                _,
+                Literal::Natural(_) | Literal::Negative(_) | Literal::Decimal { .. },
+            ) => String::from_str(alloc, "not a number"),
+            Question::Compare(_, Literal::Boolean(_)) => {
+                String::from_str(alloc, "not true or false")
+            }
+            Question::Is(_) | Question::Length(_, _) => {
+                String::from_str(alloc, "not a string, an array or an object")
+            }
+            _ => String::from_str(alloc, "not a string"),
         }
     }
 }

@@ -1,4 +1,4 @@
-use Rattle.std.proofs.Common.{rules, refl, codes, Some, true, false, ap, subst, arith}
+use Rattle.std.proofs.Common.{rules, refl, codes, Some, true, false, subst, arith}
 use Rattle.std.proofs.lemmas.List.{take_all}
 use Rattle.predicates_core.specs.Formula.{HasTruth}
 use Rattle.predicates_core.proofs.Values.{same_truths, other_truths}

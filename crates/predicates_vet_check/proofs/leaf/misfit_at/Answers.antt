@@ -1,9 +1,8 @@
-use Rattle.std.proofs.Common.{refl}
-use Rattle.predicates_core.proofs.Leaves.{HasTruth-exactly, IsCaseOf-showing_both}
+use Rattle.std.proofs.Common.{None, Some, codes}
 use Rattle.serde_json.specs.View.{view}
-use Rattle.predicates_vet_check.specs.Plans.{found_text}
-use Rattle.predicates_vet_check.proofs.Leaving.{showing_entry}
+use Rattle.predicates_vet_check.specs.Plans.{found_label}
+use Rattle.predicates_vet_check.proofs.Leaving.{one_more}
 use Rattle.predicates_vet_check.proofs.leaf.misfit_at.Goals as goal
 
 pub returns : goal.returns
-returns c = IsCaseOf-showing_both (showing_entry (found_text (view c.args.value.now)) c.in_ok-found.ensures c.in_ok-shown.ensures) c.in_ok-showing_text.ensures c.in_ok-node.ensures refl (HasTruth-exactly refl)
+returns c = one_more (found_label c.args.text.now (view c.args.value.now) None) (record { name = codes "error"; value = Some c.args.error.now }) c.in_ok-showing_text.ensures c.in_ok-case.ensures
