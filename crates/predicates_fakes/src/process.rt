@@ -19,14 +19,16 @@ pub enum Closed {
     Error,
 }
 
-/// A process with these words, of which the first is the program's name, one file at the path, this
-/// input with the error at its end, and an output that fails; it keeps what is written.
+/// A process with these words, of which the first is the program's name, a file at the path and
+/// others by their names, this input with the error at its end, and an output that fails; it keeps
+/// what is written.
 #[derive(Drop)]
 pub struct Process<'a> {
     pub alloc: Global,
     pub words: &'a [&'a [u8]],
     pub path: &'a str,
     pub file: &'a [u8],
+    pub others: &'a [(&'a str, &'a [u8])],
     pub input: &'a [u8],
     pub end: Option<ErrorKind>,
     pub closed: Closed,
@@ -42,6 +44,7 @@ impl<'a> Process<'a> {
             words,
             path: "",
             file: b"",
+            others: &[],
             input,
             end: None,
             closed: Closed::Neither,

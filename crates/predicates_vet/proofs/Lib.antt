@@ -1,3 +1,6 @@
+mod Counted
 mod Keeping
+mod Listing
+mod Ranking
 mod Reading
 mod Running

@@ -1,117 +1,144 @@
 -- How far a run has come in its input.
-use Rattle.std.proofs.Common.{◌≡◌, ℕ, ◌+◌, ◌≤◌, ◌||◌, Bool, true, false, not, List, [], ◌∷◌, ◌++◌, length, Option, Some, None, refl, sym, ◌∙◌, ap, subst, arith, append_assoc, append-nil, length-append, if◌then◌else◌, map}
+use Rattle.std.proofs.Common.{◌≡◌, ℕ, ◌+◌, ◌≤◌, ◌||◌, Bool, true, false, not, List, [], ◌∷◌, ◌++◌, length, Option, Some, None, Result, Ok, Err, refl, sym, ◌∙◌, ap, subst, arith, append_assoc, append-nil, length-append, if◌then◌else◌, map}
 use Rattle.std.specs.Prelude.{filter, flat_map, is_some, option_map}
+use Rattle.std.specs.Result.{OnErr}
 use Rattle.std.specs.Io.KnownBytes.{Appends}
 use Rattle.std.proofs.KnownBytes.{Appends-nil, Appends-trans}
 use Rattle.std.proofs.lemmas.List.{map-append}
 use Rattle.std.proofs.lemmas.Grind.{flat_map-append}
-use Rattle.std.proofs.lemmas.List.Filters.{length-filter_both}
-use Rattle.std.proofs.lemmas.List.Elements.{filter-append}
 use Rattle.std.specs.Str.{IsUtf8, is_utf8}
 use Rattle.std.proofs.lemmas.Str.{IsUtf8-from_is_utf8, is_utf8-from_IsUtf8}
 use Rattle.serde_json.specs.Read.{read}
 use Rattle.serde_json.specs.Data.{Data}
 use Rattle.predicates_lines.specs.Lines.{ended_lines}
-use Rattle.predicates_vet_check.specs.declared.rule_check.RuleCheck.{RuleCheck}
+use Rattle.predicates_vet.specs.Counting.{CountsOne, AreCounted, one_counted, all_counted, has_room, left_after}
+use Rattle.predicates_vet.specs.InputLines.{record_on, is_blank}
 use Rattle.predicates_vet.specs.Records.{keeps}
-use Rattle.predicates_vet.specs.Runs.{record_on, is_blank, is_unreadable, IsLineWritten, Told, AreTold, breaks, is_false}
-use Rattle.predicates_vet.specs.declared.settings.Settings.{Settings}
-use Rattle.predicates_vet.specs.declared.run.Counts.{Counts}
+use Rattle.predicates_vet.specs.Runs.{Told, IsLineWritten, IsMessage, AreTold, is_told, lines_of, HasRun, HasStopped}
+use Rattle.predicates_vet.specs.declared.counts.Counts.{Counts}
+use Rattle.predicates_vet.specs.declared.job.Job.{Job}
+use Rattle.predicates_vet.specs.declared.tally.Tally.{Tally}
+use Rattle.predicates_vet.proofs.Counted.{none_counted, counted_more, no_rule_counted, rules_counted_more}
 
--- one more line counts where it passes the test
-filter-more : (p : Told → Bool) (lines : List Told) (l : Told) (b : Bool) → p l ≡ b
-    → length (filter p (lines ++ l ∷ [])) ≡ length (filter p lines) + (if b then 1 else 0)
-filter-more p lines l true e = ap length (filter-append p lines (l ∷ [])) ∙ length-append (filter p lines) (filter p (l ∷ [])) ∙ (rw e refl)
-filter-more p lines l false e = ap length (filter-append p lines (l ∷ [])) ∙ length-append (filter p lines) (filter p (l ∷ [])) ∙ (rw e refl)
-
-some_of_map : {A B : Type 0} (f : A → B) (o : Option A) → is_some (option_map f o) ≡ is_some o
-some_of_map f None = refl
-some_of_map f (Some x) = refl
-
-false_of_map : (rules : List RuleCheck) (o : Option Data) → is_false (option_map (keeps rules) o) ≡ breaks rules o
-false_of_map rules None = refl
-false_of_map rules (Some d) = refl
-
-module _ (s : Settings) (rules : List RuleCheck) where
-  told_more : (place : ℕ) (ls : List Told) (line written : List ℕ) → AreTold s rules place ls → IsLineWritten s rules (place + length ls) line (record_on line) written → AreTold s rules place (ls ++ (line, written) ∷ [])
-  told_more place [] line written h k = (subst (λ n. IsLineWritten s rules n line (record_on line) written) (let same : place + 0 ≡ place = omega arith in same) k, tt)
-  told_more place (l ∷ ls) line written h k =
-      (h.0, told_more (place + 1) ls line written h.1 (subst (λ n. IsLineWritten s rules n line (record_on line) written) (let same : place + length (l ∷ ls) ≡ place + 1 + length ls = omega arith in same) k))
+module _ (j : Job) where
+  told_more : (number : ℕ) (left : Option ℕ) (ls : List Told) (now : Option ℕ) (l : Told)
+      → AreTold j number left ls now
+      → IsLineWritten j (has_room now) (number + length ls) l.line (record_on l.line) l.written
+      → IsMessage j (number + length ls) l.line l.message
+      → AreTold j number left (ls ++ l ∷ []) (left_after (is_told j (record_on l.line)) now)
+  told_more number left [] now l h w m =
+      let same : number + 0 ≡ number = omega arith in (
+        subst (λ p. IsLineWritten j (has_room p) number l.line (record_on l.line) l.written) h
+            (subst (λ n. IsLineWritten j (has_room now) n l.line (record_on l.line) l.written) same w),
+        subst (λ n. IsMessage j n l.line l.message) same m,
+        ap (left_after (is_told j (record_on l.line))) h,
+      )
+  told_more number left (x ∷ ls) now l h w m =
+      let same : number + length (x ∷ ls) ≡ number + 1 + length ls = omega arith in (
+        h.0,
+        h.1,
+        told_more (number + 1) (left_after (is_told j (record_on x.line)) left) ls now l h.2
+            (subst (λ n. IsLineWritten j (has_room now) n l.line (record_on l.line) l.written) same w)
+            (subst (λ n. IsMessage j n l.line l.message) same m),
+      )
 
   -- the lines that are taken are told, and counted
-  pub record HasTold (r0 r1 w0 w1 : Option (List ℕ)) (count : ℕ) (counts : Counts) : Type 0 where
+  pub record HasTold (r0 r1 w0 w1 m0 m1 : Option (List ℕ)) (count : ℕ) (before now : Tally) : Type 0 where
     pub lines : List Told
     pub left : (bytes : List ℕ) → r0 ≡ Some bytes
-        → (left : List ℕ) × (r1 ≡ Some left) × (ended_lines bytes ≡ map (λ (l : Told). l.0) lines ++ ended_lines left)
+        → (left : List ℕ) × (r1 ≡ Some left) × (ended_lines bytes ≡ lines_of lines ++ ended_lines left)
     pub counted : length lines ≡ count
-    pub told : AreTold s rules 1 lines
-    pub appends : Appends w0 w1 (flat_map (λ (l : Told). l.1) lines)
-    pub records : counts.records ≡ length (filter (λ (l : Told). is_some (record_on l.0)) lines)
-    pub failed : counts.failed ≡ length (filter (λ (l : Told). breaks rules (record_on l.0)) lines)
-    pub unreadable : counts.unreadable ≡ length (filter (λ (l : Told). is_unreadable l.0) lines)
+    pub told : AreTold j 1 before.left lines now.left
+    pub appends : Appends w0 w1 (flat_map (λ (l : Told). l.written) lines)
+    pub messages : Appends m0 m1 (flat_map (λ (l : Told). l.message) lines)
+    pub counts : AreCounted j.rules.now (lines_of lines) before.counts now.counts
+    pub broken : now.broken.items ≡ all_counted j.rules.now (lines_of lines) before.broken.items
 
-  pub has_told_none : (reader writer : Option (List ℕ)) → HasTold reader reader writer writer 0 (record { records = 0; failed = 0; unreadable = 0 })
-  has_told_none reader writer = record {
+  pub has_told_none : (reader writer messages : Option (List ℕ)) (tally : Tally) → HasTold reader reader writer writer messages messages 0 tally tally
+  has_told_none reader writer messages tally = record {
     lines = [];
     left = λ bytes known. (bytes, known, refl);
     counted = refl;
-    told = tt;
+    told = refl;
     appends = Appends-nil writer;
-    records = refl;
-    failed = refl;
-    unreadable = refl;
+    messages = Appends-nil messages;
+    counts = none_counted j.rules.now tally.counts;
+    broken = sym (no_rule_counted j.rules.now tally.broken.items);
   }
 
-  flat_more : (ls : List Told) (l : Told) → flat_map (λ (m : Told). m.1) (ls ++ l ∷ []) ≡ flat_map (λ (m : Told). m.1) ls ++ l.1
-  flat_more ls l = flat_map-append (λ (m : Told). m.1) ls (l ∷ []) ∙ ap (λ z. flat_map (λ (m : Told). m.1) ls ++ z) (append-nil l.1)
+  flat_more : (f : Told → List ℕ) (ls : List Told) (l : Told) → flat_map f (ls ++ l ∷ []) ≡ flat_map f ls ++ f l
+  flat_more f ls l = flat_map-append f ls (l ∷ []) ∙ ap (λ z. flat_map f ls ++ z) (append-nil (f l))
 
   -- one more line is taken and told
-  pub has_told_more : (r0 r1 r2 w0 w1 w2 : Option (List ℕ)) (count : ℕ) (before after : Counts) (line : List ℕ) (held : Option Bool)
-      → HasTold r0 r1 w0 w1 count before
+  pub has_told_more : (r0 r1 r2 w0 w1 w2 m0 m1 m2 : Option (List ℕ)) (count : ℕ) (before now after : Tally) (between : Counts) (line : List ℕ) (held : Option Bool)
+      → HasTold r0 r1 w0 w1 m0 m1 count before now
       → ((bytes : List ℕ) → r1 ≡ Some bytes → (left : List ℕ) × (r2 ≡ Some left) × (ended_lines bytes ≡ line ∷ ended_lines left))
-      → (written : List ℕ) × IsLineWritten s rules (count + 1) line (record_on line) written × Appends w1 w2 written
-      → held ≡ option_map (keeps rules) (record_on line)
-      → after.records ≡ before.records + (if is_some held then 1 else 0)
-      → after.failed ≡ before.failed + (if is_false held then 1 else 0)
-      → after.unreadable ≡ before.unreadable + (if not (is_some held || is_blank line) then 1 else 0)
-      → HasTold r0 r2 w0 w2 (count + 1) after
-  has_told_more r0 r1 r2 w0 w1 w2 count before after line held h next told is records failed unreadable =
-      let written = told.0 in
-      let l : Told = (line, written) in
-      let p : Told → Bool = λ l. is_some (record_on l.0) in
-      let q : Told → Bool = λ l. breaks rules (record_on l.0) in
-      let r : Told → Bool = λ l. is_unreadable l.0 in
-      let some : is_some held ≡ is_some (record_on line) = ap is_some is ∙ some_of_map (keeps rules) (record_on line) in
-      let wrong : is_false held ≡ breaks rules (record_on line) = ap is_false is ∙ false_of_map rules (record_on line) in
+      → (written : List ℕ) × IsLineWritten j (has_room now.left) (count + 1) line (record_on line) written × Appends w1 w2 written
+      → (message : List ℕ) × IsMessage j (count + 1) line message × Appends m1 m2 message
+      → held ≡ option_map (keeps j.rules.now) (record_on line)
+      → between ≡ now.counts
+      → CountsOne held (is_blank line) between after.counts
+      → after.broken.items ≡ one_counted j.rules.now (record_on line) now.broken.items
+      → after.left ≡ left_after (is_told j (record_on line)) now.left
+      → HasTold r0 r2 w0 w2 m0 m2 (count + 1) before after
+  has_told_more r0 r1 r2 w0 w1 w2 m0 m1 m2 count before now after between line held h next written message is same counts broken left =
+      let l : Told = record { line = line; written = written.0; message = message.0 } in
+      let number : count + 1 ≡ 1 + length h.lines = omega (arith, h.counted) in
+      let more : lines_of (h.lines ++ l ∷ []) ≡ lines_of h.lines ++ line ∷ [] = map-append (λ (l : Told). l.line) h.lines (l ∷ []) in
       record {
         lines = h.lines ++ l ∷ [];
         left = λ bytes known. let so_far = h.left bytes known in let n = next so_far.0 so_far.1 in (
           n.0,
           n.1,
-          so_far.2 ∙ ap (λ others. map (λ (l : Told). l.0) h.lines ++ others) n.2
-              ∙ sym (append_assoc (map (λ (l : Told). l.0) h.lines) (line ∷ []) (ended_lines n.0))
-              ∙ ap (λ xs. xs ++ ended_lines n.0) (sym (map-append (λ (l : Told). l.0) h.lines (l ∷ []))),
+          so_far.2 ∙ ap (λ others. lines_of h.lines ++ others) n.2
+              ∙ sym (append_assoc (lines_of h.lines) (line ∷ []) (ended_lines n.0))
+              ∙ ap (λ xs. xs ++ ended_lines n.0) (sym more),
         );
         counted = omega (arith, h.counted, length-append h.lines (l ∷ []));
-        told = told_more 1 h.lines line written h.told (subst (λ n. IsLineWritten s rules n line (record_on line) written) (let same : count + 1 ≡ 1 + length h.lines = omega (arith, h.counted) in same) told.1);
-        appends = rw (flat_more h.lines l) (Appends-trans _ _ _ _ _ h.appends told.2);
-        records = records ∙ ap (λ n. n + (if is_some held then 1 else 0)) h.records ∙ ap (λ b. length (filter p h.lines) + (if b then 1 else 0)) some ∙ sym (filter-more p h.lines l (is_some (record_on line)) refl);
-        failed = failed ∙ ap (λ n. n + (if is_false held then 1 else 0)) h.failed ∙ ap (λ b. length (filter q h.lines) + (if b then 1 else 0)) wrong ∙ sym (filter-more q h.lines l (breaks rules (record_on line)) refl);
-        unreadable = unreadable ∙ ap (λ n. n + (if not (is_some held || is_blank line) then 1 else 0)) h.unreadable ∙ ap (λ b. length (filter r h.lines) + (if not (b || is_blank line) then 1 else 0)) some ∙ sym (filter-more r h.lines l (is_unreadable line) refl);
+        told = subst (AreTold j 1 before.left (h.lines ++ l ∷ [])) (sym left)
+            (told_more 1 before.left h.lines now.left l h.told
+            (subst (λ n. IsLineWritten j (has_room now.left) n line (record_on line) written.0) number written.1)
+            (subst (λ n. IsMessage j n line message.0) number message.1));
+        appends = rw (flat_more (λ (l : Told). l.written) h.lines l) (Appends-trans _ _ _ _ _ h.appends written.2);
+        messages = rw (flat_more (λ (l : Told). l.message) h.lines l) (Appends-trans _ _ _ _ _ h.messages message.2);
+        counts = subst (λ ls. AreCounted j.rules.now ls before.counts after.counts) (sym more)
+            (counted_more j.rules.now (lines_of h.lines) line held before.counts now.counts after.counts is h.counts (subst (λ z. CountsOne held (is_blank line) z after.counts) same counts));
+        broken = broken ∙ ap (one_counted j.rules.now (record_on line)) h.broken
+            ∙ rules_counted_more (lines_of h.lines) line j.rules.now before.broken.items
+            ∙ ap (λ ls. all_counted j.rules.now ls before.broken.items) (sym more);
       }
 
-  -- no more lines are counted than are taken
-  within : (p : Told → Bool) (ls : List Told) → length (filter p ls) ≤ length ls
-  within p ls = omega (arith, length-filter_both p (λ (l : Told). not (p l)) (λ _. refl) ls)
+  -- at the end of the input the run is whole
+  pub has_run : (r0 r1 r2 w0 w1 w2 m0 m1 : Option (List ℕ)) (count : ℕ) (before after : Tally)
+      → HasTold r0 r1 w0 w1 m0 m1 count before after
+      → ((bytes : List ℕ) → r1 ≡ Some bytes → (r2 ≡ Some []) × (ended_lines bytes ≡ []))
+      → Appends w1 w2 []
+      → HasRun j r0 r2 w0 w2 m0 m1 before after
+  has_run r0 r1 r2 w0 w1 w2 m0 m1 count before after h end kept = record {
+    lines = h.lines;
+    whole = λ bytes known. let so_far = h.left bytes known in let n = end so_far.0 so_far.1 in
+        (sym (so_far.2 ∙ ap (λ others. lines_of h.lines ++ others) n.1 ∙ append-nil (lines_of h.lines)), n.0);
+    told = h.told;
+    appends = subst (Appends w0 w2) (append-nil (flat_map (λ (l : Told). l.written) h.lines)) (Appends-trans _ _ _ _ _ h.appends kept);
+    messages = h.messages;
+    counts = h.counts;
+    broken = h.broken;
+  }
 
-  pub records_within : {r0 r1 w0 w1 : Option (List ℕ)} {count : ℕ} {counts : Counts} → HasTold r0 r1 w0 w1 count counts → counts.records ≤ count
-  records_within h = omega (arith, h.records, h.counted, within (λ (l : Told). is_some (record_on l.0)) h.lines)
+  -- behind a fault the lines before it are counted
+  pub has_stopped : (r0 r1 w0 w1 m0 m1 : Option (List ℕ)) (count : ℕ) (before now after : Tally)
+      → HasTold r0 r1 w0 w1 m0 m1 count before now → after.counts ≡ now.counts
+      → HasStopped j r0 before after
+  has_stopped r0 r1 w0 w1 m0 m1 count before now after h same = record {
+    lines = lines_of h.lines;
+    front = λ bytes known. let so_far = h.left bytes known in (ended_lines so_far.0, sym so_far.2);
+    counts = subst (AreCounted j.rules.now (lines_of h.lines) before.counts) (sym same) h.counts;
+  }
 
-  pub failed_within : {r0 r1 w0 w1 : Option (List ℕ)} {count : ℕ} {counts : Counts} → HasTold r0 r1 w0 w1 count counts → counts.failed ≤ count
-  failed_within h = omega (arith, h.failed, h.counted, within (λ (l : Told). breaks rules (record_on l.0)) h.lines)
-
-  pub unreadable_within : {r0 r1 w0 w1 : Option (List ℕ)} {count : ℕ} {counts : Counts} → HasTold r0 r1 w0 w1 count counts → counts.unreadable ≤ count
-  unreadable_within h = omega (arith, h.unreadable, h.counted, within (λ (l : Told). is_unreadable l.0) h.lines)
+-- a fact that holds anyway
+pub on_err : {T E P : Type 0} (r : Result T E) → P → OnErr r P
+on_err (Ok x) p = tt
+on_err (Err e) p = p
 
 -- ---- the record on a line
 

@@ -1,4 +1,9 @@
+pub mod Counting
+pub mod InputLines
+pub mod Objects
+pub mod Places
 pub mod Records
 pub mod RulesFile
 pub mod Runs
 pub mod Settings
+pub mod Summaries

@@ -1,9 +1,8 @@
 -- What is written for one record.
-use Rattle.std.specs.Prelude.{◌≡◌, ◌⊎◌, ℕ, List, [], ◌∷◌, ◌++◌, Bool, true, false, ◌&&◌, cond, Option, Some, None, IfSome, take, codes, flat_map, unwrap_or}
+use Rattle.std.specs.Prelude.{◌≡◌, ◌⊎◌, ℕ, List, [], ◌∷◌, ◌++◌, ◌==◌, Bool, true, false, ◌&&◌, Option, cond, take, length, codes, flat_map}
 use Rattle.std.specs.List.{AllZip}
 use mathlib.Core.Bool.{beq}
-use Rattle.serde_json.specs.Data.{Data, null, number, unsigned}
-use Rattle.serde_json.specs.Find.{pointer}
+use Rattle.serde_json.specs.Data.{Data}
 use Rattle.predicates_core.specs.Formula.{Formula, truth, HasTruth}
 use Rattle.predicates_core.specs.Leaves.{IsExactly}
 use Rattle.predicates_core.specs.Tree.{Tree}
@@ -11,13 +10,14 @@ use Rattle.predicates_core.specs.Describe.{CaseNode}
 use Rattle.predicates_core.specs.Lines.{lines}
 use Rattle.predicates_core.specs.Shows.{Explains, IsCaseOf}
 use Rattle.predicates_core.specs.Change.{ExplainsChange, IsChangeOf}
-use Rattle.predicates_vet_check.specs.Plans.{found_text}
 use Rattle.predicates_vet_check.specs.RuleChecks.{rule_formula, name_of, plan_of_rule}
 use Rattle.predicates_vet_check.specs.declared.rule_check.RuleCheck.{RuleCheck}
+use Rattle.predicates_vet.specs.declared.job.Job.{Job}
 use Rattle.predicates_vet.specs.declared.settings.Report.{Report}
 use Rattle.predicates_vet.specs.declared.settings.Report.TheVariants.{First, All, Change, Json, Lines}
-use Rattle.predicates_vet.specs.declared.settings.Settings.{Settings}
-use Rattle.predicates_vet.specs.Settings.{id_of}
+use Rattle.predicates_vet.specs.Objects.{object_text}
+use Rattle.predicates_vet.specs.Places.{place_text, IsHead, IsName}
+use Rattle.predicates_vet.specs.Settings.{id_of, source_of}
 
 -- the formula of a rule on a record
 abbrev pub formula_on : Data → RuleCheck → Formula
@@ -46,41 +46,54 @@ AddsChange d r old new = ((c : Tree CaseNode) × (new ≡ old ++ c ∷ []) × Is
 abbrev pub shown : Bool → List Formula → List Formula
 shown all fs = cond all fs (take 1 fs)
 
--- the value that labels a record: its number, or what stands at the path, or null
-abbrev pub label : Option (List ℕ) → ℕ → Data → Data
-label None place d = number (unsigned place)
-label (Some path) place d = unwrap_or (pointer path d) null
-
--- the line with the label, and the lines of each case; nothing where there is no case
+-- the line with what heads it, and the lines of each case; nothing where there is no case
 abbrev pub block : List ℕ → List (Tree CaseNode) → List ℕ
-block text [] = []
-block text (c ∷ cs) = codes "record " ++ (text ++ (codes ": false\n" ++ flat_map lines (c ∷ cs)))
+block head [] = []
+block head (c ∷ cs) = head ++ (codes ": false\n" ++ flat_map lines (c ∷ cs))
+
+-- what heads the block of the record on the line of this number
+abbrev pub HeadsRecord : Job → ℕ → Data → List ℕ → Type 0
+HeadsRecord j number d text = IsHead (id_of j.settings.now) (place_text (source_of j) number) d text
 
 -- the block of the rules that a record breaks, of all or of the first
-pub record IsBlock (rules : List RuleCheck) (all : Bool) (labelled d : Data) (written : List ℕ) : Type 0 where
+pub record IsBlock (j : Job) (all : Bool) (number : ℕ) (d : Data) (written : List ℕ) : Type 0 where
   pub cases : List (Tree CaseNode)
-  pub explain : AllZip Explains (shown all (broken rules d)) cases
-  pub text : List ℕ
-  pub fits : IfSome (found_text labelled) (λ given. text ≡ given)
-  pub is : written ≡ block text cases
+  pub explain : AllZip Explains (shown all (broken j.rules.now d)) cases
+  pub head : List ℕ
+  pub heads : HeadsRecord j number d head
+  pub is : written ≡ block head cases
 
 -- the block of what would have to change in each rule that a record breaks: that is the first change
 -- of all rules together
-pub record IsChangeBlock (rules : List RuleCheck) (labelled d : Data) (written : List ℕ) : Type 0 where
+pub record IsChangeBlock (j : Job) (number : ℕ) (d : Data) (written : List ℕ) : Type 0 where
   pub cases : List (Tree CaseNode)
-  pub explain : AllZip ExplainsChange (broken rules d) cases
-  pub text : List ℕ
-  pub fits : IfSome (found_text labelled) (λ given. text ≡ given)
-  pub is : written ≡ block text cases
+  pub explain : AllZip ExplainsChange (broken j.rules.now d) cases
+  pub head : List ℕ
+  pub heads : HeadsRecord j number d head
+  pub is : written ≡ block head cases
 
--- what is written for the record of this number, which stands on the line; of an object of JSON
--- nothing is said
-abbrev pub IsReport : Report → Option (List ℕ) → List RuleCheck → ℕ → List ℕ → Data → List ℕ → Type 0
-IsReport First id rules place line d written = IsBlock rules false (label id place d) d written
-IsReport All id rules place line d written = IsBlock rules true (label id place d) d written
-IsReport Change id rules place line d written = IsChangeBlock rules (label id place d) d written
-IsReport (Json all) id rules place line d written = Unit {0}
-IsReport (Lines wanted) id rules place line d written = written ≡ cond (beq (keeps rules d) wanted) line []
+-- the object of the cases; nothing where there is no case and the failed alone are wanted
+abbrev pub wanted_text : Bool → Option (List ℕ) → List ℕ → Bool → List (Tree CaseNode) → List ℕ
+wanted_text failed source name all cases = cond (failed && (length cases == 0)) [] (object_text source name (length cases == 0) all cases)
 
-abbrev pub IsWritten : Settings → List RuleCheck → ℕ → List ℕ → Data → List ℕ → Type 0
-IsWritten s rules place line d written = IsReport s.report (id_of s) rules place line d written
+-- the object of the rules that a record breaks, of all or of the first; nothing of a record that
+-- keeps every rule where the failed alone are wanted
+pub record IsObject (j : Job) (all failed : Bool) (number : ℕ) (d : Data) (written : List ℕ) : Type 0 where
+  pub cases : List (Tree CaseNode)
+  pub explain : AllZip Explains (shown all (broken j.rules.now d)) cases
+  pub name : List ℕ
+  pub named : IsName (id_of j.settings.now) number d name
+  pub is : written ≡ wanted_text failed (source_of j) name all cases
+
+-- what is written for the record of this number, which stands on the line
+abbrev pub IsReport : Report → Job → ℕ → List ℕ → Data → List ℕ → Type 0
+IsReport First j number line d written = IsBlock j false number d written
+IsReport All j number line d written = IsBlock j true number d written
+IsReport Change j number line d written = IsChangeBlock j number d written
+IsReport (Json all failed) j number line d written = IsObject j all failed number d written
+IsReport (Lines wanted) j number line d written = written ≡ cond (beq (keeps j.rules.now d) wanted) line []
+
+-- nothing where there is no room for more
+abbrev pub IsWritten : Job → Bool → ℕ → List ℕ → Data → List ℕ → Type 0
+IsWritten j false number line d written = written ≡ []
+IsWritten j true number line d written = IsReport j.settings.now.report j number line d written

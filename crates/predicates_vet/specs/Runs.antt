@@ -1,66 +1,68 @@
 -- What a run writes.
-use Rattle.std.specs.Prelude.{nat_lt, ◌≡◌, ◌==◌, ◌||◌, ℕ, ◌+◌, List, [], ◌∷◌, Bool, false, not, Option, Some, None, if◌then◌else◌, map, filter, flat_map, length, is_some}
-use Rattle.std.specs.List.{list_all}
+use Rattle.std.specs.Prelude.{◌≡◌, ◌++◌, ℕ, ◌+◌, List, [], ◌∷◌, Bool, true, false, Option, Some, None, if◌then◌else◌, map, flat_map, codes}
 use Rattle.std.specs.Option.{ForSome}
-use Rattle.std.specs.Str.{is_utf8}
 use Rattle.std.specs.Io.KnownBytes.{Appends}
 use Rattle.serde_json.specs.Data.{Data}
-use Rattle.serde_json.specs.Read.{read}
 use Rattle.predicates_lines.specs.Lines.{ended_lines}
-use Rattle.predicates_vet_check.specs.declared.rule_check.RuleCheck.{RuleCheck}
+use Rattle.predicates_vet.specs.Counting.{AreCounted, all_counted, has_room, left_after}
+use Rattle.predicates_vet.specs.InputLines.{record_on, is_unreadable}
+use Rattle.predicates_vet.specs.Places.{place_text}
 use Rattle.predicates_vet.specs.Records.{keeps, IsWritten}
-use Rattle.predicates_vet.specs.declared.settings.Settings.{Settings}
-use Rattle.predicates_vet.specs.declared.run.Counts.{Counts}
+use Rattle.predicates_vet.specs.Settings.{source_of, tells}
+use Rattle.predicates_vet.specs.declared.job.Job.{Job}
+use Rattle.predicates_vet.specs.declared.tally.Tally.{Tally}
 
--- the record that stands on a line, if one does: text that JSON reads
-abbrev pub record_on : List ℕ → Option Data
-record_on line = if is_utf8 line then read line else None
-
--- white space, as JSON has it
-abbrev pub is_white : ℕ → Bool
-is_white byte = byte == 32 || byte == 9 || byte == 10 || byte == 13
-
--- nothing but white space stands on the line
-abbrev pub is_blank : List ℕ → Bool
-is_blank line = list_all is_white line
-
--- something stands on the line that is no record
-abbrev pub is_unreadable : List ℕ → Bool
-is_unreadable line = not (is_some (record_on line) || is_blank line)
+-- a line, what was written for it, and the message about it
+pub record Told : Type 0 where
+  pub line : List ℕ
+  pub written : List ℕ
+  pub message : List ℕ
 
 -- what is written for a line of this number: nothing where no record stands on it
-abbrev pub IsLineWritten : Settings → List RuleCheck → ℕ → List ℕ → Option Data → List ℕ → Type 0
-IsLineWritten s rules place line None written = written ≡ []
-IsLineWritten s rules place line (Some d) written = IsWritten s rules place line d written
+abbrev pub IsLineWritten : Job → Bool → ℕ → List ℕ → Option Data → List ℕ → Type 0
+IsLineWritten j room number line None written = written ≡ []
+IsLineWritten j room number line (Some d) written = IsWritten j room number line d written
 
--- a line, and what was written for it
-abbrev pub Told : Type 0
-Told = List ℕ × List ℕ
+-- a line with where the line of the input stands, and why no record stands there
+abbrev pub message_text : List ℕ → List ℕ → List ℕ
+message_text place reason = codes "vet: " ++ (place ++ (codes ": " ++ (reason ++ codes "\n")))
 
--- each line from this number on has what is written for it
-abbrev pub AreTold : Settings → List RuleCheck → ℕ → List Told → Type 0
-AreTold s rules place [] = Unit {0}
-AreTold s rules place (l ∷ ls) = IsLineWritten s rules place l.0 (record_on l.0) l.1 × AreTold s rules (place + 1) ls
+-- the message about a line of this number: none where it is blank or has a record
+abbrev pub IsMessageIf : Bool → Job → ℕ → List ℕ → Type 0
+IsMessageIf false j number message = message ≡ []
+IsMessageIf true j number message = (reason : List ℕ) × (message ≡ message_text (place_text (source_of j) number) reason)
 
-abbrev pub is_false : Option Bool → Bool
-is_false None = false
-is_false (Some b) = not b
+abbrev pub IsMessage : Job → ℕ → List ℕ → List ℕ → Type 0
+IsMessage j number line message = IsMessageIf (is_unreadable line) j number message
 
--- whether the record on the line breaks a rule
-abbrev pub breaks : List RuleCheck → Option Data → Bool
-breaks rules None = false
-breaks rules (Some d) = not (keeps rules d)
+-- whether something is written for a record, if one stands there
+abbrev pub is_told : Job → Option Data → Bool
+is_told j None = false
+is_told j (Some d) = tells j.settings.now.report (keeps j.rules.now d)
+
+-- each line from this number on is told, while so much may be written, and so much is left
+abbrev pub AreTold : Job → ℕ → Option ℕ → List Told → Option ℕ → Type 0
+AreTold j number left [] after = after ≡ left
+AreTold j number left (l ∷ ls) after =
+    IsLineWritten j (has_room left) number l.line (record_on l.line) l.written
+    × IsMessage j number l.line l.message
+    × AreTold j (number + 1) (left_after (is_told j (record_on l.line)) left) ls after
+
+abbrev pub lines_of : List Told → List (List ℕ)
+lines_of ls = map (λ (l : Told). l.line) ls
 
 -- a run told each line of the input, in order, and counted them
-pub record HasRun (s : Settings) (rules : List RuleCheck) (reader_before reader_after writer_before writer_after : Option (List ℕ)) (counts : Counts) : Type 0 where
+pub record HasRun (j : Job) (reader_before reader_after writer_before writer_after messages_before messages_after : Option (List ℕ)) (before after : Tally) : Type 0 where
   pub lines : List Told
-  pub whole : ForSome reader_before (λ bytes. (map (λ l. l.0) lines ≡ ended_lines bytes) × (reader_after ≡ Some []))
-  pub told : AreTold s rules 1 lines
-  pub appends : Appends writer_before writer_after (flat_map (λ l. l.1) lines)
-  pub records : counts.records ≡ length (filter (λ l. is_some (record_on l.0)) lines)
-  pub failed : counts.failed ≡ length (filter (λ l. breaks rules (record_on l.0)) lines)
-  pub unreadable : counts.unreadable ≡ length (filter (λ l. is_unreadable l.0) lines)
+  pub whole : ForSome reader_before (λ bytes. (lines_of lines ≡ ended_lines bytes) × (reader_after ≡ Some []))
+  pub told : AreTold j 1 before.left lines after.left
+  pub appends : Appends writer_before writer_after (flat_map (λ (l : Told). l.written) lines)
+  pub messages : Appends messages_before messages_after (flat_map (λ (l : Told). l.message) lines)
+  pub counts : AreCounted j.rules.now (lines_of lines) before.counts after.counts
+  pub broken : after.broken.items ≡ all_counted j.rules.now (lines_of lines) before.broken.items
 
--- the status of a process after a run
-abbrev pub status_of : Counts → ℕ
-status_of counts = if nat_lt 0 counts.unreadable then 2 else (if nat_lt 0 counts.failed then 1 else 0)
+-- a run stopped behind some of the lines, which are counted
+pub record HasStopped (j : Job) (reader_before : Option (List ℕ)) (before after : Tally) : Type 0 where
+  pub lines : List (List ℕ)
+  pub front : ForSome reader_before (λ bytes. (others : List (List ℕ)) × (lines ++ others ≡ ended_lines bytes))
+  pub counts : AreCounted j.rules.now lines before.counts after.counts

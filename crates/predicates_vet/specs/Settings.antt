@@ -1,6 +1,23 @@
--- The path that labels records.
-use Rattle.std.specs.Prelude.{ℕ, List, Option, option_map, string_bytes}
+-- What a run is asked for.
+use Rattle.std.specs.Prelude.{ℕ, List, Bool, not, ◌&&◌, Option, option_map, string_bytes}
+use mathlib.Core.Bool.{beq}
+use Rattle.predicates_vet.specs.declared.job.Job.{Job}
+use Rattle.predicates_vet.specs.declared.settings.Report.{Report}
+use Rattle.predicates_vet.specs.declared.settings.Report.TheVariants.{First, All, Change, Json, Lines}
 use Rattle.predicates_vet.specs.declared.settings.Settings.{Settings}
 
+-- the path that labels records
 abbrev pub id_of : Settings → Option (List ℕ)
 id_of s = option_map string_bytes s.id
+
+-- the name of the input
+abbrev pub source_of : Job → Option (List ℕ)
+source_of j = option_map (λ s. s.now) j.source
+
+-- whether anything is written of a record that keeps every rule, or breaks one
+abbrev pub tells : Report → Bool → Bool
+tells First held = not held
+tells All held = not held
+tells Change held = not held
+tells (Json all failed) held = not (failed && held)
+tells (Lines wanted) held = beq held wanted

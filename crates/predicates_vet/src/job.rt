@@ -2,9 +2,11 @@
 use crate::settings::Settings;
 use predicates_vet_check::RuleCheck;
 
-/// The rules that a run checks, and how it reports.
+/// The rules that a run checks, how it reports, and what its input is called.
 #[derive(Drop)]
-pub(crate) struct Job<'r> {
-    pub(crate) rules: &'r [RuleCheck],
-    pub(crate) settings: &'r Settings,
+pub struct Job<'r> {
+    pub rules: &'r [RuleCheck],
+    pub settings: &'r Settings,
+    /// The name of the input. With it a record stands at `NAME:7`, and without at `record 7`.
+    pub source: Option<&'r str>,
 }

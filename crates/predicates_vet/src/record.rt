@@ -1,24 +1,25 @@
 //! What is written for one record.
-ghost use Rattle.std.specs.Prelude.{◌≡◌, ◌++◌, ℕ, List, IfOk, IfSome, OnOk, string_bytes, option_map};
+ghost use Rattle.std.specs.Prelude.{◌≡◌, ◌++◌, ◌==◌, ◌<◌, ◌+◌, IfOk, OnOk, Some, option_map};
+ghost use Rattle.std.specs.Prelude.{vec_len, slice_index, slice_set};
+ghost use Rattle.std.specs.Prelude.{string_bytes, length, flat_map};
 ghost use Rattle.std.specs.List.{AllZip};
 ghost use Rattle.predicates_core.specs.Change.{ExplainsChange};
+ghost use Rattle.predicates_core.specs.Lines.{lines};
 ghost use Rattle.predicates_core.specs.Shows.{Explains};
 ghost use Rattle.serde_json.specs.View.{view};
-ghost use Rattle.predicates_vet_check.specs.Plans.{found_text};
-ghost use Rattle.std.specs.Prelude.{◌==◌, length, flat_map};
-ghost use Rattle.predicates_core.specs.Lines.{lines};
-ghost use Rattle.predicates_vet.specs.Records.{keeps, broken, shown, label, block, IsBlock, AddsCase};
-ghost use Rattle.predicates_vet.specs.Records.{IsChangeBlock, AddsChange};
-ghost use Rattle.predicates_vet.specs.Settings.{id_of};
+ghost use Rattle.predicates_vet.specs.Counting.{AddsCount, one_counted};
+ghost use Rattle.predicates_vet.specs.Records.{keeps, broken, shown, block, AddsCase, AddsChange};
+ghost use Rattle.predicates_vet.specs.Records.{IsBlock, IsChangeBlock, IsObject, wanted_text};
 
 use crate::job::Job;
-use crate::settings::Settings;
+use crate::object::write_object;
+use crate::place::{head, name};
 use crate::workspace::Workspace;
 use predicates_core::reflection::{Case, render_onto};
 use predicates_core::{Predicate, PredicateChange};
-use predicates_json::{case_json, value_at};
+use predicates_lines::RunFault;
 use predicates_vet_check::{Matchers, RuleCheck};
-use serde_json::{Map, Value, put};
+use serde_json::Value;
 use std::alloc::{AllocError, Global};
 
 // Whether the record keeps every rule.
@@ -37,6 +38,60 @@ pub(crate) fn keeps<'r>(
         }
     }
     Ok(true)
+}
+
+// Counts one more at the place.
+fn add_one(counts: &mut Vec<u64>, index: usize) -> Result<(), RunFault>
+    requires { index < vec_len counts.old }
+    ensures { OnOk result (counts.new.items
+        ≡ slice_set counts.old.items index (slice_index counts.old.items index + 1)) }
+{
+    let Some(count) = counts[index].checked_add(1) else {
+        return Err(RunFault::Input);
+    };
+    counts[index] = count;
+    Ok(())
+}
+
+// Counts whether the record breaks the rule, and says whether it keeps it.
+fn count_rule<'r>(
+    alloc: Global,
+    rule: &'r RuleCheck,
+    matchers: &mut Matchers<'r>,
+    value: &Value,
+    counts: &mut Vec<u64>,
+    index: usize,
+) -> Result<bool, RunFault>
+    requires { index < vec_len counts.old }
+    ensures { IfOk result
+        (AddsCount (view value.now) rule.now index counts.old.items counts.new.items) }
+{
+    if rule.holds(alloc, matchers, value)? {
+        return Ok(true);
+    }
+    add_one(counts, index)?;
+    Ok(false)
+}
+
+// Counts for each rule whether the record breaks it.
+#[tactic(auto, using(crate::proofs::Counted::enough_counted))]
+pub(crate) fn count_broken<'r>(
+    alloc: Global,
+    rules: &'r [RuleCheck],
+    matchers: &mut Matchers<'r>,
+    value: &Value,
+    counts: &mut Vec<u64>,
+) -> Result<(), RunFault>
+    ensures { OnOk result (counts.new.items
+        ≡ one_counted rules.now (Some (view value.now)) counts.old.items) }
+{
+    for index in 0..counts.len() {
+        let Some(rule) = rules.get(index) else {
+            return Ok(());
+        };
+        count_rule(alloc, rule, matchers, value, counts, index)?;
+    }
+    Ok(())
 }
 
 // The cases of the rules that the record breaks: of the first, or of all.
@@ -118,25 +173,6 @@ fn add_change<'r>(
     }
 }
 
-// The label of the record, as JSON.
-fn label(
-    alloc: Global,
-    settings: &Settings,
-    number: u64,
-    value: &Value,
-) -> Result<String, AllocError>
-    ensures { IfOk result (λ text. IfSome (found_text (label (id_of settings.now) number
-        (view value.now))) (λ given. string_bytes text ≡ given)) }
-{
-    let Some(path) = &settings.id else {
-        return format!(in alloc; "{number}");
-    };
-    match value_at(value, path) {
-        Some(found) => found.to_string(alloc),
-        None => String::from_str(alloc, "null"),
-    }
-}
-
 // Writes the lines of each case behind the text.
 fn write_cases(text: &mut String, cases: &[Case]) -> Result<(), AllocError>
     ensures { OnOk result (string_bytes text.new ≡ string_bytes text.old ++ flat_map lines cases.now) }
@@ -148,81 +184,16 @@ fn write_cases(text: &mut String, cases: &[Case]) -> Result<(), AllocError>
 }
 
 // Writes the block of the cases in place of what the text held.
-fn write_block(text: &mut String, label: &str, cases: &[Case]) -> Result<(), AllocError>
-    ensures { OnOk result (string_bytes text.new ≡ block label.now cases.now) }
+fn write_block(text: &mut String, head: &str, cases: &[Case]) -> Result<(), AllocError>
+    ensures { OnOk result (string_bytes text.new ≡ block head.now cases.now) }
 {
     text.clear();
     if cases.is_empty() {
         return Ok(());
     }
-    text.push_str("record ")?;
-    text.push_str(label)?;
+    text.push_str(head)?;
     text.push_str(": false\n")?;
     write_cases(text, cases)
-}
-
-fn cases_json(alloc: Global, cases: &[Case]) -> Result<Vec<Value>, AllocError> {
-    let mut values = Vec::new(alloc);
-    for case in cases {
-        values.push(case_json(alloc, &case.root())?)?;
-    }
-    Ok(values)
-}
-
-// The value that labels the record.
-fn id_json(
-    alloc: Global,
-    settings: &Settings,
-    number: u64,
-    value: &Value,
-) -> Result<Value, AllocError> {
-    let Some(path) = &settings.id else {
-        return Ok(Value::from(number));
-    };
-    match value_at(value, path) {
-        Some(found) => found.clone(),
-        None => Ok(Value::Null),
-    }
-}
-
-// Puts the cases among the members: all, or the first where there is one.
-fn put_cases(
-    alloc: Global,
-    members: &mut Map<String, Value>,
-    all: bool,
-    cases: &[Case],
-) -> Result<(), AllocError> {
-    if all {
-        let values = cases_json(alloc, cases)?;
-        put(members, alloc, "cases", Value::Array(values))?;
-    } else if let [case, ..] = cases {
-        let value = case_json(alloc, &case.root())?;
-        put(members, alloc, "case", value)?;
-    }
-    Ok(())
-}
-
-// The object of a record, with all cases, or with the first.
-fn object_of(alloc: Global, id: Value, all: bool, cases: &[Case]) -> Result<Value, AllocError> {
-    let mut members = Map::new(alloc);
-    put_cases(alloc, &mut members, all, cases)?;
-    put(&mut members, alloc, "holds", Value::Bool(cases.is_empty()))?;
-    put(&mut members, alloc, "record", id)?;
-    Ok(Value::Object(members))
-}
-
-// Writes the object of a record, on a line, in place of what the text held.
-fn write_json(
-    alloc: Global,
-    text: &mut String,
-    id: Value,
-    all: bool,
-    cases: &[Case],
-) -> Result<(), AllocError> {
-    let object = object_of(alloc, id, all, cases)?.to_string(alloc)?;
-    text.clear();
-    text.push_str(&object)?;
-    text.push_str("\n")
 }
 
 fn is_none(cases: &Vec<Case>) -> bool
@@ -241,14 +212,13 @@ pub(crate) fn write_broken<'r>(
     number: u64,
     value: &Value,
 ) -> Result<bool, AllocError>
-    ensures block { OnOk result (IsBlock job.now.rules.now all
-        (label (id_of job.now.settings.now) number (view value.now)) (view value.now)
-        (string_bytes workspace.new.text)) }
+    ensures block { OnOk result
+        (IsBlock job.now all number (view value.now) (string_bytes workspace.new.text)) }
     ensures held { IfOk result (λ held. held ≡ keeps job.now.rules.now (view value.now)) }
 {
     let cases = broken(alloc, job.rules, &mut workspace.matchers, all, value)?;
-    let text_of_label = label(alloc, job.settings, number, value)?;
-    write_block(&mut workspace.text, &text_of_label, cases.as_slice())?;
+    let head = head(alloc, job, number, value)?;
+    write_block(&mut workspace.text, &head, cases.as_slice())?;
     Ok(is_none(&cases))
 }
 
@@ -261,31 +231,62 @@ pub(crate) fn write_changes<'r>(
     number: u64,
     value: &Value,
 ) -> Result<bool, AllocError>
-    ensures block { OnOk result (IsChangeBlock job.now.rules.now
-        (label (id_of job.now.settings.now) number (view value.now)) (view value.now)
-        (string_bytes workspace.new.text)) }
+    ensures block { OnOk result
+        (IsChangeBlock job.now number (view value.now) (string_bytes workspace.new.text)) }
     ensures held { IfOk result (λ held. held ≡ keeps job.now.rules.now (view value.now)) }
 {
     let cases = changes(alloc, job.rules, &mut workspace.matchers, value)?;
-    let text_of_label = label(alloc, job.settings, number, value)?;
-    write_block(&mut workspace.text, &text_of_label, cases.as_slice())?;
+    let head = head(alloc, job, number, value)?;
+    write_block(&mut workspace.text, &head, cases.as_slice())?;
     Ok(is_none(&cases))
 }
 
-/// Writes an object of JSON for the record in place of what the text held, and says whether it
-/// keeps every rule.
-pub(crate) fn write_object<'r>(
+// Writes the object of the cases under its name, or nothing where there is no case and the failed
+// alone are wanted, in place of what the text held.
+fn write_wanted(
+    alloc: Global,
+    text: &mut String,
+    source: Option<&str>,
+    name: &str,
+    all: bool,
+    failed: bool,
+    cases: &[Case],
+) -> Result<(), AllocError>
+    ensures { OnOk result (string_bytes text.new
+        ≡ wanted_text failed (option_map (λ s. s.now) source.entry) name.now all cases.now) }
+{
+    if failed && cases.is_empty() {
+        text.clear();
+        return Ok(());
+    }
+    write_object(alloc, text, source, name, all, cases)
+}
+
+/// Writes an object of JSON for the record in place of what the text held, or nothing where it
+/// keeps every rule and the failed alone are wanted, and says whether it keeps every rule.
+pub(crate) fn write_json<'r>(
     alloc: Global,
     job: &Job<'r>,
     workspace: &mut Workspace<'r>,
     all: bool,
+    failed: bool,
     number: u64,
     value: &Value,
 ) -> Result<bool, AllocError>
-    ensures { IfOk result (λ held. held ≡ keeps job.now.rules.now (view value.now)) }
+    ensures object { OnOk result
+        (IsObject job.now all failed number (view value.now) (string_bytes workspace.new.text)) }
+    ensures held { IfOk result (λ held. held ≡ keeps job.now.rules.now (view value.now)) }
 {
     let cases = broken(alloc, job.rules, &mut workspace.matchers, all, value)?;
-    let id = id_json(alloc, job.settings, number, value)?;
-    write_json(alloc, &mut workspace.text, id, all, cases.as_slice())?;
+    let name = name(alloc, job.settings, number, value)?;
+    write_wanted(
+        alloc,
+        &mut workspace.text,
+        job.source,
+        &name,
+        all,
+        failed,
+        cases.as_slice(),
+    )?;
     Ok(is_none(&cases))
 }

@@ -7,8 +7,9 @@ ghost use Rattle.predicates_rules.specs.Trees.{Tree};
 ghost use Rattle.predicates_vet.specs.RulesFile.{IsCheckOf};
 
 use predicates_rules::error::RulesError;
+use predicates_rules::fault::Fault;
 use predicates_rules::quoted::Quoted;
-use predicates_rules::rule::{Rule, read_rules, without_mark};
+use predicates_rules::rule::{Rule, read_faults, read_rules, without_mark};
 use predicates_vet_check::{CheckError, RuleCheck, check_of};
 use std::alloc::{AllocError, AllocFailed, Global};
 use std::error::Error;
@@ -18,8 +19,9 @@ use std::fmt;
 #[derive(Debug, Drop)]
 pub enum ReadChecksError {
     NoMemory,
-    /// The text says no rules.
-    Unreadable(RulesError),
+    /// The text says no rules: the fault of each line that has one, in the order of the lines, 20
+    /// at most.
+    Unreadable(Vec<Fault>),
     /// The rule on this line, from 1, has a pattern that is no regular expression, or too large.
     Pattern {
         line: usize,
@@ -28,11 +30,20 @@ pub enum ReadChecksError {
     },
 }
 
+/// One line for each fault, with line feeds between them.
 impl fmt::Display for ReadChecksError {
     fn fmt<W: fmt::Write>(&self, f: &mut fmt::Formatter<W>) -> fmt::Result {
         match self {
             ReadChecksError::NoMemory => f.write_str("no memory"),
-            ReadChecksError::Unreadable(error) => write!(f, "{error}"),
+            ReadChecksError::Unreadable(faults) => {
+                for (index, fault) in faults.iter().enumerate() {
+                    if index > 0 {
+                        f.write_str("\n")?;
+                    }
+                    write!(f, "{fault}")?;
+                }
+                Ok(())
+            }
             ReadChecksError::Pattern {
                 line,
                 rule,
@@ -109,7 +120,9 @@ fn rules_of(alloc: Global, text: &[u8]) -> Result<Vec<Rule>, ReadChecksError>
     match read_rules(alloc, text) {
         Ok(rules) => Ok(rules),
         Err(RulesError::NoMemory) => Err(ReadChecksError::NoMemory),
-        Err(error) => Err(ReadChecksError::Unreadable(error)),
+        Err(RulesError::Unreadable(_first)) => {
+            Err(ReadChecksError::Unreadable(read_faults(alloc, text)?))
+        }
     }
 }
 

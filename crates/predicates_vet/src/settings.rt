@@ -1,4 +1,6 @@
 //! What a run writes.
+ghost use Rattle.std.specs.Prelude.{◌≡◌};
+ghost use Rattle.predicates_vet.specs.Settings.{tells};
 
 /// What a run writes of each record.
 #[derive(Clone, Copy, Debug, PartialEq, Eq)]
@@ -9,16 +11,30 @@ pub enum Report {
     All,
     /// A block with what would have to change in each rule that it breaks.
     Change,
-    /// An object of JSON, with the cases of the rules that it breaks: the first, or all.
-    Json { all: bool },
+    /// An object of JSON, with the cases of the rules that it breaks: the first, or all. With
+    /// `failed`, none of a record that keeps every rule.
+    Json { all: bool, failed: bool },
     /// The line itself, where the record keeps every rule (`true`), or breaks one (`false`).
     Lines(bool),
+}
+
+impl Report {
+    /// Whether anything is written of a record that keeps every rule, or breaks one.
+    pub(crate) fn tells(self, held: bool) -> bool
+        ensures { result ≡ tells self held }
+    {
+        match self {
+            Report::First | Report::All | Report::Change => !held,
+            Report::Json { failed, .. } => !(failed && held),
+            Report::Lines(wanted) => held == wanted,
+        }
+    }
 }
 
 /// How a run reports.
 #[derive(Debug, Drop)]
 pub struct Settings {
     pub report: Report,
-    /// The path of the value that labels a record, in place of its number.
+    /// The path of the value that labels a record, beside where it stands.
     pub id: Option<String>,
 }

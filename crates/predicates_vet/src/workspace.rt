@@ -6,7 +6,6 @@ use std::alloc::Global;
 #[derive(Drop)]
 pub(crate) struct Workspace<'r> {
     pub(crate) text: String,
-    pub(crate) message: String,
     pub(crate) matchers: Matchers<'r>,
 }
 
@@ -14,7 +13,6 @@ impl<'r> Workspace<'r> {
     pub(crate) fn new(alloc: Global) -> Workspace<'r> {
         Workspace {
             text: String::new(alloc),
-            message: String::new(alloc),
             matchers: Matchers::new(alloc),
         }
     }

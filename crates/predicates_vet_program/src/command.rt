@@ -1,11 +1,5 @@
 //! The command line of `vet`.
-ghost use Rattle.std.specs.Prelude.{◌≡◌, IfOk, option_map, string_bytes};
-ghost use Rattle.clap.specs.Matches.{found_of};
-ghost use Rattle.predicates_vet_program.specs.Words.{IsWanted, label_of, pointer_of};
-
-use crate::flags::Flags;
-use clap::{Arg, ArgAction, ArgMatches, Command};
-use predicates_vet::settings::Settings;
+use clap::{Arg, ArgAction, Command, value_parser};
 use std::alloc::{AllocError, Global};
 
 // An argument, and what help says of it.
@@ -27,10 +21,10 @@ fn unexplained<'a>(arg: Arg<'a>) -> Result<Arg<'a>, AllocError> {
     arg.conflicts_with("json")?.conflicts_with("all")
 }
 
+// That it can't stand with `--all`, but with `--json`, no rule of one argument says.
 fn failed<'a>(alloc: Global) -> Result<Arg<'a>, AllocError> {
-    let help = "Write the records that break a rule, as they stand";
-    let failed = flag(alloc, "failed", help).conflicts_with("passed")?;
-    unexplained(failed)
+    let help = "Write the records that break a rule, as they stand, or with --json their objects";
+    flag(alloc, "failed", help).conflicts_with("passed")
 }
 
 fn passed<'a>(alloc: Global) -> Result<Arg<'a>, AllocError> {
@@ -54,8 +48,23 @@ fn json<'a>(alloc: Global) -> Arg<'a> {
 }
 
 fn id<'a>(alloc: Global) -> Arg<'a> {
-    let help = "Label a record by its value at the path, not by its number";
+    let help = "Label a record by its value at the path";
     option(alloc, "id", help, ArgAction::Set).value_name("PATH")
+}
+
+fn summary<'a>(alloc: Global) -> Arg<'a> {
+    let help = "Count the records that break each rule, and show the counts at the end";
+    flag(alloc, "summary", help)
+}
+
+fn most<'a>(alloc: Global) -> Arg<'a> {
+    let help = "Write of N records at most; the others are counted alone";
+    let most = option(alloc, "max", help, ArgAction::Set).value_name("N");
+    most.value_parser(value_parser!(u64))
+}
+
+fn flush<'a>(alloc: Global) -> Arg<'a> {
+    flag(alloc, "flush", "Write of each record at once")
 }
 
 fn rules<'a>(alloc: Global) -> Arg<'a> {
@@ -63,10 +72,14 @@ fn rules<'a>(alloc: Global) -> Arg<'a> {
     argument(alloc, "RULES", help, ArgAction::Set).required(true)
 }
 
+fn files<'a>(alloc: Global) -> Arg<'a> {
+    let help = "The files of records, one on a line; `-` or none is standard input";
+    argument(alloc, "FILES", help, ArgAction::Append).num_args(0..)
+}
+
 /// What may be written behind `vet`.
 pub(crate) fn command<'a>(alloc: Global) -> Result<Command<'a>, AllocError> {
-    let about =
-        "Checks records of JSON, one on a line of standard input, and says why they break a rule";
+    let about = "Checks records of JSON, one on a line, and says why they break a rule";
     let (failed, passed, change) = (failed(alloc)?, passed(alloc)?, change(alloc)?);
     Command::new(alloc, "vet")
         .about(about)
@@ -76,37 +89,9 @@ pub(crate) fn command<'a>(alloc: Global) -> Result<Command<'a>, AllocError> {
         .arg(all(alloc))?
         .arg(change)?
         .arg(json(alloc))?
-        .arg(id(alloc))
-}
-
-// The path as JSON Pointer has it: `/` alone stands for the record itself.
-fn pointer(alloc: Global, path: &str) -> Result<String, AllocError>
-    ensures { IfOk result (λ pointer. string_bytes pointer ≡ pointer_of path.now) }
-{
-    if path == "/" {
-        return Ok(String::new(alloc));
-    }
-    String::from_str(alloc, path)
-}
-
-// The path that labels a record, where one is given.
-fn label_of(alloc: Global, matches: &ArgMatches<'_>) -> Result<Option<String>, AllocError>
-    ensures { IfOk result (λ path.
-        option_map string_bytes path ≡ label_of (found_of matches.now)) }
-{
-    match matches.get_str("id") {
-        Some(path) => Ok(Some(pointer(alloc, path)?)),
-        None => Ok(None),
-    }
-}
-
-/// How the words want a run to report.
-pub(crate) fn settings_of(alloc: Global, matches: &ArgMatches<'_>) -> Result<Settings, AllocError>
-    ensures report { IfOk result (λ settings. IsWanted (found_of matches.now) settings.report) }
-    ensures id { IfOk result (λ settings.
-        option_map string_bytes settings.id ≡ label_of (found_of matches.now)) }
-{
-    let report = Flags::of(matches).report();
-    let id = label_of(alloc, matches)?;
-    Ok(Settings { report, id })
+        .arg(id(alloc))?
+        .arg(summary(alloc))?
+        .arg(most(alloc))?
+        .arg(flush(alloc))?
+        .arg(files(alloc))
 }

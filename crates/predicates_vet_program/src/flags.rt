@@ -1,7 +1,7 @@
-//! The flags of the command line.
+//! The flags that choose a report.
 ghost use Rattle.std.specs.Prelude.{◌≡◌, codes};
 ghost use Rattle.clap.specs.Matches.{found_of};
-ghost use Rattle.predicates_vet_program.specs.Words.{IsFlag, report_by};
+ghost use Rattle.predicates_vet_program.specs.Words.{IsFlag, clashes, report_by};
 
 use clap::ArgMatches;
 use predicates_vet::settings::Report;
@@ -34,16 +34,35 @@ impl Flags {
         }
     }
 
+    /// Whether some of them can't stand together.
+    pub(crate) fn clash(self) -> bool
+        ensures { result ≡ clashes self }
+    {
+        let Flags {
+            failed,
+            passed,
+            json,
+            change,
+            all,
+        } = self;
+        (failed && (passed || change || (all && !json)))
+            || (passed && (change || json || all))
+            || (change && (json || all))
+    }
+
     /// What they want a run to report.
     pub(crate) fn report(self) -> Report
         ensures { result ≡ report_by self }
     {
-        if self.failed {
+        if self.json {
+            Report::Json {
+                all: self.all,
+                failed: self.failed,
+            }
+        } else if self.failed {
             Report::Lines(false)
         } else if self.passed {
             Report::Lines(true)
-        } else if self.json {
-            Report::Json { all: self.all }
         } else if self.change {
             Report::Change
         } else if self.all {

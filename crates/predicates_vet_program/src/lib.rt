@@ -2,11 +2,15 @@
 #![tactic(auto)]
 
 mod command;
+mod end;
 mod flags;
+mod inputs;
 mod io_fault;
-mod runtime;
+mod process;
 mod stderr;
 mod stdout;
+mod tell;
+mod wanted;
 mod words_fault;
 
-pub use runtime::run_program;
+pub use process::run_program;

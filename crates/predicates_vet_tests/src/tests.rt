@@ -1,21 +1,35 @@
 //! Rules and records, and what a run writes for them.
 mod combined;
+mod conditions;
 mod examples;
 mod faults;
+mod lines;
 mod malformed_records;
 mod malformed_rules;
+mod numbers;
 mod pieces;
 mod program;
 mod reference;
+mod reports;
 mod thresholds;
 
 use predicates_vet::settings::{Report, Settings};
-use predicates_vet::{Counts, ReadChecksError, RunFault, read_checks, run_records};
+use predicates_vet::{Counts, Job, ReadChecksError, RunFault, Tally, read_checks, run_records};
+use predicates_vet_check::RuleCheck;
 use std::alloc::{AllocError, Global};
 use std::test::Fail;
 
 // What a run writes, its messages, and how it ends.
 type Run = (Vec<u8>, Vec<u8>, Result<Counts, RunFault>);
+
+// A run over an input without a name.
+fn job_of<'r>(rules: &'r [RuleCheck], settings: &'r Settings) -> Job<'r> {
+    Job {
+        rules,
+        settings,
+        source: None,
+    }
+}
 
 // The messages of a run by the rules over the records, and how it ends.
 fn run_onto(
@@ -26,15 +40,13 @@ fn run_onto(
     output: &mut Vec<u8>,
 ) -> Result<(Vec<u8>, Result<Counts, RunFault>), ReadChecksError> {
     let checks = read_checks(alloc, rules)?;
+    let job = job_of(&checks, settings);
+    let mut tally = Tally::new(alloc, None);
     let mut messages = Vec::new(alloc);
-    let ended = run_records(
-        alloc,
-        &checks,
-        settings,
-        &mut records,
-        output,
-        &mut messages,
-    );
+    let ended = match run_records(alloc, &job, &mut tally, &mut records, output, &mut messages) {
+        Ok(()) => Ok(tally.counts),
+        Err(fault) => Err(fault),
+    };
     Ok((messages, ended))
 }
 
@@ -104,7 +116,7 @@ const BLOCKS: [(&str, &[u8], &[u8]); 16] = [
     (
         "a: /x < 3",
         b"{\"x\": true}",
-        b"record 1: false\na = false\n  rule: /x < 3 = false\n    - found: true\n    - error: not a whole number\n",
+        b"record 1: false\na = false\n  rule: /x < 3 = false\n    - found: true\n    - error: not a number\n",
     ),
     (
         "a: /x != null",
@@ -306,11 +318,11 @@ const RULES: &str = "a: /x == 1\nb: /y == 2";
 const RECORDS: &[u8] = b"{\"id\": \"r\", \"x\": 3, \"y\": 4}\n{\"x\": 1, \"y\": 2}\n";
 
 // A report on these records, the path of their labels, and what is written.
-const REPORTS: [(Report, Option<&str>, &[u8]); 6] = [
+const REPORTS: [(Report, Option<&str>, &[u8]); 4] = [
     (
         Report::Change,
         Some("/id"),
-        b"record \"r\": false\na = false\n  rule: /x == 1 = false\n    - found: 3\nb = false\n  rule: /y == 2 = false\n    - found: 4\n",
+        b"record 1 (\"r\"): false\na = false\n  rule: /x == 1 = false\n    - found: 3\nb = false\n  rule: /y == 2 = false\n    - found: 4\n",
     ),
     (
         Report::All,
@@ -320,22 +332,12 @@ const REPORTS: [(Report, Option<&str>, &[u8]); 6] = [
     (
         Report::First,
         Some("/id"),
-        b"record \"r\": false\na = false\n  rule: /x == 1 = false\n    - found: 3\n",
+        b"record 1 (\"r\"): false\na = false\n  rule: /x == 1 = false\n    - found: 3\n",
     ),
     (
         Report::First,
         Some("/z"),
-        b"record null: false\na = false\n  rule: /x == 1 = false\n    - found: 3\n",
-    ),
-    (
-        Report::Json { all: false },
-        None,
-        b"{\"case\":{\"children\":[{\"case\":{\"children\":[],\"products\":[{\"name\":\"found\",\"value\":\"3\"}],\"result\":false,\"text\":\"/x == 1\"},\"name\":\"rule\"}],\"products\":[],\"result\":false,\"text\":\"a\"},\"holds\":false,\"record\":1}\n{\"holds\":true,\"record\":2}\n",
-    ),
-    (
-        Report::Json { all: true },
-        Some("/id"),
-        b"{\"cases\":[{\"children\":[{\"case\":{\"children\":[],\"products\":[{\"name\":\"found\",\"value\":\"3\"}],\"result\":false,\"text\":\"/x == 1\"},\"name\":\"rule\"}],\"products\":[],\"result\":false,\"text\":\"a\"},{\"children\":[{\"case\":{\"children\":[],\"products\":[{\"name\":\"found\",\"value\":\"4\"}],\"result\":false,\"text\":\"/y == 2\"},\"name\":\"rule\"}],\"products\":[],\"result\":false,\"text\":\"b\"}],\"holds\":false,\"record\":\"r\"}\n{\"cases\":[],\"holds\":true,\"record\":null}\n",
+        b"record 1 (null): false\na = false\n  rule: /x == 1 = false\n    - found: 3\n",
     ),
 ];
 
@@ -377,7 +379,7 @@ const REFUSED: [(&str, &str); 5] = [
     ),
     (
         "a: / exists\nb: /x ==",
-        "line 2, column 9: expected a literal, found the end of the line",
+        "line 2, column 9: expected a literal or a path, found the end of the line",
     ),
     (
         "a / exists",

@@ -1,4 +1,4 @@
-//! Checks records of JSON, one on a line of standard input, against the rules of a file.
+//! Checks records of JSON, one on a line, against the rules of a file.
 #![tactic(auto)]
 
 use predicates_vet_program::run_program;

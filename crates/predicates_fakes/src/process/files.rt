@@ -1,4 +1,4 @@
-//! The one file of a process, which is read.
+//! The files of a process, which are read.
 use super::Process;
 use std::alloc::Allocator;
 use std::fs::{Metadata, OpenFile, OpenOptions};
@@ -63,10 +63,14 @@ impl<'a> Files for Process<'a> {
 
     fn open_file(&self, _how: &OpenOptions, path: &str) -> io::Result<OpenedFile<'a>> {
         if path == self.path {
-            Ok(OpenedFile { bytes: self.file })
-        } else {
-            Err(Error::from(ErrorKind::NotFound))
+            return Ok(OpenedFile { bytes: self.file });
         }
+        for (name, bytes) in self.others {
+            if path == *name {
+                return Ok(OpenedFile { bytes });
+            }
+        }
+        Err(Error::from(ErrorKind::NotFound))
     }
 
     fn open_dir(&self, _path: &str) -> io::Result<OpenedFile<'a>> {

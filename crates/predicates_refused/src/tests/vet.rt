@@ -3,7 +3,7 @@ use super::answer::Answer;
 use super::sweep::Memory::{self, GoesOn, Perhaps, Taken};
 use super::sweep::{Call, sweep};
 use predicates_vet::settings::{Report, Settings};
-use predicates_vet::{ReadChecksError, RunFault, read_checks, run_records};
+use predicates_vet::{Job, ReadChecksError, RunFault, Tally, read_checks, run_records};
 use predicates_vet_check::RuleCheck;
 use std::alloc::{AllocError, Global};
 use std::test::Fail;
@@ -35,7 +35,8 @@ impl Call for Reading<'_> {
     fn call(&self, alloc: Global, _operand: ()) -> Result<Answer, AllocError> {
         match read_checks(alloc, self.rules) {
             Ok(checks) => Ok(Answer::Text(lines_of(alloc, checks.as_slice())?)),
-            Err(ReadChecksError::Unreadable(error)) => {
+            Err(ReadChecksError::Unreadable(faults)) => {
+                let error = ReadChecksError::Unreadable(faults);
                 Ok(Answer::Text(format!(in alloc; "{error}")?))
             }
             // A pattern fails where memory runs out too.
@@ -68,7 +69,7 @@ const RULES: [(&str, &[u8], &str, Memory); 4] = [
     (
         "read_checks of a fault",
         b"a: / exists\nb: / >=",
-        "line 2, column 8: expected a literal, found the end of the line",
+        "line 2, column 8: expected a literal or a path, found the end of the line",
         GoesOn,
     ),
 ];
@@ -88,6 +89,15 @@ struct Running<'a> {
     report: Report,
     id: Option<&'a str>,
     input: &'a [u8],
+}
+
+// A run over an input without a name.
+fn job_of<'r>(rules: &'r [RuleCheck], settings: &'r Settings) -> Job<'r> {
+    Job {
+        rules,
+        settings,
+        source: None,
+    }
 }
 
 impl Call for Running<'_> {
@@ -114,18 +124,20 @@ impl Call for Running<'_> {
         let mut reader = self.input;
         let mut written = Vec::new(alloc);
         let mut messages = Vec::new(alloc);
+        let job = job_of(checks.as_slice(), &settings);
+        let mut tally = Tally::of_rules(alloc, checks.as_slice(), Some(9))?;
         let ended = run_records(
             alloc,
-            checks.as_slice(),
-            &settings,
+            &job,
+            &mut tally,
             &mut reader,
             &mut written,
             &mut messages,
         );
         match ended {
-            Ok(counts) => {
+            Ok(()) => {
                 written.extend_from_slice(&messages)?;
-                Ok(Answer::Run(counts.status() == 0, written))
+                Ok(Answer::Run(tally.counts.status() == 0, written))
             }
             Err(RunFault::NoMemory) => Err(AllocError),
             Err(_) => Ok(Answer::OtherFault),
@@ -155,7 +167,7 @@ const RUNS: [(&str, &[u8], Report, Option<&str>, &[u8], &str, Memory); 9] = [
         Report::All,
         Some("/x"),
         b"{\"x\": 3, \"l\": [1, 4]}",
-        "false\nrecord 3: false\na = false\n  rule: /x == 1 or /x == 2 = false\n    part: /x == 1 = false\n      - found: 3\n    part: /x == 2 = false\n      - found: 3\nb = false\n  rule: each /l (/ < 3) = false\n    - index: 1\n    item: / < 3 = false\n      - found: 4\n",
+        "false\nrecord 1 (3): false\na = false\n  rule: /x == 1 or /x == 2 = false\n    part: /x == 1 = false\n      - found: 3\n    part: /x == 2 = false\n      - found: 3\nb = false\n  rule: each /l (/ < 3) = false\n    - index: 1\n    item: / < 3 = false\n      - found: 4\n",
         Taken,
     ),
     (
@@ -188,19 +200,25 @@ const RUNS: [(&str, &[u8], Report, Option<&str>, &[u8], &str, Memory); 9] = [
     (
         "run_records: an object",
         b"a: /x == 1",
-        Report::Json { all: false },
+        Report::Json {
+            all: false,
+            failed: true,
+        },
         Some("/x"),
         b"{\"x\": 3}",
-        "false\n{\"case\":{\"children\":[{\"case\":{\"children\":[],\"products\":[{\"name\":\"found\",\"value\":\"3\"}],\"result\":false,\"text\":\"/x == 1\"},\"name\":\"rule\"}],\"products\":[],\"result\":false,\"text\":\"a\"},\"holds\":false,\"record\":3}\n",
+        "false\n{\"record\":3,\"holds\":false,\"case\":{\"text\":\"a\",\"result\":false,\"products\":[],\"children\":[{\"name\":\"rule\",\"case\":{\"text\":\"/x == 1\",\"result\":false,\"products\":[{\"name\":\"found\",\"value\":3}],\"children\":[]}}]}}\n",
         Taken,
     ),
     (
         "run_records: an object of no case",
         b"a: /x == 1",
-        Report::Json { all: true },
+        Report::Json {
+            all: true,
+            failed: false,
+        },
         None,
         b"{\"x\": 1}",
-        "true\n{\"cases\":[],\"holds\":true,\"record\":1}\n",
+        "true\n{\"record\":1,\"holds\":true,\"cases\":[]}\n",
         Taken,
     ),
     (

@@ -10,7 +10,7 @@ use std::alloc::{AllocError, Global};
 use std::fmt::Write;
 use std::test::Fail;
 
-const TESTS: [Test<'static>; 22] = [
+const TESTS: [Test<'static>; 29] = [
     ("/ exists", &[], "exists", Against::Nothing),
     ("/x missing", &["x"], "missing", Against::Nothing),
     ("/x is_empty", &["x"], "is_empty", Against::Nothing),
@@ -58,6 +58,18 @@ const TESTS: [Test<'static>; 22] = [
         "matches",
         Against::Text(""),
     ),
+    ("/x == /l/1", &["x"], "==", Against::Place(&["l", "1"])),
+    (
+        "/x >= /l/0/x",
+        &["x"],
+        ">=",
+        Against::Place(&["l", "0", "x"]),
+    ),
+    ("/x length > 1", &["x"], ">", Against::Length(1)),
+    ("/l length <= 2", &["l"], "<=", Against::Length(2)),
+    ("/x is number", &["x"], "is", Against::Kind("number")),
+    ("/x is whole", &["x"], "is", Against::Kind("whole")),
+    ("/l is array", &["l"], "is", Against::Kind("array")),
 ];
 
 // The second test of a pair.

@@ -1,6 +1,7 @@
 //! The examples in the comments of `predicates_vet`.
+use super::job_of;
 use predicates_vet::settings::{Report, Settings};
-use predicates_vet::{read_checks, run_records};
+use predicates_vet::{Tally, read_checks, run_records};
 use std::test::Fail;
 
 #[test]
@@ -20,16 +21,19 @@ fn records_are_told(rt: HostRuntime) -> Result<(), Fail> {
         report: Report::First,
         id: None,
     };
+    let job = job_of(&rules, &settings);
     let mut records: &[u8] = b"{\"age\": 30}\n{\"age\": 17}\n";
     let (mut output, mut messages) = (Vec::new(alloc), Vec::new(alloc));
-    let counts = run_records(
+    let mut tally = Tally::new(alloc, None);
+    run_records(
         alloc,
-        &rules,
-        &settings,
+        &job,
+        &mut tally,
         &mut records,
         &mut output,
         &mut messages,
     )?;
+    let counts = tally.counts;
     assert!(rt; counts.records == 2 && counts.failed == 1 && counts.status() == 1);
     let told = b"record 2: false\nadult = false\n  rule: /age >= 18 = false\n    - found: 17\n";
     assert!(rt; output.as_slice() == told.as_slice() && messages.is_empty());

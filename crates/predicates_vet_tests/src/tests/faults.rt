@@ -1,8 +1,9 @@
 //! A run byte by byte: with a fault at each byte that is read, or written as an answer or a
 //! message.
+use super::job_of;
 use predicates_fakes::{Narrow, Slow};
 use predicates_vet::settings::{Report, Settings};
-use predicates_vet::{Counts, RunFault, read_checks, run_records};
+use predicates_vet::{Counts, RunFault, Tally, read_checks, run_records};
 use std::alloc::{AllocError, Global};
 use std::io::ErrorKind;
 use std::test::Fail;
@@ -72,6 +73,8 @@ fn ran(
         report: Report::First,
         id: None,
     };
+    let job = job_of(&checks, &settings);
+    let mut tally = Tally::new(alloc, None);
     let mut input = Slow { bytes, end };
     let mut output = Narrow {
         got: Vec::new(alloc),
@@ -83,14 +86,17 @@ fn ran(
         room: message_room,
         kind,
     };
-    let ended = run_records(
+    let ended = match run_records(
         alloc,
-        &checks,
-        &settings,
+        &job,
+        &mut tally,
         &mut input,
         &mut output,
         &mut messages,
-    );
+    ) {
+        Ok(()) => Ok(tally.counts),
+        Err(fault) => Err(fault),
+    };
     Some((ended, output.got, messages.got))
 }
 

@@ -11,10 +11,13 @@ const BEFORE: &[u8] = b"{\"id\": \"p\", \"x\": 1}\n";
 const AFTER: &[u8] = b"{\"id\": \"q\", \"x\": 2}\n";
 
 const TOLD_BEFORE: &[u8] =
-    b"record \"p\": false\na = false\n  rule: /x == 5 = false\n    - found: 1\n";
+    b"record 1 (\"p\"): false\na = false\n  rule: /x == 5 = false\n    - found: 1\n";
 
-const TOLD_AFTER: &[u8] =
-    b"record \"q\": false\na = false\n  rule: /x == 5 = false\n    - found: 2\n";
+// How long `record 3` is, or that of another line below the tenth.
+const PLACE: usize = 8;
+
+// What is told of the last line, behind its place.
+const TOLD_AFTER: &[u8] = b" (\"q\"): false\na = false\n  rule: /x == 5 = false\n    - found: 2\n";
 
 const RECORD: &[u8] = b"{\"x\":-1}";
 
@@ -70,7 +73,10 @@ fn is_counted(
         failed: read,
         unreadable,
     };
-    let others = TOLD_BEFORE.len().saturating_add(TOLD_AFTER.len());
+    let others = TOLD_BEFORE
+        .len()
+        .saturating_add(PLACE)
+        .saturating_add(TOLD_AFTER.len());
     let is_alone = output.len() == others;
     Ok(
         counts == expected

@@ -36,7 +36,12 @@ const CUT: [(usize, usize, usize, &str); 21] = [
     (2, 3, 0, "a path, `not`, `each`, `any`, `at` or `(`"),
     (4, 5, 4, "a word, an operator, a path or a literal"),
     (6, 7, 0, "a path, `not`, `each`, `any`, `at` or `(`"),
-    (8, 10, 0, "an operator, `exists`, `missing` or `is_empty`"),
+    (
+        8,
+        10,
+        0,
+        "an operator, `exists`, `missing`, `is_empty`, `length` or `is`",
+    ),
     (11, 11, 11, "a word, an operator, a path or a literal"),
     (12, 13, 0, "`[`"),
     (14, 14, 0, "a literal"),
@@ -46,8 +51,13 @@ const CUT: [(usize, usize, usize, &str); 21] = [
     (20, 20, 0, "`,` or `]`"),
     (23, 24, 23, "a word, an operator, a path or a literal"),
     (25, 26, 0, "a path, `not`, `each`, `any`, `at` or `(`"),
-    (27, 29, 0, "an operator, `exists`, `missing` or `is_empty`"),
-    (30, 32, 0, "a literal"),
+    (
+        27,
+        29,
+        0,
+        "an operator, `exists`, `missing`, `is_empty`, `length` or `is`",
+    ),
+    (30, 32, 0, "a literal or a path"),
     (0, 0, 0, ""),
     (21, 21, 0, NOT_IN),
     (22, 22, 0, NOT_IN),
@@ -108,16 +118,20 @@ const TOKEN: &str = "a word, an operator, a path or a literal";
 
 const QUOTE: &str = "the quote that ends the text";
 
+const NUMBER: &str = "a number as JSON writes it, in the range of a 64-bit float";
+
+const OPERAND: &str = "a literal or a path";
+
 const UTF8: &str = "text in UTF-8 without no-break spaces";
 
-const CONDITION: &str = "an operator, `exists`, `missing` or `is_empty`";
+const CONDITION: &str = "an operator, `exists`, `missing`, `is_empty`, `length` or `is`";
 
 // A place in the short rule from 1, the byte that is put there, the column and what is expected
 // there; or 0, and what is written of `{"x": 10}`.
 const CHANGED: [(usize, u8, usize, &str); 42] = [
     (1, b'#', 0, ""),
     (1, b' ', 2, "the name of a rule"),
-    (1, b'"', 1, "the name of a rule"),
+    (1, b'"', 1, QUOTE),
     (
         1,
         b'0',
@@ -135,7 +149,7 @@ const CHANGED: [(usize, u8, usize, &str); 42] = [
     (3, b'#', 3, "a path, `not`, `each`, `any`, `at` or `(`"),
     (3, b' ', 4, TOKEN),
     (3, b'"', 3, QUOTE),
-    (3, b'0', 3, "a whole number from -2^63 to 2^64 - 1"),
+    (3, b'0', 3, NUMBER),
     (3, b'=', 3, TOKEN),
     (3, 255, 3, TOKEN),
     (4, b'#', 4, CONDITION),
@@ -143,7 +157,7 @@ const CHANGED: [(usize, u8, usize, &str); 42] = [
         4,
         b' ',
         0,
-        "a = false\n  rule: / <= 9 = false\n    - found: {\"x\":10}\n    - error: not a whole number\n",
+        "a = false\n  rule: / <= 9 = false\n    - found: {\"x\":10}\n    - error: not a number\n",
     ),
     (
         4,
@@ -170,7 +184,7 @@ const CHANGED: [(usize, u8, usize, &str); 42] = [
         "a = false\n  rule: /x == 9 = false\n    - found: 10\n",
     ),
     (5, 255, 3, UTF8),
-    (6, b'#', 6, "a literal"),
+    (6, b'#', 6, OPERAND),
     (
         6,
         b' ',
@@ -178,7 +192,7 @@ const CHANGED: [(usize, u8, usize, &str); 42] = [
         "a = false\n  rule: /x < 9 = false\n    - found: 10\n",
     ),
     (6, b'"', 6, QUOTE),
-    (6, b'0', 6, "a whole number from -2^63 to 2^64 - 1"),
+    (6, b'0', 6, NUMBER),
     (
         6,
         b'=',
@@ -186,8 +200,8 @@ const CHANGED: [(usize, u8, usize, &str); 42] = [
         "a = false\n  rule: /x <= 9 = false\n    - found: 10\n",
     ),
     (6, 255, 6, TOKEN),
-    (7, b'#', 7, "a literal"),
-    (7, b' ', 8, "a literal"),
+    (7, b'#', 7, OPERAND),
+    (7, b' ', 8, OPERAND),
     (7, b'"', 7, QUOTE),
     (
         7,

@@ -1,4 +1,4 @@
-//! An input that is cut at each line: with `--id` the outputs of both pieces join to that of the
+//! An input that is cut at each line: with `--id` the objects of both pieces join to those of the
 //! whole.
 use super::combined::RECORDS;
 use super::{run_onto, settings_of};
@@ -50,10 +50,15 @@ fn is_joined(alloc: Global, report: Report, cut: usize) -> Result<bool, AllocErr
 #[test]
 fn pieces_join_to_one_run(rt: HostRuntime) -> Result<(), Fail> {
     for report in [
-        Report::First,
-        Report::All,
-        Report::Change,
-        Report::Json { all: true },
+        Report::Json {
+            all: true,
+            failed: false,
+        },
+        Report::Json {
+            all: false,
+            failed: true,
+        },
+        Report::Lines(false),
     ] {
         for (index, byte) in RECORDS.as_bytes().iter().enumerate() {
             if *byte == b'\n' {

@@ -1,7 +1,7 @@
 //! The whole program, over a process of the test's.
 use predicates_fakes::{Closed, Process};
 use predicates_vet_program::run_program;
-use std::alloc::Global;
+use std::alloc::{AllocError, Global};
 use std::io::ErrorKind;
 use std::test::Fail;
 
@@ -26,7 +26,7 @@ const PASSED: &[&[u8]] = &[b"vet", b"rules", b"--passed"];
 
 const BLOCK: &str = "record 1: false\na = false\n  rule: / == 1 = false\n    - found: 2\n";
 
-const ROWS: [Row; 30] = [
+const ROWS: [Row; 44] = [
     // Every record keeps every rule.
     (
         PLAIN,
@@ -86,7 +86,7 @@ const ROWS: [Row; 30] = [
         None,
         Closed::Neither,
         0,
-        "{\"holds\":true,\"record\":1}\n",
+        "{\"record\":1,\"holds\":true}\n",
         "1 record, 0 failed\n",
     ),
     (
@@ -96,7 +96,7 @@ const ROWS: [Row; 30] = [
         None,
         Closed::Neither,
         0,
-        "{\"cases\":[],\"holds\":true,\"record\":1}\n",
+        "{\"record\":1,\"holds\":true,\"cases\":[]}\n",
         "1 record, 0 failed\n",
     ),
     (
@@ -106,7 +106,7 @@ const ROWS: [Row; 30] = [
         None,
         Closed::Neither,
         1,
-        "record 2: false\na = false\n  rule: / == 1 = false\n    - found: 2\n",
+        "record 1 (2): false\na = false\n  rule: / == 1 = false\n    - found: 2\n",
         "1 record, 1 failed\n",
     ),
     (
@@ -191,7 +191,47 @@ const ROWS: [Row; 30] = [
         Closed::Neither,
         2,
         "",
-        "vet: rules: line 3, column 8: expected a literal, found the end of the line\n",
+        "vet: rules: line 3, column 8: expected a literal or a path, found the end of the line\n",
+    ),
+    (
+        PLAIN,
+        b"a: / exists\nb: /x ==",
+        b"1",
+        None,
+        Closed::Neither,
+        2,
+        "",
+        "vet: rules: line 2, column 9: expected a literal or a path, found the end of the line\n",
+    ),
+    (
+        PLAIN,
+        b"adult: /age = 18",
+        b"1",
+        None,
+        Closed::Neither,
+        2,
+        "",
+        "vet: rules: line 1, column 13: expected a word, an operator, a path or a literal, found `=`; did you mean `==`?\n",
+    ),
+    (
+        PLAIN,
+        b"adult: age >= 18",
+        b"1",
+        None,
+        Closed::Neither,
+        2,
+        "",
+        "vet: rules: line 1, column 8: expected a word, an operator, a path or a literal, found `age`; a path begins with `/`\n",
+    ),
+    (
+        PLAIN,
+        b"zoe: /name == 'Zoe'",
+        b"1",
+        None,
+        Closed::Neither,
+        2,
+        "",
+        "vet: rules: line 1, column 15: expected a word, an operator, a path or a literal, found `'Zoe'`; a text stands in double quotes\n",
     ),
     (
         PLAIN,
@@ -236,16 +276,6 @@ const ROWS: [Row; 30] = [
         "vet: the argument '--failed' cannot be used with '--passed'; try --help\n",
     ),
     (
-        &[b"vet", b"--json", b"--failed", b"rules"],
-        b"",
-        b"1",
-        None,
-        Closed::Neither,
-        2,
-        "",
-        "vet: the argument '--json' cannot be used with '--failed'; try --help\n",
-    ),
-    (
         &[b"vet", b"--change", b"--failed", b"rules"],
         b"",
         b"1",
@@ -285,6 +315,88 @@ const ROWS: [Row; 30] = [
         "",
         "vet: unexpected argument '--so; try --help\n",
     ),
+    // Objects of the records that break a rule.
+    (
+        &[b"vet", b"--json", b"--failed", b"rules"],
+        b"a: / == 1",
+        b"1\n2\n1",
+        None,
+        Closed::Neither,
+        1,
+        "{\"record\":2,\"holds\":false,\"case\":{\"text\":\"a\",\"result\":false,\"products\":[],\"children\":[{\"name\":\"rule\",\"case\":{\"text\":\"/ == 1\",\"result\":false,\"products\":[{\"name\":\"found\",\"value\":2}],\"children\":[]}}]}}\n",
+        "3 records, 1 failed\n",
+    ),
+    (
+        &[b"vet", b"rules", b"none"],
+        b"a: / == 1",
+        b"1",
+        None,
+        Closed::Neither,
+        2,
+        "",
+        "vet: none: entity not found\n0 records, 0 failed\n",
+    ),
+    (
+        &[b"vet", b"rules", b"-"],
+        b"a: / == 1",
+        b"3",
+        None,
+        Closed::Neither,
+        1,
+        "record 1: false\na = false\n  rule: / == 1 = false\n    - found: 3\n",
+        "1 record, 1 failed\n",
+    ),
+    // How much is written, and when.
+    (
+        &[b"vet", b"--max", b"1", b"rules"],
+        b"a: / == 1",
+        b"2\n3\n1",
+        None,
+        Closed::Neither,
+        1,
+        "record 1: false\na = false\n  rule: / == 1 = false\n    - found: 2\n",
+        "3 records, 2 failed\n",
+    ),
+    (
+        &[b"vet", b"--max", b"0", b"rules"],
+        b"a: / == 1",
+        b"2\n3\n1",
+        None,
+        Closed::Neither,
+        1,
+        "",
+        "3 records, 2 failed\n",
+    ),
+    (
+        &[b"vet", b"--max", b"x", b"rules"],
+        b"a: / == 1",
+        b"1",
+        None,
+        Closed::Neither,
+        2,
+        "",
+        "vet: invalid value 'x' for '--max <N>': invalid digit found in string; try --help\n",
+    ),
+    (
+        &[b"vet", b"--flush", b"rules"],
+        b"a: / == 1",
+        b"2\n1\n3",
+        None,
+        Closed::Neither,
+        1,
+        "record 1: false\na = false\n  rule: / == 1 = false\n    - found: 2\nrecord 3: false\na = false\n  rule: / == 1 = false\n    - found: 3\n",
+        "3 records, 2 failed\n",
+    ),
+    (
+        &[b"vet", b"--flush", b"rules"],
+        b"a: / == 1",
+        b"2",
+        None,
+        Closed::Output,
+        2,
+        "",
+        "",
+    ),
     // Faults of reading and writing.
     (
         PLAIN,
@@ -309,6 +421,62 @@ const ROWS: [Row; 30] = [
     (PLAIN, b"a: / == 1", b"2", None, Closed::Output, 2, "", ""),
     (PLAIN, b"a: / == 1", b"1", None, Closed::Error, 2, "", ""),
     (PLAIN, b"a: / == 1", b"[", None, Closed::Error, 2, "", ""),
+    // Several inputs, of which the file of rules is one.
+    (
+        &[b"vet", b"rules", b"rules", b"-"],
+        b"a: / == 1",
+        b"1\n2\n1",
+        None,
+        Closed::Neither,
+        2,
+        "-:2: false\na = false\n  rule: / == 1 = false\n    - found: 2\n",
+        "vet: rules:1: not JSON: invalid JSON at line 1 column 1\n3 records, 1 failed, 1 line unreadable\n",
+    ),
+    (
+        &[b"vet", b"rules", b"-", b"rules", b"none"],
+        b"a: / == 1",
+        b"2",
+        None,
+        Closed::Neither,
+        2,
+        "-:1: false\na = false\n  rule: / == 1 = false\n    - found: 2\n",
+        "vet: rules:1: not JSON: invalid JSON at line 1 column 1\nvet: none: entity not found\n1 record, 1 failed, 1 line unreadable\n",
+    ),
+    (
+        &[b"vet", b"--json", b"--failed", b"rules", b"-", b"rules"],
+        b"a: / == 1",
+        b"2",
+        None,
+        Closed::Neither,
+        2,
+        "{\"file\":\"-\",\"record\":1,\"holds\":false,\"case\":{\"text\":\"a\",\"result\":false,\"products\":[],\"children\":[{\"name\":\"rule\",\"case\":{\"text\":\"/ == 1\",\"result\":false,\"products\":[{\"name\":\"found\",\"value\":2}],\"children\":[]}}]}}\n",
+        "vet: rules:1: not JSON: invalid JSON at line 1 column 1\n1 record, 1 failed, 1 line unreadable\n",
+    ),
+];
+
+// Flags, each with its value.
+const FLAGS: [&[&[u8]]; 9] = [
+    &[b"--failed"],
+    &[b"--passed"],
+    &[b"--all"],
+    &[b"--change"],
+    &[b"--json"],
+    &[b"--summary"],
+    &[b"--flush"],
+    &[b"--max", b"1"],
+    &[b"--id", b"/"],
+];
+
+// Which of them can't stand together, by their places.
+const CLASHES: [(usize, usize); 8] = [
+    (0, 1),
+    (0, 2),
+    (0, 3),
+    (1, 2),
+    (1, 3),
+    (1, 4),
+    (2, 3),
+    (3, 4),
 ];
 
 // The status, standard output and standard error.
@@ -339,11 +507,72 @@ fn ends(alloc: Global, row: Row) -> bool {
         && told.as_slice() == messages.as_bytes()
 }
 
+fn clash(first: usize, second: usize) -> bool {
+    CLASHES.iter().any(|(one, other)| (*one, *other) == (first.min(second), first.max(second)))
+}
+
+// What is told of two flags that can't stand together.
+fn refusal(alloc: Global, first: &[&[u8]], second: &[&[u8]]) -> Result<Vec<u8>, AllocError> {
+    let mut line = Vec::new(alloc);
+    line.extend_from_slice(b"vet: the argument '")?;
+    for word in first {
+        line.extend_from_slice(word)?;
+    }
+    line.extend_from_slice(b"' cannot be used with '")?;
+    for word in second {
+        line.extend_from_slice(word)?;
+    }
+    line.extend_from_slice(b"'; try --help\n")?;
+    Ok(line)
+}
+
+// Whether the program ends so where these flags stand before the rules.
+fn pair_ends(
+    alloc: Global,
+    first: &[&[u8]],
+    second: &[&[u8]],
+    clash: bool,
+) -> Result<bool, AllocError> {
+    let mut words: Vec<&[u8]> = Vec::new(alloc);
+    words.push(b"vet")?;
+    words.extend_from_slice(first)?;
+    words.extend_from_slice(second)?;
+    words.push(b"rules")?;
+    let (status, _, told) = run(
+        alloc,
+        words.as_slice(),
+        b"a: / == 1",
+        b"1",
+        None,
+        Closed::Neither,
+    );
+    if clash {
+        return Ok(status == 2 && told == refusal(alloc, first, second)?);
+    }
+    Ok(status == 0 && told.ends_with(b"1 record, 0 failed\n"))
+}
+
 #[test]
 fn statuses_and_messages(rt: HostRuntime) -> Result<(), Fail> {
     for row in ROWS {
         let (words, input) = (row.0, row.2);
         assert!(rt; ends(rt.alloc(), row), "{words:?} on {input:?}");
+    }
+    Ok(())
+}
+
+#[test]
+fn every_pair_of_flags(rt: HostRuntime) -> Result<(), Fail> {
+    for (first, words) in FLAGS.iter().enumerate() {
+        for (second, others) in FLAGS.iter().enumerate() {
+            if first != second {
+                let clash = clash(first, second);
+                assert!(rt;
+                    pair_ends(rt.alloc(), words, others, clash)?,
+                    "{words:?} {others:?}"
+                );
+            }
+        }
     }
     Ok(())
 }

@@ -14,6 +14,12 @@ pub enum Against<'a> {
     Null,
     /// Values as JSON writes them.
     OneOf(&'a [&'a str]),
+    /// What stands at another path, by its names and places.
+    Place(&'a [&'a str]),
+    /// How many characters, items or members there are.
+    Length(usize),
+    /// A kind, by its word.
+    Kind(&'a str),
 }
 
 /// A test as a rule writes it, the names and places that its path goes by, its word, and what it
@@ -45,10 +51,19 @@ pub fn value_of<'v>(value: &'v Value, names: &[&str]) -> Option<&'v Value> {
     Some(found)
 }
 
-// How the value stands to what it is compared with, if it is of its kind.
-fn order(value: &Value, against: Against<'_>) -> Option<Ordering> {
+// The whole number that is shown so, with `.0` behind it or not.
+fn whole_of(shown: &str) -> Option<i128> {
+    let digits = match shown.strip_suffix(".0") {
+        Some(digits) => digits,
+        None => shown,
+    };
+    digits.parse::<i128>().ok()
+}
+
+// How the value, which is shown so, stands to what it is compared with, if it is of its kind.
+fn order(value: &Value, shown: &str, against: Against<'_>) -> Option<Ordering> {
     match against {
-        Against::Whole(n) => Some(value.as_number()?.as_i128()?.cmp(&n)),
+        Against::Whole(n) => Some(whole_of(shown)?.cmp(&n)),
         Against::Text(text) => Some(value.as_str()?.as_bytes().cmp(text.as_bytes())),
         Against::Truth(truth) => Some(value.as_bool()?.cmp(&truth)),
         Against::Null if value.is_null() => Some(Ordering::Equal),
@@ -111,7 +126,7 @@ fn emptiness(shown: &str) -> Option<bool> {
 fn is_among(against: Against<'_>, shown: &str) -> bool {
     if let Against::OneOf(all) = against {
         for one in all {
-            if *one == shown {
+            if *one == shown || whole_of(shown).is_some() && whole_of(one) == whole_of(shown) {
                 return true;
             }
         }
@@ -129,20 +144,20 @@ fn verdict_of(word: &str, against: Against<'_>, value: &Value, shown: &str) -> O
         "starts_with" | "ends_with" | "contains" | "matches" => {
             Some(fits(word, value.as_str()?.as_bytes(), against))
         }
-        _ => Some(compares(word, order(value, against)?)),
+        _ => Some(compares(word, order(value, shown, against)?)),
     }
 }
 
 fn misfit(against: Against<'_>) -> &'static str {
     match against {
-        Against::Whole(_) => "not a whole number",
+        Against::Whole(_) => "not a number",
         Against::Truth(_) => "not true or false",
         Against::Nothing => "not a string, an array or an object",
         _ => "not a string",
     }
 }
 
-fn of_found(alloc: Global, test: Test<'_>, value: &Value) -> Result<(bool, String), AllocError> {
+fn of_one(alloc: Global, test: Test<'_>, value: &Value) -> Result<(bool, String), AllocError> {
     let (_, _, word, against) = test;
     let shown = value.to_string(alloc)?;
     match verdict_of(word, against, value, &shown) {
@@ -154,6 +169,108 @@ fn of_found(alloc: Global, test: Test<'_>, value: &Value) -> Result<(bool, Strin
                 format!(in alloc; "- found: {shown}\n- error: {error}\n")?,
             ))
         }
+    }
+}
+
+// What a value is compared with that stands there, and is shown so.
+fn against_of<'a>(other: &'a Value, shown: &str) -> Against<'a> {
+    match other {
+        Value::Number(_) => match whole_of(shown) {
+            Some(n) => Against::Whole(n),
+            None => Against::OneOf(&[]),
+        },
+        Value::String(text) => Against::Text(text),
+        Value::Bool(truth) => Against::Truth(*truth),
+        Value::Null => Against::Null,
+        _ => Against::OneOf(&[]),
+    }
+}
+
+fn of_two(
+    alloc: Global,
+    test: Test<'_>,
+    value: &Value,
+    other: Option<&Value>,
+) -> Result<(bool, String), AllocError> {
+    let (text, _, word, _) = test;
+    let path = text.split(' ').last().unwrap_or("");
+    let shown = value.to_string(alloc)?;
+    let Some(other) = other else {
+        let below = format!(in alloc; "- found: {shown}\n- error: nothing at {path}\n")?;
+        return Ok((false, below));
+    };
+    let second = other.to_string(alloc)?;
+    let both = format!(in alloc; "- found: {shown}\n- other: {second}\n")?;
+    match order(value, &shown, against_of(other, &second)) {
+        Some(order) => Ok((compares(word, order), both)),
+        None => Ok((
+            false,
+            format!(in alloc; "{both}- error: not comparable with {path}\n")?,
+        )),
+    }
+}
+
+// How many characters, items or members are in it.
+fn count_in(value: &Value) -> Option<usize> {
+    match value {
+        Value::String(text) => {
+            let starts = text.as_bytes().iter().filter(|byte| **byte & 192 != 128);
+            Some(starts.count())
+        }
+        Value::Array(items) => Some(items.len()),
+        Value::Object(members) => Some(members.len()),
+        _ => None,
+    }
+}
+
+fn of_count(
+    alloc: Global,
+    word: &str,
+    value: &Value,
+    number: usize,
+) -> Result<(bool, String), AllocError> {
+    let shown = value.to_string(alloc)?;
+    let Some(count) = count_in(value) else {
+        let error = misfit(Against::Nothing);
+        let below = format!(in alloc; "- found: {shown}\n- error: {error}\n")?;
+        return Ok((false, below));
+    };
+    let below = format!(in alloc; "- found: {shown}\n- len: {count}\n")?;
+    Ok((compares(word, count.cmp(&number)), below))
+}
+
+// Whether a value that is shown so is of the kind; each number of the records is whole, or has
+// `.0` behind it.
+fn is_of(kind: &str, shown: &str) -> bool {
+    match kind {
+        "text" => shown.starts_with("\""),
+        "array" => shown.starts_with("["),
+        "object" => shown.starts_with("{"),
+        "bool" => shown == "true" || shown == "false",
+        "whole" => shown.parse::<i128>().is_ok(),
+        "number" => whole_of(shown).is_some(),
+        _ => shown == "null",
+    }
+}
+
+fn of_kind(alloc: Global, kind: &str, value: &Value) -> Result<(bool, String), AllocError> {
+    let shown = value.to_string(alloc)?;
+    let below = format!(in alloc; "- found: {shown}\n")?;
+    Ok((is_of(kind, &shown), below))
+}
+
+fn of_found(
+    alloc: Global,
+    test: Test<'_>,
+    whole: &Value,
+    value: &Value,
+) -> Result<(bool, String), AllocError> {
+    let (_, _, word, against) = test;
+    match against {
+        Against::Place(names) => of_two(alloc, test, value, value_of(whole, names)),
+        Against::Length(number) => of_count(alloc, word, value, number),
+        Against::Kind(kind) => of_kind(alloc, kind, value),
+        _ => of_one(alloc, test, value),
     }
 }
 
@@ -173,7 +290,7 @@ fn of_nothing(alloc: Global, test: Test<'_>) -> Result<(bool, String), AllocErro
 pub fn tested(alloc: Global, test: Test<'_>, value: &Value) -> Result<Answer, AllocError> {
     let (text, names, _, _) = test;
     let (holds, below) = match value_of(value, names) {
-        Some(found) => of_found(alloc, test, found)?,
+        Some(found) => of_found(alloc, test, value, found)?,
         None => of_nothing(alloc, test)?,
     };
     let text = String::from_str(alloc, text)?;

@@ -1,6 +1,6 @@
 use Rattle.std.proofs.Common.{sym, ◌∙◌}
 use Rattle.predicates_vet.proofs.Running.{no_record_on, record_read}
-use Rattle.predicates_vet.proofs.run.read_record.Goals as goal
+use Rattle.predicates_vet.proofs.line.read_record.Goals as goal
 
 pub returns-in_ok-found-in-Ok : goal.returns-in_ok-found-in-Ok
 returns-in_ok-found-in-Ok c = c.in_ok-found-in-Ok.ensures ∙ sym (record_read c.args.line.now c.in-Ok.source.now c.in-Ok.ensures.cases.0 c.in-Ok.ensures.cases.1)

@@ -1,0 +1,22 @@
+-- What the words want of the program.
+use Rattle.std.specs.Prelude.{◌≡◌, false, codes}
+use Rattle.clap.specs.declared.parser.matches.Found.{Found}
+use Rattle.predicates_vet.specs.Settings.{id_of}
+use Rattle.predicates_vet_program.specs.Words.{IsFlag, IsNumber, clashes, report_by, label_of}
+use Rattle.predicates_vet_program.specs.declared.flags.Flags.{Flags}
+use Rattle.predicates_vet_program.specs.declared.wanted.Wanted.{Wanted}
+
+-- the report is that of the flags that are set, which can stand together
+pub record IsWanted (found : Found) (wanted : Wanted) : Type 0 where
+  pub flags : Flags
+  pub failed : IsFlag found (codes "failed") flags.failed
+  pub passed : IsFlag found (codes "passed") flags.passed
+  pub json : IsFlag found (codes "json") flags.json
+  pub change : IsFlag found (codes "change") flags.change
+  pub all : IsFlag found (codes "all") flags.all
+  pub allowed : clashes flags ≡ false
+  pub report : wanted.settings.report ≡ report_by flags
+  pub id : id_of wanted.settings ≡ label_of found
+  pub summary : IsFlag found (codes "summary") wanted.summary
+  pub most : IsNumber found (codes "max") wanted.most
+  pub flush : IsFlag found (codes "flush") wanted.flush

@@ -1,0 +1,36 @@
+//! How a call of the program ends.
+ghost use Rattle.std.specs.Prelude.{◌≡◌};
+ghost use Rattle.predicates_vet_program.specs.Ends.{status_of_end};
+
+use predicates_vet::Counts;
+
+/// How a call of the program ends.
+#[derive(Clone, Copy, Debug, PartialEq, Eq)]
+pub(crate) enum End {
+    /// The help was printed.
+    Helped,
+    /// The words are wrong or the rules can't be read, and no input was opened.
+    Refused,
+    /// A fault ended the run, or nothing reads the output any more.
+    Stopped,
+    /// The inputs were taken to their ends, but for those that could not be read.
+    Ran { counts: Counts, all_read: bool },
+}
+
+impl End {
+    /// The status of the process: 0 for the help and where every record keeps every rule, 1 where
+    /// one breaks a rule, and else 2.
+    pub(crate) fn status(self) -> u8
+        ensures { result ≡ status_of_end self }
+    {
+        match self {
+            End::Helped => 0,
+            End::Refused | End::Stopped => 2,
+            End::Ran {
+                counts,
+                all_read: true,
+            } => counts.status(),
+            End::Ran { .. } => 2,
+        }
+    }
+}

@@ -1,0 +1,24 @@
+//! Lines within a length.
+use predicates_lines::{TakenLine, next_line_within};
+use std::test::Fail;
+
+// What is taken, one after another, and the line.
+const TAKEN: [(TakenLine, &[u8]); 6] = [
+    (TakenLine::Line, b"one\n"),
+    (TakenLine::TooLong, b""),
+    (TakenLine::Line, b"\n"),
+    (TakenLine::TooLong, b""),
+    (TakenLine::Line, b"four"),
+    (TakenLine::End, b""),
+];
+
+#[test]
+fn lines_of_four_bytes(rt: HostRuntime) -> Result<(), Fail> {
+    let mut input = b"one\nfive\n\nsixteen\nfour".as_slice();
+    let mut line = Vec::new(rt.alloc());
+    for (taken, bytes) in TAKEN {
+        assert!(rt; next_line_within(&mut input, &mut line, 4)? == taken);
+        assert!(rt; taken == TakenLine::TooLong || line.as_slice() == bytes);
+    }
+    Ok(())
+}
