@@ -4,7 +4,7 @@ use Rattle.predicates_core.specs.declared.custom.join.Operator.{Operator}
 use Rattle.predicates_dynamic.specs.declared.check.Check.{Check}
 use Rattle.predicates_dynamic.specs.declared.check.Check.TheFolds.{fold-roll-Check}
 use Rattle.predicates_dynamic.specs.declared.check.Check.TheOpen.{Check-F}
-use Rattle.predicates_dynamic.specs.declared.check.Check.TheVariants.{Leaf, Not, Named, Pair, Row, AtLeast, Quantified, MembersAtLeast, rolls-Leaf, rolls-Not, rolls-Named, rolls-Pair, rolls-Row, rolls-AtLeast, rolls-Quantified, rolls-MembersAtLeast}
+use Rattle.predicates_dynamic.specs.declared.check.Check.TheVariants.{Leaf, Not, Named, Pair, Row, AtLeast, Odd, Quantified, MembersAtLeast, rolls-Leaf, rolls-Not, rolls-Named, rolls-Pair, rolls-Row, rolls-AtLeast, rolls-Odd, rolls-Quantified, rolls-MembersAtLeast}
 use Rattle.predicates_dynamic.specs.Trees.{Tree, tree_step}
 use Rattle.predicates_dynamic.specs.Sizes.{tree_size, size_of, sizes_of, size_left, steps, left_of, left_over}
 
@@ -57,6 +57,9 @@ module _ {L V : Type 0} where
 
   pub counted_size : (least : ℕ) (cs : Vec (Check L V) Global) → size_of (AtLeast least cs) ≡ suc (sizes_of cs.items)
   counted_size least cs = ap size_of (sym (rolls-AtLeast least cs)) ∙ ap tree_size (fold-roll-Check L V (Tree L V) tree_step (Check-F.AtLeast least cs))
+
+  pub odd_size : (cs : Vec (Check L V) Global) → size_of (Odd cs) ≡ suc (sizes_of cs.items)
+  odd_size cs = ap size_of (sym (rolls-Odd cs)) ∙ ap tree_size (fold-roll-Check L V (Tree L V) tree_step (Check-F.Odd cs))
 
   pub fewer : (a : Check L V) (n : ℕ) (p q : Option (Check L V)) → size_of a + size_left p < n + size_left q → left_over a p < left_of n q
   fewer a n p q h = fewer_left (size_of a + size_left p) (n + size_left q) (size_of a) n h (omega arith)

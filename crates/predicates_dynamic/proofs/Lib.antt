@@ -1,3 +1,4 @@
 pub mod Rows
+pub mod OddRows
 pub mod Listing
 pub mod Dropping

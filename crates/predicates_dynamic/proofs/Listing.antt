@@ -11,7 +11,7 @@ use Rattle.predicates_core.specs.Several.{further_texts, listed_text}
 use Rattle.predicates_core.specs.Tree.{Forest, empty, branch}
 use Rattle.predicates_dynamic.specs.declared.check.Check.{Check}
 use Rattle.predicates_core.specs.Thresholds.{counted_text}
-use Rattle.predicates_dynamic.specs.Trees.{Rows, Counts, trees_of, tree_of}
+use Rattle.predicates_dynamic.specs.Trees.{Rows, Counts, Odds, trees_of, tree_of}
 use Rattle.predicates_dynamic.specs.Formulas.{tree_text, tree_texts, check_text, word}
 use Rattle.predicates_dynamic.specs.Described.{row_parts, check_parameters, check_parts}
 use Rattle.predicates_dynamic.specs.Listed.{joined_texts, row_text, text_at}
@@ -83,6 +83,9 @@ module _ {L V : Type 0} (text : L → Entry) (view_text : V → Entry) where
 
   pub counted_is : (least : ℕ) (cs : List (Check L V)) → tree_text text view_text (Counts least (trees_of (map tree_of cs))) ≡ counted_text (codes "at_least") least (map (check_text text view_text) cs)
   counted_is least cs = ap (counted_text (codes "at_least") least) (each_text cs)
+
+  pub odd_is : (cs : List (Check L V)) → tree_text text view_text (Odds (trees_of (map tree_of cs))) ≡ row_text (codes "odd_of") (joined_texts (map (check_text text view_text) cs))
+  odd_is cs = ap (listed_text (codes "odd_of")) (each_text cs) ∙ listed (codes "odd_of") (map (check_text text view_text) cs)
 
   module _ (parameters : L → List Product) (below : L → Forest Part) where
     pub each_described : (cs : List (Check L V)) → row_parts text view_text parameters below (trees_of (map tree_of cs)) ≡ part_of_each (codes "rule") (check_text text view_text) (check_parameters parameters) (check_parts text view_text parameters below) cs

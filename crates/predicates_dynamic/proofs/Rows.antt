@@ -20,7 +20,8 @@ use Rattle.predicates_core.specs.Leaves.{IsExactly}
 use Rattle.predicates_core.specs.Present.{IsOfPresent, absent_leaf}
 use Rattle.predicates_core.proofs.Fewer.{truth_of_fewer, found_fewer, found_change_fewer, found_of_fewer, found_change_of_fewer}
 use Rattle.predicates_dynamic.specs.declared.check.Check.{Check}
-use Rattle.predicates_dynamic.specs.Trees.{Rows, Counts, Quantifies, CountsMembers, trees_of, tree_of, AllOfTrees, AllOf, AllAskedOfTrees, AsksAll}
+use Rattle.predicates_dynamic.specs.OddRows.{IsOfOddRow}
+use Rattle.predicates_dynamic.specs.Trees.{Rows, Counts, Odds, Quantifies, CountsMembers, trees_of, tree_of, AllOfTrees, AllOf, AllAskedOfTrees, AsksAll}
 use Rattle.predicates_dynamic.specs.Formulas.{tree_text, HasFormula, AreFormulas, IsNothing, IsThresholdOf, number_of, Has, HasOn}
 
 module _ {L V : Type 0} where
@@ -89,6 +90,26 @@ module _ {L V : Type 0} where
     pub verdict_of_counted : {E : Type 0} (least : ℕ) (cs : List (Check L V)) (r : Result Bool E) → IfOk r (λ held. (own : Entry) → HasTruth (IsOfThreshold least own (codes "rule") (Has text view_text has members reason v) cs) held) → IfOk r (HasTruth (HasFormula text view_text has members reason v (Counts least (trees_of (map tree_of cs)))))
     verdict_of_counted least cs (Ok held) h = truth_of_fewer (of_counted_parts least cs) (h (counted_text least cs))
     verdict_of_counted least cs (Err e) h = tt
+
+    abbrev odd_text : List (Check L V) → Entry
+    odd_text cs = tree_text text view_text (Odds (trees_of (map tree_of cs)))
+
+    of_odd_parts : (cs : List (Check L V)) (f : Formula) → HasFormula text view_text has members reason v (Odds (trees_of (map tree_of cs))) f → IsOfOddRow (odd_text cs) (codes "rule") (Has text view_text has members reason v) cs f
+    of_odd_parts [] f h = record { of_none = λ e. h; of_some = λ some. absurd (some refl) }
+    of_odd_parts (c ∷ cs) f h = record {
+      of_none = λ e. absurd (cc);
+      of_some = λ some. record { formulas = h.formulas; of_each = are_of_each (c ∷ cs) h.formulas h.of_each; is = h.is };
+    }
+
+    pub found_of_odd : (cs : List (Check L V)) (w : Option Bool) (found : Option (Tree CaseNode)) → IsFound (IsOfOddRow (odd_text cs) (codes "rule") (Has text view_text has members reason v) cs) w found → IsFound (HasFormula text view_text has members reason v (Odds (trees_of (map tree_of cs)))) w found
+    found_of_odd cs w found h = found_fewer w found (of_odd_parts cs) h
+
+    pub change_of_odd : (cs : List (Check L V)) (w : Option Bool) (found : Option (Tree CaseNode)) → IsFoundChange (IsOfOddRow (odd_text cs) (codes "rule") (Has text view_text has members reason v) cs) w found → IsFoundChange (HasFormula text view_text has members reason v (Odds (trees_of (map tree_of cs)))) w found
+    change_of_odd cs w found h = found_change_fewer w found (of_odd_parts cs) h
+
+    pub verdict_of_odd : {E : Type 0} (cs : List (Check L V)) (r : Result Bool E) → IfOk r (λ odd. (own : Entry) → HasTruth (IsOfOddRow own (codes "rule") (Has text view_text has members reason v) cs) odd) → IfOk r (HasTruth (HasFormula text view_text has members reason v (Odds (trees_of (map tree_of cs)))))
+    verdict_of_odd cs (Ok odd) h = truth_of_fewer (of_odd_parts cs) (h (odd_text cs))
+    verdict_of_odd cs (Err e) h = tt
 
 -- what is known of each is known of one
 pub each_at : {U : Type 0} (P : U → Type 0) (us : List U) (k : ℕ) (u : U) → AllByRecursion P us → k < length us → u ≡ get_or us k u → P u

@@ -5,7 +5,7 @@ use Rattle.predicates_core.specs.Parts.{Part, part, two_parts}
 use Rattle.predicates_core.specs.Tree.{Forest, empty, branch}
 use Rattle.predicates_dynamic.specs.declared.check.Check.{Check}
 use Rattle.predicates_dynamic.specs.Trees.{Tree, Trees, Asks, Denies, Names, Pairs, Rows, Counts}
-use Rattle.predicates_dynamic.specs.Trees.{Quantifies, CountsMembers}
+use Rattle.predicates_dynamic.specs.Trees.{Odds, Quantifies, CountsMembers}
 use Rattle.predicates_dynamic.specs.Trees.{nothing, also, tree_of}
 use Rattle.predicates_dynamic.specs.Formulas.{tree_text}
 
@@ -18,6 +18,7 @@ module _ {L V : Type 0} (parameters : L → List Product) where
   tree_parameters (Pairs op a b) = []
   tree_parameters (Rows decides ts) = []
   tree_parameters (Counts least ts) = []
+  tree_parameters (Odds ts) = []
   tree_parameters (Quantifies decides view t) = []
   tree_parameters (CountsMembers least view t) = []
 
@@ -39,6 +40,7 @@ module _ {L V : Type 0} (text : L → Entry) (view_text : V → Entry) (paramete
         (codes "right") (tree_text text view_text b) (tree_parameters parameters b) (tree_parts b)
     tree_parts (Rows decides ts) = row_parts ts
     tree_parts (Counts least ts) = row_parts ts
+    tree_parts (Odds ts) = row_parts ts
     tree_parts (Quantifies decides view t) = part (codes "item") (tree_text text view_text t)
         (tree_parameters parameters t) (tree_parts t)
     tree_parts (CountsMembers least view t) = part (codes "item") (tree_text text view_text t)

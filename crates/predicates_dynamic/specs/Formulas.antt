@@ -2,6 +2,7 @@
 use Rattle.std.specs.Prelude.{◌≡◌, ℕ, suc, ◌≤◌, List, [], ◌∷◌, Bool, true, false, not, Option}
 use Rattle.std.specs.Prelude.{Some, codes}
 use Rattle.std.specs.Fmt.{decimal, ◌++?◌}
+use Rattle.predicates_core.specs.declared.custom.join.Operator.TheVariants.{Xor}
 use Rattle.predicates_core.specs.Label.{Entry, plain}
 use Rattle.predicates_core.specs.Formula.{Formula, Join, Not, Named, AtLeast, Formulas, one, more}
 use Rattle.predicates_core.specs.Formula.{pair}
@@ -13,8 +14,10 @@ use Rattle.predicates_core.specs.Several.{IsOfMembers, members_formula}
 use Rattle.predicates_core.specs.Thresholds.{IsSettled, settled, counted_text, threshold_formula}
 use Rattle.predicates_core.specs.Thresholds.{IsOfThreshold}
 use Rattle.predicates_dynamic.specs.declared.check.Check.{Check}
+use Rattle.predicates_dynamic.specs.OddRows.{IsOddRowOf}
 use Rattle.predicates_dynamic.specs.Trees.{Tree, Trees, Asks, Denies, Names, Pairs, Rows, Counts}
-use Rattle.predicates_dynamic.specs.Trees.{Quantifies, CountsMembers, nothing, also, tree_of}
+use Rattle.predicates_dynamic.specs.Trees.{Odds, Quantifies, CountsMembers, nothing, also}
+use Rattle.predicates_dynamic.specs.Trees.{tree_of}
 
 -- there are no trees
 abbrev pub IsNothing : {L V : Type 0} → Trees L V → Type 0
@@ -78,6 +81,7 @@ module _ {L V : Type 0} (text : L → Entry) (view_text : V → Entry) where
     tree_text (Pairs op a b) = infix_text (sign op) (tree_text a) (tree_text b)
     tree_text (Rows decides ts) = listed_text (word decides) (tree_texts ts)
     tree_text (Counts least ts) = counted_text (codes "at_least") least (tree_texts ts)
+    tree_text (Odds ts) = listed_text (codes "odd_of") (tree_texts ts)
     tree_text (Quantifies decides view t) =
         quantified_text decides (view_text view) (tree_text t)
     tree_text (CountsMembers least view t) = members_text least (view_text view) (tree_text t)
@@ -105,6 +109,9 @@ module _ {L V : Type 0} (text : L → Entry) (view_text : V → Entry) where
           (tree_text (Rows decides (also t ts))) (AreFormulas v (also t ts)) f
       HasFormula v (Counts least ts) f = IsThresholdOf least (number_of ts)
           (counted_text (codes "at_least") least (tree_texts ts)) (AreFormulas v ts) f
+      HasFormula v (Odds nothing) f = IsExactly (no_members (tree_text (Odds nothing)) false) f
+      HasFormula v (Odds (also t ts)) f = IsOddRowOf (tree_text (Odds (also t ts)))
+          (AreFormulas v (also t ts)) f
       HasFormula v (Quantifies decides view t) f = IsOfPresent
           (quantified_text decides (view_text view) (tree_text t)) (reason view v)
           (IsOfMembers decides (quantified_text decides (view_text view) (tree_text t))
@@ -151,6 +158,10 @@ module _ {L V Item : Type 0} (text : L → Entry) (view_text : V → Entry)
     tree_formula v (Counts least ts) = threshold_formula least
         (counted_text (codes "at_least") least (tree_texts text view_text ts)) (codes "rule")
         (λ f. f) (tree_formulas v ts)
+    tree_formula v (Odds nothing) = no_members (tree_text text view_text (Odds nothing)) false
+    tree_formula v (Odds (also t ts)) =
+        Join Xor (plain (tree_text text view_text (Odds (also t ts))))
+        (part_formulas v (tree_formula v t) ts)
     tree_formula v (Quantifies decides view t) = present_formula
         (quantified_text decides (view_text view) (tree_text text view_text t)) (reason view v)
         (members_formula decides

@@ -7,6 +7,7 @@ use Rattle.std.proofs.lemmas.List.{length-map, map-id}
 use Rattle.predicates_core.specs.Label.{Entry, FitsEntry}
 use Rattle.predicates_core.specs.Formula.{Formula, Formulas, one, more, Join, AtLeast, text_of}
 use Rattle.predicates_core.specs.Label.{plain}
+use Rattle.predicates_core.specs.declared.custom.join.Operator.TheVariants.{Xor}
 use Rattle.predicates_core.specs.Present.{IsOfPresent, present_formula, present_text_fits}
 use Rattle.predicates_core.specs.Present.{one_present, has_present}
 use Rattle.predicates_core.specs.LeafLaws.{exactly_text_fits, one_exactly, fits_itself}
@@ -21,7 +22,7 @@ use Rattle.predicates_core.proofs.Several.{has_members}
 use Rattle.predicates_core.proofs.ThresholdCases.{threshold_text_fits, one_by_threshold}
 use Rattle.predicates_core.proofs.ThresholdCases.{has_threshold}
 use Rattle.predicates_dynamic.specs.Trees.{Tree, Trees, Asks, Denies, Names, Pairs, Rows, Counts}
-use Rattle.predicates_dynamic.specs.Trees.{Quantifies, CountsMembers}
+use Rattle.predicates_dynamic.specs.Trees.{Odds, Quantifies, CountsMembers}
 use Rattle.predicates_dynamic.specs.Trees.{nothing, also, AllLeaves, AllOfTrees}
 use Rattle.predicates_dynamic.specs.Formulas.{tree_text, HasFormula, AreFormulas}
 use Rattle.predicates_dynamic.specs.Formulas.{quantified_text, members_text}
@@ -129,6 +130,10 @@ module _ {L V Item : Type 0} (text : L → Entry) (view_text : V → Entry)
           subst (λ entry. FitsEntry entry own) (sym (ap text_of h.is)) (fits_itself own)
       tree_text_fits v (Counts least ts) f h =
           threshold_text_fits least (listed ts) (of_listed v least ts f h)
+      tree_text_fits v (Odds nothing) f h = exactly_text_fits h
+      tree_text_fits v (Odds (also t ts)) f h =
+          let own = tree_text text view_text (Odds (also t ts)) in
+          subst (λ entry. FitsEntry entry own) (sym (ap text_of h.is)) (fits_itself own)
       tree_text_fits v (Quantifies decides view t) f h =
           present_text_fits (members view v) (λ us g x. members_text_fits us x) h
       tree_text_fits v (CountsMembers least view t) f h =
@@ -154,6 +159,10 @@ module _ {L V Item : Type 0} (text : L → Entry) (view_text : V → Entry)
         one_tree v (Counts least ts) f g all h k =
             one_by_threshold least (listed ts) (each_one v ts all)
             (of_listed v least ts f h) (of_listed v least ts g k)
+        one_tree v (Odds nothing) f g all h k = one_exactly h k
+        one_tree v (Odds (also t ts)) f g all h k =
+            h.is ∙ ap (Join Xor (plain (tree_text text view_text (Odds (also t ts)))))
+            (one_of_trees v (also t ts) h.formulas k.formulas all h.of_each k.of_each) ∙ sym k.is
         one_tree v (Quantifies decides view t) f g all h k = one_present (members view v)
             (λ us x y. one_members us (λ u z w. one_tree u t z w all)) h k
         one_tree v (CountsMembers least view t) f g all h k = one_present (members view v)
@@ -242,6 +251,13 @@ module _ {L V Item : Type 0} (text : L → Entry) (view_text : V → Entry)
                   is = c.is;
                 };
           })
+      has_tree v (Odds nothing) = record { is = refl }
+      has_tree v (Odds (also t ts)) = record {
+        formulas = part_formulas text view_text formula_of read_members read_reason (read v)
+            (formula_at v t) ts;
+        of_each = have_trees v t (formula_at v t) (has_tree v t) ts;
+        is = refl;
+      }
       has_tree v (Quantifies decides view t) =
           has_viewed (quantified_text decides (view_text view) (tree_text text view_text t)) view v
           (IsOfMembers decides
@@ -302,6 +318,7 @@ module _ {L V : Type 0} (fact : L → Type 0) (all : (l : L) → fact l) where
     all_leaves (Pairs op a b) = (all_leaves a, all_leaves b)
     all_leaves (Rows decides ts) = all_trees ts
     all_leaves (Counts least ts) = all_trees ts
+    all_leaves (Odds ts) = all_trees ts
     all_leaves (Quantifies decides view t) = all_leaves t
     all_leaves (CountsMembers least view t) = all_leaves t
 

@@ -1,4 +1,5 @@
 pub mod Trees
+pub mod OddRows
 pub mod Formulas
 pub mod Listed
 pub mod Described

@@ -2,7 +2,7 @@
 use Rattle.std.specs.Prelude.{ℕ, zero, suc, ◌+◌, List, Option, Some, None, map}
 use Rattle.predicates_dynamic.specs.declared.check.Check.{Check}
 use Rattle.predicates_dynamic.specs.Trees.{Tree, Trees, Asks, Denies, Names, Pairs, Rows, Counts}
-use Rattle.predicates_dynamic.specs.Trees.{Quantifies, CountsMembers}
+use Rattle.predicates_dynamic.specs.Trees.{Odds, Quantifies, CountsMembers}
 use Rattle.predicates_dynamic.specs.Trees.{nothing, also, tree_of, trees_of}
 
 module _ {L V : Type 0} where
@@ -15,6 +15,7 @@ module _ {L V : Type 0} where
     tree_size (Pairs op a b) = suc (tree_size a + tree_size b)
     tree_size (Rows decides ts) = suc (tree_sizes ts)
     tree_size (Counts least ts) = suc (tree_sizes ts)
+    tree_size (Odds ts) = suc (tree_sizes ts)
     tree_size (Quantifies decides view t) = suc (tree_size t)
     tree_size (CountsMembers least view t) = suc (tree_size t)
 

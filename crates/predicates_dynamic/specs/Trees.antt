@@ -13,6 +13,8 @@ mutual
     Pairs : Operator → Tree L V → Tree L V → Tree L V
     Rows : Bool → Trees L V → Tree L V
     Counts : ℕ → Trees L V → Tree L V
+    -- an odd number of them hold
+    Odds : Trees L V → Tree L V
     -- over members: with true, one of them suffices
     Quantifies : Bool → V → Tree L V → Tree L V
     CountsMembers : ℕ → V → Tree L V → Tree L V
@@ -34,6 +36,7 @@ module _ {L V : Type 0} where
   tree_step (Check-F.Pair op a b) = Pairs op (box_value a) (box_value b)
   tree_step (Check-F.Row decides ts) = Rows decides (trees_of ts.items)
   tree_step (Check-F.AtLeast least ts) = Counts least (trees_of ts.items)
+  tree_step (Check-F.Odd ts) = Odds (trees_of ts.items)
   tree_step (Check-F.Quantified decides view t) = Quantifies decides view (box_value t)
   tree_step (Check-F.MembersAtLeast least view t) = CountsMembers least view (box_value t)
 
@@ -49,6 +52,7 @@ module _ {L V : Type 0} where
     AllLeaves fact (Pairs op a b) = AllLeaves fact a × AllLeaves fact b
     AllLeaves fact (Rows decides ts) = AllOfTrees fact ts
     AllLeaves fact (Counts least ts) = AllOfTrees fact ts
+    AllLeaves fact (Odds ts) = AllOfTrees fact ts
     AllLeaves fact (Quantifies decides view t) = AllLeaves fact t
     AllLeaves fact (CountsMembers least view t) = AllLeaves fact t
 
@@ -71,6 +75,7 @@ module _ {L V Item : Type 0} (fact : L → Item → Type 0) (members : V → Ite
       AllAsked v (Pairs op a b) = AllAsked v a × AllAsked v b
       AllAsked v (Rows decides ts) = AllAskedOfTrees v ts
       AllAsked v (Counts least ts) = AllAskedOfTrees v ts
+      AllAsked v (Odds ts) = AllAskedOfTrees v ts
       AllAsked v (Quantifies decides view t) =
           IfSome (members view v) (AllByRecursion (λ member. AllAsked member t))
       AllAsked v (CountsMembers least view t) =

@@ -2,7 +2,7 @@
 ghost use Rattle.std.specs.Prelude.{◌≡◌, true, false, IfOk, map};
 ghost use Rattle.predicates_core.specs.declared.custom.join.Operator.TheVariants.{And, Or, Xor};
 ghost use Rattle.predicates_dynamic.specs.Trees.{tree_of, trees_of, Asks, Denies, Names, Pairs};
-ghost use Rattle.predicates_dynamic.specs.Trees.{Rows, Counts, Quantifies, CountsMembers};
+ghost use Rattle.predicates_dynamic.specs.Trees.{Rows, Counts, Odds, Quantifies, CountsMembers};
 
 use crate::check::Check;
 use predicates_core::custom::Operator;
@@ -158,6 +158,22 @@ impl<L: Drop, V: Drop> Check<L, V> {
         ensures { tree_of result ≡ Counts least (trees_of (map tree_of parts.items)) }
     {
         Check::AtLeast(least, parts)
+    }
+
+    /// Holds where an odd number of the parts do, as `xor` of two. It takes no memory.
+    ///
+    /// ```
+    /// let low = Check::leaf(predicate::ge(5));
+    /// let middle = Check::leaf(predicate::ge(10));
+    /// let high = Check::leaf(predicate::ge(15));
+    /// let odd = Check::odd(vec![in alloc; low, middle, high]?);
+    /// assert!(rt; odd.eval(alloc, &16)?);
+    /// assert!(rt; !odd.eval(alloc, &11)?);
+    /// ```
+    pub fn odd(parts: Vec<Check<L, V>>) -> Check<L, V>
+        ensures { tree_of result ≡ Odds (trees_of (map tree_of parts.items)) }
+    {
+        Check::Odd(parts)
     }
 
     /// Holds of an item where the check does of each of its members, as `of_each`; and not where

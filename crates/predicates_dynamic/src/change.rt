@@ -11,8 +11,10 @@ ghost use Rattle.predicates_dynamic.specs.Trees.{Names, Pairs, Rows, Counts};
 ghost use Rattle.predicates_dynamic.specs.Formulas.{check_text, Has};
 
 mod members;
+mod odd;
 
 use self::members::{members_threshold_changed, quantified_changed};
+use self::odd::odd_changed;
 use crate::check::Check;
 use crate::hold::{are_lawful, holds};
 use crate::members::Members;
@@ -56,6 +58,7 @@ pub(crate) fn changed<L: PredicateChange<Item>, V: Members<Item>, Item>(
         Check::AtLeast(least, parts) => {
             threshold_changed(alloc, parts, *least, check, wanted, item)
         }
+        Check::Odd(parts) => odd_changed(alloc, parts, check, wanted, item),
         Check::Quantified(decides, view, inner) => {
             quantified_changed(alloc, inner, view, *decides, check, wanted, item)
         }

@@ -4,7 +4,7 @@ ghost use Rattle.std.specs.Fmt.{DisplaysOnOk};
 ghost use Rattle.predicates_core.specs.Several.{further_texts};
 ghost use Rattle.predicates_core.specs.Thresholds.{counted_text};
 ghost use Rattle.predicates_dynamic.specs.Trees.{tree_of, trees_of, AllOf, AsksAll, Rows};
-ghost use Rattle.predicates_dynamic.specs.Trees.{Counts};
+ghost use Rattle.predicates_dynamic.specs.Trees.{Counts, Odds};
 ghost use Rattle.predicates_dynamic.specs.Formulas.{check_text, tree_text, Has, tree_formula, word};
 ghost use Rattle.predicates_dynamic.specs.Formulas.{member_word, quantified_text, members_text};
 ghost use Rattle.predicates_dynamic.specs.Formulas.{viewed_text};
@@ -16,7 +16,7 @@ ghost use Rattle.predicates_dynamic.specs.Laws.{members_as_they_are};
 
 use crate::change::changed;
 use crate::describe::parts_of;
-use crate::explain::explained;
+use crate::explain::{explained, found};
 use crate::hold::holds;
 use crate::members::{Members, NoMembers};
 use crate::take_apart::{left_first, parts_apart, resumed};
@@ -32,8 +32,9 @@ use std::fmt;
 ///
 /// It means, prints and explains what the library's own combinators do over the same parts: `not`,
 /// `name`, `and`, `or`, `xor`, for several parts `all_of`, `any_of` and `at_least`, and over the
-/// members that a view `V` gives of an item `of_each`, `of_any` and `of_at_least`. Each leaf is
-/// evaluated at most twice on an item, however deep it stands.
+/// members that a view `V` gives of an item `of_each`, `of_any` and `of_at_least`. A row of which an
+/// odd number has to hold is a check's alone. Each leaf is evaluated at most twice on an item,
+/// however deep it stands.
 ///
 /// Each call takes a stack frame or two a level. Making and dropping a check does not, however deep
 /// it is.
@@ -50,6 +51,8 @@ pub enum Check<L, V = NoMembers> {
     Row(bool, Vec<Check<L, V>>),
     /// At least so many of the parts hold.
     AtLeast(usize, Vec<Check<L, V>>),
+    /// An odd number of the parts hold.
+    Odd(Vec<Check<L, V>>),
     /// The part holds of the members that the view gives: with `true` of one of them, else of each.
     Quantified(bool, V, Box<Check<L, V>>),
     /// The part holds of at least so many of the members that the view gives.
@@ -73,6 +76,7 @@ impl<L: Drop, V: Drop> Check<L, V> {
             Check::Pair(operator, left, right) => Some(left_first(operator, left, right, waiting)),
             Check::Row(_, parts) => parts_apart(parts, waiting),
             Check::AtLeast(_, parts) => parts_apart(parts, waiting),
+            Check::Odd(parts) => parts_apart(parts, waiting),
             Check::Quantified(_, view, inner) => {
                 drop(view);
                 Some((Box::into_inner(inner), waiting))
@@ -127,6 +131,15 @@ impl<L: fmt::Display, V: fmt::Display> Check<L, V> {
             (tree_text L.output V.output (Rows decides (trees_of (map tree_of parts.now)))) f.new }
     {
         Check::<L, V>::fmt_listed(parts, word_of(decides), f)
+    }
+
+    // A row of which an odd number has to hold.
+    #[cycle(text)]
+    fn fmt_odd<W: fmt::Write>(parts: &[Check<L, V>], f: &mut fmt::Formatter<W>) -> fmt::Result
+        ensures { DisplaysOnOk W.write_str_gives f.old result
+            (tree_text L.output V.output (Odds (trees_of (map tree_of parts.now)))) f.new }
+    {
+        Check::<L, V>::fmt_listed(parts, "odd_of", f)
     }
 
     // The parts of a row in parentheses, behind the word.
@@ -286,6 +299,7 @@ impl<L: fmt::Display, V: fmt::Display> fmt::Display for Check<L, V> {
             }
             Check::Row(decides, parts) => Check::<L, V>::fmt_row(parts, *decides, f),
             Check::AtLeast(least, parts) => Check::<L, V>::fmt_counted(parts, *least, f),
+            Check::Odd(parts) => Check::<L, V>::fmt_odd(parts, f),
             Check::Quantified(decides, view, inner) => {
                 Check::<L, V>::fmt_quantified(inner, view, *decides, f)
             }
@@ -336,10 +350,10 @@ impl<L: Predicate<Item>, V: Members<Item>, Item> Predicate<Item> for Check<L, V>
         expected: bool,
         item: &Item,
     ) -> Result<Option<Case>, AllocError> {
-        if holds(alloc, self, item)? != expected {
-            return Ok(None);
+        match self {
+            Check::Leaf(leaf) => leaf.find_case(alloc, expected, item),
+            _ => found(alloc, self, expected, item),
         }
-        explained(alloc, self, Some(expected), item)
     }
 
     fn explain(

@@ -35,6 +35,7 @@ pub(crate) fn parts_of<L: PredicateReflection, V: fmt::Display>(
         }
         Check::Row(_, parts) => parts_children(alloc, parts, check),
         Check::AtLeast(_, parts) => parts_children(alloc, parts, check),
+        Check::Odd(parts) => parts_children(alloc, parts, check),
         Check::Quantified(_, _, inner) => one_part(alloc, inner, "item"),
         Check::MembersAtLeast(_, _, inner) => one_part(alloc, inner, "item"),
     }

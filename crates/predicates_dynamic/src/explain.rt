@@ -10,10 +10,13 @@ ghost use Rattle.predicates_dynamic.specs.Trees.{Names, Pairs, Rows, Counts};
 ghost use Rattle.predicates_dynamic.specs.Formulas.{check_text, Has};
 
 mod members;
+mod odd;
 
 use self::members::{members_threshold_explained, quantified_explained};
+pub(crate) use self::odd::no_part_found;
+use self::odd::odd_explained;
 use crate::check::Check;
-use crate::hold::are_lawful;
+use crate::hold::{are_lawful, holds};
 use crate::members::Members;
 use predicates_core::Predicate;
 use predicates_core::custom::{
@@ -23,6 +26,23 @@ use predicates_core::custom::{
 use predicates_core::node::{binary_node_of, leaf_node, printed, unary_node};
 use predicates_core::reflection::Case;
 use std::alloc::{AllocError, Global};
+
+// The `find_case` of a check that is no leaf.
+pub(crate) fn found<L: Predicate<Item>, V: Members<Item>, Item>(
+    alloc: Global,
+    check: &Check<L, V>,
+    expected: bool,
+    item: &Item,
+) -> Result<Option<Case>, AllocError>
+    requires { AllOf L.lawful check.now }
+    ensures { IfOk result (IsAnswer
+        (Has L.output V.output L.formula V.members_of V.reason_of item.now check.now) expected) }
+{
+    if holds(alloc, check, item)? != expected {
+        return Ok(None);
+    }
+    explained(alloc, check, Some(expected), item)
+}
 
 // The `explain` of the check.
 #[cycle(explain)]
@@ -59,6 +79,7 @@ pub(crate) fn explained<L: Predicate<Item>, V: Members<Item>, Item>(
         Check::AtLeast(least, parts) => {
             threshold_explained(alloc, parts, *least, check, wanted, item)
         }
+        Check::Odd(parts) => odd_explained(alloc, parts, check, wanted, item),
         Check::Quantified(decides, view, inner) => {
             quantified_explained(alloc, inner, view, *decides, check, wanted, item)
         }

@@ -10,8 +10,11 @@ ghost use Rattle.predicates_dynamic.specs.Trees.{AsksAll, Denies, Names, Pairs, 
 ghost use Rattle.predicates_dynamic.specs.Formulas.{Has, HasFormula};
 
 mod members;
+mod odd;
 
 use self::members::{members_threshold_holds, quantified_holds};
+use self::odd::odd_holds;
+pub(crate) use self::odd::odd_parts_hold;
 use crate::check::Check;
 use crate::members::Members;
 use predicates_core::Predicate;
@@ -40,6 +43,7 @@ pub(crate) fn holds<L: Predicate<Item>, V: Members<Item>, Item>(
         }
         Check::Row(decides, parts) => row_holds(alloc, parts, *decides, check, item),
         Check::AtLeast(least, parts) => threshold_holds(alloc, parts, *least, check, item),
+        Check::Odd(parts) => odd_holds(alloc, parts, check, item),
         Check::Quantified(decides, view, inner) => {
             quantified_holds(alloc, inner, view, *decides, check, item)
         }

@@ -97,3 +97,16 @@ fn check_by_at_least(rt: HostRuntime) -> Result<(), Fail> {
     assert!(rt; !two.eval(alloc, &11)?);
     Ok(())
 }
+
+#[test]
+fn check_by_odd(rt: HostRuntime) -> Result<(), Fail> {
+    let alloc = rt.alloc();
+
+    let low = Check::leaf(predicate::ge(5));
+    let middle = Check::leaf(predicate::ge(10));
+    let high = Check::leaf(predicate::ge(15));
+    let odd = Check::odd(vec![in alloc; low, middle, high]?);
+    assert!(rt; odd.eval(alloc, &16)?);
+    assert!(rt; !odd.eval(alloc, &11)?);
+    Ok(())
+}

@@ -113,8 +113,8 @@ impl Leaves {
 
 // The last digit of the code to the base of so many kinds, which is taken from it.
 fn kind_of(code: &mut u32) -> u32 {
-    let kind = *code % 11;
-    *code /= 11;
+    let kind = *code % 12;
+    *code /= 12;
     kind
 }
 
@@ -186,6 +186,19 @@ fn two_of_three(alloc: Global, first: Both, second: Both, third: Both) -> Result
     })
 }
 
+// An odd number of the parts.
+fn odd_of_three(alloc: Global, first: Both, second: Both, third: Both) -> Result<Both, AllocError> {
+    let none = ReferenceFormula::NoMore(false);
+    let last = joined(alloc, 2, third.formula, none)?;
+    let others = joined(alloc, 2, second.formula, last)?;
+    let members = joined(alloc, 2, first.formula, others)?;
+    let parts = vec![in alloc; first.check, second.check, third.check]?;
+    Ok(Both {
+        check: Check::odd(parts),
+        formula: ReferenceFormula::Members(Box::new(alloc, members)?),
+    })
+}
+
 // Of the one member: of each, of one, of at least one.
 fn of_members(alloc: Global, kind: u32, part: Both) -> Result<Both, AllocError> {
     if kind == 2 {
@@ -219,17 +232,21 @@ fn build(
         return leaves.both(alloc, verdict);
     }
     let kind = kind_of(code);
-    if kind >= 9 {
-        return leaves.both(alloc, kind == 9);
+    if kind >= 10 {
+        return leaves.both(alloc, kind == 10);
     }
     let first = build(alloc, leaves, code, depth - 1)?;
-    if kind >= 7 {
-        return of_one(alloc, kind == 7, first);
+    if kind >= 8 {
+        return of_one(alloc, kind == 8, first);
     }
     let second = build(alloc, leaves, code, depth - 1)?;
     if kind >= 5 {
         let third = leaves.both(alloc, kind == 5)?;
-        return two_of_three(alloc, first, second, third);
+        return if kind == 7 {
+            odd_of_three(alloc, first, second, third)
+        } else {
+            two_of_three(alloc, first, second, third)
+        };
     }
     if kind >= 3 {
         return row(alloc, kind == 3, first, second);
@@ -325,7 +342,7 @@ fn agrees(alloc: Global, both: &Both) -> Result<bool, AllocError> {
 fn checks_are_explained_as_the_reference_program_does(rt: HostRuntime) -> Result<(), Fail> {
     let alloc = rt.alloc();
     let mut tried = 0u32;
-    for first in 0..21296u32 {
+    for first in 0..27648u32 {
         let mut code = first;
         let mut leaves = Leaves {
             asked: Vec::new(alloc),
@@ -374,7 +391,7 @@ fn members_agree(alloc: Global, code: u32, kind: u32) -> Result<bool, AllocError
 fn checks_of_members_are_explained_as_the_reference_program_does(
     rt: HostRuntime,
 ) -> Result<(), Fail> {
-    for code in 0..88u32 {
+    for code in 0..96u32 {
         for kind in 0..9u32 {
             assert!(rt; members_agree(rt.alloc(), code, kind)?);
         }
@@ -392,7 +409,7 @@ fn chain(
     let mut check = leaves.next(alloc, verdict)?;
     for level in 0..depth {
         let own = leaves.next(alloc, level % 2 == 0)?;
-        check = match level % 10 {
+        check = match level % 11 {
             0 => own.and(alloc, check)?,
             1 => own.or(alloc, check)?,
             2 => own.xor(alloc, check)?,
@@ -401,9 +418,10 @@ fn chain(
             5 => own.or(alloc, check)?.of_each(alloc, Only)?,
             6 => own.and(alloc, check)?.of_any(alloc, Only)?,
             7 => own.or(alloc, check)?.of_at_least(alloc, 1, Only)?,
+            8 => Check::odd(vec![in alloc; own, check, leaves.next(alloc, true)?]?),
             kind => {
                 let parts = vec![in alloc; own, check]?;
-                if kind == 8 {
+                if kind == 9 {
                     Check::any(parts)
                 } else {
                     Check::all(parts)
@@ -464,6 +482,17 @@ fn each_leaf_is_asked_at_most_twice_at_depth_100(rt: HostRuntime) -> Result<(), 
         assert!(rt; most_asked(alloc, &check, &leaves)? == (1, 2, 1, 1));
         assert!(rt; most_asked_for_changes(alloc, &check, &leaves)? == (1, 1));
     }
+    Ok(())
+}
+
+#[test]
+fn a_check_of_one_leaf_asks_it_once(rt: HostRuntime) -> Result<(), Fail> {
+    let alloc = rt.alloc();
+    let mut leaves = Leaves {
+        asked: Vec::new(alloc),
+    };
+    let check = leaves.next(alloc, true)?;
+    assert!(rt; most_asked(alloc, &check, &leaves)? == (1, 1, 1, 1));
     Ok(())
 }
 
@@ -587,5 +616,60 @@ fn a_threshold_that_its_number_settles_is_a_leaf(rt: HostRuntime) -> Result<(), 
     let none = Check::at_least(0, vec![in alloc; leaves.next(alloc, false)?]?);
     assert!(rt; holds(alloc, &none)?);
     assert!(rt; leaves.greatest() == 0);
+    Ok(())
+}
+
+// The text, and a line for each part.
+const ODD: &str = "\
+odd_of(0, (! 1), 2)
+rule: 0
+rule: (! 1)
+  predicate: 1
+rule: 2
+";
+
+// Every part is needed.
+const EVEN: &str = "\
+odd_of(0, (! 1), 2) = false
+  rule: 0 = true
+    - var: 0
+  rule: (! 1) = true
+    predicate: 1 = false
+      - var: 0
+  rule: 2 = false
+    - var: 0
+";
+
+// The first part alone turns it.
+const TURNED: &str = "\
+odd_of(0, (! 1), 2) = false
+  rule: 0 = true
+    - var: 0
+    - index: 0
+";
+
+const NO_PART: &str = "\
+odd_of() = false
+  - len: 0
+";
+
+#[test]
+fn rows_of_an_odd_number_print_describe_and_explain_their_parts(
+    rt: HostRuntime,
+) -> Result<(), Fail> {
+    let alloc = rt.alloc();
+    let mut leaves = Leaves {
+        asked: Vec::new(alloc),
+    };
+    let first = leaves.next(alloc, true)?;
+    let second = leaves.next(alloc, false)?.not(alloc)?;
+    let third = leaves.next(alloc, false)?;
+    let check = Check::odd(vec![in alloc; first, second, third]?);
+    assert!(rt; is_described(alloc, &check, ODD)?);
+    assert!(rt; explains_total(alloc, &check, EVEN)?);
+    assert!(rt; changes(alloc, &check, false)?.whichever.as_str() == TURNED);
+    let none: Numbers = Check::odd(Vec::new(alloc));
+    assert!(rt; explains_total(alloc, &none, NO_PART)?);
+    assert!(rt; changes(alloc, &none, false)?.wanted.as_str() == NO_PART);
     Ok(())
 }

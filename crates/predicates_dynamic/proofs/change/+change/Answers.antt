@@ -14,8 +14,10 @@ use Rattle.predicates_core.proofs.Values.{other_truths}
 use Rattle.predicates_core.proofs.PresentChanges.{change_present}
 use Rattle.predicates_dynamic.specs.Trees.{Names, tree_of, AllOf}
 use Rattle.predicates_dynamic.specs.Formulas.{tree_text, check_text, Has, HasOn}
-use Rattle.predicates_dynamic.proofs.Rows.{each_at, change_absent, change_of_row, change_of_counted}
+use Rattle.predicates_dynamic.proofs.Rows.{each_at, change_absent, change_of_row, change_of_counted, change_of_odd}
 use Rattle.predicates_dynamic.proofs.change.+change.Goals.{turned_either-then-holds+in_ok-push, turned_either-else-holds+in_ok-push-2, members::turned_members_either-then-holds+in_ok-push, members::turned_members_either-else-holds+in_ok-push-2}
+use Rattle.predicates_core.proofs.ChangeCases.{no_change_wanted, change_wanted}
+use Rattle.predicates_dynamic.proofs.OddRows.{change_without_parts, no_change_of_part, odd_change, truth_of_first}
 use Rattle.predicates_dynamic.proofs.change.+change.Goals as goal
 
 pub not_changed-returns-in_default : goal.not_changed-returns-in_default
@@ -314,3 +316,34 @@ members::members_threshold_changed-returns-in-Some g t c = rw c.requires.whole (
 
 pub members::members_threshold_changed-returns-in-None : goal.members::members_threshold_changed-returns-in-None
 members::members_threshold_changed-returns-in-None g t c = rw c.requires.whole (change_absent _ _ _ _ c.args.wanted c.absent_found.result (sym c.in-None.ensures) (rw c.requires.whole at c.absent_found.ensures))
+
+pub odd::odd_changed-returns : goal.odd::odd_changed-returns
+odd::odd_changed-returns g t c = rw c.requires.whole (change_of_odd g.L.Display.output g.V.Display.output g.L.Predicate.formula g.V.Members.members_of g.V.Members.reason_of c.args.item.now c.args.parts.now c.args.wanted c.in_ok-found.found (rw c.requires.whole at c.in_ok-found.ensures))
+
+pub odd::odd_parts_changed-returns-in_default : goal.odd::odd_parts_changed-returns-in_default
+odd::odd_parts_changed-returns-in_default g t c = change_without_parts (codes "rule") (Has g.L.Display.output g.V.Display.output g.L.Predicate.formula g.V.Members.members_of g.V.Members.reason_of c.args.item.now) (check_text g.L.Display.output g.V.Display.output c.args.whole.now) c.args.parts.now c.args.wanted c.no_part_found.result
+    (nil_from_length c.args.parts.now c.in_default.ensures.cases) c.no_part_found.ensures
+
+pub odd::odd_parts_changed-returns-in_default-2 : goal.odd::odd_parts_changed-returns-in_default-2
+odd::odd_parts_changed-returns-in_default-2 g t c = no_change_of_part (codes "rule") (Has g.L.Display.output g.V.Display.output g.L.Predicate.formula g.V.Members.members_of g.V.Members.reason_of c.args.item.now) (check_text g.L.Display.output g.V.Display.output c.args.whole.now) c.args.parts.now c.args.wanted c.in-Some.ensures.cases.0 (rw c.in_default-2.is at c.in_ok-case.ensures)
+
+pub odd::odd_parts_changed-odd_parts_hold-requires : goal.odd::odd_parts_changed-odd_parts_hold-requires
+odd::odd_parts_changed-odd_parts_hold-requires g t c = (subst (AllByRecursion (AllOf g.L.Predicate.lawful)) c.in-Some.ensures.cases.0 c.requires).1
+
+pub odd::odd_parts_changed-returns-then-is_other : goal.odd::odd_parts_changed-returns-then-is_other
+odd::odd_parts_changed-returns-then-is_other g t c =
+    let own : c.result.result ≡ c.in-Some-2.case.root.result = rw c.root.ensures.value at c.result.ensures in
+    let x : IsChangeOf (Has g.L.Display.output g.V.Display.output g.L.Predicate.formula g.V.Members.members_of g.V.Members.reason_of c.args.item.now c.in-Some.first.now) c.in-Some-2.case.root.result c.in-Some-2.case = rw c.in-Some-2.is at c.in_ok-case.ensures in
+    no_change_wanted c.args.wanted
+    (truth_of_first (codes "rule") (Has g.L.Display.output g.V.Display.output g.L.Predicate.formula g.V.Members.members_of g.V.Members.reason_of c.args.item.now) (check_text g.L.Display.output g.V.Display.output c.args.whole.now) c.args.parts.now c.in-Some.ensures.cases.0 (subst (HasTruth _) (sym own) x.truth) (c.in_ok-odd.ensures.truth (check_text g.L.Display.output g.V.Display.output c.args.whole.now)))
+    (rw (← c.is_other.ensures) c.if-is_other.true)
+
+pub odd::odd_parts_changed-returns : goal.odd::odd_parts_changed-returns
+odd::odd_parts_changed-returns g t c =
+    let own : c.result.result ≡ c.in-Some-2.case.root.result = rw c.root.ensures.value at c.result.ensures in
+    let x : IsChangeOf (Has g.L.Display.output g.V.Display.output g.L.Predicate.formula g.V.Members.members_of g.V.Members.reason_of c.args.item.now c.in-Some.first.now) c.in-Some-2.case.root.result c.in-Some-2.case = rw c.in-Some-2.is at c.in_ok-case.ensures in
+    change_wanted c.args.wanted
+    (odd_change (codes "rule") (Has g.L.Display.output g.V.Display.output g.L.Predicate.formula g.V.Members.members_of g.V.Members.reason_of c.args.item.now) (check_text g.L.Display.output g.V.Display.output c.args.whole.now) c.args.parts.now c.in-Some.ensures.cases.0
+    (truth_of_first (codes "rule") (Has g.L.Display.output g.V.Display.output g.L.Predicate.formula g.V.Members.members_of g.V.Members.reason_of c.args.item.now) (check_text g.L.Display.output g.V.Display.output c.args.whole.now) c.args.parts.now c.in-Some.ensures.cases.0 (subst (HasTruth _) (sym own) x.truth) (c.in_ok-odd.ensures.truth (check_text g.L.Display.output g.V.Display.output c.args.whole.now)))
+    c.in_ok-unary_node.ensures c.in_ok-text.ensures x c.in_ok-told.ensures)
+    (rw (← c.is_other.ensures) c.if-is_other.false)

@@ -4,7 +4,7 @@ use Rattle.std.specs.Fmt.{DisplaysOnOk}
 use Rattle.predicates_core.specs.Several.{further_texts}
 use Rattle.predicates_dynamic.specs.Formulas.{check_text}
 use Rattle.predicates_dynamic.specs.Listed.{joined_texts}
-use Rattle.predicates_dynamic.proofs.Listing.{nothing_written, text_behind, joined_more, further_more, row_is, counted_is}
+use Rattle.predicates_dynamic.proofs.Listing.{nothing_written, text_behind, joined_more, further_more, row_is, counted_is, odd_is}
 use Rattle.predicates_dynamic.proofs.check.+text.Goals as goal
 
 pub Check::fmt_row-returns : goal.Check::fmt_row-returns
@@ -41,3 +41,6 @@ Check::fmt_further-returns g t c = subst (λ us. DisplaysOnOk g.W.Write.write_st
 
 pub Check::fmt_counted-returns : goal.Check::fmt_counted-returns
 Check::fmt_counted-returns g t c = rw (counted_is g.L.Display.output g.V.Display.output c.args.least c.args.parts.now) c.fmt_threshold.ensures
+
+pub Check::fmt_odd-returns : goal.Check::fmt_odd-returns
+Check::fmt_odd-returns g t c = rw (odd_is g.L.Display.output g.V.Display.output c.args.parts.now) c.fmt_listed.ensures

@@ -10,8 +10,14 @@ use Rattle.predicates_core.proofs.Several.{decided_case, members_pass, passes_mo
 use Rattle.predicates_core.proofs.PresentCases.{found_present}
 use Rattle.predicates_dynamic.specs.Trees.{Names, tree_of}
 use Rattle.predicates_dynamic.specs.Formulas.{tree_text, check_text, Has, HasOn}
-use Rattle.predicates_dynamic.proofs.Rows.{found_absent, found_of_row, found_of_counted}
+use Rattle.predicates_dynamic.proofs.Rows.{found_absent, found_of_row, found_of_counted, found_of_odd}
 use Rattle.predicates_dynamic.proofs.explain.+explain.Goals.{counted_either-then-holds+in_ok-held_node+else-held-least, counted_either-else-holds+in_ok-failed_node+else-failed-most, members::members_either-then-holds+in_ok-held_node+else-held-least, members::members_either-else-holds+in_ok-failed_node+else-failed-most}
+use Rattle.std.proofs.Common.{map}
+use Rattle.std.specs.List.{AllZip}
+use Rattle.predicates_core.specs.Formula.{HasTruth}
+use Rattle.predicates_core.specs.Shows.{IsNode}
+use Rattle.predicates_core.proofs.Found.{none_wanted, case_wanted}
+use Rattle.predicates_dynamic.proofs.OddRows.{IsParity, IsSomeCase, parity_none, parity_one_more, odd_truth, odd_case, some_of_length, zip_more, found_without_parts, none_of_part}
 use Rattle.predicates_dynamic.proofs.explain.+explain.Goals as goal
 
 pub not_explained-returns-in_default : goal.not_explained-returns-in_default
@@ -310,3 +316,40 @@ members::members_threshold_explained-returns-in-Some g t c = rw c.requires.whole
 
 pub members::members_threshold_explained-returns-in-None : goal.members::members_threshold_explained-returns-in-None
 members::members_threshold_explained-returns-in-None g t c = rw c.requires.whole (found_absent _ _ _ _ c.args.wanted c.absent_found.result (sym c.in-None.ensures) (rw c.requires.whole at c.absent_found.ensures))
+
+pub odd::odd_explained-returns : goal.odd::odd_explained-returns
+odd::odd_explained-returns g t c = rw c.requires.whole (found_of_odd g.L.Display.output g.V.Display.output g.L.Predicate.formula g.V.Members.members_of g.V.Members.reason_of c.args.item.now c.args.parts.now c.args.wanted c.in_ok-found.found (rw c.requires.whole at c.in_ok-found.ensures))
+
+pub odd::odd_parts_explained-returns-then-is_empty : goal.odd::odd_parts_explained-returns-then-is_empty
+odd::odd_parts_explained-returns-then-is_empty g t c = found_without_parts (codes "rule") (Has g.L.Display.output g.V.Display.output g.L.Predicate.formula g.V.Members.members_of g.V.Members.reason_of c.args.item.now) (check_text g.L.Display.output g.V.Display.output c.args.whole.now) c.args.parts.now c.args.wanted c.no_part_found.result
+    (nil_from_length _ (grind (arith, common_steps))) c.no_part_found.ensures
+
+pub odd::odd_parts_explained-loop-part-init : goal.odd::odd_parts_explained-loop-part-init
+odd::odd_parts_explained-loop-part-init g t c = (rw c.new-cases.ensures.items tt, parity_none (Has g.L.Display.output g.V.Display.output g.L.Predicate.formula g.V.Members.members_of g.V.Members.reason_of c.args.item.now))
+
+pub odd::odd_parts_explained-returns-in_default : goal.odd::odd_parts_explained-returns-in_default
+odd::odd_parts_explained-returns-in_default g t c = none_of_part (codes "rule") (Has g.L.Display.output g.V.Display.output g.L.Predicate.formula g.V.Members.members_of g.V.Members.reason_of c.args.item.now) (check_text g.L.Display.output g.V.Display.output c.args.whole.now) c.args.parts.now {k = c.loop-part.part-index} {u = c.part-item.result} c.args.wanted (omega arith) c.part-item.is (rw c.in_default.is at c.in_ok-case.ensures)
+
+pub odd::odd_parts_explained-loop-part-preserved : goal.odd::odd_parts_explained-loop-part-preserved
+odd::odd_parts_explained-loop-part-preserved g t c =
+    let own : c.result-held.result ≡ c.in-Some.case.root.result = rw c.root.ensures.value at c.result-held.ensures in
+    let x : IsCaseOf (Has g.L.Display.output g.V.Display.output g.L.Predicate.formula g.V.Members.members_of g.V.Members.reason_of c.args.item.now c.part-item.result) c.in-Some.case.root.result c.in-Some.case = rw c.in-Some.is at c.in_ok-case.ensures in (
+      rw c.in_ok-push.ensures.items (zip_more (IsSomeCase (Has g.L.Display.output g.V.Display.output g.L.Predicate.formula g.V.Members.members_of g.V.Members.reason_of c.args.item.now)) c.args.parts.now c.loop-part.cases.items c.loop-part.part-index c.part-item.result c.in-Some.case (omega arith) c.part-item.is c.loop-part.invariant.0 (c.in-Some.case.root.result, x)),
+      parity_one_more (Has g.L.Display.output g.V.Display.output g.L.Predicate.formula g.V.Members.members_of g.V.Members.reason_of c.args.item.now) c.args.parts.now {k = c.loop-part.part-index} {u = c.part-item.result} (omega arith) c.part-item.is c.loop-part.invariant.1 (subst (HasTruth _) (sym own) x.truth),
+    )
+
+pub odd::odd_parts_explained-returns-then-is_other : goal.odd::odd_parts_explained-returns-then-is_other
+odd::odd_parts_explained-returns-then-is_other g t c = none_wanted c.args.wanted
+    (odd_truth (Has g.L.Display.output g.V.Display.output g.L.Predicate.formula g.V.Members.members_of g.V.Members.reason_of c.args.item.now) (check_text g.L.Display.output g.V.Display.output c.args.whole.now) (codes "rule") c.args.parts.now (subst (λ us. IsParity (Has g.L.Display.output g.V.Display.output g.L.Predicate.formula g.V.Members.members_of g.V.Members.reason_of c.args.item.now) us c.loop-part.odd) (take_all c.loop-part.part-index c.args.parts.now (omega arith)) c.loop-part.invariant.1))
+    (rw (← c.is_other.ensures) c.if-is_other.true)
+
+pub odd::odd_parts_explained-returns : goal.odd::odd_parts_explained-returns
+odd::odd_parts_explained-returns g t c =
+    let all = take_all c.loop-part.part-index c.args.parts.now (omega arith) in
+    let cases = c.loop-part.cases.items in
+    case_wanted c.args.wanted
+    (odd_case (codes "rule") (Has g.L.Display.output g.V.Display.output g.L.Predicate.formula g.V.Members.members_of g.V.Members.reason_of c.args.item.now) (check_text g.L.Display.output g.V.Display.output c.args.whole.now) {us = c.args.parts.now} cases (some_of_length c.args.parts.now (search rules))
+    (odd_truth (Has g.L.Display.output g.V.Display.output g.L.Predicate.formula g.V.Members.members_of g.V.Members.reason_of c.args.item.now) (check_text g.L.Display.output g.V.Display.output c.args.whole.now) (codes "rule") c.args.parts.now (subst (λ us. IsParity (Has g.L.Display.output g.V.Display.output g.L.Predicate.formula g.V.Members.members_of g.V.Members.reason_of c.args.item.now) us c.loop-part.odd) all c.loop-part.invariant.1))
+    (subst (λ us. AllZip (IsSomeCase (Has g.L.Display.output g.V.Display.output g.L.Predicate.formula g.V.Members.members_of g.V.Members.reason_of c.args.item.now)) us cases) all c.loop-part.invariant.0)
+    (subst (λ cs. IsNode (check_text g.L.Display.output g.V.Display.output c.args.whole.now) c.loop-part.odd (map (λ x. (codes "rule", x)) cs) c.in_ok-node_of_first.field-0) (take_all c.len-number.result cases (omega (arith, c.len-number.ensures))) c.in_ok-node_of_first.ensures))
+    (rw (← c.is_other.ensures) c.if-is_other.false)

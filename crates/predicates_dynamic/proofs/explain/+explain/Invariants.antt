@@ -4,6 +4,8 @@ use Rattle.predicates_core.specs.Formula.{HasTruth}
 use Rattle.predicates_core.proofs.Several.{IsBuilt}
 use Rattle.predicates_core.proofs.ThresholdCases.{IsSifted}
 use Rattle.predicates_dynamic.specs.Formulas.{check_text, Has, HasOn}
+use Rattle.std.specs.List.{AllZip}
+use Rattle.predicates_dynamic.proofs.OddRows.{IsParity, IsSomeCase}
 use Rattle.predicates_dynamic.proofs.explain.+explain.Given as goal
 
 abbrev pub invariant-first_part-loop-index : goal.invariant-first_part-loop-index
@@ -33,3 +35,7 @@ invariant-members::members_either-loop-index g l = IsSifted true (HasOn g.L.Disp
 
 abbrev pub invariant-members::members_wanted-loop-index : goal.invariant-members::members_wanted-loop-index
 invariant-members::members_wanted-loop-index g l = IsSifted l.expected (HasOn g.L.Display.output g.V.Display.output g.L.Predicate.formula g.V.Members.members_of g.V.Members.reason_of l.inner) (check_text g.L.Display.output g.V.Display.output l.whole) (codes "item") (take l.index l.members) l.node l.kept × (l.kept < l.enough)
+
+abbrev pub invariant-odd::odd_parts_explained-loop-part : goal.invariant-odd::odd_parts_explained-loop-part
+invariant-odd::odd_parts_explained-loop-part g l = AllZip (IsSomeCase (Has g.L.Display.output g.V.Display.output g.L.Predicate.formula g.V.Members.members_of g.V.Members.reason_of l.item)) (take l.part-index l.parts) l.cases.items
+    × IsParity (Has g.L.Display.output g.V.Display.output g.L.Predicate.formula g.V.Members.members_of g.V.Members.reason_of l.item) (take l.part-index l.parts) l.odd

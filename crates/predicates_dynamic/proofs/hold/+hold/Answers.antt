@@ -8,8 +8,10 @@ use Rattle.predicates_core.proofs.ThresholdCases.{HasTruth-settled, decided_next
 use Rattle.predicates_dynamic.specs.Trees.{AllAsked, Names, tree_of}
 use Rattle.predicates_dynamic.specs.Formulas.{Has, HasOn}
 use Rattle.predicates_core.proofs.PresentCases.{HasTruth-absent}
-use Rattle.predicates_dynamic.proofs.Rows.{each_asked, each_asked_member, verdict_of_members, verdict_of_counted_members, verdict_of_row, verdict_of_counted, truth_of_first}
+use Rattle.predicates_dynamic.proofs.Rows.{each_asked, each_asked_member, verdict_of_members, verdict_of_counted_members, verdict_of_row, verdict_of_counted, verdict_of_odd, truth_of_first}
 use Rattle.predicates_dynamic.proofs.hold.+hold.Goals.{counted_hold-then-branch+else-held-least, counted_hold-else-branch+else-failed-spare, members::counted_members_hold-then-branch+else-held-least, members::counted_members_hold-else-branch+else-failed-spare}
+use Rattle.std.proofs.lemmas.List.{take_all}
+use Rattle.predicates_dynamic.proofs.OddRows.{IsParity, parity_none, parity_one_more, odd_truth}
 use Rattle.predicates_dynamic.proofs.hold.+hold.Goals as goal
 
 pub not_holds-returns-clause-truth : goal.not_holds-returns-clause-truth
@@ -133,3 +135,20 @@ members::members_threshold_holds-returns-in-Some-clause-infallible g t c = λ h.
 
 pub members::members_threshold_holds-returns-in-None-clause-truth : goal.members::members_threshold_holds-returns-in-None-clause-truth
 members::members_threshold_holds-returns-in-None-clause-truth g t c = rw c.requires.whole (HasTruth-absent (sym c.in-None.ensures) refl)
+
+pub odd::odd_holds-returns-clause-truth : goal.odd::odd_holds-returns-clause-truth
+odd::odd_holds-returns-clause-truth g t c = rw c.requires.whole (verdict_of_odd g.L.Display.output g.V.Display.output g.L.Predicate.formula g.V.Members.members_of g.V.Members.reason_of c.args.item.now c.args.parts.now c.odd_parts_hold.result c.odd_parts_hold.ensures.truth)
+
+pub odd::odd_holds-returns-clause-infallible : goal.odd::odd_holds-returns-clause-infallible
+odd::odd_holds-returns-clause-infallible g t c = λ h. c.odd_parts_hold.ensures.infallible (each_asked g.L.Predicate.infallible g.V.Members.members_of c.args.item.now c.args.parts.now (subst (AllAsked g.L.Predicate.infallible g.V.Members.members_of c.args.item.now) c.requires.whole h))
+
+pub odd::odd_parts_hold-loop-part-init : goal.odd::odd_parts_hold-loop-part-init
+odd::odd_parts_hold-loop-part-init g t c = parity_none (Has g.L.Display.output g.V.Display.output g.L.Predicate.formula g.V.Members.members_of g.V.Members.reason_of c.args.item.now)
+
+pub odd::odd_parts_hold-loop-part-preserved : goal.odd::odd_parts_hold-loop-part-preserved
+odd::odd_parts_hold-loop-part-preserved g t c = parity_one_more (Has g.L.Display.output g.V.Display.output g.L.Predicate.formula g.V.Members.members_of g.V.Members.reason_of c.args.item.now) c.args.parts.now {k = c.loop-part.part-index} {u = c.part-item.result}
+    (omega arith) c.part-item.is c.loop-part.invariant c.in_ok-held.ensures.truth
+
+pub odd::odd_parts_hold-returns-clause-truth : goal.odd::odd_parts_hold-returns-clause-truth
+odd::odd_parts_hold-returns-clause-truth g t c = λ text. odd_truth (Has g.L.Display.output g.V.Display.output g.L.Predicate.formula g.V.Members.members_of g.V.Members.reason_of c.args.item.now) text (codes "rule") c.args.parts.now
+    (subst (λ us. IsParity (Has g.L.Display.output g.V.Display.output g.L.Predicate.formula g.V.Members.members_of g.V.Members.reason_of c.args.item.now) us c.loop-part.odd) (take_all c.loop-part.part-index c.args.parts.now (omega arith)) c.loop-part.invariant)

@@ -3,6 +3,7 @@ use Rattle.std.specs.List.{AllByRecursion}
 use Rattle.predicates_core.specs.Formula.{HasTruth}
 use Rattle.predicates_core.proofs.ThresholdCases.{Among}
 use Rattle.predicates_dynamic.specs.Formulas.{Has, HasOn}
+use Rattle.predicates_dynamic.proofs.OddRows.{IsParity}
 use Rattle.predicates_dynamic.proofs.hold.+hold.Given as goal
 
 abbrev pub invariant-parts_hold-loop-part : goal.invariant-parts_hold-loop-part
@@ -20,3 +21,6 @@ abbrev pub invariant-members::counted_members_hold-loop-member : goal.invariant-
 invariant-members::counted_members_hold-loop-member g l = Among true (HasOn g.L.Display.output g.V.Display.output g.L.Predicate.formula g.V.Members.members_of g.V.Members.reason_of l.inner) (take l.member-index l.members) l.held
     × Among false (HasOn g.L.Display.output g.V.Display.output g.L.Predicate.formula g.V.Members.members_of g.V.Members.reason_of l.inner) (take l.member-index l.members) l.failed
     × (l.held + l.failed ≡ l.member-index) × (l.held < l.least) × (l.failed ≤ l.spare)
+
+abbrev pub invariant-odd::odd_parts_hold-loop-part : goal.invariant-odd::odd_parts_hold-loop-part
+invariant-odd::odd_parts_hold-loop-part g l = IsParity (Has g.L.Display.output g.V.Display.output g.L.Predicate.formula g.V.Members.members_of g.V.Members.reason_of l.item) (take l.part-index l.parts) l.odd

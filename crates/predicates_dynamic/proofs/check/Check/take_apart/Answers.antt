@@ -1,6 +1,6 @@
 use Rattle.std.proofs.Common.{◌≡◌, ◌+◌, suc, arith, ap, ◌∙◌}
 use Rattle.predicates_dynamic.specs.Sizes.{size_of, sizes_of}
-use Rattle.predicates_dynamic.proofs.Dropping.{leaf_size, not_size, named_size, pair_size, row_size, counted_size, quantified_size, members_size, smaller, then_waiting}
+use Rattle.predicates_dynamic.proofs.Dropping.{leaf_size, not_size, named_size, pair_size, row_size, counted_size, odd_size, quantified_size, members_size, smaller, then_waiting}
 use Rattle.predicates_dynamic.proofs.check.Check.take_apart.Goals as goal
 
 pub returns-in-Leaf : goal.returns-in-Leaf
@@ -34,6 +34,11 @@ pub returns-in-AtLeast : goal.returns-in-AtLeast
 returns-in-AtLeast g c =
     let is : size_of c.args.self ≡ suc (sizes_of c.in-AtLeast.parts.items) = ap size_of c.in-AtLeast.is ∙ counted_size c.in-AtLeast.field-0 c.in-AtLeast.parts in
     rw is c.parts_apart-in-AtLeast.ensures
+
+pub returns-in-Odd : goal.returns-in-Odd
+returns-in-Odd g c =
+    let is : size_of c.args.self ≡ suc (sizes_of c.in-Odd.parts.items) = ap size_of c.in-Odd.is ∙ odd_size c.in-Odd.parts in
+    rw is c.parts_apart-in-Odd.ensures
 
 pub returns-in-Quantified : goal.returns-in-Quantified
 returns-in-Quantified g c =
