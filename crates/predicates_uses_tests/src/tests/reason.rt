@@ -1,6 +1,5 @@
 // What README puts into a crate of one's own.
 use predicates::prelude::*;
-use predicates::reflection::render;
 use std::alloc::{AllocError, Global};
 use std::test::Fail;
 
