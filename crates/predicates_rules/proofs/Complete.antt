@@ -1,15 +1,14 @@
 -- What is spelled is read.
 use Rattle.std.proofs.Common.{◌≡◌, ℕ, zero, suc, ◌≤◌, List, ◌∷◌, length, None, Ok, refl, ◌∙◌, arith}
 use Rattle.predicates_rules.specs.declared.expression.Connective.{Connective}
-use Rattle.predicates_rules.specs.declared.expression.Connective.TheVariants.{Or}
 use Rattle.predicates_rules.specs.declared.parser.Separator.{Separator}
 use Rattle.predicates_rules.specs.declared.parser.Separator.TheVariants as separators
-use Rattle.predicates_rules.specs.Trees.{Value, Sign, Close, Test, Tree, AtLeast, Trees, none, more}
-use Rattle.predicates_rules.specs.Grammar.{Level, By, tighter, separator_sign, part_level, Items, last, another, IsTest, word, compare, compare_with, has_length, of_kind, of_null, relate, among_none, among, each, any, at_least_items, Spells, test, denied, group, quantified, at_least, alone, joined, Follow, no_more, and_more, IsSpelled}
-use Rattle.predicates_rules.specs.Reading.{Answer, items_at, list_at, after_bracket, text_at, compared_at, comparison_at, length_at, kind_at, test_at, path_at, after_open, after_close, after_least, count_at, after_separator, with_next, parts_at, join, chain, listed, counted, threshold, single, at_level, below, ended, all_of}
+use Rattle.predicates_rules.specs.Trees.{Value, Sign, Then, Close, Test, Tree, Implies, AtLeast, Trees, none, more}
+use Rattle.predicates_rules.specs.Grammar.{Level, Whole, Premise, tighter, separator_sign, part_level, Items, last, another, IsTest, word, compare, compare_with, has_length, of_kind, of_null, relate, among_none, among, each, any, at_least_items, Spells, test, denied, group, quantified, at_least, alone, joined, no_if, implied, premise, Follow, no_more, and_more, IsSpelled}
+use Rattle.predicates_rules.specs.Reading.{Answer, items_at, list_at, after_bracket, text_at, compared_at, comparison_at, length_at, kind_at, test_at, path_at, after_open, after_close, after_then, after_least, count_at, after_separator, with_next, parts_at, join, chain, listed, counted, threshold, single, implication, whole, at_level, below, ended, all_of}
 use Rattle.predicates_rules.specs.Reading as reading
 use Rattle.predicates_rules.proofs.Lengths.{spells_shortens}
-use Rattle.predicates_rules.proofs.Steps.{level_step, Stops, stops_at_close, stops_at_end, Ends, ends_here, ends_inside, stops_at_separator, row_ends_at_close, separator_found}
+use Rattle.predicates_rules.proofs.Steps.{level_step, whole_step, join_begins, Stops, stops_at_close, stops_at_then, stops_at_end, Ends, ends_here, ends_inside, stops_at_separator, row_ends_at_close, separator_found}
 
 items_again : {ts : List Sign} {vs : List Value} {rest : List Sign} → Items ts vs rest → items_at ts ≡ Ok (vs, rest)
 unfolding items_at
@@ -38,10 +37,14 @@ parts_join : (c : Connective) (part : List Sign → Answer) (ts us rest : List S
 unfolding chain
 parts_join c part ts us rest e es p q = rw (p, q) refl
 
-parts_listed : (deeper : Level → List Sign → Answer) (k : ℕ) (ts us rest : List Sign) (e : Tree) (es : Trees) → deeper (By Or) ts ≡ Ok (e, us) → parts_at (length us) separators.Comma (deeper (By Or)) us ≡ Ok (es, Close ∷ rest)
+parts_listed : (deeper : Level → List Sign → Answer) (k : ℕ) (ts us rest : List Sign) (e : Tree) (es : Trees) → deeper Whole ts ≡ Ok (e, us) → parts_at (length us) separators.Comma (deeper Whole) us ≡ Ok (es, Close ∷ rest)
     → listed deeper k ts ≡ Ok (AtLeast k (more e es), rest)
 unfolding listed after_close
 parts_listed deeper k ts us rest e es p q = rw (p, q) refl
+
+implied_again : (deeper : Level → List Sign → Answer) (ts us rest : List Sign) (a b : Tree) → deeper Premise ts ≡ Ok (a, Then ∷ us) → deeper Whole us ≡ Ok (b, rest) → implication deeper ts ≡ Ok (Implies a b, rest)
+unfolding implication after_then
+implied_again deeper ts us rest a b p q = rw (p, q) refl
 
 no_parts : (k : ℕ) (s : Separator) (part : List Sign → Answer) (ts : List Sign) → after_separator s ts ≡ None → parts_at k s part ts ≡ Ok (none, ts)
 unfolding parts_at
@@ -58,15 +61,15 @@ follow_stops (no_more {s = s} {rest = rest}) e = ends_inside s rest e
 follow_stops (and_more {s = s} {ts = ts} d f) e = stops_at_separator s ts
 
 mutual
-  unfolding at_level single threshold counted count_at after_least reading.group reading.quantified path_at after_open after_close below
+  unfolding at_level whole single threshold counted count_at after_least reading.group reading.quantified path_at after_open after_close below
 
   pub spells_again : {n : ℕ} {l : Level} {ts : List Sign} {e : Tree} {rest : List Sign} → Spells n l ts e rest → Stops l rest → at_level (below n) l ts ≡ Ok (e, rest)
   spells_again (test t) s = rw (test_again t) refl
   spells_again (denied d) s = rw (spells_again d tt) refl
-  spells_again (group {rest = rest} d) s = rw (spells_again d (stops_at_close (By Or) rest)) refl
-  spells_again (quantified {rest = rest} each d) s = rw (spells_again d (stops_at_close (By Or) rest)) refl
-  spells_again (quantified {rest = rest} any d) s = rw (spells_again d (stops_at_close (By Or) rest)) refl
-  spells_again (quantified {rest = rest} at_least_items d) s = rw (spells_again d (stops_at_close (By Or) rest)) refl
+  spells_again (group {rest = rest} d) s = rw (spells_again d (stops_at_close Whole rest)) refl
+  spells_again (quantified {rest = rest} each d) s = rw (spells_again d (stops_at_close Whole rest)) refl
+  spells_again (quantified {rest = rest} any d) s = rw (spells_again d (stops_at_close Whole rest)) refl
+  spells_again (quantified {rest = rest} at_least_items d) s = rw (spells_again d (stops_at_close Whole rest)) refl
   spells_again (at_least {n = n} {k = k} {e = e} {es = es} {ts = ts} {us = us} {rest = rest} d f) s =
       let ends = row_ends_at_close rest in
       parts_listed (below (suc n)) k ts us rest e es (spells_again d (follow_stops f ends)) (parts_again f ends (length us) (omega arith))
@@ -77,6 +80,9 @@ mutual
   spells_again (joined {n = n} {c = c} {e = e} {f = g} {es = es} {ts = ts} {us = us} {rest = rest} d f) s =
       level_step (below n) c ts
       ∙ parts_join c (at_level (below n) (tighter c)) ts us rest e (more g es) (spells_again d (follow_stops f s)) (parts_again f s (length us) (omega arith))
+  spells_again (no_if {n = n} {ts = ts} d) s = whole_step (below n) ts (join_begins d) ∙ spells_again d s
+  spells_again (implied {n = n} {a = a} {b = b} {ts = ts} {us = us} {rest = rest} d g) s = implied_again (below (suc n)) ts us rest a b (spells_again d (stops_at_then us)) (spells_again g s)
+  spells_again (premise d) s = spells_again d s
 
   pub parts_again : {n : ℕ} {s : Separator} {ts : List Sign} {es : Trees} {rest : List Sign} → Follow n s ts es rest → Ends s rest → (k : ℕ) → length ts ≤ k → parts_at k s (at_level (below n) (part_level s)) ts ≡ Ok (es, rest)
   parts_again (no_more {n = n} {s = s} {rest = rest}) e k le = no_parts k s (at_level (below n) (part_level s)) rest (ends_here s rest e)
@@ -87,4 +93,4 @@ mutual
 -- all of the tokens
 pub spelled_again : (n : ℕ) (ts : List Sign) (e : Tree) → IsSpelled n ts e → all_of n ts ≡ Ok e
 unfolding all_of ended below
-spelled_again n ts e d = rw (spells_again d (stops_at_end (By Or))) refl
+spelled_again n ts e d = rw (spells_again d (stops_at_end Whole)) refl

@@ -1,31 +1,38 @@
--- Reading lines one after the other, as a loop does.
-use Rattle.std.proofs.Common.{◌≡◌, ◌≢◌, ℕ, zero, suc, ◌+◌, ◌<◌, ◌≤◌, Bor, List, [], ◌∷◌, ◌++◌, map, length, get_or, drop, Option, Some, None, Result, Ok, Err, refl, sym, ap, subst, ◌∙◌, arith, append_assoc}
-use Rattle.std.proofs.lemmas.List.{append-nil, length-map}
+-- What was read of lines is what they say.
+use Rattle.std.proofs.Common.{◌≡◌, ◌≢◌, ℕ, zero, suc, ◌+◌, ◌<◌, ◌≤◌, Bor, Bool, true, false, cond, List, [], ◌∷◌, ◌++◌, map, length, get_or, drop, Option, Some, None, option_map, Result, Ok, Err, refl, sym, ap, subst, ◌∙◌, ◌⊎◌, inl, inr, arith, append_assoc, string_bytes}
+use Rattle.std.specs.Prelude.{IfOk, IfErr, Vec, slice_index_or}
+use Rattle.std.specs.declared.alloc.AllocError.{AllocError}
+use Rattle.std.specs.declared.alloc.Global.{Global}
+use Rattle.std.specs.List.{find}
+use Rattle.std.specs.Str.{bytes_eq}
+use Rattle.std.proofs.lemmas.List.{append-nil, length-map, map-append}
+use Rattle.std.proofs.lemmas.Slice.Eq.{bytes_eq-Decides}
 use Rattle.predicates_rules.specs.declared.error.Reason.{Reason}
 use Rattle.predicates_rules.specs.declared.error.Reason.TheVariants.{TooDeep}
 use Rattle.predicates_rules.specs.declared.error.RulesError.{RulesError}
 use Rattle.predicates_rules.specs.declared.error.RulesError.TheVariants.{NoMemory, Unreadable}
 use Rattle.predicates_rules.specs.declared.fault.Fault.{Fault}
+use Rattle.predicates_rules.specs.declared.findings.Numbered.{Numbered}
+use Rattle.predicates_rules.specs.declared.findings.Findings.{Findings}
+use Rattle.predicates_rules.specs.declared.rule.Rule.{Rule}
 use Rattle.predicates_rules.specs.declared.stop.Stop.{Stop}
-use Rattle.predicates_rules.specs.declared.stop.ReadError.{ReadError}
 use Rattle.predicates_rules.specs.declared.stop.ReadError.TheVariants as errors
 use Rattle.predicates_rules.specs.Trees.{Tree}
 use Rattle.predicates_rules.specs.Grammar.{max_depth}
-use Rattle.predicates_rules.specs.Answers.{Fails, IsStop, IsSyntax}
-use Rattle.predicates_rules.specs.Rules.{IsLine, AreRules, no_more, skipped, taken, AreRead}
-use Rattle.predicates_rules.specs.Faults.{IsLineFault, IsFirstFault, in_this, in_later, IsFaultOf, IsSyntaxError, IsErrorAt, IsLineError, IsTold, AreFaults, none_yet, no_fault, one_fault, HasFaults}
-use Rattle.predicates_rules.proofs.Lines.{one_line}
+use Rattle.predicates_rules.specs.Answers.{Fails}
+use Rattle.predicates_rules.specs.Rules.{IsLine, AreRules, no_more, skipped, taken, NoneNamed, AreApart, AreRead, rule_of}
+use Rattle.predicates_rules.specs.Faults.{IsLineFault, IsFaultOf, IsFaultAt, IsSyntaxError, IsRepeatAt, IsUnread, Placed, bare, number_named, Adds, nothing, a_rule, a_repeat, no_line, HasRead, none_yet, one_line, HasFaults}
+use Rattle.predicates_rules.specs.Findings.{numbered_of, rules_in, HasAdded, HasFound, IsOutcome}
+use Rattle.predicates_rules.proofs.Lines.{one_line as same_line}
 
 -- ---- one line
 
 not_ok : (s : Stop) (o : Option (List ℕ × Tree)) → ◌≡◌ {A = Result (Option (List ℕ × Tree)) Stop} (Ok o) (Err s) → ⊥
 not_ok s o h = cc
 
-pub line_error : (number : ℕ) (line : List ℕ) (e : ReadError) (x : RulesError) → ((o : Option (List ℕ × Tree)) → IsLine max_depth line o → Fails {Y = Option (List ℕ × Tree)} e (Ok o))
-    → (IsSyntax e → (n : ℕ) (o : Option (List ℕ × Tree)) → IsLine n line o → ⊥) → IsStop (IsLineFault line) e → IsErrorAt number line e x → IsLineError number line x
-line_error number line e NoMemory only never fault at = tt
-line_error number line errors.Memory (Unreadable f) only never fault at = absurd at
-line_error number line (errors.Stopped s) (Unreadable f) only never fault at =
+pub line_fault : (number : ℕ) (line : List ℕ) (s : Stop) (f : Fault) → ((o : Option (List ℕ × Tree)) → IsLine max_depth line o → Fails {Y = Option (List ℕ × Tree)} (errors.Stopped s) (Ok o))
+    → (s.reason ≢ TooDeep → (n : ℕ) (o : Option (List ℕ × Tree)) → IsLine n line o → ⊥) → IsLineFault line s → IsFaultAt number line s f → IsUnread number line f
+line_fault number line s f only never fault at =
     (λ o d. not_ok s o (only o d), subst (λ (r : Reason). r ≢ TooDeep → (n : ℕ) (o : Option (List ℕ × Tree)) → IsLine n line o → ⊥) (sym at.2) never, (s, fault, at))
 
 -- ---- many lines
@@ -35,16 +42,14 @@ list_of None = []
 list_of (Some r) = r ∷ []
 
 -- what was read so far, and what is left
-pub record Goes (lines left : List (List ℕ)) (k : ℕ) (front : List (List ℕ × Tree)) : Type 0 where
+record Goes (lines left : List (List ℕ)) (front : List (List ℕ × Tree)) : Type 0 where
   pub found : (rs : List (List ℕ × Tree)) → AreRules max_depth left rs → AreRules max_depth lines (front ++ rs)
   pub only : (n : ℕ) (rs : List (List ℕ × Tree)) → AreRules n lines rs → (us : List (List ℕ × Tree)) × (rs ≡ front ++ us) × AreRules n left us
-  pub fault : (f : Fault) → IsFirstFault left (k + 1) f → IsFirstFault lines 1 f
 
-pub starts : (lines : List (List ℕ)) → Goes lines lines 0 []
+starts : (lines : List (List ℕ)) → Goes lines lines []
 starts lines = record {
   found = λ rs d. d;
   only = λ n rs d. (rs, refl, d);
-  fault = λ f d. d;
 }
 
 with_line : {line : List ℕ} {left : List (List ℕ)} {rs : List (List ℕ × Tree)} (r : Option (List ℕ × Tree)) → IsLine max_depth line r → AreRules max_depth left rs → AreRules max_depth (line ∷ left) (list_of r ++ rs)
@@ -53,47 +58,134 @@ with_line (Some r) l d = taken l d
 
 behind_line : {n : ℕ} {line : List ℕ} {left : List (List ℕ)} {ss : List (List ℕ × Tree)} (r : Option (List ℕ × Tree)) → IsLine max_depth line r → AreRules n (line ∷ left) ss → (us : List (List ℕ × Tree)) × (ss ≡ list_of r ++ us) × AreRules n left us
 behind_line {n = n} {line = line} {ss = ss} r l (skipped k d) =
-    (ss, ap (λ (o : Option (List ℕ × Tree)). list_of o ++ ss) (one_line n max_depth line None r k l), d)
+    (ss, ap (λ (o : Option (List ℕ × Tree)). list_of o ++ ss) (same_line n max_depth line None r k l), d)
 behind_line {n = n} {line = line} r l (taken {r = q} {rs = rs} k d) =
-    (rs, ap (λ (o : Option (List ℕ × Tree)). list_of o ++ rs) (one_line n max_depth line (Some q) r k l), d)
+    (rs, ap (λ (o : Option (List ℕ × Tree)). list_of o ++ rs) (same_line n max_depth line (Some q) r k l), d)
 
-pub past_line : (lines : List (List ℕ)) (line : List ℕ) (left : List (List ℕ)) (k : ℕ) (front : List (List ℕ × Tree)) (r : Option (List ℕ × Tree)) → IsLine max_depth line r → Goes lines (line ∷ left) k front → Goes lines left (k + 1) (front ++ list_of r)
-past_line lines line left k front r l g = record {
+past_line : (lines : List (List ℕ)) (line : List ℕ) (left : List (List ℕ)) (front : List (List ℕ × Tree)) (r : Option (List ℕ × Tree)) → IsLine max_depth line r → Goes lines (line ∷ left) front → Goes lines left (front ++ list_of r)
+past_line lines line left front r l g = record {
   found = λ rs d. subst (λ (us : List (List ℕ × Tree)). AreRules max_depth lines us) (sym (append_assoc front (list_of r) rs)) (g.found (list_of r ++ rs) (with_line r l d));
   only = λ n rs d.
       let o = g.only n rs d in
       let b = behind_line r l o.2 in
       (b.0, o.1 ∙ ap (λ (us : List (List ℕ × Tree)). front ++ us) b.1 ∙ sym (append_assoc front (list_of r) b.0), b.2);
-  fault = λ f d. let next : suc (k + 1) ≡ k + 1 + 1 = omega arith in g.fault f (in_later r l (subst (λ (n : ℕ). IsFirstFault left n f) (sym next) d));
 }
 
-pub all_found : (lines : List (List ℕ)) (k : ℕ) (front : List (List ℕ × Tree)) → Goes lines [] k front → AreRules max_depth lines front
-all_found lines k front g = subst (λ (us : List (List ℕ × Tree)). AreRules max_depth lines us) (append-nil front) (g.found [] no_more)
+all_found : (lines : List (List ℕ)) (front : List (List ℕ × Tree)) → Goes lines [] front → AreRules max_depth lines front
+all_found lines front g = subst (λ (us : List (List ℕ × Tree)). AreRules max_depth lines us) (append-nil front) (g.found [] no_more)
 
 nothing_left : {n : ℕ} {rs : List (List ℕ × Tree)} → AreRules n [] rs → rs ≡ []
 nothing_left no_more = refl
 
-pub only_these : (lines : List (List ℕ)) (k : ℕ) (front rs : List (List ℕ × Tree)) → Goes lines [] k front → AreRules max_depth lines rs → front ≡ rs
-only_these lines k front rs g d =
+only_these : (lines : List (List ℕ)) (front rs : List (List ℕ × Tree)) → Goes lines [] front → AreRules max_depth lines rs → front ≡ rs
+only_these lines front rs g d =
     let o = g.only max_depth rs d in
     sym (o.1 ∙ ap (λ (us : List (List ℕ × Tree)). front ++ us) (nothing_left o.2) ∙ append-nil front)
 
-no_line : {n : ℕ} {line : List ℕ} {left : List (List ℕ)} {rs : List (List ℕ × Tree)} → ((o : Option (List ℕ × Tree)) → IsLine n line o → ⊥) → AreRules n (line ∷ left) rs → ⊥
-no_line h (skipped l d) = h None l
-no_line h (taken {r = r} l d) = h (Some r) l
+no_rules : {n : ℕ} {line : List ℕ} {left : List (List ℕ)} {rs : List (List ℕ × Tree)} → ((o : Option (List ℕ × Tree)) → IsLine n line o → ⊥) → AreRules n (line ∷ left) rs → ⊥
+no_rules h (skipped l d) = h None l
+no_rules h (taken {r = r} l d) = h (Some r) l
 
-module _ (lines : List (List ℕ)) (line : List ℕ) (left : List (List ℕ)) (k : ℕ) (front : List (List ℕ × Tree)) (g : Goes lines (line ∷ left) k front) where
-  pub cannot : (e : RulesError) → IsLineError (k + 1) line e → (rs : List (List ℕ × Tree)) → AreRules max_depth lines rs → AreRead (Err e) rs
-  cannot NoMemory h rs d = tt
-  cannot (Unreadable f) h rs d = no_line h.0 (g.only max_depth rs d).2
+-- ---- names
 
-  pub never : (e : RulesError) → IsLineError (k + 1) line e → IsSyntaxError e → (n : ℕ) (rs : List (List ℕ × Tree)) → AreRules n lines rs → ⊥
-  never NoMemory h x n rs d = absurd x
-  never (Unreadable f) h x n rs d = no_line (h.1 x n) (g.only n rs d).2
+by_names : (b : Bool) (m : ℕ) (o : Option ℕ) → cond b (Some m) o ≡ None → (b ≡ false) × (o ≡ None)
+by_names true m o e = absurd cc
+by_names false m o e = (refl, e)
 
-  pub first_fault : (e : RulesError) → IsLineError (k + 1) line e → IsFaultOf lines e
-  first_fault NoMemory h = tt
-  first_fault (Unreadable f) h = g.fault f (in_this h.2.0 h.2.1 h.2.2)
+first_named : (name : List ℕ) (x : Placed) (rs : List Placed) → number_named name (x ∷ rs) ≡ cond (bytes_eq x.1.0 name) (Some x.0) (number_named name rs)
+first_named name x rs = by_test (bytes_eq x.1.0 name) refl
+  where
+    by_test : (b : Bool) → bytes_eq x.1.0 name ≡ b → number_named name (x ∷ rs) ≡ cond b (Some x.0) (number_named name rs)
+    by_test true e = rw e refl
+    by_test false e = rw e refl
+
+none_named : (name : List ℕ) (rs : List Placed) → number_named name rs ≡ None → NoneNamed name (bare rs)
+none_named name [] e = tt
+none_named name (x ∷ rs) e =
+    let p = by_names (bytes_eq x.1.0 name) x.0 (number_named name rs) (sym (first_named name x rs) ∙ e) in
+    (λ same. let yes : bytes_eq x.1.0 name ≡ true = (bytes_eq-Decides x.1.0 name).1 (sym same) in let both : true ≡ false = sym yes ∙ p.0 in absurd cc, none_named name rs p.1)
+
+none_more : (name : List ℕ) (rs : List (List ℕ × Tree)) (r : List ℕ × Tree) → NoneNamed name rs → name ≢ r.0 → NoneNamed name (rs ++ r ∷ [])
+none_more name [] r h other = (other, tt)
+none_more name (q ∷ rs) r h other = (h.0, none_more name rs r h.1 other)
+
+apart_more : (rs : List (List ℕ × Tree)) (r : List ℕ × Tree) → AreApart rs → NoneNamed r.0 rs → AreApart (rs ++ r ∷ [])
+apart_more [] r a h = (tt, tt)
+apart_more (q ∷ rs) r a h = (none_more q.0 rs r a.0 (λ same. h.0 (sym same)), apart_more rs r a.1 h.1)
+
+none_inside : (name : List ℕ) (rs us : List (List ℕ × Tree)) (r : List ℕ × Tree) → NoneNamed name (rs ++ r ∷ us) → name ≢ r.0
+none_inside name [] us r h = h.0
+none_inside name (q ∷ rs) us r h = none_inside name rs us r h.1
+
+named_again : (rs : List Placed) (r : List ℕ × Tree) (us : List (List ℕ × Tree)) (first : ℕ) → number_named r.0 rs ≡ Some first → AreApart (bare rs ++ r ∷ us) → ⊥
+named_again [] r us first e a = cc
+named_again (x ∷ rs) r us first e a = by_test (bytes_eq x.1.0 r.0) refl (λ h. named_again rs r us first h a.1)
+  where
+    by_test : (b : Bool) → bytes_eq x.1.0 r.0 ≡ b → (number_named r.0 rs ≡ Some first → ⊥) → ⊥
+    by_test true same k = none_inside x.1.0 (bare rs) us r a.0 ((bytes_eq-Decides x.1.0 r.0).0 same)
+    by_test false other k = k (ap (λ (b : Bool). cond b (Some x.0) (number_named r.0 rs)) (sym other) ∙ sym (first_named r.0 x rs) ∙ e)
+
+-- ---- lines up to a fault
+
+drop_suc : (i : ℕ) (lines : List (List ℕ)) (line : List ℕ) (rest : List (List ℕ)) → drop i lines ≡ line ∷ rest → drop (suc i) lines ≡ rest
+drop_suc zero [] line rest e = absurd cc
+drop_suc zero (l ∷ lines) line rest e = cc
+drop_suc (suc i) [] line rest e = absurd cc
+drop_suc (suc i) (l ∷ lines) line rest e = drop_suc i lines line rest e
+
+drop_next : (i : ℕ) (lines : List (List ℕ)) (line : List ℕ) (rest : List (List ℕ)) → drop i lines ≡ line ∷ rest → drop (i + 1) lines ≡ rest
+drop_next i lines line rest e = let one : i + 1 ≡ suc i = omega arith in rw one (drop_suc i lines line rest e)
+
+some_fault : (fs : List Fault) (f : Fault) → fs ++ f ∷ [] ≡ [] → ⊥
+some_fault [] f e = cc
+some_fault (g ∷ fs) f e = cc
+
+goes_on : (lines : List (List ℕ)) (i : ℕ) (rs more : List Placed) (line : List ℕ) (rest : List (List ℕ)) (r : Option (List ℕ × Tree)) → drop i lines ≡ line ∷ rest → IsLine max_depth line r → bare more ≡ list_of r → Goes lines (drop i lines) (bare rs)
+    → Goes lines (drop (i + 1) lines) (bare (rs ++ more))
+goes_on lines i rs more line rest r at l e g =
+    let next = past_line lines line rest (bare rs) r l (subst (λ (left : List (List ℕ)). Goes lines left (bare rs)) at g) in
+    let front : bare (rs ++ more) ≡ bare rs ++ list_of r = map-append (λ (x : Placed). x.1) rs more ∙ ap (λ (us : List (List ℕ × Tree)). bare rs ++ us) e in
+    subst (λ (left : List (List ℕ)). Goes lines left (bare (rs ++ more))) (sym (drop_next i lines line rest at)) (subst (λ (us : List (List ℕ × Tree)). Goes lines rest us) (sym front) next)
+
+goes : {lines : List (List ℕ)} {i : ℕ} {rs : List Placed} {fs : List Fault} → HasRead lines i rs fs → fs ≡ [] → Goes lines (drop i lines) (bare rs)
+goes {lines = lines} none_yet e = starts lines
+goes {lines = lines} (one_line {i = i} {rs = rs} {fs = fs} {line = line} {rest = rest} at before (nothing l)) e = goes_on lines i rs [] line rest None at l refl (goes before (sym (append-nil fs) ∙ e))
+goes {lines = lines} (one_line {i = i} {rs = rs} {fs = fs} {line = line} {rest = rest} at before (a_rule r l new)) e = goes_on lines i rs ((i + 1, r) ∷ []) line rest (Some r) at l refl (goes before (sym (append-nil fs) ∙ e))
+goes (one_line {fs = fs} at before (a_repeat r first f l old h)) e = absurd (some_fault fs f e)
+goes (one_line {fs = fs} at before (no_line f h)) e = absurd (some_fault fs f e)
+
+apart : {lines : List (List ℕ)} {i : ℕ} {rs : List Placed} {fs : List Fault} → HasRead lines i rs fs → AreApart (bare rs)
+apart none_yet = tt
+apart (one_line {rs = rs} at before (nothing l)) = subst (λ us. AreApart (bare us)) (sym (append-nil rs)) (apart before)
+apart (one_line {i = i} {rs = rs} at before (a_rule r l new)) = subst (λ us. AreApart us) (sym (map-append (λ (x : Placed). x.1) rs ((i + 1, r) ∷ []))) (apart_more (bare rs) r (apart before) (none_named r.0 rs new))
+apart (one_line {rs = rs} at before (a_repeat r first f l old h)) = subst (λ us. AreApart (bare us)) (sym (append-nil rs)) (apart before)
+apart (one_line {rs = rs} at before (no_line f h)) = subst (λ us. AreApart (bare us)) (sym (append-nil rs)) (apart before)
+
+-- which depths a fault excludes
+abbrev Excludes : Fault → ℕ → Type 0
+Excludes f n = (n ≡ max_depth) ⊎ (f.reason ≢ TooDeep)
+
+unread : (number n : ℕ) (line : List ℕ) (f : Fault) → IsUnread number line f → Excludes f n → (o : Option (List ℕ × Tree)) → IsLine n line o → ⊥
+unread number n line f h (inl is) o d = h.0 o (subst (λ (m : ℕ). IsLine m line o) is d)
+unread number n line f h (inr other) o d = h.1 other n o d
+
+first_is : (f g : Fault) (fs gs : List Fault) → ◌≡◌ {A = List Fault} (f ∷ fs) (g ∷ gs) → f ≡ g
+first_is f g fs gs e = cc
+
+refused : {lines : List (List ℕ)} {i : ℕ} {rs : List Placed} {fs : List Fault} → HasRead lines i rs fs → (f : Fault) (others : List Fault) → fs ≡ f ∷ others → (n : ℕ) → Excludes f n → (ss : List (List ℕ × Tree)) → AreRules n lines ss → AreApart ss → ⊥
+refused none_yet f others e n x ss d a = cc
+refused (one_line {fs = g ∷ fs} {others = more} at before added) f others e n x ss d a =
+    refused before g fs refl n (subst (λ (h : Fault). Excludes h n) (sym (first_is g f (fs ++ more) others e)) x) ss d a
+refused (one_line {fs = []} at before (nothing l)) f others e n x ss d a = cc
+refused (one_line {fs = []} at before (a_rule r l new)) f others e n x ss d a = cc
+refused {lines = lines} (one_line {i = i} {rs = rs} {fs = []} {line = line} {rest = rest} at before (a_repeat r first g l old h)) f others e n x ss d a =
+    let o = (goes before refl).only n ss d in
+    let b = behind_line (Some r) l (subst (λ (left : List (List ℕ)). AreRules n left o.0) at o.2) in
+    let whole : ss ≡ bare rs ++ r ∷ b.0 = o.1 ∙ ap (λ (us : List (List ℕ × Tree)). bare rs ++ us) b.1 in
+    named_again rs r b.0 first old (subst AreApart whole a)
+refused {lines = lines} (one_line {i = i} {rs = rs} {fs = []} {line = line} {rest = rest} at before (no_line g h)) f others e n x ss d a =
+    let o = (goes before refl).only n ss d in
+    no_rules (unread (i + 1) n line g h (subst (λ (k : Fault). Excludes k n) (sym (first_is g f [] others e)) x)) (subst (λ (left : List (List ℕ)). AreRules n left o.0) at o.2)
 
 -- ---- borrowed lines
 
@@ -105,56 +197,111 @@ next_line [] i d lt = absurd (omega arith)
 next_line (l ∷ lines) zero d lt = refl
 next_line (l ∷ lines) (suc i) d lt = next_line lines i d (omega arith)
 
-at_line : (lines : List (Bor (List ℕ))) (i : ℕ) (d : Bor (List ℕ)) (front : List (List ℕ × Tree)) → i < length lines → Goes (texts lines) (drop i (texts lines)) i front
-    → Goes (texts lines) ((get_or lines i d).now ∷ drop (i + 1) (texts lines)) i front
-at_line lines i d front lt g =
-    let one : i + 1 ≡ suc i = omega arith in
-    rw one (subst (λ (left : List (List ℕ)). Goes (texts lines) left i front) (next_line lines i d lt) g)
-
-pub one_more : (lines : List (Bor (List ℕ))) (i : ℕ) (d : Bor (List ℕ)) (front : List (List ℕ × Tree)) (r : Option (List ℕ × Tree)) → i < length lines → IsLine max_depth (get_or lines i d).now r
-    → Goes (texts lines) (drop i (texts lines)) i front → Goes (texts lines) (drop (i + 1) (texts lines)) (i + 1) (front ++ list_of r)
-one_more lines i d front r lt l g = past_line (texts lines) (get_or lines i d).now (drop (i + 1) (texts lines)) i front r l (at_line lines i d front lt g)
-
-pub one_blank : (lines : List (Bor (List ℕ))) (i : ℕ) (d : Bor (List ℕ)) (front : List (List ℕ × Tree)) → i < length lines → IsLine max_depth (get_or lines i d).now None
-    → Goes (texts lines) (drop i (texts lines)) i front → Goes (texts lines) (drop (i + 1) (texts lines)) (i + 1) front
-one_blank lines i d front lt l g = subst (λ (us : List (List ℕ × Tree)). Goes (texts lines) (drop (i + 1) (texts lines)) (i + 1) us) (append-nil front) (one_more lines i d front None lt l g)
-
-module _ (lines : List (Bor (List ℕ))) (i : ℕ) (d : Bor (List ℕ)) (front : List (List ℕ × Tree)) (lt : i < length lines) (g : Goes (texts lines) (drop i (texts lines)) i front) where
-  pub cannot_at : (e : RulesError) → IsLineError (i + 1) (get_or lines i d).now e → (rs : List (List ℕ × Tree)) → AreRules max_depth (texts lines) rs → AreRead (Err e) rs
-  cannot_at = cannot (texts lines) (get_or lines i d).now (drop (i + 1) (texts lines)) i front (at_line lines i d front lt g)
-
-  pub never_at : (e : RulesError) → IsLineError (i + 1) (get_or lines i d).now e → IsSyntaxError e → (n : ℕ) (rs : List (List ℕ × Tree)) → AreRules n (texts lines) rs → ⊥
-  never_at = never (texts lines) (get_or lines i d).now (drop (i + 1) (texts lines)) i front (at_line lines i d front lt g)
-
-  pub fault_at : (e : RulesError) → IsLineError (i + 1) (get_or lines i d).now e → IsFaultOf (texts lines) e
-  fault_at = first_fault (texts lines) (get_or lines i d).now (drop (i + 1) (texts lines)) i front (at_line lines i d front lt g)
-
-none_behind : (lines : List (Bor (List ℕ))) (i : ℕ) → length lines ≤ i → drop i (texts lines) ≡ []
+none_behind : (lines : List (List ℕ)) (i : ℕ) → length lines ≤ i → drop i lines ≡ []
 none_behind [] zero le = refl
 none_behind [] (suc i) le = refl
 none_behind (l ∷ lines) zero le = absurd (omega arith)
 none_behind (l ∷ lines) (suc i) le = none_behind lines i (omega arith)
 
-module _ (lines : List (Bor (List ℕ))) (i : ℕ) (front : List (List ℕ × Tree)) (le : length lines ≤ i) (g : Goes (texts lines) (drop i (texts lines)) i front) where
-  ended : Goes (texts lines) [] i front
-  ended = subst (λ (left : List (List ℕ)). Goes (texts lines) left i front) (none_behind lines i le) g
+next_read : (lines : List (Bor (List ℕ))) (i : ℕ) (d : Bor (List ℕ)) (rs more : List Placed) (fs others : List Fault) → i < length lines → HasRead (texts lines) i rs fs → Adds (i + 1) (get_or lines i d).now rs more others
+    → HasRead (texts lines) (i + 1) (rs ++ more) (fs ++ others)
+next_read lines i d rs more fs others lt h a = one_line (next_line lines i d lt) h a
 
-  pub found_in : AreRules max_depth (texts lines) front
-  found_in = all_found (texts lines) i front ended
+pub all_read : (lines : List (Bor (List ℕ))) (i most : ℕ) (findings : Findings) → length lines ≤ i → HasRead (texts lines) i (rules_in findings) findings.faults.items → HasFound most (texts lines) findings
+all_read lines i most findings le h = (i, h, λ lt. subst (λ (n : ℕ). n ≤ i) (sym (length-map lines (λ (x : Bor (List ℕ)). x.now))) le)
 
-  pub only_in : (rs : List (List ℕ × Tree)) → AreRules max_depth (texts lines) rs → front ≡ rs
-  only_in rs d = only_these (texts lines) i front rs ended d
+-- ---- what is made of the findings
 
--- ---- all faults
+module _ (lines : List (List ℕ)) (findings : Findings) (h : HasFound 1 lines findings) where
+  none_left : findings.faults.items ≡ [] → drop h.0 lines ≡ []
+  none_left e = none_behind lines h.0 (h.2 (omega (arith, ap length e)))
 
-pub no_fault_yet : (lines : List (List ℕ)) → AreFaults lines 0 []
-no_fault_yet lines = none_yet
+  ended : findings.faults.items ≡ [] → Goes lines [] (bare (rules_in findings))
+  ended e = subst (λ (left : List (List ℕ)). Goes lines left (bare (rules_in findings))) (none_left e) (goes h.1 e)
 
-pub next_sound : (lines : List (Bor (List ℕ))) (i : ℕ) (d : Bor (List ℕ)) (fs : List Fault) (r : Option (List ℕ × Tree)) → i < length lines → IsLine max_depth (get_or lines i d).now r → AreFaults (texts lines) i fs → AreFaults (texts lines) (i + 1) fs
-next_sound lines i d fs r lt l g = no_fault r (next_line lines i d lt) l g
+  pub rules_found : (r : Result (Vec Rule Global) RulesError) → IsOutcome (rules_in findings) findings.faults.items r → IfOk r (λ v. AreRules max_depth lines (map rule_of v.items) × AreApart (map rule_of v.items))
+  rules_found (Ok v) (e, same) =
+      subst (λ (rs : List (List ℕ × Tree)). AreRules max_depth lines rs × AreApart rs) (sym same) (all_found lines (bare (rules_in findings)) (ended e), apart h.1)
+  rules_found (Err x) o = tt
 
-pub next_faulty : (lines : List (Bor (List ℕ))) (i : ℕ) (d : Bor (List ℕ)) (fs : List Fault) (f : Fault) → i < length lines → IsTold (i + 1) (get_or lines i d).now (Some f) → AreFaults (texts lines) i fs → AreFaults (texts lines) (i + 1) (fs ++ f ∷ [])
-next_faulty lines i d fs f lt h g = one_fault f h.0 (next_line lines i d lt) h.1 h.2 g
+  pub rules_only : (r : Result (Vec Rule Global) RulesError) → IsOutcome (rules_in findings) findings.faults.items r → (rs : List (List ℕ × Tree)) → AreRules max_depth lines rs → AreApart rs → AreRead r rs
+  rules_only (Ok v) (e, same) rs d a = same ∙ only_these lines (bare (rules_in findings)) rs (ended e) d
+  rules_only (Err NoMemory) o rs d a = tt
+  rules_only (Err (Unreadable f)) (others, e) rs d a = refused h.1 f others e max_depth (inl refl) rs d a
 
-pub all_told : (lines : List (Bor (List ℕ))) (i : ℕ) (fs : List Fault) → length lines ≤ i → AreFaults (texts lines) i fs → HasFaults (texts lines) fs
-all_told lines i fs le g = (i, g, λ lt. subst (λ (n : ℕ). n ≤ i) (sym (length-map lines (λ (x : Bor (List ℕ)). x.now))) le)
+  pub rules_never : (r : Result (Vec Rule Global) RulesError) → IsOutcome (rules_in findings) findings.faults.items r → IfErr r (λ x. IsSyntaxError x → (n : ℕ) (rs : List (List ℕ × Tree)) → AreRules n lines rs → AreApart rs → ⊥)
+  rules_never (Ok v) o = tt
+  rules_never (Err NoMemory) o = λ bad. absurd bad
+  rules_never (Err (Unreadable f)) (others, e) = λ other n rs d a. refused h.1 f others e n (inr other) rs d a
+
+  pub rules_fault : (r : Result (Vec Rule Global) RulesError) → IsOutcome (rules_in findings) findings.faults.items r → IfErr r (IsFaultOf lines)
+  rules_fault (Ok v) o = tt
+  rules_fault (Err NoMemory) o = tt
+  rules_fault (Err (Unreadable f)) (others, e) = (h.0, rules_in findings, others, subst (λ (fs : List Fault). HasRead lines h.0 (rules_in findings) fs) e h.1)
+
+pub faults_found : (lines : List (List ℕ)) (findings : Findings) → HasFound 20 lines findings → HasFaults lines findings.faults.items
+faults_found lines findings h = (h.0, rules_in findings, h.1, h.2)
+
+-- ---- what a line adds
+
+abbrev pub WithFault : Findings → Fault → Findings → Type 0
+WithFault before f after = (after.rules ≡ before.rules) × (after.faults.items ≡ before.faults.items ++ f ∷ [])
+
+abbrev pub WithRule : Findings → Numbered → Findings → Type 0
+WithRule before n after = (after.faults ≡ before.faults) × (after.rules.items ≡ before.rules.items ++ n ∷ [])
+
+module _ (number : ℕ) (line : List ℕ) (before : Findings) where
+  pub nothing_added : IsLine max_depth line None → HasAdded number line before before
+  nothing_added l = ([], [], nothing l, sym (append-nil (rules_in before)), sym (append-nil before.faults.items))
+
+  same_rules : (after : Findings) → after.rules ≡ before.rules → rules_in after ≡ rules_in before ++ []
+  same_rules after e = ap (λ (v : Vec Numbered Global). map numbered_of v.items) e ∙ sym (append-nil (rules_in before))
+
+  pub fault_added : (f : Fault) (r : Result Findings AllocError) → IsUnread number line f → IfOk r (WithFault before f) → IfOk r (HasAdded number line before)
+  fault_added f (Ok after) u h = ([], f ∷ [], no_line f u, same_rules after h.0, h.1)
+  fault_added f (Err e) u h = tt
+
+  pub repeat_added : (rule : List ℕ × Tree) (first : ℕ) (f : Fault) (r : Result Findings AllocError) → IsLine max_depth line (Some rule) → number_named rule.0 (rules_in before) ≡ Some first → IsRepeatAt number first line rule.0 f → IfOk r (WithFault before f)
+      → IfOk r (HasAdded number line before)
+  repeat_added rule first f (Ok after) l old u h = ([], f ∷ [], a_repeat rule first f l old u, same_rules after h.0, h.1)
+  repeat_added rule first f (Err e) l old u h = tt
+
+  pub rule_added : (n : Numbered) (r : Result Findings AllocError) → n.line ≡ number → IsLine max_depth line (Some (rule_of n.rule)) → number_named (rule_of n.rule).0 (rules_in before) ≡ None → IfOk r (WithRule before n) → IfOk r (HasAdded number line before)
+  rule_added n (Ok after) is l new h = (
+    (number, rule_of n.rule) ∷ [],
+    [],
+    a_rule (rule_of n.rule) l new,
+    ap (map numbered_of) h.1 ∙ map-append numbered_of before.rules.items (n ∷ []) ∙ ap (λ (m : ℕ). rules_in before ++ (m, rule_of n.rule) ∷ []) is,
+    ap (λ (v : Vec Fault Global). v.items) h.0 ∙ sym (append-nil before.faults.items),
+  )
+  rule_added n (Err e) is l new h = tt
+
+pub number_found : (name : List ℕ) (rs : List Numbered) → option_map (λ (n : Numbered). n.line) (find (λ n. bytes_eq (string_bytes n.rule.name) name) rs) ≡ number_named name (map numbered_of rs)
+number_found name [] = refl
+number_found name (x ∷ rs) = by_test (bytes_eq (string_bytes x.rule.name) name) refl (number_found name rs)
+  where
+    by_test : (b : Bool) → bytes_eq (string_bytes x.rule.name) name ≡ b → option_map (λ (n : Numbered). n.line) (find (λ n. bytes_eq (string_bytes n.rule.name) name) rs) ≡ number_named name (map numbered_of rs) → option_map (λ (n : Numbered). n.line) (find (λ n. bytes_eq (string_bytes n.rule.name) name) (x ∷ rs)) ≡ number_named name (map numbered_of (x ∷ rs))
+    by_test true e h = rw e refl
+    by_test false e h = rw e h
+
+pub line_found : (name : List ℕ) (rs : List Numbered) (o : Option (Bor Numbered)) → option_map (λ (x : Bor Numbered). x.now) o ≡ find (λ n. bytes_eq (string_bytes n.rule.name) name) rs → option_map (λ (x : Bor Numbered). x.now.line) o ≡ number_named name (map numbered_of rs)
+line_found name rs None e = ap (option_map (λ (n : Numbered). n.line)) e ∙ number_found name rs
+line_found name rs (Some x) e = ap (option_map (λ (n : Numbered). n.line)) e ∙ number_found name rs
+
+pub more_read : (lines : List (Bor (List ℕ))) (i : ℕ) (d : Bor (List ℕ)) (before after : Findings) → i < length lines → HasRead (texts lines) i (rules_in before) before.faults.items → HasAdded (i + 1) (get_or lines i d).now before after
+    → HasRead (texts lines) (i + 1) (rules_in after) after.faults.items
+more_read lines i d before after lt h (rs, fs, adds, e, g) =
+    let next = next_read lines i d (rules_in before) rs before.faults.items fs lt h adds in
+    subst (λ (us : List Placed). HasRead (texts lines) (i + 1) us after.faults.items) (sym e) (subst (λ (gs : List Fault). HasRead (texts lines) (i + 1) (rules_in before ++ rs) gs) (sym g) next)
+
+pub none_is : {A : Type 0} (xs : List A) → length xs ≡ 0 → xs ≡ []
+none_is [] e = refl
+none_is (x ∷ xs) e = cc
+
+pub first_of : {A : Type 0} (xs : List A) (x : A) → 0 < length xs → x ≡ slice_index_or xs 0 x → (others : List A) × (xs ≡ x ∷ others)
+first_of [] x lt e = absurd (omega arith)
+first_of (y ∷ xs) x lt e = (xs, ap (λ z. z ∷ xs) (sym e))
+
+pub bare_rules : (ns : List Numbered) → map (λ n. rule_of n.rule) ns ≡ bare (map numbered_of ns)
+bare_rules [] = refl
+bare_rules (n ∷ ns) = ap (λ (rs : List (List ℕ × Tree)). rule_of n.rule ∷ rs) (bare_rules ns)

@@ -14,10 +14,10 @@ use Rattle.predicates_rules.specs.declared.stop.Stop.{Stop}
 use Rattle.predicates_rules.specs.declared.stop.ReadError.{ReadError}
 use Rattle.predicates_rules.specs.declared.stop.ReadError.TheVariants as errors
 use Rattle.predicates_rules.specs.declared.expression.Expression.{Expression}
-use Rattle.predicates_rules.specs.Trees.{tree_of, Sign, Not, Each, Any, AtWord, Of, Open, Path, Tree, At, Denied, Quantified, AtLeast, Trees, more}
-use Rattle.predicates_rules.specs.Grammar.{Level, By, Single, IsSpelled}
+use Rattle.predicates_rules.specs.Trees.{tree_of, Sign, Not, If, Each, Any, AtWord, Of, Open, Path, Tree, At, Denied, Implies, Quantified, AtLeast, Trees, more}
+use Rattle.predicates_rules.specs.Grammar.{Level, By, Single, Whole, Premise, IsSpelled}
 use Rattle.predicates_rules.specs.Answers.{◌>>=◌, Gives, IsSyntax}
-use Rattle.predicates_rules.specs.Reading.{Answer, test_at, path_at, after_open, after_close, after_least, count_at, after_separator, with_next, parts_at, join, chain, listed, counted, threshold, single, at_level, below, ended, all_of}
+use Rattle.predicates_rules.specs.Reading.{Answer, test_at, path_at, after_open, after_close, after_then, after_least, count_at, after_separator, with_next, parts_at, join, chain, listed, counted, threshold, single, loosest, implication, whole, at_level, below, ended, all_of}
 use Rattle.predicates_rules.specs.Reading as reading
 use Rattle.predicates_rules.proofs.Loop.{ok_is}
 use Rattle.predicates_rules.proofs.Complete.{spelled_again}
@@ -61,7 +61,7 @@ module _ (f g : List Sign → Answer) (h : (ts : List Sign) → Persists (f ts) 
 module _ (d e : Level → List Sign → Answer) (h : (l : Level) (ts : List Sign) → Persists (d l ts) (e l ts)) where
   group_persists : (ts : List Sign) → Persists (reading.group d ts) (reading.group e ts)
   unfolding reading.group
-  group_persists ts = persists_then (d (By Or) ts) (e (By Or) ts) (λ y. after_close expected.Close y.1 >>= λ rest. Ok (y.0, rest)) (λ y. after_close expected.Close y.1 >>= λ rest. Ok (y.0, rest)) (h (By Or) ts)
+  group_persists ts = persists_then (d Whole ts) (e Whole ts) (λ y. after_close expected.Close y.1 >>= λ rest. Ok (y.0, rest)) (λ y. after_close expected.Close y.1 >>= λ rest. Ok (y.0, rest)) (h Whole ts)
       (λ y. persists_same (after_close expected.Close y.1 >>= λ rest. Ok (y.0, rest)))
 
   quantified_persists : (q : Quantifier) (ts : List Sign) → Persists (reading.quantified d q ts) (reading.quantified e q ts)
@@ -73,7 +73,7 @@ module _ (d e : Level → List Sign → Answer) (h : (l : Level) (ts : List Sign
 
   listed_persists : (k : ℕ) (ts : List Sign) → Persists (listed d k ts) (listed e k ts)
   unfolding listed
-  listed_persists k ts = row_persists (d (By Or)) (e (By Or)) (h (By Or)) separators.Comma (λ f x. after_close expected.PartsGoOn x.1 >>= λ rest. Ok (AtLeast k (more f x.0), rest)) ts
+  listed_persists k ts = row_persists (d Whole) (e Whole) (h Whole) separators.Comma (λ f x. after_close expected.PartsGoOn x.1 >>= λ rest. Ok (AtLeast k (more f x.0), rest)) ts
 
   counted_persists : (k : ℕ) (ts : List Sign) → Persists (counted d k ts) (counted e k ts)
   unfolding counted
@@ -99,12 +99,36 @@ module _ (d e : Level → List Sign → Answer) (h : (l : Level) (ts : List Sign
   single_persists [] = inr refl
   single_persists (t ∷ ts) = inr refl
 
+  loosest_persists : (ts : List Sign) → Persists (loosest d ts) (loosest e ts)
+  loosest_persists = chain_persists (chain Xor (chain And (single d))) (chain Xor (chain And (single e))) (chain_persists (chain And (single d)) (chain And (single e)) (chain_persists (single d) (single e) single_persists And) Xor) Or
+
+  implication_persists : (ts : List Sign) → Persists (implication d ts) (implication e ts)
+  unfolding implication
+  implication_persists ts =
+      persists_then (d Premise ts) (e Premise ts) (λ y. after_then y.1 >>= λ us. d Whole us >>= λ z. Ok (Implies y.0 z.0, z.1)) (λ y. after_then y.1 >>= λ us. e Whole us >>= λ z. Ok (Implies y.0 z.0, z.1)) (h Premise ts)
+      (λ y. persists_then (after_then y.1) (after_then y.1) (λ us. d Whole us >>= λ z. Ok (Implies y.0 z.0, z.1)) (λ us. e Whole us >>= λ z. Ok (Implies y.0 z.0, z.1)) (persists_same (after_then y.1))
+      (λ us. persists_then (d Whole us) (e Whole us) (λ z. Ok (Implies y.0 z.0, z.1)) (λ z. Ok (Implies y.0 z.0, z.1)) (h Whole us) (λ z. refl)))
+
+  whole_persists : (ts : List Sign) → Persists (whole d ts) (whole e ts)
+  unfolding whole
+  whole_persists (If ∷ ts) = implication_persists ts
+  whole_persists (Path path ∷ ts) = loosest_persists (Path path ∷ ts)
+  whole_persists (Not ∷ ts) = loosest_persists (Not ∷ ts)
+  whole_persists (Open ∷ ts) = loosest_persists (Open ∷ ts)
+  whole_persists (Each ∷ ts) = loosest_persists (Each ∷ ts)
+  whole_persists (Any ∷ ts) = loosest_persists (Any ∷ ts)
+  whole_persists (AtWord ∷ ts) = loosest_persists (AtWord ∷ ts)
+  whole_persists [] = inr refl
+  whole_persists (t ∷ ts) = inr refl
+
   level_persists : (l : Level) (ts : List Sign) → Persists (at_level d l ts) (at_level e l ts)
   unfolding at_level
   level_persists Single ts = single_persists ts
   level_persists (By And) ts = chain_persists (single d) (single e) single_persists And ts
   level_persists (By Xor) ts = chain_persists (chain And (single d)) (chain And (single e)) (chain_persists (single d) (single e) single_persists And) Xor ts
-  level_persists (By Or) ts = chain_persists (chain Xor (chain And (single d))) (chain Xor (chain And (single e))) (chain_persists (chain And (single d)) (chain And (single e)) (chain_persists (single d) (single e) single_persists And) Xor) Or ts
+  level_persists (By Or) ts = loosest_persists ts
+  level_persists Whole ts = whole_persists ts
+  level_persists Premise ts = h Whole ts
 
 below_persists : (n : ℕ) (l : Level) (ts : List Sign) → Persists (below n l ts) (below (suc n) l ts)
 unfolding below
@@ -113,7 +137,7 @@ below_persists (suc n) l ts = level_persists (below n) (below (suc n)) (below_pe
 
 all_persists : (n : ℕ) (ts : List Sign) → Persists (all_of n ts) (all_of (suc n) ts)
 unfolding all_of
-all_persists n ts = persists_then (below (suc n) (By Or) ts) (below (suc (suc n)) (By Or) ts) ended ended (below_persists (suc n) (By Or) ts) (λ x. persists_same (ended x))
+all_persists n ts = persists_then (below (suc n) Whole ts) (below (suc (suc n)) Whole ts) ended ended (below_persists (suc n) Whole ts) (λ x. persists_same (ended x))
 
 -- k more
 ok_stays : (k n : ℕ) (ts : List Sign) (e : Tree) → all_of n ts ≡ Ok e → all_of (k + n) ts ≡ Ok e

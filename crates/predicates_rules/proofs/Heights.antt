@@ -4,7 +4,7 @@ use Rattle.predicates_rules.specs.declared.expression.Connective.{Connective}
 use Rattle.predicates_rules.specs.declared.expression.Connective.TheVariants.{Or, Xor, And}
 use Rattle.predicates_rules.specs.declared.parser.Separator.{Separator}
 use Rattle.predicates_rules.specs.declared.parser.Separator.TheVariants as separators
-use Rattle.predicates_rules.specs.Grammar.{Level, By, Single, tighter}
+use Rattle.predicates_rules.specs.Grammar.{Level, By, Single, Whole, Premise, tighter}
 
 abbrev pub height : Connective → ℕ
 height And = 8
@@ -14,6 +14,8 @@ height Or = 16
 abbrev pub level_height : Level → ℕ
 level_height Single = 7
 level_height (By c) = height c + 3
+level_height Whole = 21
+level_height Premise = 1
 
 abbrev pub row_height : Separator → ℕ
 row_height (separators.Connective c) = height c

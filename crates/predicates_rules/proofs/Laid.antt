@@ -3,16 +3,15 @@ use Rattle.std.proofs.Common.{◌≡◌, Bool, true, false, cond, List, [], ◌�
 use Rattle.std.specs.Prelude.{not, ◌&&◌, ◌||◌}
 use Rattle.std.specs.List.{flat_map}
 use Rattle.predicates_rules.specs.declared.expression.Connective.{Connective}
-use Rattle.predicates_rules.specs.declared.expression.Connective.TheVariants.{Or}
 use Rattle.predicates_rules.specs.declared.expression.Quantifier.{Quantifier}
 use Rattle.predicates_rules.specs.declared.expression.Quantifier.TheVariants as quantifiers
 use Rattle.predicates_rules.specs.declared.condition.ValueKind.{ValueKind}
 use Rattle.predicates_rules.specs.declared.condition.ValueKind.TheVariants as value_kinds
 use Rattle.predicates_rules.specs.declared.parser.Separator.{Separator}
 use Rattle.predicates_rules.specs.declared.parser.Separator.TheVariants as separators
-use Rattle.predicates_rules.specs.Trees.{Value, Natural, Text, Sign, Join, Not, AtWord, Least, Of, Open, Close, OpenList, CloseList, Comma, Path, Compare, Relate, Is, In, Length, IsKind, Plain, Test, TheValueIs, Compares, ComparesWith, HasLength, IsOfKind, Relates, IsAmong, Tree, At, Denied, Quantified, Joined, AtLeast, Trees, none, more}
-use Rattle.predicates_rules.specs.Grammar.{Level, By, Single, separator_sign, part_level}
-use Rattle.predicates_rules.specs.Printing.{items_signs, kind_sign, test_signs, quantifier_signs, in_parentheses, fits, has_parts, stands_at, signs_at, part_signs, follow_signs, path_text, value_text, word_of, opens, closes, gap, laid_behind, laid}
+use Rattle.predicates_rules.specs.Trees.{Value, Natural, Text, Sign, Join, Not, If, Then, AtWord, Least, Of, Open, Close, OpenList, CloseList, Comma, Path, Compare, Relate, Is, In, Length, IsKind, Plain, Test, TheValueIs, Compares, ComparesWith, HasLength, IsOfKind, Relates, IsAmong, Tree, At, Denied, Implies, Quantified, Joined, AtLeast, Trees, none, more}
+use Rattle.predicates_rules.specs.Grammar.{Level, Single, Whole, separator_sign, part_level}
+use Rattle.predicates_rules.specs.Printing.{items_signs, kind_sign, test_signs, quantifier_signs, in_parentheses, fits, takes_if, has_parts, stands_at, signs_at, part_signs, follow_signs, path_text, value_text, word_of, opens, closes, gap, laid_behind, laid}
 use Rattle.predicates_rules.specs.Writing.{items_text, test_text, quantifier_text, separator_text, grouped, tree_text, row_text, rest_text}
 
 is_false : (b : Bool) → not b ≡ true → b ≡ false
@@ -183,20 +182,50 @@ separated (separators.Connective c) ts text f e =
     ap (λ (w : List ℕ). 32 ∷ w) (ap (λ (w : List ℕ). word_of (Join c) ++ w) (behind_space (Join c) ts refl f ∙ ap (λ (w : List ℕ). 32 ∷ w) e) ∙ sym (append_assoc (word_of (Join c)) (32 ∷ []) text))
 separated separators.Comma ts text f e = ap (λ (w : List ℕ). 44 ∷ w) (behind_space Comma ts refl f ∙ ap (λ (w : List ℕ). 32 ∷ w) e)
 
+-- a phrase in parentheses
+phrase_group : (ts : List Sign) (text : List ℕ) → IsPhrase ts text → IsPhrase (in_parentheses ts) (grouped text)
+phrase_group ts text p = group_phrase ts text (group_is ts text p.whole (λ s. p.final) (λ s. let f : starts ts ≡ true = p.first in absurd cc))
+
+phrase_placed : (b : Bool) (ts : List Sign) (text : List ℕ) → IsPhrase ts text → IsPhrase (cond b ts (in_parentheses ts)) (cond b text (grouped text))
+phrase_placed true ts text p = p
+phrase_placed false ts text p = phrase_group ts text p
+
+abbrev implication_text : List ℕ → List ℕ → List ℕ
+implication_text a b = codes "if " ++ (a ++ (codes " then " ++ b))
+
+-- the same as it is written
+implication_written : (b : Bool) (x y : List ℕ) → cond b (implication_text x y) (grouped (implication_text x y)) ≡ cond b (codes "if ") (codes "(if ") ++ (x ++ (codes " then " ++ (y ++ cond b [] (codes ")"))))
+implication_written true x y = ap (λ (w : List ℕ). codes "if " ++ (x ++ (codes " then " ++ w))) (sym (append-nil y))
+implication_written false x y = ap (λ (w : List ℕ). codes "(if " ++ w) (append_assoc x (codes " then " ++ y) (codes ")"))
+
+implication_phrase : (ts us : List Sign) (a b : List ℕ) → IsPhrase ts a → IsPhrase us b → IsPhrase (If ∷ (ts ++ Then ∷ us)) (implication_text a b)
+implication_phrase ts us a b p q =
+    let behind = before Then us b refl refl q in
+    before If (ts ++ Then ∷ us) (a ++ 32 ∷ (word_of Then ++ 32 ∷ b)) refl refl
+    (record {
+      first = starts_append ts (Then ∷ us) p.first;
+      final = ends_append ts (Then ∷ us) behind.final;
+      whole = laid_append ts (Then ∷ us) p.final ∙ ap (λ (w : List ℕ). laid ts ++ 32 ∷ w) behind.whole ∙ ap (λ (w : List ℕ). w ++ 32 ∷ (word_of Then ++ 32 ∷ b)) p.whole;
+    })
+
 mutual
   tree_phrase : (e : Tree) (l : Level) → IsPhrase (signs_at l e) (tree_text l e)
   tree_phrase (At path t) l = let p = test_phrase t in before (Path path) (test_signs t) (laid (test_signs t)) refl refl (record { first = p.first; final = p.final; whole = refl })
   tree_phrase (Denied e) l = before Not (signs_at Single e) (tree_text Single e) refl refl (tree_phrase e Single)
+  tree_phrase (Implies a b) l =
+      let ts = If ∷ (signs_at Whole a ++ Then ∷ signs_at Whole b) in
+      subst (λ (w : List ℕ). IsPhrase (signs_at l (Implies a b)) w) (implication_written (takes_if l) (tree_text Whole a) (tree_text Whole b))
+      (phrase_placed (takes_if l) ts (implication_text (tree_text Whole a) (tree_text Whole b)) (implication_phrase (signs_at Whole a) (signs_at Whole b) (tree_text Whole a) (tree_text Whole b) (tree_phrase a Whole) (tree_phrase b Whole)))
   tree_phrase (Quantified q path e) l =
-      let inner = tree_phrase e (By Or) in
-      let group = group_phrase (signs_at (By Or) e) (tree_text (By Or) e) (group_is (signs_at (By Or) e) (tree_text (By Or) e) inner.whole (λ s. inner.final) (λ s. let f : starts (signs_at (By Or) e) ≡ true = inner.first in absurd cc)) in
-      let behind = before (Path path) (in_parentheses (signs_at (By Or) e)) (grouped (tree_text (By Or) e)) refl refl group in
+      let inner = tree_phrase e Whole in
+      let group = phrase_group (signs_at Whole e) (tree_text Whole e) inner in
+      let behind = before (Path path) (in_parentheses (signs_at Whole e)) (grouped (tree_text Whole e)) refl refl group in
       let front = quantifier_phrase q in
-      let ts = Path path ∷ in_parentheses (signs_at (By Or) e) in
+      let ts = Path path ∷ in_parentheses (signs_at Whole e) in
       record {
         first = starts_append (quantifier_signs q) ts front.first;
         final = ends_append (quantifier_signs q) ts behind.final;
-        whole = laid_append (quantifier_signs q) ts front.final ∙ ap (λ (w : List ℕ). laid (quantifier_signs q) ++ 32 ∷ w) behind.whole ∙ ap (λ (w : List ℕ). w ++ 32 ∷ (path_text path ++ 32 ∷ grouped (tree_text (By Or) e))) front.whole;
+        whole = laid_append (quantifier_signs q) ts front.final ∙ ap (λ (w : List ℕ). laid (quantifier_signs q) ++ 32 ∷ w) behind.whole ∙ ap (λ (w : List ℕ). w ++ 32 ∷ (path_text path ++ 32 ∷ grouped (tree_text Whole e))) front.whole;
       }
   tree_phrase (Joined c es) l = placed (stands_at l c es) es (part_signs (separators.Connective c) es) (row_text (separators.Connective c) es) (first_true (has_parts es) (fits l c)) (row_is es (separators.Connective c))
   tree_phrase (AtLeast k es) l =
@@ -229,5 +258,5 @@ mutual
             (laid_append (signs_at (part_level s) e) (follow_signs s es) p.final ∙ ap (λ (w : List ℕ). laid (signs_at (part_level s) e) ++ w) r.1 ∙ ap (λ (w : List ℕ). w ++ rest_text s es) p.whole),
       )
 
-pub tree_laid : (e : Tree) → laid (signs_at (By Or) e) ≡ tree_text (By Or) e
-tree_laid e = (tree_phrase e (By Or)).whole
+pub tree_laid : (e : Tree) → laid (signs_at Whole e) ≡ tree_text Whole e
+tree_laid e = (tree_phrase e Whole).whole

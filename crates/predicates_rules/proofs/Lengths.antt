@@ -3,7 +3,7 @@ use Rattle.std.proofs.Common.{ℕ, ◌<◌, ◌≤◌, List, length, arith}
 use Rattle.predicates_rules.specs.declared.expression.Quantifier.{Quantifier}
 use Rattle.predicates_rules.specs.declared.parser.Separator.{Separator}
 use Rattle.predicates_rules.specs.Trees.{Value, Sign, Test, Tree, Trees}
-use Rattle.predicates_rules.specs.Grammar.{Level, Items, last, another, IsTest, word, compare, compare_with, has_length, of_kind, of_null, relate, among_none, among, IsQuantifier, each, any, at_least_items, Spells, test, denied, group, quantified, at_least, alone, joined, Follow, no_more, and_more}
+use Rattle.predicates_rules.specs.Grammar.{Level, Items, last, another, IsTest, word, compare, compare_with, has_length, of_kind, of_null, relate, among_none, among, IsQuantifier, each, any, at_least_items, Spells, test, denied, group, quantified, at_least, alone, joined, no_if, implied, premise, Follow, no_more, and_more}
 
 items_shorten : {ts : List Sign} {vs : List Value} {rest : List Sign} → Items ts vs rest → length rest < length ts
 items_shorten last = omega arith
@@ -34,6 +34,9 @@ mutual
   spells_shortens (at_least d f) = omega (arith, spells_shortens d, follow_shortens f)
   spells_shortens (alone d) = spells_shortens d
   spells_shortens (joined d f) = omega (arith, spells_shortens d, follow_shortens f)
+  spells_shortens (no_if d) = spells_shortens d
+  spells_shortens (implied d g) = omega (arith, spells_shortens d, spells_shortens g)
+  spells_shortens (premise d) = spells_shortens d
 
   pub follow_shortens : {n : ℕ} {s : Separator} {ts : List Sign} {es : Trees} {rest : List Sign} → Follow n s ts es rest → length rest ≤ length ts
   follow_shortens no_more = omega arith

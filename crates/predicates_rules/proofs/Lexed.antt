@@ -15,8 +15,8 @@ use Rattle.predicates_rules.specs.declared.error.Expected.{Expected}
 use Rattle.predicates_rules.specs.declared.error.Expected.TheVariants as expected
 use Rattle.predicates_rules.specs.declared.stop.Stop.{Stop}
 use Rattle.predicates_rules.specs.Trees.{Value, Natural, Negative, Decimal, Text, Boolean, Null, Sign, Path, Plain}
-use Rattle.predicates_rules.specs.Answers.{◌>>=◌, stop_at}
-use Rattle.predicates_rules.specs.Lexemes.{text_of, sign_of_fixed, all_fixed, fixed_at, class_of, continues, text_end, class_len, cut, data_of, IsTextOf, begins_literal, is_hidden, is_shown, pointer, IsWritten, fixed_text, literal, path}
+use Rattle.predicates_rules.specs.Answers.{◌>>=◌}
+use Rattle.predicates_rules.specs.Lexemes.{text_of, sign_of_fixed, all_fixed, fixed_at, class_of, continues, text_end, class_len, cut, data_of, IsTextOf, begins_literal, is_hidden, is_shown, is_path, pointer, IsWritten, fixed_text, literal, path}
 use Rattle.predicates_rules.specs.Scanning.{number_in, value_in, value_at, sign_or, value_or, path_or, front_class, sign_in, with_word, token_at}
 use Rattle.predicates_rules.proofs.Loop.{ok_is}
 
@@ -104,22 +104,14 @@ pub no_text_shows : (word : List ℕ) → (IsUtf8 word → ⊥) → is_shown wor
 unfolding is_shown
 no_text_shows word h = rw (utf8_is_false word h) refl
 
-pub path_given : (c : Class) (left : ℕ) (word text p : List ℕ) → c ≡ Slash → is_shown word ≡ true → text ≡ word → ◌≡◌ {A = Result (List ℕ) Stop} (Ok (pointer text)) (Ok p) → sign_in c left word ≡ Ok (Path p)
-unfolding sign_in
-path_given c left word text p s u same e =
-    let e' : pointer word ≡ p = subst (λ (w : List ℕ). pointer w ≡ p) same (ok_is (pointer text) p e) in
-    rw (s, u, e') refl
-
-pub path_lacking : (c : Class) (left : ℕ) (word : List ℕ) → c ≡ Slash → is_shown word ≡ false → sign_in c left word ≡ Err (stop_at expected.Utf8 left)
-unfolding sign_in
-path_lacking c left word s h = rw (s, h) refl
-
 fixed_again : (left : ℕ) (f : Fixed) → sign_in (front_class (text_of f)) left (text_of f) ≡ Ok (sign_of_fixed f)
 unfolding sign_in fixed_at
 fixed_again left fixed.Or = refl
 fixed_again left fixed.Xor = refl
 fixed_again left fixed.And = refl
 fixed_again left fixed.Not = refl
+fixed_again left fixed.If = refl
+fixed_again left fixed.Then = refl
 fixed_again left fixed.Each = refl
 fixed_again left fixed.Any = refl
 fixed_again left fixed.At = refl
@@ -162,14 +154,18 @@ literal_in Digit left word v h e = rw e refl
 literal_in Quote left word v h e = rw e refl
 literal_in c left word v h e = absurd cc
 
-path_in : (c : Class) (left : ℕ) (word : List ℕ) → c ≡ Slash → is_shown word ≡ true → sign_in c left word ≡ Ok (Path (pointer word))
+path_in : (c : Class) (left : ℕ) (word : List ℕ) → c ≡ Slash → is_path word ≡ true → is_shown word ≡ true → sign_in c left word ≡ Ok (Path (pointer word))
 unfolding sign_in
-path_in c left word s u = rw (s, u) refl
+path_in c left word s p u = rw s (by_tests (is_path word) (is_shown word) p u)
+  where
+    by_tests : (is shows : Bool) → is ≡ true → shows ≡ true → path_or left word is shows ≡ Ok (Path (pointer word))
+    by_tests true true i h = refl
+    by_tests is shows i h = absurd cc
 
 written_again : (left : ℕ) {t : Sign} {word : List ℕ} → IsWritten t word → sign_in (front_class word) left word ≡ Ok t
 written_again left (fixed_text f) = fixed_again left f
 written_again left (literal b bytes v h u r t) = literal_in (class_of b) left (b ∷ bytes) v h (value_found (b ∷ bytes) v u r t)
-written_again left (path b bytes s u) = path_in (class_of b) left (b ∷ bytes) s u
+written_again left (path b bytes s p u) = path_in (class_of b) left (b ∷ bytes) s p u
 
 found_now : (p : Fixed → Bool) (g : Fixed) (fs : List Fixed) (f : Fixed) (t : Bool) → p g ≡ t → cond t (Some g) (find p fs) ≡ Some f → (find p fs ≡ Some f → p f ≡ true) → p f ≡ true
 found_now p g fs f true e k h = let same : g ≡ f = cc in subst (λ (x : Fixed). p x ≡ true) same e
@@ -194,9 +190,10 @@ literal_is x left b bytes t (Some v) c e h =
     let q = value_is (b ∷ bytes) v e in
     subst (λ (s : Sign). IsWritten s (b ∷ bytes)) (ok_is (Plain v) t h) (literal b bytes v c q.0 q.1 q.2)
 
-path_is : (left b : ℕ) (bytes : List ℕ) (t : Sign) (u : Bool) → class_of b ≡ Slash → is_shown (b ∷ bytes) ≡ u → path_or left (b ∷ bytes) u ≡ Ok t → IsWritten t (b ∷ bytes)
-path_is left b bytes t false c e h = absurd cc
-path_is left b bytes t true c e h = subst (λ (s : Sign). IsWritten s (b ∷ bytes)) (ok_is (Path (pointer (b ∷ bytes))) t h) (path b bytes c e)
+path_is : (left b : ℕ) (bytes : List ℕ) (t : Sign) (p u : Bool) → class_of b ≡ Slash → is_path (b ∷ bytes) ≡ p → is_shown (b ∷ bytes) ≡ u → path_or left (b ∷ bytes) p u ≡ Ok t → IsWritten t (b ∷ bytes)
+path_is left b bytes t true true c i e h = subst (λ (s : Sign). IsWritten s (b ∷ bytes)) (ok_is (Path (pointer (b ∷ bytes))) t h) (path b bytes c i e)
+path_is left b bytes t true false c i e h = absurd cc
+path_is left b bytes t false u c i e h = absurd cc
 
 written_by : (c : Class) (left b : ℕ) (bytes : List ℕ) (t : Sign) → class_of b ≡ c → sign_in c left (b ∷ bytes) ≡ Ok t → IsWritten t (b ∷ bytes)
 unfolding sign_in
@@ -205,7 +202,7 @@ written_by Symbol left b bytes t c h = word_is left (b ∷ bytes) t (fixed_at (b
 written_by Mark left b bytes t c h = word_is left (b ∷ bytes) t (fixed_at (b ∷ bytes)) refl h
 written_by Digit left b bytes t c h = literal_is expected.Number left b bytes t (value_at (b ∷ bytes)) (ap begins_literal c) refl h
 written_by Quote left b bytes t c h = literal_is expected.Escapes left b bytes t (value_at (b ∷ bytes)) (ap begins_literal c) refl h
-written_by Slash left b bytes t c h = path_is left b bytes t (is_shown (b ∷ bytes)) c refl h
+written_by Slash left b bytes t c h = path_is left b bytes t (is_path (b ∷ bytes)) (is_shown (b ∷ bytes)) c refl refl h
 written_by c left b bytes t d h = absurd cc
 
 written_is : (left : ℕ) (word : List ℕ) (t : Sign) → sign_in (front_class word) left word ≡ Ok t → IsWritten t word

@@ -1,5 +1,5 @@
 -- What is printed is spelled so.
-use Rattle.std.specs.Prelude.{◌&&◌}
+use Rattle.std.specs.Prelude.{◌&&◌, max}
 use Rattle.std.proofs.Common.{◌≡◌, ℕ, zero, suc, ◌≤◌, Bool, true, false, cond, List, [], ◌∷◌, ◌++◌, refl, sym, ap, subst, ◌∙◌, append_assoc, arith}
 use Rattle.predicates_rules.specs.declared.expression.Connective.{Connective}
 use Rattle.predicates_rules.specs.declared.expression.Connective.TheVariants.{Or, Xor, And}
@@ -9,9 +9,9 @@ use Rattle.predicates_rules.specs.declared.condition.ValueKind.{ValueKind}
 use Rattle.predicates_rules.specs.declared.condition.ValueKind.TheVariants as value_kinds
 use Rattle.predicates_rules.specs.declared.parser.Separator.{Separator}
 use Rattle.predicates_rules.specs.declared.parser.Separator.TheVariants as separators
-use Rattle.predicates_rules.specs.Trees.{Value, Natural, Sign, AtWord, Least, Of, Open, Close, End, Path, IsKind, Plain, Test, TheValueIs, Compares, ComparesWith, HasLength, IsOfKind, Relates, IsAmong, Tree, At, Denied, Quantified, Joined, AtLeast, Trees, none, more}
-use Rattle.predicates_rules.specs.Grammar.{Level, By, Single, tighter, separator_sign, part_level, Items, last, another, IsTest, word, compare, compare_with, has_length, of_kind, of_null, relate, among_none, among, IsQuantifier, each, any, at_least_items, Spells, test, denied, group, quantified, at_least, alone, joined, Follow, no_more, and_more, IsSpelled}
-use Rattle.predicates_rules.specs.Printing.{items_signs, kind_sign, test_signs, quantifier_signs, in_parentheses, fits, has_parts, stands_at, signs_at, part_signs, follow_signs, nesting_at, parts_nesting, IsSome, IsProper, AreMany, AreProper}
+use Rattle.predicates_rules.specs.Trees.{Value, Natural, Sign, If, Then, AtWord, Least, Of, Open, Close, End, Path, IsKind, Plain, Test, TheValueIs, Compares, ComparesWith, HasLength, IsOfKind, Relates, IsAmong, Tree, At, Denied, Implies, Quantified, Joined, AtLeast, Trees, none, more}
+use Rattle.predicates_rules.specs.Grammar.{Level, By, Single, Whole, Premise, tighter, separator_sign, part_level, Items, last, another, IsTest, word, compare, compare_with, has_length, of_kind, of_null, relate, among_none, among, IsQuantifier, each, any, at_least_items, Spells, test, denied, group, quantified, at_least, alone, joined, no_if, implied, premise, Follow, no_more, and_more, IsSpelled}
+use Rattle.predicates_rules.specs.Printing.{items_signs, kind_sign, test_signs, quantifier_signs, in_parentheses, fits, takes_if, has_parts, stands_at, signs_at, part_signs, follow_signs, nesting_at, parts_nesting, IsSome, IsProper, AreMany, AreProper}
 
 items_spelled : (v : Value) (vs : List Value) (rest : List Sign) → Items (items_signs (v ∷ vs) ++ rest) (v ∷ vs) rest
 items_spelled v [] rest = last
@@ -44,12 +44,25 @@ quantifier_spelled quantifiers.Each rest = each
 quantifier_spelled quantifiers.Any rest = any
 quantifier_spelled (quantifiers.AtLeast k) rest = at_least_items
 
+-- where something may be printed
+abbrev is_place : Level → Bool
+is_place Premise = false
+is_place l = true
+
+part_is_place : (s : Separator) → is_place (part_level s) ≡ true
+part_is_place (separators.Connective Or) = refl
+part_is_place (separators.Connective Xor) = refl
+part_is_place (separators.Connective And) = refl
+part_is_place separators.Comma = refl
+
 -- what is single may stand at each level
-single_at : (l : Level) {n : ℕ} {ts : List Sign} {e : Tree} {rest : List Sign} → Spells n Single ts e rest → Spells n l ts e rest
-single_at Single d = d
-single_at (By And) d = alone d
-single_at (By Xor) d = alone (alone d)
-single_at (By Or) d = alone (alone (alone d))
+single_at : (l : Level) {n : ℕ} {ts : List Sign} {e : Tree} {rest : List Sign} → is_place l ≡ true → Spells n Single ts e rest → Spells n l ts e rest
+single_at Single h d = d
+single_at (By And) h d = alone d
+single_at (By Xor) h d = alone (alone d)
+single_at (By Or) h d = alone (alone (alone d))
+single_at Whole h d = no_if (alone (alone (alone d)))
+single_at Premise h d = absurd cc
 
 joined_at : (l : Level) (c : Connective) {n : ℕ} {ts : List Sign} {e : Tree} {rest : List Sign} → fits l c ≡ true → Spells n (By c) ts e rest → Spells n l ts e rest
 joined_at (By Or) Or h d = d
@@ -58,7 +71,14 @@ joined_at (By Or) And h d = alone (alone d)
 joined_at (By Xor) Xor h d = d
 joined_at (By Xor) And h d = alone d
 joined_at (By And) And h d = d
+joined_at Whole Or h d = no_if d
+joined_at Whole Xor h d = no_if (alone d)
+joined_at Whole And h d = no_if (alone (alone d))
 joined_at l c h d = absurd cc
+
+implied_at : (l : Level) {n : ℕ} {ts : List Sign} {e : Tree} {rest : List Sign} → takes_if l ≡ true → Spells n Whole ts e rest → Spells n l ts e rest
+implied_at Whole h d = d
+implied_at l h d = absurd cc
 
 closed : (ts rest : List Sign) → in_parentheses ts ++ rest ≡ Open ∷ (ts ++ Close ∷ rest)
 closed ts rest = ap (λ (us : List Sign). Open ∷ us) (append_assoc ts (Close ∷ []) rest)
@@ -68,51 +88,65 @@ second_true true b h = h
 second_true false b h = absurd cc
 
 -- at its own level, or in parentheses
-placed : (b : Bool) (l : Level) (c : Connective) (n depth : ℕ) (e : Tree) (ts rest : List Sign) → (b ≡ true → fits l c ≡ true) → cond b depth (suc depth) ≤ n
-    → ((m : ℕ) (us : List Sign) → depth ≤ m → Spells m (By c) (ts ++ us) e us) → Spells n l (cond b ts (in_parentheses ts) ++ rest) e rest
-placed true l c n depth e ts rest h le d = joined_at l c (h refl) (d n rest le)
-placed false l c zero depth e ts rest h le d = absurd (omega arith)
-placed false l c (suc n) depth e ts rest h le d =
-    subst (λ (us : List Sign). Spells (suc n) l us e rest) (sym (closed ts rest)) (single_at l (group (joined_at (By Or) c refl (d n (Close ∷ rest) (omega arith)))))
+placed : (b : Bool) (k l : Level) (n depth : ℕ) (e : Tree) (ts rest : List Sign) → is_place l ≡ true → ((m : ℕ) (us vs : List Sign) → b ≡ true → Spells m k us e vs → Spells m l us e vs) → ((m : ℕ) (us vs : List Sign) → Spells m k us e vs → Spells m Whole us e vs)
+    → cond b depth (suc depth) ≤ n → ((m : ℕ) (us : List Sign) → depth ≤ m → Spells m k (ts ++ us) e us) → Spells n l (cond b ts (in_parentheses ts) ++ rest) e rest
+placed true k l n depth e ts rest place fit loose le d = fit n (ts ++ rest) rest refl (d n rest le)
+placed false k l zero depth e ts rest place fit loose le d = absurd (omega arith)
+placed false k l (suc n) depth e ts rest place fit loose le d =
+    subst (λ (us : List Sign). Spells (suc n) l us e rest) (sym (closed ts rest)) (single_at l place (group (loose n (ts ++ Close ∷ rest) (Close ∷ rest) (d n (Close ∷ rest) (omega arith)))))
 
 two_joined : (es : Trees) {n : ℕ} {c : Connective} {e : Tree} {ts us rest : List Sign} → IsSome es → Spells n (tighter c) ts e us → Follow n (separators.Connective c) us es rest → Spells n (By c) ts (Joined c (more e es)) rest
 two_joined none some d f = absurd some
 two_joined (more g es) some d f = joined d f
 
+-- as it is printed, at each depth that is enough
+abbrev IsSpelledWhole : Tree → Type 0
+IsSpelledWhole e = (n : ℕ) (rest : List Sign) → nesting_at Whole e ≤ n → Spells n Whole (signs_at Whole e ++ rest) e rest
+
+implied_spelled : (a b : Tree) (n : ℕ) (rest : List Sign) → IsSpelledWhole a → IsSpelledWhole b → suc (max (suc (nesting_at Whole a)) (nesting_at Whole b)) ≤ n → Spells n Whole ((If ∷ (signs_at Whole a ++ Then ∷ signs_at Whole b)) ++ rest) (Implies a b) rest
+implied_spelled a b zero rest p q le = absurd (omega arith)
+implied_spelled a b (suc zero) rest p q le = absurd (omega arith)
+implied_spelled a b (suc (suc n)) rest p q le =
+    subst (λ (us : List Sign). Spells (suc (suc n)) Whole (If ∷ us) (Implies a b) rest) (sym (append_assoc (signs_at Whole a) (Then ∷ signs_at Whole b) rest))
+    (implied (premise (p n (Then ∷ (signs_at Whole b ++ rest)) (omega arith))) (q (suc n) rest (omega arith)))
+
 mutual
-  pub spelled_at : (e : Tree) (l : Level) (n : ℕ) (rest : List Sign) → IsProper e → nesting_at l e ≤ n → Spells n l (signs_at l e ++ rest) e rest
-  spelled_at (At path t) l n rest p le = single_at l (test (test_spelled t rest))
-  spelled_at (Denied e) l zero rest p le = absurd (omega arith)
-  spelled_at (Denied e) l (suc n) rest p le = single_at l (denied (spelled_at e Single n rest p (omega arith)))
-  spelled_at (Quantified q path e) l zero rest p le = absurd (omega arith)
-  spelled_at (Quantified q path e) l (suc n) rest p le =
-      let front = append_assoc (quantifier_signs q) (Path path ∷ in_parentheses (signs_at (By Or) e)) rest ∙ ap (λ (us : List Sign). quantifier_signs q ++ Path path ∷ us) (closed (signs_at (By Or) e) rest) in
+  pub spelled_at : (e : Tree) (l : Level) (n : ℕ) (rest : List Sign) → is_place l ≡ true → IsProper e → nesting_at l e ≤ n → Spells n l (signs_at l e ++ rest) e rest
+  spelled_at (At path t) l n rest h p le = single_at l h (test (test_spelled t rest))
+  spelled_at (Denied e) l zero rest h p le = absurd (omega arith)
+  spelled_at (Denied e) l (suc n) rest h p le = single_at l h (denied (spelled_at e Single n rest refl p (omega arith)))
+  spelled_at (Implies a b) l n rest h p le =
+      placed (takes_if l) Whole l n (suc (max (suc (nesting_at Whole a)) (nesting_at Whole b))) (Implies a b) (If ∷ (signs_at Whole a ++ Then ∷ signs_at Whole b)) rest h (λ m us vs t d. implied_at l t d) (λ m us vs d. d) le (λ m us k. implied_spelled a b m us (λ n vs r. spelled_at a Whole n vs refl p.0 r) (λ n vs r. spelled_at b Whole n vs refl p.1 r) k)
+  spelled_at (Quantified q path e) l zero rest h p le = absurd (omega arith)
+  spelled_at (Quantified q path e) l (suc n) rest h p le =
+      let front = append_assoc (quantifier_signs q) (Path path ∷ in_parentheses (signs_at Whole e)) rest ∙ ap (λ (us : List Sign). quantifier_signs q ++ Path path ∷ us) (closed (signs_at Whole e) rest) in
       subst (λ (us : List Sign). Spells (suc n) l us (Quantified q path e) rest) (sym front)
-      (single_at l (quantified (quantifier_spelled q (Path path ∷ Open ∷ (signs_at (By Or) e ++ Close ∷ rest))) (spelled_at e (By Or) n (Close ∷ rest) p (omega arith))))
-  spelled_at (Joined c es) l n rest p le =
-      placed (stands_at l c es) l c n (parts_nesting (separators.Connective c) es) (Joined c es) (part_signs (separators.Connective c) es) rest (second_true (has_parts es) (fits l c)) le (λ m us h. many_spelled es c m us p h)
-  spelled_at (AtLeast k es) l zero rest p le = absurd (omega arith)
-  spelled_at (AtLeast k es) l (suc n) rest p le =
+      (single_at l h (quantified (quantifier_spelled q (Path path ∷ Open ∷ (signs_at Whole e ++ Close ∷ rest))) (spelled_at e Whole n (Close ∷ rest) refl p (omega arith))))
+  spelled_at (Joined c es) l n rest h p le =
+      placed (stands_at l c es) (By c) l n (parts_nesting (separators.Connective c) es) (Joined c es) (part_signs (separators.Connective c) es) rest h (λ m us vs t d. joined_at l c (second_true (has_parts es) (fits l c) t) d) (λ m us vs d. joined_at Whole c refl d) le
+      (λ m us k. many_spelled es c m us p k)
+  spelled_at (AtLeast k es) l zero rest h p le = absurd (omega arith)
+  spelled_at (AtLeast k es) l (suc n) rest h p le =
       subst (λ (us : List Sign). Spells (suc n) l (AtWord ∷ Least ∷ Plain (Natural k) ∷ Of ∷ us) (AtLeast k es) rest) (sym (closed (part_signs separators.Comma es) rest))
-      (single_at l (listed_spelled es k n rest p.0 p.1 (omega arith)))
+      (single_at l h (listed_spelled es k n rest p.0 p.1 (omega arith)))
 
   listed_spelled : (es : Trees) (k n : ℕ) (rest : List Sign) → IsSome es → AreProper es → parts_nesting separators.Comma es ≤ n → Spells (suc n) Single (AtWord ∷ Least ∷ Plain (Natural k) ∷ Of ∷ Open ∷ (part_signs separators.Comma es ++ Close ∷ rest)) (AtLeast k es) rest
   listed_spelled none k n rest some p le = absurd some
   listed_spelled (more e es) k n rest some p le =
-      subst (λ (us : List Sign). Spells (suc n) Single (AtWord ∷ Least ∷ Plain (Natural k) ∷ Of ∷ Open ∷ us) (AtLeast k (more e es)) rest) (sym (append_assoc (signs_at (By Or) e) (follow_signs separators.Comma es) (Close ∷ rest)))
-      (at_least (spelled_at e (By Or) n (follow_signs separators.Comma es ++ Close ∷ rest) p.0 (omega arith)) (rest_spelled es separators.Comma n (Close ∷ rest) p.1 (omega arith)))
+      subst (λ (us : List Sign). Spells (suc n) Single (AtWord ∷ Least ∷ Plain (Natural k) ∷ Of ∷ Open ∷ us) (AtLeast k (more e es)) rest) (sym (append_assoc (signs_at Whole e) (follow_signs separators.Comma es) (Close ∷ rest)))
+      (at_least (spelled_at e Whole n (follow_signs separators.Comma es ++ Close ∷ rest) refl p.0 (omega arith)) (rest_spelled es separators.Comma n (Close ∷ rest) p.1 (omega arith)))
 
   many_spelled : (es : Trees) (c : Connective) (n : ℕ) (rest : List Sign) → AreMany es → parts_nesting (separators.Connective c) es ≤ n → Spells n (By c) (part_signs (separators.Connective c) es ++ rest) (Joined c es) rest
   many_spelled none c n rest p le = absurd p
   many_spelled (more e es) c n rest p le =
       subst (λ (us : List Sign). Spells n (By c) us (Joined c (more e es)) rest) (sym (append_assoc (signs_at (tighter c) e) (follow_signs (separators.Connective c) es) rest))
-      (two_joined es p.1 (spelled_at e (tighter c) n (follow_signs (separators.Connective c) es ++ rest) p.0 (omega arith)) (rest_spelled es (separators.Connective c) n rest p.2 (omega arith)))
+      (two_joined es p.1 (spelled_at e (tighter c) n (follow_signs (separators.Connective c) es ++ rest) (part_is_place (separators.Connective c)) p.0 (omega arith)) (rest_spelled es (separators.Connective c) n rest p.2 (omega arith)))
 
   rest_spelled : (es : Trees) (s : Separator) (n : ℕ) (rest : List Sign) → AreProper es → parts_nesting s es ≤ n → Follow n s (follow_signs s es ++ rest) es rest
   rest_spelled none s n rest p le = no_more
   rest_spelled (more e es) s n rest p le =
       subst (λ (us : List Sign). Follow n s (separator_sign s ∷ us) (more e es) rest) (sym (append_assoc (signs_at (part_level s) e) (follow_signs s es) rest))
-      (and_more (spelled_at e (part_level s) n (follow_signs s es ++ rest) p.0 (omega arith)) (rest_spelled es s n rest p.1 (omega arith)))
+      (and_more (spelled_at e (part_level s) n (follow_signs s es ++ rest) (part_is_place s) p.0 (omega arith)) (rest_spelled es s n rest p.1 (omega arith)))
 
-pub printed : (n : ℕ) (e : Tree) → IsProper e → nesting_at (By Or) e ≤ n → IsSpelled n (signs_at (By Or) e ++ End ∷ []) e
-printed n e p le = spelled_at e (By Or) n (End ∷ []) p le
+pub printed : (n : ℕ) (e : Tree) → IsProper e → nesting_at Whole e ≤ n → IsSpelled n (signs_at Whole e ++ End ∷ []) e
+printed n e p le = spelled_at e Whole n (End ∷ []) refl p le

@@ -21,7 +21,7 @@ use Rattle.predicates_rules.specs.declared.lexer.Class.TheVariants.{Letter, Digi
 use Rattle.predicates_rules.specs.declared.fixed.Fixed.{Fixed}
 use Rattle.predicates_rules.specs.declared.fixed.Fixed.TheVariants as fixed
 use Rattle.predicates_rules.specs.Trees.{Value, Natural, Negative, Decimal, Text, Boolean, Null, Sign, Path, Plain}
-use Rattle.predicates_rules.specs.Lexemes.{sign_of_fixed, is_letter, is_digit, is_symbol, is_mark, class_of, continues, class_len, cut, is_shown, data_of, IsTextOf, begins_literal, pointer, IsWritten, fixed_text, literal, path, IsLexed, over, space, token}
+use Rattle.predicates_rules.specs.Lexemes.{sign_of_fixed, is_letter, is_digit, is_symbol, is_mark, class_of, continues, class_len, cut, is_shown, is_path, data_of, IsTextOf, begins_literal, pointer, IsWritten, fixed_text, literal, path, IsLexed, over, space, token}
 use Rattle.predicates_rules.specs.Printing.{IsPath, IsDecimal, IsValue}
 use Rattle.predicates_rules.proofs.Lexed.{some_is}
 use Rattle.predicates_rules.proofs.Contents.{content_text, past_ascii}
@@ -170,15 +170,6 @@ by_digit false false false false true f h = absurd cc
 by_digit false false false false false true h = absurd cc
 by_digit false false false false false false h = absurd cc
 
-by_slash : (a b c d e f : Bool) → cond a Letter (cond b Digit (cond c Symbol (cond d Mark (cond e Slash (cond f Quote Other))))) ≡ Slash → e ≡ true
-by_slash true b c d e f h = absurd cc
-by_slash false true c d e f h = absurd cc
-by_slash false false true d e f h = absurd cc
-by_slash false false false true e f h = absurd cc
-by_slash false false false false true f h = refl
-by_slash false false false false false true h = absurd cc
-by_slash false false false false false false h = absurd cc
-
 by_quote : (a b c d e f : Bool) → cond a Letter (cond b Digit (cond c Symbol (cond d Mark (cond e Slash (cond f Quote Other))))) ≡ Quote → f ≡ true
 by_quote true b c d e f h = absurd cc
 by_quote false true c d e f h = absurd cc
@@ -188,15 +179,12 @@ by_quote false false false false true f h = absurd cc
 by_quote false false false false false true h = refl
 by_quote false false false false false false h = absurd cc
 
-slash_byte : (b : ℕ) → class_of b ≡ Slash → b ≡ 47
-slash_byte b h = eqb-true b 47 (by_slash (is_letter b) (is_digit b || b == 45) (is_symbol b) (is_mark b) (b == 47) (b == 34) h)
-
 quote_byte : (b : ℕ) → class_of b ≡ Quote → b ≡ 34
-quote_byte b h = eqb-true b 34 (by_quote (is_letter b) (is_digit b || b == 45) (is_symbol b) (is_mark b) (b == 47) (b == 34) h)
+quote_byte b h = eqb-true b 34 (by_quote (is_letter b) (is_digit b || b == 45) (is_symbol b) (is_mark b) (b == 47 || b == 94) (b == 34) h)
 
 digit_byte : (b : ℕ) → class_of b ≡ Digit → (45 ≤ b) × (b ≤ 57)
 digit_byte b h = or_parted (is_digit b) (b == 45) (λ e. let p = and_parts (nat_le 48 b) (nat_le b 57) e in (omega (arith, leb-true 48 b p.0), leb-true b 57 p.1)) (λ e. let is = eqb-true b 45 e in (omega (arith, is), omega (arith, is)))
-    (by_digit (is_letter b) (is_digit b || b == 45) (is_symbol b) (is_mark b) (b == 47) (b == 34) h)
+    (by_digit (is_letter b) (is_digit b || b == 45) (is_symbol b) (is_mark b) (b == 47 || b == 94) (b == 34) h)
 
 digit_class : (b : ℕ) → (45 ≤ b) × (b ≤ 57) → class b ≡ other
 digit_class b h =
@@ -301,6 +289,8 @@ fixed_plain fixed.Or = tt
 fixed_plain fixed.Xor = tt
 fixed_plain fixed.And = tt
 fixed_plain fixed.Not = tt
+fixed_plain fixed.If = tt
+fixed_plain fixed.Then = tt
 fixed_plain fixed.Each = tt
 fixed_plain fixed.Any = tt
 fixed_plain fixed.At = tt
@@ -337,9 +327,18 @@ fixed_plain fixed.OpenList = tt
 fixed_plain fixed.CloseList = tt
 fixed_plain fixed.Comma = tt
 
-path_plain : (b : ℕ) (bytes : List ℕ) → class_of b ≡ Slash → list_all (continues Slash) bytes ≡ true → is_shown (b ∷ bytes) ≡ true → IsPath (pointer (b ∷ bytes))
+-- how what is a path begins
+begins_by : (b c : ℕ) → (b == 47 || b == 94 && c == 47) ≡ true → (b ≡ 47) ⊎ (b ≡ 94) × (c ≡ 47)
+begins_by b c = or_parted (b == 47) (b == 94 && c == 47) (λ e. inl (eqb-true b 47 e)) (λ e. let p = and_parts (b == 94) (c == 47) e in inr (eqb-true b 94 p.0, eqb-true c 47 p.1))
+
+short_path : (b c : ℕ) (t : Bool) → (b == 94 && c == 47) ≡ t → (b == 47 || b == 94 && c == 47) ≡ true → list_all (continues Slash) (c ∷ []) ≡ true → is_shown (b ∷ c ∷ []) ≡ true → IsPath (cond t (b ∷ []) (b ∷ c ∷ []))
+short_path b c true e h all shown = eqb-true b 94 (and_parts (b == 94) (c == 47) e).0
+short_path b c false e h all shown = (or_parted (b == 47) (b == 94 && c == 47) (eqb-true b 47) (λ k. let both : true ≡ false = sym k ∙ e in absurd cc) h, all, shown)
+
+path_plain : (b : ℕ) (bytes : List ℕ) → is_path (b ∷ bytes) ≡ true → list_all (continues Slash) bytes ≡ true → is_shown (b ∷ bytes) ≡ true → IsPath (pointer (b ∷ bytes))
 path_plain b [] h all shown = tt
-path_plain b (c ∷ bytes) h all shown = (slash_byte b h, all, shown)
+path_plain b (c ∷ []) h all shown = short_path b c (b == 94 && c == 47) refl h all shown
+path_plain b (c ∷ d ∷ bytes) h all shown = (begins_by b c h, all, shown)
 
 value_plain : (v : Value) (b : ℕ) (bytes : List ℕ) → (class_of b ≡ Digit) ⊎ (class_of b ≡ Quote) → (class_of b ≡ Digit → list_all (continues Digit) bytes ≡ true) → is_utf8 (b ∷ bytes) ≡ true → read (b ∷ bytes) ≡ Some (data_of v) → IsTextOf v (b ∷ bytes) → IsValue v
 value_plain (Natural n) b bytes c all u r same = read_number (b ∷ bytes) (unsigned n) r
@@ -355,7 +354,7 @@ value_plain Null b bytes c all u r same = tt
 word_plain : (text rest : List ℕ) {t : Sign} {w : List ℕ} → cut text ≡ Some (w, rest) → IsWritten t w → IsPlainSign t
 word_plain text rest c (fixed_text f) = fixed_plain f
 word_plain text rest c (literal b bytes v h u r same) = value_plain v b bytes (literal_class (class_of b) h) (λ digit. cut_bytes Digit text b bytes rest refl digit c) u r same
-word_plain text rest c (path b bytes h shown) = path_plain b bytes h (cut_bytes Slash text b bytes rest refl h c) shown
+word_plain text rest c (path b bytes h is shown) = path_plain b bytes is (cut_bytes Slash text b bytes rest refl h c) shown
 
 abbrev pub ArePlainSigns : List Sign → Type 0
 ArePlainSigns [] = Unit {0}

@@ -1,15 +1,15 @@
 -- What is read can be written again, and nests no deeper then.
-use Rattle.std.specs.Prelude.{◌&&◌}
+use Rattle.std.specs.Prelude.{◌&&◌, max}
 use Rattle.std.proofs.Common.{◌≡◌, ℕ, suc, ◌≤◌, Bool, true, false, cond, List, refl, arith}
 use Rattle.predicates_rules.specs.declared.expression.Connective.{Connective}
 use Rattle.predicates_rules.specs.declared.expression.Connective.TheVariants.{Or, Xor, And}
 use Rattle.predicates_rules.specs.declared.expression.Quantifier.{Quantifier}
 use Rattle.predicates_rules.specs.declared.parser.Separator.{Separator}
 use Rattle.predicates_rules.specs.declared.parser.Separator.TheVariants as separators
-use Rattle.predicates_rules.specs.Trees.{Value, Sign, Test, Tree, At, Denied, Quantified, Joined, AtLeast, Trees, more}
-use Rattle.predicates_rules.specs.Grammar.{Level, By, Single, tighter, Items, last, another, IsTest, word, compare, compare_with, has_length, of_kind, of_null, relate, among_none, among, IsQuantifier, each, any, at_least_items, Spells, test, denied, group, quantified, at_least, alone, joined, Follow, no_more, and_more}
+use Rattle.predicates_rules.specs.Trees.{Value, Sign, Test, Tree, At, Denied, Implies, Quantified, Joined, AtLeast, Trees, more}
+use Rattle.predicates_rules.specs.Grammar.{Level, By, Single, Whole, Premise, tighter, Items, last, another, IsTest, word, compare, compare_with, has_length, of_kind, of_null, relate, among_none, among, IsQuantifier, each, any, at_least_items, Spells, test, denied, group, quantified, at_least, alone, joined, no_if, implied, premise, Follow, no_more, and_more}
 use Rattle.predicates_rules.specs.Rules.{Says}
-use Rattle.predicates_rules.specs.Printing.{fits, has_parts, stands_at, nesting_at, parts_nesting, IsProper, AreProper, AreValues, IsPlainTest, IsPlainQuantifier, IsPlain, ArePlain, printed}
+use Rattle.predicates_rules.specs.Printing.{fits, takes_if, has_parts, stands_at, nesting_at, parts_nesting, IsProper, AreProper, AreValues, IsPlainTest, IsPlainQuantifier, IsPlain, ArePlain, printed}
 use Rattle.predicates_rules.proofs.Readable.{ArePlainSigns, lexed_plain}
 use Rattle.predicates_rules.proofs.Spaced.{printed_says}
 
@@ -20,11 +20,12 @@ by_fits false true k = omega arith
 by_fits false false k = omega arith
 
 -- parentheses make one more
-in_parentheses : (l : Level) (e : Tree) → nesting_at l e ≤ suc (nesting_at (By Or) e)
+in_parentheses : (l : Level) (e : Tree) → nesting_at l e ≤ suc (nesting_at Whole e)
 in_parentheses l (At path t) = omega arith
 in_parentheses l (Denied e) = omega arith
+in_parentheses l (Implies a b) = by_fits (takes_if l) true (suc (max (suc (nesting_at Whole a)) (nesting_at Whole b)))
 in_parentheses l (Quantified q path e) = omega arith
-in_parentheses l (Joined c es) = by_fits (stands_at l c es) (stands_at (By Or) c es) (parts_nesting (separators.Connective c) es)
+in_parentheses l (Joined c es) = by_fits (stands_at l c es) (stands_at Whole c es) (parts_nesting (separators.Connective c) es)
 in_parentheses l (AtLeast k es) = omega arith
 
 by_less : (parts a b : Bool) (k : ℕ) → (b ≡ true → a ≡ true) → cond (parts && a) k (suc k) ≤ cond (parts && b) k (suc k)
@@ -49,9 +50,29 @@ fits_looser And And h = refl
 looser : (c : Connective) (e : Tree) → nesting_at (By c) e ≤ nesting_at (tighter c) e
 looser c (At path t) = omega arith
 looser c (Denied e) = omega arith
+looser Or (Implies a b) = omega arith
+looser Xor (Implies a b) = omega arith
+looser And (Implies a b) = omega arith
 looser c (Quantified q path e) = omega arith
 looser c (Joined d es) = by_less (has_parts es) (fits (By c) d) (fits (tighter c) d) (parts_nesting (separators.Connective d) es) (fits_looser c d)
 looser c (AtLeast k es) = omega arith
+
+-- where an implication may stand too, no more parentheses are needed
+loosest : (e : Tree) → nesting_at Whole e ≤ nesting_at (By Or) e
+loosest (At path t) = omega arith
+loosest (Denied e) = omega arith
+loosest (Implies a b) = omega arith
+loosest (Quantified q path e) = omega arith
+loosest (Joined c es) = omega arith
+loosest (AtLeast k es) = omega arith
+
+by_place : (a : Bool) (k n : ℕ) → k ≤ n → k ≤ cond a n (suc n)
+by_place true k n h = h
+by_place false k n h = omega (arith, h)
+
+-- what denies the premise nests no deeper than the implication
+pub denied_nests : (l m : Level) (a b : Tree) → nesting_at l (Denied a) ≤ nesting_at m (Implies a b)
+denied_nests l m a b = by_place (takes_if m) (suc (nesting_at Single a)) (suc (max (suc (nesting_at Whole a)) (nesting_at Whole b))) (omega (arith, in_parentheses Single a))
 
 fits_itself : (c : Connective) → fits (By c) c ≡ true
 fits_itself Or = refl
@@ -76,6 +97,12 @@ mutual
       let p = spells_proper d in
       let q = follow_proper g in
       ((p.0, tt, q.0), joined_nests c (parts_nesting (separators.Connective c) (more e (more f es))) n (omega (arith, p.1, q.1)))
+  spells_proper (no_if {e = e} d) = let p = spells_proper d in (p.0, omega (arith, p.1, loosest e))
+  spells_proper (implied (premise d) g) =
+      let p = spells_proper d in
+      let q = spells_proper g in
+      ((p.0, q.0), omega (arith, p.1, q.1))
+  spells_proper (premise {e = e} d) = let p = spells_proper d in (p.0, omega (arith, p.1, in_parentheses Premise e))
 
   pub follow_proper : {n : ℕ} {s : Separator} {ts : List Sign} {es : Trees} {rest : List Sign} → Follow n s ts es rest → AreProper es × (parts_nesting s es ≤ n)
   follow_proper no_more = (tt, omega arith)
@@ -124,6 +151,12 @@ mutual
       let p = spells_plain d a in
       let q = follow_plain g p.1 in
       ((p.0, q.0), q.1)
+  spells_plain (no_if d) a = spells_plain d a
+  spells_plain (implied d g) a =
+      let p = spells_plain d a.1 in
+      let q = spells_plain g p.1.1 in
+      ((p.0, q.0), q.1)
+  spells_plain (premise d) a = spells_plain d a
 
   follow_plain : {n : ℕ} {s : Separator} {ts : List Sign} {es : Trees} {rest : List Sign} → Follow n s ts es rest → ArePlainSigns ts → ArePlain es × ArePlainSigns rest
   follow_plain no_more a = (tt, a)

@@ -15,10 +15,10 @@ use Rattle.predicates_rules.specs.declared.stop.Stop.{Stop}
 use Rattle.predicates_rules.specs.declared.error.Expected.{Expected}
 use Rattle.predicates_rules.specs.declared.error.Expected.TheVariants as expected
 use Rattle.predicates_rules.specs.declared.expression.Expression.{Expression}
-use Rattle.predicates_rules.specs.Trees.{tree_of, Value, Natural, Text, Null, Sign, Not, Each, Any, AtWord, Least, Of, Open, Close, OpenList, CloseList, Comma, Path, Compare, Relate, In, Is, Length, IsKind, KindName, Plain, End, Test, TheValueIs, Compares, ComparesWith, HasLength, IsOfKind, Relates, IsAmong, Tree, At, Denied, Quantified, AtLeast, Trees, none, more}
-use Rattle.predicates_rules.specs.Grammar.{Level, By, Single, tighter, separator_sign, part_level, Items, last, another, IsTest, word, compare, compare_with, has_length, of_kind, of_null, relate, among_none, among, IsQuantifier, each, any, at_least_items, Spells, test, denied, group, quantified, at_least, alone, joined, Follow, no_more, and_more, IsSpelled}
+use Rattle.predicates_rules.specs.Trees.{tree_of, Value, Natural, Text, Null, Sign, Not, If, Then, Each, Any, AtWord, Least, Of, Open, Close, OpenList, CloseList, Comma, Path, Compare, Relate, In, Is, Length, IsKind, KindName, Plain, End, Test, TheValueIs, Compares, ComparesWith, HasLength, IsOfKind, Relates, IsAmong, Tree, At, Denied, Implies, Quantified, AtLeast, Trees, none, more}
+use Rattle.predicates_rules.specs.Grammar.{Level, By, Single, Whole, Premise, tighter, separator_sign, part_level, Items, last, another, IsTest, word, compare, compare_with, has_length, of_kind, of_null, relate, among_none, among, IsQuantifier, each, any, at_least_items, Spells, test, denied, group, quantified, at_least, alone, joined, no_if, implied, premise, Follow, no_more, and_more, IsSpelled}
 use Rattle.predicates_rules.specs.Answers.{◌>>=◌, Gives}
-use Rattle.predicates_rules.specs.Reading.{Answer, items_at, list_at, after_bracket, text_at, compared_at, comparison_at, length_at, kind_at, test_at, path_at, after_open, after_close, after_least, count_at, after_separator, with_next, parts_at, join, chain, listed, counted, threshold, single, at_level, part_at, below, is_end, fails, ended, all_of}
+use Rattle.predicates_rules.specs.Reading.{Answer, items_at, list_at, after_bracket, text_at, compared_at, comparison_at, length_at, kind_at, test_at, path_at, after_open, after_close, after_then, after_least, count_at, after_separator, with_next, parts_at, join, chain, listed, counted, threshold, single, loosest, implication, whole, at_level, part_at, below, is_end, fails, ended, all_of}
 use Rattle.predicates_rules.specs.Reading as reading
 use Rattle.predicates_rules.proofs.Loop.{ok_is}
 use Rattle.predicates_rules.proofs.Steps.{separator_is, bind_ok}
@@ -117,6 +117,11 @@ unfolding after_close
 close_is x (Close ∷ ts) us e = ap (λ (y : List Sign). Close ∷ y) (ok_is ts us e)
 close_is x ts us e = absurd cc
 
+then_is : (ts us : List Sign) → after_then ts ≡ Ok us → ts ≡ Then ∷ us
+unfolding after_then
+then_is (Then ∷ ts) us e = ap (λ (y : List Sign). Then ∷ y) (ok_is ts us e)
+then_is ts us e = absurd cc
+
 least_is : (ts us : List Sign) → after_least ts ≡ Ok us → ts ≡ Least ∷ us
 unfolding after_least
 least_is (Least ∷ ts) us e = ap (λ (y : List Sign). Least ∷ y) (ok_is ts us e)
@@ -144,14 +149,14 @@ abbrev pub IsRightBelow : ℕ → Type 0
 IsRightBelow n = (l : Level) (ts : List Sign) (x : Tree × List Sign) → below n l ts ≡ Ok x → (m : ℕ) × (n ≡ suc m) × Spells m l ts x.0 x.1
 
 module _ (n : ℕ) (right : IsRightBelow n) where
-  group_is : (ts : List Sign) (x : Tree × List Sign) → reading.group (below n) ts ≡ Ok x → (m : ℕ) × (n ≡ suc m) × Spells m (By Or) ts x.0 (Close ∷ x.1)
+  group_is : (ts : List Sign) (x : Tree × List Sign) → reading.group (below n) ts ≡ Ok x → (m : ℕ) × (n ≡ suc m) × Spells m Whole ts x.0 (Close ∷ x.1)
   unfolding reading.group
   group_is ts x e =
-      let a = bind_ok (below n (By Or) ts) (λ y. after_close expected.Close y.1 >>= λ rest. Ok (y.0, rest)) x e in
+      let a = bind_ok (below n Whole ts) (λ y. after_close expected.Close y.1 >>= λ rest. Ok (y.0, rest)) x e in
       let b = bind_ok (after_close expected.Close a.0.1) (λ rest. Ok (a.0.0, rest)) x a.2 in
-      let d = right (By Or) ts a.0 a.1 in
-      let inner = subst (λ (us : List Sign). Spells d.0 (By Or) ts a.0.0 us) (close_is expected.Close a.0.1 b.0 b.1) d.2 in
-      (d.0, d.1, subst (λ (y : Tree × List Sign). Spells d.0 (By Or) ts y.0 (Close ∷ y.1)) (ok_is (a.0.0, b.0) x b.2) inner)
+      let d = right Whole ts a.0 a.1 in
+      let inner = subst (λ (us : List Sign). Spells d.0 Whole ts a.0.0 us) (close_is expected.Close a.0.1 b.0 b.1) d.2 in
+      (d.0, d.1, subst (λ (y : Tree × List Sign). Spells d.0 Whole ts y.0 (Close ∷ y.1)) (ok_is (a.0.0, b.0) x b.2) inner)
 
   quantified_is : (q : Quantifier) (front ts : List Sign) (x : Tree × List Sign) → IsQuantifier front q ts → reading.quantified (below n) q ts ≡ Ok x → Spells n Single front x.0 x.1
   unfolding reading.quantified
@@ -169,13 +174,13 @@ module _ (n : ℕ) (right : IsRightBelow n) where
   listed_is : (k : ℕ) (ts : List Sign) (x : Tree × List Sign) → listed (below n) k ts ≡ Ok x → Spells n Single (AtWord ∷ Least ∷ Plain (Natural k) ∷ Of ∷ Open ∷ ts) x.0 x.1
   unfolding listed
   listed_is k ts x e =
-      let a = bind_ok (below n (By Or) ts) (λ y. parts_at (length y.1) separators.Comma (below n (By Or)) y.1 >>= λ z. after_close expected.PartsGoOn z.1 >>= λ rest. Ok (AtLeast k (more y.0 z.0), rest)) x e in
-      let b = bind_ok (parts_at (length a.0.1) separators.Comma (below n (By Or)) a.0.1) (λ z. after_close expected.PartsGoOn z.1 >>= λ rest. Ok (AtLeast k (more a.0.0 z.0), rest)) x a.2 in
+      let a = bind_ok (below n Whole ts) (λ y. parts_at (length y.1) separators.Comma (below n Whole) y.1 >>= λ z. after_close expected.PartsGoOn z.1 >>= λ rest. Ok (AtLeast k (more y.0 z.0), rest)) x e in
+      let b = bind_ok (parts_at (length a.0.1) separators.Comma (below n Whole) a.0.1) (λ z. after_close expected.PartsGoOn z.1 >>= λ rest. Ok (AtLeast k (more a.0.0 z.0), rest)) x a.2 in
       let c = bind_ok (after_close expected.PartsGoOn b.0.1) (λ rest. Ok (AtLeast k (more a.0.0 b.0.0), rest)) x b.2 in
-      let d = right (By Or) ts a.0 a.1 in
-      let part : (us : List Sign) (y : Tree × List Sign) → below n (By Or) us ≡ Ok y → Spells d.0 (By Or) us y.0 y.1 =
-      λ us y h. let s = right (By Or) us y h in subst (λ (m : ℕ). Spells m (By Or) us y.0 y.1) (omega (arith, s.1, d.1)) s.2 in
-      let others = subst (λ (us : List Sign). Follow d.0 separators.Comma a.0.1 b.0.0 us) (close_is expected.PartsGoOn b.0.1 c.0 c.1) (parts_are d.0 (length a.0.1) separators.Comma (below n (By Or)) part a.0.1 b.0 b.1) in
+      let d = right Whole ts a.0 a.1 in
+      let part : (us : List Sign) (y : Tree × List Sign) → below n Whole us ≡ Ok y → Spells d.0 Whole us y.0 y.1 =
+      λ us y h. let s = right Whole us y h in subst (λ (m : ℕ). Spells m Whole us y.0 y.1) (omega (arith, s.1, d.1)) s.2 in
+      let others = subst (λ (us : List Sign). Follow d.0 separators.Comma a.0.1 b.0.0 us) (close_is expected.PartsGoOn b.0.1 c.0 c.1) (parts_are d.0 (length a.0.1) separators.Comma (below n Whole) part a.0.1 b.0 b.1) in
       let spelled : Spells (suc d.0) Single (AtWord ∷ Least ∷ Plain (Natural k) ∷ Of ∷ Open ∷ ts) (AtLeast k (more a.0.0 b.0.0)) c.0 = at_least d.2 others in
       let made = subst (λ (y : Tree × List Sign). Spells (suc d.0) Single (AtWord ∷ Least ∷ Plain (Natural k) ∷ Of ∷ Open ∷ ts) y.0 y.1) (ok_is (AtLeast k (more a.0.0 b.0.0), c.0) x c.2) spelled in
       subst (λ (m : ℕ). Spells m Single (AtWord ∷ Least ∷ Plain (Natural k) ∷ Of ∷ Open ∷ ts) x.0 x.1) (sym d.1) made
@@ -227,12 +232,42 @@ module _ (n : ℕ) (right : IsRightBelow n) where
       subst (λ (y : Tree × List Sign). Spells n (By c) ts y.0 y.1) (ok_is (join c a.0.0 b.0.0, b.0.1) x b.2)
       (join_spelled c ts a.0.1 b.0.1 a.0.0 b.0.0 (h ts a.0 a.1) (parts_are n (length a.0.1) (separators.Connective c) part h a.0.1 b.0 b.1))
 
+  loosest_is : (ts : List Sign) (x : Tree × List Sign) → loosest (below n) ts ≡ Ok x → Spells n (By Or) ts x.0 x.1
+  loosest_is = chain_is Or (chain Xor (chain And (single (below n)))) (chain_is Xor (chain And (single (below n))) (chain_is And (single (below n)) single_is))
+
+  implied_is : (ts : List Sign) (x : Tree × List Sign) → implication (below n) ts ≡ Ok x → Spells n Whole (If ∷ ts) x.0 x.1
+  unfolding implication
+  implied_is ts x e =
+      let a = bind_ok (below n Premise ts) (λ y. after_then y.1 >>= λ us. below n Whole us >>= λ z. Ok (Implies y.0 z.0, z.1)) x e in
+      let b = bind_ok (after_then a.0.1) (λ us. below n Whole us >>= λ z. Ok (Implies a.0.0 z.0, z.1)) x a.2 in
+      let c = bind_ok (below n Whole b.0) (λ z. Ok (Implies a.0.0 z.0, z.1)) x b.2 in
+      let d = right Premise ts a.0 a.1 in
+      let g = right Whole b.0 c.0 c.1 in
+      let first = subst (λ (us : List Sign). Spells d.0 Premise ts a.0.0 us) (then_is a.0.1 b.0 b.1) d.2 in
+      let second = subst (λ (m : ℕ). Spells m Whole b.0 c.0.0 c.0.1) (omega (arith, d.1, g.1)) g.2 in
+      let spelled : Spells (suc d.0) Whole (If ∷ ts) (Implies a.0.0 c.0.0) c.0.1 = implied first second in
+      let made = subst (λ (y : Tree × List Sign). Spells (suc d.0) Whole (If ∷ ts) y.0 y.1) (ok_is (Implies a.0.0 c.0.0, c.0.1) x c.2) spelled in
+      subst (λ (m : ℕ). Spells m Whole (If ∷ ts) x.0 x.1) (sym d.1) made
+
+  whole_is : (ts : List Sign) (x : Tree × List Sign) → whole (below n) ts ≡ Ok x → Spells n Whole ts x.0 x.1
+  unfolding whole
+  whole_is (If ∷ ts) x e = implied_is ts x e
+  whole_is (Path path ∷ ts) x e = no_if (loosest_is (Path path ∷ ts) x e)
+  whole_is (Not ∷ ts) x e = no_if (loosest_is (Not ∷ ts) x e)
+  whole_is (Open ∷ ts) x e = no_if (loosest_is (Open ∷ ts) x e)
+  whole_is (Each ∷ ts) x e = no_if (loosest_is (Each ∷ ts) x e)
+  whole_is (Any ∷ ts) x e = no_if (loosest_is (Any ∷ ts) x e)
+  whole_is (AtWord ∷ ts) x e = no_if (loosest_is (AtWord ∷ ts) x e)
+  whole_is ts x e = absurd cc
+
   level_is : (l : Level) (ts : List Sign) (x : Tree × List Sign) → at_level (below n) l ts ≡ Ok x → Spells n l ts x.0 x.1
   unfolding at_level
   level_is Single ts x e = single_is ts x e
   level_is (By And) ts x e = chain_is And (single (below n)) single_is ts x e
   level_is (By Xor) ts x e = chain_is Xor (chain And (single (below n))) (chain_is And (single (below n)) single_is) ts x e
-  level_is (By Or) ts x e = chain_is Or (chain Xor (chain And (single (below n)))) (chain_is Xor (chain And (single (below n))) (chain_is And (single (below n)) single_is)) ts x e
+  level_is (By Or) ts x e = loosest_is ts x e
+  level_is Whole ts x e = whole_is ts x e
+  level_is Premise ts x e = let d = right Whole ts x e in subst (λ (k : ℕ). Spells k Premise ts x.0 x.1) (sym d.1) (premise d.2)
 
 pub right_below : (n : ℕ) → IsRightBelow n
 unfolding below
@@ -247,17 +282,17 @@ ended_by : (b : Bool) (x : Tree × List Sign) (e : Tree) → is_end x.1 ≡ b �
 ended_by true x e p h = (ok_is x.0 e h, end_is x.1 p)
 ended_by false x e p h = absurd cc
 
-ended_is : (n : ℕ) (ts : List Sign) (e : Tree) (x : Tree × List Sign) → Spells n (By Or) ts x.0 x.1 → ended x ≡ Ok e → Spells n (By Or) ts e (End ∷ [])
+ended_is : (n : ℕ) (ts : List Sign) (e : Tree) (x : Tree × List Sign) → Spells n Whole ts x.0 x.1 → ended x ≡ Ok e → Spells n Whole ts e (End ∷ [])
 unfolding ended
 ended_is n ts e x s h =
     let p = ended_by (is_end x.1) x e refl h in
-    subst (λ (t : Tree). Spells n (By Or) ts t (End ∷ [])) p.0 (subst (λ (us : List Sign). Spells n (By Or) ts x.0 us) p.1 s)
+    subst (λ (t : Tree). Spells n Whole ts t (End ∷ [])) p.0 (subst (λ (us : List Sign). Spells n Whole ts x.0 us) p.1 s)
 
 pub spelled : (n : ℕ) (ts : List Sign) (e : Tree) → all_of n ts ≡ Ok e → IsSpelled n ts e
 unfolding all_of below
 spelled n ts e h =
-    let a = bind_ok (below (suc n) (By Or) ts) ended e h in
-    ended_is n ts e a.0 (level_is n (right_below n) (By Or) ts a.0 a.1) a.2
+    let a = bind_ok (below (suc n) Whole ts) ended e h in
+    ended_is n ts e a.0 (level_is n (right_below n) Whole ts a.0 a.1) a.2
 
 pub is_spelled : (n : ℕ) (ts : List Sign) (r : Result Expression ReadError) → Gives tree_of r (all_of n ts) → IfOk r (λ e. IsSpelled n ts (tree_of e))
 is_spelled n ts (Ok e) given = spelled n ts (tree_of e) given
@@ -266,4 +301,4 @@ is_spelled n ts (Err e) given = tt
 -- a reader of a part takes tokens from the front
 pub part_shortens : (n : ℕ) (s : Separator) (ts : List Sign) (x : Tree × List Sign) → part_at (below n) s ts ≡ Ok x → length x.1 < length ts
 part_shortens n (separators.Connective c) ts x e = spells_shortens (level_is n (right_below n) (tighter c) ts x e)
-part_shortens n separators.Comma ts x e = spells_shortens (right_below n (By Or) ts x e).2
+part_shortens n separators.Comma ts x e = spells_shortens (right_below n Whole ts x e).2

@@ -1,5 +1,5 @@
 -- Tokens that are laid out are taken apart again.
-use Rattle.std.proofs.Common.{◌≡◌, true≢false, ℕ, suc, ◌+◌, ◌<◌, ◌≤◌, ◌^◌, ◌/◌, ◌%◌, pos, negsuc, Bool, true, false, cond, List, [], ◌∷◌, ◌++◌, map, length, Option, Some, None, option_map, refl, sym, ap, subst, ◌∙◌, arith, append_assoc, append-nil, length-append}
+use Rattle.std.proofs.Common.{◌≡◌, true≢false, ℕ, suc, ◌+◌, ◌<◌, ◌≤◌, ◌^◌, ◌/◌, ◌%◌, pos, negsuc, Bool, true, false, cond, List, [], ◌∷◌, ◌++◌, map, length, Option, Some, None, option_map, refl, sym, ap, subst, ◌∙◌, inl, inr, arith, append_assoc, append-nil, length-append}
 use Rattle.std.specs.Prelude.{Float, ◌||◌, ◌==◌, nat_lt, option_and_then}
 use Rattle.std.specs.List.{prefix_len, list_all}
 use Rattle.std.specs.Str.{IsAscii, IsUtf8, is_utf8}
@@ -44,11 +44,11 @@ use Rattle.predicates_rules.specs.declared.condition.ValueKind.{ValueKind}
 use Rattle.predicates_rules.specs.declared.condition.ValueKind.TheVariants as value_kinds
 use Rattle.predicates_rules.specs.declared.fixed.Fixed.{Fixed}
 use Rattle.predicates_rules.specs.declared.fixed.Fixed.TheVariants as fixed
-use Rattle.predicates_rules.specs.Trees.{Value, Natural, Negative, Decimal, Text, Boolean, Null, Sign, Join, Open, Close, OpenList, CloseList, Comma, Path, Compare, Relate, Is, Plain, End, Test, TheValueIs, Compares, ComparesWith, HasLength, IsOfKind, Relates, IsAmong, Tree, At, Denied, Quantified, Joined, AtLeast, Trees, none, more}
-use Rattle.predicates_rules.specs.Grammar.{Level, By, Single, separator_sign, part_level, IsSpelled}
-use Rattle.predicates_rules.specs.Lexemes.{text_of, sign_of_fixed, is_space, is_mark, class_of, continues, text_end, class_len, token_len, cut, begins_literal, is_shown, IsWritten, fixed_text, literal, path, IsLexed, over, space, token}
+use Rattle.predicates_rules.specs.Trees.{Value, Natural, Negative, Decimal, Text, Boolean, Null, Sign, Join, If, Then, Open, Close, OpenList, CloseList, Comma, Path, Compare, Relate, Is, Plain, End, Test, TheValueIs, Compares, ComparesWith, HasLength, IsOfKind, Relates, IsAmong, Tree, At, Denied, Implies, Quantified, Joined, AtLeast, Trees, none, more}
+use Rattle.predicates_rules.specs.Grammar.{Level, Single, Whole, separator_sign, part_level, IsSpelled}
+use Rattle.predicates_rules.specs.Lexemes.{text_of, sign_of_fixed, is_space, is_mark, class_of, continues, text_end, class_len, token_len, cut, begins_literal, is_shown, is_path, pointer, IsWritten, fixed_text, literal, path, IsLexed, over, space, token}
 use Rattle.predicates_rules.specs.Rules.{Says}
-use Rattle.predicates_rules.specs.Printing.{items_signs, kind_sign, test_signs, quantifier_signs, in_parentheses, stands_at, signs_at, part_signs, follow_signs, nesting_at, IsProper, path_text, word_of, opens, closes, gap, laid_behind, laid, printed, IsDecimal, IsPath, IsValue, AreValues, IsPlainTest, IsPlainQuantifier, IsPlain, ArePlain}
+use Rattle.predicates_rules.specs.Printing.{items_signs, kind_sign, test_signs, quantifier_signs, in_parentheses, stands_at, takes_if, signs_at, part_signs, follow_signs, nesting_at, IsProper, path_text, word_of, opens, closes, gap, laid_behind, laid, printed, IsDecimal, IsPath, IsValue, AreValues, IsPlainTest, IsPlainQuantifier, IsPlain, ArePlain}
 use Rattle.predicates_rules.proofs.Printed.{printed as printed_spelled}
 use Rattle.predicates_rules.proofs.Lines.{run_is}
 
@@ -278,6 +278,8 @@ fixed_run fixed.Or = (refl, refl)
 fixed_run fixed.Xor = (refl, refl)
 fixed_run fixed.And = (refl, refl)
 fixed_run fixed.Not = (refl, refl)
+fixed_run fixed.If = (refl, refl)
+fixed_run fixed.Then = (refl, refl)
 fixed_run fixed.Each = (refl, refl)
 fixed_run fixed.Any = (refl, refl)
 fixed_run fixed.At = (refl, refl)
@@ -337,12 +339,29 @@ slash_shows =
 slash_class : class_of 47 ≡ Slash
 slash_class = refl
 
+caret_shows : is_shown (94 ∷ 47 ∷ []) ≡ true
+unfolding is_shown
+caret_shows =
+    let a : IsAscii (94 ∷ 47 ∷ []) = IsAscii-cons 94 (47 ∷ []) (omega arith) (IsAscii-cons 47 [] (omega arith) IsAscii-nil) in
+    rw (is_utf8-from_IsUtf8 (94 ∷ 47 ∷ []) (IsUtf8-from_ascii (94 ∷ 47 ∷ []) a), chars-IsAscii (94 ∷ 47 ∷ []) a) refl
+
+caret_class : class_of 94 ≡ Slash
+caret_class = refl
+
+record_word : IsWord (Path (94 ∷ [])) (94 ∷ 47 ∷ [])
+record_word = (path 94 (47 ∷ []) caret_class refl caret_shows, λ rest. cut_run (94 ∷ 47 ∷ []) rest (refl, refl))
+
+-- a path of more bytes, which is its own pointer
+long_word : (b : ℕ) (bytes : List ℕ) → class_of b ≡ Slash → is_path (b ∷ bytes) ≡ true → pointer (b ∷ bytes) ≡ b ∷ bytes → list_all (continues Slash) bytes ≡ true → is_shown (b ∷ bytes) ≡ true → IsWord (Path (b ∷ bytes)) (b ∷ bytes)
+long_word b bytes c is p all shown =
+    (subst (λ (w : List ℕ). IsWritten (Path w) (b ∷ bytes)) p (path b bytes c is shown), λ rest. cut_run (b ∷ bytes) rest (run_of Slash b bytes c refl all))
+
 path_word : (p : List ℕ) → IsPath p → IsWord (Path p) (path_text p)
-path_word [] h = (path 47 [] slash_class slash_shows, λ rest. cut_run (47 ∷ []) rest (refl, refl))
-path_word (b ∷ []) h = absurd h
-path_word (b ∷ c ∷ bytes) h =
-    let d : class_of b ≡ Slash = ap class_of h.0 ∙ slash_class in
-    (path b (c ∷ bytes) d h.2, λ rest. cut_run (b ∷ c ∷ bytes) rest (run_of Slash b (c ∷ bytes) d refl h.1))
+path_word [] h = (path 47 [] slash_class refl slash_shows, λ rest. cut_run (47 ∷ []) rest (refl, refl))
+path_word (b ∷ []) h = subst (λ (x : ℕ). IsWord (Path (x ∷ [])) (path_text (x ∷ []))) (sym h) record_word
+path_word (b ∷ c ∷ []) (h, all, shown) = long_word b (c ∷ []) (ap class_of h ∙ slash_class) (rw h refl) (rw h refl) all shown
+path_word (b ∷ c ∷ d ∷ bytes) (inl h, all, shown) = long_word b (c ∷ d ∷ bytes) (ap class_of h ∙ slash_class) (rw h refl) refl all shown
+path_word (b ∷ c ∷ d ∷ bytes) (inr (h, k), all, shown) = long_word b (c ∷ d ∷ bytes) (ap class_of h ∙ caret_class) (rw (h, k) refl) refl all shown
 
 value_word : (v : Value) → IsValue v → IsWord (Plain v) (word_of (Plain v))
 value_word (Natural n) h = natural_word (decimal n) n h refl (decimal_is_IsNumeral n h).0
@@ -431,8 +450,10 @@ mutual
   tree_words : (e : Tree) (l : Level) → IsPlain e → AreWords (signs_at l e)
   tree_words (At p t) l h = (path_word p h.0, test_words t h.1)
   tree_words (Denied e) l h = (fixed_word fixed.Not refl, tree_words e Single h)
+  tree_words (Implies a b) l h =
+      placed_words (takes_if l) (If ∷ (signs_at Whole a ++ Then ∷ signs_at Whole b)) (fixed_word fixed.If refl, both_words (signs_at Whole a) (Then ∷ signs_at Whole b) (tree_words a Whole h.0) (fixed_word fixed.Then refl, tree_words b Whole h.1))
   tree_words (Quantified q p e) l h =
-      both_words (quantifier_signs q) (Path p ∷ in_parentheses (signs_at (By Or) e)) (quantifier_words q h.2) (path_word p h.0, closed_words (signs_at (By Or) e) (tree_words e (By Or) h.1))
+      both_words (quantifier_signs q) (Path p ∷ in_parentheses (signs_at Whole e)) (quantifier_words q h.2) (path_word p h.0, closed_words (signs_at Whole e) (tree_words e Whole h.1))
   tree_words (Joined c es) l h = placed_words (stands_at l c es) (part_signs (separators.Connective c) es) (part_words es (separators.Connective c) h)
   tree_words (AtLeast k es) l h =
       (fixed_word fixed.At refl, (fixed_word fixed.Least refl, (value_word (Natural k) h.0, (fixed_word fixed.Of refl, closed_words (part_signs separators.Comma es) (part_words es separators.Comma h.1)))))
@@ -485,7 +506,7 @@ lexed : (ts : List Sign) → AreWords ts → Reads (laid ts) ts
 lexed [] a = ((End, 0) ∷ [], refl, over refl)
 lexed (t ∷ ts) a = lexed_from ts t a
 
-pub printed_says : (n : ℕ) (e : Tree) → IsProper e → IsPlain e → nesting_at (By Or) e ≤ n → Says n (printed e) e
+pub printed_says : (n : ℕ) (e : Tree) → IsProper e → IsPlain e → nesting_at Whole e ≤ n → Says n (printed e) e
 printed_says n e p h le =
-    let o = lexed (signs_at (By Or) e) (tree_words e (By Or) h) in
+    let o = lexed (signs_at Whole e) (tree_words e Whole h) in
     (o.0, o.2, subst (λ (vs : List Sign). IsSpelled n vs e) (sym o.1) (printed_spelled n e p le))

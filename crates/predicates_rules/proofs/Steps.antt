@@ -1,15 +1,15 @@
 -- The levels of the reader, and what it looks at behind a phrase.
-use Rattle.std.proofs.Common.{◌≡◌, true, List, [], ◌∷◌, Some, None, Result, Ok, Err, refl, ap}
+use Rattle.std.proofs.Common.{◌≡◌, ℕ, Bool, true, false, List, [], ◌∷◌, Some, None, Result, Ok, Err, refl, ap}
 use Rattle.std.proofs.lemmas.Option.{cond_some}
 use Rattle.predicates_rules.specs.declared.expression.Connective.{Connective}
 use Rattle.predicates_rules.specs.declared.expression.Connective.TheVariants.{Or, Xor, And}
 use Rattle.predicates_rules.specs.declared.parser.Separator.{Separator}
 use Rattle.predicates_rules.specs.declared.parser.Separator.TheVariants as separators
 use Rattle.predicates_rules.specs.declared.stop.Stop.{Stop}
-use Rattle.predicates_rules.specs.Trees.{Sign, Join, Close, Comma, End}
-use Rattle.predicates_rules.specs.Grammar.{Level, By, Single, tighter, separator_sign, part_level}
+use Rattle.predicates_rules.specs.Trees.{Sign, Join, Then, Path, Not, Open, Each, Any, AtWord, Close, Comma, End, Tree}
+use Rattle.predicates_rules.specs.Grammar.{Level, By, Single, Whole, Premise, tighter, separator_sign, part_level, Spells, test, denied, group, quantified, at_least, alone, joined, no_if, implied, premise, each, any, at_least_items}
 use Rattle.predicates_rules.specs.Answers.{◌>>=◌}
-use Rattle.predicates_rules.specs.Reading.{Answer, same, after_join, after_comma, after_separator, chain, at_level}
+use Rattle.predicates_rules.specs.Reading.{Answer, same, after_join, after_comma, after_separator, begins, chain, whole, at_level}
 
 pub level_step : (deeper : Level → List Sign → Answer) (c : Connective) (ts : List Sign) → at_level deeper (By c) ts ≡ chain c (at_level deeper (tighter c)) ts
 unfolding at_level chain
@@ -17,12 +17,57 @@ level_step deeper Or ts = refl
 level_step deeper Xor ts = refl
 level_step deeper And ts = refl
 
+-- where no implication begins, a whole expression is a join or a single one
+abbrev pub begins_front : List Sign → Bool
+begins_front [] = false
+begins_front (t ∷ ts) = begins t
+
+pub whole_step : (deeper : Level → List Sign → Answer) (ts : List Sign) → begins_front ts ≡ true → at_level deeper Whole ts ≡ at_level deeper (By Or) ts
+unfolding at_level whole
+whole_step deeper (Path path ∷ ts) h = refl
+whole_step deeper (Not ∷ ts) h = refl
+whole_step deeper (Open ∷ ts) h = refl
+whole_step deeper (Each ∷ ts) h = refl
+whole_step deeper (Any ∷ ts) h = refl
+whole_step deeper (AtWord ∷ ts) h = refl
+whole_step deeper ts h = absurd cc
+
+-- no implication is of these levels
+abbrev is_join : Level → Bool
+is_join (By c) = true
+is_join Single = true
+is_join l = false
+
+tighter_is_join : (c : Connective) → is_join (tighter c) ≡ true
+tighter_is_join Or = refl
+tighter_is_join Xor = refl
+tighter_is_join And = refl
+
+begins_as : {n : ℕ} {l : Level} {ts : List Sign} {e : Tree} {rest : List Sign} → Spells n l ts e rest → is_join l ≡ true → begins_front ts ≡ true
+begins_as (test t) h = refl
+begins_as (denied d) h = refl
+begins_as (group d) h = refl
+begins_as (quantified each d) h = refl
+begins_as (quantified any d) h = refl
+begins_as (quantified at_least_items d) h = refl
+begins_as (at_least d f) h = refl
+begins_as (alone {c = c} d) h = begins_as d (tighter_is_join c)
+begins_as (joined {c = c} d f) h = begins_as d (tighter_is_join c)
+begins_as (no_if d) h = absurd cc
+begins_as (implied d g) h = absurd cc
+begins_as (premise d) h = absurd cc
+
+pub join_begins : {n : ℕ} {ts : List Sign} {e : Tree} {rest : List Sign} → Spells n (By Or) ts e rest → begins_front ts ≡ true
+join_begins d = begins_as d refl
+
 -- what stands behind a phrase of a level doesn't belong to it
 abbrev pub Stops : Level → List Sign → Type 0
 Stops Single ts = Unit {0}
 Stops (By And) ts = after_join And ts ≡ None
 Stops (By Xor) ts = (after_join Xor ts ≡ None) × (after_join And ts ≡ None)
 Stops (By Or) ts = (after_join Or ts ≡ None) × (after_join Xor ts ≡ None) × (after_join And ts ≡ None)
+Stops Whole ts = (after_join Or ts ≡ None) × (after_join Xor ts ≡ None) × (after_join And ts ≡ None)
+Stops Premise ts = (after_join Or ts ≡ None) × (after_join Xor ts ≡ None) × (after_join And ts ≡ None)
 
 stops_here : (c : Connective) (ts : List Sign) → Stops (By c) ts → after_join c ts ≡ None
 stops_here Or ts s = s.0
@@ -46,6 +91,12 @@ stops_at_close Single ts = tt
 stops_at_close (By Or) ts = (refl, refl, refl)
 stops_at_close (By Xor) ts = (refl, refl)
 stops_at_close (By And) ts = refl
+stops_at_close Whole ts = (refl, refl, refl)
+stops_at_close Premise ts = (refl, refl, refl)
+
+pub stops_at_then : (ts : List Sign) → Stops Premise (Then ∷ ts)
+unfolding after_join
+stops_at_then ts = (refl, refl, refl)
 
 pub stops_at_end : (l : Level) → Stops l (End ∷ [])
 unfolding after_join
@@ -53,11 +104,13 @@ stops_at_end Single = tt
 stops_at_end (By Or) = (refl, refl, refl)
 stops_at_end (By Xor) = (refl, refl)
 stops_at_end (By And) = refl
+stops_at_end Whole = (refl, refl, refl)
+stops_at_end Premise = (refl, refl, refl)
 
 -- what stands behind a row doesn't belong to it, nor to its last part
 abbrev pub Ends : Separator → List Sign → Type 0
 Ends (separators.Connective c) ts = Stops (By c) ts
-Ends separators.Comma ts = (after_comma ts ≡ None) × Stops (By Or) ts
+Ends separators.Comma ts = (after_comma ts ≡ None) × Stops Whole ts
 
 pub ends_here : (s : Separator) (ts : List Sign) → Ends s ts → after_separator s ts ≡ None
 ends_here (separators.Connective c) ts e = stops_here c ts e
@@ -74,7 +127,7 @@ stops_at_separator separators.Comma ts = (refl, refl, refl)
 
 pub row_ends_at_close : (ts : List Sign) → Ends separators.Comma (Close ∷ ts)
 unfolding after_comma
-row_ends_at_close ts = (refl, stops_at_close (By Or) ts)
+row_ends_at_close ts = (refl, stops_at_close Whole ts)
 
 join_found : (c : Connective) (ts : List Sign) → after_join c (Join c ∷ ts) ≡ Some ts
 unfolding after_join

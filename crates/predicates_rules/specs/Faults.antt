@@ -1,7 +1,8 @@
 -- Where a text stops being rules, and why.
-use Rattle.std.specs.Prelude.{◌≡◌, ◌≢◌, ℕ, suc, ◌+◌, ◌-◌, ◌<◌, ◌≤◌, true, false, List, [], ◌∷◌, ◌++◌, map, length, take, drop, Option, Some, None, unwrap_or, Err}
-use Rattle.std.specs.List.{prefix_len}
-use Rattle.predicates_rules.specs.declared.error.Reason.TheVariants.{TooDeep}
+use Rattle.std.specs.Prelude.{◌≡◌, ◌≢◌, ℕ, suc, ◌+◌, ◌-◌, ◌<◌, ◌≤◌, true, false, List, [], ◌∷◌, ◌++◌, map, length, take, drop, Option, Some, None, option_map, unwrap_or, Err}
+use Rattle.std.specs.List.{find, prefix_len}
+use Rattle.std.specs.Str.{bytes_eq}
+use Rattle.predicates_rules.specs.declared.error.Reason.TheVariants.{TooDeep, Repeated}
 use Rattle.predicates_rules.specs.declared.error.RulesError.{RulesError}
 use Rattle.predicates_rules.specs.declared.error.RulesError.TheVariants.{NoMemory, Unreadable}
 use Rattle.predicates_rules.specs.declared.fault.Fault.{Fault}
@@ -82,50 +83,56 @@ found_at line left = told (after_spaces (drop (length line - left) line))
 abbrev pub IsFaultAt : ℕ → List ℕ → Stop → Fault → Type 0
 IsFaultAt number line s f = (f.line ≡ number) × (f.column ≡ column_at line s.left) × (f.reason ≡ s.reason) × (f.found.items ≡ found_at line s.left)
 
--- the first line, from 1, that has no rule and is not blank, with the place in it
-pub data IsFirstFault : List (List ℕ) → ℕ → Fault → Type 0 where
-  in_this : {line : List ℕ} {lines : List (List ℕ)} {f : Fault} {n : ℕ} (s : Stop) → IsLineFault line s → IsFaultAt n line s f → IsFirstFault (line ∷ lines) n f
-  in_later : {line : List ℕ} {lines : List (List ℕ)} {n : ℕ} {f : Fault} (r : Option (List ℕ × Tree)) → IsLine max_depth line r → IsFirstFault lines (suc n) f → IsFirstFault (line ∷ lines) n f
+-- the line with this number has no rule and is not blank
+abbrev pub IsUnread : ℕ → List ℕ → Fault → Type 0
+IsUnread number line f =
+    ((o : Option (List ℕ × Tree)) → IsLine max_depth line o → ⊥) × (f.reason ≢ TooDeep → (n : ℕ) (o : Option (List ℕ × Tree)) → IsLine n line o → ⊥)
+    × ((s : Stop) × IsLineFault line s × IsFaultAt number line s f)
 
--- where and why lines are no rules, unless memory ran out
+-- ---- names that stand on more than one line
+
+-- a rule behind the number of its line
+abbrev pub Placed : Type 0
+Placed = ℕ × (List ℕ × Tree)
+
+abbrev pub bare : List Placed → List (List ℕ × Tree)
+bare rs = map (λ (x : Placed). x.1) rs
+
+-- the line of the rule with this name
+abbrev pub number_named : List ℕ → List Placed → Option ℕ
+number_named name rs = option_map (λ (x : Placed). x.0) (find (λ (x : Placed). bytes_eq x.1.0 name) rs)
+
+-- the fault of the line with this number, whose rule has the name of the one on the first line
+abbrev pub IsRepeatAt : ℕ → ℕ → List ℕ → List ℕ → Fault → Type 0
+IsRepeatAt number first line name f = (f.line ≡ number) × (f.column ≡ column_at line (length (after_spaces line))) × (f.reason ≡ Repeated first) × (f.found.items ≡ name)
+
+-- ---- all lines
+
+-- the rule and the fault of the line with this number, behind lines with these rules
+pub data Adds (number : ℕ) (line : List ℕ) (rs : List Placed) : List Placed → List Fault → Type 0 where
+  nothing : IsLine max_depth line None → Adds number line rs [] []
+  a_rule : (r : List ℕ × Tree) → IsLine max_depth line (Some r) → number_named r.0 rs ≡ None → Adds number line rs ((number, r) ∷ []) []
+  a_repeat : (r : List ℕ × Tree) (first : ℕ) (f : Fault) → IsLine max_depth line (Some r) → number_named r.0 rs ≡ Some first → IsRepeatAt number first line r.0 f → Adds number line rs [] (f ∷ [])
+  no_line : (f : Fault) → IsUnread number line f → Adds number line rs [] (f ∷ [])
+
+-- the rules and the faults of the first lines, so many of them, in their order
+pub data HasRead (lines : List (List ℕ)) : ℕ → List Placed → List Fault → Type 0 where
+  none_yet : HasRead lines 0 [] []
+  one_line : {i : ℕ} {rs more : List Placed} {fs others : List Fault} {line : List ℕ} {rest : List (List ℕ)} → drop i lines ≡ line ∷ rest → HasRead lines i rs fs → Adds (i + 1) line rs more others → HasRead lines (i + 1) (rs ++ more) (fs ++ others)
+
+-- the first fault of lines, unless memory ran out
 abbrev pub IsFaultOf : List (List ℕ) → RulesError → Type 0
 IsFaultOf lines NoMemory = Unit {0}
-IsFaultOf lines (Unreadable f) = IsFirstFault lines 1 f
+IsFaultOf lines (Unreadable f) = (i : ℕ) × (rs : List Placed) × (fs : List Fault) × HasRead lines i rs (f ∷ fs)
 
 -- neither memory nor the depth was too little
 abbrev pub IsSyntaxError : RulesError → Type 0
 IsSyntaxError NoMemory = ⊥
 IsSyntaxError (Unreadable f) = f.reason ≢ TooDeep
 
--- an error of the line with this number, where memory may run out as well
-abbrev pub IsErrorAt : ℕ → List ℕ → ReadError → RulesError → Type 0
-IsErrorAt number line e NoMemory = Unit {0}
-IsErrorAt number line errors.Memory (Unreadable f) = ⊥
-IsErrorAt number line (errors.Stopped s) (Unreadable f) = IsFaultAt number line s f
-
--- the line with this number has no rule and is not blank
-abbrev pub IsLineError : ℕ → List ℕ → RulesError → Type 0
-IsLineError number line NoMemory = Unit {0}
-IsLineError number line (Unreadable f) =
-    ((o : Option (List ℕ × Tree)) → IsLine max_depth line o → ⊥) × (f.reason ≢ TooDeep → (n : ℕ) (o : Option (List ℕ × Tree)) → IsLine n line o → ⊥)
-    × ((s : Stop) × IsLineFault line s × IsFaultAt number line s f)
-
--- ---- all faults
-
--- the fault of a line with this number, or none where it is blank or has a rule
-abbrev pub IsTold : ℕ → List ℕ → Option Fault → Type 0
-IsTold number line None = (r : Option (List ℕ × Tree)) × IsLine max_depth line r
-IsTold number line (Some f) = (s : Stop) × IsLineFault line s × IsFaultAt number line s f
-
--- the faults of the first lines, so many of them, in their order
-pub data AreFaults (lines : List (List ℕ)) : ℕ → List Fault → Type 0 where
-  none_yet : AreFaults lines 0 []
-  no_fault : {i : ℕ} {fs : List Fault} {line : List ℕ} {rest : List (List ℕ)} (r : Option (List ℕ × Tree)) → drop i lines ≡ line ∷ rest → IsLine max_depth line r → AreFaults lines i fs → AreFaults lines (i + 1) fs
-  one_fault : {i : ℕ} {fs : List Fault} {line : List ℕ} {rest : List (List ℕ)} (f : Fault) (s : Stop) → drop i lines ≡ line ∷ rest → IsLineFault line s → IsFaultAt (i + 1) line s f → AreFaults lines i fs → AreFaults lines (i + 1) (fs ++ f ∷ [])
-
 abbrev pub most_faults : ℕ
 most_faults = 20
 
 -- the faults of all lines, or so many that no more are told
 abbrev pub HasFaults : List (List ℕ) → List Fault → Type 0
-HasFaults lines fs = (i : ℕ) × AreFaults lines i fs × (length fs < most_faults → length lines ≤ i)
+HasFaults lines fs = (i : ℕ) × (rs : List Placed) × HasRead lines i rs fs × (length fs < most_faults → length lines ≤ i)

@@ -11,13 +11,16 @@ use Rattle.predicates_rules.specs.declared.condition.Relation.{Relation}
 use Rattle.predicates_rules.specs.declared.condition.State.{State}
 use Rattle.predicates_rules.specs.declared.condition.ValueKind.{ValueKind}
 use Rattle.predicates_rules.specs.declared.condition.ValueKind.TheVariants as value_kinds
-use Rattle.predicates_rules.specs.Trees.{Value, Natural, Text, Null, Sign, Join, Not, Each, Any, AtWord, Least, Of, Open, Close, OpenList, CloseList, Comma, Path, Compare, Relate, In, Is, Length, IsKind, KindName, Plain, End, Test, TheValueIs, Compares, ComparesWith, HasLength, IsOfKind, Relates, IsAmong, Tree, At, Denied, Quantified, Joined, AtLeast, Trees, none, more}
+use Rattle.predicates_rules.specs.Trees.{Value, Natural, Text, Null, Sign, Join, Not, If, Then, Each, Any, AtWord, Least, Of, Open, Close, OpenList, CloseList, Comma, Path, Compare, Relate, In, Is, Length, IsKind, KindName, Plain, End, Test, TheValueIs, Compares, ComparesWith, HasLength, IsOfKind, Relates, IsAmong, Tree, At, Denied, Implies, Quantified, Joined, AtLeast, Trees, none, more}
 
 -- How tightly an expression holds together: one joined by c or by what binds tighter, or a single
--- one.
+-- one. A whole one may be an implication too. So may a premise, what stands behind an `if`, which
+-- counts one level of nesting more: what denies it nests no deeper than the implication then.
 pub data Level : Type 0 where
   By : (c : Connective) → Level
   Single : Level
+  Whole : Level
+  Premise : Level
 
 -- `or` binds weakest, then `xor`, then `and`
 abbrev pub tighter : Connective → Level
@@ -33,7 +36,7 @@ separator_sign separators.Comma = Comma
 
 abbrev pub part_level : Separator → Level
 part_level (separators.Connective c) = tighter c
-part_level separators.Comma = By Or
+part_level separators.Comma = Whole
 
 -- In each relation the first list is the tokens, and the last one what is left of them behind the
 -- phrase.
@@ -74,26 +77,33 @@ pub data IsQuantifier : List Sign → Quantifier → List Sign → Type 0 where
   at_least_items : {k : ℕ} {rest : List Sign} → IsQuantifier (AtWord ∷ Least ∷ Plain (Natural k) ∷ rest) (quantifiers.AtLeast k) rest
 
 mutual
-  -- An expression of a level, which nests at most n deep. What `not` denies and what stands in
-  -- parentheses is one deeper; what is joined or listed is not.
+  -- An expression of a level, which nests at most n deep. What `not` denies, what stands in
+  -- parentheses and what an implication is made of is one deeper, and its premise two; what is
+  -- joined or listed is not.
   pub data Spells : ℕ → Level → List Sign → Tree → List Sign → Type 0 where
     -- PATH ..
     test : {n : ℕ} {path : List ℕ} {t : Test} {ts rest : List Sign} → IsTest ts t rest → Spells n Single (Path path ∷ ts) (At path t) rest
     -- not E
     denied : {n : ℕ} {e : Tree} {ts rest : List Sign} → Spells n Single ts e rest → Spells (suc n) Single (Not ∷ ts) (Denied e) rest
     -- ( E )
-    group : {n : ℕ} {e : Tree} {ts rest : List Sign} → Spells n (By Or) ts e (Close ∷ rest) → Spells (suc n) Single (Open ∷ ts) e rest
+    group : {n : ℕ} {e : Tree} {ts rest : List Sign} → Spells n Whole ts e (Close ∷ rest) → Spells (suc n) Single (Open ∷ ts) e rest
     -- each PATH ( E )    any PATH ( E )    at least K PATH ( E )
-    quantified : {n : ℕ} {q : Quantifier} {path : List ℕ} {e : Tree} {ts us rest : List Sign} → IsQuantifier ts q (Path path ∷ Open ∷ us) → Spells n (By Or) us e (Close ∷ rest)
+    quantified : {n : ℕ} {q : Quantifier} {path : List ℕ} {e : Tree} {ts us rest : List Sign} → IsQuantifier ts q (Path path ∷ Open ∷ us) → Spells n Whole us e (Close ∷ rest)
         → Spells (suc n) Single ts (Quantified q path e) rest
     -- at least K of ( E , .. , E )
-    at_least : {n k : ℕ} {e : Tree} {es : Trees} {ts us rest : List Sign} → Spells n (By Or) ts e us → Follow n separators.Comma us es (Close ∷ rest)
+    at_least : {n k : ℕ} {e : Tree} {es : Trees} {ts us rest : List Sign} → Spells n Whole ts e us → Follow n separators.Comma us es (Close ∷ rest)
         → Spells (suc n) Single (AtWord ∷ Least ∷ Plain (Natural k) ∷ Of ∷ Open ∷ ts) (AtLeast k (more e es)) rest
     -- what binds tighter, alone
     alone : {n : ℕ} {c : Connective} {e : Tree} {ts rest : List Sign} → Spells n (tighter c) ts e rest → Spells n (By c) ts e rest
     -- E c E .. c E
     joined : {n : ℕ} {c : Connective} {e f : Tree} {es : Trees} {ts us rest : List Sign} → Spells n (tighter c) ts e us → Follow n (separators.Connective c) us (more f es) rest
         → Spells n (By c) ts (Joined c (more e (more f es))) rest
+    -- without `if`
+    no_if : {n : ℕ} {e : Tree} {ts rest : List Sign} → Spells n (By Or) ts e rest → Spells n Whole ts e rest
+    -- if E then E
+    implied : {n : ℕ} {a b : Tree} {ts us rest : List Sign} → Spells n Premise ts a (Then ∷ us) → Spells n Whole us b rest → Spells (suc n) Whole (If ∷ ts) (Implies a b) rest
+    -- what stands behind an `if`
+    premise : {n : ℕ} {e : Tree} {ts rest : List Sign} → Spells n Whole ts e rest → Spells (suc n) Premise ts e rest
 
   -- s E .. s E, or nothing
   pub data Follow : ℕ → Separator → List Sign → Trees → List Sign → Type 0 where
@@ -107,4 +117,4 @@ max_depth = 100
 
 -- all of the tokens
 abbrev pub IsSpelled : ℕ → List Sign → Tree → Type 0
-IsSpelled n ts e = Spells n (By Or) ts e (End ∷ [])
+IsSpelled n ts e = Spells n Whole ts e (End ∷ [])

@@ -13,7 +13,7 @@ use Rattle.predicates_rules.specs.declared.fixed.Fixed.{Fixed}
 use Rattle.predicates_rules.specs.declared.fixed.Fixed.TheVariants as fixed
 use Rattle.predicates_rules.specs.declared.lexer.Class.{Class}
 use Rattle.predicates_rules.specs.declared.lexer.Class.TheVariants.{Letter, Digit, Symbol, Mark, Slash, Quote, Space, Name, Other}
-use Rattle.predicates_rules.specs.Trees.{Value, Natural, Negative, Decimal, Text, Boolean, Null, Sign, Join, Not, Each, Any, AtWord, Least, Of, Open, Close, OpenList, CloseList, Comma, Path, Compare, Relate, In, Is, Length, IsKind, KindName, Plain, End}
+use Rattle.predicates_rules.specs.Trees.{Value, Natural, Negative, Decimal, Text, Boolean, Null, Sign, Join, Not, If, Then, Each, Any, AtWord, Least, Of, Open, Close, OpenList, CloseList, Comma, Path, Compare, Relate, In, Is, Length, IsKind, KindName, Plain, End}
 
 -- ---- tokens with a text of their own
 
@@ -22,6 +22,8 @@ text_of fixed.Or = codes "or"
 text_of fixed.Xor = codes "xor"
 text_of fixed.And = codes "and"
 text_of fixed.Not = codes "not"
+text_of fixed.If = codes "if"
+text_of fixed.Then = codes "then"
 text_of fixed.Each = codes "each"
 text_of fixed.Any = codes "any"
 text_of fixed.At = codes "at"
@@ -63,6 +65,8 @@ sign_of_fixed fixed.Or = Join connectives.Or
 sign_of_fixed fixed.Xor = Join connectives.Xor
 sign_of_fixed fixed.And = Join connectives.And
 sign_of_fixed fixed.Not = Not
+sign_of_fixed fixed.If = If
+sign_of_fixed fixed.Then = Then
 sign_of_fixed fixed.Each = Each
 sign_of_fixed fixed.Any = Any
 sign_of_fixed fixed.At = AtWord
@@ -100,7 +104,7 @@ sign_of_fixed fixed.CloseList = CloseList
 sign_of_fixed fixed.Comma = Comma
 
 abbrev pub all_fixed : List Fixed
-all_fixed = fixed.Or ∷ fixed.Xor ∷ fixed.And ∷ fixed.Not ∷ fixed.Each ∷ fixed.Any ∷ fixed.At ∷ fixed.Least ∷ fixed.Of ∷ fixed.StartsWith ∷ fixed.EndsWith ∷ fixed.Contains ∷ fixed.Matches ∷ fixed.In ∷ fixed.Exists ∷ fixed.Missing ∷ fixed.IsEmpty ∷ fixed.Length ∷ fixed.Is ∷ fixed.Text ∷ fixed.Number ∷ fixed.Whole ∷ fixed.Bool ∷ fixed.Array ∷ fixed.Object ∷ fixed.True ∷ fixed.False ∷ fixed.Null ∷ fixed.Equal ∷ fixed.Unequal ∷ fixed.Below ∷ fixed.AtMost ∷ fixed.Above ∷ fixed.AtLeast ∷ fixed.Open ∷ fixed.Close ∷ fixed.OpenList ∷ fixed.CloseList ∷ fixed.Comma ∷ []
+all_fixed = fixed.Or ∷ fixed.Xor ∷ fixed.And ∷ fixed.Not ∷ fixed.If ∷ fixed.Then ∷ fixed.Each ∷ fixed.Any ∷ fixed.At ∷ fixed.Least ∷ fixed.Of ∷ fixed.StartsWith ∷ fixed.EndsWith ∷ fixed.Contains ∷ fixed.Matches ∷ fixed.In ∷ fixed.Exists ∷ fixed.Missing ∷ fixed.IsEmpty ∷ fixed.Length ∷ fixed.Is ∷ fixed.Text ∷ fixed.Number ∷ fixed.Whole ∷ fixed.Bool ∷ fixed.Array ∷ fixed.Object ∷ fixed.True ∷ fixed.False ∷ fixed.Null ∷ fixed.Equal ∷ fixed.Unequal ∷ fixed.Below ∷ fixed.AtMost ∷ fixed.Above ∷ fixed.AtLeast ∷ fixed.Open ∷ fixed.Close ∷ fixed.OpenList ∷ fixed.CloseList ∷ fixed.Comma ∷ []
 
 unfoldable pub fixed_at : List ℕ → Option Fixed
 fixed_at word = find (λ f. bytes_eq (text_of f) word) all_fixed
@@ -133,9 +137,9 @@ is_space b = b == 32 || b == 9 || b == 13
 abbrev pub is_control : ℕ → Bool
 is_control b = nat_le b 31 || b == 127
 
--- the token that the byte begins; a number may begin with a minus
+-- the token that the byte begins; a number may begin with a minus, and a path with ^
 abbrev pub class_of : ℕ → Class
-class_of b = if is_letter b then Letter else if is_digit b || b == 45 then Digit else if is_symbol b then Symbol else if is_mark b then Mark else if b == 47 then Slash else if b == 34 then Quote else Other
+class_of b = if is_letter b then Letter else if is_digit b || b == 45 then Digit else if is_symbol b then Symbol else if is_mark b then Mark else if b == 47 || b == 94 then Slash else if b == 34 then Quote else Other
 
 -- Which bytes belong together. A path ends at a space, a mark, an operator, a comment and a control
 -- character; the name of a rule has letters, digits, _ - . and bytes beyond ASCII.
@@ -174,7 +178,7 @@ cut text = option_map (λ n. (take n text, drop n text)) (token_len text)
 abbrev pub is_hidden : ℕ → Bool
 is_hidden c = is_between 128 160 c || c == 8199 || c == 8239 || c == 8288 || c == 65279
 
--- UTF-8 of which each character shows
+-- UTF-8 with no control character beyond ASCII and no no-break space
 unfoldable pub is_shown : List ℕ → Bool
 is_shown word = is_utf8 word && not (list_any is_hidden (chars word))
 
@@ -186,7 +190,7 @@ abbrev pub is_quoted : List ℕ → Bool
 is_quoted [] = false
 is_quoted (b ∷ text) = b == 34
 
--- what is not empty, and of which each character shows
+-- what is not empty, with no control character and no no-break space
 unfoldable pub is_title : List ℕ → Bool
 is_title name = nat_lt 0 (length name) && not (list_any is_masked (chars name))
 
@@ -211,9 +215,16 @@ begins_literal Digit = true
 begins_literal Quote = true
 begins_literal c = false
 
--- the record itself is the empty pointer
+-- it begins with /, or with ^ and /
+abbrev pub is_path : List ℕ → Bool
+is_path [] = false
+is_path (b ∷ []) = b == 47
+is_path (b ∷ c ∷ bytes) = b == 47 || b == 94 && c == 47
+
+-- The pointer that is written so: / is the empty one. Where it begins with ^, a pointer follows.
 abbrev pub pointer : List ℕ → List ℕ
 pointer (b ∷ []) = []
+pointer (b ∷ c ∷ []) = if b == 94 && c == 47 then b ∷ [] else b ∷ c ∷ []
 pointer word = word
 
 -- a token as it is written
@@ -222,7 +233,7 @@ pub data IsWritten : Sign → List ℕ → Type 0 where
   fixed_text : (f : Fixed) → IsWritten (sign_of_fixed f) (text_of f)
   -- a number or a text in quotes: what JSON reads there
   literal : (b : ℕ) (bytes : List ℕ) (v : Value) → begins_literal (class_of b) ≡ true → is_utf8 (b ∷ bytes) ≡ true → read (b ∷ bytes) ≡ Some (data_of v) → IsTextOf v (b ∷ bytes) → IsWritten (Plain v) (b ∷ bytes)
-  path : (b : ℕ) (bytes : List ℕ) → class_of b ≡ Slash → is_shown (b ∷ bytes) ≡ true → IsWritten (Path (pointer (b ∷ bytes))) (b ∷ bytes)
+  path : (b : ℕ) (bytes : List ℕ) → class_of b ≡ Slash → is_path (b ∷ bytes) ≡ true → is_shown (b ∷ bytes) ≡ true → IsWritten (Path (pointer (b ∷ bytes))) (b ∷ bytes)
 
 -- the end, or a comment
 abbrev pub is_over : List ℕ → Bool

@@ -8,5 +8,6 @@ pub mod Scanning
 pub mod Rules
 pub mod Heading
 pub mod Faults
+pub mod Findings
 pub mod Printing
 pub mod Writing

@@ -1,5 +1,5 @@
 -- How an expression is written, with no more parentheses than it needs.
-use Rattle.std.specs.Prelude.{◌≡◌, ℕ, suc, Some, ◌<◌, ◌^◌, max, pos, negsuc, Float, Bool, true, false, ◌&&◌, ◌||◌, List, [], ◌∷◌, ◌++◌, if◌then◌else◌}
+use Rattle.std.specs.Prelude.{◌≡◌, ◌⊎◌, ◌==◌, ℕ, suc, Some, ◌<◌, ◌^◌, max, pos, negsuc, Float, Bool, true, false, ◌&&◌, ◌||◌, List, [], ◌∷◌, ◌++◌, if◌then◌else◌}
 use Rattle.std.specs.List.{list_all}
 use Rattle.std.specs.Str.{IsUtf8, is_utf8}
 use Rattle.serde_json.specs.Data.{number, float}
@@ -18,8 +18,8 @@ use Rattle.predicates_rules.specs.declared.condition.ValueKind.{ValueKind}
 use Rattle.predicates_rules.specs.declared.condition.ValueKind.TheVariants as value_kinds
 use Rattle.predicates_rules.specs.declared.fixed.Fixed.TheVariants as fixed
 use Rattle.predicates_rules.specs.declared.lexer.Class.TheVariants.{Digit, Slash}
-use Rattle.predicates_rules.specs.Trees.{Value, Natural, Negative, Decimal, Text, Boolean, Null, Sign, Join, Not, Each, Any, AtWord, Least, Of, Open, Close, OpenList, CloseList, Comma, Path, Compare, Relate, In, Is, Length, IsKind, KindName, Plain, End, Test, TheValueIs, Compares, ComparesWith, HasLength, IsOfKind, Relates, IsAmong, Tree, At, Denied, Quantified, Joined, AtLeast, Trees, none, more}
-use Rattle.predicates_rules.specs.Grammar.{Level, By, Single, separator_sign, part_level}
+use Rattle.predicates_rules.specs.Trees.{Value, Natural, Negative, Decimal, Text, Boolean, Null, Sign, Join, Not, If, Then, Each, Any, AtWord, Least, Of, Open, Close, OpenList, CloseList, Comma, Path, Compare, Relate, In, Is, Length, IsKind, KindName, Plain, End, Test, TheValueIs, Compares, ComparesWith, HasLength, IsOfKind, Relates, IsAmong, Tree, At, Denied, Implies, Quantified, Joined, AtLeast, Trees, none, more}
+use Rattle.predicates_rules.specs.Grammar.{Level, By, Single, Whole, Premise, separator_sign, part_level}
 use Rattle.predicates_rules.specs.Lexemes.{class_of, continues, is_shown, text_of, data_of}
 
 -- ---- the tokens of an expression
@@ -60,6 +60,13 @@ fits (By Xor) Or = false
 fits (By Xor) c = true
 fits (By And) And = true
 fits (By And) c = false
+fits Whole c = true
+fits Premise c = false
+
+-- whether an implication may stand at a level as it is
+abbrev pub takes_if : Level → Bool
+takes_if Whole = true
+takes_if l = false
 
 abbrev pub has_parts : Trees → Bool
 has_parts none = false
@@ -73,7 +80,8 @@ abbrev mutual
   pub signs_at : Level → Tree → List Sign
   signs_at l (At path t) = Path path ∷ test_signs t
   signs_at l (Denied e) = Not ∷ signs_at Single e
-  signs_at l (Quantified q path e) = quantifier_signs q ++ Path path ∷ in_parentheses (signs_at (By Or) e)
+  signs_at l (Implies a b) = if takes_if l then If ∷ (signs_at Whole a ++ Then ∷ signs_at Whole b) else in_parentheses (If ∷ (signs_at Whole a ++ Then ∷ signs_at Whole b))
+  signs_at l (Quantified q path e) = quantifier_signs q ++ Path path ∷ in_parentheses (signs_at Whole e)
   signs_at l (Joined c es) = if stands_at l c es then part_signs (separators.Connective c) es else in_parentheses (part_signs (separators.Connective c) es)
   signs_at l (AtLeast k es) = AtWord ∷ Least ∷ Plain (Natural k) ∷ Of ∷ in_parentheses (part_signs separators.Comma es)
 
@@ -92,7 +100,8 @@ abbrev mutual
   pub nesting_at : Level → Tree → ℕ
   nesting_at l (At path t) = 0
   nesting_at l (Denied e) = suc (nesting_at Single e)
-  nesting_at l (Quantified q path e) = suc (nesting_at (By Or) e)
+  nesting_at l (Implies a b) = if takes_if l then suc (max (suc (nesting_at Whole a)) (nesting_at Whole b)) else suc (suc (max (suc (nesting_at Whole a)) (nesting_at Whole b)))
+  nesting_at l (Quantified q path e) = suc (nesting_at Whole e)
   nesting_at l (Joined c es) = if stands_at l c es then parts_nesting (separators.Connective c) es else suc (parts_nesting (separators.Connective c) es)
   nesting_at l (AtLeast k es) = suc (parts_nesting separators.Comma es)
 
@@ -109,6 +118,7 @@ abbrev mutual
   pub IsProper : Tree → Type 0
   IsProper (At path t) = Unit {0}
   IsProper (Denied e) = IsProper e
+  IsProper (Implies a b) = IsProper a × IsProper b
   IsProper (Quantified q path e) = IsProper e
   IsProper (Joined c es) = AreMany es
   IsProper (AtLeast k es) = IsSome es × AreProper es
@@ -125,7 +135,8 @@ abbrev mutual
 
 abbrev pub path_text : List ℕ → List ℕ
 path_text [] = 47 ∷ []
-path_text (b ∷ bytes) = b ∷ bytes
+path_text (b ∷ []) = if b == 94 then b ∷ 47 ∷ [] else b ∷ []
+path_text word = word
 
 -- a literal as JSON writes it, or as it was written
 abbrev pub value_text : Value → List ℕ
@@ -137,6 +148,8 @@ word_of (Join Or) = text_of fixed.Or
 word_of (Join Xor) = text_of fixed.Xor
 word_of (Join And) = text_of fixed.And
 word_of Not = text_of fixed.Not
+word_of If = text_of fixed.If
+word_of Then = text_of fixed.Then
 word_of Each = text_of fixed.Each
 word_of Any = text_of fixed.Any
 word_of AtWord = text_of fixed.At
@@ -202,13 +215,19 @@ laid [] = []
 laid (t ∷ ts) = word_of t ++ laid_behind t ts
 
 abbrev pub printed : Tree → List ℕ
-printed e = laid (signs_at (By Or) e)
+printed e = laid (signs_at Whole e)
 
--- a path that a rule can write: empty, or / and more that shows, with no space, mark, operator or #
+-- how a path begins that is not empty: with / and more, or with ^ and such a pointer
+abbrev pub Begins : ℕ → ℕ → List ℕ → Type 0
+Begins b c [] = b ≡ 47
+Begins b c bytes = (b ≡ 47) ⊎ (b ≡ 94) × (c ≡ 47)
+
+-- A path that a rule can write: empty, or / and more, or ^ and such a pointer, with no no-break
+-- space, space, mark, operator, # or control character.
 abbrev pub IsPath : List ℕ → Type 0
 IsPath [] = Unit {0}
-IsPath (b ∷ []) = ⊥
-IsPath (b ∷ c ∷ bytes) = (b ≡ 47) × (list_all (continues Slash) (c ∷ bytes) ≡ true) × (is_shown (b ∷ c ∷ bytes) ≡ true)
+IsPath (b ∷ []) = b ≡ 94
+IsPath (b ∷ c ∷ bytes) = Begins b c bytes × (list_all (continues Slash) (c ∷ bytes) ≡ true) × (is_shown (b ∷ c ∷ bytes) ≡ true)
 
 -- one word of a number that JSON reads as x
 abbrev pub IsDecimal : List ℕ → Float → Type 0
@@ -249,6 +268,7 @@ abbrev mutual
   pub IsPlain : Tree → Type 0
   IsPlain (At path t) = IsPath path × IsPlainTest t
   IsPlain (Denied e) = IsPlain e
+  IsPlain (Implies a b) = IsPlain a × IsPlain b
   IsPlain (Quantified q path e) = IsPath path × IsPlain e × IsPlainQuantifier q
   IsPlain (Joined c es) = ArePlain es
   IsPlain (AtLeast k es) = IsValue (Natural k) × ArePlain es

@@ -13,8 +13,8 @@ use Rattle.predicates_rules.specs.declared.error.Expected.{Expected}
 use Rattle.predicates_rules.specs.declared.error.Expected.TheVariants as expected
 use Rattle.predicates_rules.specs.declared.error.Reason.TheVariants.{TooDeep}
 use Rattle.predicates_rules.specs.declared.stop.Stop.{Stop}
-use Rattle.predicates_rules.specs.Trees.{Value, Natural, Text, Null, Sign, Join, Not, Each, Any, AtWord, Least, Of, Open, Close, OpenList, CloseList, Comma, Path, Compare, Relate, In, Is, Length, IsKind, KindName, Plain, End, Test, TheValueIs, Compares, ComparesWith, HasLength, IsOfKind, Relates, IsAmong, Tree, At, Denied, Quantified, Joined, AtLeast, Trees, none, more}
-use Rattle.predicates_rules.specs.Grammar.{Level, By, Single, tighter}
+use Rattle.predicates_rules.specs.Trees.{Value, Natural, Text, Null, Sign, Join, Not, If, Then, Each, Any, AtWord, Least, Of, Open, Close, OpenList, CloseList, Comma, Path, Compare, Relate, In, Is, Length, IsKind, KindName, Plain, End, Test, TheValueIs, Compares, ComparesWith, HasLength, IsOfKind, Relates, IsAmong, Tree, At, Denied, Implies, Quantified, Joined, AtLeast, Trees, none, more}
+use Rattle.predicates_rules.specs.Grammar.{Level, By, Single, Whole, Premise, tighter}
 use Rattle.predicates_rules.specs.Answers.{◌>>=◌, stops}
 
 abbrev pub Answer : Type 0
@@ -104,6 +104,10 @@ unfoldable pub after_close : Expected → List Sign → Result (List Sign) Stop
 after_close x (Close ∷ ts) = Ok ts
 after_close x ts = fails x ts
 
+unfoldable pub after_then : List Sign → Result (List Sign) Stop
+after_then (Then ∷ ts) = Ok ts
+after_then ts = fails expected.Then ts
+
 unfoldable pub after_least : List Sign → Result (List Sign) Stop
 after_least (Least ∷ ts) = Ok ts
 after_least ts = fails expected.Least ts
@@ -131,7 +135,7 @@ after_separator separators.Comma ts = after_comma ts
 
 unfoldable pub group : (Level → List Sign → Answer) → List Sign → Answer
 group deeper ts = do
-  e ← deeper (By Or) ts
+  e ← deeper Whole ts
   rest ← after_close expected.Close e.1
   Ok (e.0, rest)
 
@@ -155,8 +159,8 @@ parts_at (suc k) s part ts = with_next part (parts_at k s part) ts (after_separa
 -- the parts that a threshold lists
 unfoldable pub listed : (Level → List Sign → Answer) → ℕ → List Sign → Answer
 listed deeper k ts = do
-  e ← deeper (By Or) ts
-  x ← parts_at (length e.1) separators.Comma (deeper (By Or)) e.1
+  e ← deeper Whole ts
+  x ← parts_at (length e.1) separators.Comma (deeper Whole) e.1
   rest ← after_close expected.PartsGoOn x.1
   Ok (AtLeast k (more e.0 x.0), rest)
 
@@ -191,16 +195,45 @@ chain c part ts = do
   x ← parts_at (length e.1) (separators.Connective c) part e.1
   Ok (join c e.0 x.0, x.1)
 
+-- what `or` and what binds tighter joins
+abbrev pub loosest : (Level → List Sign → Answer) → List Sign → Answer
+loosest deeper = chain Or (chain Xor (chain And (single deeper)))
+
+-- what stands behind an `if`
+unfoldable pub implication : (Level → List Sign → Answer) → List Sign → Answer
+implication deeper ts = do
+  a ← deeper Premise ts
+  us ← after_then a.1
+  b ← deeper Whole us
+  Ok (Implies a.0 b.0, b.1)
+
+-- whether an expression other than an implication may begin so
+abbrev pub begins : Sign → Bool
+begins (Path path) = true
+begins Not = true
+begins Open = true
+begins Each = true
+begins Any = true
+begins AtWord = true
+begins t = false
+
+unfoldable pub whole : (Level → List Sign → Answer) → List Sign → Answer
+whole deeper [] = fails expected.Whole []
+whole deeper (If ∷ ts) = implication deeper ts
+whole deeper (t ∷ ts) = if begins t then loosest deeper (t ∷ ts) else fails expected.Whole (t ∷ ts)
+
 unfoldable pub at_level : (Level → List Sign → Answer) → Level → List Sign → Answer
 at_level deeper Single ts = single deeper ts
 at_level deeper (By And) ts = chain And (single deeper) ts
 at_level deeper (By Xor) ts = chain Xor (chain And (single deeper)) ts
-at_level deeper (By Or) ts = chain Or (chain Xor (chain And (single deeper))) ts
+at_level deeper (By Or) ts = loosest deeper ts
+at_level deeper Whole ts = whole deeper ts
+at_level deeper Premise ts = deeper Whole ts
 
 -- a part of a row
 abbrev pub part_at : (Level → List Sign → Answer) → Separator → List Sign → Answer
 part_at deeper (separators.Connective c) = at_level deeper (tighter c)
-part_at deeper separators.Comma = deeper (By Or)
+part_at deeper separators.Comma = deeper Whole
 
 -- what is below n levels of nesting
 unfoldable pub below : ℕ → Level → List Sign → Answer
@@ -216,4 +249,4 @@ unfoldable pub ended : Tree × List Sign → Result Tree Stop
 ended x = if is_end x.1 then Ok x.0 else fails expected.End x.1
 
 unfoldable pub all_of : ℕ → List Sign → Result Tree Stop
-all_of n ts = below (suc n) (By Or) ts >>= ended
+all_of n ts = below (suc n) Whole ts >>= ended

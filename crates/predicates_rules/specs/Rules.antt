@@ -1,5 +1,5 @@
 -- Which text says which rules.
-use Rattle.std.specs.Prelude.{◌≡◌, ℕ, ◌<◌, ◌==◌, nat_eq, true, List, [], ◌∷◌, ◌++◌, map, length, drop, string_bytes, Vec, Option, Some, None, if◌then◌else◌, Result, Ok, Err}
+use Rattle.std.specs.Prelude.{◌≡◌, ◌≢◌, ℕ, ◌<◌, ◌==◌, nat_eq, true, List, [], ◌∷◌, ◌++◌, map, length, drop, string_bytes, Vec, Option, Some, None, if◌then◌else◌, Result, Ok, Err}
 use Rattle.std.specs.declared.alloc.Global.{Global}
 use Rattle.std.specs.List.{prefix_len, list_all, slice_split, starts_with}
 use Rattle.predicates_rules.specs.declared.lexer.Class.TheVariants.{Space, Name}
@@ -48,9 +48,19 @@ without_mark text = if starts_with nat_eq text mark then drop 3 text else text
 abbrev pub lines_of : List ℕ → List (List ℕ)
 lines_of text = slice_split (λ b. b == 10) (without_mark text)
 
+-- no rule has this name
+abbrev pub NoneNamed : List ℕ → List (List ℕ × Tree) → Type 0
+NoneNamed name [] = Unit {0}
+NoneNamed name (r ∷ rs) = (name ≢ r.0) × NoneNamed name rs
+
+-- no two rules have the same name
+abbrev pub AreApart : List (List ℕ × Tree) → Type 0
+AreApart [] = Unit {0}
+AreApart (r ∷ rs) = NoneNamed r.0 rs × AreApart rs
+
 -- the rules of a text
 abbrev pub AreRulesOf : ℕ → List ℕ → List (List ℕ × Tree) → Type 0
-AreRulesOf n text rs = AreRules n (lines_of text) rs
+AreRulesOf n text rs = AreRules n (lines_of text) rs × AreApart rs
 
 -- a rule without where it lies in memory
 abbrev pub rule_of : Rule → List ℕ × Tree

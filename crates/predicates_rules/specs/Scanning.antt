@@ -12,7 +12,7 @@ use Rattle.predicates_rules.specs.declared.lexer.Class.{Class}
 use Rattle.predicates_rules.specs.declared.lexer.Class.TheVariants.{Letter, Digit, Symbol, Mark, Slash, Quote, Other}
 use Rattle.predicates_rules.specs.Trees.{Value, Natural, Negative, Decimal, Text, Boolean, Null, Sign, Path, Plain, sign_of}
 use Rattle.predicates_rules.specs.Answers.{◌>>=◌, stops}
-use Rattle.predicates_rules.specs.Lexemes.{class_of, is_space, fixed_at, sign_of_fixed, cut, is_shown, pointer}
+use Rattle.predicates_rules.specs.Lexemes.{class_of, is_space, fixed_at, sign_of_fixed, cut, is_shown, is_path, pointer}
 
 -- the number that a word is
 abbrev pub number_in : List ℕ → Num → Value
@@ -40,8 +40,8 @@ abbrev pub value_or : Expected → ℕ → Option Value → Result Sign Stop
 value_or x left None = stops x left
 value_or x left (Some v) = Ok (Plain v)
 
-abbrev pub path_or : ℕ → List ℕ → Bool → Result Sign Stop
-path_or left word shows = if shows then Ok (Path (pointer word)) else stops expected.Utf8 left
+abbrev pub path_or : ℕ → List ℕ → Bool → Bool → Result Sign Stop
+path_or left word is shows = if is then (if shows then Ok (Path (pointer word)) else stops expected.Utf8 left) else stops expected.Token left
 
 abbrev pub front_class : List ℕ → Class
 front_class [] = Other
@@ -53,7 +53,7 @@ sign_in Symbol left word = sign_or left (fixed_at word)
 sign_in Mark left word = sign_or left (fixed_at word)
 sign_in Digit left word = value_or expected.Number left (value_at word)
 sign_in Quote left word = value_or expected.Escapes left (value_at word)
-sign_in Slash left word = path_or left word (is_shown word)
+sign_in Slash left word = path_or left word (is_path word) (is_shown word)
 sign_in c left word = stops expected.Token left
 
 abbrev pub with_word : ℕ → Option (List ℕ × List ℕ) → Result (Sign × List ℕ) Stop

@@ -28,6 +28,8 @@ pub data Value : Type 0 where
 pub data Sign : Type 0 where
   Join : (c : Connective) → Sign
   Not : Sign
+  If : Sign
+  Then : Sign
   Each : Sign
   Any : Sign
   AtWord : Sign
@@ -64,6 +66,7 @@ mutual
   pub data Tree : Type 0 where
     At : (path : List ℕ) → (t : Test) → Tree
     Denied : (e : Tree) → Tree
+    Implies : (a : Tree) → (b : Tree) → Tree
     Quantified : (q : Quantifier) → (path : List ℕ) → (e : Tree) → Tree
     Joined : (c : Connective) → (es : Trees) → Tree
     AtLeast : (k : ℕ) → (es : Trees) → Tree
@@ -87,6 +90,8 @@ value_of literals.Null = Null
 abbrev pub sign_of : Kind → Sign
 sign_of (kinds.Join c) = Join c
 sign_of kinds.Not = Not
+sign_of kinds.If = If
+sign_of kinds.Then = Then
 sign_of kinds.Each = Each
 sign_of kinds.Any = Any
 sign_of kinds.At = AtWord
@@ -124,6 +129,7 @@ test_of (conditions.In vs) = IsAmong (map value_of vs.items)
 abbrev pub tree_step : Expression-F Tree → Tree
 tree_step (Expression-F.Test path condition) = At (string_bytes path) (test_of condition)
 tree_step (Expression-F.Not e) = Denied (box_value e)
+tree_step (Expression-F.Implies a b) = Implies (box_value a) (box_value b)
 tree_step (Expression-F.Quantified q path e) = Quantified q (string_bytes path) (box_value e)
 tree_step (Expression-F.Joined c es) = Joined c (trees_of es.items)
 tree_step (Expression-F.AtLeast k es) = AtLeast k (trees_of es.items)

@@ -1,14 +1,13 @@
 -- The text of an expression, part by part as it is written.
 use Rattle.std.specs.Prelude.{ℕ, zero, suc, List, [], ◌∷◌, ◌++◌, codes, decimal, if◌then◌else◌}
 use Rattle.std.specs.List.{flat_map}
-use Rattle.predicates_rules.specs.declared.expression.Connective.TheVariants.{Or}
 use Rattle.predicates_rules.specs.declared.expression.Quantifier.{Quantifier}
 use Rattle.predicates_rules.specs.declared.expression.Quantifier.TheVariants as quantifiers
 use Rattle.predicates_rules.specs.declared.parser.Separator.{Separator}
 use Rattle.predicates_rules.specs.declared.parser.Separator.TheVariants as separators
-use Rattle.predicates_rules.specs.Trees.{Value, Text, Join, Compare, Relate, Is, Test, TheValueIs, Compares, ComparesWith, HasLength, IsOfKind, Relates, IsAmong, Tree, At, Denied, Quantified, Joined, AtLeast, Trees, none, more}
-use Rattle.predicates_rules.specs.Grammar.{Level, By, Single, part_level}
-use Rattle.predicates_rules.specs.Printing.{kind_sign, test_signs, stands_at, path_text, value_text, word_of, laid}
+use Rattle.predicates_rules.specs.Trees.{Value, Text, Join, Compare, Relate, Is, Test, TheValueIs, Compares, ComparesWith, HasLength, IsOfKind, Relates, IsAmong, Tree, At, Denied, Implies, Quantified, Joined, AtLeast, Trees, none, more}
+use Rattle.predicates_rules.specs.Grammar.{Level, Single, Whole, part_level}
+use Rattle.predicates_rules.specs.Printing.{kind_sign, test_signs, stands_at, takes_if, path_text, value_text, word_of, laid}
 
 -- v , .. , v
 abbrev pub items_text : List Value → List ℕ
@@ -36,11 +35,19 @@ separator_text separators.Comma = codes ", "
 abbrev pub grouped : List ℕ → List ℕ
 grouped text = codes "(" ++ (text ++ codes ")")
 
+-- what stands before the premise of an implication, and behind its conclusion
+abbrev pub opening : Level → List ℕ
+opening l = if takes_if l then codes "if " else codes "(if "
+
+abbrev pub closing : Level → List ℕ
+closing l = if takes_if l then [] else codes ")"
+
 abbrev mutual
   pub tree_text : Level → Tree → List ℕ
   tree_text l (At path t) = path_text path ++ (codes " " ++ laid (test_signs t))
   tree_text l (Denied e) = codes "not " ++ tree_text Single e
-  tree_text l (Quantified q path e) = quantifier_text q ++ (codes " " ++ (path_text path ++ (codes " " ++ grouped (tree_text (By Or) e))))
+  tree_text l (Implies a b) = opening l ++ (tree_text Whole a ++ (codes " then " ++ (tree_text Whole b ++ closing l)))
+  tree_text l (Quantified q path e) = quantifier_text q ++ (codes " " ++ (path_text path ++ (codes " " ++ grouped (tree_text Whole e))))
   tree_text l (Joined c es) = if stands_at l c es then row_text (separators.Connective c) es else grouped (row_text (separators.Connective c) es)
   tree_text l (AtLeast k es) = codes "at least " ++ (decimal k ++ (codes " of " ++ grouped (row_text separators.Comma es)))
 

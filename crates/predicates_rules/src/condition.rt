@@ -51,7 +51,8 @@ pub enum ValueKind {
 pub enum Condition {
     Is(State),
     Compare(Comparison, Literal),
-    /// How it compares with the value at another path, a pointer from where the first one begins.
+    /// How it compares with the value at another path, which begins where the first one does or,
+    /// behind `^`, at the record.
     CompareWith(Comparison, String),
     /// How its length compares with a number: a text has characters, an array items, an object
     /// members.

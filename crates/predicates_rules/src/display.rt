@@ -1,6 +1,6 @@
 //! Rules as text, which is read again as the same rules.
 
 mod condition;
-mod expression;
+pub mod expression;
 mod literal;
 mod words;

@@ -8,12 +8,15 @@ use std::fmt;
 /// What could have stood at a place.
 #[derive(Clone, Copy, Debug, PartialEq, Eq)]
 pub enum Expected {
-    /// The name of a rule, which may be a text in quotes of which each character shows.
+    /// The name of a rule, which may be a text in quotes, not empty, with no control character and
+    /// no no-break space.
     Name,
     /// The colon behind a rule's name.
     Colon,
     /// A path, `not`, `each`, `any`, `at` or a parenthesis.
     Expression,
+    /// One of these, or `if`.
+    Whole,
     Path,
     /// An operator, or a word such as `exists`.
     Condition,
@@ -41,6 +44,8 @@ pub enum Expected {
     Open,
     /// The parenthesis that closes, or `or`, `xor` or `and`.
     Close,
+    /// The word `then` behind `if`, or `or`, `xor` or `and`.
+    Then,
     /// The end of the line, or `or`, `xor` or `and`.
     End,
     /// A word, an operator, a path or a literal.
@@ -62,6 +67,7 @@ impl fmt::Display for Expected {
             Expected::Name => "the name of a rule",
             Expected::Colon => "`:` behind the name of a rule",
             Expected::Expression => "a path, `not`, `each`, `any`, `at` or `(`",
+            Expected::Whole => "a path, `not`, `each`, `any`, `at`, `if` or `(`",
             Expected::Path => "a path",
             Expected::Condition => "an operator, `exists`, `missing`, `is_empty`, `length` or `is`",
             Expected::Literal => "a literal",
@@ -77,6 +83,7 @@ impl fmt::Display for Expected {
             Expected::PartsGoOn => "`,`, `)`, `or`, `xor` or `and`",
             Expected::Open => "`(`",
             Expected::Close => "`)`, `or`, `xor` or `and`",
+            Expected::Then => "`then`, `or`, `xor` or `and`",
             Expected::End => "the end of the line, `or`, `xor` or `and`",
             Expected::Token => "a word, an operator, a path or a literal",
             Expected::Number => "a number as JSON writes it, in the range of a 64-bit float",
@@ -94,6 +101,8 @@ pub enum Reason {
     Expected(Expected),
     /// It nests deeper than `MAX_DEPTH`.
     TooDeep,
+    /// Its name is that of the rule on this line, counted from 1.
+    Repeated(usize),
 }
 
 impl fmt::Display for Reason {
@@ -101,6 +110,7 @@ impl fmt::Display for Reason {
         match self {
             Reason::Expected(expected) => write!(f, "expected {expected}"),
             Reason::TooDeep => write!(f, "nested more than {MAX_DEPTH} deep"),
+            Reason::Repeated(line) => write!(f, "the name stands on line {line} already"),
         }
     }
 }

@@ -2,8 +2,9 @@
 
 use crate::condition::Condition;
 
-/// How deep a rule may nest: by parentheses, `not`, `each`, `any` and `at least`. What is joined or
-/// listed in a row is not nested, so a row may be longer.
+/// How deep a rule may nest: by parentheses, `not`, `if`, `each`, `any` and `at least`. What stands
+/// between `if` and `then` counts two levels, so that denied and alone it is no deeper. What is
+/// joined or listed in a row is not nested, so a row may be longer.
 pub const MAX_DEPTH: u32 = 100;
 
 /// What joins expressions, the weakest first.
@@ -26,13 +27,18 @@ pub enum Quantifier {
 
 /// What a rule says of a record.
 ///
-/// A path is a JSON pointer: empty for the record itself, which a rule writes as `/`. Its `~0` and
-/// `~1` stand as they were written. Under `Quantified` paths begin at the item.
+/// A path is a JSON pointer that begins at the record, or under `Quantified` at the item. It is
+/// empty for that itself, which a rule writes as `/`. Behind `^` it begins at the record there too:
+/// `^/a`, and `^` alone for the record, which a rule writes as `^/`. Its `~0` and `~1` stand as they
+/// were written.
 #[derive(Debug, Drop)]
 pub enum Expression {
     /// What is said of the value at a path.
     Test(String, Condition),
     Not(Box<Expression>),
+    /// Where the first one holds, so does the second: `if A then B`, the weakest operator, which
+    /// means `not A or B`.
+    Implies(Box<Expression>, Box<Expression>),
     /// How many items of the list at a path meet the expression.
     Quantified(Quantifier, String, Box<Expression>),
     /// Two parts or more, in the order of the text. What one connective joins in a row is one

@@ -14,7 +14,7 @@ pub struct Fault {
     pub column: usize,
     pub reason: Reason,
     /// What stands there, behind spaces: a token or as much as belongs together, nothing at the
-    /// end of the line, and a comment from its `#` on.
+    /// end of the line, and a comment from its `#` on. Of a repeated name, the name.
     pub found: Vec<u8>,
     /// What was likely meant.
     pub hint: Option<Hint>,
@@ -34,17 +34,21 @@ impl fmt::Display for Found<'_> {
     }
 }
 
-/// One line: `line 1, column 7: expected .., found `=`; did you mean `==`?`. Of what was found it
-/// quotes 32 characters, and escapes what does not print.
+/// One line: `line 1, column 7: expected .., found `=`; did you mean `==`?`, or `line 4, column 1:
+/// the name `adult` stands on line 2 already`. Of what was found it quotes 32 characters, and
+/// escapes what does not print.
 impl fmt::Display for Fault {
     fn fmt<W: fmt::Write>(&self, f: &mut fmt::Formatter<W>) -> fmt::Result {
-        write!(
-            f,
-            "line {}, column {}: {}",
-            self.line, self.column, self.reason
-        )?;
-        if let Reason::Expected(_) = self.reason {
-            write!(f, ", found {}", Found(&self.found))?;
+        write!(f, "line {}, column {}: ", self.line, self.column)?;
+        match self.reason {
+            Reason::Expected(expected) => {
+                write!(f, "expected {expected}, found {}", Found(&self.found))?;
+            }
+            Reason::TooDeep => write!(f, "{}", self.reason)?,
+            Reason::Repeated(line) => {
+                let name = Quoted(&self.found);
+                write!(f, "the name `{name}` stands on line {line} already")?;
+            }
         }
         match self.hint {
             Some(hint) => write!(f, "; {hint}"),

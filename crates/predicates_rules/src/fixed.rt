@@ -17,6 +17,8 @@ pub enum Fixed {
     Xor,
     And,
     Not,
+    If,
+    Then,
     Each,
     Any,
     At,
@@ -55,11 +57,13 @@ pub enum Fixed {
 }
 
 /// All of them.
-pub const ALL: [Fixed; 39] = [
+pub const ALL: [Fixed; 41] = [
     Fixed::Or,
     Fixed::Xor,
     Fixed::And,
     Fixed::Not,
+    Fixed::If,
+    Fixed::Then,
     Fixed::Each,
     Fixed::Any,
     Fixed::At,
@@ -106,6 +110,8 @@ pub fn text(fixed: Fixed) -> &'static [u8]
         Fixed::Xor => b"xor",
         Fixed::And => b"and",
         Fixed::Not => b"not",
+        Fixed::If => b"if",
+        Fixed::Then => b"then",
         Fixed::Each => b"each",
         Fixed::Any => b"any",
         Fixed::At => b"at",
@@ -153,6 +159,8 @@ pub fn kind(fixed: Fixed) -> Kind
         Fixed::Xor => Kind::Join(Connective::Xor),
         Fixed::And => Kind::Join(Connective::And),
         Fixed::Not => Kind::Not,
+        Fixed::If => Kind::If,
+        Fixed::Then => Kind::Then,
         Fixed::Each => Kind::Each,
         Fixed::Any => Kind::Any,
         Fixed::At => Kind::At,

@@ -16,6 +16,8 @@ pub enum Hint {
     Path,
     /// A text, whose double quotes are missing.
     Text,
+    /// An implication in parentheses, which are missing.
+    Parentheses,
 }
 
 impl fmt::Display for Hint {
@@ -24,12 +26,13 @@ impl fmt::Display for Hint {
             Hint::Meant(word) => write!(f, "did you mean `{word}`?"),
             Hint::Path => f.write_str("a path begins with `/`"),
             Hint::Text => f.write_str("a text stands in double quotes"),
+            Hint::Parentheses => f.write_str("`if` needs parentheses here"),
         }
     }
 }
 
 // What other languages write, and what a rule writes.
-const OTHER_NAMES: [(&str, &str); 26] = [
+const OTHER_NAMES: [(&str, &str); 28] = [
     ("=", "=="),
     ("===", "=="),
     ("!==", "!="),
@@ -47,6 +50,8 @@ const OTHER_NAMES: [(&str, &str); 26] = [
     ("all", "each"),
     ("every", "each"),
     ("some", "any"),
+    ("implies", "if .. then"),
+    ("when", "if"),
     ("empty", "is_empty"),
     ("begins_with", "starts_with"),
     ("like", "matches"),
@@ -117,6 +122,7 @@ fn place_behind(before: &[u8]) -> Place {
     }
     match last_word(before) {
         b"not" | b"and" | b"or" | b"xor" | b"each" | b"any" => Place::Expression,
+        b"if" | b"then" => Place::Expression,
         b"starts_with" | b"ends_with" | b"contains" | b"matches" => Place::Literal,
         _ => Place::Unknown,
     }
@@ -151,9 +157,12 @@ fn unknown_word(
 }
 
 // Of a word of rules that stands where none can.
-fn known_word(reason: Reason, after: &[u8]) -> Option<Hint> {
+fn known_word(reason: Reason, word: &str, after: &[u8]) -> Option<Hint> {
     match reason {
-        Reason::Expected(Expected::Expression) if is_compared(after) => Some(Hint::Path),
+        Reason::Expected(Expected::Expression | Expected::Whole) if is_compared(after) => {
+            Some(Hint::Path)
+        }
+        Reason::Expected(Expected::Expression) if word == "if" => Some(Hint::Parentheses),
         _ => None,
     }
 }
@@ -161,7 +170,7 @@ fn known_word(reason: Reason, after: &[u8]) -> Option<Hint> {
 // Whether a token of an expression was expected; else a name, or another end of a token.
 fn is_of_expression(reason: Reason) -> bool {
     match reason {
-        Reason::TooDeep => false,
+        Reason::TooDeep | Reason::Repeated(_) => false,
         Reason::Expected(expected) => match expected {
             Expected::Name | Expected::Colon | Expected::Utf8 => false,
             Expected::Number | Expected::Escapes | Expected::Quote => false,
@@ -188,11 +197,12 @@ pub(crate) fn hint_at(
         return Ok(Some(Hint::Meant(meant)));
     }
     match word.chars().next() {
+        Some('^') => Ok(Some(Hint::Path)),
         Some('&') => Ok(Some(Hint::Meant("and"))),
         Some('|') => Ok(Some(Hint::Meant("or"))),
         Some('\'' | '\u{2018}' | '\u{201c}') => Ok(Some(Hint::Text)),
         Some(c) if c.is_alphabetic() || c == '_' || c == '$' => match fixed_of(found) {
-            Some(_) => Ok(known_word(reason, after)),
+            Some(_) => Ok(known_word(reason, word, after)),
             None => unknown_word(alloc, before, word, after),
         },
         _ => Ok(None),

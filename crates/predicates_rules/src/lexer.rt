@@ -5,7 +5,7 @@ ghost use Rattle.std.specs.List.{list_any, prefix_len};
 ghost use Rattle.std.specs.Str.{chars};
 ghost use Rattle.serde_json.specs.View.{view, number_view};
 ghost use Rattle.predicates_rules.specs.Trees.{Sign, sign_of, value_of};
-ghost use Rattle.predicates_rules.specs.Lexemes.{class_of, continues, is_control, is_hidden, is_masked, is_quoted, is_shown, is_title, is_space, is_over, text_end, token_len, cut, pointer, IsLexed};
+ghost use Rattle.predicates_rules.specs.Lexemes.{class_of, continues, is_control, is_hidden, is_masked, is_path, is_quoted, is_shown, is_title, is_space, is_over, text_end, token_len, cut, pointer, IsLexed};
 ghost use Rattle.predicates_rules.specs.Scanning.{number_in, value_in, value_at, front_class, path_or, sign_in, token_at, after_space, placed};
 ghost use Rattle.predicates_rules.specs.Heading.{title_or};
 ghost use Rattle.predicates_rules.specs.Answers.{Gives, IsStop, stop_at};
@@ -42,7 +42,7 @@ fn class_at(b: u8) -> Class
         b'0'..=b'9' | b'-' => Class::Digit,
         b'=' | b'!' | b'<' | b'>' => Class::Symbol,
         b'(' | b')' | b',' | b'[' | b']' => Class::Mark,
-        b'/' => Class::Slash,
+        b'/' | b'^' => Class::Slash,
         b'"' => Class::Quote,
         _ => Class::Other,
     }
@@ -234,10 +234,10 @@ pub fn stop(expected: Expected, left: usize) -> ReadError
 fn pointer_of(alloc: Global, path: &str) -> Result<String, ReadError>
     ensures { Gives string_bytes result (Ok (pointer path.now)) }
 {
-    if path.len() == 1 {
-        Ok(String::new(alloc))
-    } else {
-        Ok(String::from_str(alloc, path)?)
+    match path.as_bytes() {
+        [_] => Ok(String::new(alloc)),
+        [b'^', b'/'] => Ok(String::from_str(alloc, "^")?),
+        _ => Ok(String::from_str(alloc, path)?),
     }
 }
 
@@ -256,7 +256,7 @@ fn hides(text: &str) -> bool
     text.chars().any(|c| is_hidden(c))
 }
 
-/// The text that bytes are, if each of its characters shows.
+/// The text that bytes are, if it has no no-break space and no control character beyond ASCII.
 #[tactic(auto, unfolding(crate::specs::Lexemes::is_shown))]
 pub fn shown(bytes: &[u8]) -> Option<&str>
     ensures cases { MatchOption result (is_shown bytes.now ≡ false)
@@ -313,9 +313,22 @@ pub fn is_quoted(text: &[u8]) -> bool
     }
 }
 
-fn path_token(alloc: Global, left: usize, word: &[u8]) -> Result<Kind, ReadError>
-    ensures { Gives sign_of result (path_or left word.now (is_shown word.now)) }
+fn is_path(word: &[u8]) -> bool
+    ensures { result ≡ is_path word.now }
 {
+    match word {
+        [b'/', ..] => true,
+        [b'^', b'/', ..] => true,
+        _ => false,
+    }
+}
+
+fn path_token(alloc: Global, left: usize, word: &[u8]) -> Result<Kind, ReadError>
+    ensures { Gives sign_of result (path_or left word.now (is_path word.now) (is_shown word.now)) }
+{
+    if !is_path(word) {
+        return Err(stop(Expected::Token, left));
+    }
     let Some(path) = shown(word) else {
         return Err(stop(Expected::Utf8, left));
     };

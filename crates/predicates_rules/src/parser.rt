@@ -2,11 +2,10 @@
 
 ghost use Rattle.std.specs.Prelude.{◌≡◌, ℕ, List, [], map, option_map, string_bytes, IfOk, IfErr, Ok, length};
 ghost use Rattle.predicates_rules.specs.Trees.{Tree, Sign, value_of, test_of, tree_of, trees_of, signs};
-ghost use Rattle.predicates_rules.specs.Grammar.{tighter, part_level, By, Single, IsSpelled};
-ghost use Rattle.predicates_rules.specs.declared.expression.Connective.TheVariants.{Or};
+ghost use Rattle.predicates_rules.specs.Grammar.{tighter, part_level, Whole, IsSpelled};
 ghost use Rattle.predicates_rules.specs.Levels.{level_of};
 ghost use Rattle.predicates_rules.specs.Answers.{Gives, IsSyntax, stop_at};
-ghost use Rattle.predicates_rules.specs.Reading.{literal_at, goes_on_at, items_at, list_at, after_bracket, text_at, compared_at, comparison_at, length_at, kind_at, test_at, path_at, after_open, after_close, after_least, count_at, same, after_join, after_comma, after_separator, group, quantified, listed, counted, threshold, single, part_at, parts_at, join, chain, at_level, below, is_end, all_of};
+ghost use Rattle.predicates_rules.specs.Reading.{literal_at, goes_on_at, items_at, list_at, after_bracket, text_at, compared_at, comparison_at, length_at, kind_at, test_at, path_at, after_open, after_close, after_then, after_least, count_at, same, after_join, after_comma, after_separator, group, quantified, listed, counted, threshold, single, part_at, parts_at, join, chain, implication, whole, at_level, below, is_end, all_of};
 
 use crate::condition::{Comparison, Condition, ValueKind};
 use crate::error::{Expected, Reason};
@@ -79,6 +78,19 @@ fn close(expected: Expected, tokens: &[Token]) -> Result<&[Token], ReadError>
     match first.kind {
         Kind::Close => Ok(rest),
         _ => Err(stop(expected, tokens)),
+    }
+}
+
+#[tactic(auto, unfolding(crate::specs::Reading::after_then))]
+fn then(tokens: &[Token]) -> Result<&[Token], ReadError>
+    ensures { Gives (λ x. signs x.now) result (after_then (signs tokens.now)) }
+{
+    let [first, rest @ ..] = tokens else {
+        return Err(stop(Expected::Then, tokens));
+    };
+    match first.kind {
+        Kind::Then => Ok(rest),
+        _ => Err(stop(Expected::Then, tokens)),
     }
 }
 
@@ -348,6 +360,10 @@ fn with_others(
 pub enum Grip {
     By(Connective),
     Single,
+    /// An implication too.
+    Whole,
+    /// What stands behind an `if`: it counts one level more.
+    Premise,
 }
 
 pub fn next_tighter(connective: Connective) -> Grip
@@ -394,6 +410,8 @@ fn at_grip(
     match grip {
         Grip::By(connective) => joined(alloc, connective, depth, tokens),
         Grip::Single => alone(alloc, depth, tokens),
+        Grip::Whole => whole(alloc, depth, tokens),
+        Grip::Premise => deeper(alloc, Grip::Whole, depth, tokens),
     }
 }
 
@@ -428,7 +446,7 @@ fn part(
         Separator::Connective(connective) => {
             at_grip(alloc, next_tighter(connective), depth, tokens)
         }
-        Separator::Comma => deeper(alloc, Grip::By(Connective::Or), depth, tokens),
+        Separator::Comma => deeper(alloc, Grip::Whole, depth, tokens),
     }
 }
 
@@ -452,6 +470,44 @@ fn others(
         left = rest;
     }
     Ok((parts, left))
+}
+
+// An expression that may be an implication.
+#[cycle(reader)]
+#[tactic(auto, unfolding(crate::specs::Reading::whole, crate::specs::Reading::at_level))]
+fn whole(alloc: Global, depth: u32, tokens: &[Token]) -> Result<(Expression, &[Token]), ReadError>
+    ensures { Gives (λ x. (tree_of x.0, signs x.1.now)) result
+        (whole (below depth) (signs tokens.now)) }
+{
+    let [first, rest @ ..] = tokens else {
+        return Err(stop(Expected::Whole, tokens));
+    };
+    match first.kind {
+        Kind::If => implication(alloc, depth, rest),
+        Kind::Path(_) | Kind::Not | Kind::Open | Kind::Each | Kind::Any | Kind::At => {
+            joined(alloc, Connective::Or, depth, tokens)
+        }
+        _ => Err(stop(Expected::Whole, tokens)),
+    }
+}
+
+// What stands behind an `if`.
+#[cycle(reader)]
+#[tactic(auto, unfolding(crate::specs::Reading::implication))]
+fn implication(
+    alloc: Global,
+    depth: u32,
+    tokens: &[Token],
+) -> Result<(Expression, &[Token]), ReadError>
+    ensures { Gives (λ x. (tree_of x.0, signs x.1.now)) result
+        (implication (below depth) (signs tokens.now)) }
+{
+    let (premise, rest) = deeper(alloc, Grip::Premise, depth, tokens)?;
+    let rest = then(rest)?;
+    let (conclusion, rest) = deeper(alloc, Grip::Whole, depth, rest)?;
+    let premise = Box::new(alloc, premise)?;
+    let conclusion = Box::new(alloc, conclusion)?;
+    Ok((Expression::Implies(premise, conclusion), rest))
 }
 
 #[cycle(reader)]
@@ -490,7 +546,7 @@ fn in_parentheses(
     ensures { Gives (λ x. (tree_of x.0, signs x.1.now)) result
         (group (below depth) (signs tokens.now)) }
 {
-    let (inner, rest) = deeper(alloc, Grip::By(Connective::Or), depth, tokens)?;
+    let (inner, rest) = deeper(alloc, Grip::Whole, depth, tokens)?;
     let rest = close(Expected::Close, rest)?;
     Ok((inner, rest))
 }
@@ -589,7 +645,7 @@ fn is_last(tokens: &[Token]) -> bool
 fn all(alloc: Global, tokens: &[Token]) -> Result<Expression, ReadError>
     ensures { Gives tree_of result (all_of MAX_DEPTH (signs tokens.now)) }
 {
-    let (expression, rest) = at_grip(alloc, Grip::By(Connective::Or), MAX_DEPTH, tokens)?;
+    let (expression, rest) = at_grip(alloc, Grip::Whole, MAX_DEPTH, tokens)?;
     if !is_last(rest) {
         return Err(stop(Expected::End, rest));
     }

@@ -1,21 +1,18 @@
 //! The rules of a file.
 
-ghost use Rattle.std.specs.Prelude.{◌≡◌, ◌≢◌, ℕ, ◌+◌, ◌≤◌, List, Option, IfOk, IfErr, map, option_map, length};
+ghost use Rattle.std.specs.Prelude.{◌≡◌, ℕ, ◌≤◌, List, IfOk, IfErr, map};
 ghost use Rattle.predicates_rules.specs.declared.error.RulesError.TheVariants.{NoMemory};
-ghost use Rattle.predicates_rules.specs.Trees.{Tree};
-ghost use Rattle.predicates_rules.specs.declared.expression.Connective.TheVariants.{Or};
-ghost use Rattle.predicates_rules.specs.Grammar.{By, max_depth};
+ghost use Rattle.predicates_rules.specs.Trees.{Tree, Denied, Implies};
+ghost use Rattle.predicates_rules.specs.Grammar.{Whole, max_depth};
 ghost use Rattle.predicates_rules.specs.Printing.{IsProper, IsPlain, nesting_at, printed};
-ghost use Rattle.predicates_rules.specs.Rules.{AreRules, AreRulesOf, AreRead, IsLine, Says, lines_of, without_mark, rule_of};
-ghost use Rattle.predicates_rules.specs.Faults.{HasFaults, IsFaultAt, IsTold, IsFaultOf, IsErrorAt, IsLineError, IsSyntaxError};
+ghost use Rattle.predicates_rules.specs.Rules.{AreRules, AreApart, AreRulesOf, AreRead, Says, lines_of, without_mark, rule_of};
+ghost use Rattle.predicates_rules.specs.Faults.{HasFaults, IsFaultOf, IsSyntaxError};
+ghost use Rattle.predicates_rules.specs.Findings.{rules_in, IsOutcome};
 
 use crate::error::RulesError;
 use crate::expression::Expression;
 use crate::fault::Fault;
-use crate::hint::hint_at;
-use crate::lexer::told_len;
-use crate::reader::{behind_spaces, read_line};
-use crate::stop::{ReadError, Stop};
+use crate::findings::{Findings, read_lines, unnumbered};
 use std::alloc::{AllocError, AllocFailed, Global};
 
 /// A rule: what it is called, and what it says of a record.
@@ -41,47 +38,6 @@ impl<T: Drop> From<AllocFailed<T>> for RulesError {
     }
 }
 
-// The fault where a line of this number stops.
-fn fault_at(alloc: Global, stop: Stop, number: usize, line: &[u8]) -> Result<Fault, AllocError>
-    ensures { IfOk result (IsFaultAt number line.now stop) }
-{
-    let (before, rest) = line.split_at(line.len().saturating_sub(stop.left));
-    let rest = behind_spaces(rest);
-    let (word, after) = rest.split_at(told_len(rest));
-    let mut found = Vec::new(alloc);
-    found.extend_from_slice(word)?;
-    Ok(Fault {
-        line: number,
-        column: line.len().saturating_sub(stop.left) + 1,
-        reason: stop.reason,
-        found,
-        hint: hint_at(alloc, stop.reason, before, word, after)?,
-    })
-}
-
-fn placed(alloc: Global, error: ReadError, number: usize, line: &[u8]) -> RulesError
-    ensures { IsErrorAt number line.now error result }
-{
-    match error {
-        ReadError::Memory => RulesError::NoMemory,
-        ReadError::Stopped(stop) => match fault_at(alloc, stop, number, line) {
-            Ok(fault) => RulesError::Unreadable(fault),
-            Err(_) => RulesError::NoMemory,
-        },
-    }
-}
-
-// The rule of a line with this number, which may be blank.
-fn rule_at(alloc: Global, number: usize, line: &[u8]) -> Result<Option<Rule>, RulesError>
-    ensures found { IfOk result (λ o. IsLine max_depth line.now (option_map rule_of o)) }
-    ensures error { IfErr result (IsLineError number line.now) }
-{
-    match read_line(alloc, line) {
-        Ok(rule) => Ok(rule),
-        Err(error) => Err(placed(alloc, error, number, line)),
-    }
-}
-
 /// What a text says, behind the byte order mark that an editor may have put before it.
 ///
 /// ```
@@ -103,22 +59,27 @@ fn parted<'a>(alloc: Global, text: &'a [u8]) -> Result<Vec<&'a [u8]>, AllocError
     without_mark(text).split(|b| *b == b'\n').collect(alloc)
 }
 
+// The rules, or the first of the faults.
+fn rules_or_fault(alloc: Global, mut findings: Findings) -> Result<Vec<Rule>, RulesError>
+    ensures { IsOutcome (rules_in findings) findings.faults.items result }
+{
+    if findings.faults.is_empty() {
+        return Ok(unnumbered(alloc, findings.rules)?);
+    }
+    Err(RulesError::Unreadable(findings.faults.remove(0)))
+}
+
 fn rules_of(alloc: Global, lines: &[&[u8]]) -> Result<Vec<Rule>, RulesError>
     ensures found { IfOk result (λ v. AreRules max_depth (map (λ x. x.now) lines.now)
-        (map rule_of v.items)) }
+        (map rule_of v.items) × AreApart (map rule_of v.items)) }
     ensures only { (rs : List (List ℕ × Tree)) → AreRules max_depth (map (λ x. x.now) lines.now) rs
-        → AreRead result rs }
+        → AreApart rs → AreRead result rs }
     ensures never { IfErr result (λ e. IsSyntaxError e → (n : ℕ) (rs : List (List ℕ × Tree))
-        → AreRules n (map (λ x. x.now) lines.now) rs → ⊥) }
+        → AreRules n (map (λ x. x.now) lines.now) rs → AreApart rs → ⊥) }
     ensures fault { IfErr result (IsFaultOf (map (λ x. x.now) lines.now)) }
 {
-    let mut rules = Vec::new(alloc);
-    for (i, line) in lines.iter().enumerate() {
-        if let Some(rule) = rule_at(alloc, i + 1, line)? {
-            rules.push(rule)?;
-        }
-    }
-    Ok(rules)
+    let findings = read_lines(alloc, lines, 1)?;
+    rules_or_fault(alloc, findings)
 }
 
 /// Reads the rules of a file, one on a line: `NAME: EXPRESSION`.
@@ -126,9 +87,10 @@ fn rules_of(alloc: Global, lines: &[&[u8]]) -> Result<Vec<Rule>, RulesError>
 /// `#` begins a comment, blank lines are skipped, tabs and carriage returns count as spaces. A byte
 /// order mark before the text is skipped, and no column counts it. A name
 /// has letters, digits, `_`, `-`, `.` and any characters beyond ASCII, or is a text in quotes as
-/// JSON writes it, which is not empty and of which each character shows. It may stand on more than
-/// one line. What nests deeper than 100 is refused as `TooDeep`. Takes memory for the lines, the
-/// tokens of a line and the rules.
+/// JSON writes it, which is not empty and has no control character and no no-break space. It stands
+/// on one line alone: the second one is refused as `Repeated`. What nests deeper than 100 is refused as
+/// `TooDeep`. Takes memory for the lines, the tokens of a line and the rules, and time that grows
+/// with the square of the number of rules.
 ///
 /// ```
 /// let rules = read_rules(alloc, b"adult: /age >= 18 and not /name is_empty")?;
@@ -156,30 +118,11 @@ pub fn read_rules(alloc: Global, text: &[u8]) -> Result<Vec<Rule>, RulesError>
 // How many faults of a text are told at most.
 const MOST_FAULTS: usize = 20;
 
-// The fault of a line with this number, if it has one.
-fn fault_on(alloc: Global, number: usize, line: &[u8]) -> Result<Option<Fault>, AllocError>
-    ensures { IfOk result (IsTold number line.now) }
-{
-    match read_line(alloc, line) {
-        Ok(_rule) => Ok(None),
-        Err(ReadError::Memory) => Err(AllocError),
-        Err(ReadError::Stopped(stop)) => Ok(Some(fault_at(alloc, stop, number, line)?)),
-    }
-}
-
 fn faults_of(alloc: Global, lines: &[&[u8]]) -> Result<Vec<Fault>, AllocError>
     ensures { IfOk result (λ fs. HasFaults (map (λ x. x.now) lines.now) fs.items) }
 {
-    let mut faults = Vec::new(alloc);
-    for (i, line) in lines.iter().enumerate() {
-        if faults.len() == MOST_FAULTS {
-            return Ok(faults);
-        }
-        if let Some(fault) = fault_on(alloc, i + 1, line)? {
-            faults.push(fault)?;
-        }
-    }
-    Ok(faults)
+    let findings = read_lines(alloc, lines, MOST_FAULTS)?;
+    Ok(findings.faults)
 }
 
 /// The fault of each line that has one, in the order of the lines, 20 at most; none where
@@ -208,8 +151,10 @@ pub fn one_meaning()
 pub fn written_is_read()
     // Each join has two parts or more, each threshold one or more, and paths, literals and numbers
     // are such as a rule can write.
-    ensures made { (n : ℕ) (e : Tree) → IsProper e → IsPlain e → nesting_at (By Or) e ≤ n
+    ensures made { (n : ℕ) (e : Tree) → IsProper e → IsPlain e → nesting_at Whole e ≤ n
         → Says n (printed e) e }
     // What a text says, however many parentheses that text has.
     ensures said { (n : ℕ) (text : List ℕ) (e : Tree) → Says n text e → Says n (printed e) e }
+    // What denies the premise of an implication nests no deeper than the implication.
+    ensures denied { (a b : Tree) → nesting_at Whole (Denied a) ≤ nesting_at Whole (Implies a b) }
 {}

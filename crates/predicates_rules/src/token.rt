@@ -8,6 +8,8 @@ use crate::literal::Literal;
 pub enum Kind {
     Join(Connective),
     Not,
+    If,
+    Then,
     Each,
     Any,
     At,

@@ -1,6 +1,7 @@
 //! Rules that are printed, and read again.
 
 use predicates_rules::condition::{Comparison, Condition, Relation, State, ValueKind};
+use predicates_rules::denied::Denied;
 use predicates_rules::expression::{Connective, Expression, Quantifier};
 use predicates_rules::literal::Literal;
 use predicates_rules::rule::{Rule, read_rules, written_is_read};
@@ -47,7 +48,7 @@ fn prints(alloc: Global, text: &str, expected: &str) -> Result<bool, AllocError>
 }
 
 // The expression of a rule, and how it is printed.
-const PRINTED: [(&str, &str); 37] = [
+const PRINTED: [(&str, &str); 46] = [
     ("/a==1", "/a == 1"),
     ("/\t exists", "/ exists"),
     ("/a/b~1c missing", "/a/b~1c missing"),
@@ -63,6 +64,9 @@ const PRINTED: [(&str, &str); 37] = [
     ("/a==1E+2", "/a == 1E+2"),
     ("/start<=/end", "/start <= /end"),
     ("/start==/", "/start == /"),
+    ("^/start==^/", "^/start == ^/"),
+    ("^/ is object", "^/ is object"),
+    ("any/a(^/b>/)", "any /a (^/b > /)"),
     ("/a length>=3", "/a length >= 3"),
     ("/a is   text", "/a is text"),
     ("/a is null", "/a is null"),
@@ -115,6 +119,27 @@ const PRINTED: [(&str, &str); 37] = [
         "not at least 0 of((not(/a exists)))# why",
         "not at least 0 of (not /a exists)",
     ),
+    ("if/a exists then/b exists", "if /a exists then /b exists"),
+    (
+        "if((/a exists or/b exists))then(if/c exists then/d exists)",
+        "if /a exists or /b exists then if /c exists then /d exists",
+    ),
+    (
+        "if(if/a exists then/b exists)then/c exists",
+        "if if /a exists then /b exists then /c exists",
+    ),
+    (
+        "not(if/a exists then/b exists)",
+        "not (if /a exists then /b exists)",
+    ),
+    (
+        "/c exists and(if/a exists then(/b exists and(if/ exists then/ exists)))",
+        "/c exists and (if /a exists then /b exists and (if / exists then / exists))",
+    ),
+    (
+        "at least 1 of((if/a exists then/b exists),any/(if/ exists then/ exists))",
+        "at least 1 of (if /a exists then /b exists, any / (if / exists then / exists))",
+    ),
 ];
 
 #[test]
@@ -134,11 +159,12 @@ const AROUND: [(&str, &str); 4] = [
     ("at least 2 /b (", ")"),
 ];
 
-const BETWEEN: [(&str, &str, &str); 4] = [
+const BETWEEN: [(&str, &str, &str); 5] = [
     ("(", ") or (", ")"),
     ("(", ") xor (", ")"),
     ("(", ") and (", ")"),
     ("at least 1 of (", ", ", ")"),
+    ("if (", ") then (", ")"),
 ];
 
 fn push_around(alloc: Global, texts: &mut Vec<String>, part: &str) -> Result<(), AllocError> {
@@ -227,7 +253,7 @@ fn reads_short_rules_again(rt: HostRuntime) -> Result<(), Fail> {
     let tests = grown(rt.alloc(), &none)?;
     let joins = grown(rt.alloc(), &tests)?;
     let texts = grown(rt.alloc(), &joins)?;
-    assert!(rt; texts.len() == 361);
+    assert!(rt; texts.len() == 541);
     for text in &texts {
         let same = is_read_again(rt.alloc(), text)?;
         assert!(rt; same, "{text}");
@@ -238,6 +264,25 @@ fn reads_short_rules_again(rt: HostRuntime) -> Result<(), Fail> {
 
 fn is_shown(alloc: Global, expression: Expression, expected: &str) -> Result<bool, AllocError> {
     Ok(format!(in alloc; "{expression}")?.as_str() == expected)
+}
+
+#[test]
+fn prints_what_denies_a_rule(rt: HostRuntime) -> Result<(), Fail> {
+    let alloc = rt.alloc();
+    let rules = read_rules(alloc, b"a: /age >= 18 or /guest exists")?;
+    assert!(rt; rules.len() == 1);
+    let text = format!(in alloc; "{}", Denied(&rules[0].expression))?;
+    assert!(rt; text.as_str() == "not (/age >= 18 or /guest exists)");
+    let rules = read_rules(
+        alloc,
+        b"a: if /b exists then not /c exists\nb: not / exists",
+    )?;
+    assert!(rt; rules.len() == 2);
+    let first = format!(in alloc; "{}", Denied(&rules[0].expression))?;
+    assert!(rt; first.as_str() == "not (if /b exists then not /c exists)");
+    let second = format!(in alloc; "{}", Denied(&rules[1].expression))?;
+    assert!(rt; second.as_str() == "not not / exists");
+    Ok(())
 }
 
 // What no rule says: a row of no part, or of one.

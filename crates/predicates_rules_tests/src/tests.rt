@@ -31,7 +31,7 @@ fn shows(alloc: Global, text: &str, expected: &str) -> Result<bool, AllocError> 
 }
 
 // A text, and the rules that it says, as `Debug` shows them.
-const READ: [(&str, &str); 19] = [
+const READ: [(&str, &str); 22] = [
     (
         "\u{feff}# a\na: /b == 1",
         "Rule { name: \"a\", expression: Test(\"/b\", Compare(Equal, Natural(1))) }\n",
@@ -59,8 +59,8 @@ const READ: [(&str, &str); 19] = [
         "Rule { name: \"q\", expression: Quantified(Any, \"/x~1y\", Joined(Xor, [Test(\"\", In([])), Joined(And, [Test(\"\", In([Boolean(true), Boolean(false), Null, Negative(-1), Text(\"#\\\"\")])), Test(\"\", Relate(EndsWith, \"é😀\")), Test(\"\", Relate(Contains, \"\\\\/\"))])])) }\n",
     ),
     (
-        "same: /a <= 1\nsame: /a > 1",
-        "Rule { name: \"same\", expression: Test(\"/a\", Compare(AtMost, Natural(1))) }\nRule { name: \"same\", expression: Test(\"/a\", Compare(Above, Natural(1))) }\n",
+        "same: /a <= 1\nSame: /a > 1",
+        "Rule { name: \"same\", expression: Test(\"/a\", Compare(AtMost, Natural(1))) }\nRule { name: \"Same\", expression: Test(\"/a\", Compare(Above, Natural(1))) }\n",
     ),
     (
         "not: not not /not exists",
@@ -99,6 +99,18 @@ const READ: [(&str, &str); 19] = [
         "Rule { name: \"part\", expression: Joined(And, [Test(\"\", In([Decimal { text: \"1.5\", value: 1.5 }, Decimal { text: \"-0\", value: -0.0 }, Decimal { text: \"18446744073709551616\", value: 1.8446744073709552e19 }, Decimal { text: \"-9223372036854775809\", value: -9.223372036854776e18 }, Decimal { text: \"1e3\", value: 1000.0 }, Decimal { text: \"-2.50E-1\", value: -0.25 }, Decimal { text: \"0.10\", value: 0.1 }])), Test(\"\", Compare(Below, Decimal { text: \"1E+2\", value: 100.0 }))]) }\n",
     ),
     (
+        "i: if /a exists then if /b exists and /c exists then /d exists or /e exists",
+        "Rule { name: \"i\", expression: Implies(Test(\"/a\", Is(Exists)), Implies(Joined(And, [Test(\"/b\", Is(Exists)), Test(\"/c\", Is(Exists))]), Joined(Or, [Test(\"/d\", Is(Exists)), Test(\"/e\", Is(Exists))]))) }\n",
+    ),
+    (
+        "if: (if/if exists then/then exists)or each / (if if / is text then /a exists then / exists)",
+        "Rule { name: \"if\", expression: Joined(Or, [Implies(Test(\"/if\", Is(Exists)), Test(\"/then\", Is(Exists))), Quantified(Each, \"\", Implies(Implies(Test(\"\", IsOf(Text)), Test(\"/a\", Is(Exists))), Test(\"\", Is(Exists))))]) }\n",
+    ),
+    (
+        "c: each /lines (/currency == ^/currency and ^/ exists) or ^/a/b^c == ^/",
+        "Rule { name: \"c\", expression: Joined(Or, [Quantified(Each, \"/lines\", Joined(And, [Test(\"/currency\", CompareWith(Equal, \"^/currency\")), Test(\"^\", Is(Exists))])), Test(\"^/a/b^c\", CompareWith(Equal, \"^\"))]) }\n",
+    ),
+    (
         "\"a guest: 18 #1\":/a == 1 # b\n\t\"\\u00e9\\\"\": / exists\n\"c\": / exists",
         "Rule { name: \"a guest: 18 #1\", expression: Test(\"/a\", Compare(Equal, Natural(1))) }\nRule { name: \"é\\\"\", expression: Test(\"\", Is(Exists)) }\nRule { name: \"c\", expression: Test(\"\", Is(Exists)) }\n",
     ),
@@ -113,8 +125,49 @@ fn reads_rules(rt: HostRuntime) -> Result<(), Fail> {
     Ok(())
 }
 
+// A text in which a name stands twice, and what is told of it.
+const REPEATED: [(&str, &str); 7] = [
+    (
+        "same: /a <= 1\nsame: /a > 1",
+        "line 2, column 1: the name `same` stands on line 1 already",
+    ),
+    (
+        "# b\na: / exists\n\"b c\": / exists\r\n \"\\u0061\": /b exists",
+        "line 4, column 2: the name `a` stands on line 2 already",
+    ),
+    (
+        "ü-1.b: /a exists\n\tü-1.b:/b exists\nc: /d = 1",
+        "line 2, column 2: the name `ü-1.b` stands on line 1 already",
+    ),
+    (
+        "a: /b exists\nb: /b exists\nc: /b exists\nb: / exists\na: / exists",
+        "line 4, column 1: the name `b` stands on line 2 already",
+    ),
+    (
+        "a: /b exists\nc: /d = 1\na: / exists",
+        "line 2, column 7: expected a word, an operator, a path or a literal, found `=`; did you mean `==`?",
+    ),
+    (
+        "a: /b exists\na: /d = 1",
+        "line 2, column 7: expected a word, an operator, a path or a literal, found `=`; did you mean `==`?",
+    ),
+    (
+        "\"no guest may be below eighteen \\\"\": / exists\n\"no guest may be below eighteen \\\"\":/ exists",
+        "line 2, column 1: the name `no guest may be below eighteen \"` stands on line 1 already",
+    ),
+];
+
+#[test]
+fn tells_both_lines_of_a_name(rt: HostRuntime) -> Result<(), Fail> {
+    for (text, expected) in &REPEATED {
+        let same = shows(rt.alloc(), text, expected)?;
+        assert!(rt; same, "{text}");
+    }
+    Ok(())
+}
+
 // A text, and the line that says why it has no rules.
-const REFUSED: [(&str, &str); 67] = [
+const REFUSED: [(&str, &str); 75] = [
     (
         "a: / exists\n\"\": / exists",
         "line 2, column 1: expected the name of a rule, found `\"\"`",
@@ -149,11 +202,11 @@ const REFUSED: [(&str, &str); 67] = [
     ),
     (
         "a: or",
-        "line 1, column 4: expected a path, `not`, `each`, `any`, `at` or `(`, found `or`",
+        "line 1, column 4: expected a path, `not`, `each`, `any`, `at`, `if` or `(`, found `or`",
     ),
     (
         "a:   # later",
-        "line 1, column 6: expected a path, `not`, `each`, `any`, `at` or `(`, found a comment",
+        "line 1, column 6: expected a path, `not`, `each`, `any`, `at`, `if` or `(`, found a comment",
     ),
     ("a: each (", "line 1, column 9: expected a path, found `(`"),
     (
@@ -239,7 +292,7 @@ const REFUSED: [(&str, &str); 67] = [
     ),
     (
         "a: least 2 of (/b exists)",
-        "line 1, column 4: expected a path, `not`, `each`, `any`, `at` or `(`, found `least`",
+        "line 1, column 4: expected a path, `not`, `each`, `any`, `at`, `if` or `(`, found `least`",
     ),
     (
         "a: at least of (/b exists)",
@@ -283,15 +336,15 @@ const REFUSED: [(&str, &str); 67] = [
     ),
     (
         "a: at least 2 of ()",
-        "line 1, column 19: expected a path, `not`, `each`, `any`, `at` or `(`, found `)`",
+        "line 1, column 19: expected a path, `not`, `each`, `any`, `at`, `if` or `(`, found `)`",
     ),
     (
         "a: at least 2 of (/b exists,)",
-        "line 1, column 29: expected a path, `not`, `each`, `any`, `at` or `(`, found `)`",
+        "line 1, column 29: expected a path, `not`, `each`, `any`, `at`, `if` or `(`, found `)`",
     ),
     (
         "a: at least 2 of (, /b exists)",
-        "line 1, column 19: expected a path, `not`, `each`, `any`, `at` or `(`, found `,`",
+        "line 1, column 19: expected a path, `not`, `each`, `any`, `at`, `if` or `(`, found `,`",
     ),
     (
         "a: at least 2 of (/b exists, /c exists",
@@ -351,7 +404,7 @@ const REFUSED: [(&str, &str); 67] = [
     ),
     (
         "a: length > 1",
-        "line 1, column 4: expected a path, `not`, `each`, `any`, `at` or `(`, found `length`; a path begins with `/`",
+        "line 1, column 4: expected a path, `not`, `each`, `any`, `at`, `if` or `(`, found `length`; a path begins with `/`",
     ),
     (
         "a: /b is",
@@ -374,6 +427,38 @@ const REFUSED: [(&str, &str); 67] = [
         "line 1, column 15: expected the end of the line, `or`, `xor` or `and`, found `text`",
     ),
     (
+        "a: if /b exists",
+        "line 1, column 16: expected `then`, `or`, `xor` or `and`, found the end of the line",
+    ),
+    (
+        "a: if then /b exists",
+        "line 1, column 7: expected a path, `not`, `each`, `any`, `at`, `if` or `(`, found `then`",
+    ),
+    (
+        "a: if /b exists then",
+        "line 1, column 21: expected a path, `not`, `each`, `any`, `at`, `if` or `(`, found the end of the line",
+    ),
+    (
+        "a: if /b exists then /c exists then /d exists",
+        "line 1, column 32: expected the end of the line, `or`, `xor` or `and`, found `then`",
+    ),
+    (
+        "a: (if /b exists then /c exists then /d exists)",
+        "line 1, column 33: expected `)`, `or`, `xor` or `and`, found `then`",
+    ),
+    (
+        "a: /b exists or if /c exists then /d exists",
+        "line 1, column 17: expected a path, `not`, `each`, `any`, `at` or `(`, found `if`; `if` needs parentheses here",
+    ),
+    (
+        "a: not if /c exists then /d exists",
+        "line 1, column 8: expected a path, `not`, `each`, `any`, `at` or `(`, found `if`; `if` needs parentheses here",
+    ),
+    (
+        "a: if == 1",
+        "line 1, column 7: expected a path, `not`, `each`, `any`, `at`, `if` or `(`, found `==`",
+    ),
+    (
         "a: /b text",
         "line 1, column 7: expected an operator, `exists`, `missing`, `is_empty`, `length` or `is`, found `text`",
     ),
@@ -389,7 +474,7 @@ fn says_what_was_expected(rt: HostRuntime) -> Result<(), Fail> {
 }
 
 // A slip of a rule, and what is told behind what was expected.
-const SLIPS: [(&str, &str); 38] = [
+const SLIPS: [(&str, &str); 45] = [
     ("/b=1", "found `=`; did you mean `==`?"),
     ("/b === 1", "found `===`; did you mean `==`?"),
     ("/b =< 1", "found `=<`; did you mean `<=`?"),
@@ -445,6 +530,22 @@ const SLIPS: [(&str, &str); 38] = [
     ),
     ("/b isEmpty", "found `isEmpty`; did you mean `is_empty`?"),
     ("all /b (/ exists)", "found `all`; did you mean `each`?"),
+    (
+        "/b exists implies /c exists",
+        "found `implies`; did you mean `if .. then`?",
+    ),
+    (
+        "when /b exists then /c exists",
+        "found `when`; did you mean `if`?",
+    ),
+    (
+        "IF /b exists then /c exists",
+        "found `IF`; did you mean `if`?",
+    ),
+    (
+        "if b exists then /c exists",
+        "found `b`; a path begins with `/`",
+    ),
     ("/b len > 3", "found `len`; did you mean `length`?"),
     ("/b is string", "found `string`; did you mean `text`?"),
     ("/b is int", "found `int`; did you mean `whole`?"),
@@ -452,6 +553,12 @@ const SLIPS: [(&str, &str); 38] = [
     ("/b is arrays", "found `arrays`; did you mean `array`?"),
     ("/b is List", "found `List`"),
     ("/b between 1 and 2", "found `between`"),
+    ("^b exists", "found `^b`; a path begins with `/`"),
+    ("/b == ^", "found `^`; a path begins with `/`"),
+    (
+        "any ^^/b (/ exists)",
+        "found `^^/b`; a path begins with `/`",
+    ),
     ("/b == .5", "found `.5`"),
     ("/b {1}", "found `{1}`"),
     (
@@ -577,14 +684,14 @@ fn ends_as(alloc: Global, times: u32, part: &str) -> Result<Ending, AllocError> 
         Ok(rules) => ending_of(&rules),
         Err(RulesError::Unreadable(fault)) => match fault.reason {
             Reason::TooDeep => Ending::TooDeep,
-            Reason::Expected(_) => Ending::Otherwise,
+            Reason::Expected(_) | Reason::Repeated(_) => Ending::Otherwise,
         },
         Err(_) => Ending::Otherwise,
     };
     Ok(ending)
 }
 
-const SIZES: [(u32, &str, Ending); 12] = [
+const SIZES: [(u32, &str, Ending); 16] = [
     (100, "not ", Ending::Nests),
     (101, "not ", Ending::TooDeep),
     (101, "any / (", Ending::TooDeep),
@@ -594,6 +701,10 @@ const SIZES: [(u32, &str, Ending); 12] = [
     (101, "at least 1 of (", Ending::TooDeep),
     (10_000, "at least 1 of (/c exists, ", Ending::TooDeep),
     (100_000, "(", Ending::TooDeep),
+    (99, "if /c exists then ", Ending::Nests),
+    (100, "if /c exists then ", Ending::TooDeep),
+    (50, "if ", Ending::Otherwise),
+    (51, "if ", Ending::TooDeep),
     (10_000, "/c exists and ", Ending::Joins(10_001)),
     (10_000, "/c exists or ", Ending::Joins(10_001)),
     (
@@ -705,6 +816,14 @@ fn last_fault(alloc: Global, lines: u32) -> Result<(usize, usize), AllocError> {
 fn reads_all_faults(rt: HostRuntime) -> Result<(), Fail> {
     let faults = read_faults(rt.alloc(), b"a: /b = 1\nb: /c exists\nc: d == 1")?;
     assert!(rt; faults.len() == 2 && faults[0].line == 1 && faults[1].line == 3);
+    let text = b"a: / exists\na: /b = 1\na: /c exists\nb: / exists\na: / exists";
+    let faults = read_faults(rt.alloc(), text)?;
+    assert!(rt; faults.len() == 3 && faults[0].line == 2);
+    assert!(rt; faults[1].line == 3 && faults[1].reason == Reason::Repeated(1));
+    assert!(rt; faults[2].line == 5 && faults[2].reason == Reason::Repeated(1));
+    assert!(rt; faults[2].found.as_slice() == b"a".as_slice());
+    let faults = read_faults(rt.alloc(), b"a: /b = 1\na: / exists")?;
+    assert!(rt; faults.len() == 1 && faults[0].line == 1);
     assert!(rt; last_fault(rt.alloc(), 0)? == (0, 0));
     assert!(rt; last_fault(rt.alloc(), 19)? == (19, 37));
     assert!(rt; last_fault(rt.alloc(), 20)? == (20, 39));

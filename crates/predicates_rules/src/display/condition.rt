@@ -11,11 +11,15 @@ use crate::display::literal::fmt_text;
 use crate::literal::Literal;
 use std::fmt;
 
-/// A path as a rule writes it: `/` for the record.
+/// A path as a rule writes it: `/` for the empty one, and `^/` for `^`.
 pub fn path_shown(path: &str) -> &str
     ensures { result.now ≡ path_text path.now }
 {
-    if path.is_empty() { "/" } else { path }
+    match path.as_bytes() {
+        [] => "/",
+        [b'^'] => "^/",
+        _ => path,
+    }
 }
 
 // The literals, each behind a comma.

@@ -6,7 +6,7 @@ ghost use Rattle.predicates_rules.specs.Trees.{test_of, tree_of, trees_of};
 ghost use Rattle.predicates_rules.specs.Grammar.{Single, part_level};
 ghost use Rattle.predicates_rules.specs.Levels.{level_of};
 ghost use Rattle.predicates_rules.specs.Printing.{fits, stands_at, printed};
-ghost use Rattle.predicates_rules.specs.Writing.{separator_text, grouped};
+ghost use Rattle.predicates_rules.specs.Writing.{separator_text, opening, closing, grouped};
 ghost use Rattle.predicates_rules.specs.Writing.{tree_text, row_text, part_text};
 
 use crate::condition::Condition;
@@ -23,7 +23,8 @@ fn is_loose(grip: Grip, connective: Connective) -> bool
         Grip::By(Connective::Or) => true,
         Grip::By(Connective::Xor) => connective != Connective::Or,
         Grip::By(Connective::And) => connective == Connective::And,
-        Grip::Single => false,
+        Grip::Single | Grip::Premise => false,
+        Grip::Whole => true,
     }
 }
 
@@ -37,12 +38,32 @@ fn are_loose(parts: &[Expression], connective: Connective, grip: Grip) -> bool
     }
 }
 
+// What stands before the premise of an implication.
+fn opening(grip: Grip) -> &'static str
+    ensures { result.now ≡ opening (level_of grip) }
+{
+    match grip {
+        Grip::Whole => "if ",
+        _ => "(if ",
+    }
+}
+
+// What stands behind its conclusion.
+fn closing(grip: Grip) -> &'static str
+    ensures { result.now ≡ closing (level_of grip) }
+{
+    match grip {
+        Grip::Whole => "",
+        _ => ")",
+    }
+}
+
 fn grip_of_part(separator: Separator) -> Grip
     ensures { level_of result ≡ part_level separator }
 {
     match separator {
         Separator::Connective(connective) => next_tighter(connective),
-        Separator::Comma => Grip::By(Connective::Or),
+        Separator::Comma => Grip::Whole,
     }
 }
 
@@ -80,6 +101,13 @@ fn fmt_at<W: fmt::Write>(
     match expression {
         Expression::Test(path, condition) => fmt_test(path, condition, f),
         Expression::Not(inner) => fmt_not(inner, f),
+        Expression::Implies(premise, conclusion) => {
+            f.write_str(opening(grip))?;
+            fmt_at(premise, Grip::Whole, f)?;
+            f.write_str(" then ")?;
+            fmt_at(conclusion, Grip::Whole, f)?;
+            f.write_str(closing(grip))
+        }
         Expression::Quantified(quantifier, path, inner) => {
             fmt_quantified(inner, *quantifier, path, f)
         }
@@ -88,8 +116,9 @@ fn fmt_at<W: fmt::Write>(
     }
 }
 
+/// Writes what denies the expression.
 #[cycle(printing)]
-fn fmt_not<W: fmt::Write>(inner: &Expression, f: &mut fmt::Formatter<W>) -> fmt::Result
+pub fn fmt_not<W: fmt::Write>(inner: &Expression, f: &mut fmt::Formatter<W>) -> fmt::Result
     ensures { DisplaysOnOk W.write_str_gives f.old result
         (Some (tree_text Single (Denied (tree_of inner.now)))) f.new }
 {
@@ -110,7 +139,7 @@ fn fmt_quantified<W: fmt::Write>(
     write!(f, "{quantifier} ")?;
     f.write_str(path_shown(path))?;
     f.write_str(" (")?;
-    fmt_at(inner, Grip::By(Connective::Or), f)?;
+    fmt_at(inner, Grip::Whole, f)?;
     f.write_str(")")
 }
 
@@ -201,6 +230,6 @@ impl fmt::Display for Expression {
     ghost output = { λ expression. Some (printed (tree_of expression)) };
 
     fn fmt<W: fmt::Write>(&self, f: &mut fmt::Formatter<W>) -> fmt::Result {
-        fmt_at(self, Grip::By(Connective::Or), f)
+        fmt_at(self, Grip::Whole, f)
     }
 }

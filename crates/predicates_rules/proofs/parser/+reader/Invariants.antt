@@ -12,6 +12,12 @@ decreases-deeper l = 24 * l.depth
 abbrev pub decreases-at_grip : goal.decreases-at_grip
 decreases-at_grip l = 24 * l.depth + level_height (level_of l.grip)
 
+abbrev pub decreases-whole : goal.decreases-whole
+decreases-whole l = 24 * l.depth + 20
+
+abbrev pub decreases-implication : goal.decreases-implication
+decreases-implication l = 24 * l.depth + 1
+
 abbrev pub decreases-joined : goal.decreases-joined
 decreases-joined l = 24 * l.depth + (height l.connective + 2)
 

@@ -1,5 +1,6 @@
+use Rattle.predicates_rules.specs.Grammar.{Whole}
 use Rattle.predicates_rules.proofs.Spaced.{printed_says}
-use Rattle.predicates_rules.proofs.Said.{said_again}
+use Rattle.predicates_rules.proofs.Said.{said_again, denied_nests}
 use Rattle.predicates_rules.proofs.rule.written_is_read.Goals as goal
 
 pub returns-clause-made : goal.returns-clause-made
@@ -7,3 +8,6 @@ returns-clause-made c = printed_says
 
 pub returns-clause-said : goal.returns-clause-said
 returns-clause-said c = said_again
+
+pub returns-clause-denied : goal.returns-clause-denied
+returns-clause-denied c = denied_nests Whole Whole

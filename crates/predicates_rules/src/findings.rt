@@ -1,0 +1,165 @@
+//! What the lines of a text say: their rules, and their faults.
+
+ghost use Rattle.std.specs.Prelude.{◌≡◌, ◌++◌, ◌∷◌, [], IfOk, Some, map, option_map, string_bytes};
+ghost use Rattle.std.specs.List.{find};
+ghost use Rattle.std.specs.Str.{bytes_eq};
+ghost use Rattle.predicates_rules.specs.Grammar.{max_depth};
+ghost use Rattle.predicates_rules.specs.Rules.{rule_of, IsLine};
+ghost use Rattle.predicates_rules.specs.Faults.{number_named, IsFaultAt, IsRepeatAt};
+ghost use Rattle.predicates_rules.specs.Findings.{numbered_of, HasAdded, HasFound};
+
+use crate::error::Reason;
+use crate::fault::Fault;
+use crate::hint::hint_at;
+use crate::lexer::told_len;
+use crate::reader::{behind_spaces, read_line};
+use crate::rule::Rule;
+use crate::stop::{ReadError, Stop};
+use std::alloc::{AllocError, Global};
+
+/// A rule with the number of its line.
+#[derive(Drop)]
+pub struct Numbered {
+    pub rule: Rule,
+    pub line: usize,
+}
+
+/// The rules of lines, each under a name of its own, and the faults of the other lines.
+#[derive(Drop)]
+pub struct Findings {
+    pub rules: Vec<Numbered>,
+    pub faults: Vec<Fault>,
+}
+
+// The rule with this name.
+fn rule_named<'a>(rules: &'a [Numbered], name: &str) -> Option<&'a Numbered>
+    ensures { option_map (λ x. x.now) result
+        ≡ find (λ n. bytes_eq (string_bytes n.rule.name) name.now) rules.now }
+{
+    rules.iter().find(|other| other.rule.name.as_str() == name)
+}
+
+// The number of its line.
+fn line_named(rules: &[Numbered], name: &str) -> Option<usize>
+    ensures { result ≡ number_named name.now (map numbered_of rules.now) }
+{
+    let found = rule_named(rules, name)?;
+    Some(found.line)
+}
+
+// The fault where a line of this number stops.
+fn fault_at(alloc: Global, stop: Stop, number: usize, line: &[u8]) -> Result<Fault, AllocError>
+    ensures { IfOk result (IsFaultAt number line.now stop) }
+{
+    let (before, rest) = line.split_at(line.len().saturating_sub(stop.left));
+    let rest = behind_spaces(rest);
+    let (word, after) = rest.split_at(told_len(rest));
+    let mut found = Vec::new(alloc);
+    found.extend_from_slice(word)?;
+    Ok(Fault {
+        line: number,
+        column: line.len().saturating_sub(stop.left) + 1,
+        reason: stop.reason,
+        found,
+        hint: hint_at(alloc, stop.reason, before, word, after)?,
+    })
+}
+
+// The fault of a line of this number, whose rule has the name of an earlier one.
+fn repeat_at(
+    alloc: Global,
+    name: String,
+    first: usize,
+    number: usize,
+    line: &[u8],
+) -> Result<Fault, AllocError>
+    ensures { IfOk result (IsRepeatAt number first line.now (string_bytes name)) }
+{
+    let stop = Stop {
+        reason: Reason::Repeated(first),
+        left: behind_spaces(line).len(),
+    };
+    let mut fault = fault_at(alloc, stop, number, line)?;
+    fault.found = name.into_bytes();
+    Ok(fault)
+}
+
+fn with_fault(mut findings: Findings, fault: Fault) -> Result<Findings, AllocError>
+    ensures { IfOk result (λ after. (after.rules ≡ findings.rules)
+        × (after.faults.items ≡ findings.faults.items ++ fault ∷ [])) }
+{
+    findings.faults.push(fault)?;
+    Ok(findings)
+}
+
+fn with_new(mut findings: Findings, rule: Rule, line: usize) -> Result<Findings, AllocError>
+    ensures { IfOk result (λ after. (after.faults ≡ findings.faults) × (after.rules.items
+        ≡ findings.rules.items ++ record { rule = rule; line = line } ∷ [])) }
+{
+    findings.rules.push(Numbered { rule, line })?;
+    Ok(findings)
+}
+
+// With the rule of a line of this number, or with its fault where its name is taken.
+fn with_rule(
+    alloc: Global,
+    findings: Findings,
+    rule: Rule,
+    number: usize,
+    line: &[u8],
+) -> Result<Findings, AllocError>
+    requires { IsLine max_depth line.now (Some (rule_of rule)) }
+    ensures { IfOk result (HasAdded number line.now findings) }
+{
+    if let Some(first) = line_named(&findings.rules, &rule.name) {
+        let fault = repeat_at(alloc, rule.name, first, number, line)?;
+        return with_fault(findings, fault);
+    }
+    with_new(findings, rule, number)
+}
+
+// With what a line of this number says.
+fn with_line(
+    alloc: Global,
+    findings: Findings,
+    number: usize,
+    line: &[u8],
+) -> Result<Findings, AllocError>
+    ensures { IfOk result (HasAdded number line.now findings) }
+{
+    match read_line(alloc, line) {
+        Ok(Some(rule)) => with_rule(alloc, findings, rule, number, line),
+        Ok(None) => Ok(findings),
+        Err(ReadError::Memory) => Err(AllocError),
+        Err(ReadError::Stopped(stop)) => {
+            let fault = fault_at(alloc, stop, number, line)?;
+            with_fault(findings, fault)
+        }
+    }
+}
+
+/// Reads lines up to the one that has the last fault of so many.
+pub fn read_lines(alloc: Global, lines: &[&[u8]], most: usize) -> Result<Findings, AllocError>
+    ensures { IfOk result (HasFound most (map (λ x. x.now) lines.now)) }
+{
+    let rules = Vec::new(alloc);
+    let faults = Vec::new(alloc);
+    let mut findings = Findings { rules, faults };
+    for (i, line) in lines.iter().enumerate() {
+        if findings.faults.len() == most {
+            return Ok(findings);
+        }
+        findings = with_line(alloc, findings, i + 1, line)?;
+    }
+    Ok(findings)
+}
+
+/// The rules without the numbers of their lines.
+pub fn unnumbered(alloc: Global, rules: Vec<Numbered>) -> Result<Vec<Rule>, AllocError>
+    ensures { IfOk result (λ v. map rule_of v.items ≡ map (λ n. rule_of n.rule) rules.items) }
+{
+    rules
+        .into_iter()
+        .map(|numbered| numbered.rule)
+        .collect(alloc)
+}
