@@ -1,6 +1,6 @@
 -- What would turn a check over others is what would turn the library's predicate over them.
 use Rattle.std.proofs.Common.{◌≡◌, ℕ, Bool, true, false, List, [], ◌∷◌, Option, Some, None, option_map, codes, map, refl, sym, ap, ◌∙◌, subst, Result, Ok, IfOk}
-use Rattle.std.specs.Prelude.{not, String, string_bytes}
+use Rattle.std.specs.Prelude.{not, cond, String, string_bytes}
 use Rattle.std.proofs.Common.{Box, Global}
 use Rattle.std.specs.Fmt.{decimal}
 use mathlib.Core.Bool.{beq}
@@ -28,7 +28,6 @@ use Rattle.std.proofs.Common.{◌≢◌}
 use Rattle.std.specs.Prelude.{bytes_eq}
 use Rattle.std.proofs.lemmas.Slice.Eq.{bytes_eq-Decides}
 use Rattle.serde_json.specs.Data.{Data, Items}
-use Rattle.serde_json.specs.Find.{as_array}
 use Rattle.serde_json.specs.View.{items_view}
 use Rattle.serde_json.specs.declared.value.Value.{Value}
 use Rattle.predicates_rules.specs.declared.expression.Connective.{Connective}
@@ -36,9 +35,12 @@ use Rattle.predicates_rules.specs.declared.expression.Connective.TheVariants.{Or
 use Rattle.predicates_rules.specs.declared.expression.Quantifier.{Quantifier}
 use Rattle.predicates_vet_check.specs.declared.check.Check.{Check}
 use Rattle.predicates_vet_check.specs.declared.check.Check.TheVariants.{Quantified}
+use Rattle.predicates_vet_check.specs.Scopes.{Place}
+use Rattle.predicates_vet_check.specs.Queries.{Query, verdict, nothing_verdict, is_of_presence}
 use Rattle.predicates_vet_check.specs.Checks.{plan_of, Has}
 use Rattle.predicates_vet_check.specs.Differ.{IsOfDiffering}
-use Rattle.predicates_vet_check.specs.Plans.{Denies, Joins, Counts, Ranges, plans_of, plan_formula, over_items, over_array, range_formula, nothing_leaf, misfit_leaf, not_an_array}
+use Rattle.predicates_vet_check.specs.Lists.{values_in}
+use Rattle.predicates_vet_check.specs.Plans.{Denies, Joins, Counts, Ranges, plans_of, plan_formula, over_items, over_list, range_formula, nothing_leaf, misfit_leaf, no_list_text, formula_within, asked_formula, leaf_of_verdict}
 use Rattle.predicates_vet_check.proofs.Ruling.{under_rule, HasTruth-rule}
 use Rattle.predicates_vet_check.proofs.Members.{has_or, has_xor, has_and, has_counted, plan_of_range}
 
@@ -50,44 +52,59 @@ found_of_one F had w found = found_change_fewer w found (λ f x. subst F (sym x.
 pub answer_changed : (label : Label) (own : Bool) (w : Option Bool) (found : Option (Tree CaseNode)) → IsFound (IsExactly (Leaf label own)) w found → IsFoundChange (IsExactly (Leaf label own)) w found
 answer_changed label own w found x = leaf_found {E = Bool} w (Ok found) exact_leaf x
 
-module _ (text : List ℕ) (e : Check) (d : Data) (w : Option Bool) where
-  pub no_change_of_denied : IsFoundChange (Has d e) (option_map not w) None → IsFoundChange (IsExactly (plan_formula (Denies text (plan_of e)) d)) w None
-  no_change_of_denied x = found_of_one (IsNot (Some text) (Has d e)) (has_not (record { is = refl })) w None (no_change_of_not (Has d e) (Some text) w x)
+-- that of a test too, whatever stands at its path
+module _ (text path : List ℕ) (q : Query) (p : Place) (w : Option Bool) (found : Option (Tree CaseNode)) where
+  answer_absent : (presence : Bool) → IsFound (IsExactly (cond presence (Leaf (plain (Some text)) (nothing_verdict q)) (nothing_leaf text path))) w found
+      → IsFoundChange (IsExactly (cond presence (Leaf (plain (Some text)) (nothing_verdict q)) (nothing_leaf text path))) w found
+  answer_absent true x = answer_changed _ _ w found x
+  answer_absent false x = answer_changed _ _ w found x
 
-  pub change_of_denied : {bytes : List ℕ} {c t : Tree CaseNode} → IsNode (Some bytes) (not c.root.result) ((codes "predicate", c) ∷ []) t → bytes ≡ text → IsFoundChange (Has d e) (option_map not w) (Some c) → IsFoundChange (IsExactly (plan_formula (Denies text (plan_of e)) d)) w (Some t)
-  change_of_denied {t = t} node fits x = found_of_one (IsNot (Some text) (Has d e)) (has_not (record { is = refl })) w (Some t) (change_of_not (Has d e) (Some text) w node fits x)
+  answer_of_value : (d : Data) (v : Option Bool) → IsFound (IsExactly (leaf_of_verdict text q p d v)) w found → IsFoundChange (IsExactly (leaf_of_verdict text q p d v)) w found
+  answer_of_value d None x = answer_changed _ _ w found x
+  answer_of_value d (Some own) x = answer_changed _ _ w found x
+
+  pub test_changed : (o : Option Data) → IsFound (IsExactly (asked_formula text path q p o)) w found → IsFoundChange (IsExactly (asked_formula text path q p o)) w found
+  test_changed None x = answer_absent (is_of_presence q) x
+  test_changed (Some d) x = answer_of_value d (verdict q p d) x
+
+module _ (text : List ℕ) (e : Check) (p : Place) (w : Option Bool) where
+  pub no_change_of_denied : IsFoundChange (Has p e) (option_map not w) None → IsFoundChange (IsExactly (plan_formula (Denies text (plan_of e)) p)) w None
+  no_change_of_denied x = found_of_one (IsNot (Some text) (Has p e)) (has_not (record { is = refl })) w None (no_change_of_not (Has p e) (Some text) w x)
+
+  pub change_of_denied : {bytes : List ℕ} {c t : Tree CaseNode} → IsNode (Some bytes) (not c.root.result) ((codes "predicate", c) ∷ []) t → bytes ≡ text → IsFoundChange (Has p e) (option_map not w) (Some c) → IsFoundChange (IsExactly (plan_formula (Denies text (plan_of e)) p)) w (Some t)
+  change_of_denied {t = t} node fits x = found_of_one (IsNot (Some text) (Has p e)) (has_not (record { is = refl })) w (Some t) (change_of_not (Has p e) (Some text) w node fits x)
 
 -- ---- by the connective
 
-module _ (text : List ℕ) (c : Connective) (es : List Check) (d : Data) (w : Option Bool) (found : Option (Tree CaseNode)) where
+module _ (text : List ℕ) (c : Connective) (es : List Check) (p : Place) (w : Option Bool) (found : Option (Tree CaseNode)) where
   abbrev IsRowChange : Connective → Type 0
-  IsRowChange z = IsFoundChange (IsExactly (plan_formula (Joins text z (plans_of (map plan_of es))) d)) w found
+  IsRowChange z = IsFoundChange (IsExactly (plan_formula (Joins text z (plans_of (map plan_of es))) p)) w found
 
-  pub changed_or : c ≡ Or → IsFoundChange (IsOfMembers true (Some text) (codes "part") (Has d) es) w found → IsRowChange c
-  changed_or e h = subst IsRowChange (sym e) (found_of_one _ (has_or d text es) w found h)
+  pub changed_or : c ≡ Or → IsFoundChange (IsOfMembers true (Some text) (codes "part") (Has p) es) w found → IsRowChange c
+  changed_or e h = subst IsRowChange (sym e) (found_of_one _ (has_or p text es) w found h)
 
-  pub changed_xor : c ≡ OddOf → IsFoundChange (IsOfDiffering (Some text) (codes "part") (Has d) es) w found → IsRowChange c
-  changed_xor e h = subst IsRowChange (sym e) (found_of_one _ (has_xor d text es) w found h)
+  pub changed_xor : c ≡ OddOf → IsFoundChange (IsOfDiffering (Some text) (codes "part") (Has p) es) w found → IsRowChange c
+  changed_xor e h = subst IsRowChange (sym e) (found_of_one _ (has_xor p text es) w found h)
 
-  pub changed_and : c ≡ And → IsFoundChange (IsOfMembers false (Some text) (codes "part") (Has d) es) w found → IsRowChange c
-  changed_and e h = subst IsRowChange (sym e) (found_of_one _ (has_and d text es) w found h)
+  pub changed_and : c ≡ And → IsFoundChange (IsOfMembers false (Some text) (codes "part") (Has p) es) w found → IsRowChange c
+  changed_and e h = subst IsRowChange (sym e) (found_of_one _ (has_and p text es) w found h)
 
 -- ---- by the number
 
-pub changed_counted : (text : List ℕ) (k : ℕ) (es : List Check) (d : Data) (w : Option Bool) (found : Option (Tree CaseNode)) → IsFoundChange (IsOfThreshold k (Some text) (codes "part") (Has d) es) w found → IsFoundChange (IsExactly (plan_formula (Counts text k (plans_of (map plan_of es))) d)) w found
-changed_counted text k es d w found h = found_of_one _ (has_counted d text k es) w found h
+pub changed_counted : (text : List ℕ) (k : ℕ) (es : List Check) (p : Place) (w : Option Bool) (found : Option (Tree CaseNode)) → IsFoundChange (IsOfThreshold k (Some text) (codes "part") (Has p) es) w found → IsFoundChange (IsExactly (plan_formula (Counts text k (plans_of (map plan_of es))) p)) w found
+changed_counted text k es p w found h = found_of_one _ (has_counted p text k es) w found h
 
 -- ---- over the items of a value
 
-module _ (text : List ℕ) (d : Data) (q : Quantifier) (c : Check) (found : Option (Tree CaseNode)) where
-  abbrev IsArrayChange : Quantifier → Option Items → Option Bool → Type 0
-  IsArrayChange z o w = IsFoundChange (IsExactly (over_array text d z (plan_formula (plan_of c)) o)) w found
+module _ (text : List ℕ) (whole d : Data) (q : Quantifier) (c : Check) (found : Option (Tree CaseNode)) where
+  abbrev IsListChange : Quantifier → Option Items → Option Bool → Type 0
+  IsListChange z o w = IsFoundChange (IsExactly (over_list text d z (formula_within whole (plan_of c)) o)) w found
 
-  pub changed_items : (own : Quantifier) (vs : List Value) (F : Formula → Type 0) (w : Option Bool) → q ≡ own → as_array d ≡ Some (items_view vs) → F (over_items text own (plan_formula (plan_of c)) (items_view vs)) → IsFoundChange F w found → IsArrayChange q (as_array d) w
-  changed_items own vs F w is e had h = subst (λ z. IsArrayChange z (as_array d) w) (sym is) (subst (λ o. IsArrayChange own o w) (sym e) (found_of_one F had w found h))
+  pub changed_items : (own : Quantifier) (vs : List Value) (F : Formula → Type 0) (w : Option Bool) → q ≡ own → values_in d ≡ Some (items_view vs) → F (over_items text own (formula_within whole (plan_of c)) (items_view vs)) → IsFoundChange F w found → IsListChange q (values_in d) w
+  changed_items own vs F w is e had h = subst (λ z. IsListChange z (values_in d) w) (sym is) (subst (λ o. IsListChange own o w) (sym e) (found_of_one F had w found h))
 
-  pub changed_no_array : (w : Option Bool) → as_array d ≡ None → IsFound (IsExactly (misfit_leaf text not_an_array d None)) w found → IsArrayChange q (as_array d) w
-  changed_no_array w e h = subst (λ o. IsArrayChange q o w) (sym e) (answer_changed _ _ w found h)
+  pub changed_no_list : (w : Option Bool) → values_in d ≡ None → IsFound (IsExactly (misfit_leaf text no_list_text d None)) w found → IsListChange q (values_in d) w
+  changed_no_list w e h = subst (λ o. IsListChange q o w) (sym e) (answer_changed _ _ w found h)
 
 pub changed_nowhere : (text path : List ℕ) (q : Quantifier) (g : Data → Formula) (o : Option Data) (w : Option Bool) (found : Option (Tree CaseNode)) → o ≡ None → IsFound (IsExactly (nothing_leaf text path)) w found → IsFoundChange (IsExactly (range_formula text path q g o)) w found
 changed_nowhere text path q g o w found e h = subst (λ z. IsFoundChange (IsExactly (range_formula text path q g z)) w found) (sym e) (answer_changed _ _ w found h)
@@ -96,8 +113,8 @@ pub changed_somewhere : (text path : List ℕ) (q : Quantifier) (g : Data → Fo
 changed_somewhere text path q g o w d found e h = subst (λ z. IsFoundChange (IsExactly (range_formula text path q g z)) w found) (sym e) h
 
 -- what would turn a check that is a range
-pub changed_range : {E : Type 0} (d : Data) (w : Option Bool) (r : Result (Option (Tree CaseNode)) E) {check inner : Check} {text path : List ℕ} {shown place : String Global} {q : Quantifier} {b : Box Check Global} → check ≡ Quantified shown q place b → inner ≡ b.value → text ≡ string_bytes shown → path ≡ string_bytes place → IfOk r (IsFoundChange (IsExactly (plan_formula (Ranges text path q (plan_of inner)) d)) w) → IfOk r (IsFoundChange (Has d check) w)
-changed_range d w r is of_inner of_text of_path h = subst (λ z. IfOk r (IsFoundChange (IsExactly (plan_formula z d)) w)) (sym (plan_of_range is of_inner of_text of_path)) h
+pub changed_range : {E : Type 0} (p : Place) (w : Option Bool) (r : Result (Option (Tree CaseNode)) E) {check inner : Check} {text path : List ℕ} {shown place : String Global} {q : Quantifier} {b : Box Check Global} → check ≡ Quantified shown q place b → inner ≡ b.value → text ≡ string_bytes shown → path ≡ string_bytes place → IfOk r (IsFoundChange (IsExactly (plan_formula (Ranges text path q (plan_of inner)) p)) w) → IfOk r (IsFoundChange (Has p check) w)
+changed_range p w r is of_inner of_text of_path h = subst (λ z. IfOk r (IsFoundChange (IsExactly (plan_formula z p)) w)) (sym (plan_of_range is of_inner of_text of_path)) h
 
 -- ---- parts
 

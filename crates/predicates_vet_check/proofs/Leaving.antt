@@ -9,6 +9,7 @@ use Rattle.predicates_core.proofs.Leaves.{HasTruth-exactly, own_truth}
 use Rattle.predicates_core.proofs.Added.{IsCaseOf-with_product}
 use Rattle.serde_json.specs.Data.{Data}
 use Rattle.predicates_rules.specs.declared.condition.State.TheVariants as states
+use Rattle.predicates_vet_check.specs.Scopes.{Place}
 use Rattle.predicates_vet_check.specs.Queries.{Query, Stands, Compares, ComparesWith, HasLength, IsOfKind, Begins, Finishes, Holds, Matches, IsAmong, verdict, nothing_verdict, is_of_presence, misfit_text}
 use Rattle.predicates_vet_check.specs.Plans.{asked_formula, absent_formula, leaf_of_verdict, found_label, found_leaf, misfit_leaf, nothing_leaf, shown_beside, ShowsBeside}
 use Rattle.predicates_core.specs.Label.{Entry}
@@ -46,25 +47,25 @@ of_presence text path false own h = HasTruth-exactly (sym (h refl))
 pub HasTruth-absent : (text path : List ℕ) (q : Query) {b : Bool} → b ≡ nothing_verdict q → HasTruth (IsExactly (absent_formula text path q)) b
 HasTruth-absent text path q is = subst (λ z. HasTruth (IsExactly (absent_formula text path q)) z) (sym is) (of_presence text path (is_of_presence q) (nothing_verdict q) (no_presence q))
 
-module _ (text path : List ℕ) (q : Query) (whole : Data) (o : Option Data) where
+module _ (text path : List ℕ) (q : Query) (p : Place) (o : Option Data) where
   -- ---- truths
 
-  pub HasTruth-found : {d : Data} {b : Bool} → o ≡ Some d → verdict q whole d ≡ Some b → HasTruth (IsExactly (asked_formula text path q whole o)) b
-  HasTruth-found {d} {b} e v = subst (λ z. HasTruth (IsExactly (asked_formula text path q whole z)) b) (sym e) (subst (λ z. HasTruth (IsExactly (leaf_of_verdict text q whole d z)) b) (sym v) (HasTruth-exactly refl))
+  pub HasTruth-found : {d : Data} {b : Bool} → o ≡ Some d → verdict q p d ≡ Some b → HasTruth (IsExactly (asked_formula text path q p o)) b
+  HasTruth-found {d} {b} e v = subst (λ z. HasTruth (IsExactly (asked_formula text path q p z)) b) (sym e) (subst (λ z. HasTruth (IsExactly (leaf_of_verdict text q p d z)) b) (sym v) (HasTruth-exactly refl))
 
-  pub HasTruth-misfit : {d : Data} {b : Bool} → o ≡ Some d → verdict q whole d ≡ None → b ≡ false → HasTruth (IsExactly (asked_formula text path q whole o)) b
-  HasTruth-misfit {d} {b} e v isnt = subst (λ z. HasTruth (IsExactly (asked_formula text path q whole z)) b) (sym e) (subst (λ z. HasTruth (IsExactly (leaf_of_verdict text q whole d z)) b) (sym v) (HasTruth-exactly (sym isnt)))
+  pub HasTruth-misfit : {d : Data} {b : Bool} → o ≡ Some d → verdict q p d ≡ None → b ≡ false → HasTruth (IsExactly (asked_formula text path q p o)) b
+  HasTruth-misfit {d} {b} e v isnt = subst (λ z. HasTruth (IsExactly (asked_formula text path q p z)) b) (sym e) (subst (λ z. HasTruth (IsExactly (leaf_of_verdict text q p d z)) b) (sym v) (HasTruth-exactly (sym isnt)))
 
-  pub HasTruth-nothing : {b : Bool} → o ≡ None → b ≡ nothing_verdict q → HasTruth (IsExactly (asked_formula text path q whole o)) b
-  HasTruth-nothing {b} e is = subst (λ z. HasTruth (IsExactly (asked_formula text path q whole z)) b) (sym e) (HasTruth-absent text path q is)
+  pub HasTruth-nothing : {b : Bool} → o ≡ None → b ≡ nothing_verdict q → HasTruth (IsExactly (asked_formula text path q p o)) b
+  HasTruth-nothing {b} e is = subst (λ z. HasTruth (IsExactly (asked_formula text path q p z)) b) (sym e) (HasTruth-absent text path q is)
 
   -- ---- cases
 
-  pub found_at_value : {d : Data} (w : Option Bool) (found : Option (Tree CaseNode)) → o ≡ Some d → IsFound (IsExactly (leaf_of_verdict text q whole d (verdict q whole d))) w found → IsFound (IsExactly (asked_formula text path q whole o)) w found
-  found_at_value {d} w found e h = subst (λ z. IsFound (IsExactly (asked_formula text path q whole z)) w found) (sym e) h
+  pub found_at_value : {d : Data} (w : Option Bool) (found : Option (Tree CaseNode)) → o ≡ Some d → IsFound (IsExactly (leaf_of_verdict text q p d (verdict q p d))) w found → IsFound (IsExactly (asked_formula text path q p o)) w found
+  found_at_value {d} w found e h = subst (λ z. IsFound (IsExactly (asked_formula text path q p z)) w found) (sym e) h
 
-  pub found_nowhere : (w : Option Bool) (found : Option (Tree CaseNode)) → o ≡ None → IsFound (IsExactly (absent_formula text path q)) w found → IsFound (IsExactly (asked_formula text path q whole o)) w found
-  found_nowhere w found e h = subst (λ z. IsFound (IsExactly (asked_formula text path q whole z)) w found) (sym e) h
+  pub found_nowhere : (w : Option Bool) (found : Option (Tree CaseNode)) → o ≡ None → IsFound (IsExactly (absent_formula text path q)) w found → IsFound (IsExactly (asked_formula text path q p o)) w found
+  found_nowhere w found e h = subst (λ z. IsFound (IsExactly (asked_formula text path q p z)) w found) (sym e) h
 
 module _ (text path : List ℕ) (q : Query) where
   pub case_of_bare : {t : Tree CaseNode} {b : Bool} → is_of_presence q ≡ true → b ≡ nothing_verdict q → IsCaseOf (IsExactly (Leaf (plain (Some text)) b)) b t → IsCaseOf (IsExactly (absent_formula text path q)) b t
@@ -73,12 +74,12 @@ module _ (text path : List ℕ) (q : Query) where
   pub case_of_no_value : {t : Tree CaseNode} {b : Bool} → is_of_presence q ≡ false → b ≡ nothing_verdict q → IsCaseOf (IsExactly (nothing_leaf text path)) false t → IsCaseOf (IsExactly (absent_formula text path q)) b t
   case_of_no_value {t} {b} e is h = subst (λ z. IsCaseOf (IsExactly (cond z (Leaf (plain (Some text)) (nothing_verdict q)) (nothing_leaf text path))) b t) (sym e) (subst (λ z. IsCaseOf (IsExactly (nothing_leaf text path)) z t) (sym (is ∙ no_presence q e)) h)
 
-module _ (text : List ℕ) (q : Query) (whole d : Data) where
-  pub found_of_answer : (w : Option Bool) (found : Option (Tree CaseNode)) {b : Bool} → verdict q whole d ≡ Some b → IsFound (IsExactly (found_leaf text d (shown_beside q whole d) b)) w found → IsFound (IsExactly (leaf_of_verdict text q whole d (verdict q whole d))) w found
-  found_of_answer w found e h = subst (λ z. IsFound (IsExactly (leaf_of_verdict text q whole d z)) w found) (sym e) h
+module _ (text : List ℕ) (q : Query) (p : Place) (d : Data) where
+  pub found_of_answer : (w : Option Bool) (found : Option (Tree CaseNode)) {b : Bool} → verdict q p d ≡ Some b → IsFound (IsExactly (found_leaf text d (shown_beside q p d) b)) w found → IsFound (IsExactly (leaf_of_verdict text q p d (verdict q p d))) w found
+  found_of_answer w found e h = subst (λ z. IsFound (IsExactly (leaf_of_verdict text q p d z)) w found) (sym e) h
 
-  pub found_of_misfit : (w : Option Bool) (found : Option (Tree CaseNode)) → verdict q whole d ≡ None → IsFound (IsExactly (misfit_leaf text (misfit_text q whole) d (shown_beside q whole d))) w found → IsFound (IsExactly (leaf_of_verdict text q whole d (verdict q whole d))) w found
-  found_of_misfit w found e h = subst (λ z. IsFound (IsExactly (leaf_of_verdict text q whole d z)) w found) (sym e) h
+  pub found_of_misfit : (w : Option Bool) (found : Option (Tree CaseNode)) → verdict q p d ≡ None → IsFound (IsExactly (misfit_leaf text (misfit_text q p) d (shown_beside q p d))) w found → IsFound (IsExactly (leaf_of_verdict text q p d (verdict q p d))) w found
+  found_of_misfit w found e h = subst (λ z. IsFound (IsExactly (leaf_of_verdict text q p d z)) w found) (sym e) h
 
 -- one product more, the last, on both sides
 pub one_more : (label : Label) {own b : Bool} {c t : Tree CaseNode} (p : Product) → IsShowing p.name p.value c t → IsCaseOf (IsExactly (Leaf label own)) b c → IsCaseOf (IsExactly (Leaf (with_last label p) own)) b t

@@ -3,7 +3,10 @@ mod Changes
 mod Differing
 mod Finding
 mod Leaving
+mod Listing
 mod Members
 mod Numbers
+mod Places
+mod Refusing
 mod Rows
 mod Ruling

@@ -7,6 +7,7 @@ use Rattle.predicates_core.specs.Leaves.{IsExactly}
 use Rattle.serde_json.specs.Data.{Data}
 use Rattle.serde_json.specs.View.{view}
 use Rattle.serde_json.specs.declared.value.Value.{Value}
+use Rattle.predicates_vet_check.specs.Scopes.{Place, within}
 use Rattle.predicates_vet_check.specs.Plans.{Plan, Asks, Denies, Joins, Counts, Ranges, plans_of, plan_formula}
 use Rattle.predicates_vet_check.specs.Tests.{text_of_test, path_of_test, query_of_test}
 
@@ -21,10 +22,10 @@ plan_step (Check-F.Quantified text q path e) = Ranges (string_bytes text) (strin
 abbrev pub plan_of : Check → Plan
 plan_of = fold-Check Plan plan_step
 
--- f is the formula of the check on the data
-abbrev pub Has : Data → Check → Formula → Type 0
-Has d c = IsExactly (plan_formula (plan_of c) d)
+-- f is the formula of the check on an item of a record
+abbrev pub Has : Place → Check → Formula → Type 0
+Has p c = IsExactly (plan_formula (plan_of c) p)
 
--- f is the formula of the check on the value
-abbrev pub HasOf : Check → Value → Formula → Type 0
-HasOf c v = IsExactly (plan_formula (plan_of c) (view v))
+-- f is the formula of the check on the value, within the record
+abbrev pub HasOf : Data → Check → Value → Formula → Type 0
+HasOf whole c v = IsExactly (plan_formula (plan_of c) (within whole (view v)))

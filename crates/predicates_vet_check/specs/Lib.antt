@@ -1,7 +1,9 @@
 pub mod Alike
 pub mod Patterns
 pub mod Numbers
+pub mod Scopes
 pub mod Queries
+pub mod Lists
 pub mod Plans
 pub mod PlanLaws
 pub mod Tests
@@ -9,3 +11,4 @@ pub mod Checks
 pub mod Differ
 pub mod Planned
 pub mod RuleChecks
+pub mod Refusals

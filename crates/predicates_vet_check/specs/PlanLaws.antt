@@ -6,13 +6,14 @@ use Rattle.predicates_core.specs.Formula.{Formula, Formulas, Leaf, AtLeast, text
 use Rattle.predicates_core.specs.Leaves.{IsExactly}
 use Rattle.predicates_core.specs.Thresholds.{settled, threshold_formula}
 use Rattle.serde_json.specs.Data.{Data, Items, no_items, item}
-use Rattle.serde_json.specs.Find.{pointer, as_array}
 use Rattle.predicates_rules.specs.declared.expression.Connective.{Connective}
 use Rattle.predicates_rules.specs.declared.expression.Connective.TheVariants.{Or, Xor, And}
 use Rattle.predicates_rules.specs.declared.expression.Quantifier.{Quantifier}
 use Rattle.predicates_rules.specs.declared.expression.Quantifier.TheVariants as quantifiers
+use Rattle.predicates_vet_check.specs.Scopes.{Place, within, stands}
 use Rattle.predicates_vet_check.specs.Queries.{Query, verdict, is_of_presence, nothing_verdict}
-use Rattle.predicates_vet_check.specs.Plans.{Plan, Asks, Denies, Joins, Counts, Ranges, nothing, also, plan_formula, plan_formulas, plan_text, asked_formula, leaf_of_verdict, range_formula, deciding_items, over_items, over_array, listed, joined_formula, nothing_leaf, part_formulas}
+use Rattle.predicates_vet_check.specs.Lists.{values_in}
+use Rattle.predicates_vet_check.specs.Plans.{Plan, Asks, Denies, Joins, Counts, Ranges, nothing, also, plan_formula, plan_formulas, plan_text, asked_formula, leaf_of_verdict, range_formula, deciding_items, over_items, over_list, listed, joined_formula, nothing_leaf, part_formulas}
 use Rattle.predicates_vet_check.specs.RuleChecks.{rule_formula}
 
 -- the formula has the text at its root, and so what is exactly that formula fits it
@@ -24,13 +25,13 @@ module _ (text : List ℕ) where
   absent_text path own true = refl
   absent_text path own false = refl
 
-  verdict_text : (q : Query) (whole d : Data) (v : Option Bool) → text_of (leaf_of_verdict text q whole d v) ≡ Some text
-  verdict_text q whole d None = refl
-  verdict_text q whole d (Some own) = refl
+  verdict_text : (q : Query) (p : Place) (d : Data) (v : Option Bool) → text_of (leaf_of_verdict text q p d v) ≡ Some text
+  verdict_text q p d None = refl
+  verdict_text q p d (Some own) = refl
 
-  pub asked_text : (path : List ℕ) (q : Query) (whole : Data) (o : Option Data) → text_of (asked_formula text path q whole o) ≡ Some text
-  asked_text path q whole None = absent_text path (nothing_verdict q) (is_of_presence q)
-  asked_text path q whole (Some d) = verdict_text q whole d (verdict q whole d)
+  pub asked_text : (path : List ℕ) (q : Query) (p : Place) (o : Option Data) → text_of (asked_formula text path q p o) ≡ Some text
+  asked_text path q p None = absent_text path (nothing_verdict q) (is_of_presence q)
+  asked_text path q p (Some d) = verdict_text q p d (verdict q p d)
 
   joined_text : (c : Connective) (fs : Formulas) → text_of (joined_formula text c fs) ≡ Some text
   joined_text Or fs = refl
@@ -54,27 +55,27 @@ module _ (text : List ℕ) where
   over_text quantifiers.Any g ds = deciding_text true g ds
   over_text (quantifiers.AtLeast k) g ds = threshold_text k _ g (listed ds)
 
-  array_text : (d : Data) (q : Quantifier) (g : Data → Formula) (o : Option Items) → text_of (over_array text d q g o) ≡ Some text
-  array_text d q g None = refl
-  array_text d q g (Some ds) = over_text q g ds
+  list_text : (d : Data) (q : Quantifier) (g : Data → Formula) (o : Option Items) → text_of (over_list text d q g o) ≡ Some text
+  list_text d q g None = refl
+  list_text d q g (Some ds) = over_text q g ds
 
   ranged_text : (path : List ℕ) (q : Quantifier) (g : Data → Formula) (o : Option Data) → text_of (range_formula text path q g o) ≡ Some text
   ranged_text path q g None = refl
-  ranged_text path q g (Some d) = array_text d q g (as_array d)
+  ranged_text path q g (Some d) = list_text d q g (values_in d)
 
-root_text : (p : Plan) (d : Data) → text_of (plan_formula p d) ≡ Some (plan_text p)
-root_text (Asks text path q) d = asked_text text path q d (pointer path d)
-root_text (Denies text e) d = refl
-root_text (Joins text c nothing) d = refl
-root_text (Joins text c (also e es)) d = joined_text text c (part_formulas (plan_formula e d) es d)
-root_text (Counts text k es) d = threshold_text text k _ (λ f. f) (plan_formulas es d)
-root_text (Ranges text path q e) d = ranged_text text path q (plan_formula e) (pointer path d)
+root_text : (e : Plan) (p : Place) → text_of (plan_formula e p) ≡ Some (plan_text e)
+root_text (Asks text path q) p = asked_text text path q p (stands path p)
+root_text (Denies text e) p = refl
+root_text (Joins text c nothing) p = refl
+root_text (Joins text c (also e es)) p = joined_text text c (part_formulas (plan_formula e p) es p)
+root_text (Counts text k es) p = threshold_text text k _ (λ f. f) (plan_formulas es p)
+root_text (Ranges text path q e) p = ranged_text text path q (λ d. plan_formula e (within p.whole d)) (stands path p)
 
-pub plan_text_fits : (p : Plan) (d : Data) {f : Formula} → IsExactly (plan_formula p d) f → FitsEntry (text_of f) (Some (plan_text p))
-plan_text_fits p d h = text_fits_exactly (root_text p d) h
+pub plan_text_fits : (e : Plan) (p : Place) {f : Formula} → IsExactly (plan_formula e p) f → FitsEntry (text_of f) (Some (plan_text e))
+plan_text_fits e p h = text_fits_exactly (root_text e p) h
 
-pub asked_text_fits : (text path : List ℕ) (q : Query) (whole : Data) (o : Option Data) {f : Formula} → IsExactly (asked_formula text path q whole o) f → FitsEntry (text_of f) (Some text)
-asked_text_fits text path q whole o h = text_fits_exactly (asked_text text path q whole o) h
+pub asked_text_fits : (text path : List ℕ) (q : Query) (p : Place) (o : Option Data) {f : Formula} → IsExactly (asked_formula text path q p o) f → FitsEntry (text_of f) (Some text)
+asked_text_fits text path q p o h = text_fits_exactly (asked_text text path q p o) h
 
-pub rule_text_fits : (name : List ℕ) (p : Plan) (d : Data) {f : Formula} → IsExactly (rule_formula name p d) f → FitsEntry (text_of f) (Some name)
-rule_text_fits name p d h = text_fits_exactly refl h
+pub rule_text_fits : (name : List ℕ) (e : Plan) (p : Place) {f : Formula} → IsExactly (rule_formula name e p) f → FitsEntry (text_of f) (Some name)
+rule_text_fits name e p h = text_fits_exactly refl h

@@ -6,7 +6,8 @@ use Rattle.regex.specs.declared.string.regex.Regex.{Regex}
 use Rattle.predicates_text.specs.Expressions.{IsReadFrom}
 use Rattle.predicates_rules.specs.declared.condition.Relation.{Relation}
 use Rattle.predicates_rules.specs.declared.condition.Relation.TheVariants as relations
-use Rattle.predicates_rules.specs.Trees.{Test, TheValueIs, Compares, ComparesWith, HasLength, IsOfKind, Relates, IsAmong, Tree, At, Denied, Quantified, Joined, AtLeast, Trees, none, more}
+use Rattle.predicates_rules.specs.Trees.{Test, TheValueIs, Compares, ComparesWith, HasLength, IsOfKind, Relates, IsAmong, Tree, At, Denied, Implies, Quantified, Joined, AtLeast, Trees, none, more}
+use Rattle.predicates_rules.specs.declared.expression.Connective.TheVariants.{Or}
 use Rattle.predicates_rules.specs.Printing.{printed}
 use Rattle.predicates_vet_check.specs.Queries as queries
 use Rattle.predicates_vet_check.specs.Queries.{Query}
@@ -36,6 +37,8 @@ abbrev mutual
   pub IsPlan : Tree → Plan → Type 0
   IsPlan (At path t) (Asks text p q) = (text ≡ printed (At path t)) × (p ≡ path) × IsQuery t q
   IsPlan (Denied e) (Denies text p) = (text ≡ printed (Denied e)) × IsPlan e p
+  -- under the text of the whole, `not A or B`
+  IsPlan (Implies a b) (Joins text c ps) = (text ≡ printed (Implies a b)) × (c ≡ Or) × ArePlans (more (Denied a) (more b none)) ps
   IsPlan (Quantified q path e) (Ranges text p r f) = (text ≡ printed (Quantified q path e)) × (p ≡ path) × (r ≡ q) × IsPlan e f
   IsPlan (Joined c es) (Joins text d ps) = (text ≡ printed (Joined c es)) × (d ≡ c) × ArePlans es ps
   IsPlan (AtLeast k es) (Counts text j ps) = (text ≡ printed (AtLeast k es)) × (j ≡ k) × ArePlans es ps

@@ -1,7 +1,6 @@
--- What a check is, apart from where it lies in memory, and its formula on a value.
+-- What a check is, apart from where it lies in memory, and its formula on an item of a record.
 use Rattle.std.specs.Prelude.{◌≡◌, ℕ, List, [], ◌∷◌, Bool, true, false, not, Option, Some, None, option_map, cond, codes, decimal}
 use Rattle.serde_json.specs.Data.{Data, Items, no_items, item}
-use Rattle.serde_json.specs.Find.{pointer, as_array}
 use Rattle.serde_json.specs.Written.{has_float, compact_text}
 use Rattle.predicates_core.specs.Label.{Entry, Product, Label, plain, showing, value_of, with_last}
 use Rattle.predicates_core.specs.declared.custom.join.Operator.TheVariants as operators
@@ -15,6 +14,8 @@ use Rattle.predicates_rules.specs.declared.expression.Connective.{Connective}
 use Rattle.predicates_rules.specs.declared.expression.Connective.TheVariants.{Or, Xor, And}
 use Rattle.predicates_rules.specs.declared.expression.Quantifier.{Quantifier}
 use Rattle.predicates_rules.specs.declared.expression.Quantifier.TheVariants.{Each, Any, AtLeast}
+use Rattle.predicates_vet_check.specs.Scopes.{Place, within, stands}
+use Rattle.predicates_vet_check.specs.Lists.{values_in}
 use Rattle.predicates_vet_check.specs.Queries.{Query, ComparesWith, HasLength, verdict, length_of, nothing_verdict, is_of_presence, nothing_text, misfit_text}
 
 mutual
@@ -67,27 +68,27 @@ abbrev pub length_product : ℕ → Product
 length_product n = record { name = codes "len"; value = Some (decimal n) }
 
 -- what is shown beside the value
-abbrev pub shown_beside : Query → (whole d : Data) → Option Product
-shown_beside (ComparesWith o path) whole d = option_map other_product (pointer path whole)
-shown_beside (HasLength o n) whole d = option_map length_product (length_of d)
-shown_beside q whole d = None
+abbrev pub shown_beside : Query → Place → (d : Data) → Option Product
+shown_beside (ComparesWith o path) p d = option_map other_product (stands path p)
+shown_beside (HasLength o n) p d = option_map length_product (length_of d)
+shown_beside q p d = None
 
 -- t is c that shows it too, where there is one
 abbrev pub ShowsBeside : Option Product → (c t : Tree CaseNode) → Type 0
 ShowsBeside None c t = t ≡ c
 ShowsBeside (Some beside) c t = IsShowing beside.name beside.value c t
 
-abbrev pub leaf_of_verdict : List ℕ → Query → (whole d : Data) → Option Bool → Formula
-leaf_of_verdict text q whole d None = misfit_leaf text (misfit_text q whole) d (shown_beside q whole d)
-leaf_of_verdict text q whole d (Some own) = found_leaf text d (shown_beside q whole d) own
+abbrev pub leaf_of_verdict : List ℕ → Query → Place → (d : Data) → Option Bool → Formula
+leaf_of_verdict text q p d None = misfit_leaf text (misfit_text q p) d (shown_beside q p d)
+leaf_of_verdict text q p d (Some own) = found_leaf text d (shown_beside q p d) own
 
 -- where nothing stands at the path
 abbrev pub absent_formula : List ℕ → List ℕ → Query → Formula
 absent_formula text path q = cond (is_of_presence q) (Leaf (plain (Some text)) (nothing_verdict q)) (nothing_leaf text path)
 
-abbrev pub asked_formula : List ℕ → List ℕ → Query → (whole : Data) → Option Data → Formula
-asked_formula text path q whole None = absent_formula text path q
-asked_formula text path q whole (Some d) = leaf_of_verdict text q whole d (verdict q whole d)
+abbrev pub asked_formula : List ℕ → List ℕ → Query → Place → Option Data → Formula
+asked_formula text path q p None = absent_formula text path q
+asked_formula text path q p (Some d) = leaf_of_verdict text q p d (verdict q p d)
 
 -- ---- what is over several
 
@@ -111,16 +112,16 @@ over_items text Each g ds = deciding_items text false g ds
 over_items text Any g ds = deciding_items text true g ds
 over_items text (AtLeast k) g ds = threshold_formula k (Some text) (codes "item") g (listed ds)
 
-abbrev pub not_an_array : List ℕ
-not_an_array = codes "not an array"
+abbrev pub no_list_text : List ℕ
+no_list_text = codes "not an array or an object"
 
-abbrev pub over_array : List ℕ → Data → Quantifier → (Data → Formula) → Option Items → Formula
-over_array text d q g None = misfit_leaf text not_an_array d None
-over_array text d q g (Some ds) = over_items text q g ds
+abbrev pub over_list : List ℕ → Data → Quantifier → (Data → Formula) → Option Items → Formula
+over_list text d q g None = misfit_leaf text no_list_text d None
+over_list text d q g (Some ds) = over_items text q g ds
 
 abbrev pub range_formula : List ℕ → List ℕ → Quantifier → (Data → Formula) → Option Data → Formula
 range_formula text path q g None = nothing_leaf text path
-range_formula text path q g (Some d) = over_array text d q g (as_array d)
+range_formula text path q g (Some d) = over_list text d q g (values_in d)
 
 -- formulas that a connective joins
 abbrev pub joined_formula : List ℕ → Connective → Formulas → Formula
@@ -135,23 +136,27 @@ empty_truth Xor = false
 empty_truth And = true
 
 abbrev mutual
-  -- the formula of a check on a value
-  pub plan_formula : Plan → Data → Formula
-  plan_formula (Asks text path q) d = asked_formula text path q d (pointer path d)
-  plan_formula (Denies text e) d = Not (plain (Some text)) (plan_formula e d)
-  plan_formula (Joins text c nothing) d = no_members (Some text) (empty_truth c)
-  plan_formula (Joins text c (also e es)) d = joined_formula text c (part_formulas (plan_formula e d) es d)
-  plan_formula (Counts text k es) d = threshold_formula k (Some text) (codes "part") (λ f. f) (plan_formulas es d)
-  plan_formula (Ranges text path q e) d = range_formula text path q (plan_formula e) (pointer path d)
+  -- the formula of a check on an item of a record
+  pub plan_formula : Plan → Place → Formula
+  plan_formula (Asks text path q) p = asked_formula text path q p (stands path p)
+  plan_formula (Denies text e) p = Not (plain (Some text)) (plan_formula e p)
+  plan_formula (Joins text c nothing) p = no_members (Some text) (empty_truth c)
+  plan_formula (Joins text c (also e es)) p = joined_formula text c (part_formulas (plan_formula e p) es p)
+  plan_formula (Counts text k es) p = threshold_formula k (Some text) (codes "part") (λ f. f) (plan_formulas es p)
+  plan_formula (Ranges text path q e) p = range_formula text path q (λ d. plan_formula e (within p.whole d)) (stands path p)
 
   -- a first formula, and those of the others, under `part`
-  pub part_formulas : Formula → Plans → Data → Formulas
-  part_formulas f nothing d = one (codes "part") f
-  part_formulas f (also e es) d = more (codes "part") f (part_formulas (plan_formula e d) es d)
+  pub part_formulas : Formula → Plans → Place → Formulas
+  part_formulas f nothing p = one (codes "part") f
+  part_formulas f (also e es) p = more (codes "part") f (part_formulas (plan_formula e p) es p)
 
-  pub plan_formulas : Plans → Data → List Formula
-  plan_formulas nothing d = []
-  plan_formulas (also e es) d = plan_formula e d ∷ plan_formulas es d
+  pub plan_formulas : Plans → Place → List Formula
+  plan_formulas nothing p = []
+  plan_formulas (also e es) p = plan_formula e p ∷ plan_formulas es p
+
+-- the formula of a check on each item of a record
+abbrev pub formula_within : Data → Plan → Data → Formula
+formula_within whole e d = plan_formula e (within whole d)
 
 abbrev pub plan_text : Plan → List ℕ
 plan_text (Asks text path q) = text

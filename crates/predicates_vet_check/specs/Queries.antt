@@ -8,7 +8,7 @@ use Rattle.std.specs.Str.{chars}
 use Rattle.regex.specs.Patterns.{Re, find_str}
 use Rattle.regex.specs.Strings.{regex_pattern}
 use Rattle.serde_json.specs.Data.{Data, null, boolean, number, string, array, object, Items, no_items, item, Members, no_members, member}
-use Rattle.serde_json.specs.Find.{as_number, as_integer, as_str, as_bool, as_null, as_array, as_object, pointer}
+use Rattle.serde_json.specs.Find.{as_number, as_integer, as_str, as_bool, as_null, as_array, as_object}
 use Rattle.predicates_text.specs.Places.{is_front, is_back, is_part}
 use Rattle.predicates_rules.specs.declared.condition.State.{State}
 use Rattle.predicates_rules.specs.declared.condition.State.TheVariants as states
@@ -20,13 +20,14 @@ use Rattle.predicates_rules.specs.Lexemes.{data_of}
 use Rattle.predicates_rules.specs.Trees.{Value, Natural, Negative, Decimal, Boolean, value_of}
 use Rattle.predicates_vet_check.specs.Numbers.{number_cmp}
 use Rattle.predicates_vet_check.specs.Patterns.{regex_of}
+use Rattle.predicates_vet_check.specs.Scopes.{Place, stands}
 use Rattle.predicates_vet_check.specs.declared.question.Question.{Question}
 use Rattle.predicates_vet_check.specs.declared.question.Question.TheVariants as questions
 
 pub data Query : Type 0 where
   Stands : (s : State) → Query
   Compares : (o : Comparison) → (v : Value) → Query
-  -- with what stands at another path, which begins where the test's own does
+  -- with what stands at another path
   ComparesWith : (o : Comparison) → (path : List ℕ) → Query
   HasLength : (o : Comparison) → (n : ℕ) → Query
   IsOfKind : (k : ValueKind) → Query
@@ -125,17 +126,17 @@ text_fits (Holds pattern) s = is_part (chars pattern) (chars s)
 text_fits (Matches re) s = is_some (find_str re s 0)
 text_fits q s = false
 
--- whether d, which stands at the test's path within the whole, answers it, or none where it can't
-abbrev pub verdict : Query → (whole d : Data) → Option Bool
-verdict (Stands states.Exists) whole d = Some true
-verdict (Stands states.Missing) whole d = Some false
-verdict (Stands states.IsEmpty) whole d = empty_verdict d
-verdict (Compares o v) whole d = option_map (holds_in o) (order d (data_of v))
-verdict (ComparesWith o path) whole d = option_map (holds_in o) (option_and_then (order d) (pointer path whole))
-verdict (HasLength o n) whole d = option_map (λ k. holds_in o (nat_cmp k n)) (length_of d)
-verdict (IsOfKind k) whole d = Some (is_of_kind k d)
-verdict (IsAmong vs) whole d = Some (is_among vs d)
-verdict q whole d = option_map (text_fits q) (as_str d)
+-- whether d, which stands at the test's path, answers it, or none where it can't
+abbrev pub verdict : Query → Place → (d : Data) → Option Bool
+verdict (Stands states.Exists) p d = Some true
+verdict (Stands states.Missing) p d = Some false
+verdict (Stands states.IsEmpty) p d = empty_verdict d
+verdict (Compares o v) p d = option_map (holds_in o) (order d (data_of v))
+verdict (ComparesWith o path) p d = option_map (holds_in o) (option_and_then (order d) (stands path p))
+verdict (HasLength o n) p d = option_map (λ k. holds_in o (nat_cmp k n)) (length_of d)
+verdict (IsOfKind k) p d = Some (is_of_kind k d)
+verdict (IsAmong vs) p d = Some (is_among vs d)
+verdict q p d = option_map (text_fits q) (as_str d)
 
 -- whether it holds where nothing stands
 abbrev pub nothing_verdict : Query → Bool
@@ -161,12 +162,12 @@ apart_text path None = nothing_text path
 apart_text path (Some d) = codes "not comparable with " ++ path_text path
 
 -- what is said of a value that can't answer
-abbrev pub misfit_text : Query → (whole : Data) → List ℕ
-misfit_text (Compares o (Natural n)) whole = codes "not a number"
-misfit_text (Compares o (Negative n)) whole = codes "not a number"
-misfit_text (Compares o (Decimal text x)) whole = codes "not a number"
-misfit_text (Compares o (Boolean b)) whole = codes "not true or false"
-misfit_text (ComparesWith o path) whole = apart_text path (pointer path whole)
-misfit_text (HasLength o n) whole = codes "not a string, an array or an object"
-misfit_text (Stands s) whole = codes "not a string, an array or an object"
-misfit_text q whole = codes "not a string"
+abbrev pub misfit_text : Query → Place → List ℕ
+misfit_text (Compares o (Natural n)) p = codes "not a number"
+misfit_text (Compares o (Negative n)) p = codes "not a number"
+misfit_text (Compares o (Decimal text x)) p = codes "not a number"
+misfit_text (Compares o (Boolean b)) p = codes "not true or false"
+misfit_text (ComparesWith o path) p = apart_text path (stands path p)
+misfit_text (HasLength o n) p = codes "not a string, an array or an object"
+misfit_text (Stands s) p = codes "not a string, an array or an object"
+misfit_text q p = codes "not a string"

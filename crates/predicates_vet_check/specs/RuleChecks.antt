@@ -1,8 +1,8 @@
 -- The formula of a rule.
 use Rattle.std.specs.Prelude.{ℕ, List, Some, codes, string_bytes}
-use Rattle.serde_json.specs.Data.{Data}
 use Rattle.predicates_core.specs.Label.{plain}
 use Rattle.predicates_core.specs.Formula.{Formula, Named}
+use Rattle.predicates_vet_check.specs.Scopes.{Place}
 use Rattle.predicates_vet_check.specs.Plans.{Plan, plan_formula}
 use Rattle.predicates_vet_check.specs.Checks.{plan_of}
 use Rattle.predicates_vet_check.specs.declared.rule_check.RuleCheck.{RuleCheck}
@@ -14,5 +14,5 @@ abbrev pub plan_of_rule : RuleCheck → Plan
 plan_of_rule r = plan_of r.check
 
 -- the formula of the check, under `rule`
-abbrev pub rule_formula : List ℕ → Plan → Data → Formula
-rule_formula name p d = Named (plain (Some name)) (codes "rule") (plan_formula p d)
+abbrev pub rule_formula : List ℕ → Plan → Place → Formula
+rule_formula name e p = Named (plain (Some name)) (codes "rule") (plan_formula e p)

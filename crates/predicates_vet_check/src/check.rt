@@ -8,6 +8,7 @@ ghost use Rattle.serde_json.specs.View.{view};
 ghost use Rattle.predicates_vet_check.specs.Plans.{plan_formula, plan_text};
 ghost use Rattle.predicates_vet_check.specs.PlanLaws.{plan_text_fits};
 ghost use Rattle.predicates_vet_check.specs.Checks.{plan_of};
+ghost use Rattle.predicates_vet_check.specs.Scopes.{alone, place_of};
 
 mod change;
 mod counted;
@@ -17,6 +18,7 @@ mod steps;
 
 use crate::matchers::Matchers;
 use crate::path_test::PathTest;
+use crate::scope::Scope;
 use change::changed;
 use counted::threshold_hold;
 use explain::explained;
@@ -42,8 +44,10 @@ pub enum Check {
     /// At least so many of the parts hold. Where that is so whatever they answer, or is not, it is a
     /// leaf that says how many there are.
     AtLeast(String, usize, Vec<Check>),
-    /// The check holds of each item of the array at the path, of one, or of at least so many. What
-    /// is no array is a false leaf that says so.
+    /// The check holds of each item of the array at the path, or value of the object, in the order
+    /// of its keys, of one, or of at least so many. What is neither is a false leaf that says so. A
+    /// path that begins with `^` leads from the record on, and not from the item. A call copies the
+    /// values of an object: the error is memory that was refused.
     Quantified(String, Quantifier, String, Box<Check>),
 }
 
@@ -89,7 +93,6 @@ impl Check {
     /// let record = Value::from_str(alloc, "{\"age\": 18}")?;
     /// assert!(rt; rule.check.holds(alloc, &mut matchers, &record)?);
     /// ```
-    #[cycle(hold)]
     pub fn holds<'r>(
         &'r self,
         alloc: Global,
@@ -97,30 +100,46 @@ impl Check {
         item: &Value,
     ) -> Result<bool, AllocError>
         ensures { IfOk result (HasTruth (IsExactly
-            (plan_formula (plan_of self.now) (view item.now)))) }
+            (plan_formula (plan_of self.now) (alone (view item.now))))) }
+    {
+        let scope = Scope { whole: item, item };
+        let held = self.holds_in(alloc, matchers, scope)?;
+        Ok(held)
+    }
+
+    // The same of an item of a record.
+    #[cycle(hold)]
+    pub(crate) fn holds_in<'r>(
+        &'r self,
+        alloc: Global,
+        matchers: &mut Matchers<'r>,
+        scope: Scope<'_>,
+    ) -> Result<bool, AllocError>
+        ensures { IfOk result (HasTruth (IsExactly
+            (plan_formula (plan_of self.now) (place_of scope.entry)))) }
     {
         match self {
-            Check::Test(test) => test.holds(alloc, matchers, item),
-            Check::Not(_, inner) => not_hold(alloc, matchers, inner, item),
+            Check::Test(test) => test.holds_in(alloc, matchers, scope),
+            Check::Not(_, inner) => not_hold(alloc, matchers, inner, scope),
             Check::Joined(_, connective, parts) => {
-                joined_hold(alloc, matchers, *connective, parts, item)
+                joined_hold(alloc, matchers, *connective, parts, scope)
             }
             Check::AtLeast(_, least, parts) => {
-                threshold_hold(alloc, matchers, *least, parts, item)
+                threshold_hold(alloc, matchers, *least, parts, scope)
             }
             Check::Quantified(_, quantifier, path, inner) => {
-                range_hold(alloc, matchers, *quantifier, path, inner, item)
+                range_hold(alloc, matchers, *quantifier, path, inner, scope)
             }
         }
     }
 }
 
 impl Predicate<Value> for Check {
-    ghost formula = { λ c v. IsExactly (plan_formula (plan_of c) (view v)) };
+    ghost formula = { λ c v. IsExactly (plan_formula (plan_of c) (alone (view v))) };
 
     ghost infallible = { λ _ _. ⊥ };
 
-    ghost text_fits = { λ c v f. plan_text_fits (plan_of c) (view v) };
+    ghost text_fits = { λ c v f. plan_text_fits (plan_of c) (alone (view v)) };
 
     ghost one_formula = { λ c v f g lawful. one_exactly };
 
@@ -136,7 +155,7 @@ impl Predicate<Value> for Check {
         expected: bool,
         item: &Value,
     ) -> Result<Option<Case>, AllocError> {
-        explained(alloc, self, Some(expected), item)
+        explained(alloc, self, Some(expected), Scope { whole: item, item })
     }
 
     fn explain(
@@ -145,7 +164,7 @@ impl Predicate<Value> for Check {
         wanted: Option<bool>,
         item: &Value,
     ) -> Result<Option<Case>, AllocError> {
-        explained(alloc, self, wanted, item)
+        explained(alloc, self, wanted, Scope { whole: item, item })
     }
 }
 
@@ -156,12 +175,12 @@ impl PredicateChange<Value> for Check {
         wanted: Option<bool>,
         item: &Value,
     ) -> Result<Option<Case>, AllocError> {
-        changed(alloc, self, wanted, item)
+        changed(alloc, self, wanted, Scope { whole: item, item })
     }
 }
 
 impl Total<Value> for Check {
-    ghost formula_of = { λ c v. plan_formula (plan_of c) (view v) };
+    ghost formula_of = { λ c v. plan_formula (plan_of c) (alone (view v)) };
 
     ghost always_lawful = { λ _. tt };
 

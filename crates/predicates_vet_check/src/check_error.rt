@@ -2,6 +2,8 @@
 ghost use Rattle.std.specs.Prelude.{◌≡◌};
 ghost use Rattle.predicates_vet_check.specs.declared.check_error.CheckError.TheVariants.{NoMemory};
 
+use crate::pattern_fault::PatternFault;
+use predicates_rules::quoted::Quoted;
 use std::alloc::{AllocError, AllocFailed};
 use std::error::Error;
 use std::fmt;
@@ -11,15 +13,18 @@ use std::fmt;
 pub enum CheckError {
     /// Memory was refused.
     NoMemory,
-    /// The pattern is no regular expression, or too large.
-    Pattern(String),
+    /// A pattern is no regular expression, or too large.
+    Pattern(PatternFault),
 }
 
 impl fmt::Display for CheckError {
     fn fmt<W: fmt::Write>(&self, f: &mut fmt::Formatter<W>) -> fmt::Result {
         match self {
             CheckError::NoMemory => f.write_str("no memory"),
-            CheckError::Pattern(pattern) => write!(f, "no regular expression: {pattern:?}"),
+            CheckError::Pattern(fault) => {
+                let pattern = Quoted(fault.pattern.as_bytes());
+                write!(f, "no regular expression: {fault}: {pattern}")
+            }
         }
     }
 }

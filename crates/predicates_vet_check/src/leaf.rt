@@ -6,18 +6,18 @@ ghost use Rattle.predicates_core.specs.Formula.{Leaf};
 ghost use Rattle.predicates_core.specs.Label.{plain};
 ghost use Rattle.predicates_core.specs.Leaves.{IsExactly};
 ghost use Rattle.predicates_core.specs.Shows.{IsCaseOf, IsFound};
-ghost use Rattle.serde_json.specs.Find.{pointer};
 ghost use Rattle.serde_json.specs.View.{view};
+ghost use Rattle.predicates_vet_check.specs.Scopes.{place_of, stands};
 ghost use Rattle.predicates_vet_check.specs.Plans.{found_text, nothing_leaf, misfit_leaf};
 ghost use Rattle.predicates_vet_check.specs.Plans.{found_leaf};
 ghost use Rattle.predicates_vet_check.specs.Plans.{ShowsBeside, other_product, length_product};
 ghost use Rattle.predicates_vet_check.specs.Queries.{path_text, apart_text, length_of};
 
 use crate::contents::length;
+use crate::scope::Scope;
 use predicates_core::custom::is_other;
 use predicates_core::node::{leaf_node, showing, showing_text};
 use predicates_core::reflection::Case;
-use predicates_json::value_at;
 use serde_json::Value;
 use std::alloc::{AllocError, Global};
 
@@ -95,17 +95,17 @@ pub(crate) fn misfit_at(
     Ok(showing_text(alloc, case, "error", error)?)
 }
 
-/// The case with the value that stands at another path within the whole, if one does.
+/// The case with the value that stands at another path, if one does.
 pub(crate) fn showing_other(
     alloc: Global,
     case: Case,
-    whole: &Value,
+    scope: Scope<'_>,
     path: &str,
 ) -> Result<Case, AllocError>
     ensures { IfOk result (λ shown. ShowsBeside
-        (option_map other_product (pointer path.now (view whole.now))) case shown) }
+        (option_map other_product (stands path.now (place_of scope.entry))) case shown) }
 {
-    let Some(value) = value_at(whole, path) else {
+    let Some(value) = scope.at(path) else {
         return Ok(case);
     };
     let found = found(alloc, value)?;
@@ -124,13 +124,13 @@ pub(crate) fn showing_length(alloc: Global, case: Case, value: &Value) -> Result
     Ok(showing(case, "len", shown)?)
 }
 
-/// What is said where a value does not compare with what stands at the path within the whole.
-pub(crate) fn apart(alloc: Global, whole: &Value, path: &str) -> Result<String, AllocError>
+/// What is said where a value does not compare with what stands at the path.
+pub(crate) fn apart(alloc: Global, scope: Scope<'_>, path: &str) -> Result<String, AllocError>
     ensures { IfOk result (λ text.
-        string_bytes text ≡ apart_text path.now (pointer path.now (view whole.now))) }
+        string_bytes text ≡ apart_text path.now (stands path.now (place_of scope.entry))) }
 {
     let shown = path_shown(path);
-    match value_at(whole, path) {
+    match scope.at(path) {
         Some(_) => format!(in alloc; "not comparable with {shown}"),
         None => format!(in alloc; "nothing at {shown}"),
     }

@@ -1,15 +1,15 @@
 //! How values compare.
 ghost use Rattle.std.specs.Prelude.{◌≡◌, ◌∷◌, [], Some, map, option_and_then};
 ghost use Rattle.serde_json.specs.Data.{null, number};
-ghost use Rattle.serde_json.specs.Find.{pointer};
 ghost use Rattle.serde_json.specs.View.{view};
 ghost use Rattle.predicates_rules.specs.Lexemes.{data_of};
 ghost use Rattle.predicates_rules.specs.Trees.{value_of};
 ghost use Rattle.predicates_vet_check.specs.Numbers.{num_of_exact};
+ghost use Rattle.predicates_vet_check.specs.Scopes.{place_of, stands};
 ghost use Rattle.predicates_vet_check.specs.Queries.{order, holds_in, is_among};
 
 use crate::number::{Exact, number_order};
-use predicates_json::value_at;
+use crate::scope::Scope;
 use predicates_rules::condition::Comparison;
 use predicates_rules::literal::Literal;
 use serde_json::Value;
@@ -60,12 +60,12 @@ pub(crate) fn order_to_value(value: &Value, other: &Value) -> Option<Ordering>
     }
 }
 
-/// The same of what stands at the path within the whole.
-pub(crate) fn order_to_place(value: &Value, whole: &Value, path: &str) -> Option<Ordering>
+/// The same of what stands at the path.
+pub(crate) fn order_to_place(value: &Value, scope: Scope<'_>, path: &str) -> Option<Ordering>
     ensures { result
-        ≡ option_and_then (order (view value.now)) (pointer path.now (view whole.now)) }
+        ≡ option_and_then (order (view value.now)) (stands path.now (place_of scope.entry)) }
 {
-    order_to_value(value, value_at(whole, path)?)
+    order_to_value(value, scope.at(path)?)
 }
 
 /// Whether the order is as the comparison asks.

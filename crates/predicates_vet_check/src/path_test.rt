@@ -4,10 +4,11 @@ ghost use Rattle.predicates_core.specs.Tree.{empty};
 ghost use Rattle.predicates_core.specs.Formula.{HasTruth};
 ghost use Rattle.predicates_core.specs.Leaves.{IsExactly};
 ghost use Rattle.predicates_core.specs.LeafLaws.{one_exactly};
-ghost use Rattle.serde_json.specs.Find.{pointer};
 ghost use Rattle.serde_json.specs.View.{view};
 ghost use Rattle.std.specs.Prelude.{IfOk, false};
 ghost use Rattle.predicates_core.specs.Shows.{IsCaseOf, IsFound};
+ghost use Rattle.predicates_core.specs.Change.{IsFoundChange};
+ghost use Rattle.predicates_vet_check.specs.Scopes.{alone, place_of, stands};
 ghost use Rattle.predicates_vet_check.specs.Queries.{verdict};
 ghost use Rattle.predicates_vet_check.specs.PlanLaws.{asked_text_fits};
 ghost use Rattle.predicates_vet_check.specs.Plans.{asked_formula, absent_formula, leaf_of_verdict};
@@ -18,11 +19,11 @@ ghost use Rattle.predicates_vet_check.specs.Tests.{text_of_test, path_of_test, q
 use crate::leaf::{bare_leaf, found_at, nothing_at};
 use crate::matchers::Matchers;
 use crate::question::Question;
-use predicates_core::custom::{is_other, leaf_change};
+use crate::scope::Scope;
+use predicates_core::custom::is_other;
 use predicates_core::node::showing;
 use predicates_core::reflection::{Case, Child, Parameter, PredicateReflection};
 use predicates_core::{Predicate, PredicateChange, Total};
-use predicates_json::value_at;
 use serde_json::Value;
 use std::alloc::{AllocError, Global};
 use std::fmt;
@@ -59,48 +60,87 @@ impl PredicateReflection for PathTest {
 }
 
 impl PathTest {
-    /// Whether it holds of the value, as `eval` says, by the matchers of a run.
+    // Whether it holds of an item of a record, by the matchers of a run.
     #[tactic(auto, using(crate::proofs::Leaving::leavings))]
-    pub fn holds<'r>(
+    pub(crate) fn holds_in<'r>(
         &'r self,
         alloc: Global,
         matchers: &mut Matchers<'r>,
-        item: &Value,
+        scope: Scope<'_>,
     ) -> Result<bool, AllocError>
         ensures { IfOk result (HasTruth (IsExactly (asked_formula (text_of_test self.now)
-            (path_of_test self.now) (query_of_test self.now) (view item.now)
-            (pointer (path_of_test self.now) (view item.now))))) }
+            (path_of_test self.now) (query_of_test self.now) (place_of scope.entry)
+            (stands (path_of_test self.now) (place_of scope.entry))))) }
     {
-        let Some(value) = value_at(item, &self.path) else {
+        let Some(value) = scope.at(&self.path) else {
             return Ok(self.question.holds_of_nothing());
         };
-        match self.question.verdict(alloc, matchers, item, value)? {
+        match self.question.verdict(alloc, matchers, scope, value)? {
             Some(holds) => Ok(holds),
             None => Ok(false),
         }
     }
 
-    // What is found of a value that stands at the path within the whole.
+    // What is found of an item of a record.
+    #[tactic(auto, using(crate::proofs::Leaving::leavings))]
+    pub(crate) fn explain_in(
+        &self,
+        alloc: Global,
+        wanted: Option<bool>,
+        scope: Scope<'_>,
+    ) -> Result<Option<Case>, AllocError>
+        ensures { IfOk result (IsFound (IsExactly (asked_formula (text_of_test self.now)
+            (path_of_test self.now) (query_of_test self.now) (place_of scope.entry)
+            (stands (path_of_test self.now) (place_of scope.entry)))) wanted) }
+    {
+        match scope.at(&self.path) {
+            Some(value) => {
+                let found = self.value_found(alloc, scope, value, wanted)?;
+                Ok(found)
+            }
+            None => {
+                let found = self.nothing_found(alloc, wanted)?;
+                Ok(found)
+            }
+        }
+    }
+
+    // What would turn it for an item of a record: its own answer.
+    pub(crate) fn find_change_in(
+        &self,
+        alloc: Global,
+        wanted: Option<bool>,
+        scope: Scope<'_>,
+    ) -> Result<Option<Case>, AllocError>
+        ensures { IfOk result (IsFoundChange (IsExactly (asked_formula (text_of_test self.now)
+            (path_of_test self.now) (query_of_test self.now) (place_of scope.entry)
+            (stands (path_of_test self.now) (place_of scope.entry)))) wanted) }
+    {
+        let found = self.explain_in(alloc, wanted, scope)?;
+        Ok(found)
+    }
+
+    // What is found of a value that stands at the path.
     #[tactic(auto, using(crate::proofs::Leaving::leavings))]
     fn value_found(
         &self,
         alloc: Global,
-        whole: &Value,
+        scope: Scope<'_>,
         value: &Value,
         wanted: Option<bool>,
     ) -> Result<Option<Case>, AllocError>
         ensures { IfOk result (IsFound (IsExactly (leaf_of_verdict (text_of_test self.now)
-            (query_of_test self.now) (view whole.now) (view value.now)
-            (verdict (query_of_test self.now) (view whole.now) (view value.now)))) wanted) }
+            (query_of_test self.now) (place_of scope.entry) (view value.now)
+            (verdict (query_of_test self.now) (place_of scope.entry) (view value.now)))) wanted) }
     {
         let mut matchers = Matchers::new(alloc);
-        match self.question.verdict(alloc, &mut matchers, whole, value)? {
+        match self.question.verdict(alloc, &mut matchers, scope, value)? {
             Some(holds) => {
-                let found = self.answer_found(alloc, whole, value, holds, wanted)?;
+                let found = self.answer_found(alloc, scope, value, holds, wanted)?;
                 Ok(found)
             }
             None => {
-                let found = self.misfit_found(alloc, whole, value, wanted)?;
+                let found = self.misfit_found(alloc, scope, value, wanted)?;
                 Ok(found)
             }
         }
@@ -110,20 +150,20 @@ impl PathTest {
     fn answer_found(
         &self,
         alloc: Global,
-        whole: &Value,
+        scope: Scope<'_>,
         value: &Value,
         holds: bool,
         wanted: Option<bool>,
     ) -> Result<Option<Case>, AllocError>
         ensures { IfOk result (IsFound (IsExactly (found_leaf (text_of_test self.now)
             (view value.now)
-            (shown_beside (query_of_test self.now) (view whole.now) (view value.now)) holds))
+            (shown_beside (query_of_test self.now) (place_of scope.entry) (view value.now)) holds))
             wanted) }
     {
         if is_other(wanted, holds) {
             return Ok(None);
         }
-        let case = self.value_case(alloc, whole, value, holds)?;
+        let case = self.value_case(alloc, scope, value, holds)?;
         Ok(Some(case))
     }
 
@@ -131,19 +171,19 @@ impl PathTest {
     fn misfit_found(
         &self,
         alloc: Global,
-        whole: &Value,
+        scope: Scope<'_>,
         value: &Value,
         wanted: Option<bool>,
     ) -> Result<Option<Case>, AllocError>
         ensures { IfOk result (IsFound (IsExactly (misfit_leaf (text_of_test self.now)
-            (misfit_text (query_of_test self.now) (view whole.now)) (view value.now)
-            (shown_beside (query_of_test self.now) (view whole.now) (view value.now))))
+            (misfit_text (query_of_test self.now) (place_of scope.entry)) (view value.now)
+            (shown_beside (query_of_test self.now) (place_of scope.entry) (view value.now))))
             wanted) }
     {
         if is_other(wanted, false) {
             return Ok(None);
         }
-        let case = self.misfit_case(alloc, whole, value)?;
+        let case = self.misfit_case(alloc, scope, value)?;
         Ok(Some(case))
     }
 
@@ -151,28 +191,33 @@ impl PathTest {
     fn value_case(
         &self,
         alloc: Global,
-        whole: &Value,
+        scope: Scope<'_>,
         value: &Value,
         holds: bool,
     ) -> Result<Case, AllocError>
         ensures { IfOk result (IsCaseOf (IsExactly (found_leaf (text_of_test self.now)
             (view value.now)
-            (shown_beside (query_of_test self.now) (view whole.now) (view value.now)) holds))
+            (shown_beside (query_of_test self.now) (place_of scope.entry) (view value.now)) holds))
             holds) }
     {
         let case = found_at(alloc, &self.text, value, holds)?;
-        let shown = self.question.showing_beside(alloc, case, whole, value)?;
+        let shown = self.question.showing_beside(alloc, case, scope, value)?;
         Ok(shown)
     }
 
     // The same of a value that can't answer, with why.
-    fn misfit_case(&self, alloc: Global, whole: &Value, value: &Value) -> Result<Case, AllocError>
+    fn misfit_case(
+        &self,
+        alloc: Global,
+        scope: Scope<'_>,
+        value: &Value,
+    ) -> Result<Case, AllocError>
         ensures { IfOk result (IsCaseOf (IsExactly (misfit_leaf (text_of_test self.now)
-            (misfit_text (query_of_test self.now) (view whole.now)) (view value.now)
-            (shown_beside (query_of_test self.now) (view whole.now) (view value.now)))) false) }
+            (misfit_text (query_of_test self.now) (place_of scope.entry)) (view value.now)
+            (shown_beside (query_of_test self.now) (place_of scope.entry) (view value.now)))) false) }
     {
-        let case = self.value_case(alloc, whole, value, false)?;
-        let error = self.question.misfit(alloc, whole)?;
+        let case = self.value_case(alloc, scope, value, false)?;
+        let error = self.question.misfit(alloc, scope)?;
         Ok(showing(case, "error", error)?)
     }
 
@@ -207,18 +252,18 @@ impl PathTest {
 
 impl Predicate<Value> for PathTest {
     ghost formula = { λ t v. IsExactly (asked_formula (text_of_test t) (path_of_test t)
-        (query_of_test t) (view v) (pointer (path_of_test t) (view v))) };
+        (query_of_test t) (alone (view v)) (stands (path_of_test t) (alone (view v)))) };
 
     ghost infallible = { λ _ _. ⊥ };
 
-    ghost text_fits = { λ t v f. asked_text_fits (text_of_test t)
-        (path_of_test t) (query_of_test t) (view v) (pointer (path_of_test t) (view v)) };
+    ghost text_fits = { λ t v f. asked_text_fits (text_of_test t) (path_of_test t)
+        (query_of_test t) (alone (view v)) (stands (path_of_test t) (alone (view v))) };
 
     ghost one_formula = { λ t v f g lawful. one_exactly };
 
     fn eval(&self, alloc: Global, item: &Value) -> Result<bool, AllocError> {
         let mut matchers = Matchers::new(alloc);
-        let held = self.holds(alloc, &mut matchers, item)?;
+        let held = self.holds_in(alloc, &mut matchers, Scope { whole: item, item })?;
         Ok(held)
     }
 
@@ -228,26 +273,16 @@ impl Predicate<Value> for PathTest {
         expected: bool,
         item: &Value,
     ) -> Result<Option<Case>, AllocError> {
-        self.explain(alloc, Some(expected), item)
+        self.explain_in(alloc, Some(expected), Scope { whole: item, item })
     }
 
-    #[tactic(auto, using(crate::proofs::Leaving::leavings))]
     fn explain(
         &self,
         alloc: Global,
         wanted: Option<bool>,
         item: &Value,
     ) -> Result<Option<Case>, AllocError> {
-        match value_at(item, &self.path) {
-            Some(value) => {
-                let found = self.value_found(alloc, item, value, wanted)?;
-                Ok(found)
-            }
-            None => {
-                let found = self.nothing_found(alloc, wanted)?;
-                Ok(found)
-            }
-        }
+        self.explain_in(alloc, wanted, Scope { whole: item, item })
     }
 }
 
@@ -258,13 +293,13 @@ impl PredicateChange<Value> for PathTest {
         wanted: Option<bool>,
         item: &Value,
     ) -> Result<Option<Case>, AllocError> {
-        leaf_change(alloc, self, wanted, item)
+        self.find_change_in(alloc, wanted, Scope { whole: item, item })
     }
 }
 
 impl Total<Value> for PathTest {
     ghost formula_of = { λ t v. asked_formula (text_of_test t) (path_of_test t)
-        (query_of_test t) (view v) (pointer (path_of_test t) (view v)) };
+        (query_of_test t) (alone (view v)) (stands (path_of_test t) (alone (view v))) };
 
     ghost always_lawful = { λ _. tt };
 

@@ -1,8 +1,10 @@
 //! A regular expression of a rule.
-ghost use Rattle.std.specs.Prelude.{◌≡◌, IfSome};
+ghost use Rattle.std.specs.Prelude.{◌≡◌, IfOk, IfErr, string_bytes};
 ghost use Rattle.regex.specs.Strings.{regex_source};
 ghost use Rattle.predicates_text.specs.Expressions.{IsReadFrom};
 
+use crate::check_error::CheckError;
+use crate::pattern_fault::PatternFault;
 use regex::Regex;
 use std::alloc::Global;
 
@@ -15,14 +17,21 @@ pub struct Pattern {
 
 impl Pattern {
     ghost use Rattle.predicates_vet_check.specs.Patterns.{regex_of};
+    ghost use Rattle.predicates_vet_check.specs.Refusals.{IsFailure};
 
     // What is read in the source, unless it is refused.
-    pub(crate) fn read(alloc: Global, source: &str) -> Option<Pattern>
-        ensures { IfSome result (λ pattern. IsReadFrom source.now (regex_of pattern)) }
+    pub(crate) fn read(alloc: Global, source: String) -> Result<Pattern, CheckError>
+        ensures read { IfOk result (λ pattern.
+            IsReadFrom (string_bytes source) (regex_of pattern)) }
+        ensures refused { IfErr result (IsFailure (λ pattern. pattern ≡ string_bytes source)) }
     {
-        match Regex::new(alloc, source) {
-            Ok(regex) => Some(Pattern { regex }),
-            Err(_) => None,
+        match Regex::new(alloc, &source) {
+            Ok(regex) => Ok(Pattern { regex }),
+            Err(regex::Error::OutOfMemory) => Err(CheckError::NoMemory),
+            Err(error) => {
+                let fault = PatternFault::of_error(alloc, source, error)?;
+                Err(CheckError::Pattern(fault))
+            }
         }
     }
 

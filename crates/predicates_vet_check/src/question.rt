@@ -2,6 +2,7 @@
 ghost use Rattle.std.specs.Prelude.{◌≡◌, IfOk, option_map, string_bytes};
 ghost use Rattle.std.specs.Ordering.{nat_cmp};
 ghost use Rattle.serde_json.specs.View.{view};
+ghost use Rattle.predicates_vet_check.specs.Scopes.{place_of};
 ghost use Rattle.predicates_vet_check.specs.Plans.{ShowsBeside, shown_beside};
 ghost use Rattle.predicates_vet_check.specs.Queries.{query_of, verdict, text_fits, length_of};
 ghost use Rattle.predicates_vet_check.specs.Queries.{holds_in};
@@ -12,6 +13,7 @@ use crate::leaf::{apart, showing_length, showing_other};
 use crate::matchers::Matchers;
 use crate::order::{is_in, is_one_of, order_to_literal, order_to_place};
 use crate::pattern::Pattern;
+use crate::scope::Scope;
 use predicates_core::reflection::Case;
 use predicates_rules::condition::{Comparison, State, ValueKind};
 use predicates_rules::literal::Literal;
@@ -26,7 +28,7 @@ pub enum Question {
     Is(State),
     /// How it compares with a literal of its kind.
     Compare(Comparison, Literal),
-    /// How it compares with what stands at another path, which begins where its own does.
+    /// How it compares with what stands at another path.
     CompareWith(Comparison, String),
     /// How many characters, items or members it has.
     Length(Comparison, u64),
@@ -53,17 +55,16 @@ fn compares_in_length(value: &Value, comparison: Comparison, number: u64) -> Opt
 }
 
 impl Question {
-    // Whether the value, which stands at the test's path within the whole, answers it, or none
-    // where it can't. It takes memory for a regular expression alone.
+    // Whether the value, which stands at the test's path, answers it, or none where it can't. It takes memory for a regular expression alone.
     pub(crate) fn verdict<'r>(
         &'r self,
         alloc: Global,
         matchers: &mut Matchers<'r>,
-        whole: &Value,
+        scope: Scope<'_>,
         value: &Value,
     ) -> Result<Option<bool>, AllocError>
         ensures { IfOk result (λ found.
-            found ≡ verdict (query_of self.now) (view whole.now) (view value.now)) }
+            found ≡ verdict (query_of self.now) (place_of scope.entry) (view value.now)) }
     {
         match self {
             Question::Is(State::Exists) => Ok(Some(true)),
@@ -73,7 +74,7 @@ impl Question {
                 Ok(order_to_literal(value, literal).map(|order| is_in(*comparison, order)))
             }
             Question::CompareWith(comparison, path) => {
-                let order = order_to_place(value, whole, path);
+                let order = order_to_place(value, scope, path);
                 Ok(order.map(|order| is_in(*comparison, order)))
             }
             Question::Length(comparison, number) => {
@@ -131,15 +132,15 @@ impl Question {
         &self,
         alloc: Global,
         case: Case,
-        whole: &Value,
+        scope: Scope<'_>,
         value: &Value,
     ) -> Result<Case, AllocError>
         ensures { IfOk result (λ shown. ShowsBeside
-            (shown_beside (query_of self.now) (view whole.now) (view value.now)) case shown) }
+            (shown_beside (query_of self.now) (place_of scope.entry) (view value.now)) case shown) }
     {
         match self {
             Question::CompareWith(_, path) => {
-                let shown = showing_other(alloc, case, whole, path)?;
+                let shown = showing_other(alloc, case, scope, path)?;
                 Ok(shown)
             }
             Question::Length(_, _) => {
@@ -151,12 +152,12 @@ impl Question {
     }
 
     // What is said of a value that can't answer.
-    pub(crate) fn misfit(&self, alloc: Global, whole: &Value) -> Result<String, AllocError>
+    pub(crate) fn misfit(&self, alloc: Global, scope: Scope<'_>) -> Result<String, AllocError>
         ensures { IfOk result (λ text.
-            string_bytes text ≡ misfit_text (query_of self.now) (view whole.now)) }
+            string_bytes text ≡ misfit_text (query_of self.now) (place_of scope.entry)) }
     {
         match self {
-            Question::CompareWith(_, path) => apart(alloc, whole, path),
+            Question::CompareWith(_, path) => apart(alloc, scope, path),
             Question::Compare(
                 _,
                 Literal::Natural(_) | Literal::Negative(_) | Literal::Decimal { .. },

@@ -3,28 +3,29 @@ ghost use Rattle.std.specs.Prelude.{◌≡◌, IfOk, None, Some, codes, map, not
 ghost use Rattle.predicates_core.specs.Change.{IsFoundChange};
 ghost use Rattle.predicates_core.specs.Leaves.{IsExactly};
 ghost use Rattle.predicates_core.specs.Several.{IsOfMembers};
-ghost use Rattle.serde_json.specs.Find.{as_array};
 ghost use Rattle.serde_json.specs.View.{view};
+ghost use Rattle.predicates_vet_check.specs.Scopes.{place_of};
 ghost use Rattle.predicates_vet_check.specs.Checks.{Has, HasOf, plan_of};
 ghost use Rattle.predicates_vet_check.specs.Differ.{IsOfDiffering};
-ghost use Rattle.predicates_vet_check.specs.Plans.{over_array};
+ghost use Rattle.predicates_vet_check.specs.Plans.{over_list, formula_within};
+ghost use Rattle.predicates_vet_check.specs.Lists.{values_in};
 ghost use Rattle.predicates_vet_check.specs.Plans.{plan_formula, plans_of, Denies, Joins, Ranges};
 
 mod counted;
 
-use super::hold::parts_differ;
+use super::hold::{parts_differ, verdict_of};
 use super::steps::{first_alone, next_change, no_member, no_part_found, nowhere_found};
 use crate::check::Check;
 use crate::leaf::{copied, misfit_found};
+use crate::listed::Listed;
 use crate::matchers::Matchers;
+use crate::scope::Scope;
+use crate::values::Values;
 use counted::{counted_members, threshold_changed};
 use predicates_core::custom::{asked_at, is_first_passed, is_other, opposite_of, with_index};
 use predicates_core::node::unary_node;
 use predicates_core::reflection::Case;
-use predicates_core::{Predicate, PredicateChange};
-use predicates_json::value_at;
 use predicates_rules::expression::{Connective, Quantifier};
-use serde_json::Value;
 use std::alloc::{AllocError, Global};
 
 // The `find_change` of the check.
@@ -33,21 +34,21 @@ pub(super) fn changed(
     alloc: Global,
     check: &Check,
     wanted: Option<bool>,
-    item: &Value,
+    scope: Scope<'_>,
 ) -> Result<Option<Case>, AllocError>
-    ensures { IfOk result (IsFoundChange (Has (view item.now) check.now) wanted) }
+    ensures { IfOk result (IsFoundChange (Has (place_of scope.entry) check.now) wanted) }
 {
     match check {
-        Check::Test(test) => test.find_change(alloc, wanted, item),
-        Check::Not(text, inner) => not_changed(alloc, inner, text, wanted, item),
+        Check::Test(test) => test.find_change_in(alloc, wanted, scope),
+        Check::Not(text, inner) => not_changed(alloc, inner, text, wanted, scope),
         Check::Joined(text, connective, parts) => {
-            joined_changed(alloc, parts, text, *connective, wanted, item)
+            joined_changed(alloc, parts, text, *connective, wanted, scope)
         }
         Check::AtLeast(text, least, parts) => {
-            threshold_changed(alloc, parts, text, *least, wanted, item)
+            threshold_changed(alloc, parts, text, *least, wanted, scope)
         }
         Check::Quantified(text, quantifier, path, inner) => {
-            range_changed(alloc, inner, text, *quantifier, path, wanted, item)
+            range_changed(alloc, inner, text, *quantifier, path, wanted, scope)
         }
     }
 }
@@ -59,12 +60,12 @@ fn not_changed(
     inner: &Check,
     text: &str,
     wanted: Option<bool>,
-    item: &Value,
+    scope: Scope<'_>,
 ) -> Result<Option<Case>, AllocError>
     ensures { IfOk result (IsFoundChange (IsExactly (plan_formula
-        (Denies text.now (plan_of inner.now)) (view item.now))) wanted) }
+        (Denies text.now (plan_of inner.now)) (place_of scope.entry))) wanted) }
 {
-    let Some(part) = changed(alloc, inner, opposite_of(wanted), item)? else {
+    let Some(part) = changed(alloc, inner, opposite_of(wanted), scope)? else {
         return Ok(None);
     };
     let text = copied(alloc, text)?;
@@ -80,23 +81,23 @@ fn joined_changed(
     text: &str,
     connective: Connective,
     wanted: Option<bool>,
-    item: &Value,
+    scope: Scope<'_>,
 ) -> Result<Option<Case>, AllocError>
     ensures { IfOk result (IsFoundChange (IsExactly (plan_formula
-        (Joins text.now connective (plans_of (map plan_of parts.now))) (view item.now)))
+        (Joins text.now connective (plans_of (map plan_of parts.now))) (place_of scope.entry)))
         wanted) }
 {
     match connective {
         Connective::Or => {
-            let found = parts_changed(alloc, parts, text, true, wanted, item)?;
+            let found = parts_changed(alloc, parts, text, true, wanted, scope)?;
             Ok(found)
         }
         Connective::Xor => {
-            let found = differ_changed(alloc, parts, text, wanted, item)?;
+            let found = differ_changed(alloc, parts, text, wanted, scope)?;
             Ok(found)
         }
         Connective::And => {
-            let found = parts_changed(alloc, parts, text, false, wanted, item)?;
+            let found = parts_changed(alloc, parts, text, false, wanted, scope)?;
             Ok(found)
         }
     }
@@ -110,20 +111,20 @@ fn parts_changed(
     text: &str,
     decides: bool,
     wanted: Option<bool>,
-    item: &Value,
+    scope: Scope<'_>,
 ) -> Result<Option<Case>, AllocError>
     ensures { IfOk result (IsFoundChange (IsOfMembers decides (Some text.now) (codes "part")
-        (Has (view item.now)) parts.now) wanted) }
+        (Has (place_of scope.entry)) parts.now) wanted) }
 {
     match wanted {
         Some(expected) => {
             if expected == decides {
-                deciding_parts(alloc, parts, text, decides, item)
+                deciding_parts(alloc, parts, text, decides, scope)
             } else {
-                passing_parts(alloc, parts, text, decides, item)
+                passing_parts(alloc, parts, text, decides, scope)
             }
         }
-        None => whichever_parts(alloc, parts, text, decides, item),
+        None => whichever_parts(alloc, parts, text, decides, scope),
     }
 }
 
@@ -134,14 +135,14 @@ fn deciding_parts(
     parts: &[Check],
     text: &str,
     decides: bool,
-    item: &Value,
+    scope: Scope<'_>,
 ) -> Result<Option<Case>, AllocError>
     ensures { IfOk result (IsFoundChange (IsOfMembers decides (Some text.now) (codes "part")
-        (Has (view item.now)) parts.now) (Some decides)) }
+        (Has (place_of scope.entry)) parts.now) (Some decides)) }
 {
     let mut found: Option<Case> = None;
     for (index, part) in parts.iter().enumerate() {
-        let Some(case) = changed(alloc, part, Some(decides), item)? else {
+        let Some(case) = changed(alloc, part, Some(decides), scope)? else {
             continue;
         };
         let told = with_index(alloc, index, case)?;
@@ -157,19 +158,19 @@ fn passing_parts(
     parts: &[Check],
     text: &str,
     decides: bool,
-    item: &Value,
+    scope: Scope<'_>,
 ) -> Result<Option<Case>, AllocError>
     ensures { IfOk result (IsFoundChange (IsOfMembers decides (Some text.now) (codes "part")
-        (Has (view item.now)) parts.now) (Some (not decides))) }
+        (Has (place_of scope.entry)) parts.now) (Some (not decides))) }
 {
     let Some((first, rest)) = parts.split_first() else {
         return Ok(Some(no_member(alloc, text, !decides)?));
     };
-    let Some(case) = changed(alloc, first, Some(!decides), item)? else {
+    let Some(case) = changed(alloc, first, Some(!decides), scope)? else {
         return Ok(None);
     };
     for part in rest {
-        if part.eval(alloc, item)? == decides {
+        if verdict_of(alloc, part, scope)? == decides {
             return Ok(None);
         }
     }
@@ -184,10 +185,10 @@ fn whichever_parts(
     parts: &[Check],
     text: &str,
     decides: bool,
-    item: &Value,
+    scope: Scope<'_>,
 ) -> Result<Option<Case>, AllocError>
     ensures { IfOk result (IsFoundChange (IsOfMembers decides (Some text.now) (codes "part")
-        (Has (view item.now)) parts.now) None) }
+        (Has (place_of scope.entry)) parts.now) None) }
 {
     if parts.is_empty() {
         return Ok(Some(no_member(alloc, text, !decides)?));
@@ -196,7 +197,7 @@ fn whichever_parts(
     let mut first: Option<Case> = None;
     for (index, part) in parts.iter().enumerate() {
         let asked = asked_at(index, decides);
-        let Some(case) = changed(alloc, part, asked, item)? else {
+        let Some(case) = changed(alloc, part, asked, scope)? else {
             continue;
         };
         if is_first_passed(index, decides, &case) {
@@ -220,10 +221,10 @@ fn members_changed(
     text: &str,
     decides: bool,
     wanted: Option<bool>,
-    members: &[Value],
+    members: Listed<'_>,
 ) -> Result<Option<Case>, AllocError>
     ensures { IfOk result (IsFoundChange (IsOfMembers decides (Some text.now) (codes "item")
-        (HasOf part.now) members.now) wanted) }
+        (HasOf (view members.entry.whole.now) part.now) members.entry.items.now) wanted) }
 {
     match wanted {
         Some(expected) => {
@@ -244,14 +245,16 @@ fn deciding_members(
     part: &Check,
     text: &str,
     decides: bool,
-    members: &[Value],
+    members: Listed<'_>,
 ) -> Result<Option<Case>, AllocError>
     ensures { IfOk result (IsFoundChange (IsOfMembers decides (Some text.now) (codes "item")
-        (HasOf part.now) members.now) (Some decides)) }
+        (HasOf (view members.entry.whole.now) part.now) members.entry.items.now) (Some decides)) }
 {
+    let Listed { whole, items } = members;
     let mut found: Option<Case> = None;
-    for (index, member) in members.iter().enumerate() {
-        let Some(case) = changed(alloc, part, Some(decides), member)? else {
+    for (index, item) in items.iter().enumerate() {
+        let place = Scope { whole, item };
+        let Some(case) = changed(alloc, part, Some(decides), place)? else {
             continue;
         };
         let told = with_index(alloc, index, case)?;
@@ -267,19 +270,23 @@ fn passing_members(
     part: &Check,
     text: &str,
     decides: bool,
-    members: &[Value],
+    members: Listed<'_>,
 ) -> Result<Option<Case>, AllocError>
     ensures { IfOk result (IsFoundChange (IsOfMembers decides (Some text.now) (codes "item")
-        (HasOf part.now) members.now) (Some (not decides))) }
+        (HasOf (view members.entry.whole.now) part.now) members.entry.items.now)
+        (Some (not decides))) }
 {
-    let Some((first, rest)) = members.split_first() else {
+    let Listed { whole, items } = members;
+    let Some((first, rest)) = items.split_first() else {
         return Ok(Some(no_member(alloc, text, !decides)?));
     };
-    let Some(case) = changed(alloc, part, Some(!decides), first)? else {
+    let place = Scope { whole, item: first };
+    let Some(case) = changed(alloc, part, Some(!decides), place)? else {
         return Ok(None);
     };
-    for member in rest {
-        if part.eval(alloc, member)? == decides {
+    for item in rest {
+        let place = Scope { whole, item };
+        if verdict_of(alloc, part, place)? == decides {
             return Ok(None);
         }
     }
@@ -294,19 +301,21 @@ fn whichever_members(
     part: &Check,
     text: &str,
     decides: bool,
-    members: &[Value],
+    members: Listed<'_>,
 ) -> Result<Option<Case>, AllocError>
     ensures { IfOk result (IsFoundChange (IsOfMembers decides (Some text.now) (codes "item")
-        (HasOf part.now) members.now) None) }
+        (HasOf (view members.entry.whole.now) part.now) members.entry.items.now) None) }
 {
-    if members.is_empty() {
+    let Listed { whole, items } = members;
+    if items.is_empty() {
         return Ok(Some(no_member(alloc, text, !decides)?));
     }
     let mut found: Option<Case> = None;
     let mut first: Option<Case> = None;
-    for (index, member) in members.iter().enumerate() {
+    for (index, item) in items.iter().enumerate() {
+        let place = Scope { whole, item };
         let asked = asked_at(index, decides);
-        let Some(case) = changed(alloc, part, asked, member)? else {
+        let Some(case) = changed(alloc, part, asked, place)? else {
             continue;
         };
         if is_first_passed(index, decides, &case) {
@@ -331,15 +340,19 @@ fn range_changed(
     quantifier: Quantifier,
     path: &str,
     wanted: Option<bool>,
-    item: &Value,
+    scope: Scope<'_>,
 ) -> Result<Option<Case>, AllocError>
     ensures { IfOk result (IsFoundChange (IsExactly (plan_formula
-        (Ranges text.now path.now quantifier (plan_of inner.now)) (view item.now)))
+        (Ranges text.now path.now quantifier (plan_of inner.now)) (place_of scope.entry)))
         wanted) }
 {
-    match value_at(item, path) {
+    match scope.at(path) {
         Some(value) => {
-            let found = array_changed(alloc, inner, text, quantifier, wanted, value)?;
+            let list = Scope {
+                whole: scope.whole,
+                item: value,
+            };
+            let found = list_changed(alloc, inner, text, quantifier, wanted, list)?;
             Ok(found)
         }
         None => {
@@ -351,33 +364,39 @@ fn range_changed(
 
 // The same over the items of the value.
 #[cycle(change)]
-fn array_changed(
+fn list_changed(
     alloc: Global,
     inner: &Check,
     text: &str,
     quantifier: Quantifier,
     wanted: Option<bool>,
-    value: &Value,
+    list: Scope<'_>,
 ) -> Result<Option<Case>, AllocError>
-    ensures { IfOk result (IsFoundChange (IsExactly (over_array text.now (view value.now)
-        quantifier (plan_formula (plan_of inner.now)) (as_array (view value.now)))) wanted) }
+    ensures { IfOk result (IsFoundChange (IsExactly (over_list text.now (view list.entry.item.now)
+        quantifier (formula_within (view list.entry.whole.now) (plan_of inner.now))
+        (values_in (view list.entry.item.now)))) wanted) }
 {
-    let Some(items) = value.as_array() else {
-        let found = misfit_found(alloc, text, "not an array", value, wanted)?;
+    let listed = Values::within(alloc, list.item)?;
+    let Some(values) = listed else {
+        let found = misfit_found(alloc, text, "not an array or an object", list.item, wanted)?;
         return Ok(found);
+    };
+    let members = Listed {
+        whole: list.whole,
+        items: values.as_slice(),
     };
     match quantifier {
         Quantifier::Each => {
-            let found = members_changed(alloc, inner, text, false, wanted, items)?;
+            let found = members_changed(alloc, inner, text, false, wanted, members)?;
             Ok(found)
         }
         Quantifier::Any => {
-            let found = members_changed(alloc, inner, text, true, wanted, items)?;
+            let found = members_changed(alloc, inner, text, true, wanted, members)?;
             Ok(found)
         }
         Quantifier::AtLeast(least) => {
             let least = least as usize;
-            let found = counted_members(alloc, inner, text, least, wanted, items)?;
+            let found = counted_members(alloc, inner, text, least, wanted, members)?;
             Ok(found)
         }
     }
@@ -391,20 +410,20 @@ fn differ_changed(
     parts: &[Check],
     text: &str,
     wanted: Option<bool>,
-    item: &Value,
+    scope: Scope<'_>,
 ) -> Result<Option<Case>, AllocError>
     ensures { IfOk result (IsFoundChange (IsOfDiffering (Some text.now) (codes "part")
-        (Has (view item.now)) parts.now) wanted) }
+        (Has (place_of scope.entry)) parts.now) wanted) }
 {
     let Some((first, rest)) = parts.split_first() else {
         let found = no_part_found(alloc, text, wanted)?;
         return Ok(found);
     };
-    let Some(case) = changed(alloc, first, None, item)? else {
+    let Some(case) = changed(alloc, first, None, scope)? else {
         return Ok(None);
     };
     let mut matchers = Matchers::new(alloc);
-    let odd = parts_differ(alloc, &mut matchers, rest, item)?;
+    let odd = parts_differ(alloc, &mut matchers, rest, scope)?;
     let outcome = case.root().result() != odd;
     if is_other(wanted, outcome) {
         return Ok(None);

@@ -6,13 +6,15 @@ ghost use Rattle.predicates_core.specs.Label.{Entry};
 ghost use Rattle.predicates_core.specs.Leaves.{IsExactly};
 ghost use Rattle.predicates_core.specs.Thresholds.{IsOfThreshold};
 ghost use Rattle.serde_json.specs.View.{view};
+ghost use Rattle.predicates_vet_check.specs.Scopes.{place_of};
 ghost use Rattle.predicates_vet_check.specs.Checks.{Has, HasOf, plan_of};
 ghost use Rattle.predicates_vet_check.specs.Plans.{plan_formula, plans_of, Counts};
 
 use crate::check::Check;
+use crate::listed::Listed;
 use crate::matchers::Matchers;
+use crate::scope::Scope;
 use predicates_core::custom::is_settled;
-use serde_json::Value;
 use std::alloc::{AllocError, Global};
 
 // Whether at least so many of the parts hold.
@@ -22,12 +24,12 @@ pub(super) fn threshold_hold<'r>(
     matchers: &mut Matchers<'r>,
     least: usize,
     parts: &'r [Check],
-    item: &Value,
+    scope: Scope<'_>,
 ) -> Result<bool, AllocError>
     ensures { IfOk result (λ held. (text : List ℕ) → HasTruth (IsExactly (plan_formula
-        (Counts text least (plans_of (map plan_of parts.now))) (view item.now))) held) }
+        (Counts text least (plans_of (map plan_of parts.now))) (place_of scope.entry))) held) }
 {
-    let held = parts_counted(alloc, matchers, least, parts, item)?;
+    let held = parts_counted(alloc, matchers, least, parts, scope)?;
     Ok(held)
 }
 
@@ -38,10 +40,10 @@ fn parts_counted<'r>(
     matchers: &mut Matchers<'r>,
     least: usize,
     parts: &'r [Check],
-    item: &Value,
+    scope: Scope<'_>,
 ) -> Result<bool, AllocError>
     ensures { IfOk result (λ held. (text : Entry) (name : List ℕ)
-        → HasTruth (IsOfThreshold least text name (Has (view item.now)) parts.now) held) }
+        → HasTruth (IsOfThreshold least text name (Has (place_of scope.entry)) parts.now) held) }
 {
     if is_settled(least, parts.len()) {
         return Ok(least <= parts.len());
@@ -50,7 +52,7 @@ fn parts_counted<'r>(
     let mut held = 0usize;
     let mut failed = 0usize;
     for part in parts {
-        if part.holds(alloc, matchers, item)? {
+        if part.holds_in(alloc, matchers, scope)? {
             held += 1;
             if held == least {
                 return Ok(true);
@@ -72,19 +74,22 @@ pub(super) fn members_counted<'r>(
     matchers: &mut Matchers<'r>,
     least: usize,
     part: &'r Check,
-    members: &[Value],
+    members: Listed<'_>,
 ) -> Result<bool, AllocError>
     ensures { IfOk result (λ held. (text : Entry) (name : List ℕ)
-        → HasTruth (IsOfThreshold least text name (HasOf part.now) members.now) held) }
+        → HasTruth (IsOfThreshold least text name (HasOf (view members.entry.whole.now) part.now)
+        members.entry.items.now) held) }
 {
-    if is_settled(least, members.len()) {
-        return Ok(least <= members.len());
+    let Listed { whole, items } = members;
+    if is_settled(least, items.len()) {
+        return Ok(least <= items.len());
     }
-    let spare = members.len() - least;
+    let spare = items.len() - least;
     let mut held = 0usize;
     let mut failed = 0usize;
-    for member in members {
-        if part.holds(alloc, matchers, member)? {
+    for item in items {
+        let place = Scope { whole, item };
+        if part.holds_in(alloc, matchers, place)? {
             held += 1;
             if held == least {
                 return Ok(true);

@@ -3,11 +3,12 @@ ghost use Rattle.std.specs.Prelude.{◌≢◌, [], IfOk, None, Some, codes, map}
 ghost use Rattle.predicates_core.specs.Leaves.{IsExactly};
 ghost use Rattle.predicates_core.specs.Several.{IsOfMembers};
 ghost use Rattle.predicates_core.specs.Shows.{IsAnswer, IsFound};
-ghost use Rattle.serde_json.specs.Find.{as_array};
 ghost use Rattle.serde_json.specs.View.{view};
+ghost use Rattle.predicates_vet_check.specs.Scopes.{place_of};
 ghost use Rattle.predicates_vet_check.specs.Checks.{Has, HasOf, plan_of};
 ghost use Rattle.predicates_vet_check.specs.Differ.{IsOfDiffering};
-ghost use Rattle.predicates_vet_check.specs.Plans.{over_array};
+ghost use Rattle.predicates_vet_check.specs.Plans.{over_list, formula_within};
+ghost use Rattle.predicates_vet_check.specs.Lists.{values_in};
 ghost use Rattle.predicates_vet_check.specs.Plans.{plan_formula, plans_of, Denies, Joins, Ranges};
 
 mod counted;
@@ -15,14 +16,14 @@ mod counted;
 use super::steps::{deciding_node, no_member, no_part_found, nowhere_found};
 use crate::check::Check;
 use crate::leaf::{bare_node, copied, misfit_found};
+use crate::listed::Listed;
+use crate::scope::Scope;
+use crate::values::Values;
 use counted::{counted_members, threshold_explained};
-use predicates_core::Predicate;
 use predicates_core::custom::{is_deciding, is_other, is_wanted, node_of_first, opposite_of};
 use predicates_core::node::unary_node;
 use predicates_core::reflection::Case;
-use predicates_json::value_at;
 use predicates_rules::expression::{Connective, Quantifier};
-use serde_json::Value;
 use std::alloc::{AllocError, Global};
 
 // The `explain` of the check. Each test is asked once of an item, at most.
@@ -31,21 +32,21 @@ pub(super) fn explained(
     alloc: Global,
     check: &Check,
     wanted: Option<bool>,
-    item: &Value,
+    scope: Scope<'_>,
 ) -> Result<Option<Case>, AllocError>
-    ensures { IfOk result (IsFound (Has (view item.now) check.now) wanted) }
+    ensures { IfOk result (IsFound (Has (place_of scope.entry) check.now) wanted) }
 {
     match check {
-        Check::Test(test) => test.explain(alloc, wanted, item),
-        Check::Not(text, inner) => not_explained(alloc, inner, text, wanted, item),
+        Check::Test(test) => test.explain_in(alloc, wanted, scope),
+        Check::Not(text, inner) => not_explained(alloc, inner, text, wanted, scope),
         Check::Joined(text, connective, parts) => {
-            joined_explained(alloc, parts, text, *connective, wanted, item)
+            joined_explained(alloc, parts, text, *connective, wanted, scope)
         }
         Check::AtLeast(text, least, parts) => {
-            threshold_explained(alloc, parts, text, *least, wanted, item)
+            threshold_explained(alloc, parts, text, *least, wanted, scope)
         }
         Check::Quantified(text, quantifier, path, inner) => {
-            range_explained(alloc, inner, text, *quantifier, path, wanted, item)
+            range_explained(alloc, inner, text, *quantifier, path, wanted, scope)
         }
     }
 }
@@ -57,12 +58,12 @@ fn not_explained(
     inner: &Check,
     text: &str,
     wanted: Option<bool>,
-    item: &Value,
+    scope: Scope<'_>,
 ) -> Result<Option<Case>, AllocError>
     ensures { IfOk result (IsFound (IsExactly (plan_formula
-        (Denies text.now (plan_of inner.now)) (view item.now))) wanted) }
+        (Denies text.now (plan_of inner.now)) (place_of scope.entry))) wanted) }
 {
-    let Some(part) = explained(alloc, inner, opposite_of(wanted), item)? else {
+    let Some(part) = explained(alloc, inner, opposite_of(wanted), scope)? else {
         return Ok(None);
     };
     let text = copied(alloc, text)?;
@@ -78,23 +79,23 @@ fn joined_explained(
     text: &str,
     connective: Connective,
     wanted: Option<bool>,
-    item: &Value,
+    scope: Scope<'_>,
 ) -> Result<Option<Case>, AllocError>
     ensures { IfOk result (IsFound (IsExactly (plan_formula
-        (Joins text.now connective (plans_of (map plan_of parts.now))) (view item.now)))
+        (Joins text.now connective (plans_of (map plan_of parts.now))) (place_of scope.entry)))
         wanted) }
 {
     match connective {
         Connective::Or => {
-            let found = parts_explained(alloc, parts, text, true, wanted, item)?;
+            let found = parts_explained(alloc, parts, text, true, wanted, scope)?;
             Ok(found)
         }
         Connective::Xor => {
-            let found = differ_explained(alloc, parts, text, wanted, item)?;
+            let found = differ_explained(alloc, parts, text, wanted, scope)?;
             Ok(found)
         }
         Connective::And => {
-            let found = parts_explained(alloc, parts, text, false, wanted, item)?;
+            let found = parts_explained(alloc, parts, text, false, wanted, scope)?;
             Ok(found)
         }
     }
@@ -108,19 +109,19 @@ fn parts_explained(
     text: &str,
     decides: bool,
     wanted: Option<bool>,
-    item: &Value,
+    scope: Scope<'_>,
 ) -> Result<Option<Case>, AllocError>
     ensures { IfOk result (IsFound (IsOfMembers decides (Some text.now) (codes "part")
-        (Has (view item.now)) parts.now) wanted) }
+        (Has (place_of scope.entry)) parts.now) wanted) }
 {
     if is_wanted(wanted, decides) {
-        let found = first_part(alloc, parts, text, decides, item)?;
+        let found = first_part(alloc, parts, text, decides, scope)?;
         return Ok(found);
     }
     if parts.is_empty() {
         return Ok(Some(no_member(alloc, text, !decides)?));
     }
-    let found = every_part(alloc, parts, text, decides, wanted, item)?;
+    let found = every_part(alloc, parts, text, decides, wanted, scope)?;
     Ok(found)
 }
 
@@ -131,13 +132,13 @@ fn first_part(
     parts: &[Check],
     text: &str,
     decides: bool,
-    item: &Value,
+    scope: Scope<'_>,
 ) -> Result<Option<Case>, AllocError>
     ensures { IfOk result (IsAnswer (IsOfMembers decides (Some text.now) (codes "part")
-        (Has (view item.now)) parts.now) decides) }
+        (Has (place_of scope.entry)) parts.now) decides) }
 {
     for (index, part) in parts.iter().enumerate() {
-        let Some(case) = explained(alloc, part, Some(decides), item)? else {
+        let Some(case) = explained(alloc, part, Some(decides), scope)? else {
             continue;
         };
         return Ok(Some(deciding_node(alloc, text, "part", decides, index, case)?));
@@ -153,16 +154,16 @@ fn every_part(
     text: &str,
     decides: bool,
     wanted: Option<bool>,
-    item: &Value,
+    scope: Scope<'_>,
 ) -> Result<Option<Case>, AllocError>
     requires some { parts.now ≢ [] }
     requires other { wanted ≢ Some decides }
     ensures { IfOk result (IsFound (IsOfMembers decides (Some text.now) (codes "part")
-        (Has (view item.now)) parts.now) wanted) }
+        (Has (place_of scope.entry)) parts.now) wanted) }
 {
     let mut node = bare_node(alloc, text, !decides)?;
     for (index, part) in parts.iter().enumerate() {
-        let Some(case) = explained(alloc, part, wanted, item)? else {
+        let Some(case) = explained(alloc, part, wanted, scope)? else {
             return Ok(None);
         };
         if is_deciding(wanted, decides, &case) {
@@ -181,16 +182,16 @@ fn members_explained(
     text: &str,
     decides: bool,
     wanted: Option<bool>,
-    members: &[Value],
+    members: Listed<'_>,
 ) -> Result<Option<Case>, AllocError>
     ensures { IfOk result (IsFound (IsOfMembers decides (Some text.now) (codes "item")
-        (HasOf part.now) members.now) wanted) }
+        (HasOf (view members.entry.whole.now) part.now) members.entry.items.now) wanted) }
 {
     if is_wanted(wanted, decides) {
         let found = first_member(alloc, part, text, decides, members)?;
         return Ok(found);
     }
-    if members.is_empty() {
+    if members.items.is_empty() {
         return Ok(Some(no_member(alloc, text, !decides)?));
     }
     let found = every_member(alloc, part, text, decides, wanted, members)?;
@@ -204,13 +205,15 @@ fn first_member(
     part: &Check,
     text: &str,
     decides: bool,
-    members: &[Value],
+    members: Listed<'_>,
 ) -> Result<Option<Case>, AllocError>
     ensures { IfOk result (IsAnswer (IsOfMembers decides (Some text.now) (codes "item")
-        (HasOf part.now) members.now) decides) }
+        (HasOf (view members.entry.whole.now) part.now) members.entry.items.now) decides) }
 {
-    for (index, member) in members.iter().enumerate() {
-        let Some(case) = explained(alloc, part, Some(decides), member)? else {
+    let Listed { whole, items } = members;
+    for (index, item) in items.iter().enumerate() {
+        let place = Scope { whole, item };
+        let Some(case) = explained(alloc, part, Some(decides), place)? else {
             continue;
         };
         return Ok(Some(deciding_node(alloc, text, "item", decides, index, case)?));
@@ -226,16 +229,18 @@ fn every_member(
     text: &str,
     decides: bool,
     wanted: Option<bool>,
-    members: &[Value],
+    members: Listed<'_>,
 ) -> Result<Option<Case>, AllocError>
-    requires some { members.now ≢ [] }
+    requires some { members.items.now ≢ [] }
     requires other { wanted ≢ Some decides }
     ensures { IfOk result (IsFound (IsOfMembers decides (Some text.now) (codes "item")
-        (HasOf part.now) members.now) wanted) }
+        (HasOf (view members.entry.whole.now) part.now) members.entry.items.now) wanted) }
 {
+    let Listed { whole, items } = members;
     let mut node = bare_node(alloc, text, !decides)?;
-    for (index, member) in members.iter().enumerate() {
-        let Some(case) = explained(alloc, part, wanted, member)? else {
+    for (index, item) in items.iter().enumerate() {
+        let place = Scope { whole, item };
+        let Some(case) = explained(alloc, part, wanted, place)? else {
             return Ok(None);
         };
         if is_deciding(wanted, decides, &case) {
@@ -255,14 +260,18 @@ fn range_explained(
     quantifier: Quantifier,
     path: &str,
     wanted: Option<bool>,
-    item: &Value,
+    scope: Scope<'_>,
 ) -> Result<Option<Case>, AllocError>
     ensures { IfOk result (IsFound (IsExactly (plan_formula
-        (Ranges text.now path.now quantifier (plan_of inner.now)) (view item.now))) wanted) }
+        (Ranges text.now path.now quantifier (plan_of inner.now)) (place_of scope.entry))) wanted) }
 {
-    match value_at(item, path) {
+    match scope.at(path) {
         Some(value) => {
-            let found = array_explained(alloc, inner, text, quantifier, wanted, value)?;
+            let list = Scope {
+                whole: scope.whole,
+                item: value,
+            };
+            let found = list_explained(alloc, inner, text, quantifier, wanted, list)?;
             Ok(found)
         }
         None => {
@@ -274,33 +283,39 @@ fn range_explained(
 
 // The same over the items of the value.
 #[cycle(explain)]
-fn array_explained(
+fn list_explained(
     alloc: Global,
     inner: &Check,
     text: &str,
     quantifier: Quantifier,
     wanted: Option<bool>,
-    value: &Value,
+    list: Scope<'_>,
 ) -> Result<Option<Case>, AllocError>
-    ensures { IfOk result (IsFound (IsExactly (over_array text.now (view value.now)
-        quantifier (plan_formula (plan_of inner.now)) (as_array (view value.now)))) wanted) }
+    ensures { IfOk result (IsFound (IsExactly (over_list text.now (view list.entry.item.now)
+        quantifier (formula_within (view list.entry.whole.now) (plan_of inner.now))
+        (values_in (view list.entry.item.now)))) wanted) }
 {
-    let Some(items) = value.as_array() else {
-        let found = misfit_found(alloc, text, "not an array", value, wanted)?;
+    let listed = Values::within(alloc, list.item)?;
+    let Some(values) = listed else {
+        let found = misfit_found(alloc, text, "not an array or an object", list.item, wanted)?;
         return Ok(found);
+    };
+    let members = Listed {
+        whole: list.whole,
+        items: values.as_slice(),
     };
     match quantifier {
         Quantifier::Each => {
-            let found = members_explained(alloc, inner, text, false, wanted, items)?;
+            let found = members_explained(alloc, inner, text, false, wanted, members)?;
             Ok(found)
         }
         Quantifier::Any => {
-            let found = members_explained(alloc, inner, text, true, wanted, items)?;
+            let found = members_explained(alloc, inner, text, true, wanted, members)?;
             Ok(found)
         }
         Quantifier::AtLeast(least) => {
             let least = least as usize;
-            let found = counted_members(alloc, inner, text, least, wanted, items)?;
+            let found = counted_members(alloc, inner, text, least, wanted, members)?;
             Ok(found)
         }
     }
@@ -314,10 +329,10 @@ fn differ_explained(
     parts: &[Check],
     text: &str,
     wanted: Option<bool>,
-    item: &Value,
+    scope: Scope<'_>,
 ) -> Result<Option<Case>, AllocError>
     ensures { IfOk result (IsFound (IsOfDiffering (Some text.now) (codes "part")
-        (Has (view item.now)) parts.now) wanted) }
+        (Has (place_of scope.entry)) parts.now) wanted) }
 {
     if parts.is_empty() {
         let found = no_part_found(alloc, text, wanted)?;
@@ -326,7 +341,7 @@ fn differ_explained(
     let mut odd = false;
     let mut cases: Vec<Case> = Vec::new(alloc);
     for part in parts {
-        let Some(case) = explained(alloc, part, None, item)? else {
+        let Some(case) = explained(alloc, part, None, scope)? else {
             return Ok(None);
         };
         let holds = case.root().result();

@@ -5,6 +5,7 @@ ghost use Rattle.predicates_core.specs.Change.{IsFoundChange};
 ghost use Rattle.predicates_core.specs.Leaves.{IsExactly};
 ghost use Rattle.predicates_core.specs.Thresholds.{IsOfThreshold};
 ghost use Rattle.serde_json.specs.View.{view};
+ghost use Rattle.predicates_vet_check.specs.Scopes.{place_of};
 ghost use Rattle.predicates_vet_check.specs.Checks.{Has, HasOf, plan_of};
 ghost use Rattle.predicates_vet_check.specs.Plans.{plan_formula, plans_of, Counts};
 
@@ -12,9 +13,10 @@ use super::changed;
 use crate::check::Check;
 use crate::check::steps::settled_found;
 use crate::leaf::copied;
+use crate::listed::Listed;
+use crate::scope::Scope;
 use predicates_core::custom::{enough_of, is_settled, node_of_first, with_index};
 use predicates_core::reflection::Case;
-use serde_json::Value;
 use std::alloc::{AllocError, Global};
 
 // The change of parts of which at least so many have to hold.
@@ -25,12 +27,12 @@ pub(super) fn threshold_changed(
     text: &str,
     least: usize,
     wanted: Option<bool>,
-    item: &Value,
+    scope: Scope<'_>,
 ) -> Result<Option<Case>, AllocError>
     ensures { IfOk result (IsFoundChange (IsExactly (plan_formula
-        (Counts text.now least (plans_of (map plan_of parts.now))) (view item.now))) wanted) }
+        (Counts text.now least (plans_of (map plan_of parts.now))) (place_of scope.entry))) wanted) }
 {
-    let found = counted_parts(alloc, parts, text, least, wanted, item)?;
+    let found = counted_parts(alloc, parts, text, least, wanted, scope)?;
     Ok(found)
 }
 
@@ -42,17 +44,17 @@ fn counted_parts(
     text: &str,
     least: usize,
     wanted: Option<bool>,
-    item: &Value,
+    scope: Scope<'_>,
 ) -> Result<Option<Case>, AllocError>
     ensures { IfOk result (IsFoundChange (IsOfThreshold least (Some text.now) (codes "part")
-        (Has (view item.now)) parts.now) wanted) }
+        (Has (place_of scope.entry)) parts.now) wanted) }
 {
     if is_settled(least, parts.len()) {
         return settled_found(alloc, text, least, parts.len(), wanted);
     }
     match wanted {
-        Some(decides) => turned_parts(alloc, parts, text, least, decides, item),
-        None => either_parts(alloc, parts, text, least, item),
+        Some(decides) => turned_parts(alloc, parts, text, least, decides, scope),
+        None => either_parts(alloc, parts, text, least, scope),
     }
 }
 
@@ -64,17 +66,17 @@ fn turned_parts(
     text: &str,
     least: usize,
     decides: bool,
-    item: &Value,
+    scope: Scope<'_>,
 ) -> Result<Option<Case>, AllocError>
     requires some { 1 ≤ least }
     requires within { least ≤ length parts.now }
     ensures { IfOk result (IsFoundChange (IsOfThreshold least (Some text.now) (codes "part")
-        (Has (view item.now)) parts.now) (Some decides)) }
+        (Has (place_of scope.entry)) parts.now) (Some decides)) }
 {
     let enough = enough_of(decides, least, parts.len());
     let mut cases: Vec<Case> = Vec::new(alloc);
     for (index, part) in parts.iter().enumerate() {
-        let Some(case) = changed(alloc, part, Some(decides), item)? else {
+        let Some(case) = changed(alloc, part, Some(decides), scope)? else {
             continue;
         };
         let told = with_index(alloc, index, case)?;
@@ -95,18 +97,18 @@ fn either_parts(
     parts: &[Check],
     text: &str,
     least: usize,
-    item: &Value,
+    scope: Scope<'_>,
 ) -> Result<Option<Case>, AllocError>
     requires some { 1 ≤ least }
     requires within { least ≤ length parts.now }
     ensures { IfOk result (IsFoundChange (IsOfThreshold least (Some text.now) (codes "part")
-        (Has (view item.now)) parts.now) None) }
+        (Has (place_of scope.entry)) parts.now) None) }
 {
     let whole = copied(alloc, text)?;
     let mut held: Vec<Case> = Vec::new(alloc);
     let mut failed: Vec<Case> = Vec::new(alloc);
     for (index, part) in parts.iter().enumerate() {
-        let Some(case) = changed(alloc, part, None, item)? else {
+        let Some(case) = changed(alloc, part, None, scope)? else {
             return Ok(None);
         };
         let holds = case.root().result();
@@ -133,13 +135,13 @@ pub(super) fn counted_members(
     text: &str,
     least: usize,
     wanted: Option<bool>,
-    members: &[Value],
+    members: Listed<'_>,
 ) -> Result<Option<Case>, AllocError>
     ensures { IfOk result (IsFoundChange (IsOfThreshold least (Some text.now) (codes "item")
-        (HasOf part.now) members.now) wanted) }
+        (HasOf (view members.entry.whole.now) part.now) members.entry.items.now) wanted) }
 {
-    if is_settled(least, members.len()) {
-        return settled_found(alloc, text, least, members.len(), wanted);
+    if is_settled(least, members.items.len()) {
+        return settled_found(alloc, text, least, members.items.len(), wanted);
     }
     match wanted {
         Some(decides) => turned_members(alloc, part, text, least, decides, members),
@@ -155,17 +157,19 @@ fn turned_members(
     text: &str,
     least: usize,
     decides: bool,
-    members: &[Value],
+    members: Listed<'_>,
 ) -> Result<Option<Case>, AllocError>
     requires some { 1 ≤ least }
-    requires within { least ≤ length members.now }
+    requires within { least ≤ length members.items.now }
     ensures { IfOk result (IsFoundChange (IsOfThreshold least (Some text.now) (codes "item")
-        (HasOf part.now) members.now) (Some decides)) }
+        (HasOf (view members.entry.whole.now) part.now) members.entry.items.now) (Some decides)) }
 {
-    let enough = enough_of(decides, least, members.len());
+    let Listed { whole, items } = members;
+    let enough = enough_of(decides, least, items.len());
     let mut cases: Vec<Case> = Vec::new(alloc);
-    for (index, member) in members.iter().enumerate() {
-        let Some(case) = changed(alloc, part, Some(decides), member)? else {
+    for (index, item) in items.iter().enumerate() {
+        let place = Scope { whole, item };
+        let Some(case) = changed(alloc, part, Some(decides), place)? else {
             continue;
         };
         let told = with_index(alloc, index, case)?;
@@ -175,8 +179,8 @@ fn turned_members(
         return Ok(None);
     }
     let turns = cases.len() - enough + 1;
-    let whole = copied(alloc, text)?;
-    Ok(Some(node_of_first(alloc, &whole, "item", decides, cases, turns)?))
+    let text = copied(alloc, text)?;
+    Ok(Some(node_of_first(alloc, &text, "item", decides, cases, turns)?))
 }
 
 // The change of a whole, whichever its verdict. Each member is asked once.
@@ -186,18 +190,20 @@ fn either_members(
     part: &Check,
     text: &str,
     least: usize,
-    members: &[Value],
+    members: Listed<'_>,
 ) -> Result<Option<Case>, AllocError>
     requires some { 1 ≤ least }
-    requires within { least ≤ length members.now }
+    requires within { least ≤ length members.items.now }
     ensures { IfOk result (IsFoundChange (IsOfThreshold least (Some text.now) (codes "item")
-        (HasOf part.now) members.now) None) }
+        (HasOf (view members.entry.whole.now) part.now) members.entry.items.now) None) }
 {
-    let whole = copied(alloc, text)?;
+    let Listed { whole, items } = members;
+    let text = copied(alloc, text)?;
     let mut held: Vec<Case> = Vec::new(alloc);
     let mut failed: Vec<Case> = Vec::new(alloc);
-    for (index, member) in members.iter().enumerate() {
-        let Some(case) = changed(alloc, part, None, member)? else {
+    for (index, item) in items.iter().enumerate() {
+        let place = Scope { whole, item };
+        let Some(case) = changed(alloc, part, None, place)? else {
             return Ok(None);
         };
         let holds = case.root().result();
@@ -210,8 +216,8 @@ fn either_members(
     }
     if held.len() >= least {
         let turns = held.len() - least + 1;
-        return Ok(Some(node_of_first(alloc, &whole, "item", true, held, turns)?));
+        return Ok(Some(node_of_first(alloc, &text, "item", true, held, turns)?));
     }
-    let turns = failed.len() - enough_of(false, least, members.len()) + 1;
-    Ok(Some(node_of_first(alloc, &whole, "item", false, failed, turns)?))
+    let turns = failed.len() - enough_of(false, least, items.len()) + 1;
+    Ok(Some(node_of_first(alloc, &text, "item", false, failed, turns)?))
 }

@@ -5,6 +5,7 @@ ghost use Rattle.predicates_core.specs.Leaves.{IsExactly};
 ghost use Rattle.predicates_core.specs.Shows.{IsAnswer, IsFound};
 ghost use Rattle.predicates_core.specs.Thresholds.{IsOfThreshold};
 ghost use Rattle.serde_json.specs.View.{view};
+ghost use Rattle.predicates_vet_check.specs.Scopes.{place_of};
 ghost use Rattle.predicates_vet_check.specs.Checks.{Has, HasOf, plan_of};
 ghost use Rattle.predicates_vet_check.specs.Plans.{plan_formula, plans_of, Counts};
 
@@ -12,9 +13,10 @@ use super::explained;
 use crate::check::Check;
 use crate::check::steps::settled_found;
 use crate::leaf::bare_node;
+use crate::listed::Listed;
+use crate::scope::Scope;
 use predicates_core::custom::{enough_of, is_settled, with_index};
 use predicates_core::reflection::Case;
-use serde_json::Value;
 use std::alloc::{AllocError, Global};
 
 // What is found of parts of which at least so many have to hold.
@@ -25,12 +27,12 @@ pub(super) fn threshold_explained(
     text: &str,
     least: usize,
     wanted: Option<bool>,
-    item: &Value,
+    scope: Scope<'_>,
 ) -> Result<Option<Case>, AllocError>
     ensures { IfOk result (IsFound (IsExactly (plan_formula
-        (Counts text.now least (plans_of (map plan_of parts.now))) (view item.now))) wanted) }
+        (Counts text.now least (plans_of (map plan_of parts.now))) (place_of scope.entry))) wanted) }
 {
-    let found = counted_parts(alloc, parts, text, least, wanted, item)?;
+    let found = counted_parts(alloc, parts, text, least, wanted, scope)?;
     Ok(found)
 }
 
@@ -42,14 +44,14 @@ fn counted_parts(
     text: &str,
     least: usize,
     wanted: Option<bool>,
-    item: &Value,
+    scope: Scope<'_>,
 ) -> Result<Option<Case>, AllocError>
     ensures { IfOk result (IsFound (IsOfThreshold least (Some text.now) (codes "part")
-        (Has (view item.now)) parts.now) wanted) }
+        (Has (place_of scope.entry)) parts.now) wanted) }
 {
     match wanted {
-        Some(expected) => wanted_parts(alloc, parts, text, least, expected, item),
-        None => either_parts(alloc, parts, text, least, item),
+        Some(expected) => wanted_parts(alloc, parts, text, least, expected, scope),
+        None => either_parts(alloc, parts, text, least, scope),
     }
 }
 
@@ -60,10 +62,10 @@ fn either_parts(
     parts: &[Check],
     text: &str,
     least: usize,
-    item: &Value,
+    scope: Scope<'_>,
 ) -> Result<Option<Case>, AllocError>
     ensures { IfOk result (IsFound (IsOfThreshold least (Some text.now) (codes "part")
-        (Has (view item.now)) parts.now) None) }
+        (Has (place_of scope.entry)) parts.now) None) }
 {
     if is_settled(least, parts.len()) {
         return settled_found(alloc, text, least, parts.len(), None);
@@ -74,7 +76,7 @@ fn either_parts(
     let mut held = 0usize;
     let mut failed = 0usize;
     for (index, part) in parts.iter().enumerate() {
-        let Some(case) = explained(alloc, part, None, item)? else {
+        let Some(case) = explained(alloc, part, None, scope)? else {
             return Ok(None);
         };
         let holds = case.root().result();
@@ -104,10 +106,10 @@ fn wanted_parts(
     text: &str,
     least: usize,
     decides: bool,
-    item: &Value,
+    scope: Scope<'_>,
 ) -> Result<Option<Case>, AllocError>
     ensures { IfOk result (IsAnswer (IsOfThreshold least (Some text.now) (codes "part")
-        (Has (view item.now)) parts.now) decides) }
+        (Has (place_of scope.entry)) parts.now) decides) }
 {
     if is_settled(least, parts.len()) {
         return settled_found(alloc, text, least, parts.len(), Some(decides));
@@ -116,7 +118,7 @@ fn wanted_parts(
     let mut node = bare_node(alloc, text, decides)?;
     let mut kept = 0usize;
     for (index, part) in parts.iter().enumerate() {
-        let Some(case) = explained(alloc, part, Some(decides), item)? else {
+        let Some(case) = explained(alloc, part, Some(decides), scope)? else {
             continue;
         };
         let told = with_index(alloc, index, case)?;
@@ -137,10 +139,10 @@ pub(super) fn counted_members(
     text: &str,
     least: usize,
     wanted: Option<bool>,
-    members: &[Value],
+    members: Listed<'_>,
 ) -> Result<Option<Case>, AllocError>
     ensures { IfOk result (IsFound (IsOfThreshold least (Some text.now) (codes "item")
-        (HasOf part.now) members.now) wanted) }
+        (HasOf (view members.entry.whole.now) part.now) members.entry.items.now) wanted) }
 {
     match wanted {
         Some(expected) => wanted_members(alloc, part, text, least, expected, members),
@@ -155,21 +157,23 @@ fn either_members(
     part: &Check,
     text: &str,
     least: usize,
-    members: &[Value],
+    members: Listed<'_>,
 ) -> Result<Option<Case>, AllocError>
     ensures { IfOk result (IsFound (IsOfThreshold least (Some text.now) (codes "item")
-        (HasOf part.now) members.now) None) }
+        (HasOf (view members.entry.whole.now) part.now) members.entry.items.now) None) }
 {
-    if is_settled(least, members.len()) {
-        return settled_found(alloc, text, least, members.len(), None);
+    let Listed { whole, items } = members;
+    if is_settled(least, items.len()) {
+        return settled_found(alloc, text, least, items.len(), None);
     }
-    let most = enough_of(false, least, members.len());
+    let most = enough_of(false, least, items.len());
     let mut held_node = bare_node(alloc, text, true)?;
     let mut failed_node = bare_node(alloc, text, false)?;
     let mut held = 0usize;
     let mut failed = 0usize;
-    for (index, member) in members.iter().enumerate() {
-        let Some(case) = explained(alloc, part, None, member)? else {
+    for (index, item) in items.iter().enumerate() {
+        let place = Scope { whole, item };
+        let Some(case) = explained(alloc, part, None, place)? else {
             return Ok(None);
         };
         let holds = case.root().result();
@@ -199,19 +203,21 @@ fn wanted_members(
     text: &str,
     least: usize,
     decides: bool,
-    members: &[Value],
+    members: Listed<'_>,
 ) -> Result<Option<Case>, AllocError>
     ensures { IfOk result (IsAnswer (IsOfThreshold least (Some text.now) (codes "item")
-        (HasOf part.now) members.now) decides) }
+        (HasOf (view members.entry.whole.now) part.now) members.entry.items.now) decides) }
 {
-    if is_settled(least, members.len()) {
-        return settled_found(alloc, text, least, members.len(), Some(decides));
+    let Listed { whole, items } = members;
+    if is_settled(least, items.len()) {
+        return settled_found(alloc, text, least, items.len(), Some(decides));
     }
-    let enough = enough_of(decides, least, members.len());
+    let enough = enough_of(decides, least, items.len());
     let mut node = bare_node(alloc, text, decides)?;
     let mut kept = 0usize;
-    for (index, member) in members.iter().enumerate() {
-        let Some(case) = explained(alloc, part, Some(decides), member)? else {
+    for (index, item) in items.iter().enumerate() {
+        let place = Scope { whole, item };
+        let Some(case) = explained(alloc, part, Some(decides), place)? else {
             continue;
         };
         let told = with_index(alloc, index, case)?;
