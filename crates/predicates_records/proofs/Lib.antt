@@ -1,0 +1,3 @@
+mod Joining
+mod Moving
+mod Taking

@@ -1,0 +1,4 @@
+pub mod Gaps
+pub mod Records
+pub mod Runs
+pub mod Steps

@@ -1,0 +1,48 @@
+//! The examples in the comments of the library.
+use predicates_lines::{MAX_LINE, RunFault, write_bytes};
+use predicates_records::{Position, TakenRecord, next_record};
+use std::alloc::Global;
+use std::io::{BufRead, Write};
+use std::test::Fail;
+
+#[test]
+fn records_of_an_array(rt: HostRuntime) -> Result<(), Fail> {
+    let alloc = rt.alloc();
+    let mut input = b"[{\"a\": [1]},\n 2]\n{}".as_slice();
+    let mut position = Position::Outside;
+    let mut value = Vec::new(alloc);
+    assert!(rt; next_record(&mut input, &mut position, &mut value, 9)? == TakenRecord::TooLong);
+    assert!(rt; next_record(&mut input, &mut position, &mut value, 9)? == TakenRecord::Record);
+    assert!(rt; value.ends_with(b"2"));
+    assert!(rt; next_record(&mut input, &mut position, &mut value, 9)? == TakenRecord::Record);
+    assert!(rt; value.ends_with(b"{}"));
+    assert!(rt; next_record(&mut input, &mut position, &mut value, 9)? == TakenRecord::End);
+    Ok(())
+}
+
+// Writes the records, and says whether each was as long as it may be and each array ended.
+fn copy<R: BufRead + Drop, W: Write + Drop>(
+    alloc: Global,
+    mut input: R,
+    mut output: W,
+) -> Result<bool, RunFault> {
+    let mut position = Position::Outside;
+    let mut value = Vec::new(alloc);
+    for _ in 0..u64::MAX {
+        match next_record(&mut input, &mut position, &mut value, MAX_LINE)? {
+            TakenRecord::Record => write_bytes(&mut output, &value)?,
+            TakenRecord::TooLong | TakenRecord::Unclosed => return Ok(false),
+            TakenRecord::End => return Ok(true),
+        }
+    }
+    Ok(false)
+}
+
+#[test]
+fn records_that_are_copied(rt: HostRuntime) -> Result<(), Fail> {
+    let mut output = Vec::new(rt.alloc());
+    assert!(rt; copy(rt.alloc(), b"[1,{}] 2".as_slice(), &mut output)?);
+    assert!(rt; output.as_slice() == b"1{}2".as_slice());
+    assert!(rt; !copy(rt.alloc(), b"[1,{}".as_slice(), &mut output)?);
+    Ok(())
+}
