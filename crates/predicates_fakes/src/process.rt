@@ -19,16 +19,13 @@ pub enum Closed {
     Error,
 }
 
-/// A process with these words, of which the first is the program's name, a file at the path and
-/// others by their names, this input with the error at its end, and an output that fails; it keeps
-/// what is written.
+/// A process with these words, of which the first is the program's name, files by their paths, this
+/// input with the error at its end, and an output that fails; it keeps what is written.
 #[derive(Drop)]
 pub struct Process<'a> {
     pub alloc: Global,
     pub words: &'a [&'a [u8]],
-    pub path: &'a str,
-    pub file: &'a [u8],
-    pub others: &'a [(&'a str, &'a [u8])],
+    pub files: &'a [(&'a str, &'a [u8])],
     pub input: &'a [u8],
     pub end: Option<ErrorKind>,
     pub closed: Closed,
@@ -37,14 +34,17 @@ pub struct Process<'a> {
 }
 
 impl<'a> Process<'a> {
-    /// A process with these words, without a file, and with this input, in which nothing fails.
-    pub fn new(alloc: Global, words: &'a [&'a [u8]], input: &'a [u8]) -> Process<'a> {
+    /// A process with these words, files and input, in which nothing fails.
+    pub fn new(
+        alloc: Global,
+        words: &'a [&'a [u8]],
+        files: &'a [(&'a str, &'a [u8])],
+        input: &'a [u8],
+    ) -> Process<'a> {
         Process {
             alloc,
             words,
-            path: "",
-            file: b"",
-            others: &[],
+            files,
             input,
             end: None,
             closed: Closed::Neither,

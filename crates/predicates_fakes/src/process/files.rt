@@ -62,10 +62,7 @@ impl<'a> Files for Process<'a> {
     type Dir = OpenedFile<'a>;
 
     fn open_file(&self, _how: &OpenOptions, path: &str) -> io::Result<OpenedFile<'a>> {
-        if path == self.path {
-            return Ok(OpenedFile { bytes: self.file });
-        }
-        for (name, bytes) in self.others {
+        for (name, bytes) in self.files {
             if path == *name {
                 return Ok(OpenedFile { bytes });
             }

@@ -17,7 +17,7 @@ fn run_closed(
     input: &[u8],
     closed: Closed,
 ) -> (u8, Vec<u8>, Vec<u8>) {
-    let mut process = Process::new(alloc, words, input);
+    let mut process = Process::new(alloc, words, &[], input);
     process.closed = closed;
     let status = run_program(&process);
     let (output, error) = process.into_written();
