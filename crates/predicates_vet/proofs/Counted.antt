@@ -6,19 +6,19 @@ use Rattle.std.proofs.lemmas.List.Elements.{filter-append}
 use Rattle.serde_json.specs.Data.{Data}
 use Rattle.predicates_vet_check.specs.declared.rule_check.RuleCheck.{RuleCheck}
 use Rattle.predicates_vet.specs.Counting.{is_false, breaks, one_if, CountsOne, number_of, AreCounted, breaks_one, AddsCount, one_counted, all_counted}
-use Rattle.predicates_vet.specs.InputLines.{record_on, is_blank, is_unreadable}
+use Rattle.predicates_vet.specs.InputLines.{record_taken, is_blank_taken, is_unreadable}
 use Rattle.predicates_core.specs.Formula.{HasTruth}
 use Rattle.predicates_core.specs.Leaves.{IsExactly}
 use Rattle.predicates_vet.specs.Records.{keeps, formula_on}
 use Rattle.predicates_vet.specs.declared.counts.Counts.{Counts}
 
 -- one more line counts where it passes the test
-filter_more : (p : List ℕ → Bool) (lines : List (List ℕ)) (l : List ℕ) (b : Bool) → p l ≡ b
+filter_more : (p : Option (List ℕ) → Bool) (lines : List (Option (List ℕ))) (l : Option (List ℕ)) (b : Bool) → p l ≡ b
     → length (filter p (lines ++ l ∷ [])) ≡ length (filter p lines) + (if b then 1 else 0)
 filter_more p lines l true e = ap length (filter-append p lines (l ∷ [])) ∙ length-append (filter p lines) (filter p (l ∷ [])) ∙ (rw e refl)
 filter_more p lines l false e = ap length (filter-append p lines (l ∷ [])) ∙ length-append (filter p lines) (filter p (l ∷ [])) ∙ (rw e refl)
 
-one_line : (p : List ℕ → Bool) (lines : List (List ℕ)) (line : List ℕ) (q : Bool) (before now after : ℕ)
+one_line : (p : Option (List ℕ) → Bool) (lines : List (Option (List ℕ))) (line : Option (List ℕ)) (q : Bool) (before now after : ℕ)
     → q ≡ p line → now ≡ before + number_of p lines → after ≡ now + one_if q → after ≡ before + number_of p (lines ++ line ∷ [])
 one_line p lines line q before now after e n a =
     a ∙ ap (λ z. z + one_if q) n ∙ add_assoc before (number_of p lines) (one_if q)
@@ -40,17 +40,17 @@ none_counted rules counts = record {
   unreadable = sym (add-zero counts.unreadable);
 }
 
-pub counted_more : (rules : List RuleCheck) (lines : List (List ℕ)) (line : List ℕ) (held : Option Bool) (before now after : Counts)
-    → held ≡ option_map (keeps rules) (record_on line) → AreCounted rules lines before now
-    → CountsOne held (is_blank line) now after → AreCounted rules (lines ++ line ∷ []) before after
+pub counted_more : (rules : List RuleCheck) (lines : List (Option (List ℕ))) (line : Option (List ℕ)) (held : Option Bool) (before now after : Counts)
+    → held ≡ option_map (keeps rules) (record_taken line) → AreCounted rules lines before now
+    → CountsOne held (is_blank_taken line) now after → AreCounted rules (lines ++ line ∷ []) before after
 counted_more rules lines line held before now after is h one =
-    let some : is_some held ≡ is_some (record_on line) = ap is_some is ∙ some_of_map (keeps rules) (record_on line) in
-    let wrong : is_false held ≡ breaks rules (record_on line) = ap is_false is ∙ false_of_map rules (record_on line) in
+    let some : is_some held ≡ is_some (record_taken line) = ap is_some is ∙ some_of_map (keeps rules) (record_taken line) in
+    let wrong : is_false held ≡ breaks rules (record_taken line) = ap is_false is ∙ false_of_map rules (record_taken line) in
     record {
-      records = one_line (λ l. is_some (record_on l)) lines line (is_some held) before.records now.records after.records some h.records one.records;
-      failed = one_line (λ l. breaks rules (record_on l)) lines line (is_false held) before.failed now.failed after.failed wrong h.failed one.failed;
-      unreadable = one_line is_unreadable lines line (not (is_some held || is_blank line)) before.unreadable now.unreadable after.unreadable
-          (ap (λ b. not (b || is_blank line)) some) h.unreadable one.unreadable;
+      records = one_line (λ l. is_some (record_taken l)) lines line (is_some held) before.records now.records after.records some h.records one.records;
+      failed = one_line (λ l. breaks rules (record_taken l)) lines line (is_false held) before.failed now.failed after.failed wrong h.failed one.failed;
+      unreadable = one_line is_unreadable lines line (not (is_some held || is_blank_taken line)) before.unreadable now.unreadable after.unreadable
+          (ap (λ b. not (b || is_blank_taken line)) some) h.unreadable one.unreadable;
     }
 
 -- ---- for each rule
@@ -60,13 +60,13 @@ no_rule_counted rules [] = refl
 no_rule_counted [] (n ∷ ns) = refl
 no_rule_counted (r ∷ rules) (n ∷ ns) = ap (λ z. z ∷ all_counted rules [] ns) (add-zero n) ∙ ap (λ z. n ∷ z) (no_rule_counted rules ns)
 
-pub rules_counted_more : (lines : List (List ℕ)) (line : List ℕ) (rules : List RuleCheck) (ns : List ℕ)
-    → one_counted rules (record_on line) (all_counted rules lines ns) ≡ all_counted rules (lines ++ line ∷ []) ns
+pub rules_counted_more : (lines : List (Option (List ℕ))) (line : Option (List ℕ)) (rules : List RuleCheck) (ns : List ℕ)
+    → one_counted rules (record_taken line) (all_counted rules lines ns) ≡ all_counted rules (lines ++ line ∷ []) ns
 rules_counted_more lines line rules [] = refl
 rules_counted_more lines line [] (n ∷ ns) = refl
 rules_counted_more lines line (r ∷ rules) (n ∷ ns) =
-    let p : List ℕ → Bool = λ l. breaks_one r (record_on l) in
-    ap (λ z. z ∷ one_counted rules (record_on line) (all_counted rules lines ns))
+    let p : Option (List ℕ) → Bool = λ l. breaks_one r (record_taken l) in
+    ap (λ z. z ∷ one_counted rules (record_taken line) (all_counted rules lines ns))
     (add_assoc n (number_of p lines) (one_if (p line)) ∙ ap (λ z. n + z) (sym (filter_more p lines line (p line) refl)))
     ∙ ap (λ z. (n + number_of p (lines ++ line ∷ [])) ∷ z) (rules_counted_more lines line rules ns)
 

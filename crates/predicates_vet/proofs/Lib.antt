@@ -1,6 +1,9 @@
 mod Counted
+mod Documents
+mod Firsts
 mod Keeping
 mod Listing
 mod Ranking
 mod Reading
 mod Running
+mod Taking

@@ -4,7 +4,7 @@ use Rattle.serde_json.specs.Data.{Data}
 use Rattle.predicates_core.specs.Formula.{truth, HasTruth}
 use Rattle.predicates_core.specs.Leaves.{IsExactly}
 use Rattle.predicates_vet_check.specs.declared.rule_check.RuleCheck.{RuleCheck}
-use Rattle.predicates_vet.specs.InputLines.{record_on, is_unreadable}
+use Rattle.predicates_vet.specs.InputLines.{record_taken, is_unreadable}
 use Rattle.predicates_vet.specs.Records.{keeps, formula_on}
 use Rattle.predicates_vet.specs.declared.counts.Counts.{Counts}
 
@@ -28,14 +28,14 @@ pub record CountsOne (held : Option Bool) (blank : Bool) (before after : Counts)
   pub failed : after.failed ≡ before.failed + one_if (is_false held)
   pub unreadable : after.unreadable ≡ before.unreadable + one_if (not (is_some held || blank))
 
--- how many lines pass a test
-abbrev pub number_of : (List ℕ → Bool) → List (List ℕ) → ℕ
+-- of how many lines what is taken passes a test
+abbrev pub number_of : (Option (List ℕ) → Bool) → List (Option (List ℕ)) → ℕ
 number_of p lines = length (filter p lines)
 
 -- the lines are counted beside those before
-pub record AreCounted (rules : List RuleCheck) (lines : List (List ℕ)) (before after : Counts) : Type 0 where
-  pub records : after.records ≡ before.records + number_of (λ l. is_some (record_on l)) lines
-  pub failed : after.failed ≡ before.failed + number_of (λ l. breaks rules (record_on l)) lines
+pub record AreCounted (rules : List RuleCheck) (lines : List (Option (List ℕ))) (before after : Counts) : Type 0 where
+  pub records : after.records ≡ before.records + number_of (λ l. is_some (record_taken l)) lines
+  pub failed : after.failed ≡ before.failed + number_of (λ l. breaks rules (record_taken l)) lines
   pub unreadable : after.unreadable ≡ before.unreadable + number_of is_unreadable lines
 
 -- the status of a process after runs
@@ -61,10 +61,10 @@ one_counted [] o (n ∷ ns) = n ∷ ns
 one_counted (r ∷ rules) o (n ∷ ns) = (n + one_if (breaks_one r o)) ∷ one_counted rules o ns
 
 -- for each rule the number before, and that of the lines with a record that breaks it
-abbrev pub all_counted : List RuleCheck → List (List ℕ) → List ℕ → List ℕ
+abbrev pub all_counted : List RuleCheck → List (Option (List ℕ)) → List ℕ → List ℕ
 all_counted rules lines [] = []
 all_counted [] lines (n ∷ ns) = n ∷ ns
-all_counted (r ∷ rules) lines (n ∷ ns) = (n + number_of (λ l. breaks_one r (record_on l)) lines) ∷ all_counted rules lines ns
+all_counted (r ∷ rules) lines (n ∷ ns) = (n + number_of (λ l. breaks_one r (record_taken l)) lines) ∷ all_counted rules lines ns
 
 -- ---- how much is written
 

@@ -1,9 +1,12 @@
 -- What stands on a line of the input.
-use Rattle.std.specs.Prelude.{◌==◌, ◌||◌, ℕ, List, Bool, not, Option, None, if◌then◌else◌, is_some}
+use Rattle.std.specs.Prelude.{◌==◌, ◌||◌, nat_lt, ℕ, List, ◌++◌, Bool, false, not, Option, Some, None, if◌then◌else◌, is_some, length, map, codes, decimal}
 use Rattle.std.specs.List.{list_all}
 use Rattle.std.specs.Str.{is_utf8}
 use Rattle.serde_json.specs.Data.{Data}
 use Rattle.serde_json.specs.Read.{read}
+use Rattle.predicates_lines.specs.Lines.{ended_lines}
+use Rattle.predicates_lines.specs.declared.taken_line.TakenLine.{TakenLine}
+use Rattle.predicates_lines.specs.declared.taken_line.TakenLine.TheVariants.{Line, TooLong, End}
 
 -- the record that stands on a line, if one does: text that JSON reads
 abbrev pub record_on : List ℕ → Option Data
@@ -17,6 +20,33 @@ is_white byte = byte == 32 || byte == 9 || byte == 10 || byte == 13
 abbrev pub is_blank : List ℕ → Bool
 is_blank line = list_all is_white line
 
+-- what is taken of a line: nothing of one that has more bytes than the limit
+abbrev pub taken_of : ℕ → List ℕ → Option (List ℕ)
+taken_of limit line = if nat_lt limit (length line) then None else Some line
+
+-- what was found of a line, which stands in the buffer unless it is too long
+abbrev pub line_found : TakenLine → List ℕ → Option (List ℕ)
+line_found Line bytes = Some bytes
+line_found TooLong bytes = None
+line_found End bytes = None
+
+-- what is taken of the lines of an input
+abbrev pub taken_lines : ℕ → List ℕ → List (Option (List ℕ))
+taken_lines limit bytes = map (taken_of limit) (ended_lines bytes)
+
+-- why no record is read of a line that has more bytes than the limit
+abbrev pub too_long_text : ℕ → List ℕ
+too_long_text limit = codes "longer than " ++ (decimal limit ++ codes " bytes")
+
+-- the record on what is taken of a line
+abbrev pub record_taken : Option (List ℕ) → Option Data
+record_taken None = None
+record_taken (Some line) = record_on line
+
+abbrev pub is_blank_taken : Option (List ℕ) → Bool
+is_blank_taken None = false
+is_blank_taken (Some line) = is_blank line
+
 -- something stands on the line that is no record
-abbrev pub is_unreadable : List ℕ → Bool
-is_unreadable line = not (is_some (record_on line) || is_blank line)
+abbrev pub is_unreadable : Option (List ℕ) → Bool
+is_unreadable taken = not (is_some (record_taken taken) || is_blank_taken taken)

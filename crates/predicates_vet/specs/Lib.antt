@@ -1,9 +1,14 @@
 pub mod Counting
+pub mod FirstBlocks
+pub mod GitHub
 pub mod InputLines
+pub mod JUnit
 pub mod Objects
+pub mod Pieces
 pub mod Places
 pub mod Records
 pub mod RulesFile
 pub mod Runs
 pub mod Settings
 pub mod Summaries
+pub mod Xml

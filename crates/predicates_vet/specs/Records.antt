@@ -1,5 +1,5 @@
 -- What is written for one record.
-use Rattle.std.specs.Prelude.{◌≡◌, ◌⊎◌, ℕ, List, [], ◌∷◌, ◌++◌, ◌==◌, Bool, true, false, ◌&&◌, Option, cond, take, length, codes, flat_map}
+use Rattle.std.specs.Prelude.{◌≡◌, ◌⊎◌, ℕ, List, [], ◌∷◌, ◌++◌, ◌==◌, Bool, true, false, ◌&&◌, Option, Some, None, cond, take, length, codes, flat_map}
 use Rattle.std.specs.List.{AllZip}
 use mathlib.Core.Bool.{beq}
 use Rattle.serde_json.specs.Data.{Data}
@@ -7,21 +7,24 @@ use Rattle.predicates_core.specs.Formula.{Formula, truth, HasTruth}
 use Rattle.predicates_core.specs.Leaves.{IsExactly}
 use Rattle.predicates_core.specs.Tree.{Tree}
 use Rattle.predicates_core.specs.Describe.{CaseNode}
-use Rattle.predicates_core.specs.Lines.{lines}
+use Rattle.predicates_style.specs.StyledLines.{styled_lines}
+use Rattle.predicates_style.specs.declared.style.Style.{Style}
 use Rattle.predicates_core.specs.Shows.{Explains, IsCaseOf}
 use Rattle.predicates_core.specs.Change.{ExplainsChange, IsChangeOf}
 use Rattle.predicates_vet_check.specs.RuleChecks.{rule_formula, name_of, plan_of_rule}
+use Rattle.predicates_vet_check.specs.Scopes.{alone}
 use Rattle.predicates_vet_check.specs.declared.rule_check.RuleCheck.{RuleCheck}
 use Rattle.predicates_vet.specs.declared.job.Job.{Job}
 use Rattle.predicates_vet.specs.declared.settings.Report.{Report}
-use Rattle.predicates_vet.specs.declared.settings.Report.TheVariants.{First, All, Change, Json, Lines}
+use Rattle.predicates_vet.specs.declared.settings.Report.TheVariants.{First, All, Change, Json, Lines, GitHub, JUnit}
+use Rattle.predicates_vet.specs.GitHub.{opening, error_line, title}
 use Rattle.predicates_vet.specs.Objects.{object_text}
 use Rattle.predicates_vet.specs.Places.{place_text, IsHead, IsName}
 use Rattle.predicates_vet.specs.Settings.{id_of, source_of}
 
 -- the formula of a rule on a record
 abbrev pub formula_on : Data → RuleCheck → Formula
-formula_on d r = rule_formula (name_of r) (plan_of_rule r) d
+formula_on d r = rule_formula (name_of r) (plan_of_rule r) (alone d)
 
 -- whether the record keeps every rule
 abbrev pub keeps : List RuleCheck → Data → Bool
@@ -46,10 +49,14 @@ AddsChange d r old new = ((c : Tree CaseNode) × (new ≡ old ++ c ∷ []) × Is
 abbrev pub shown : Bool → List Formula → List Formula
 shown all fs = cond all fs (take 1 fs)
 
+-- how a case is shown: of a value longer than 1,000 characters the first 1,000, and how many it has
+abbrev pub cut : Style
+cut = record { children = None; characters = Some 1000; escapes = false; colours = false }
+
 -- the line with what heads it, and the lines of each case; nothing where there is no case
 abbrev pub block : List ℕ → List (Tree CaseNode) → List ℕ
 block head [] = []
-block head (c ∷ cs) = head ++ (codes ": false\n" ++ flat_map lines (c ∷ cs))
+block head (c ∷ cs) = head ++ (codes ": false\n" ++ flat_map (styled_lines cut) (c ∷ cs))
 
 -- what heads the block of the record on the line of this number
 abbrev pub HeadsRecord : Job → ℕ → Data → List ℕ → Type 0
@@ -85,12 +92,26 @@ pub record IsObject (j : Job) (all failed : Bool) (number : ℕ) (d : Data) (wri
   pub named : IsName (id_of j.settings.now) number d name
   pub is : written ≡ wanted_text failed (source_of j) name all cases
 
+-- the line that GitHub shows of a case
+abbrev pub error_of : Option (List ℕ) → ℕ → List ℕ → Tree CaseNode → List ℕ
+error_of source number opening c = error_line source number (title c) (opening ++ styled_lines cut c)
+
+-- a line for each rule that a record breaks, of all or of the first
+pub record IsErrors (j : Job) (all : Bool) (number : ℕ) (d : Data) (written : List ℕ) : Type 0 where
+  pub cases : List (Tree CaseNode)
+  pub explain : AllZip Explains (shown all (broken j.rules.now d)) cases
+  pub head : List ℕ
+  pub heads : HeadsRecord j number d head
+  pub is : written ≡ flat_map (error_of (source_of j) number (opening (source_of j) (id_of j.settings.now) head)) cases
+
 -- what is written for the record of this number, which stands on the line
 abbrev pub IsReport : Report → Job → ℕ → List ℕ → Data → List ℕ → Type 0
 IsReport First j number line d written = IsBlock j false number d written
 IsReport All j number line d written = IsBlock j true number d written
 IsReport Change j number line d written = IsChangeBlock j number d written
 IsReport (Json all failed) j number line d written = IsObject j all failed number d written
+IsReport (GitHub all) j number line d written = IsErrors j all number d written
+IsReport JUnit j number line d written = written ≡ []
 IsReport (Lines wanted) j number line d written = written ≡ cond (beq (keeps j.rules.now d) wanted) line []
 
 -- nothing where there is no room for more

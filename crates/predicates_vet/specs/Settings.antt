@@ -1,9 +1,9 @@
 -- What a run is asked for.
-use Rattle.std.specs.Prelude.{ℕ, List, Bool, not, ◌&&◌, Option, option_map, string_bytes}
+use Rattle.std.specs.Prelude.{ℕ, List, Bool, false, not, ◌&&◌, Option, option_map, string_bytes}
 use mathlib.Core.Bool.{beq}
 use Rattle.predicates_vet.specs.declared.job.Job.{Job}
 use Rattle.predicates_vet.specs.declared.settings.Report.{Report}
-use Rattle.predicates_vet.specs.declared.settings.Report.TheVariants.{First, All, Change, Json, Lines}
+use Rattle.predicates_vet.specs.declared.settings.Report.TheVariants.{First, All, Change, Json, Lines, GitHub, JUnit}
 use Rattle.predicates_vet.specs.declared.settings.Settings.{Settings}
 
 -- the path that labels records
@@ -20,4 +20,6 @@ tells First held = not held
 tells All held = not held
 tells Change held = not held
 tells (Json all failed) held = not (failed && held)
+tells (GitHub all) held = not held
+tells JUnit held = false
 tells (Lines wanted) held = beq held wanted

@@ -2,12 +2,20 @@
 //! why.
 #![tactic(auto)]
 
+mod annotations;
+mod bytes;
 mod counts;
+mod document;
+mod first_blocks;
+mod github;
+mod input_format;
 mod job;
 mod line;
 mod object;
+mod piece;
 mod place;
 mod record;
+mod rule_fault;
 mod rules_fault;
 mod rules_file;
 mod run;
@@ -15,10 +23,14 @@ pub mod settings;
 mod summary_lines;
 mod tally;
 mod workspace;
+mod xml;
 
 pub use counts::Counts;
+pub use document::junit;
+pub use input_format::InputFormat;
 pub use job::Job;
 pub use predicates_lines::RunFault;
+pub use rule_fault::RuleFault;
 pub use rules_fault::RulesFault;
 pub use rules_file::{ReadChecksError, read_checks};
 pub use run::run_records;

@@ -1,8 +1,8 @@
 //! A line of the input, and the record on it.
-ghost use Rattle.std.specs.Prelude.{◌≡◌, IfOk, option_map};
+ghost use Rattle.std.specs.Prelude.{◌≡◌, IfOk, option_map, string_bytes};
 ghost use Rattle.serde_json.specs.Read.{read};
 ghost use Rattle.serde_json.specs.View.{view};
-ghost use Rattle.predicates_vet.specs.InputLines.{is_blank, record_on};
+ghost use Rattle.predicates_vet.specs.InputLines.{is_blank, record_on, too_long_text};
 
 use serde_json::Value;
 use std::alloc::{AllocError, Global};
@@ -97,4 +97,11 @@ pub(crate) fn read_record(
             Ok(None)
         }
     }
+}
+
+/// Why no record is read of a line that has more bytes than the limit.
+pub(crate) fn too_long(alloc: Global, limit: u32) -> Result<String, AllocError>
+    ensures { IfOk result (λ text. string_bytes text ≡ too_long_text limit) }
+{
+    format!(in alloc; "longer than {limit} bytes")
 }

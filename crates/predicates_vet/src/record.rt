@@ -4,20 +4,21 @@ ghost use Rattle.std.specs.Prelude.{vec_len, slice_index, slice_set};
 ghost use Rattle.std.specs.Prelude.{string_bytes, length, flat_map};
 ghost use Rattle.std.specs.List.{AllZip};
 ghost use Rattle.predicates_core.specs.Change.{ExplainsChange};
-ghost use Rattle.predicates_core.specs.Lines.{lines};
+ghost use Rattle.predicates_style.specs.StyledLines.{styled_lines};
 ghost use Rattle.predicates_core.specs.Shows.{Explains};
 ghost use Rattle.serde_json.specs.View.{view};
 ghost use Rattle.predicates_vet.specs.Counting.{AddsCount, one_counted};
-ghost use Rattle.predicates_vet.specs.Records.{keeps, broken, shown, block, AddsCase, AddsChange};
+ghost use Rattle.predicates_vet.specs.Records.{keeps, broken, shown, block, cut, AddsCase, AddsChange};
 ghost use Rattle.predicates_vet.specs.Records.{IsBlock, IsChangeBlock, IsObject, wanted_text};
 
 use crate::job::Job;
 use crate::object::write_object;
 use crate::place::{head, name};
 use crate::workspace::Workspace;
-use predicates_core::reflection::{Case, render_onto};
+use predicates_core::reflection::Case;
 use predicates_core::{Predicate, PredicateChange};
 use predicates_lines::RunFault;
+use predicates_style::{Style, render_styled_onto};
 use predicates_vet_check::{Matchers, RuleCheck};
 use serde_json::Value;
 use std::alloc::{AllocError, Global};
@@ -94,8 +95,8 @@ pub(crate) fn count_broken<'r>(
     Ok(())
 }
 
-// The cases of the rules that the record breaks: of the first, or of all.
-fn broken<'r>(
+/// The cases of the rules that the record breaks: of the first, or of all.
+pub(crate) fn broken<'r>(
     alloc: Global,
     rules: &'r [RuleCheck],
     matchers: &mut Matchers<'r>,
@@ -115,8 +116,8 @@ fn broken<'r>(
     Ok(cases)
 }
 
-// Adds the case of the rule where the record breaks it, and says whether it does.
-fn add_case<'r>(
+/// Adds the case of the rule where the record breaks it, and says whether it does.
+pub(crate) fn add_case<'r>(
     alloc: Global,
     rule: &'r RuleCheck,
     matchers: &mut Matchers<'r>,
@@ -173,18 +174,37 @@ fn add_change<'r>(
     }
 }
 
+// How cases are shown: long values are cut, so that no line of a block is endless.
+fn style() -> Style
+    ensures { result ≡ cut }
+{
+    Style {
+        characters: Some(1000),
+        ..Style::new()
+    }
+}
+
+/// Writes the lines of the case behind the text.
+pub(crate) fn write_case(text: &mut String, case: &Case) -> Result<(), AllocError>
+    ensures { OnOk result
+        (string_bytes text.new ≡ string_bytes text.old ++ styled_lines cut case.now) }
+{
+    render_styled_onto(text, &style(), case)
+}
+
 // Writes the lines of each case behind the text.
 fn write_cases(text: &mut String, cases: &[Case]) -> Result<(), AllocError>
-    ensures { OnOk result (string_bytes text.new ≡ string_bytes text.old ++ flat_map lines cases.now) }
+    ensures { OnOk result
+        (string_bytes text.new ≡ string_bytes text.old ++ flat_map (styled_lines cut) cases.now) }
 {
     for case in cases {
-        render_onto(text, case)?;
+        write_case(text, case)?;
     }
     Ok(())
 }
 
-// Writes the block of the cases in place of what the text held.
-fn write_block(text: &mut String, head: &str, cases: &[Case]) -> Result<(), AllocError>
+/// Writes the block of the cases in place of what the text held.
+pub(crate) fn write_block(text: &mut String, head: &str, cases: &[Case]) -> Result<(), AllocError>
     ensures { OnOk result (string_bytes text.new ≡ block head.now cases.now) }
 {
     text.clear();
@@ -196,7 +216,8 @@ fn write_block(text: &mut String, head: &str, cases: &[Case]) -> Result<(), Allo
     write_cases(text, cases)
 }
 
-fn is_none(cases: &Vec<Case>) -> bool
+/// Whether no rule is broken.
+pub(crate) fn is_none(cases: &Vec<Case>) -> bool
     ensures { result ≡ (length cases.now.items == 0) }
 {
     cases.is_empty()

@@ -6,9 +6,9 @@ ghost use Rattle.predicates_rules.specs.Rules.{AreRulesOf, rule_of};
 ghost use Rattle.predicates_rules.specs.Trees.{Tree};
 ghost use Rattle.predicates_vet.specs.RulesFile.{IsCheckOf};
 
+use crate::rule_fault::RuleFault;
 use predicates_rules::error::RulesError;
 use predicates_rules::fault::Fault;
-use predicates_rules::quoted::Quoted;
 use predicates_rules::rule::{Rule, read_faults, read_rules, without_mark};
 use predicates_vet_check::{CheckError, RuleCheck, check_of};
 use std::alloc::{AllocError, AllocFailed, Global};
@@ -19,19 +19,16 @@ use std::fmt;
 #[derive(Debug, Drop)]
 pub enum ReadChecksError {
     NoMemory,
-    /// The text says no rules: the fault of each line that has one, in the order of the lines, 20
-    /// at most.
-    Unreadable(Vec<Fault>),
-    /// The rule on this line, from 1, has a pattern that is no regular expression, or too large.
-    Pattern {
-        line: usize,
-        rule: String,
-        pattern: String,
-    },
+    /// The fault of each line that has one, in the order of the lines, 20 at most.
+    Unreadable(Vec<RuleFault>),
 }
 
 /// One line for each fault, with line feeds between them.
 impl fmt::Display for ReadChecksError {
+    ghost use Rattle.predicates_vet.specs.RulesFile.{read_error_text};
+
+    ghost output = { read_error_text };
+
     fn fmt<W: fmt::Write>(&self, f: &mut fmt::Formatter<W>) -> fmt::Result {
         match self {
             ReadChecksError::NoMemory => f.write_str("no memory"),
@@ -44,16 +41,6 @@ impl fmt::Display for ReadChecksError {
                 }
                 Ok(())
             }
-            ReadChecksError::Pattern {
-                line,
-                rule,
-                pattern,
-            } => write!(
-                f,
-                "line {line}, rule {}: no regular expression: {}",
-                Quoted(rule.as_bytes()),
-                Quoted(pattern.as_bytes())
-            ),
         }
     }
 }
@@ -72,46 +59,86 @@ impl<T: Drop> From<AllocFailed<T>> for ReadChecksError {
     }
 }
 
-// Whether a rule stands on the line: it is neither blank nor a comment.
-fn has_rule(line: &[u8]) -> bool {
-    match line.iter().find(|byte| !byte.is_ascii_whitespace()) {
-        Some(first) => *first != b'#',
-        None => false,
+// How many faults of a file are told at most.
+const MOST_FAULTS: usize = 20;
+
+// The fault of the rule's pattern, if it has one.
+fn pattern_fault(
+    alloc: Global,
+    number: usize,
+    rule: Rule,
+) -> Result<Option<RuleFault>, AllocError> {
+    let Rule { name, expression } = rule;
+    match check_of(alloc, expression) {
+        Ok(_check) => Ok(None),
+        Err(CheckError::NoMemory) => Err(AllocError),
+        Err(CheckError::Pattern(fault)) => Ok(Some(RuleFault::Pattern {
+            line: number,
+            rule: name,
+            fault,
+        })),
     }
 }
 
-// The line, from 1, of the rule that has this many before it.
-fn line_of(text: &[u8], before: usize) -> usize {
-    let mut left = before;
+// The same of the rule on the line, if one stands there.
+fn fault_on(alloc: Global, number: usize, line: &[u8]) -> Result<Option<RuleFault>, AllocError> {
+    match read_rules(alloc, line) {
+        Ok(mut rules) => match rules.pop() {
+            Some(rule) => pattern_fault(alloc, number, rule),
+            None => Ok(None),
+        },
+        Err(RulesError::NoMemory) => Err(AllocError),
+        Err(RulesError::Unreadable(_fault)) => Ok(None),
+    }
+}
+
+// The fault of the line: the last of the others where it is of this line, or that of its pattern.
+fn fault_at(
+    alloc: Global,
+    others: &mut Vec<Fault>,
+    number: usize,
+    line: &[u8],
+) -> Result<Option<RuleFault>, AllocError> {
+    let is_next = match others.last() {
+        Some(fault) => fault.line == number,
+        None => false,
+    };
+    if is_next {
+        return Ok(others.pop().map(RuleFault::Unreadable));
+    }
+    fault_on(alloc, number, line)
+}
+
+// The fault of each line that has one.
+fn faults_of(alloc: Global, text: &[u8]) -> Result<Vec<RuleFault>, AllocError> {
+    let mut others = read_faults(alloc, text)?;
+    others.reverse();
+    let mut faults = Vec::new(alloc);
     for (index, line) in without_mark(text).split(|byte| *byte == b'\n').enumerate() {
-        if has_rule(line) {
-            if left == 0 {
-                return index.saturating_add(1);
-            }
-            left -= 1;
+        if faults.len() == MOST_FAULTS {
+            return Ok(faults);
+        }
+        if let Some(fault) = fault_at(alloc, &mut others, index.saturating_add(1), line)? {
+            faults.push(fault)?;
         }
     }
-    0
+    Ok(faults)
 }
 
-fn rule_check(
-    alloc: Global,
-    rule: Rule,
-    text: &[u8],
-    before: usize,
-) -> Result<RuleCheck, ReadChecksError>
+// Why the text is not read. Where no line has a fault, memory was refused to a pattern.
+fn refusal(alloc: Global, text: &[u8]) -> ReadChecksError {
+    match faults_of(alloc, text) {
+        Ok(faults) if !faults.is_empty() => ReadChecksError::Unreadable(faults),
+        _ => ReadChecksError::NoMemory,
+    }
+}
+
+fn rule_check(alloc: Global, rule: Rule) -> Result<RuleCheck, CheckError>
     ensures { IfOk result (IsCheckOf (rule_of rule)) }
 {
     let Rule { name, expression } = rule;
-    match check_of(alloc, expression) {
-        Ok(check) => Ok(RuleCheck { name, check }),
-        Err(CheckError::NoMemory) => Err(ReadChecksError::NoMemory),
-        Err(CheckError::Pattern(pattern)) => Err(ReadChecksError::Pattern {
-            line: line_of(text, before),
-            rule: name,
-            pattern,
-        }),
-    }
+    let check = check_of(alloc, expression)?;
+    Ok(RuleCheck { name, check })
 }
 
 fn rules_of(alloc: Global, text: &[u8]) -> Result<Vec<Rule>, ReadChecksError>
@@ -120,29 +147,23 @@ fn rules_of(alloc: Global, text: &[u8]) -> Result<Vec<Rule>, ReadChecksError>
     match read_rules(alloc, text) {
         Ok(rules) => Ok(rules),
         Err(RulesError::NoMemory) => Err(ReadChecksError::NoMemory),
-        Err(RulesError::Unreadable(_first)) => {
-            Err(ReadChecksError::Unreadable(read_faults(alloc, text)?))
-        }
+        Err(RulesError::Unreadable(_first)) => Err(refusal(alloc, text)),
     }
 }
 
-fn checks_of(
-    alloc: Global,
-    rules: Vec<Rule>,
-    text: &[u8],
-) -> Result<Vec<RuleCheck>, ReadChecksError>
+fn checks_of(alloc: Global, rules: Vec<Rule>) -> Result<Vec<RuleCheck>, CheckError>
     ensures { IfOk result (λ checks. AllZip IsCheckOf (map rule_of rules.items) checks.items) }
 {
     let mut checks = Vec::new(alloc);
     for rule in rules {
-        let before = checks.len();
-        checks.push(rule_check(alloc, rule, text, before)?)?;
+        checks.push(rule_check(alloc, rule)?)?;
     }
     Ok(checks)
 }
 
 /// Reads the rules of a file, as `read_rules`, and makes the check of each. It fails where the text
-/// says no rules, and where a pattern is no regular expression.
+/// says no rules, and where a pattern is no regular expression; then each line is read once more for
+/// its fault.
 ///
 /// ```
 /// let rules = read_checks(alloc, b"adult: /age>=18 and(/name exists)")?;
@@ -155,5 +176,9 @@ pub fn read_checks(alloc: Global, text: &[u8]) -> Result<Vec<RuleCheck>, ReadChe
         × AreRulesOf max_depth text.now rules × AllZip IsCheckOf rules checks.items) }
 {
     let rules = rules_of(alloc, text)?;
-    checks_of(alloc, rules, text)
+    match checks_of(alloc, rules) {
+        Ok(checks) => Ok(checks),
+        Err(CheckError::NoMemory) => Err(ReadChecksError::NoMemory),
+        Err(CheckError::Pattern(_first)) => Err(refusal(alloc, text)),
+    }
 }

@@ -14,6 +14,11 @@ pub enum Report {
     /// An object of JSON, with the cases of the rules that it breaks: the first, or all. With
     /// `failed`, none of a record that keeps every rule.
     Json { all: bool, failed: bool },
+    /// A line that GitHub shows beside the file: a command of its workflows, with the case of the
+    /// first rule that a record breaks, or one for each such rule.
+    GitHub { all: bool },
+    /// Nothing: the tally has what the document of JUnit is made of.
+    JUnit,
     /// The line itself, where the record keeps every rule (`true`), or breaks one (`false`).
     Lines(bool),
 }
@@ -26,6 +31,8 @@ impl Report {
         match self {
             Report::First | Report::All | Report::Change => !held,
             Report::Json { failed, .. } => !(failed && held),
+            Report::GitHub { .. } => !held,
+            Report::JUnit => false,
             Report::Lines(wanted) => held == wanted,
         }
     }

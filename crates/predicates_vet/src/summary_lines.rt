@@ -20,8 +20,8 @@ pub(crate) struct Row<'r> {
 // How long a bar may be.
 const LONGEST: u64 = 40;
 
-// The count at this place; 0 where there is none.
-fn count_at(counts: &[u64], index: usize) -> u64
+/// The count at this place; 0 where there is none.
+pub(crate) fn count_at(counts: &[u64], index: usize) -> u64
     ensures { result ≡ slice_index counts.now index }
 {
     match counts.get(index) {

@@ -2,7 +2,7 @@
 use Rattle.std.specs.Prelude.{◌≡◌, false, codes}
 use Rattle.clap.specs.declared.parser.matches.Found.{Found}
 use Rattle.predicates_vet.specs.Settings.{id_of}
-use Rattle.predicates_vet_program.specs.Words.{IsFlag, IsNumber, clashes, report_by, label_of}
+use Rattle.predicates_vet_program.specs.Words.{IsFlag, IsNumber, clashes, format_of, report_by, label_of, input_of}
 use Rattle.predicates_vet_program.specs.declared.flags.Flags.{Flags}
 use Rattle.predicates_vet_program.specs.declared.wanted.Wanted.{Wanted}
 
@@ -14,9 +14,11 @@ pub record IsWanted (found : Found) (wanted : Wanted) : Type 0 where
   pub json : IsFlag found (codes "json") flags.json
   pub change : IsFlag found (codes "change") flags.change
   pub all : IsFlag found (codes "all") flags.all
+  pub format : flags.format ≡ format_of found
   pub allowed : clashes flags ≡ false
   pub report : wanted.settings.report ≡ report_by flags
   pub id : id_of wanted.settings ≡ label_of found
   pub summary : IsFlag found (codes "summary") wanted.summary
+  pub input : wanted.input ≡ input_of found
   pub most : IsNumber found (codes "max") wanted.most
   pub flush : IsFlag found (codes "flush") wanted.flush

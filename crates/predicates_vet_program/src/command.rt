@@ -1,4 +1,6 @@
 //! The command line of `vet`.
+use crate::format::FORMATS;
+use crate::input_format::INPUT_FORMATS;
 use clap::{Arg, ArgAction, Command, value_parser};
 use std::alloc::{AllocError, Global};
 
@@ -47,9 +49,25 @@ fn json<'a>(alloc: Global) -> Arg<'a> {
     flag(alloc, "json", "Write one JSON object for each record")
 }
 
+// One that says what another program reads can't stand with those that choose another report.
+fn format<'a>(alloc: Global) -> Result<Arg<'a>, AllocError> {
+    let help = "Write what another program reads: lines for `github`, or a document for `junit`";
+    let format = option(alloc, "format", help, ArgAction::Set).value_name("FORMAT");
+    let format = format.value_parser(FORMATS).conflicts_with("json")?;
+    let format = format.conflicts_with("failed")?.conflicts_with("passed")?;
+    format.conflicts_with("change")
+}
+
 fn id<'a>(alloc: Global) -> Arg<'a> {
     let help = "Label a record by its value at the path";
     option(alloc, "id", help, ArgAction::Set).value_name("PATH")
+}
+
+fn input_format<'a>(alloc: Global) -> Arg<'a> {
+    let help =
+        "How records stand: `jsonl`, one on a line, or `json`, one behind another or in arrays";
+    let format = option(alloc, "input-format", help, ArgAction::Set).value_name("FORMAT");
+    format.value_parser(INPUT_FORMATS)
 }
 
 fn summary<'a>(alloc: Global) -> Arg<'a> {
@@ -81,6 +99,7 @@ fn files<'a>(alloc: Global) -> Arg<'a> {
 pub(crate) fn command<'a>(alloc: Global) -> Result<Command<'a>, AllocError> {
     let about = "Checks records of JSON, one on a line, and says why they break a rule";
     let (failed, passed, change) = (failed(alloc)?, passed(alloc)?, change(alloc)?);
+    let format = format(alloc)?;
     Command::new(alloc, "vet")
         .about(about)
         .arg(rules(alloc))?
@@ -89,7 +108,9 @@ pub(crate) fn command<'a>(alloc: Global) -> Result<Command<'a>, AllocError> {
         .arg(all(alloc))?
         .arg(change)?
         .arg(json(alloc))?
+        .arg(format)?
         .arg(id(alloc))?
+        .arg(input_format(alloc))?
         .arg(summary(alloc))?
         .arg(most(alloc))?
         .arg(flush(alloc))?

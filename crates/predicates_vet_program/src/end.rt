@@ -11,15 +11,16 @@ pub(crate) enum End {
     Helped,
     /// The words are wrong or the rules can't be read, and no input was opened.
     Refused,
-    /// A fault ended the run, or nothing reads the output any more.
+    /// A fault ended the run.
     Stopped,
-    /// The inputs were taken to their ends, but for those that could not be read.
+    /// The inputs were taken to their ends, but for those that could not be read, or as far as
+    /// anything reads the output.
     Ran { counts: Counts, all_read: bool },
 }
 
 impl End {
-    /// The status of the process: 0 for the help and where every record keeps every rule, 1 where
-    /// one breaks a rule, and else 2.
+    /// The status of the process: 0 for the help and where every record that was taken keeps every
+    /// rule, 1 where one breaks a rule, and else 2.
     pub(crate) fn status(self) -> u8
         ensures { result ≡ status_of_end self }
     {

@@ -1,12 +1,13 @@
 //! The flags that choose a report.
 ghost use Rattle.std.specs.Prelude.{◌≡◌, codes};
 ghost use Rattle.clap.specs.Matches.{found_of};
-ghost use Rattle.predicates_vet_program.specs.Words.{IsFlag, clashes, report_by};
+ghost use Rattle.predicates_vet_program.specs.Words.{IsFlag, clashes, format_of, plain_report, report_by};
 
+use crate::format::Format;
 use clap::ArgMatches;
 use predicates_vet::settings::Report;
 
-/// Which flags are set.
+/// Which flags are set, and the form that another program reads, where one is asked for.
 #[derive(Clone, Copy)]
 pub(crate) struct Flags {
     pub(crate) failed: bool,
@@ -14,6 +15,7 @@ pub(crate) struct Flags {
     pub(crate) json: bool,
     pub(crate) change: bool,
     pub(crate) all: bool,
+    pub(crate) format: Option<Format>,
 }
 
 impl Flags {
@@ -24,6 +26,7 @@ impl Flags {
         ensures json { IsFlag (found_of matches.now) (codes "json") result.json }
         ensures change { IsFlag (found_of matches.now) (codes "change") result.change }
         ensures all { IsFlag (found_of matches.now) (codes "all") result.all }
+        ensures format { result.format ≡ format_of (found_of matches.now) }
     {
         Flags {
             failed: matches.get_flag("failed"),
@@ -31,6 +34,7 @@ impl Flags {
             json: matches.get_flag("json"),
             change: matches.get_flag("change"),
             all: matches.get_flag("all"),
+            format: Format::named(matches.get_str("format")),
         }
     }
 
@@ -44,15 +48,17 @@ impl Flags {
             json,
             change,
             all,
+            format,
         } = self;
         (failed && (passed || change || (all && !json)))
             || (passed && (change || json || all))
             || (change && (json || all))
+            || (format.is_some() && (failed || passed || json || change))
     }
 
-    /// What they want a run to report.
-    pub(crate) fn report(self) -> Report
-        ensures { result ≡ report_by self }
+    // What they want a run to report where no other program is named.
+    fn plain_report(self) -> Report
+        ensures { result ≡ plain_report self }
     {
         if self.json {
             Report::Json {
@@ -69,6 +75,17 @@ impl Flags {
             Report::All
         } else {
             Report::First
+        }
+    }
+
+    /// What they want a run to report.
+    pub(crate) fn report(self) -> Report
+        ensures { result ≡ report_by self }
+    {
+        match self.format {
+            Some(Format::GitHub) => Report::GitHub { all: self.all },
+            Some(Format::JUnit) => Report::JUnit,
+            None => self.plain_report(),
         }
     }
 }

@@ -3,6 +3,7 @@ use crate::io_fault::IoFault;
 use crate::stderr::Stderr;
 use crate::stdout::Stdout;
 use crate::tell::tell_file;
+use predicates_vet::settings::Report;
 use predicates_vet::{Job, RunFault, Tally, run_records};
 use std::fs::File;
 use std::io;
@@ -12,14 +13,12 @@ use std::rt::Files;
 /// How a run over inputs ended.
 #[derive(Clone, Copy)]
 pub(crate) enum Ended {
-    /// With the last input.
-    Whole,
-    /// The same, and one could not be read, which was told.
-    Unread,
+    /// With the last input. Whether all could be read: of one that could not it was told.
+    Whole { all_read: bool },
+    /// Where nothing reads the output any more, and whether all before could be read.
+    Closed { all_read: bool },
     /// With a fault, which is to be told.
     Early(RunFault),
-    /// Nothing reads the output any more.
-    Closed,
 }
 
 /// Standard output, which keeps what is written for a while.
@@ -35,8 +34,8 @@ fn run_input<E: Print + Eprint + AllocGlobal, R: BufRead>(
 ) -> Ended {
     let mut messages = Stderr { rt };
     match run_records(rt.alloc(), job, tally, input, output, &mut messages) {
-        Ok(()) => Ended::Whole,
-        Err(RunFault::Output) if output.get_ref().is_closed => Ended::Closed,
+        Ok(()) => Ended::Whole { all_read: true },
+        Err(RunFault::Output) if output.get_ref().is_closed => Ended::Closed { all_read: true },
         Err(fault) => Ended::Early(fault),
     }
 }
@@ -65,7 +64,7 @@ fn run_file<E: Files + Print + Eprint + AllocGlobal>(
         Err(error) if error.kind() == ErrorKind::OutOfMemory => return Err(error),
         Err(error) => {
             tell_file(rt, name, &IoFault(&error))?;
-            return Ok(Ended::Unread);
+            return Ok(Ended::Whole { all_read: false });
         }
     };
     let mut input = BufReader::new(rt.alloc(), file)?;
@@ -87,9 +86,19 @@ fn run_named<E: Files + Input + Print + Eprint + AllocGlobal>(
     };
     if let Ended::Early(RunFault::Input) = ended {
         tell_file(rt, name, &RunFault::Input)?;
-        return Ok(Ended::Unread);
+        return Ok(Ended::Whole { all_read: false });
     }
     Ok(ended)
+}
+
+// What an input of this name is called: nothing where it is the only one. GitHub is told the name of
+// each file, and none of standard input.
+fn source<'r>(report: Report, is_only: bool, name: &'r str) -> Option<&'r str> {
+    let is_called = match report {
+        Report::GitHub { .. } => name != "-",
+        _ => !is_only,
+    };
+    if is_called { Some(name) } else { None }
 }
 
 /// Runs over the inputs of these names. With more than one, records stand at their names.
@@ -100,18 +109,20 @@ pub(crate) fn run_files<'r, E: Files + Input + Print + Eprint + AllocGlobal>(
     tally: &mut Tally,
     output: &mut Output<'_, E>,
 ) -> io::Result<Ended> {
-    let mut all = Ended::Whole;
+    let mut all_read = true;
     for name in names {
         let job = Job {
             rules: job.rules,
             settings: job.settings,
-            source: if names.len() > 1 { Some(*name) } else { None },
+            source: source(job.settings.report, names.len() == 1, *name),
+            max_line: job.max_line,
+            format: job.format,
         };
         match run_named(rt, name, &job, tally, output)? {
-            Ended::Whole => {}
-            Ended::Unread => all = Ended::Unread,
+            Ended::Whole { all_read: is_read } => all_read = all_read && is_read,
+            Ended::Closed { .. } => return Ok(Ended::Closed { all_read }),
             early => return Ok(early),
         }
     }
-    Ok(all)
+    Ok(Ended::Whole { all_read })
 }

@@ -8,6 +8,11 @@ use std::{fmt, io};
 pub(crate) struct IoFault<'a>(pub(crate) &'a io::Error);
 
 impl fmt::Display for IoFault<'_> {
+    ghost use Rattle.std.specs.IoError.{error_kind};
+    ghost use Rattle.predicates_vet_program.specs.Faults.{io_fault_text};
+
+    ghost output = { λ fault. io_fault_text (error_kind fault.0.now) };
+
     fn fmt<W: fmt::Write>(&self, f: &mut fmt::Formatter<W>) -> fmt::Result {
         if self.0.kind() == ErrorKind::OutOfMemory {
             write!(f, "{}", RunFault::NoMemory)

@@ -2,8 +2,11 @@
 #![tactic(auto)]
 
 mod command;
+mod document;
 mod end;
 mod flags;
+mod format;
+mod input_format;
 mod inputs;
 mod io_fault;
 mod process;

@@ -1,9 +1,10 @@
 //! The program over what its process is given.
-ghost use Rattle.std.specs.Prelude.{◌≡◌, ◌≤◌};
-ghost use Rattle.predicates_vet_program.specs.Ends.{status_of_end};
-ghost use Rattle.predicates_vet_program.specs.declared.end.End.{End};
+ghost use Rattle.std.specs.Prelude.{◌≡◌, ◌≢◌, ◌≤◌, IfOk};
+ghost use Rattle.clap.specs.Values.{kind_of};
+ghost use Rattle.predicates_vet_program.specs.declared.end.End.TheVariants.{Helped, Refused, Stopped, Ran};
 
 use crate::command::command;
+use crate::document::write_document;
 use crate::end::End;
 use crate::inputs::{Ended, run_files, run_stdin};
 use crate::io_fault::IoFault;
@@ -11,8 +12,10 @@ use crate::stdout::Stdout;
 use crate::tell::{tell, tell_clash, tell_file, tell_no_path, tell_totals, tell_words};
 use crate::wanted::{Wanted, wanted_of};
 use clap::ArgMatches;
+use clap::error::ErrorKind;
 use predicates_json::is_pointer;
-use predicates_vet::{Job, RulesFault, Tally, read_checks, summary};
+use predicates_vet::settings::Report;
+use predicates_vet::{Job, ReadChecksError, RulesFault, RunFault, Tally, read_checks, summary};
 use predicates_vet_check::RuleCheck;
 use std::alloc::{AllocError, Global};
 use std::io::BufWriter;
@@ -24,7 +27,9 @@ const KEPT: usize = 8192;
 
 // What is counted of the records.
 fn tally_of(alloc: Global, rules: &[RuleCheck], wanted: &Wanted) -> Result<Tally, AllocError> {
-    if wanted.summary {
+    if let Report::JUnit = wanted.settings.report {
+        Tally::with_blocks(alloc, rules, wanted.most)
+    } else if wanted.summary {
         Tally::of_rules(alloc, rules, wanted.most)
     } else {
         Ok(Tally::new(alloc, wanted.most))
@@ -57,7 +62,9 @@ fn end<E: Eprint + AllocGlobal>(
     wanted: &Wanted,
     tally: &Tally,
     all_read: bool,
-) -> io::Result<End> {
+) -> io::Result<End>
+    ensures { IfOk result (λ end. end ≡ Ran tally.now.counts all_read) }
+{
     if wanted.summary {
         let lines = summary(rt.alloc(), rules, &tally.broken)?;
         eprint!(rt; "{lines}")?;
@@ -67,29 +74,72 @@ fn end<E: Eprint + AllocGlobal>(
     Ok(End::Ran { counts, all_read })
 }
 
-// Runs by these rules. Where nothing reads the output any more, nothing is told.
+// Writes the document where one is asked for, and tells the counts.
+fn finish<E: Print + Eprint + AllocGlobal>(
+    rt: &E,
+    path: &str,
+    rules: &[RuleCheck],
+    wanted: &Wanted,
+    tally: &Tally,
+    all_read: bool,
+) -> io::Result<End>
+    ensures { IfOk result (λ end. end ≡ Ran tally.now.counts all_read) }
+{
+    let report = wanted.settings.report;
+    if write_document(rt, report, path, rules, tally, all_read)? {
+        return end(rt, rules, wanted, tally, all_read);
+    }
+    Ok(End::Ran {
+        counts: tally.counts,
+        all_read,
+    })
+}
+
+// Tells the fault that ended the run.
+fn stop<E: Eprint>(rt: &E, fault: RunFault) -> io::Result<End>
+    ensures { IfOk result (λ end. end ≡ Stopped) }
+{
+    tell(rt, &fault)?;
+    Ok(End::Stopped)
+}
+
+// Runs by these rules of the file at the path. Where nothing reads the output any more, nothing is told.
 fn run_by<'r, E: Files + Input + Print + Eprint + AllocGlobal>(
     rt: &E,
+    path: &str,
     rules: &'r [RuleCheck],
     wanted: &'r Wanted,
     files: Option<&[&'r str]>,
 ) -> io::Result<End> {
     let mut tally = tally_of(rt.alloc(), rules, wanted)?;
-    let job = Job {
-        rules,
-        settings: &wanted.settings,
-        source: None,
-    };
+    let mut job = Job::new(rules, &wanted.settings);
+    job.format = wanted.input;
     let kept = if wanted.flush { 0 } else { KEPT };
     match run_inputs(rt, files, &job, kept, &mut tally)? {
-        Ended::Whole => end(rt, rules, wanted, &tally, true),
-        Ended::Unread => end(rt, rules, wanted, &tally, false),
-        Ended::Early(fault) => {
-            tell(rt, &fault)?;
-            Ok(End::Stopped)
-        }
-        Ended::Closed => Ok(End::Stopped),
+        Ended::Whole { all_read } => finish(rt, path, rules, wanted, &tally, all_read),
+        Ended::Closed { all_read } => Ok(End::Ran {
+            counts: tally.counts,
+            all_read,
+        }),
+        Ended::Early(fault) => stop(rt, fault),
     }
+}
+
+// Tells why the file of rules is not read.
+fn refuse_file<E: Eprint>(rt: &E, path: &str, error: &io::Error) -> io::Result<End>
+    ensures { IfOk result (λ end. end ≡ Refused) }
+{
+    tell_file(rt, path, &IoFault(error))?;
+    Ok(End::Refused)
+}
+
+// Tells why the rules of the file are not read.
+fn refuse_rules<E: Eprint>(rt: &E, path: &str, error: &ReadChecksError) -> io::Result<End>
+    ensures { IfOk result (λ end. end ≡ Refused) }
+{
+    let fault = RulesFault { path, error };
+    eprint!(rt; "{fault}")?;
+    Ok(End::Refused)
 }
 
 // Runs by the rules of the file at the path.
@@ -101,32 +151,32 @@ fn run_by_file<E: Files + Input + Print + Eprint + AllocGlobal>(
 ) -> io::Result<End> {
     let text = match fs::read(rt, path) {
         Ok(text) => text,
-        Err(error) => {
-            tell_file(rt, path, &IoFault(&error))?;
-            return Ok(End::Refused);
-        }
+        Err(error) => return refuse_file(rt, path, &error),
     };
     match read_checks(rt.alloc(), &text) {
-        Ok(rules) => run_by(rt, &rules, wanted, files),
-        Err(error) => {
-            let fault = RulesFault {
-                path,
-                error: &error,
-            };
-            eprint!(rt; "{fault}")?;
-            Ok(End::Refused)
-        }
+        Ok(rules) => run_by(rt, path, &rules, wanted, files),
+        Err(error) => refuse_rules(rt, path, &error),
     }
 }
 
 // Tells which flags can't stand together, in the order of the words: clap refuses all others.
-fn refuse_flags<E: Eprint>(rt: &E, matches: &ArgMatches<'_>) -> io::Result<End> {
+fn refuse_flags<E: Eprint>(rt: &E, matches: &ArgMatches<'_>) -> io::Result<End>
+    ensures { IfOk result (λ end. end ≡ Refused) }
+{
     let (first, second) = if matches.index_of("all") < matches.index_of("failed") {
         ("all", "failed")
     } else {
         ("failed", "all")
     };
     tell_clash(rt, first, second)?;
+    Ok(End::Refused)
+}
+
+// Tells that the path of the labels is none.
+fn refuse_path<E: Eprint>(rt: &E, path: &str) -> io::Result<End>
+    ensures { IfOk result (λ end. end ≡ Refused) }
+{
+    tell_no_path(rt, path)?;
     Ok(End::Refused)
 }
 
@@ -140,8 +190,7 @@ fn run_as<E: Files + Input + Print + Eprint + AllocGlobal>(
     };
     if let Some(path) = &wanted.settings.id {
         if !is_pointer(path) {
-            tell_no_path(rt, path)?;
-            return Ok(End::Refused);
+            return refuse_path(rt, path);
         }
     }
     let rules = matches.get_str("RULES").unwrap_or("");
@@ -149,7 +198,11 @@ fn run_as<E: Files + Input + Print + Eprint + AllocGlobal>(
 }
 
 // Prints the help where the words ask for it, and else what is wrong with them.
-fn end_of_words<E: Print + Eprint + AllocGlobal>(rt: &E, error: &clap::Error) -> io::Result<End> {
+fn end_of_words<E: Print + Eprint + AllocGlobal>(rt: &E, error: &clap::Error) -> io::Result<End>
+    ensures helped { kind_of error.now ≡ ErrorKind.DisplayHelp → IfOk result (λ end. end ≡ Helped) }
+    ensures refused { kind_of error.now ≢ ErrorKind.DisplayHelp
+        → kind_of error.now ≢ ErrorKind.DisplayVersion → IfOk result (λ end. end ≡ Refused) }
+{
     if !error.use_stderr() {
         error.print(rt)?;
         return Ok(End::Helped);
@@ -171,8 +224,9 @@ fn try_run<E: Env + Files + Input + Print + Eprint + AllocGlobal>(rt: &E) -> io:
 /// Runs the program on the words, the files, the streams and the memory of a process, and answers
 /// its status: 0 where every record keeps every rule, 1 where one breaks a rule, and 2 for wrong
 /// words, rules that can't be read, lines that are not JSON, faults of reading and writing, and out
-/// of memory, each told in a line on standard error; and 2 without a line where nothing reads
-/// standard output any more. It takes memory as `run_records` does, and for the words and the rules.
+/// of memory, each told in a line on standard error. Where nothing reads standard output any more,
+/// it ends without a line, with the status of the records before. It takes memory as `run_records`
+/// does, and for the words and the rules.
 ///
 /// ```
 /// fn main(rt: HostRuntime) -> ExitCode {
@@ -180,7 +234,6 @@ fn try_run<E: Env + Files + Input + Print + Eprint + AllocGlobal>(rt: &E) -> io:
 /// }
 /// ```
 pub fn run_program<E: Env + Files + Input + Print + Eprint + AllocGlobal>(rt: &E) -> u8
-    ensures ends { (end : End) × (result ≡ status_of_end end) }
     ensures bound { result ≤ 2 }
 {
     match try_run(rt) {

@@ -5,7 +5,9 @@ ghost use Rattle.predicates_vet_program.specs.Words.{IsNumber, label_of, pointer
 ghost use Rattle.predicates_vet_program.specs.Wants.{IsWanted};
 
 use crate::flags::Flags;
+use crate::input_format::input_named;
 use clap::ArgMatches;
+use predicates_vet::InputFormat;
 use predicates_vet::settings::Settings;
 use std::alloc::{AllocError, Global};
 
@@ -13,6 +15,8 @@ use std::alloc::{AllocError, Global};
 #[derive(Drop)]
 pub(crate) struct Wanted {
     pub(crate) settings: Settings,
+    /// How records stand in the inputs.
+    pub(crate) input: InputFormat,
     /// Whether the records that break each rule are counted and shown.
     pub(crate) summary: bool,
     /// Of how many records a run writes.
@@ -67,6 +71,7 @@ pub(crate) fn wanted_of(
     };
     Ok(Some(Wanted {
         settings,
+        input: input_named(matches.get_str("input-format")),
         summary: matches.get_flag("summary"),
         most: most_of(matches),
         flush: matches.get_flag("flush"),

@@ -3,33 +3,27 @@ mod combined;
 mod conditions;
 mod examples;
 mod faults;
+mod formats;
+mod implications;
 mod lines;
 mod malformed_records;
 mod malformed_rules;
 mod numbers;
+mod pattern_faults;
 mod pieces;
 mod program;
+mod records_and_items;
 mod reference;
 mod reports;
 mod thresholds;
 
 use predicates_vet::settings::{Report, Settings};
 use predicates_vet::{Counts, Job, ReadChecksError, RunFault, Tally, read_checks, run_records};
-use predicates_vet_check::RuleCheck;
 use std::alloc::{AllocError, Global};
 use std::test::Fail;
 
 // What a run writes, its messages, and how it ends.
 type Run = (Vec<u8>, Vec<u8>, Result<Counts, RunFault>);
-
-// A run over an input without a name.
-fn job_of<'r>(rules: &'r [RuleCheck], settings: &'r Settings) -> Job<'r> {
-    Job {
-        rules,
-        settings,
-        source: None,
-    }
-}
 
 // The messages of a run by the rules over the records, and how it ends.
 fn run_onto(
@@ -40,7 +34,7 @@ fn run_onto(
     output: &mut Vec<u8>,
 ) -> Result<(Vec<u8>, Result<Counts, RunFault>), ReadChecksError> {
     let checks = read_checks(alloc, rules)?;
-    let job = job_of(&checks, settings);
+    let job = Job::new(&checks, settings);
     let mut tally = Tally::new(alloc, None);
     let mut messages = Vec::new(alloc);
     let ended = match run_records(alloc, &job, &mut tally, &mut records, output, &mut messages) {
@@ -95,7 +89,7 @@ fn writes(
 
 // A rule, a record, and the lines below the label of its block, or nothing where the record keeps
 // it.
-const BLOCKS: [(&str, &[u8], &[u8]); 16] = [
+const BLOCKS: [(&str, &[u8], &[u8]); 24] = [
     ("a: /x == 1", b"{\"x\": 1}", b""),
     (
         "a: /x == 1",
@@ -160,6 +154,42 @@ const BLOCKS: [(&str, &[u8], &[u8]); 16] = [
         b"[]",
         b"record 1: false\na = false\n  rule: any / (/ == 1) = false\n    - len: 0\n",
     ),
+    (
+        "a: each / (/ < 3)",
+        b"{\"b\": 4, \"a\": 1, \"c\": 5}",
+        b"record 1: false\na = false\n  rule: each / (/ < 3) = false\n    - index: 1\n    item: / < 3 = false\n      - found: 4\n",
+    ),
+    (
+        "a: any / (/ == 1)",
+        b"{\"b\": 3, \"a\": 2}",
+        b"record 1: false\na = false\n  rule: any / (/ == 1) = false\n    item: / == 1 = false\n      - found: 2\n    item: / == 1 = false\n      - found: 3\n",
+    ),
+    (
+        "a: any /l (/x == 1)",
+        b"{\"l\": {\"b\": {\"x\": 1}, \"a\": 0}}",
+        b"",
+    ),
+    ("a: each / (/ == 1)", b"{}", b""),
+    (
+        "a: any / (/ == 1)",
+        b"{}",
+        b"record 1: false\na = false\n  rule: any / (/ == 1) = false\n    - len: 0\n",
+    ),
+    (
+        "a: each /l (any / (/ == 1))",
+        b"{\"l\": {\"b\": [1], \"c\": {\"y\": 3, \"x\": 2}, \"a\": {\"x\": 1}}}",
+        b"record 1: false\na = false\n  rule: each /l (any / (/ == 1)) = false\n    - index: 2\n    item: any / (/ == 1) = false\n      item: / == 1 = false\n        - found: 2\n      item: / == 1 = false\n        - found: 3\n",
+    ),
+    (
+        "a: each / (each / (/ < 3))",
+        b"[{\"b\": 4, \"a\": 1}]",
+        b"record 1: false\na = false\n  rule: each / (each / (/ < 3)) = false\n    - index: 0\n    item: each / (/ < 3) = false\n      - index: 1\n      item: / < 3 = false\n        - found: 4\n",
+    ),
+    (
+        "a: each / (/ == 1)",
+        b"1",
+        b"record 1: false\na = false\n  rule: each / (/ == 1) = false\n    - found: 1\n    - error: not an array or an object\n",
+    ),
 ];
 
 #[test]
@@ -183,7 +213,7 @@ fn blocks_of_records(rt: HostRuntime) -> Result<(), Fail> {
 }
 
 // A rule, a record, and the block of what would have to change in the rule.
-const CHANGES: [(&str, &[u8], &[u8]); 10] = [
+const CHANGES: [(&str, &[u8], &[u8]); 13] = [
     ("a: / == 1", b"1", b""),
     (
         "a: /x == 1 and /y == 2 and /z == 3",
@@ -229,6 +259,21 @@ const CHANGES: [(&str, &[u8], &[u8]); 10] = [
         "a: each /l (/ < 3)",
         b"{}",
         b"record 1: false\na = false\n  rule: each /l (/ < 3) = false\n    - error: nothing at /l\n",
+    ),
+    (
+        "a: each / (/ < 3)",
+        b"{\"c\": 5, \"b\": 4, \"a\": 1}",
+        b"record 1: false\na = false\n  rule: each / (/ < 3) = false\n    - index: 1\n    item: / < 3 = false\n      - found: 4\n      - index: 1\n    item: / < 3 = false\n      - found: 5\n      - index: 2\n",
+    ),
+    (
+        "a: any / (/ == 1)",
+        b"{\"b\": 3, \"a\": 2}",
+        b"record 1: false\na = false\n  rule: any / (/ == 1) = false\n    item: / == 1 = false\n      - found: 2\n      - index: 0\n",
+    ),
+    (
+        "a: each /l (/ < 3)",
+        b"{\"l\": 4}",
+        b"record 1: false\na = false\n  rule: each /l (/ < 3) = false\n    - found: 4\n    - error: not an array or an object\n",
     ),
 ];
 
@@ -364,18 +409,30 @@ fn is_refused(alloc: Global, rules: &str, message: &str) -> Result<bool, AllocEr
 }
 
 // Rules, and why they are not read.
-const REFUSED: [(&str, &str); 5] = [
+const REFUSED: [(&str, &str); 8] = [
     (
         "a: / matches \"[\"",
-        "line 1, rule a: no regular expression: [",
+        "line 1, rule a: no regular expression: unclosed character class at character 1: [",
     ),
     (
-        "# a\n\nb: / exists\r\n \t# c\nb: / matches \"[\"",
-        "line 5, rule b: no regular expression: [",
+        "# a\n\na: / exists\r\n \t# c\nb: / matches \"[\"",
+        "line 5, rule b: no regular expression: unclosed character class at character 1: [",
     ),
     (
         "\u{feff}# a\nb: / matches \"[\"",
-        "line 2, rule b: no regular expression: [",
+        "line 2, rule b: no regular expression: unclosed character class at character 1: [",
+    ),
+    (
+        "a: / matches \"\u{e9}a(\"",
+        "line 1, rule a: no regular expression: unclosed group at character 3: \u{e9}a(",
+    ),
+    (
+        "a: / exists or not / matches \"b{2,1}\"",
+        "line 1, rule a: no regular expression: invalid repetition count range, the start must be <= the end at character 2: b{2,1}",
+    ),
+    (
+        "a: / matches \"(?:a{1000}){1000}\"",
+        "line 1, rule a: no regular expression: too large: (?:a{1000}){1000}",
     ),
     (
         "a: / exists\nb: /x ==",

@@ -133,6 +133,11 @@ fn pairs(
             parts.push(pair(alloc, word, first, second, item)?)?;
         }
     }
+    if let Some(Value::Object(members)) = found {
+        for item in members.values() {
+            parts.push(pair(alloc, word, first, second, item)?)?;
+        }
+    }
     Ok(parts)
 }
 

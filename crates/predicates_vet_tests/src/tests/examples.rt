@@ -1,7 +1,6 @@
 //! The examples in the comments of `predicates_vet`.
-use super::job_of;
 use predicates_vet::settings::{Report, Settings};
-use predicates_vet::{Tally, read_checks, run_records};
+use predicates_vet::{Job, Tally, junit, read_checks, run_records};
 use std::test::Fail;
 
 #[test]
@@ -21,7 +20,7 @@ fn records_are_told(rt: HostRuntime) -> Result<(), Fail> {
         report: Report::First,
         id: None,
     };
-    let job = job_of(&rules, &settings);
+    let job = Job::new(&rules, &settings);
     let mut records: &[u8] = b"{\"age\": 30}\n{\"age\": 17}\n";
     let (mut output, mut messages) = (Vec::new(alloc), Vec::new(alloc));
     let mut tally = Tally::new(alloc, None);
@@ -37,5 +36,17 @@ fn records_are_told(rt: HostRuntime) -> Result<(), Fail> {
     assert!(rt; counts.records == 2 && counts.failed == 1 && counts.status() == 1);
     let told = b"record 2: false\nadult = false\n  rule: /age >= 18 = false\n    - found: 17\n";
     assert!(rt; output.as_slice() == told.as_slice() && messages.is_empty());
+    Ok(())
+}
+
+#[test]
+fn documents_are_made(rt: HostRuntime) -> Result<(), Fail> {
+    let alloc = rt.alloc();
+    let rules = read_checks(alloc, b"adult: /age >= 18")?;
+    let tally = Tally::with_blocks(alloc, &rules, None)?;
+    assert!(rt; tally.broken.len() == rules.len() && tally.firsts.len() == rules.len());
+    let document = junit(alloc, "rules", &rules, &tally, true)?;
+    let case = b"<testcase name=\"adult\" classname=\"vet\"/>\n</testsuite>\n</testsuites>\n";
+    assert!(rt; document.ends_with(case));
     Ok(())
 }

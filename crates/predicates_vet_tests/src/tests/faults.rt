@@ -1,9 +1,8 @@
 //! A run byte by byte: with a fault at each byte that is read, or written as an answer or a
 //! message.
-use super::job_of;
 use predicates_fakes::{Narrow, Slow};
 use predicates_vet::settings::{Report, Settings};
-use predicates_vet::{Counts, RunFault, Tally, read_checks, run_records};
+use predicates_vet::{Counts, Job, RunFault, Tally, read_checks, run_records};
 use std::alloc::{AllocError, Global};
 use std::io::ErrorKind;
 use std::test::Fail;
@@ -73,7 +72,7 @@ fn ran(
         report: Report::First,
         id: None,
     };
-    let job = job_of(&checks, &settings);
+    let job = Job::new(&checks, &settings);
     let mut tally = Tally::new(alloc, None);
     let mut input = Slow { bytes, end };
     let mut output = Narrow {

@@ -33,7 +33,7 @@ const WHOLE: &[u8] = b"a: not /x in [1, \"b\"] and /y >= 18";
 // the front; and what is expected there.
 const CUT: [(usize, usize, usize, &str); 21] = [
     (1, 1, 0, "`:` behind the name of a rule"),
-    (2, 3, 0, "a path, `not`, `each`, `any`, `at` or `(`"),
+    (2, 3, 0, "a path, `not`, `each`, `any`, `at`, `if` or `(`"),
     (4, 5, 4, "a word, an operator, a path or a literal"),
     (6, 7, 0, "a path, `not`, `each`, `any`, `at` or `(`"),
     (
@@ -146,7 +146,12 @@ const CHANGED: [(usize, u8, usize, &str); 42] = [
     (2, b'0', 3, "`:` behind the name of a rule"),
     (2, b'=', 2, "`:` behind the name of a rule"),
     (2, 255, 1, UTF8),
-    (3, b'#', 3, "a path, `not`, `each`, `any`, `at` or `(`"),
+    (
+        3,
+        b'#',
+        3,
+        "a path, `not`, `each`, `any`, `at`, `if` or `(`",
+    ),
     (3, b' ', 4, TOKEN),
     (3, b'"', 3, QUOTE),
     (3, b'0', 3, NUMBER),

@@ -24,9 +24,47 @@ const FAILED: &[&[u8]] = &[b"vet", b"--failed", b"rules"];
 
 const PASSED: &[&[u8]] = &[b"vet", b"rules", b"--passed"];
 
+// Files of records.
+const ONE: &[u8] = b"2\n1\n";
+
+const TWO: &[u8] = b"1\n\n3";
+
+const BAD: &[u8] = b"[\n1";
+
 const BLOCK: &str = "record 1: false\na = false\n  rule: / == 1 = false\n    - found: 2\n";
 
-const ROWS: [Row; 44] = [
+const ROWS: [Row; 50] = [
+    // Records as values, one behind another or as the members of an array.
+    (
+        &[b"vet", b"--input-format", b"json", b"rules"],
+        b"a: / == 1",
+        b"[1,\n 2]\n1 [",
+        None,
+        Closed::Neither,
+        2,
+        "record 2: false\na = false\n  rule: / == 1 = false\n    - found: 2\n",
+        "vet: record 4: not JSON: EOF while parsing at line 1 column 1\n3 records, 1 failed, 1 line unreadable\n",
+    ),
+    (
+        &[b"vet", b"--failed", b"--input-format", b"json", b"rules"],
+        b"a: / == 1",
+        b"[{\"a\":\n1}, 1, 2 ]",
+        None,
+        Closed::Neither,
+        1,
+        "{\"a\":\n1}\n2 \n",
+        "3 records, 2 failed\n",
+    ),
+    (
+        &[b"vet", b"--input-format", b"jsonl", b"rules"],
+        b"a: / == 1",
+        b"1\n[1",
+        None,
+        Closed::Neither,
+        2,
+        "",
+        "vet: record 2: not JSON: EOF while parsing at line 1 column 2\n1 record, 0 failed, 1 line unreadable\n",
+    ),
     // Every record keeps every rule.
     (
         PLAIN,
@@ -241,7 +279,7 @@ const ROWS: [Row; 44] = [
         Closed::Neither,
         2,
         "",
-        "vet: rules: line 2, rule b: no regular expression: (\n",
+        "vet: rules: line 2, rule b: no regular expression: unclosed group at character 1: (\n",
     ),
     // Labels.
     (
@@ -387,16 +425,6 @@ const ROWS: [Row; 44] = [
         "record 1: false\na = false\n  rule: / == 1 = false\n    - found: 2\nrecord 3: false\na = false\n  rule: / == 1 = false\n    - found: 3\n",
         "3 records, 2 failed\n",
     ),
-    (
-        &[b"vet", b"--flush", b"rules"],
-        b"a: / == 1",
-        b"2",
-        None,
-        Closed::Output,
-        2,
-        "",
-        "",
-    ),
     // Faults of reading and writing.
     (
         PLAIN,
@@ -418,39 +446,81 @@ const ROWS: [Row; 44] = [
         "",
         "vet: no memory\n",
     ),
-    (PLAIN, b"a: / == 1", b"2", None, Closed::Output, 2, "", ""),
+    // Where nothing reads the output, the status is that of the records so far.
+    (PLAIN, b"a: / == 1", b"2", None, Closed::Output, 1, "", ""),
+    (
+        &[b"vet", b"--json", b"rules"],
+        b"a: / == 1",
+        b"1",
+        None,
+        Closed::Output,
+        0,
+        "",
+        "",
+    ),
+    (
+        &[b"vet", b"rules", b"none", b"one"],
+        b"a: / == 1",
+        b"",
+        None,
+        Closed::Output,
+        2,
+        "",
+        "vet: none: entity not found\n",
+    ),
     (PLAIN, b"a: / == 1", b"1", None, Closed::Error, 2, "", ""),
     (PLAIN, b"a: / == 1", b"[", None, Closed::Error, 2, "", ""),
-    // Several inputs, of which the file of rules is one.
+    // Files, and standard input among them.
     (
-        &[b"vet", b"rules", b"rules", b"-"],
+        &[b"vet", b"rules", b"one"],
         b"a: / == 1",
-        b"1\n2\n1",
+        b"",
         None,
         Closed::Neither,
-        2,
-        "-:2: false\na = false\n  rule: / == 1 = false\n    - found: 2\n",
-        "vet: rules:1: not JSON: invalid JSON at line 1 column 1\n3 records, 1 failed, 1 line unreadable\n",
+        1,
+        BLOCK,
+        "2 records, 1 failed\n",
     ),
     (
-        &[b"vet", b"rules", b"-", b"rules", b"none"],
+        &[b"vet", b"rules", b"one", b"-", b"two"],
         b"a: / == 1",
-        b"2",
+        b"1\n4",
         None,
         Closed::Neither,
-        2,
-        "-:1: false\na = false\n  rule: / == 1 = false\n    - found: 2\n",
-        "vet: rules:1: not JSON: invalid JSON at line 1 column 1\nvet: none: entity not found\n1 record, 1 failed, 1 line unreadable\n",
+        1,
+        "one:1: false\na = false\n  rule: / == 1 = false\n    - found: 2\n-:2: false\na = false\n  rule: / == 1 = false\n    - found: 4\ntwo:3: false\na = false\n  rule: / == 1 = false\n    - found: 3\n",
+        "6 records, 3 failed\n",
     ),
     (
-        &[b"vet", b"--json", b"--failed", b"rules", b"-", b"rules"],
+        &[b"vet", b"--json", b"--failed", b"rules", b"two", b"bad"],
         b"a: / == 1",
-        b"2",
+        b"",
         None,
         Closed::Neither,
         2,
-        "{\"file\":\"-\",\"record\":1,\"holds\":false,\"case\":{\"text\":\"a\",\"result\":false,\"products\":[],\"children\":[{\"name\":\"rule\",\"case\":{\"text\":\"/ == 1\",\"result\":false,\"products\":[{\"name\":\"found\",\"value\":2}],\"children\":[]}}]}}\n",
-        "vet: rules:1: not JSON: invalid JSON at line 1 column 1\n1 record, 1 failed, 1 line unreadable\n",
+        "{\"file\":\"two\",\"record\":3,\"holds\":false,\"case\":{\"text\":\"a\",\"result\":false,\"products\":[],\"children\":[{\"name\":\"rule\",\"case\":{\"text\":\"/ == 1\",\"result\":false,\"products\":[{\"name\":\"found\",\"value\":3}],\"children\":[]}}]}}\n",
+        "vet: bad:1: not JSON: EOF while parsing at line 2 column 0\n3 records, 1 failed, 1 line unreadable\n",
+    ),
+    // One that can't be read is told, and the others are read.
+    (
+        &[b"vet", b"rules", b"none", b"one"],
+        b"a: / == 1",
+        b"",
+        None,
+        Closed::Neither,
+        2,
+        "one:1: false\na = false\n  rule: / == 1 = false\n    - found: 2\n",
+        "vet: none: entity not found\n2 records, 1 failed\n",
+    ),
+    (
+        &[b"vet", b"rules", b"-", b"one"],
+        b"a: / == 1",
+        b"1\n1",
+        Some(ErrorKind::BrokenPipe),
+        Closed::Neither,
+        2,
+        "one:1: false\na = false\n  rule: / == 1 = false\n    - found: 2\n",
+        "vet: -: input could not be read\n3 records, 1 failed\n",
     ),
 ];
 
@@ -483,14 +553,12 @@ const CLASHES: [(usize, usize); 8] = [
 fn run<'a>(
     alloc: Global,
     words: &'a [&'a [u8]],
-    rules: &'a [u8],
+    files: &'a [(&'a str, &'a [u8])],
     input: &'a [u8],
     end: Option<ErrorKind>,
     closed: Closed,
 ) -> (u8, Vec<u8>, Vec<u8>) {
-    let mut process = Process::new(alloc, words, input);
-    process.path = "rules";
-    process.file = rules;
+    let mut process = Process::new(alloc, words, files, input);
     process.end = end;
     process.closed = closed;
     let status = run_program(&process);
@@ -501,7 +569,8 @@ fn run<'a>(
 // Whether the program ends so.
 fn ends(alloc: Global, row: Row) -> bool {
     let (words, rules, input, end, closed, status, output, messages) = row;
-    let (found, written, told) = run(alloc, words, rules, input, end, closed);
+    let files: [(&str, &[u8]); 4] = [("rules", rules), ("one", ONE), ("two", TWO), ("bad", BAD)];
+    let (found, written, told) = run(alloc, words, &files, input, end, closed);
     found == status
         && written.as_slice() == output.as_bytes()
         && told.as_slice() == messages.as_bytes()
@@ -541,7 +610,7 @@ fn pair_ends(
     let (status, _, told) = run(
         alloc,
         words.as_slice(),
-        b"a: / == 1",
+        &[("rules", b"a: / == 1")],
         b"1",
         None,
         Closed::Neither,

@@ -403,10 +403,14 @@ pub fn joined(
     Ok(Answer { text, holds, below })
 }
 
-// What is said of a value that is no array.
-fn no_array(alloc: Global, value: &Value) -> Result<String, AllocError> {
+fn is_list(value: &Value) -> bool {
+    value.is_array() || value.is_object()
+}
+
+// What is said of a value that is no list.
+fn no_list(alloc: Global, value: &Value) -> Result<String, AllocError> {
     let shown = value.to_string(alloc)?;
-    format!(in alloc; "- found: {shown}\n- error: not an array\n")
+    format!(in alloc; "- found: {shown}\n- error: not an array or an object\n")
 }
 
 // Whether items of what was found hold as the word wants it, and their lines.
@@ -418,11 +422,11 @@ fn range(
 ) -> Result<(bool, String), AllocError> {
     let count = count_true(parts);
     match found {
-        Some(Value::Array(_)) if word == "each" => {
+        Some(value) if !is_list(value) => Ok((false, no_list(alloc, value)?)),
+        Some(_) if word == "each" => {
             Ok((count == parts.len(), deciding(alloc, "item", parts, false)?))
         }
-        Some(Value::Array(_)) => Ok((count > 0, deciding(alloc, "item", parts, true)?)),
-        Some(value) => Ok((false, no_array(alloc, value)?)),
+        Some(_) => Ok((count > 0, deciding(alloc, "item", parts, true)?)),
         None => Ok((false, String::from_str(alloc, "- error: nothing at /l\n")?)),
     }
 }

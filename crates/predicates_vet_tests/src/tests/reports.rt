@@ -1,8 +1,11 @@
 //! What a run writes by its report, its labels, the name of its input, and how much may be written;
 //! and what it counts.
-use super::settings_of;
+use super::{settings_of, writes as writes_of};
+use predicates_lines::MAX_LINE;
 use predicates_vet::settings::Report;
-use predicates_vet::{Counts, Job, RulesFault, Tally, read_checks, run_records, summary};
+use predicates_vet::{
+    Counts, InputFormat, Job, ReadChecksError, RulesFault, Tally, read_checks, run_records, summary,
+};
 use std::alloc::{AllocError, Global};
 use std::test::Fail;
 
@@ -106,6 +109,8 @@ fn writes(alloc: Global, asked: Asked<'_>, told: Told<'_>) -> Result<bool, Fail>
         rules: &rules,
         settings: &settings,
         source,
+        max_line: MAX_LINE,
+        format: InputFormat::JsonLines,
     };
     let mut tally = Tally::of_rules(alloc, &rules, most)?;
     let mut records = RECORDS;
@@ -131,6 +136,106 @@ fn reports_with_names_and_room(rt: HostRuntime) -> Result<(), Fail> {
     for (asked, told) in RUNS {
         assert!(rt; writes(rt.alloc(), asked, told)?, "{asked:?}");
     }
+    Ok(())
+}
+
+// Lines of which the second and the fourth have ten bytes, and the others nine at most.
+const LONG: &[u8] = b"{\"x\": 2}\n{\"x\": 3 }\n\n         \n{\"x\": 4}";
+
+// What is written of the short ones, and of the long ones the messages.
+const SHORT_TOLD: &[u8] =
+    b"record 1: false\na = false\n  rule: /x == 1 = false\n    - found: 2\nrecord 5: false\na = false\n  rule: /x == 1 = false\n    - found: 4\n";
+
+const LONG_TOLD: &[u8] =
+    b"vet: record 2: longer than 9 bytes\nvet: record 4: longer than 9 bytes\n";
+
+const LONG_COUNTS: Counts = Counts {
+    records: 2,
+    failed: 2,
+    unreadable: 2,
+};
+
+#[test]
+fn lines_that_are_too_long(rt: HostRuntime) -> Result<(), Fail> {
+    let alloc = rt.alloc();
+    let rules = read_checks(alloc, b"a: /x == 1")?;
+    let settings = settings_of(alloc, Report::First, None)?;
+    let mut job = Job::new(&rules, &settings);
+    job.max_line = 9;
+    let mut tally = Tally::new(alloc, None);
+    let (mut records, mut output, mut messages) = (LONG, Vec::new(alloc), Vec::new(alloc));
+    run_records(
+        alloc,
+        &job,
+        &mut tally,
+        &mut records,
+        &mut output,
+        &mut messages,
+    )?;
+    assert!(rt; output.as_slice() == SHORT_TOLD && messages.as_slice() == LONG_TOLD);
+    assert!(rt; tally.counts == LONG_COUNTS);
+    Ok(())
+}
+
+// The front of a text as JSON, with so many letters.
+fn front_of(alloc: Global, letters: usize) -> Result<String, AllocError> {
+    let mut text = String::from_str(alloc, "\"")?;
+    for _ in 0..letters {
+        text.push_str("a")?;
+    }
+    Ok(text)
+}
+
+// The whole of such a text.
+fn text_of(alloc: Global, letters: usize) -> Result<String, AllocError> {
+    let mut text = front_of(alloc, letters)?;
+    text.push_str("\"")?;
+    Ok(text)
+}
+
+// Whether the block of the record, which is no number, shows this of what was found.
+fn shows(alloc: Global, record: &str, shown: &str) -> Result<bool, AllocError> {
+    let block = format!(in alloc;
+        "record 1: false\na = false\n  rule: / == 1 = false\n    - found{shown}\n    - error: not a number\n"
+    )?;
+    let (rule, counts) = ("a: / == 1", (1, 1, 0));
+    writes_of(
+        alloc,
+        Report::First,
+        None,
+        rule,
+        record.as_bytes(),
+        block.as_bytes(),
+        counts,
+    )
+}
+
+// Whether the object of the record has the whole of it.
+fn has_whole(alloc: Global, record: &str) -> Result<bool, AllocError> {
+    let object = format!(in alloc;
+        "{{\"record\":1,\"holds\":false,\"case\":{{\"text\":\"a\",\"result\":false,\"products\":[],\"children\":[{{\"name\":\"rule\",\"case\":{{\"text\":\"/ == 1\",\"result\":false,\"products\":[{{\"name\":\"found\",\"value\":{record}}},{{\"name\":\"error\",\"value\":\"not a number\"}}],\"children\":[]}}}}]}}}}\n"
+    )?;
+    let (rule, counts) = ("a: / == 1", (1, 1, 0));
+    writes_of(
+        alloc,
+        JSON,
+        None,
+        rule,
+        record.as_bytes(),
+        object.as_bytes(),
+        counts,
+    )
+}
+
+#[test]
+fn long_values_are_cut(rt: HostRuntime) -> Result<(), Fail> {
+    let alloc = rt.alloc();
+    let (short, long) = (text_of(alloc, 998)?, text_of(alloc, 999)?);
+    let whole = format!(in alloc; ": {short}")?;
+    let front = front_of(alloc, 999)?;
+    let cut = format!(in alloc; " (first 1000 of 1001 characters): {front}")?;
+    assert!(rt; shows(alloc, &short, &whole)? && shows(alloc, &long, &cut)?);
+    assert!(rt; has_whole(alloc, &long)?);
     Ok(())
 }
 
@@ -160,7 +265,7 @@ fn summaries(rt: HostRuntime) -> Result<(), Fail> {
 }
 
 // Rules that are not read, and what is told of them.
-const FAULTS: [(&[u8], &str); 3] = [
+const FAULTS: [(&[u8], &str); 5] = [
     (
         b"a: / >=\nb: / exists\nc: / ==",
         "vet: rules: line 1, column 8: expected a literal or a path, found the end of the line\nvet: rules: line 3, column 8: expected a literal or a path, found the end of the line\n",
@@ -171,7 +276,16 @@ const FAULTS: [(&[u8], &str); 3] = [
     ),
     (
         b"a: / matches \"[\"",
-        "vet: rules: line 1, rule a: no regular expression: [\n",
+        "vet: rules: line 1, rule a: no regular expression: unclosed character class at character 1: [\n",
+    ),
+    (
+        b"a: / exists\na: / exists",
+        "vet: rules: line 2, column 1: the name `a` stands on line 1 already\n",
+    ),
+    // A line for each, of patterns too.
+    (
+        b"a: / matches \"[\"\nb: / exists\n# c\nd: / >=\n\ne: / == 1 and / matches \"(\"",
+        "vet: rules: line 1, rule a: no regular expression: unclosed character class at character 1: [\nvet: rules: line 4, column 8: expected a literal or a path, found the end of the line\nvet: rules: line 6, rule e: no regular expression: unclosed group at character 1: (\n",
     ),
 ];
 
@@ -186,6 +300,36 @@ fn tells(alloc: Global, rules: &[u8], told: &str) -> Result<bool, AllocError> {
             Ok(found.as_str() == told)
         }
     }
+}
+
+// Lines of which none is read, in turn for its pattern.
+fn bad_lines(alloc: Global, lines: usize) -> Result<Vec<u8>, AllocError> {
+    let mut text = Vec::new(alloc);
+    for line in 0..lines {
+        if line % 2 == 0 {
+            text.extend_from_slice(b"a: / matches \"(\"\n")?;
+        } else {
+            text.extend_from_slice(b"a: / >=\n")?;
+        }
+    }
+    Ok(text)
+}
+
+// How many faults are told of so many of them.
+fn number_of_faults(alloc: Global, lines: usize) -> Result<usize, AllocError> {
+    let text = bad_lines(alloc, lines)?;
+    match read_checks(alloc, &text) {
+        Err(ReadChecksError::Unreadable(faults)) => Ok(faults.len()),
+        _ => Ok(0),
+    }
+}
+
+#[test]
+fn twenty_faults_at_most(rt: HostRuntime) -> Result<(), Fail> {
+    for (lines, faults) in [(1, 1), (19, 19), (20, 20), (30, 20), (50, 20)] {
+        assert!(rt; number_of_faults(rt.alloc(), lines)? == faults, "{lines}");
+    }
+    Ok(())
 }
 
 #[test]

@@ -5,7 +5,7 @@ use std::test::Fail;
 
 // What is reported, a rule, a record, and what is written of it, or nothing where the record keeps
 // the rule.
-const ROWS: [(Report, &str, &[u8], &[u8]); 18] = [
+const ROWS: [(Report, &str, &[u8], &[u8]); 22] = [
     (
         Report::First,
         "reach: at least 2 of (/mail exists, /phone exists, /address exists)",
@@ -95,7 +95,7 @@ const ROWS: [(Report, &str, &[u8], &[u8]); 18] = [
         Report::First,
         "a: at least 0 /l (/ == 1)",
         b"{\"l\": \"q\"}",
-        b"record 1: false\na = false\n  rule: at least 0 /l (/ == 1) = false\n    - found: \"q\"\n    - error: not an array\n",
+        b"record 1: false\na = false\n  rule: at least 0 /l (/ == 1) = false\n    - found: \"q\"\n    - error: not an array or an object\n",
     ),
     (
         Report::Change,
@@ -108,6 +108,30 @@ const ROWS: [(Report, &str, &[u8], &[u8]); 18] = [
         "a: at least 18446744073709551615 / (/ == 1)",
         b"[1]",
         b"record 1: false\na = false\n  rule: at least 18446744073709551615 / (/ == 1) = false\n    - len: 1\n",
+    ),
+    (
+        Report::First,
+        "a: at least 2 /l (/ == 1)",
+        b"{\"l\": {\"c\": 3, \"a\": 1, \"b\": 2}}",
+        b"record 1: false\na = false\n  rule: at least 2 /l (/ == 1) = false\n    item: / == 1 = false\n      - found: 2\n      - index: 1\n    item: / == 1 = false\n      - found: 3\n      - index: 2\n",
+    ),
+    (
+        Report::First,
+        "a: at least 2 /l (/ == 1)",
+        b"{\"l\": {\"c\": 1, \"b\": 2, \"a\": 1}}",
+        b"",
+    ),
+    (
+        Report::First,
+        "a: at least 1 /l (/ == 1)",
+        b"{\"l\": {}}",
+        b"record 1: false\na = false\n  rule: at least 1 /l (/ == 1) = false\n    - len: 0\n",
+    ),
+    (
+        Report::Change,
+        "a: not at least 2 /l (/ == 1)",
+        b"{\"l\": {\"d\": 1, \"c\": 1, \"b\": 2, \"a\": 1}}",
+        b"record 1: false\na = false\n  rule: not at least 2 /l (/ == 1) = false\n    predicate: at least 2 /l (/ == 1) = true\n      item: / == 1 = true\n        - found: 1\n        - index: 0\n      item: / == 1 = true\n        - found: 1\n        - index: 2\n",
     ),
 ];
 

@@ -6,4 +6,4 @@ invariant-loop-taken g l = HasTold l.job
     (g.R.Read.remaining l.initial.input) (g.R.Read.remaining l.input)
     (g.W.Write.contents l.initial.output) (g.W.Write.contents l.output)
     (g.M.Write.contents l.initial.messages) (g.M.Write.contents l.messages)
-    l.taken l.initial.tally l.tally
+    l.position l.taken l.initial.tally l.tally

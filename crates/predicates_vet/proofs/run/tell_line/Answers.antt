@@ -1,10 +1,16 @@
 use Rattle.std.proofs.Common.{◌∙◌, ap, sym}
 use Rattle.std.specs.Prelude.{option_map}
 use Rattle.serde_json.specs.View.{view}
+use Rattle.predicates_vet.specs.FirstBlocks.{blocks_of}
 use Rattle.predicates_vet.specs.InputLines.{record_on}
 use Rattle.predicates_vet.proofs.Counted.{unread_counted}
-use Rattle.predicates_vet.proofs.run.take_line.Goals as goal
+use Rattle.predicates_vet.proofs.Firsts.{unread_taken}
+use Rattle.predicates_vet.proofs.run.tell_line.Goals as goal
 
 pub returns-in_ok-tell_problem-in-None-clause-broken : goal.returns-in_ok-tell_problem-in-None-clause-broken
 returns-in_ok-tell_problem-in-None-clause-broken g c =
     unread_counted c.args.job.now.rules.now (record_on c.args.line.now.bytes.now) c.args.tally.now.broken.items (ap (option_map view) (sym c.in-None.is) ∙ c.in_ok-record.ensures)
+
+pub returns-in_ok-tell_problem-in-None-clause-firsts : goal.returns-in_ok-tell_problem-in-None-clause-firsts
+returns-in_ok-tell_problem-in-None-clause-firsts g c =
+    unread_taken c.args.job.now c.args.line.now.number (record_on c.args.line.now.bytes.now) (blocks_of c.args.tally.now) (ap (option_map view) (sym c.in-None.is) ∙ c.in_ok-record.ensures)

@@ -1,0 +1,99 @@
+//! What GitHub shows of one record.
+ghost use Rattle.std.specs.Prelude.{◌≡◌, ◌++◌, ℕ, List, IfOk, OnOk, option_map, string_bytes, flat_map};
+ghost use Rattle.std.specs.Io.KnownBytes.{Appends};
+ghost use Rattle.serde_json.specs.View.{view};
+ghost use Rattle.predicates_vet.specs.GitHub.{opening};
+ghost use Rattle.predicates_vet.specs.Records.{IsErrors, error_of, keeps};
+ghost use Rattle.predicates_vet.specs.Settings.{id_of, source_of};
+
+use crate::github::{Position, push_error};
+use crate::job::Job;
+use crate::place::head;
+use crate::record::{broken, is_none};
+use crate::workspace::Workspace;
+use predicates_core::reflection::Case;
+use predicates_lines::{RunFault, write_bytes};
+use serde_json::Value;
+use std::alloc::{AllocError, Global};
+use std::io::Write;
+
+// What opens the message of each line of a record under this head.
+fn opening(job: &Job<'_>, head: String) -> Result<String, AllocError>
+    ensures { IfOk result (λ text. string_bytes text
+        ≡ opening (source_of job.now) (id_of job.now.settings.now) (string_bytes head)) }
+{
+    let mut text = head;
+    if job.source.is_some() && job.settings.id.is_none() {
+        text.clear();
+        return Ok(text);
+    }
+    text.push_str(": false\n")?;
+    Ok(text)
+}
+
+// Writes the line of each case behind the others.
+fn push_errors(
+    alloc: Global,
+    lines: &mut Vec<u8>,
+    position: &Position<'_>,
+    cases: &[Case],
+) -> Result<(), AllocError>
+    ensures { OnOk result (lines.new.items ≡ lines.old.items
+        ++ flat_map (error_of (option_map (λ s. s.now) position.now.source) position.now.number
+        position.now.opening.now) cases.now) }
+{
+    for case in cases {
+        push_error(alloc, lines, position, case)?;
+    }
+    Ok(())
+}
+
+// Writes the lines of the rules that the record breaks, of all or of the first, and says whether it
+// keeps every rule.
+fn push_broken<'r>(
+    alloc: Global,
+    job: &Job<'r>,
+    workspace: &mut Workspace<'r>,
+    all: bool,
+    number: u64,
+    value: &Value,
+    lines: &mut Vec<u8>,
+) -> Result<bool, AllocError>
+    ensures written { OnOk result ((written : List ℕ)
+        × IsErrors job.now all number (view value.now) written
+        × (lines.new.items ≡ lines.old.items ++ written)) }
+    ensures held { IfOk result (λ held. held ≡ keeps job.now.rules.now (view value.now)) }
+{
+    let cases = broken(alloc, job.rules, &mut workspace.matchers, all, value)?;
+    let head = head(alloc, job, number, value)?;
+    let opening = opening(job, head)?;
+    let position = Position {
+        source: job.source,
+        number,
+        opening: &opening,
+    };
+    push_errors(alloc, lines, &position, cases.as_slice())?;
+    Ok(is_none(&cases))
+}
+
+/// Writes the lines of the rules that the record breaks, of all or of the first, and says whether it
+/// keeps every rule.
+pub(crate) fn tell_errors<'r, W: Write>(
+    alloc: Global,
+    job: &Job<'r>,
+    workspace: &mut Workspace<'r>,
+    all: bool,
+    number: u64,
+    value: &Value,
+    output: &mut W,
+) -> Result<bool, RunFault>
+    ensures written { IfOk result (λ _. (written : List ℕ)
+        × IsErrors job.now all number (view value.now) written
+        × Appends (W.contents output.old) (W.contents output.new) written) }
+    ensures held { IfOk result (λ held. held ≡ keeps job.now.rules.now (view value.now)) }
+{
+    let mut lines = Vec::new(alloc);
+    let held = push_broken(alloc, job, workspace, all, number, value, &mut lines)?;
+    write_bytes(output, lines.as_slice())?;
+    Ok(held)
+}

@@ -1,0 +1,120 @@
+//! The line that GitHub shows beside a file: a command of its workflows.
+ghost use Rattle.std.specs.Prelude.{◌≡◌, ◌++◌, OnOk, option_map, flat_map};
+ghost use Rattle.predicates_vet.specs.GitHub.{message_byte, message_text, position_text};
+ghost use Rattle.predicates_vet.specs.GitHub.{property_byte, property_text, title, without_last};
+ghost use Rattle.predicates_vet.specs.Records.{error_of};
+
+use crate::bytes::{push_bytes, push_number};
+use crate::record::write_case;
+use predicates_core::reflection::Case;
+use std::alloc::{AllocError, Global};
+
+/// Where a record stands, and what opens the message of each of its lines.
+#[derive(Clone, Copy)]
+pub(crate) struct Position<'a> {
+    pub(crate) source: Option<&'a str>,
+    pub(crate) number: u64,
+    pub(crate) opening: &'a str,
+}
+
+fn push_message_byte(line: &mut Vec<u8>, byte: u8) -> Result<(), AllocError>
+    ensures { OnOk result (line.new.items ≡ line.old.items ++ message_byte byte) }
+{
+    match byte {
+        b'%' => push_bytes(line, b"%25"),
+        b'\r' => push_bytes(line, b"%0D"),
+        b'\n' => push_bytes(line, b"%0A"),
+        _ => Ok(line.push(byte)?),
+    }
+}
+
+fn push_property_byte(line: &mut Vec<u8>, byte: u8) -> Result<(), AllocError>
+    ensures { OnOk result (line.new.items ≡ line.old.items ++ property_byte byte) }
+{
+    match byte {
+        b':' => push_bytes(line, b"%3A"),
+        b',' => push_bytes(line, b"%2C"),
+        _ => push_message_byte(line, byte),
+    }
+}
+
+fn push_message(line: &mut Vec<u8>, text: &[u8]) -> Result<(), AllocError>
+    ensures { OnOk result (line.new.items ≡ line.old.items ++ message_text text.now) }
+{
+    for byte in text {
+        push_message_byte(line, *byte)?;
+    }
+    Ok(())
+}
+
+fn push_property(line: &mut Vec<u8>, text: &str) -> Result<(), AllocError>
+    ensures { OnOk result (line.new.items ≡ line.old.items ++ property_text text.now) }
+{
+    for byte in text.as_bytes() {
+        push_property_byte(line, *byte)?;
+    }
+    Ok(())
+}
+
+// Writes where the record stands, where the input has a name.
+fn push_position(
+    alloc: Global,
+    line: &mut Vec<u8>,
+    source: Option<&str>,
+    number: u64,
+) -> Result<(), AllocError>
+    ensures { OnOk result (line.new.items
+        ≡ line.old.items ++ position_text (option_map (λ s. s.now) source.entry) number) }
+{
+    let Some(name) = source else {
+        return Ok(());
+    };
+    push_bytes(line, b"file=")?;
+    push_property(line, name)?;
+    push_bytes(line, b",line=")?;
+    push_number(alloc, line, number as u128)?;
+    push_bytes(line, b",")
+}
+
+// What the case is of: a rule's name.
+fn title(case: &Case) -> &str
+    ensures { result.now ≡ title case.now }
+{
+    case.root().predicate().unwrap_or("")
+}
+
+fn without_last(text: &[u8]) -> &[u8]
+    ensures { result.now ≡ without_last text.now }
+{
+    match text {
+        [front @ .., _] => front,
+        [] => text,
+    }
+}
+
+/// Writes the line of the case behind the others.
+pub(crate) fn push_error(
+    alloc: Global,
+    lines: &mut Vec<u8>,
+    position: &Position<'_>,
+    case: &Case,
+) -> Result<(), AllocError>
+    ensures { OnOk result (lines.new.items ≡ lines.old.items
+        ++ error_of (option_map (λ s. s.now) position.now.source) position.now.number
+        position.now.opening.now case.now) }
+{
+    let Position {
+        source,
+        number,
+        opening,
+    } = *position;
+    let mut message = String::from_str(alloc, opening)?;
+    write_case(&mut message, case)?;
+    push_bytes(lines, b"::error ")?;
+    push_position(alloc, lines, source, number)?;
+    push_bytes(lines, b"title=")?;
+    push_property(lines, title(case))?;
+    push_bytes(lines, b"::")?;
+    push_message(lines, without_last(message.as_bytes()))?;
+    push_bytes(lines, b"\n")
+}

@@ -1,0 +1,61 @@
+//! The pieces of an input, on each of which a record may stand.
+ghost use Rattle.std.specs.Prelude.{◌≡◌, Some, None, Ok};
+ghost use Rattle.predicates_lines.specs.declared.taken_line.TakenLine.TheVariants.{Line, TooLong, End};
+ghost use Rattle.predicates_vet.specs.Pieces.{TakesPiece, IsOver};
+ghost use Rattle.predicates_vet.specs.declared.input_format.InputFormat.TheVariants.{Json};
+
+use crate::input_format::InputFormat;
+use predicates_lines::{RunFault, TakenLine, next_line_within};
+use predicates_records::{Position, TakenRecord, next_record};
+use std::io::BufRead;
+
+// Takes the next record, with a line feed behind it. For an array that the input does not close it
+// gives a `[`, which is no record.
+fn next_value<R: BufRead>(
+    input: &mut R,
+    position: &mut Position,
+    bytes: &mut Vec<u8>,
+    limit: u32,
+) -> Result<TakenLine, RunFault>
+    ensures piece { result ≡ Ok Line → TakesPiece Json limit (R.remaining input.old)
+        (R.remaining input.new) position.old position.new (Some bytes.new.items) }
+    ensures too_long { result ≡ Ok TooLong → TakesPiece Json limit (R.remaining input.old)
+        (R.remaining input.new) position.old position.new None }
+    ensures end { result ≡ Ok End → IsOver Json limit (R.remaining input.old)
+        (R.remaining input.new) position.old }
+{
+    match next_record(input, position, bytes, limit)? {
+        TakenRecord::Record => {
+            bytes.extend_from_slice(b"\n")?;
+            Ok(TakenLine::Line)
+        }
+        TakenRecord::TooLong => Ok(TakenLine::TooLong),
+        TakenRecord::Unclosed => {
+            bytes.clear();
+            bytes.extend_from_slice(b"[")?;
+            Ok(TakenLine::Line)
+        }
+        TakenRecord::End => Ok(TakenLine::End),
+    }
+}
+
+/// Takes the next piece: a line, or a record with a line feed behind it.
+pub(crate) fn next_piece<R: BufRead>(
+    input: &mut R,
+    format: InputFormat,
+    position: &mut Position,
+    bytes: &mut Vec<u8>,
+    limit: u32,
+) -> Result<TakenLine, RunFault>
+    ensures piece { result ≡ Ok Line → TakesPiece format limit (R.remaining input.old)
+        (R.remaining input.new) position.old position.new (Some bytes.new.items) }
+    ensures too_long { result ≡ Ok TooLong → TakesPiece format limit (R.remaining input.old)
+        (R.remaining input.new) position.old position.new None }
+    ensures end { result ≡ Ok End → IsOver format limit (R.remaining input.old)
+        (R.remaining input.new) position.old }
+{
+    match format {
+        InputFormat::JsonLines => next_line_within(input, bytes, limit),
+        InputFormat::Json => next_value(input, position, bytes, limit),
+    }
+}

@@ -1,0 +1,33 @@
+//! What is wrong with a line of a file of rules.
+use predicates_rules::fault::Fault;
+use predicates_rules::quoted::Quoted;
+use predicates_vet_check::PatternFault;
+use std::fmt;
+
+/// What is wrong with a line of a file of rules.
+#[derive(Debug, Drop)]
+pub enum RuleFault {
+    /// The line says no rule.
+    Unreadable(Fault),
+    /// The rule on this line, from 1, has a pattern that is no regular expression, or too large.
+    Pattern {
+        line: usize,
+        rule: String,
+        fault: PatternFault,
+    },
+}
+
+/// One line: `line 1, column 7: ..`, or `line 1, rule a: no regular expression: unclosed group at character 1: (`.
+impl fmt::Display for RuleFault {
+    fn fmt<W: fmt::Write>(&self, f: &mut fmt::Formatter<W>) -> fmt::Result {
+        match self {
+            RuleFault::Unreadable(fault) => write!(f, "{fault}"),
+            RuleFault::Pattern { line, rule, fault } => write!(
+                f,
+                "line {line}, rule {}: no regular expression: {fault}: {}",
+                Quoted(rule.as_bytes()),
+                Quoted(fault.pattern.as_bytes())
+            ),
+        }
+    }
+}

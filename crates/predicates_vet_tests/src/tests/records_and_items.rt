@@ -1,0 +1,180 @@
+//! Paths that begin at the record, within a list of it.
+use predicates_core::reflection::{Case, render};
+use predicates_core::{Predicate, PredicateChange};
+use predicates_rules::condition::{Comparison, Condition};
+use predicates_rules::expression::{Expression, Quantifier};
+use predicates_vet_check::check_of;
+use serde_json::Value;
+use std::alloc::{AllocError, Global};
+use std::test::Fail;
+
+// The expression `QUANTIFIER LIST (PATH == OTHER)`.
+fn over_list(
+    alloc: Global,
+    quantifier: Quantifier,
+    list: &str,
+    path: &str,
+    other: &str,
+) -> Result<Expression, AllocError> {
+    let other = String::from_str(alloc, other)?;
+    let condition = Condition::CompareWith(Comparison::Equal, other);
+    let test = Expression::Test(String::from_str(alloc, path)?, condition);
+    let list = String::from_str(alloc, list)?;
+    Ok(Expression::Quantified(quantifier, list, Box::new(alloc, test)?))
+}
+
+// Each item of `/k` for each of `/l`: `each /l (QUANTIFIER LIST (PATH == OTHER))`.
+fn within_list(alloc: Global, inner: Expression) -> Result<Expression, AllocError> {
+    let list = String::from_str(alloc, "/l")?;
+    Ok(Expression::Quantified(Quantifier::Each, list, Box::new(alloc, inner)?))
+}
+
+fn rendered(alloc: Global, found: Option<Case>) -> Result<String, AllocError> {
+    match found {
+        Some(case) => render(alloc, &case),
+        None => String::from_str(alloc, ""),
+    }
+}
+
+// Whether the record breaks the expression, for the first reason and with the change of these lines,
+// or keeps it where there are none. The change is looked at where lines are given.
+fn breaks(
+    alloc: Global,
+    expression: Expression,
+    record: &str,
+    reason: &str,
+    change: Option<&str>,
+) -> Result<bool, Fail> {
+    let value = Value::from_str(alloc, record)?;
+    let check = check_of(alloc, expression)?;
+    let holds = check.eval(alloc, &value)?;
+    let case = check.find_case(alloc, false, &value)?;
+    let told = rendered(alloc, case)?.as_str() == reason;
+    let turned = match change {
+        Some(lines) => {
+            let found = check.find_change(alloc, Some(false), &value)?;
+            rendered(alloc, found)?.as_str() == lines
+        }
+        None => true,
+    };
+    Ok(told && turned && holds == reason.is_empty())
+}
+
+// A list, a path and another, a record, and the reason for which it breaks the rule that each item
+// has both alike.
+const ROWS: [(&str, &str, &str, &str, &str); 9] = [
+    (
+        "/l",
+        "/c",
+        "^/c",
+        "{\"c\": 1, \"l\": [{\"c\": 1}, {\"c\": 2}]}",
+        "each /l (/c == ^/c) = false\n  - index: 1\n  item: /c == ^/c = false\n    - found: 2\n    - other: 1\n",
+    ),
+    (
+        "/l",
+        "^/c",
+        "/c",
+        "{\"c\": 1, \"l\": [{\"c\": 1}, {\"c\": 2}]}",
+        "each /l (^/c == /c) = false\n  - index: 1\n  item: ^/c == /c = false\n    - found: 1\n    - other: 2\n",
+    ),
+    (
+        "/l",
+        "/c",
+        "^/c",
+        "{\"c\": \"EUR\", \"l\": [{\"c\": \"EUR\"}, {\"c\": \"EUR\"}]}",
+        "",
+    ),
+    (
+        "/l",
+        "/c",
+        "^/c",
+        "{\"l\": [{\"c\": 1}]}",
+        "each /l (/c == ^/c) = false\n  - index: 0\n  item: /c == ^/c = false\n    - found: 1\n    - error: nothing at ^/c\n",
+    ),
+    (
+        "/l",
+        "^/c",
+        "/c",
+        "{\"l\": [{\"c\": 1}]}",
+        "each /l (^/c == /c) = false\n  - index: 0\n  item: ^/c == /c = false\n    - error: nothing at ^/c\n",
+    ),
+    (
+        "/l",
+        "/c",
+        "^/c",
+        "{\"c\": \"1\", \"l\": [{\"c\": 1}]}",
+        "each /l (/c == ^/c) = false\n  - index: 0\n  item: /c == ^/c = false\n    - found: 1\n    - other: \"1\"\n    - error: not comparable with ^/c\n",
+    ),
+    (
+        "/l",
+        "/c",
+        "^",
+        "{\"l\": [{\"c\": 1}]}",
+        "each /l (/c == ^/) = false\n  - index: 0\n  item: /c == ^/ = false\n    - found: 1\n    - other: {\"l\":[{\"c\":1}]}\n    - error: not comparable with ^\n",
+    ),
+    (
+        "^/l",
+        "",
+        "^/l/0",
+        "{\"l\": [3, 4]}",
+        "each ^/l (/ == ^/l/0) = false\n  - index: 1\n  item: / == ^/l/0 = false\n    - found: 4\n    - other: 3\n",
+    ),
+    (
+        "^/m",
+        "/c",
+        "^/c",
+        "{\"c\": 1}",
+        "each ^/m (/c == ^/c) = false\n  - error: nothing at ^/m\n",
+    ),
+];
+
+#[test]
+fn paths_from_the_record(rt: HostRuntime) -> Result<(), Fail> {
+    for (list, path, other, record, reason) in ROWS {
+        let each = over_list(rt.alloc(), Quantifier::Each, list, path, other)?;
+        assert!(rt; breaks(rt.alloc(), each, record, reason, None)?, "{record}");
+    }
+    Ok(())
+}
+
+// A list that begins at the record, within another: a quantifier, a record, the reason, and the
+// change.
+const WITHIN: [(Quantifier, &str, &str, &str); 4] = [
+    (
+        Quantifier::Any,
+        "{\"c\": 2, \"k\": [{\"x\": 1}, {\"x\": 3}], \"l\": [{\"k\": [{\"x\": 2}]}]}",
+        "each /l (any ^/k (/x == ^/c)) = false\n  - index: 0\n  item: any ^/k (/x == ^/c) = false\n    item: /x == ^/c = false\n      - found: 1\n      - other: 2\n    item: /x == ^/c = false\n      - found: 3\n      - other: 2\n",
+        "each /l (any ^/k (/x == ^/c)) = false\n  - index: 0\n  item: any ^/k (/x == ^/c) = false\n    - index: 0\n    item: /x == ^/c = false\n      - found: 1\n      - other: 2\n      - index: 0\n",
+    ),
+    (
+        Quantifier::Any,
+        "{\"c\": 2, \"k\": [{\"x\": 1}, {\"x\": 2}], \"l\": [{\"k\": []}]}",
+        "",
+        "",
+    ),
+    (
+        Quantifier::AtLeast(2),
+        "{\"c\": 2, \"k\": [{\"x\": 2}, {\"x\": 3}], \"l\": [0]}",
+        "each /l (at least 2 ^/k (/x == ^/c)) = false\n  - index: 0\n  item: at least 2 ^/k (/x == ^/c) = false\n    item: /x == ^/c = false\n      - found: 3\n      - other: 2\n      - index: 1\n",
+        "each /l (at least 2 ^/k (/x == ^/c)) = false\n  - index: 0\n  item: at least 2 ^/k (/x == ^/c) = false\n    - index: 0\n    item: /x == ^/c = false\n      - found: 3\n      - other: 2\n      - index: 1\n",
+    ),
+    (
+        Quantifier::AtLeast(1),
+        "{\"c\": 2, \"k\": [{\"x\": 2}, {\"x\": 3}], \"l\": [0, 1]}",
+        "",
+        "",
+    ),
+];
+
+#[test]
+fn lists_from_the_record(rt: HostRuntime) -> Result<(), Fail> {
+    for (quantifier, record, reason, change) in WITHIN {
+        let inner = over_list(rt.alloc(), quantifier, "^/k", "/x", "^/c")?;
+        let whole = within_list(rt.alloc(), inner)?;
+        assert!(rt;
+            breaks(rt.alloc(), whole, record, reason, Some(change))?,
+            "{record}"
+        );
+    }
+    Ok(())
+}
