@@ -1,11 +1,11 @@
 //! Stored functions and boxes.
 ghost use Rattle.std.specs.Prelude.{◌≡◌, nat_le};
 
-use super::predicate_calls::{leaf, over, sweep_calls};
 use predicates::BoxPredicate;
 use predicates::boolean::PredicateBooleanExt;
 use predicates::function::function;
 use predicates::str::{contains, is_empty};
+use predicates_sweep::{leaf, over, sweep_calls};
 use predicates_testing::text;
 use std::test::Fail;
 

@@ -1,12 +1,10 @@
 //! Predicates of JSON values, and cases as JSON.
-use super::answer::Answer;
-use super::predicate_calls::{leaf, over, sweep_calls};
-use super::sweep::Memory::Taken;
-use super::sweep::{Call, sweep};
 use predicates::ord::{eq, ge, le};
 use predicates::part::PredicatePartExt;
 use predicates_core::reflection::{Case, Product};
 use predicates_json::{PredicateJsonExt, case_json, has_pointer, is_null};
+use predicates_sweep::Memory::Taken;
+use predicates_sweep::{Answer, Call, leaf, over, sweep, sweep_calls};
 use predicates_testing::text;
 use serde_json::Value;
 use std::alloc::{AllocError, Global};
@@ -71,6 +69,8 @@ struct OverALeaf;
 
 impl Call for OverALeaf {
     type Operand = Case;
+
+    type Answer = Answer;
 
     fn operand(&self, alloc: Global) -> Result<Case, AllocError> {
         let leaf = Case::new(alloc, Some(text(alloc, "l")?), true);

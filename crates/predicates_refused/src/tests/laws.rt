@@ -1,8 +1,8 @@
 //! The laws, which take no memory.
-use super::sweep::refusing;
 use predicates::laws;
 use predicates::ord::lt;
 use predicates::prelude::*;
+use predicates_sweep::refusing;
 use std::test::Fail;
 
 #[test]

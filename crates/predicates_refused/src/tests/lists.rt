@@ -1,13 +1,13 @@
 //! Predicates of lists, of lists of rules, of outcomes and of lengths.
 ghost use Rattle.std.specs.Prelude.{◌≡◌, option_copied, slice_get};
 
-use super::predicate_calls::{Row, over, sweep_calls};
-use super::sweep::Memory::{GoesOn, Never};
 use predicates::iter::same_members;
 use predicates::ord::{OrdPredicate, eq, ge, le};
 use predicates::part::PredicatePartExt;
 use predicates::rules::{all_of, any_of};
 use predicates::threshold::{at_least, exactly};
+use predicates_sweep::Memory::{GoesOn, Never};
+use predicates_sweep::{Row, over, sweep_calls};
 use std::alloc::{AllocError, Global};
 use std::fmt::Write;
 use std::test::Fail;

@@ -1,13 +1,12 @@
 //! What takes memory to make a predicate, a case, a view of a text, or a snapshot.
-use super::answer::Answer;
-use super::sweep::Memory::{GoesOn, Taken};
-use super::sweep::{Call, sweep};
 use predicates::boolean::{NotPredicate, PredicateBooleanExt};
 use predicates::iter::{InPredicate, in_hash, in_iter, same_members};
 use predicates::{BoxPredicate, Predicate};
 use predicates_path::Snapshot;
+use predicates_sweep::Memory::{GoesOn, Taken};
+use predicates_sweep::{Answer, Call, Rendered, sweep};
 use predicates_testing::text;
-use predicates_text::{IsEmptyPredicate, is_empty, is_match};
+use predicates_text::{IsEmptyPredicate, RegexPredicate, is_empty, is_match};
 use std::alloc::{AllocError, Global};
 use std::fs::Files;
 use std::test::Fail;
@@ -27,6 +26,8 @@ enum Membership {
 
 impl Call for Membership {
     type Operand = InPredicate<i64>;
+
+    type Answer = Answer;
 
     fn operand(&self, alloc: Global) -> Result<InPredicate<i64>, AllocError> {
         in_iter(alloc, MEMBERS)
@@ -60,6 +61,21 @@ fn memberships(rt: HostRuntime) -> Result<(), Fail> {
     )
 }
 
+// A pattern that was made.
+#[derive(Drop)]
+struct Made {
+    pattern: RegexPredicate,
+}
+
+// Whether it matches a text.
+impl Rendered for Made {
+    fn rendered(&self, alloc: Global) -> Result<String, AllocError> {
+        let pattern = &self.pattern;
+        let found = pattern.eval(alloc, &text(alloc, "One Two")?)?;
+        format!(in alloc; "{pattern} {found}")
+    }
+}
+
 #[derive(Drop)]
 struct Pattern<'a> {
     pattern: &'a str,
@@ -68,13 +84,15 @@ struct Pattern<'a> {
 impl Call for Pattern<'_> {
     type Operand = String;
 
+    type Answer = Made;
+
     fn operand(&self, alloc: Global) -> Result<String, AllocError> {
         text(alloc, self.pattern)
     }
 
-    fn call(&self, alloc: Global, pattern: String) -> Result<Answer, AllocError> {
+    fn call(&self, alloc: Global, pattern: String) -> Result<Made, AllocError> {
         match is_match(alloc, pattern) {
-            Ok(found) => Ok(Answer::Pattern(found)),
+            Ok(pattern) => Ok(Made { pattern }),
             Err(_) => Err(AllocError),
         }
     }
@@ -103,6 +121,8 @@ struct Boxed<'a> {
 impl Call for Boxed<'_> {
     type Operand = Box<NotPredicate<IsEmptyPredicate, String>>;
 
+    type Answer = Answer;
+
     fn operand(&self, alloc: Global) -> Result<Self::Operand, AllocError> {
         Ok(Box::new(alloc, is_empty().not())?)
     }
@@ -110,6 +130,25 @@ impl Call for Boxed<'_> {
     fn call(&self, alloc: Global, held: Self::Operand) -> Result<Answer, AllocError> {
         let boxed = BoxPredicate::new(alloc, held)?;
         Ok(Answer::Verdict(boxed.eval(alloc, self.item)?))
+    }
+}
+
+// A snapshot that was taken.
+#[derive(Drop)]
+struct Seen {
+    snapshot: Snapshot,
+}
+
+// How many bytes of content there are, or the fault.
+impl Rendered for Seen {
+    fn rendered(&self, alloc: Global) -> Result<String, AllocError> {
+        let seen = &self.snapshot;
+        let (path, plain, followed) = (seen.path(), seen.plain(), seen.followed());
+        let bytes = match seen.content() {
+            Ok(bytes) => Ok(bytes.len()),
+            Err(fault) => Err(fault),
+        };
+        format!(in alloc; "{path} {plain:?} {followed:?} {bytes:?}")
     }
 }
 
@@ -122,12 +161,15 @@ struct Taking<'a, R> {
 impl<R: Files + AllocGlobal> Call for Taking<'_, R> {
     type Operand = ();
 
+    type Answer = Seen;
+
     fn operand(&self, _alloc: Global) -> Result<(), AllocError> {
         Ok(())
     }
 
-    fn call(&self, _alloc: Global, _operand: ()) -> Result<Answer, AllocError> {
-        Ok(Answer::Snapshot(Snapshot::take(self.rt, self.rt.alloc(), self.path)?))
+    fn call(&self, _alloc: Global, _operand: ()) -> Result<Seen, AllocError> {
+        let snapshot = Snapshot::take(self.rt, self.rt.alloc(), self.path)?;
+        Ok(Seen { snapshot })
     }
 }
 

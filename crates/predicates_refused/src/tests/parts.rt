@@ -1,9 +1,9 @@
 //! Predicates of parts of an item.
 ghost use Rattle.std.specs.Prelude.{◌≡◌};
 
-use super::predicate_calls::{over, sweep_calls};
 use predicates::ord::ge;
 use predicates::part::{Field, PredicatePartExt};
+use predicates_sweep::{over, sweep_calls};
 use std::test::Fail;
 
 #[derive(Drop)]

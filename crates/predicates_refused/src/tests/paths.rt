@@ -1,12 +1,12 @@
 //! Tests of what stands at a path.
-use super::predicate_calls::{leaf, over, sweep_calls};
-use super::sweep::Memory::{Perhaps, Taken};
 use predicates::ord::eq;
 use predicates_path::PathFault::{NotFound, PermissionDenied};
 use predicates_path::{
     FileType, FileTypePredicate, PathFault, PredicateFileContentExt, Snapshot, eq_file, exists,
     is_file, is_symlink, missing,
 };
+use predicates_sweep::Memory::{Perhaps, Taken};
+use predicates_sweep::{leaf, over, sweep_calls};
 use predicates_testing::text;
 use predicates_text::PredicateStrExt;
 use std::alloc::{AllocError, Global};

@@ -1,6 +1,6 @@
 //! Patterns, whose searches may go on without some of their memory.
-use super::predicate_calls::{Row, leaf, sweep_calls};
-use super::sweep::Memory::GoesOn;
+use predicates_sweep::Memory::GoesOn;
+use predicates_sweep::{Row, leaf, sweep_calls};
 use predicates_testing::text;
 use predicates_text::{RegexPredicate, is_match};
 use std::alloc::Global;

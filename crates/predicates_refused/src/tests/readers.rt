@@ -1,14 +1,13 @@
 //! What reads and evaluates without memory.
 use super::paths::file;
-use super::sweep::refusing;
 use predicates::boolean::PredicateBooleanExt;
 use predicates::constant::always;
 use predicates::iter::{Steps, in_iter};
 use predicates::ord::{ge, le, lt};
 use predicates_core::reflection::{Case, CaseChild, Child, Parameter, Product};
 use predicates_core::{Predicate, default_find_case};
-use predicates_explain::number;
 use predicates_path::{FileType, PathFault};
+use predicates_sweep::refusing;
 use predicates_testing::text;
 use std::test::Fail;
 
@@ -38,9 +37,6 @@ fn searches(rt: HostRuntime) -> Result<(), Fail> {
     let begun = refusing(alloc, "search_counted");
     let found = sorted.search_counted(&3, &mut steps) && !sorted.search_counted(&2, &mut steps);
     let right = found && steps.count() == 2;
-    begun.end(&rt, right)?;
-    let begun = refusing(alloc, "number");
-    let right = number(b"-7") == Some(-7) && number(b"7 ") == None;
     begun.end(&rt, right)
 }
 

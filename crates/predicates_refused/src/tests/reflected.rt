@@ -1,9 +1,8 @@
 //! Cases, descriptions and their lines, and views of texts.
-use super::answer::Answer;
-use super::sweep::Memory::{Never, Taken};
-use super::sweep::{Call, sweep};
 use predicates::boolean::PredicateBooleanExt;
 use predicates_core::reflection::{Case, Product, describe, render, render_onto};
+use predicates_sweep::Memory::{Never, Taken};
+use predicates_sweep::{Answer, Call, sweep};
 use predicates_testing::text;
 use predicates_text::{case_folded, is_empty, lines_even, trimmed};
 use std::alloc::{AllocError, Global};
@@ -20,6 +19,8 @@ struct AddProduct;
 
 impl Call for AddProduct {
     type Operand = (Case, Product);
+
+    type Answer = Answer;
 
     fn operand(&self, alloc: Global) -> Result<(Case, Product), AllocError> {
         let case = Case::new(alloc, None, false);
@@ -40,6 +41,8 @@ struct AddChild {
 
 impl Call for AddChild {
     type Operand = (Case, Case);
+
+    type Answer = Answer;
 
     fn operand(&self, alloc: Global) -> Result<(Case, Case), AllocError> {
         let case = leaf(alloc, "a")?;
@@ -92,6 +95,8 @@ struct Rendering {
 impl Call for Rendering {
     type Operand = (String, Case);
 
+    type Answer = Answer;
+
     fn operand(&self, alloc: Global) -> Result<(String, Case), AllocError> {
         let case = leaf(alloc, "a")?.add_child("left", leaf(alloc, "b")?)?;
         Ok((text(alloc, "")?, case))
@@ -132,6 +137,8 @@ struct Describing;
 impl Call for Describing {
     type Operand = ();
 
+    type Answer = Answer;
+
     fn operand(&self, _alloc: Global) -> Result<(), AllocError> {
         Ok(())
     }
@@ -159,6 +166,8 @@ struct View<'a> {
 
 impl Call for View<'_> {
     type Operand = ();
+
+    type Answer = Answer;
 
     fn operand(&self, _alloc: Global) -> Result<(), AllocError> {
         Ok(())

@@ -1,18 +1,14 @@
-//! The calls of `check`, and the filters over lines.
-use super::answer::Answer;
-use super::sweep::Memory::{Never, Taken};
-use super::sweep::{Call, sweep};
-use super::words::check_of;
+//! The calls of `check`.
 use predicates::boolean::PredicateBooleanExt;
 use predicates::check::{
     Expectation, Unmet, add_failure, check_all, expect, failures, require, require_all, require_as,
-    sift,
+    required_change, sift,
 };
 use predicates::ord::{OrdPredicate, ge, le};
 use predicates_core::reflection::render_onto;
-use predicates_explain::{RunFault, TextCheck, filter_lines, filter_with_reasons};
+use predicates_sweep::Memory::{Never, Taken};
+use predicates_sweep::{Answer, Call, sweep};
 use std::alloc::{AllocError, Global};
-use std::str;
 use std::test::Fail;
 
 // A requirement, with a label or without, that the number is between 5 and 10.
@@ -24,6 +20,8 @@ struct Requiring {
 
 impl Call for Requiring {
     type Operand = ();
+
+    type Answer = Answer;
 
     fn operand(&self, _alloc: Global) -> Result<(), AllocError> {
         Ok(())
@@ -83,6 +81,8 @@ struct RequiringAll {
 impl Call for RequiringAll {
     type Operand = Vec<Expectation<i64, OrdPredicate<i64>>>;
 
+    type Answer = Answer;
+
     fn operand(&self, alloc: Global) -> Result<Self::Operand, AllocError> {
         let mut expected = Vec::new(alloc);
         for (label, number) in [("a", 10i64), ("b", 20), ("c", 7)] {
@@ -122,6 +122,7 @@ enum Failing {
     Rules,
     Items,
     Expectations,
+    Changes,
 }
 
 fn failing_rules(alloc: Global, out: &mut String) -> Result<(), AllocError> {
@@ -154,8 +155,19 @@ fn failing_expectations(alloc: Global, out: &mut String) -> Result<(), AllocErro
     Ok(())
 }
 
+fn failing_changes(alloc: Global, out: &mut String) -> Result<(), AllocError> {
+    for least in [5i64, 10] {
+        if let Some(case) = required_change(alloc, &ge(least), &7)? {
+            render_onto(out, &case)?;
+        }
+    }
+    Ok(())
+}
+
 impl Call for Failing {
     type Operand = ();
+
+    type Answer = Answer;
 
     fn operand(&self, _alloc: Global) -> Result<(), AllocError> {
         Ok(())
@@ -167,12 +179,13 @@ impl Call for Failing {
             Failing::Rules => failing_rules(alloc, &mut out)?,
             Failing::Items => failing_items(alloc, &mut out)?,
             Failing::Expectations => failing_expectations(alloc, &mut out)?,
+            Failing::Changes => failing_changes(alloc, &mut out)?,
         }
         Ok(Answer::Text(out))
     }
 }
 
-const FAILING: [(&str, Failing, &str); 3] = [
+const FAILING: [(&str, Failing, &str); 4] = [
     (
         "failures",
         Failing::Rules,
@@ -188,6 +201,11 @@ const FAILING: [(&str, Failing, &str); 3] = [
         Failing::Expectations,
         "a: var >= 20 = false\n  - var: 10\n",
     ),
+    (
+        "required_change",
+        Failing::Changes,
+        "var >= 10 = false\n  - var: 7\n",
+    ),
 ];
 
 #[test]
@@ -196,62 +214,4 @@ fn reports(rt: HostRuntime) -> Result<(), Fail> {
         sweep(&rt, name, &call, expected, Taken)?;
     }
     Ok(())
-}
-
-// A filter by a check of texts, its counts, and what it tells.
-#[derive(Drop)]
-struct Filtering<'a> {
-    check: &'a TextCheck,
-    tells: bool,
-}
-
-impl Call for Filtering<'_> {
-    type Operand = ();
-
-    fn operand(&self, _alloc: Global) -> Result<(), AllocError> {
-        Ok(())
-    }
-
-    fn call(&self, alloc: Global, _operand: ()) -> Result<Answer, AllocError> {
-        let mut input = b"a\nb\n\xff\n a".as_slice();
-        let (mut written, mut told) = (Vec::new(alloc), Vec::new(alloc));
-        let ended = if self.tells {
-            filter_with_reasons(alloc, self.check, true, &mut input, &mut written, &mut told)
-        } else {
-            filter_lines(alloc, self.check, true, &mut input, &mut written)
-        };
-        match ended {
-            Ok(counts) => {
-                let (lines, bad) = (counts.written, counts.not_utf8);
-                let text = str::from_utf8(written.as_slice()).unwrap_or("no text");
-                let told = str::from_utf8(told.as_slice()).unwrap_or("no text");
-                Ok(Answer::Text(format!(in alloc; "{lines} {bad}\n{text}{told}")?))
-            }
-            Err(RunFault::NoMemory) => Err(AllocError),
-            Err(_) => Ok(Answer::OtherFault),
-        }
-    }
-}
-
-#[test]
-fn filters(rt: HostRuntime) -> Result<(), Fail> {
-    let check = check_of(rt.alloc(), &["starts=a", "trim"])?;
-    let check = &check;
-    sweep(
-        &rt,
-        "filter_lines",
-        &Filtering {
-            check,
-            tells: false,
-        },
-        "2 1\na\n a",
-        Taken,
-    )?;
-    sweep(
-        &rt,
-        "filter_with_reasons",
-        &Filtering { check, tells: true },
-        "2 1\na\n aline 2: false\nvar.starts_with(\"a\") = false\n  - var: b\nline 3: not UTF-8\n",
-        Taken,
-    )
 }

@@ -1,8 +1,7 @@
 //! Words of a check of texts.
-use super::answer::Answer;
-use super::sweep::Memory::{GoesOn, Never, Taken};
-use super::sweep::{Call, sweep};
-use predicates_explain::{TextCheck, Word, WordFault, WordsError, apply_word, read_word};
+use predicates_explain::{TextCheck, Word, WordFault, WordsError, apply_word, number, read_word};
+use predicates_sweep::Memory::{GoesOn, Never, Taken};
+use predicates_sweep::{Answer, Call, Rendered, refusing, sweep};
 use std::alloc::{AllocError, Global};
 use std::test::Fail;
 
@@ -21,6 +20,18 @@ pub fn check_of(alloc: Global, words: &[&str]) -> Result<TextCheck, WordsError> 
     TextCheck::from_words(alloc, texts.as_slice())
 }
 
+// A word that was read.
+#[derive(Drop)]
+struct ReadWord {
+    word: Option<Word>,
+}
+
+impl Rendered for ReadWord {
+    fn rendered(&self, alloc: Global) -> Result<String, AllocError> {
+        format!(in alloc; "{:?}", self.word)
+    }
+}
+
 #[derive(Drop)]
 struct Reading<'a> {
     token: &'a str,
@@ -29,12 +40,15 @@ struct Reading<'a> {
 impl Call for Reading<'_> {
     type Operand = ();
 
+    type Answer = ReadWord;
+
     fn operand(&self, _alloc: Global) -> Result<(), AllocError> {
         Ok(())
     }
 
-    fn call(&self, alloc: Global, _operand: ()) -> Result<Answer, AllocError> {
-        Ok(Answer::Word(read_word(alloc, self.token)?))
+    fn call(&self, alloc: Global, _operand: ()) -> Result<ReadWord, AllocError> {
+        let word = read_word(alloc, self.token)?;
+        Ok(ReadWord { word })
     }
 }
 
@@ -72,6 +86,31 @@ fn checks_of(alloc: Global, tokens: &[&str]) -> Result<Vec<TextCheck>, AllocErro
     Ok(checks)
 }
 
+// The checks that are there after a word, unless it was refused for another reason than memory.
+#[derive(Drop)]
+struct Applied {
+    checks: Option<Vec<TextCheck>>,
+}
+
+// A line for each check.
+fn lines_of(alloc: Global, checks: &[TextCheck]) -> Result<String, AllocError> {
+    let mut lines = String::new(alloc);
+    for check in checks {
+        let line = format!(in alloc; "{check}\n")?;
+        lines.push_str(line.as_str())?;
+    }
+    Ok(lines)
+}
+
+impl Rendered for Applied {
+    fn rendered(&self, alloc: Global) -> Result<String, AllocError> {
+        match &self.checks {
+            Some(checks) => lines_of(alloc, checks.as_slice()),
+            None => String::from_str(alloc, "another fault"),
+        }
+    }
+}
+
 // A word, applied to the checks of other tokens.
 #[derive(Drop)]
 struct Applying<'a> {
@@ -82,18 +121,22 @@ struct Applying<'a> {
 impl Call for Applying<'_> {
     type Operand = (Vec<TextCheck>, Word);
 
+    type Answer = Applied;
+
     fn operand(&self, alloc: Global) -> Result<(Vec<TextCheck>, Word), AllocError> {
         let word = read_word(alloc, self.token)?.ok_or(AllocError)?;
         Ok((checks_of(alloc, self.before)?, word))
     }
 
-    fn call(&self, alloc: Global, operand: (Vec<TextCheck>, Word)) -> Result<Answer, AllocError> {
+    fn call(&self, alloc: Global, operand: (Vec<TextCheck>, Word)) -> Result<Applied, AllocError> {
         let (mut stack, word) = operand;
         match apply_word(alloc, &mut stack, word) {
-            Ok(()) => Ok(Answer::Checks(stack)),
+            Ok(()) => Ok(Applied {
+                checks: Some(stack),
+            }),
             Err(WordFault::NoMemory) => Err(AllocError),
             Err(WordFault::Pattern) if self.token.starts_with("match=") => Err(AllocError),
-            Err(_) => Ok(Answer::OtherFault),
+            Err(_) => Ok(Applied { checks: None }),
         }
     }
 }
@@ -162,6 +205,8 @@ struct FromWords<'a> {
 impl Call for FromWords<'_> {
     type Operand = Vec<String>;
 
+    type Answer = Answer;
+
     fn operand(&self, alloc: Global) -> Result<Vec<String>, AllocError> {
         texts_of(alloc, self.words)
     }
@@ -188,4 +233,11 @@ fn checks_from_words(rt: HostRuntime) -> Result<(), Fail> {
         sweep(&rt, expected, &FromWords { words }, expected, Taken)?;
     }
     Ok(())
+}
+
+#[test]
+fn numbers(rt: HostRuntime) -> Result<(), Fail> {
+    let begun = refusing(rt.alloc(), "number");
+    let right = number(b"-7") == Some(-7) && number(b"7 ") == None;
+    begun.end(&rt, right)
 }

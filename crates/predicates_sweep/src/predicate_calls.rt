@@ -1,10 +1,10 @@
 //! The calls of a predicate on an item, with requests for memory refused in turn.
-use super::answer::Answer;
-use super::sweep::{Call, Memory, sweep};
+use crate::answer::Answer;
+use crate::call::{Call, Memory};
+use crate::refusals::sweep;
 use predicates_core::PredicateChange;
 use predicates_core::reflection::render;
 use std::alloc::{AllocError, Global};
-use std::process::Abort;
 use std::test::Fail;
 
 // One call of a predicate.
@@ -12,6 +12,7 @@ use std::test::Fail;
 enum Called {
     Verdict,
     Case(bool),
+    Explained,
     Change(bool),
     Parameters,
     Children,
@@ -30,6 +31,8 @@ impl<P: PredicateChange<Item>, Item> Call for Question<'_, P, Item> {
 
     type Operand = ();
 
+    type Answer = Answer;
+
     fn operand(&self, _alloc: Global) -> Result<(), AllocError> {
         Ok(())
     }
@@ -39,6 +42,10 @@ impl<P: PredicateChange<Item>, Item> Call for Question<'_, P, Item> {
             Called::Verdict => Ok(Answer::Verdict(self.predicate.eval(alloc, self.item)?)),
             Called::Case(expected) => {
                 Ok(Answer::Case(self.predicate.find_case(alloc, expected, self.item)?))
+            }
+            Called::Explained => {
+                let found = self.predicate.explain(alloc, None, self.item)?;
+                Ok(Answer::Case(found))
             }
             Called::Change(wanted) => {
                 let change = self.predicate.find_change(alloc, Some(wanted), self.item)?;
@@ -115,7 +122,7 @@ fn change_lines<P: PredicateChange<Item>, Item>(
     }
 }
 
-fn sweep_change<R: Abort + AllocGlobal + Print, P: PredicateChange<Item>, Item>(
+fn sweep_change<R: AllocGlobal + Print, P: PredicateChange<Item>, Item>(
     rt: &R,
     predicate: &P,
     item: &Item,
@@ -134,9 +141,9 @@ fn sweep_change<R: Abort + AllocGlobal + Print, P: PredicateChange<Item>, Item>(
     sweep(rt, name.as_str(), &question, lines.as_str(), row.case)
 }
 
-/// Sweeps over `eval`, `find_case` for either truth, `find_change`, `parameters` and `children` of
-/// the predicate.
-pub fn sweep_calls<R: Abort + AllocGlobal + Print, P: PredicateChange<Item>, Item>(
+/// Sweeps over `eval`, `find_case` for either truth, `explain` of whichever it is, `find_change`,
+/// `parameters` and `children` of the predicate.
+pub fn sweep_calls<R: AllocGlobal + Print, P: PredicateChange<Item>, Item>(
     rt: &R,
     predicate: &P,
     item: &Item,
@@ -156,6 +163,7 @@ pub fn sweep_calls<R: Abort + AllocGlobal + Print, P: PredicateChange<Item>, Ite
             "none",
             row.opposite,
         ),
+        ("explain", Called::Explained, row.lines, row.case),
         (
             "parameters",
             Called::Parameters,

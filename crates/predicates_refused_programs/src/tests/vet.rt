@@ -1,9 +1,9 @@
 //! Rules of a file, and runs over records.
-use super::answer::Answer;
-use super::sweep::Memory::{self, GoesOn, Perhaps, Taken};
-use super::sweep::{Call, sweep};
+use super::ended_run::EndedRun;
+use predicates_sweep::Memory::{self, GoesOn, Perhaps, Taken};
+use predicates_sweep::{Answer, Call, sweep};
 use predicates_vet::settings::{Report, Settings};
-use predicates_vet::{Job, ReadChecksError, RunFault, Tally, read_checks, run_records};
+use predicates_vet::{Job, ReadChecksError, RuleFault, RunFault, Tally, read_checks, run_records};
 use predicates_vet_check::RuleCheck;
 use std::alloc::{AllocError, Global};
 use std::test::Fail;
@@ -25,8 +25,16 @@ fn lines_of(alloc: Global, checks: &[RuleCheck]) -> Result<String, AllocError> {
     Ok(lines)
 }
 
+fn has_no_pattern(faults: &[RuleFault]) -> bool {
+    faults
+        .iter()
+        .all(|fault| matches!(fault, RuleFault::Unreadable(_)))
+}
+
 impl Call for Reading<'_> {
     type Operand = ();
+
+    type Answer = Answer;
 
     fn operand(&self, _alloc: Global) -> Result<(), AllocError> {
         Ok(())
@@ -35,7 +43,7 @@ impl Call for Reading<'_> {
     fn call(&self, alloc: Global, _operand: ()) -> Result<Answer, AllocError> {
         match read_checks(alloc, self.rules) {
             Ok(checks) => Ok(Answer::Text(lines_of(alloc, checks.as_slice())?)),
-            Err(ReadChecksError::Unreadable(faults)) => {
+            Err(ReadChecksError::Unreadable(faults)) if has_no_pattern(&faults) => {
                 let error = ReadChecksError::Unreadable(faults);
                 Ok(Answer::Text(format!(in alloc; "{error}")?))
             }
@@ -91,17 +99,10 @@ struct Running<'a> {
     input: &'a [u8],
 }
 
-// A run over an input without a name.
-fn job_of<'r>(rules: &'r [RuleCheck], settings: &'r Settings) -> Job<'r> {
-    Job {
-        rules,
-        settings,
-        source: None,
-    }
-}
-
 impl Call for Running<'_> {
     type Operand = (Vec<RuleCheck>, Settings);
+
+    type Answer = EndedRun;
 
     fn operand(&self, alloc: Global) -> Result<(Vec<RuleCheck>, Settings), AllocError> {
         let Ok(checks) = read_checks(alloc, self.rules) else {
@@ -119,12 +120,12 @@ impl Call for Running<'_> {
         &self,
         alloc: Global,
         operand: (Vec<RuleCheck>, Settings),
-    ) -> Result<Answer, AllocError> {
+    ) -> Result<EndedRun, AllocError> {
         let (checks, settings) = operand;
         let mut reader = self.input;
         let mut written = Vec::new(alloc);
         let mut messages = Vec::new(alloc);
-        let job = job_of(checks.as_slice(), &settings);
+        let job = Job::new(checks.as_slice(), &settings);
         let mut tally = Tally::of_rules(alloc, checks.as_slice(), Some(9))?;
         let ended = run_records(
             alloc,
@@ -137,10 +138,10 @@ impl Call for Running<'_> {
         match ended {
             Ok(()) => {
                 written.extend_from_slice(&messages)?;
-                Ok(Answer::Run(tally.counts.status() == 0, written))
+                Ok(EndedRun::Wrote(tally.counts.status() == 0, written))
             }
             Err(RunFault::NoMemory) => Err(AllocError),
-            Err(_) => Ok(Answer::OtherFault),
+            Err(_) => Ok(EndedRun::OtherFault),
         }
     }
 }

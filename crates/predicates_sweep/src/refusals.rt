@@ -1,41 +1,12 @@
-//! A call whose requests for memory are refused in turn.
-use super::allocator;
-use super::answer::{Answer, rendered};
+//! Refuses each request of a call in turn.
+use crate::allocator;
+use crate::call::{Call, Memory, Rendered};
+use crate::wrong::require;
 use std::alloc::{AllocError, Global};
-use std::process::Abort;
 use std::test::Fail;
 
 // More requests than any of the calls makes.
 const MOST: u16 = 4_000;
-
-/// A call that may request memory.
-pub trait Call {
-    // It may be made.
-    ghost ready: { Self → Type 0 } = { λ _. Unit {0} };
-
-    /// What the call takes and uses up.
-    type Operand: Drop;
-
-    /// Makes the operand, with ample memory.
-    fn operand(&self, alloc: Global) -> Result<Self::Operand, AllocError>;
-
-    /// Makes the call. Each error that says that memory ran out comes as this one.
-    fn call(&self, alloc: Global, operand: Self::Operand) -> Result<Answer, AllocError>
-        requires { ready self.now };
-}
-
-/// What a call does with a request that is refused.
-#[derive(Clone, Copy, PartialEq)]
-pub enum Memory {
-    /// It makes none.
-    Never,
-    /// It answers that memory ran out.
-    Taken,
-    /// That, where it requests any.
-    Perhaps,
-    /// A library under it may go on by other means; the answer is then right.
-    GoesOn,
-}
 
 // What came of a run with one refusal or more.
 #[derive(Clone, Copy)]
@@ -54,12 +25,13 @@ fn is_right<C: Call>(alloc: Global, call: &C, expected: &str) -> Result<bool, Al
 }
 
 // Whether the answer reads so.
-fn reads_as(alloc: Global, answer: &Answer, expected: &str) -> Result<bool, AllocError> {
-    Ok(rendered(alloc, answer)?.as_str() == expected)
+fn reads_as<A: Rendered>(alloc: Global, answer: &A, expected: &str) -> Result<bool, AllocError> {
+    let text = answer.rendered(alloc)?;
+    Ok(text.as_str() == expected)
 }
 
 // Makes the call once, with a request refused alone or with all after it.
-fn run<R: Abort + AllocGlobal, C: Call>(
+fn run<R: AllocGlobal, C: Call>(
     rt: &R,
     name: &str,
     call: &C,
@@ -79,19 +51,22 @@ fn run<R: Abort + AllocGlobal, C: Call>(
         Ok(answer) => Some(reads_as(alloc, &answer, expected)?),
         Err(AllocError) => None,
     };
-    assert!(rt;
-        found != Some(false),
-        "{name}: answered after refusal {nth}"
-    );
     let answered = found.is_some();
-    assert!(rt;
+    require(alloc, name, found != Some(false), "another answer", nth)?;
+    require(
+        alloc,
+        name,
         allocator::is_level(alloc),
-        "{name}: blocks are left after refusal {nth}"
-    );
-    assert!(rt;
+        "blocks are left",
+        nth,
+    )?;
+    require(
+        alloc,
+        name,
         answered || refused,
-        "{name}: no memory, though none was refused"
-    );
+        "no memory, though none was refused",
+        nth,
+    )?;
     Ok(Outcome { refused, answered })
 }
 
@@ -104,7 +79,7 @@ struct Counts {
 }
 
 // Makes the call with each of its requests refused in turn, alone or with all after it.
-fn refuse_each<R: Abort + AllocGlobal, C: Call>(
+fn refuse_each<R: AllocGlobal, C: Call>(
     rt: &R,
     name: &str,
     call: &C,
@@ -119,10 +94,14 @@ fn refuse_each<R: Abort + AllocGlobal, C: Call>(
         if !made.refused {
             break;
         }
-        assert!(rt;
-            is_right(rt.alloc(), call, expected)?,
-            "{name}: another answer after refusal {nth}, with ample memory"
-        );
+        let right = is_right(rt.alloc(), call, expected)?;
+        require(
+            rt.alloc(),
+            name,
+            right,
+            "another answer with ample memory",
+            nth,
+        )?;
         counts.requests = counts.requests.max(u64::from(nth));
         counts.refusals = counts.refusals.saturating_add(1);
         counts.went_on = counts.went_on.saturating_add(u64::from(made.answered));
@@ -135,7 +114,7 @@ fn refuse_each<R: Abort + AllocGlobal, C: Call>(
 ///
 /// Each run answers that memory ran out or what it should, leaves no block, and is right when it is
 /// made once more. Over an allocator that refuses nothing the call is made once.
-pub fn sweep<R: Abort + AllocGlobal + Print, C: Call>(
+pub fn sweep<R: AllocGlobal + Print, C: Call>(
     rt: &R,
     name: &str,
     call: &C,
@@ -144,10 +123,8 @@ pub fn sweep<R: Abort + AllocGlobal + Print, C: Call>(
 ) -> Result<(), Fail>
     requires { C.ready call.now }
 {
-    assert!(rt;
-        is_right(rt.alloc(), call, expected)?,
-        "{name}: another answer"
-    );
+    let right = is_right(rt.alloc(), call, expected)?;
+    require(rt.alloc(), name, right, "another answer", 0)?;
     if !allocator::listens(rt.alloc()) {
         return Ok(());
     }
@@ -162,7 +139,7 @@ pub fn sweep<R: Abort + AllocGlobal + Print, C: Call>(
 }
 
 // Prints the counts, which are as the call promises.
-fn report<R: Abort + AllocGlobal + Print>(
+fn report<R: AllocGlobal + Print>(
     rt: &R,
     name: &str,
     counts: Counts,
@@ -177,49 +154,23 @@ fn report<R: Abort + AllocGlobal + Print>(
         "{name}: {requests} requests, {refusals} refusals, {went_on} times it went on, 0 blocks left"
     )?;
     let errors = refusals.saturating_sub(went_on);
-    assert!(rt;
+    let is_met = errors > 0 || memory == Memory::Perhaps || memory == Memory::Never;
+    let few = requests.saturating_add(1) < u64::from(MOST);
+    let alloc = rt.alloc();
+    require(
+        alloc,
+        name,
         memory != Memory::Never || requests == 0,
-        "{name}: it requests memory"
-    );
-    assert!(rt;
-        errors > 0 || memory == Memory::Perhaps || memory == Memory::Never,
-        "{name}: no refusal was met"
-    );
-    assert!(rt;
+        "it requests memory",
+        0,
+    )?;
+    require(alloc, name, is_met, "no refusal was met", 0)?;
+    require(
+        alloc,
+        name,
         memory == Memory::GoesOn || went_on == 0,
-        "{name}: it went on"
-    );
-    assert!(rt;
-        requests.saturating_add(1) < u64::from(MOST),
-        "{name}: too many requests"
-    );
-    Ok(())
-}
-
-/// The time in which no request for memory may be made.
-#[derive(Drop)]
-pub struct Without<'a> {
-    name: &'a str,
-}
-
-/// From here on each request is refused.
-pub fn refusing(alloc: Global, name: &str) -> Without<'_> {
-    allocator::refuse(alloc, 1, false);
-    Without { name }
-}
-
-impl Without<'_> {
-    /// No request was made, and the answer is right.
-    pub fn end<R: Abort + AllocGlobal + Print>(self, rt: &R, right: bool) -> Result<(), Fail> {
-        let alloc = rt.alloc();
-        let listens = allocator::listens(alloc);
-        let requested = listens && allocator::was_refused(alloc);
-        let name = self.name;
-        assert!(rt; !requested, "{name}: it requests memory");
-        assert!(rt; right, "{name}: another answer");
-        if listens {
-            println!(rt; "{name}: without memory")?;
-        }
-        Ok(())
-    }
+        "it went on",
+        0,
+    )?;
+    require(alloc, name, few, "too many requests", 0)
 }

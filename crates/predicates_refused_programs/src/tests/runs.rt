@@ -1,11 +1,11 @@
 //! Blocks, and runs over lines of an input.
-use super::answer::Answer;
-use super::sweep::Memory::{self, GoesOn, Never, Perhaps, Taken};
-use super::sweep::{Call, sweep};
+use super::ended_run::EndedRun;
 use super::words::check_of;
 use predicates::boolean::PredicateBooleanExt;
 use predicates::ord::{ge, le};
 use predicates_explain::{RunFault, TextCheck, explain_one, explain_total, run_between, run_text};
+use predicates_sweep::Memory::{self, GoesOn, Never, Perhaps, Taken};
+use predicates_sweep::{Answer, Call, sweep};
 use std::alloc::{AllocError, Global};
 use std::test::Fail;
 
@@ -26,6 +26,8 @@ struct Explaining {
 
 impl Call for Explaining {
     type Operand = ();
+
+    type Answer = Answer;
 
     fn operand(&self, _alloc: Global) -> Result<(), AllocError> {
         Ok(())
@@ -61,11 +63,11 @@ fn blocks(rt: HostRuntime) -> Result<(), Fail> {
 }
 
 // The answer of a run that wrote this.
-fn answer_of(ended: Result<bool, RunFault>, written: Vec<u8>) -> Result<Answer, AllocError> {
+fn answer_of(ended: Result<bool, RunFault>, written: Vec<u8>) -> Result<EndedRun, AllocError> {
     match ended {
-        Ok(all) => Ok(Answer::Run(all, written)),
+        Ok(all) => Ok(EndedRun::Wrote(all, written)),
         Err(RunFault::NoMemory) => Err(AllocError),
-        Err(_) => Ok(Answer::OtherFault),
+        Err(_) => Ok(EndedRun::OtherFault),
     }
 }
 
@@ -79,11 +81,13 @@ struct Run<'a> {
 impl Call for Run<'_> {
     type Operand = ();
 
+    type Answer = EndedRun;
+
     fn operand(&self, _alloc: Global) -> Result<(), AllocError> {
         Ok(())
     }
 
-    fn call(&self, alloc: Global, _operand: ()) -> Result<Answer, AllocError> {
+    fn call(&self, alloc: Global, _operand: ()) -> Result<EndedRun, AllocError> {
         let mut reader = self.input;
         let mut written = Vec::new(alloc);
         let ended = match self.check {

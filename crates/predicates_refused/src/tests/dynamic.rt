@@ -1,0 +1,332 @@
+//! Checks whose shape comes at run time.
+ghost use Rattle.std.specs.Prelude.{Some, [], ◌∷◌, codes};
+
+use super::makers_without_memory::holds;
+use predicates::ord::{OrdPredicate, ge, le, lt};
+use predicates::{PredicateChange, Total};
+use predicates_dynamic::{Check, Members};
+use predicates_sweep::Memory::Taken;
+use predicates_sweep::{
+    Answer, Call, Rendered, Row, Without, leaf, over, refusing, sweep, sweep_calls,
+};
+use std::alloc::{AllocError, Global};
+use std::fmt;
+use std::process::Abort;
+use std::test::Fail;
+
+// The one member of each item.
+#[derive(Clone, Copy)]
+struct Only;
+
+impl fmt::Display for Only {
+    ghost output = { λ _. Some (codes "only ") };
+
+    fn fmt<W: fmt::Write>(&self, f: &mut fmt::Formatter<W>) -> fmt::Result {
+        f.write_str("only ")
+    }
+}
+
+impl Members<u32> for Only {
+    ghost members_of = { λ _ _. Some (7 ∷ []) };
+
+    ghost reason_of = { λ _ _. codes "" };
+
+    fn members<'a>(&self, _item: &'a u32) -> Option<&'a [u32]> {
+        Some(&[7])
+    }
+
+    fn reason(&self, _item: &u32) -> &str {
+        ""
+    }
+}
+
+type Numbers = Check<OrdPredicate<u32>, Only>;
+
+// A check that was made.
+#[derive(Drop)]
+struct Made {
+    check: Numbers,
+}
+
+impl Rendered for Made {
+    fn rendered(&self, alloc: Global) -> Result<String, AllocError> {
+        self.check.to_string(alloc)
+    }
+}
+
+// A check of one part.
+#[derive(Clone, Copy)]
+enum Over {
+    Not,
+    Name,
+    Each,
+    Any,
+    AtLeast,
+}
+
+impl Call for Over {
+    type Operand = Numbers;
+
+    type Answer = Made;
+
+    fn operand(&self, _alloc: Global) -> Result<Numbers, AllocError> {
+        Ok(Check::leaf_beside_members(ge(5)))
+    }
+
+    fn call(&self, alloc: Global, part: Numbers) -> Result<Made, AllocError> {
+        let check = match self {
+            Over::Not => part.not(alloc)?,
+            Over::Name => part.name(alloc, "large")?,
+            Over::Each => part.of_each(alloc, Only)?,
+            Over::Any => part.of_any(alloc, Only)?,
+            Over::AtLeast => part.of_at_least(alloc, 2, Only)?,
+        };
+        Ok(Made { check })
+    }
+}
+
+// A check of two parts.
+#[derive(Clone, Copy)]
+enum Joining {
+    And,
+    Or,
+    Xor,
+}
+
+impl Call for Joining {
+    type Operand = (Numbers, Numbers);
+
+    type Answer = Made;
+
+    fn operand(&self, _alloc: Global) -> Result<(Numbers, Numbers), AllocError> {
+        Ok((
+            Check::leaf_beside_members(ge(5)),
+            Check::leaf_beside_members(le(9)),
+        ))
+    }
+
+    fn call(&self, alloc: Global, parts: (Numbers, Numbers)) -> Result<Made, AllocError> {
+        let (left, right) = parts;
+        let check = match self {
+            Joining::And => left.and(alloc, right)?,
+            Joining::Or => left.or(alloc, right)?,
+            Joining::Xor => left.xor(alloc, right)?,
+        };
+        Ok(Made { check })
+    }
+}
+
+const OVER: [(&str, Over, &str); 5] = [
+    ("Check::not", Over::Not, "(! var >= 5)"),
+    ("Check::name", Over::Name, "large"),
+    ("Check::of_each", Over::Each, "each only (var >= 5)"),
+    ("Check::of_any", Over::Any, "any only (var >= 5)"),
+    (
+        "Check::of_at_least",
+        Over::AtLeast,
+        "at_least 2 only (var >= 5)",
+    ),
+];
+
+const JOINING: [(&str, Joining, &str); 3] = [
+    ("Check::and", Joining::And, "(var >= 5 && var <= 9)"),
+    ("Check::or", Joining::Or, "(var >= 5 || var <= 9)"),
+    ("Check::xor", Joining::Xor, "(var >= 5 ^ var <= 9)"),
+];
+
+#[test]
+fn checks_over_parts(rt: HostRuntime) -> Result<(), Fail> {
+    for (name, call, expected) in OVER {
+        sweep(&rt, name, &call, expected, Taken)?;
+    }
+    for (name, call, expected) in JOINING {
+        sweep(&rt, name, &call, expected, Taken)?;
+    }
+    Ok(())
+}
+
+// What was made without memory holds of the item. A check that is `Total` may be asked about it.
+fn is_made<R: Abort + AllocGlobal + Print, P: Total<u32> + Drop>(
+    rt: &R,
+    begun: Without<'_>,
+    check: P,
+    item: u32,
+) -> Result<(), Fail> {
+    holds(rt, begun, check, &item)
+}
+
+// Two parts of a row, which hold of 7.
+fn two_parts(alloc: Global) -> Result<Vec<Numbers>, AllocError> {
+    let (low, high) = (
+        Check::leaf_beside_members(ge(5)),
+        Check::leaf_beside_members(le(9)),
+    );
+    Ok(vec![in alloc; low, high]?)
+}
+
+#[test]
+fn checks_without_memory(rt: HostRuntime) -> Result<(), Fail> {
+    let alloc = rt.alloc();
+    is_made(
+        &rt,
+        refusing(alloc, "Check::leaf"),
+        Check::leaf(ge(5u32)),
+        7,
+    )?;
+    let leaf: Numbers = Check::leaf_beside_members(ge(5));
+    is_made(&rt, refusing(alloc, "Check::leaf_beside_members"), leaf, 7)?;
+    let parts = two_parts(alloc)?;
+    is_made(&rt, refusing(alloc, "Check::all"), Check::all(parts), 7)?;
+    let parts = two_parts(alloc)?;
+    is_made(&rt, refusing(alloc, "Check::any"), Check::any(parts), 7)?;
+    let parts = two_parts(alloc)?;
+    is_made(
+        &rt,
+        refusing(alloc, "Check::at_least"),
+        Check::at_least(2, parts),
+        7,
+    )?;
+    let parts = two_parts(alloc)?;
+    is_made(&rt, refusing(alloc, "Check::odd"), Check::odd(parts), 3)
+}
+
+// A row of each form over parts, which holds of 7.
+fn row_of_joins(alloc: Global) -> Result<Numbers, AllocError> {
+    let denied = Check::leaf_beside_members(ge(10)).not(alloc)?;
+    let named = Check::leaf_beside_members(le(8)).name(alloc, "small")?;
+    let one = Check::any(vec![in alloc; Check::leaf_beside_members(ge(7))]?);
+    let exclusive = Check::leaf_beside_members(lt(3)).xor(alloc, one)?;
+    Ok(Check::all(vec![in alloc; denied, named, exclusive]?))
+}
+
+const JOINS: &str = "\
+all_of((! var >= 10), small, (var < 3 ^ any_of(var >= 7))) = true
+  rule: (! var >= 10) = true
+    predicate: var >= 10 = false
+      - var: 7
+  rule: small = true
+    small: var <= 8 = true
+      - var: 7
+  rule: (var < 3 ^ any_of(var >= 7)) = true
+    left: var < 3 = false
+      - var: 7
+    right: any_of(var >= 7) = true
+      - index: 0
+      rule: var >= 7 = true
+        - var: 7
+";
+
+const PARTS_OF_JOINS: &str = "\
+rule: (! var >= 10)
+  predicate: var >= 10
+rule: small
+  small: var <= 8
+rule: (var < 3 ^ any_of(var >= 7))
+  left: var < 3
+  right: any_of(var >= 7)
+    rule: var >= 7
+";
+
+// A threshold over each form over members, which does not hold.
+fn threshold_of_members(alloc: Global) -> Result<Numbers, AllocError> {
+    let each = Check::leaf_beside_members(le(5)).of_each(alloc, Only)?;
+    let some = Check::leaf_beside_members(ge(9)).of_any(alloc, Only)?;
+    let two = Check::leaf_beside_members(ge(5)).of_at_least(alloc, 2, Only)?;
+    let odd = Check::odd(vec![in alloc; some, two]?);
+    Ok(Check::at_least(1, vec![in alloc; each, odd]?))
+}
+
+const MEMBERS: &str = "\
+at_least(1, each only (var <= 5), odd_of(any only (var >= 9), at_least 2 only (var >= 5))) = false
+  rule: each only (var <= 5) = false
+    - index: 0
+    - index: 0
+    item: var <= 5 = false
+      - var: 7
+  rule: odd_of(any only (var >= 9), at_least 2 only (var >= 5)) = false
+    - index: 1
+    rule: any only (var >= 9) = false
+      item: var >= 9 = false
+        - var: 7
+    rule: at_least 2 only (var >= 5) = false
+      - len: 1
+";
+
+const PARTS_OF_MEMBERS: &str = "\
+rule: each only (var <= 5)
+  item: var <= 5
+rule: odd_of(any only (var >= 9), at_least 2 only (var >= 5))
+  rule: any only (var >= 9)
+    item: var >= 9
+  rule: at_least 2 only (var >= 5)
+    item: var >= 5
+";
+
+// Sweeps over the calls of a check, which may be asked about any item.
+fn sweep_check<R: Abort + AllocGlobal + Print, P: Total<u32> + PredicateChange<u32> + Drop>(
+    rt: &R,
+    check: P,
+    item: u32,
+    row: Row<'_>,
+) -> Result<(), Fail> {
+    sweep_calls(rt, &check, &item, row)
+}
+
+#[test]
+fn calls_of_checks(rt: HostRuntime) -> Result<(), Fail> {
+    let row = leaf("a Check of a leaf", true, "var >= 5 = true\n  - var: 7\n");
+    sweep_check(&rt, Check::leaf(ge(5u32)), 7, row)?;
+    let joins = row_of_joins(rt.alloc())?;
+    sweep_check(
+        &rt,
+        joins,
+        7,
+        over("a Check of joins", true, JOINS, PARTS_OF_JOINS),
+    )?;
+    let members = threshold_of_members(rt.alloc())?;
+    let row = over("a Check of members", false, MEMBERS, PARTS_OF_MEMBERS);
+    sweep_check(&rt, members, 3, row)
+}
+
+// The text of the check.
+#[derive(Drop)]
+struct Printing<'a> {
+    check: &'a Numbers,
+}
+
+impl Call for Printing<'_> {
+    type Operand = ();
+
+    type Answer = Answer;
+
+    fn operand(&self, _alloc: Global) -> Result<(), AllocError> {
+        Ok(())
+    }
+
+    fn call(&self, alloc: Global, _operand: ()) -> Result<Answer, AllocError> {
+        Ok(Answer::Text(self.check.to_string(alloc)?))
+    }
+}
+
+#[test]
+fn texts_of_checks(rt: HostRuntime) -> Result<(), Fail> {
+    let check = row_of_joins(rt.alloc())?;
+    let expected = "all_of((! var >= 10), small, (var < 3 ^ any_of(var >= 7)))";
+    sweep(
+        &rt,
+        "the text of a Check of joins",
+        &Printing { check: &check },
+        expected,
+        Taken,
+    )?;
+    let check = threshold_of_members(rt.alloc())?;
+    let expected =
+        "at_least(1, each only (var <= 5), odd_of(any only (var >= 9), at_least 2 only (var >= 5)))";
+    sweep(
+        &rt,
+        "the text of a Check of members",
+        &Printing { check: &check },
+        expected,
+        Taken,
+    )
+}

@@ -1,0 +1,9 @@
+mod checks;
+mod ended_run;
+mod faulty_io;
+mod filters;
+mod rules;
+mod runs;
+mod summaries;
+mod vet;
+mod words;

@@ -1,0 +1,51 @@
+//! How many records break each rule, as lines.
+use predicates_sweep::Memory::Taken;
+use predicates_sweep::{Answer, Call, sweep};
+use predicates_vet::{read_checks, summary};
+use predicates_vet_check::RuleCheck;
+use std::alloc::{AllocError, Global};
+use std::test::Fail;
+
+// The lines for two rules, of which none is broken, or the second by three records.
+#[derive(Clone, Copy)]
+struct Summing<'a> {
+    broken: &'a [u64],
+}
+
+impl Call for Summing<'_> {
+    type Operand = Vec<RuleCheck>;
+
+    type Answer = Answer;
+
+    fn operand(&self, alloc: Global) -> Result<Vec<RuleCheck>, AllocError> {
+        match read_checks(alloc, b"a: / exists\nb: / missing") {
+            Ok(rules) => Ok(rules),
+            Err(_) => Err(AllocError),
+        }
+    }
+
+    fn call(&self, alloc: Global, rules: Vec<RuleCheck>) -> Result<Answer, AllocError> {
+        let lines = summary(alloc, rules.as_slice(), self.broken)?;
+        Ok(Answer::Text(lines))
+    }
+}
+
+#[test]
+fn summaries(rt: HostRuntime) -> Result<(), Fail> {
+    let broken = [0, 3].as_slice();
+    sweep(
+        &rt,
+        "summary",
+        &Summing { broken },
+        "3\t###\tb\n0\t\ta\n",
+        Taken,
+    )?;
+    let broken = [].as_slice();
+    sweep(
+        &rt,
+        "summary of no record",
+        &Summing { broken },
+        "0\t\ta\n0\t\tb\n",
+        Taken,
+    )
+}

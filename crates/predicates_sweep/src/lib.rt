@@ -1,0 +1,19 @@
+//! What the tests of refused memory share: a call, of which each request for memory is refused in
+//! turn by the allocator of `refused/`, and rows of such calls of a predicate.
+#![tactic(auto)]
+
+mod allocator;
+mod answer;
+mod call;
+mod predicate_calls;
+mod refusals;
+mod without;
+mod written_row;
+mod wrong;
+
+pub use answer::Answer;
+pub use call::{Call, Memory, Rendered};
+pub use predicate_calls::{Row, leaf, over, sweep_calls};
+pub use refusals::sweep;
+pub use without::{Without, refusing};
+pub use written_row::WrittenRow;
