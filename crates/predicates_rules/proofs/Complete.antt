@@ -1,11 +1,11 @@
 -- What is spelled is read.
-use Rattle.std.proofs.Common.{◌≡◌, ℕ, zero, suc, ◌≤◌, List, ◌∷◌, length, None, Ok, refl, ◌∙◌, arith}
+use Rattle.std.proofs.Common.{◌≡◌, ℕ, zero, suc, ◌≤◌, List, [], ◌∷◌, map, length, None, Ok, refl, ◌∙◌, arith}
 use Rattle.predicates_rules.specs.declared.expression.Connective.{Connective}
 use Rattle.predicates_rules.specs.declared.parser.Separator.{Separator}
 use Rattle.predicates_rules.specs.declared.parser.Separator.TheVariants as separators
-use Rattle.predicates_rules.specs.Trees.{Value, Sign, Then, Close, Test, Tree, Implies, AtLeast, Trees, none, more}
-use Rattle.predicates_rules.specs.Grammar.{Level, Whole, Premise, tighter, separator_sign, part_level, Items, last, another, IsTest, word, compare, compare_with, has_length, of_kind, of_null, relate, among_none, among, each, any, at_least_items, Spells, test, denied, group, quantified, at_least, alone, joined, no_if, implied, premise, Follow, no_more, and_more, IsSpelled}
-use Rattle.predicates_rules.specs.Reading.{Answer, items_at, list_at, after_bracket, text_at, compared_at, comparison_at, length_at, kind_at, test_at, path_at, after_open, after_close, after_then, after_least, count_at, after_separator, with_next, parts_at, join, chain, listed, counted, threshold, single, implication, whole, at_level, below, ended, all_of}
+use Rattle.predicates_rules.specs.Trees.{Value, Text, Sign, Then, Close, Path, Test, IsAmong, HasKeysAmong, Tree, At, Implies, AtLeast, Trees, none, more}
+use Rattle.predicates_rules.specs.Grammar.{Level, Whole, Premise, tighter, separator_sign, part_level, Items, last, another, IsTest, word, compare, compare_with, has_length, of_kind, of_null, relate, among_none, among, each, any, at_least_items, Spells, test, keys, denied, group, quantified, at_least, alone, joined, no_if, implied, premise, Follow, no_more, and_more, IsSpelled}
+use Rattle.predicates_rules.specs.Reading.{Answer, items_at, list_at, after_bracket, text_at, compared_at, comparison_at, length_at, kind_at, test_at, after_in, texts_at, text_list_at, keys_at, path_at, after_open, after_close, after_then, after_least, count_at, after_separator, with_next, parts_at, join, chain, listed, counted, threshold, single, implication, whole, at_level, below, ended, all_of}
 use Rattle.predicates_rules.specs.Reading as reading
 use Rattle.predicates_rules.proofs.Lengths.{spells_shortens}
 use Rattle.predicates_rules.proofs.Steps.{level_step, whole_step, join_begins, Stops, stops_at_close, stops_at_then, stops_at_end, Ends, ends_here, ends_inside, stops_at_separator, row_ends_at_close, separator_found}
@@ -31,6 +31,33 @@ test_again of_null = refl
 test_again relate = refl
 test_again among_none = refl
 test_again (among i) = rw (list_again i) refl
+
+some_items : {ts : List Sign} {vs : List Value} {rest : List Sign} → Items ts vs rest → vs ≡ [] → ⊥
+some_items last e = cc
+some_items (another i) e = cc
+
+no_items : {A : Type 0} {ts rest : List Sign} → Items ts [] rest → A
+no_items i = absurd (some_items i refl)
+
+texts_again : {ts : List Sign} (texts : List (List ℕ)) {rest : List Sign} → Items ts (map Text texts) rest → texts_at ts ≡ Ok (texts, rest)
+unfolding texts_at
+texts_again [] i = no_items i
+texts_again (text ∷ []) last = refl
+texts_again (text ∷ []) (another i) = no_items i
+texts_again (text ∷ other ∷ texts) (another i) = rw (texts_again (other ∷ texts) i) refl
+
+text_list_again : {ts : List Sign} (texts : List (List ℕ)) {rest : List Sign} → Items ts (map Text texts) rest → text_list_at ts ≡ Ok (texts, rest)
+unfolding text_list_at
+text_list_again [] i = no_items i
+text_list_again (text ∷ []) last = texts_again (text ∷ []) last
+text_list_again (text ∷ []) (another i) = no_items i
+text_list_again (text ∷ other ∷ texts) (another i) = texts_again (text ∷ other ∷ texts) (another i)
+
+keys_again : (path : List ℕ) {ts : List Sign} (texts : List (List ℕ)) {rest : List Sign} → IsTest ts (IsAmong (map Text texts)) rest → keys_at (Path path ∷ ts) ≡ Ok (At path (HasKeysAmong texts), rest)
+unfolding keys_at path_at after_in after_bracket text_list_at
+keys_again path [] among_none = refl
+keys_again path [] (among i) = no_items i
+keys_again path (text ∷ texts) (among i) = rw (text_list_again (text ∷ texts) i) refl
 
 -- a part, and then those that follow
 parts_join : (c : Connective) (part : List Sign → Answer) (ts us rest : List Sign) (e : Tree) (es : Trees) → part ts ≡ Ok (e, us) → parts_at (length us) (separators.Connective c) part us ≡ Ok (es, rest) → chain c part ts ≡ Ok (join c e es, rest)
@@ -65,6 +92,7 @@ mutual
 
   pub spells_again : {n : ℕ} {l : Level} {ts : List Sign} {e : Tree} {rest : List Sign} → Spells n l ts e rest → Stops l rest → at_level (below n) l ts ≡ Ok (e, rest)
   spells_again (test t) s = rw (test_again t) refl
+  spells_again (keys {path = path} {texts = texts} t) s = keys_again path texts t
   spells_again (denied d) s = rw (spells_again d tt) refl
   spells_again (group {rest = rest} d) s = rw (spells_again d (stops_at_close Whole rest)) refl
   spells_again (quantified {rest = rest} each d) s = rw (spells_again d (stops_at_close Whole rest)) refl

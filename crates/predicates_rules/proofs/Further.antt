@@ -1,6 +1,7 @@
 -- What is written of a list, one more at a time.
-use Rattle.std.proofs.Common.{◌≡◌, ℕ, zero, suc, ◌+◌, ◌<◌, true, Result, arith, List, [], ◌∷◌, ◌++◌, codes, length, take, get_or, map, Some, Ok, refl, sym, ap, ◌∙◌, subst, append_assoc, append-nil}
+use Rattle.std.proofs.Common.{◌≡◌, ℕ, zero, suc, ◌+◌, ◌<◌, true, Result, arith, List, [], ◌∷◌, ◌++◌, codes, length, take, get_or, map, String, string_bytes, Some, Ok, refl, sym, ap, ◌∙◌, subst, append_assoc, append-nil}
 use Rattle.std.specs.List.{flat_map}
+use Rattle.std.specs.declared.alloc.Global.{Global}
 use Rattle.std.specs.declared.fmt.Formatter.{Formatter}
 use Rattle.std.specs.declared.fmt.Error.{Error}
 use Rattle.std.specs.Fmt.{DisplaysOnOk}
@@ -10,7 +11,7 @@ use Rattle.std.proofs.lemmas.List.Concat.{flat_map-append}
 use Rattle.predicates_rules.specs.declared.expression.Expression.{Expression}
 use Rattle.predicates_rules.specs.declared.literal.Literal.{Literal}
 use Rattle.predicates_rules.specs.declared.parser.Separator.{Separator}
-use Rattle.predicates_rules.specs.Trees.{Tree, value_of, trees_of, tree_of}
+use Rattle.predicates_rules.specs.Trees.{Text, Tree, value_of, trees_of, tree_of}
 use Rattle.predicates_rules.specs.Grammar.{part_level}
 use Rattle.predicates_rules.specs.Printing.{has_parts, value_text}
 use Rattle.predicates_rules.specs.Writing.{separator_text, tree_text, row_text, rest_text, part_text}
@@ -38,6 +39,14 @@ further_text v = codes ", " ++ value_text (value_of v)
 pub further_is : (vs : List Literal) → flat_map (λ v. codes ", " ++ value_text v) (map value_of vs) ≡ flat_map further_text vs
 further_is [] = refl
 further_is (v ∷ vs) = ap (λ (w : List ℕ). further_text v ++ w) (further_is vs)
+
+-- a text behind a comma
+abbrev pub further_string : String Global → List ℕ
+further_string s = codes ", " ++ value_text (Text (string_bytes s))
+
+pub further_strings : (ss : List (String Global)) → flat_map (λ v. codes ", " ++ value_text v) (map Text (map string_bytes ss)) ≡ flat_map further_string ss
+further_strings [] = refl
+further_strings (s ∷ ss) = ap (λ (w : List ℕ). further_string s ++ w) (further_strings ss)
 
 -- ---- parts of a row
 

@@ -14,10 +14,10 @@ use Rattle.predicates_rules.specs.declared.stop.Stop.{Stop}
 use Rattle.predicates_rules.specs.declared.stop.ReadError.{ReadError}
 use Rattle.predicates_rules.specs.declared.stop.ReadError.TheVariants as errors
 use Rattle.predicates_rules.specs.declared.expression.Expression.{Expression}
-use Rattle.predicates_rules.specs.Trees.{tree_of, Sign, Not, If, Each, Any, AtWord, Of, Open, Path, Tree, At, Denied, Implies, Quantified, AtLeast, Trees, more}
+use Rattle.predicates_rules.specs.Trees.{tree_of, Sign, Not, If, Each, Any, AtWord, Keys, Of, Open, Path, Tree, At, Denied, Implies, Quantified, AtLeast, Trees, more}
 use Rattle.predicates_rules.specs.Grammar.{Level, By, Single, Whole, Premise, IsSpelled}
 use Rattle.predicates_rules.specs.Answers.{◌>>=◌, Gives, IsSyntax}
-use Rattle.predicates_rules.specs.Reading.{Answer, test_at, path_at, after_open, after_close, after_then, after_least, count_at, after_separator, with_next, parts_at, join, chain, listed, counted, threshold, single, loosest, implication, whole, at_level, below, ended, all_of}
+use Rattle.predicates_rules.specs.Reading.{Answer, test_at, keys_at, path_at, after_open, after_close, after_then, after_least, count_at, after_separator, with_next, parts_at, join, chain, listed, counted, threshold, single, loosest, implication, whole, at_level, below, ended, all_of}
 use Rattle.predicates_rules.specs.Reading as reading
 use Rattle.predicates_rules.proofs.Loop.{ok_is}
 use Rattle.predicates_rules.proofs.Complete.{spelled_again}
@@ -95,6 +95,7 @@ module _ (d e : Level → List Sign → Answer) (h : (l : Level) (ts : List Sign
   single_persists (Each ∷ ts) = quantified_persists quantifiers.Each ts
   single_persists (Any ∷ ts) = quantified_persists quantifiers.Any ts
   single_persists (AtWord ∷ ts) = threshold_persists ts
+  single_persists (Keys ∷ ts) = persists_same (keys_at ts)
   single_persists (Path path ∷ ts) = persists_same (test_at ts >>= λ x. Ok (At path x.0, x.1))
   single_persists [] = inr refl
   single_persists (t ∷ ts) = inr refl
@@ -118,6 +119,7 @@ module _ (d e : Level → List Sign → Answer) (h : (l : Level) (ts : List Sign
   whole_persists (Each ∷ ts) = loosest_persists (Each ∷ ts)
   whole_persists (Any ∷ ts) = loosest_persists (Any ∷ ts)
   whole_persists (AtWord ∷ ts) = loosest_persists (AtWord ∷ ts)
+  whole_persists (Keys ∷ ts) = loosest_persists (Keys ∷ ts)
   whole_persists [] = inr refl
   whole_persists (t ∷ ts) = inr refl
 

@@ -1,18 +1,17 @@
 -- The text of an expression is that of its tokens.
-use Rattle.std.proofs.Common.{◌≡◌, Bool, true, false, cond, List, [], ◌∷◌, ◌++◌, codes, ℕ, refl, sym, ap, subst, ◌∙◌, append_assoc, append-nil}
-use Rattle.std.specs.Prelude.{not, ◌&&◌, ◌||◌}
+use Rattle.std.proofs.Common.{◌≡◌, Bool, true, false, cond, List, [], ◌∷◌, ◌++◌, map, codes, ℕ, refl, sym, ap, subst, ◌∙◌, append_assoc, append-nil}
+use Rattle.std.specs.Prelude.{not, ◌&&◌}
 use Rattle.std.specs.List.{flat_map}
-use Rattle.predicates_rules.specs.declared.expression.Connective.{Connective}
 use Rattle.predicates_rules.specs.declared.expression.Quantifier.{Quantifier}
 use Rattle.predicates_rules.specs.declared.expression.Quantifier.TheVariants as quantifiers
 use Rattle.predicates_rules.specs.declared.condition.ValueKind.{ValueKind}
 use Rattle.predicates_rules.specs.declared.condition.ValueKind.TheVariants as value_kinds
 use Rattle.predicates_rules.specs.declared.parser.Separator.{Separator}
 use Rattle.predicates_rules.specs.declared.parser.Separator.TheVariants as separators
-use Rattle.predicates_rules.specs.Trees.{Value, Natural, Text, Sign, Join, Not, If, Then, AtWord, Least, Of, Open, Close, OpenList, CloseList, Comma, Path, Compare, Relate, Is, In, Length, IsKind, Plain, Test, TheValueIs, Compares, ComparesWith, HasLength, IsOfKind, Relates, IsAmong, Tree, At, Denied, Implies, Quantified, Joined, AtLeast, Trees, none, more}
+use Rattle.predicates_rules.specs.Trees.{Value, Natural, Text, Sign, Join, Not, If, Then, AtWord, Keys, Least, Of, Open, Close, OpenList, Comma, Path, Compare, Relate, Is, In, Length, IsKind, Plain, Test, TheValueIs, Compares, ComparesWith, HasLength, IsOfKind, Relates, IsAmong, HasKeysAmong, Tree, At, Denied, Implies, Quantified, Joined, AtLeast, Trees, none, more}
 use Rattle.predicates_rules.specs.Grammar.{Level, Single, Whole, separator_sign, part_level}
-use Rattle.predicates_rules.specs.Printing.{items_signs, kind_sign, test_signs, quantifier_signs, in_parentheses, fits, takes_if, has_parts, stands_at, signs_at, part_signs, follow_signs, path_text, value_text, word_of, opens, closes, gap, laid_behind, laid}
-use Rattle.predicates_rules.specs.Writing.{items_text, test_text, quantifier_text, separator_text, grouped, tree_text, row_text, rest_text}
+use Rattle.predicates_rules.specs.Printing.{items_signs, kind_sign, among_signs, lead_signs, test_signs, quantifier_signs, in_parentheses, fits, takes_if, has_parts, stands_at, signs_at, part_signs, follow_signs, path_text, value_text, word_of, opens, closes, gap, laid_behind, laid}
+use Rattle.predicates_rules.specs.Writing.{items_text, among_text, test_text, lead_text, quantifier_text, separator_text, grouped, tree_text, row_text, rest_text}
 
 is_false : (b : Bool) → not b ≡ true → b ≡ false
 is_false true h = absurd cc
@@ -134,6 +133,14 @@ kind_is value_kinds.Array = alone (kind_sign value_kinds.Array) refl refl
 kind_is value_kinds.Object = alone (kind_sign value_kinds.Object) refl refl
 kind_is value_kinds.Null = alone (kind_sign value_kinds.Null) refl refl
 
+among_phrase : (vs : List Value) → IsPhrase (among_signs vs) (among_text vs)
+among_phrase vs =
+    record {
+      first = refl;
+      final = ends_append (In ∷ OpenList ∷ []) (items_signs vs) (items_end vs);
+      whole = ap (λ (w : List ℕ). codes "in [" ++ w) (behind_open_list (items_signs vs) ∙ items_are vs);
+    }
+
 test_phrase : (t : Test) → IsPhrase (test_signs t) (test_text t)
 test_phrase (TheValueIs s) = alone (Is s) refl refl
 test_phrase (Compares o v) = before (Compare o) (Plain v ∷ []) (value_text v) refl refl (alone (Plain v) refl refl)
@@ -142,15 +149,20 @@ test_phrase (HasLength o n) =
     before Length (Compare o ∷ Plain (Natural n) ∷ []) (word_of (Compare o) ++ 32 ∷ value_text (Natural n)) refl refl (before (Compare o) (Plain (Natural n) ∷ []) (value_text (Natural n)) refl refl (alone (Plain (Natural n)) refl refl))
 test_phrase (IsOfKind k) = before IsKind (kind_sign k ∷ []) (word_of (kind_sign k)) refl refl (kind_is k)
 test_phrase (Relates r text) = before (Relate r) (Plain (Text text) ∷ []) (value_text (Text text)) refl refl (alone (Plain (Text text)) refl refl)
-test_phrase (IsAmong vs) =
-    record {
-      first = refl;
-      final = ends_append (In ∷ OpenList ∷ []) (items_signs vs) (items_end vs);
-      whole = ap (λ (w : List ℕ). codes "in [" ++ w) (behind_open_list (items_signs vs) ∙ items_are vs);
-    }
+test_phrase (IsAmong vs) = among_phrase vs
+test_phrase (HasKeysAmong texts) = among_phrase (map Text texts)
 
 pub test_laid : (t : Test) → laid (test_signs t) ≡ test_text t
 test_laid t = (test_phrase t).whole
+
+-- a path, and what is behind it
+path_phrase : (path : List ℕ) (t : Test) → IsPhrase (Path path ∷ test_signs t) (path_text path ++ 32 ∷ laid (test_signs t))
+path_phrase path t = let p = test_phrase t in before (Path path) (test_signs t) (laid (test_signs t)) refl refl (record { first = p.first; final = p.final; whole = refl })
+
+at_phrase : (path : List ℕ) (t : Test) → IsPhrase (lead_signs t ++ Path path ∷ test_signs t) (lead_text t ++ (path_text path ++ 32 ∷ laid (test_signs t)))
+at_phrase path (HasKeysAmong texts) =
+    before Keys (Path path ∷ test_signs (HasKeysAmong texts)) (path_text path ++ 32 ∷ laid (test_signs (HasKeysAmong texts))) refl refl (path_phrase path (HasKeysAmong texts))
+at_phrase path t = path_phrase path t
 
 quantifier_phrase : (q : Quantifier) → IsPhrase (quantifier_signs q) (quantifier_text q)
 quantifier_phrase quantifiers.Each = record { first = refl; final = refl; whole = refl }
@@ -210,7 +222,7 @@ implication_phrase ts us a b p q =
 
 mutual
   tree_phrase : (e : Tree) (l : Level) → IsPhrase (signs_at l e) (tree_text l e)
-  tree_phrase (At path t) l = let p = test_phrase t in before (Path path) (test_signs t) (laid (test_signs t)) refl refl (record { first = p.first; final = p.final; whole = refl })
+  tree_phrase (At path t) l = at_phrase path t
   tree_phrase (Denied e) l = before Not (signs_at Single e) (tree_text Single e) refl refl (tree_phrase e Single)
   tree_phrase (Implies a b) l =
       let ts = If ∷ (signs_at Whole a ++ Then ∷ signs_at Whole b) in

@@ -3,7 +3,7 @@ use Rattle.std.proofs.Common.{ℕ, ◌<◌, ◌≤◌, List, length, arith}
 use Rattle.predicates_rules.specs.declared.expression.Quantifier.{Quantifier}
 use Rattle.predicates_rules.specs.declared.parser.Separator.{Separator}
 use Rattle.predicates_rules.specs.Trees.{Value, Sign, Test, Tree, Trees}
-use Rattle.predicates_rules.specs.Grammar.{Level, Items, last, another, IsTest, word, compare, compare_with, has_length, of_kind, of_null, relate, among_none, among, IsQuantifier, each, any, at_least_items, Spells, test, denied, group, quantified, at_least, alone, joined, no_if, implied, premise, Follow, no_more, and_more}
+use Rattle.predicates_rules.specs.Grammar.{Level, Items, last, another, IsTest, word, compare, compare_with, has_length, of_kind, of_null, relate, among_none, among, IsQuantifier, each, any, at_least_items, Spells, test, keys, denied, group, quantified, at_least, alone, joined, no_if, implied, premise, Follow, no_more, and_more}
 
 items_shorten : {ts : List Sign} {vs : List Value} {rest : List Sign} → Items ts vs rest → length rest < length ts
 items_shorten last = omega arith
@@ -28,6 +28,7 @@ quantifier_shortens at_least_items = omega arith
 mutual
   pub spells_shortens : {n : ℕ} {l : Level} {ts : List Sign} {e : Tree} {rest : List Sign} → Spells n l ts e rest → length rest < length ts
   spells_shortens (test t) = omega (arith, test_shortens t)
+  spells_shortens (keys t) = omega (arith, test_shortens t)
   spells_shortens (denied d) = omega (arith, spells_shortens d)
   spells_shortens (group d) = omega (arith, spells_shortens d)
   spells_shortens (quantified q d) = omega (arith, quantifier_shortens q, spells_shortens d)

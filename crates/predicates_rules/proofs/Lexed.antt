@@ -115,6 +115,7 @@ fixed_again left fixed.Then = refl
 fixed_again left fixed.Each = refl
 fixed_again left fixed.Any = refl
 fixed_again left fixed.At = refl
+fixed_again left fixed.Keys = refl
 fixed_again left fixed.Least = refl
 fixed_again left fixed.Of = refl
 fixed_again left fixed.StartsWith = refl

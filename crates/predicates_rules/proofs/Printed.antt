@@ -1,6 +1,6 @@
 -- What is printed is spelled so.
 use Rattle.std.specs.Prelude.{◌&&◌, max}
-use Rattle.std.proofs.Common.{◌≡◌, ℕ, zero, suc, ◌≤◌, Bool, true, false, cond, List, [], ◌∷◌, ◌++◌, refl, sym, ap, subst, ◌∙◌, append_assoc, arith}
+use Rattle.std.proofs.Common.{◌≡◌, ℕ, zero, suc, ◌≤◌, Bool, true, false, cond, List, [], ◌∷◌, ◌++◌, map, refl, sym, ap, subst, ◌∙◌, append_assoc, arith}
 use Rattle.predicates_rules.specs.declared.expression.Connective.{Connective}
 use Rattle.predicates_rules.specs.declared.expression.Connective.TheVariants.{Or, Xor, And}
 use Rattle.predicates_rules.specs.declared.expression.Quantifier.{Quantifier}
@@ -9,15 +9,15 @@ use Rattle.predicates_rules.specs.declared.condition.ValueKind.{ValueKind}
 use Rattle.predicates_rules.specs.declared.condition.ValueKind.TheVariants as value_kinds
 use Rattle.predicates_rules.specs.declared.parser.Separator.{Separator}
 use Rattle.predicates_rules.specs.declared.parser.Separator.TheVariants as separators
-use Rattle.predicates_rules.specs.Trees.{Value, Natural, Sign, If, Then, AtWord, Least, Of, Open, Close, End, Path, IsKind, Plain, Test, TheValueIs, Compares, ComparesWith, HasLength, IsOfKind, Relates, IsAmong, Tree, At, Denied, Implies, Quantified, Joined, AtLeast, Trees, none, more}
-use Rattle.predicates_rules.specs.Grammar.{Level, By, Single, Whole, Premise, tighter, separator_sign, part_level, Items, last, another, IsTest, word, compare, compare_with, has_length, of_kind, of_null, relate, among_none, among, IsQuantifier, each, any, at_least_items, Spells, test, denied, group, quantified, at_least, alone, joined, no_if, implied, premise, Follow, no_more, and_more, IsSpelled}
-use Rattle.predicates_rules.specs.Printing.{items_signs, kind_sign, test_signs, quantifier_signs, in_parentheses, fits, takes_if, has_parts, stands_at, signs_at, part_signs, follow_signs, nesting_at, parts_nesting, IsSome, IsProper, AreMany, AreProper}
+use Rattle.predicates_rules.specs.Trees.{Value, Natural, Text, Sign, If, Then, AtWord, Least, Of, Open, Close, End, Path, IsKind, Plain, Test, TheValueIs, Compares, ComparesWith, HasLength, IsOfKind, Relates, IsAmong, HasKeysAmong, Tree, At, Denied, Implies, Quantified, Joined, AtLeast, Trees, none, more}
+use Rattle.predicates_rules.specs.Grammar.{Level, By, Single, Whole, Premise, tighter, separator_sign, part_level, Items, last, another, IsTest, word, compare, compare_with, has_length, of_kind, of_null, relate, among_none, among, IsQuantifier, each, any, at_least_items, Spells, test, keys, denied, group, quantified, at_least, alone, joined, no_if, implied, premise, Follow, no_more, and_more, IsSpelled}
+use Rattle.predicates_rules.specs.Printing.{items_signs, kind_sign, among_signs, lead_signs, test_signs, quantifier_signs, in_parentheses, fits, takes_if, has_parts, stands_at, signs_at, part_signs, follow_signs, nesting_at, parts_nesting, IsSome, IsProper, AreMany, AreProper}
 
 items_spelled : (v : Value) (vs : List Value) (rest : List Sign) → Items (items_signs (v ∷ vs) ++ rest) (v ∷ vs) rest
 items_spelled v [] rest = last
 items_spelled v (w ∷ vs) rest = another (items_spelled w vs rest)
 
-among_spelled : (vs : List Value) (rest : List Sign) → IsTest (test_signs (IsAmong vs) ++ rest) (IsAmong vs) rest
+among_spelled : (vs : List Value) (rest : List Sign) → IsTest (among_signs vs ++ rest) (IsAmong vs) rest
 among_spelled [] rest = among_none
 among_spelled (v ∷ vs) rest = among (items_spelled v vs rest)
 
@@ -30,14 +30,15 @@ kind_spelled value_kinds.Array rest = of_kind
 kind_spelled value_kinds.Object rest = of_kind
 kind_spelled value_kinds.Null rest = of_null
 
-test_spelled : (t : Test) (rest : List Sign) → IsTest (test_signs t ++ rest) t rest
-test_spelled (TheValueIs s) rest = word
-test_spelled (Compares o v) rest = compare
-test_spelled (ComparesWith o path) rest = compare_with
-test_spelled (HasLength o n) rest = has_length
-test_spelled (IsOfKind k) rest = kind_spelled k rest
-test_spelled (Relates r text) rest = relate
-test_spelled (IsAmong vs) rest = among_spelled vs rest
+test_spelled : (path : List ℕ) (t : Test) {n : ℕ} (rest : List Sign) → Spells n Single ((lead_signs t ++ Path path ∷ test_signs t) ++ rest) (At path t) rest
+test_spelled path (TheValueIs s) rest = test word
+test_spelled path (Compares o v) rest = test compare
+test_spelled path (ComparesWith o other) rest = test compare_with
+test_spelled path (HasLength o n) rest = test has_length
+test_spelled path (IsOfKind k) rest = test (kind_spelled k rest)
+test_spelled path (Relates r text) rest = test relate
+test_spelled path (IsAmong vs) rest = test (among_spelled vs rest)
+test_spelled path (HasKeysAmong texts) rest = keys (among_spelled (map Text texts) rest)
 
 quantifier_spelled : (q : Quantifier) (rest : List Sign) → IsQuantifier (quantifier_signs q ++ rest) q rest
 quantifier_spelled quantifiers.Each rest = each
@@ -112,7 +113,7 @@ implied_spelled a b (suc (suc n)) rest p q le =
 
 mutual
   pub spelled_at : (e : Tree) (l : Level) (n : ℕ) (rest : List Sign) → is_place l ≡ true → IsProper e → nesting_at l e ≤ n → Spells n l (signs_at l e ++ rest) e rest
-  spelled_at (At path t) l n rest h p le = single_at l h (test (test_spelled t rest))
+  spelled_at (At path t) l n rest h p le = single_at l h (test_spelled path t rest)
   spelled_at (Denied e) l zero rest h p le = absurd (omega arith)
   spelled_at (Denied e) l (suc n) rest h p le = single_at l h (denied (spelled_at e Single n rest refl p (omega arith)))
   spelled_at (Implies a b) l n rest h p le =

@@ -1,6 +1,6 @@
 -- What is read can be written.
 use Rattle.std.proofs.Common.{◌≡◌, ℕ, zero, suc, ◌+◌, ◌<◌, ◌≤◌, ◌^◌, pos, negsuc, Bool, true, false, cond, List, [], ◌∷◌, map, length, take, drop, Option, Some, None, option_map, inl, inr, ◌⊎◌, refl, sym, ap, ◌∙◌, subst, arith, IsUtf8}
-use Rattle.std.specs.Prelude.{Float, neg_ℤ, ◌&&◌, ◌||◌, ◌==◌, nat_lt, nat_le, nat_eq, ◌-◌, not, slice_index, option_and_then}
+use Rattle.std.specs.Prelude.{Float, neg_ℤ, ◌&&◌, ◌||◌, ◌==◌, nat_lt, nat_le, nat_eq, ◌-◌, slice_index, option_and_then}
 use Rattle.std.specs.List.{prefix_len, list_all, starts_with}
 use Rattle.std.specs.Str.{is_utf8}
 use Rattle.std.specs.Float.{binary64, float_is_finite}
@@ -14,7 +14,7 @@ use Rattle.json.specs.Ascii.{true_text, false_text, null_text}
 use Rattle.json.specs.Lex.{Lexeme, Place, fresh, after_value, between, lex, in_word, in_string, begins_colon, place_token, punctuate, string_token, tokens, class, other}
 use Rattle.json.specs.Json as json
 use Rattle.json.specs.Json.{value, if_last}
-use Rattle.serde_json.specs.Data.{Num, unsigned, negative, float, Data, null, boolean, number, string, array, object, Items, Members, no_members}
+use Rattle.serde_json.specs.Data.{Num, unsigned, negative, float, Data, number, string, array, object, Items, Members, no_members}
 use Rattle.serde_json.specs.Read.{read, of_json, of_items, of_members, number_of, number_from, float_of, is_integer, max_depth}
 use Rattle.predicates_rules.specs.declared.lexer.Class.{Class}
 use Rattle.predicates_rules.specs.declared.lexer.Class.TheVariants.{Letter, Digit, Symbol, Mark, Slash, Quote, Other}
@@ -294,6 +294,7 @@ fixed_plain fixed.Then = tt
 fixed_plain fixed.Each = tt
 fixed_plain fixed.Any = tt
 fixed_plain fixed.At = tt
+fixed_plain fixed.Keys = tt
 fixed_plain fixed.Least = tt
 fixed_plain fixed.Of = tt
 fixed_plain fixed.StartsWith = tt

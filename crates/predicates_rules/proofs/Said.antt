@@ -7,7 +7,7 @@ use Rattle.predicates_rules.specs.declared.expression.Quantifier.{Quantifier}
 use Rattle.predicates_rules.specs.declared.parser.Separator.{Separator}
 use Rattle.predicates_rules.specs.declared.parser.Separator.TheVariants as separators
 use Rattle.predicates_rules.specs.Trees.{Value, Sign, Test, Tree, At, Denied, Implies, Quantified, Joined, AtLeast, Trees, more}
-use Rattle.predicates_rules.specs.Grammar.{Level, By, Single, Whole, Premise, tighter, Items, last, another, IsTest, word, compare, compare_with, has_length, of_kind, of_null, relate, among_none, among, IsQuantifier, each, any, at_least_items, Spells, test, denied, group, quantified, at_least, alone, joined, no_if, implied, premise, Follow, no_more, and_more}
+use Rattle.predicates_rules.specs.Grammar.{Level, By, Single, Whole, Premise, tighter, Items, last, another, IsTest, word, compare, compare_with, has_length, of_kind, of_null, relate, among_none, among, IsQuantifier, each, any, at_least_items, Spells, test, keys, denied, group, quantified, at_least, alone, joined, no_if, implied, premise, Follow, no_more, and_more}
 use Rattle.predicates_rules.specs.Rules.{Says}
 use Rattle.predicates_rules.specs.Printing.{fits, takes_if, has_parts, stands_at, nesting_at, parts_nesting, IsProper, AreProper, AreValues, IsPlainTest, IsPlainQuantifier, IsPlain, ArePlain, printed}
 use Rattle.predicates_rules.proofs.Readable.{ArePlainSigns, lexed_plain}
@@ -85,6 +85,7 @@ joined_nests c k n le = rw (fits_itself c) le
 mutual
   pub spells_proper : {n : ℕ} {l : Level} {ts : List Sign} {e : Tree} {rest : List Sign} → Spells n l ts e rest → IsProper e × (nesting_at l e ≤ n)
   spells_proper (test t) = (tt, omega arith)
+  spells_proper (keys t) = (tt, omega arith)
   spells_proper (denied d) = let p = spells_proper d in (p.0, omega (arith, p.1))
   spells_proper (group {e = e} d) = let p = spells_proper d in (p.0, omega (arith, p.1, in_parentheses Single e))
   spells_proper (quantified q d) = let p = spells_proper d in (p.0, omega (arith, p.1))
@@ -136,6 +137,7 @@ quantifier_plain at_least_items a = (a.1.1.0, a.1.1.1)
 mutual
   spells_plain : {n : ℕ} {l : Level} {ts : List Sign} {e : Tree} {rest : List Sign} → Spells n l ts e rest → ArePlainSigns ts → IsPlain e × ArePlainSigns rest
   spells_plain (test t) a = let p = test_plain t a.1 in ((a.0, p.0), p.1)
+  spells_plain (keys t) a = let p = test_plain t a.1.1 in ((a.1.0, p.0), p.1)
   spells_plain (denied d) a = spells_plain d a.1
   spells_plain (group d) a = let p = spells_plain d a.1 in (p.0, p.1.1)
   spells_plain (quantified q d) a =

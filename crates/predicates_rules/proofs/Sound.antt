@@ -1,5 +1,5 @@
 -- What is read is spelled so.
-use Rattle.std.proofs.Common.{◌≡◌, ℕ, zero, suc, Bool, true, false, cond, List, [], ◌∷◌, length, ◌<◌, Option, Some, None, Result, Ok, Err, refl, sym, ap, subst, ◌∙◌, arith}
+use Rattle.std.proofs.Common.{◌≡◌, ℕ, zero, suc, Bool, true, false, cond, List, [], ◌∷◌, map, length, ◌<◌, Option, Some, None, Result, Ok, Err, refl, sym, ap, subst, ◌∙◌, arith}
 use Rattle.std.specs.Prelude.{IfOk}
 use Rattle.predicates_rules.specs.declared.expression.Connective.{Connective}
 use Rattle.predicates_rules.specs.declared.expression.Connective.TheVariants.{Or, Xor, And}
@@ -15,10 +15,10 @@ use Rattle.predicates_rules.specs.declared.stop.Stop.{Stop}
 use Rattle.predicates_rules.specs.declared.error.Expected.{Expected}
 use Rattle.predicates_rules.specs.declared.error.Expected.TheVariants as expected
 use Rattle.predicates_rules.specs.declared.expression.Expression.{Expression}
-use Rattle.predicates_rules.specs.Trees.{tree_of, Value, Natural, Text, Null, Sign, Not, If, Then, Each, Any, AtWord, Least, Of, Open, Close, OpenList, CloseList, Comma, Path, Compare, Relate, In, Is, Length, IsKind, KindName, Plain, End, Test, TheValueIs, Compares, ComparesWith, HasLength, IsOfKind, Relates, IsAmong, Tree, At, Denied, Implies, Quantified, AtLeast, Trees, none, more}
-use Rattle.predicates_rules.specs.Grammar.{Level, By, Single, Whole, Premise, tighter, separator_sign, part_level, Items, last, another, IsTest, word, compare, compare_with, has_length, of_kind, of_null, relate, among_none, among, IsQuantifier, each, any, at_least_items, Spells, test, denied, group, quantified, at_least, alone, joined, no_if, implied, premise, Follow, no_more, and_more, IsSpelled}
+use Rattle.predicates_rules.specs.Trees.{tree_of, Value, Natural, Text, Null, Sign, Not, If, Then, Each, Any, AtWord, Keys, Least, Of, Open, Close, OpenList, CloseList, Comma, Path, Compare, Relate, In, Is, Length, IsKind, KindName, Plain, End, Test, TheValueIs, Compares, ComparesWith, HasLength, IsOfKind, Relates, IsAmong, HasKeysAmong, Tree, At, Denied, Implies, Quantified, AtLeast, Trees, none, more}
+use Rattle.predicates_rules.specs.Grammar.{Level, By, Single, Whole, Premise, tighter, separator_sign, part_level, Items, last, another, IsTest, word, compare, compare_with, has_length, of_kind, of_null, relate, among_none, among, IsQuantifier, each, any, at_least_items, Spells, test, keys, denied, group, quantified, at_least, alone, joined, no_if, implied, premise, Follow, no_more, and_more, IsSpelled}
 use Rattle.predicates_rules.specs.Answers.{◌>>=◌, Gives}
-use Rattle.predicates_rules.specs.Reading.{Answer, items_at, list_at, after_bracket, text_at, compared_at, comparison_at, length_at, kind_at, test_at, path_at, after_open, after_close, after_then, after_least, count_at, after_separator, with_next, parts_at, join, chain, listed, counted, threshold, single, loosest, implication, whole, at_level, part_at, below, is_end, fails, ended, all_of}
+use Rattle.predicates_rules.specs.Reading.{Answer, items_at, list_at, after_bracket, text_at, compared_at, comparison_at, length_at, kind_at, test_at, after_in, texts_at, text_list_at, keys_at, path_at, after_open, after_close, after_then, after_least, count_at, after_separator, with_next, parts_at, join, chain, listed, counted, threshold, single, loosest, implication, whole, at_level, part_at, below, is_end, fails, ended, all_of}
 use Rattle.predicates_rules.specs.Reading as reading
 use Rattle.predicates_rules.proofs.Loop.{ok_is}
 use Rattle.predicates_rules.proofs.Steps.{separator_is, bind_ok}
@@ -106,6 +106,41 @@ path_is : (ts : List Sign) (x : List ℕ × List Sign) → path_at ts ≡ Ok x �
 unfolding path_at
 path_is (Path path ∷ ts) x e = ap (λ (y : List ℕ × List Sign). Path y.0 ∷ y.1) (ok_is (path, ts) x e)
 path_is ts x e = absurd cc
+
+texts_are : (ts : List Sign) (x : List (List ℕ) × List Sign) → texts_at ts ≡ Ok x → Items ts (map Text x.0) x.1
+unfolding texts_at
+texts_are (Plain (Text text) ∷ CloseList ∷ ts) x e = subst (λ (y : List (List ℕ) × List Sign). Items (Plain (Text text) ∷ CloseList ∷ ts) (map Text y.0) y.1) (ok_is (text ∷ [], ts) x e) last
+texts_are (Plain (Text text) ∷ Comma ∷ ts) x e =
+    let b = bind_ok (texts_at ts) (λ y. Ok (text ∷ y.0, y.1)) x e in
+    subst (λ (y : List (List ℕ) × List Sign). Items (Plain (Text text) ∷ Comma ∷ ts) (map Text y.0) y.1) (ok_is (text ∷ b.0.0, b.0.1) x b.2) (another (texts_are ts b.0 b.1))
+texts_are (Plain (Text text) ∷ []) x e = absurd cc
+texts_are (Plain (Text text) ∷ t ∷ ts) x e = absurd cc
+texts_are ts x e = absurd cc
+
+text_list_is : (ts : List Sign) (x : List (List ℕ) × List Sign) → text_list_at ts ≡ Ok x → IsTest (In ∷ OpenList ∷ ts) (IsAmong (map Text x.0)) x.1
+unfolding text_list_at
+text_list_is (CloseList ∷ ts) x e = subst (λ (y : List (List ℕ) × List Sign). IsTest (In ∷ OpenList ∷ CloseList ∷ ts) (IsAmong (map Text y.0)) y.1) (ok_is ([], ts) x e) among_none
+text_list_is (t ∷ ts) x e = among (texts_are (t ∷ ts) x e)
+text_list_is [] x e = among (texts_are [] x e)
+
+in_is : (ts us : List Sign) → after_in ts ≡ Ok us → ts ≡ In ∷ us
+unfolding after_in
+in_is (In ∷ ts) us e = ap (λ (y : List Sign). In ∷ y) (ok_is ts us e)
+in_is ts us e = absurd cc
+
+keys_spelled : (n : ℕ) (path : List ℕ) (ts us vs ws : List Sign) (y : List (List ℕ) × List Sign) → ts ≡ Path path ∷ us → us ≡ In ∷ vs → vs ≡ OpenList ∷ ws → text_list_at ws ≡ Ok y
+    → Spells n Single (Keys ∷ ts) (At path (HasKeysAmong y.0)) y.1
+keys_spelled n path ts us vs ws y p q r e = rw (p, q, r) (keys (text_list_is ws y e))
+
+keys_are : (n : ℕ) (ts : List Sign) (x : Tree × List Sign) → keys_at ts ≡ Ok x → Spells n Single (Keys ∷ ts) x.0 x.1
+unfolding keys_at
+keys_are n ts x e =
+    let a = bind_ok (path_at ts) (λ p. after_in p.1 >>= λ us. after_bracket us >>= λ vs. text_list_at vs >>= λ y. Ok (At p.0 (HasKeysAmong y.0), y.1)) x e in
+    let b = bind_ok (after_in a.0.1) (λ us. after_bracket us >>= λ vs. text_list_at vs >>= λ y. Ok (At a.0.0 (HasKeysAmong y.0), y.1)) x a.2 in
+    let c = bind_ok (after_bracket b.0) (λ vs. text_list_at vs >>= λ y. Ok (At a.0.0 (HasKeysAmong y.0), y.1)) x b.2 in
+    let d = bind_ok (text_list_at c.0) (λ y. Ok (At a.0.0 (HasKeysAmong y.0), y.1)) x c.2 in
+    subst (λ (y : Tree × List Sign). Spells n Single (Keys ∷ ts) y.0 y.1) {x = (At a.0.0 (HasKeysAmong d.0.0), d.0.1)} (ok_is (At a.0.0 (HasKeysAmong d.0.0), d.0.1) x d.2)
+    (keys_spelled n a.0.0 ts a.0.1 b.0 c.0 d.0 (path_is ts a.0 a.1) (in_is a.0.1 b.0 b.1) (bracket_is b.0 c.0 c.1) d.1)
 
 open_is : (ts us : List Sign) → after_open ts ≡ Ok us → ts ≡ Open ∷ us
 unfolding after_open
@@ -215,6 +250,7 @@ module _ (n : ℕ) (right : IsRightBelow n) where
   single_is (Each ∷ ts) x e = quantified_is quantifiers.Each (Each ∷ ts) ts x each e
   single_is (Any ∷ ts) x e = quantified_is quantifiers.Any (Any ∷ ts) ts x any e
   single_is (AtWord ∷ ts) x e = threshold_is ts x e
+  single_is (Keys ∷ ts) x e = keys_are n ts x e
   single_is ts x e = absurd cc
 
   nothing_follows : {s : Separator} {ts rest : List Sign} → Follow n s ts none rest → ts ≡ rest
@@ -258,6 +294,7 @@ module _ (n : ℕ) (right : IsRightBelow n) where
   whole_is (Each ∷ ts) x e = no_if (loosest_is (Each ∷ ts) x e)
   whole_is (Any ∷ ts) x e = no_if (loosest_is (Any ∷ ts) x e)
   whole_is (AtWord ∷ ts) x e = no_if (loosest_is (AtWord ∷ ts) x e)
+  whole_is (Keys ∷ ts) x e = no_if (loosest_is (Keys ∷ ts) x e)
   whole_is ts x e = absurd cc
 
   level_is : (l : Level) (ts : List Sign) (x : Tree × List Sign) → at_level (below n) l ts ≡ Ok x → Spells n l ts x.0 x.1

@@ -44,11 +44,11 @@ use Rattle.predicates_rules.specs.declared.condition.ValueKind.{ValueKind}
 use Rattle.predicates_rules.specs.declared.condition.ValueKind.TheVariants as value_kinds
 use Rattle.predicates_rules.specs.declared.fixed.Fixed.{Fixed}
 use Rattle.predicates_rules.specs.declared.fixed.Fixed.TheVariants as fixed
-use Rattle.predicates_rules.specs.Trees.{Value, Natural, Negative, Decimal, Text, Boolean, Null, Sign, Join, If, Then, Open, Close, OpenList, CloseList, Comma, Path, Compare, Relate, Is, Plain, End, Test, TheValueIs, Compares, ComparesWith, HasLength, IsOfKind, Relates, IsAmong, Tree, At, Denied, Implies, Quantified, Joined, AtLeast, Trees, none, more}
+use Rattle.predicates_rules.specs.Trees.{Value, Natural, Negative, Decimal, Text, Boolean, Null, Sign, Join, If, Then, Open, Close, OpenList, CloseList, Comma, Path, Compare, Relate, Is, Plain, End, Test, TheValueIs, Compares, ComparesWith, HasLength, IsOfKind, Relates, IsAmong, HasKeysAmong, Tree, At, Denied, Implies, Quantified, Joined, AtLeast, Trees, none, more}
 use Rattle.predicates_rules.specs.Grammar.{Level, Single, Whole, separator_sign, part_level, IsSpelled}
 use Rattle.predicates_rules.specs.Lexemes.{text_of, sign_of_fixed, is_space, is_mark, class_of, continues, text_end, class_len, token_len, cut, begins_literal, is_shown, is_path, pointer, IsWritten, fixed_text, literal, path, IsLexed, over, space, token}
 use Rattle.predicates_rules.specs.Rules.{Says}
-use Rattle.predicates_rules.specs.Printing.{items_signs, kind_sign, test_signs, quantifier_signs, in_parentheses, stands_at, takes_if, signs_at, part_signs, follow_signs, nesting_at, IsProper, path_text, word_of, opens, closes, gap, laid_behind, laid, printed, IsDecimal, IsPath, IsValue, AreValues, IsPlainTest, IsPlainQuantifier, IsPlain, ArePlain}
+use Rattle.predicates_rules.specs.Printing.{items_signs, kind_sign, among_signs, lead_signs, test_signs, quantifier_signs, in_parentheses, stands_at, takes_if, signs_at, part_signs, follow_signs, nesting_at, IsProper, path_text, word_of, opens, closes, gap, laid_behind, laid, printed, IsDecimal, IsPath, IsValue, AreValues, IsPlainTest, IsPlainQuantifier, IsPlain, ArePlain}
 use Rattle.predicates_rules.proofs.Printed.{printed as printed_spelled}
 use Rattle.predicates_rules.proofs.Lines.{run_is}
 
@@ -283,6 +283,7 @@ fixed_run fixed.Then = (refl, refl)
 fixed_run fixed.Each = (refl, refl)
 fixed_run fixed.Any = (refl, refl)
 fixed_run fixed.At = (refl, refl)
+fixed_run fixed.Keys = (refl, refl)
 fixed_run fixed.Least = (refl, refl)
 fixed_run fixed.Of = (refl, refl)
 fixed_run fixed.StartsWith = (refl, refl)
@@ -428,6 +429,9 @@ items_words [] h = (fixed_word fixed.CloseList refl, tt)
 items_words (v ∷ []) h = (value_word v h.0, (fixed_word fixed.CloseList refl, tt))
 items_words (v ∷ w ∷ vs) h = (value_word v h.0, (fixed_word fixed.Comma refl, items_words (w ∷ vs) h.1))
 
+among_words : (vs : List Value) → AreValues vs → AreWords (among_signs vs)
+among_words vs h = (fixed_word fixed.In refl, (open_list_word, items_words vs h))
+
 test_words : (t : Test) → IsPlainTest t → AreWords (test_signs t)
 test_words (TheValueIs s) h = (state_word s, tt)
 test_words (Compares o v) h = (comparison_word o, (value_word v h, tt))
@@ -435,7 +439,12 @@ test_words (ComparesWith o other) h = (comparison_word o, (path_word other h, tt
 test_words (HasLength o n) h = (fixed_word fixed.Length refl, (comparison_word o, (value_word (Natural n) h, tt)))
 test_words (IsOfKind k) h = (fixed_word fixed.Is refl, (kind_word k, tt))
 test_words (Relates r text) h = (relation_word r, (text_word text h, tt))
-test_words (IsAmong vs) h = (fixed_word fixed.In refl, (open_list_word, items_words vs h))
+test_words (IsAmong vs) h = among_words vs h
+test_words (HasKeysAmong texts) h = among_words (map Text texts) h
+
+at_words : (p : List ℕ) (t : Test) → IsPath p → IsPlainTest t → AreWords (lead_signs t ++ Path p ∷ test_signs t)
+at_words p (HasKeysAmong texts) a b = (fixed_word fixed.Keys refl, (path_word p a, test_words (HasKeysAmong texts) b))
+at_words p t a b = (path_word p a, test_words t b)
 
 quantifier_words : (q : Quantifier) → IsPlainQuantifier q → AreWords (quantifier_signs q)
 quantifier_words quantifiers.Each h = (fixed_word fixed.Each refl, tt)
@@ -448,7 +457,7 @@ placed_words false ts a = closed_words ts a
 
 mutual
   tree_words : (e : Tree) (l : Level) → IsPlain e → AreWords (signs_at l e)
-  tree_words (At p t) l h = (path_word p h.0, test_words t h.1)
+  tree_words (At p t) l h = at_words p t h.0 h.1
   tree_words (Denied e) l h = (fixed_word fixed.Not refl, tree_words e Single h)
   tree_words (Implies a b) l h =
       placed_words (takes_if l) (If ∷ (signs_at Whole a ++ Then ∷ signs_at Whole b)) (fixed_word fixed.If refl, both_words (signs_at Whole a) (Then ∷ signs_at Whole b) (tree_words a Whole h.0) (fixed_word fixed.Then refl, tree_words b Whole h.1))

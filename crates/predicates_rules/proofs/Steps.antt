@@ -6,8 +6,8 @@ use Rattle.predicates_rules.specs.declared.expression.Connective.TheVariants.{Or
 use Rattle.predicates_rules.specs.declared.parser.Separator.{Separator}
 use Rattle.predicates_rules.specs.declared.parser.Separator.TheVariants as separators
 use Rattle.predicates_rules.specs.declared.stop.Stop.{Stop}
-use Rattle.predicates_rules.specs.Trees.{Sign, Join, Then, Path, Not, Open, Each, Any, AtWord, Close, Comma, End, Tree}
-use Rattle.predicates_rules.specs.Grammar.{Level, By, Single, Whole, Premise, tighter, separator_sign, part_level, Spells, test, denied, group, quantified, at_least, alone, joined, no_if, implied, premise, each, any, at_least_items}
+use Rattle.predicates_rules.specs.Trees.{Sign, Join, Then, Path, Not, Open, Each, Any, AtWord, Keys, Close, Comma, End, Tree}
+use Rattle.predicates_rules.specs.Grammar.{Level, By, Single, Whole, Premise, tighter, separator_sign, part_level, Spells, test, keys, denied, group, quantified, at_least, alone, joined, no_if, implied, premise, each, any, at_least_items}
 use Rattle.predicates_rules.specs.Answers.{◌>>=◌}
 use Rattle.predicates_rules.specs.Reading.{Answer, same, after_join, after_comma, after_separator, begins, chain, whole, at_level}
 
@@ -30,6 +30,7 @@ whole_step deeper (Open ∷ ts) h = refl
 whole_step deeper (Each ∷ ts) h = refl
 whole_step deeper (Any ∷ ts) h = refl
 whole_step deeper (AtWord ∷ ts) h = refl
+whole_step deeper (Keys ∷ ts) h = refl
 whole_step deeper ts h = absurd cc
 
 -- no implication is of these levels
@@ -45,6 +46,7 @@ tighter_is_join And = refl
 
 begins_as : {n : ℕ} {l : Level} {ts : List Sign} {e : Tree} {rest : List Sign} → Spells n l ts e rest → is_join l ≡ true → begins_front ts ≡ true
 begins_as (test t) h = refl
+begins_as (keys t) h = refl
 begins_as (denied d) h = refl
 begins_as (group d) h = refl
 begins_as (quantified each d) h = refl

@@ -1,5 +1,5 @@
 -- Which tokens spell which expression.
-use Rattle.std.specs.Prelude.{ℕ, suc, List, [], ◌∷◌}
+use Rattle.std.specs.Prelude.{ℕ, suc, List, [], ◌∷◌, map}
 use Rattle.predicates_rules.specs.declared.expression.Connective.{Connective}
 use Rattle.predicates_rules.specs.declared.expression.Connective.TheVariants.{Or, Xor, And}
 use Rattle.predicates_rules.specs.declared.expression.Quantifier.{Quantifier}
@@ -11,7 +11,7 @@ use Rattle.predicates_rules.specs.declared.condition.Relation.{Relation}
 use Rattle.predicates_rules.specs.declared.condition.State.{State}
 use Rattle.predicates_rules.specs.declared.condition.ValueKind.{ValueKind}
 use Rattle.predicates_rules.specs.declared.condition.ValueKind.TheVariants as value_kinds
-use Rattle.predicates_rules.specs.Trees.{Value, Natural, Text, Null, Sign, Join, Not, If, Then, Each, Any, AtWord, Least, Of, Open, Close, OpenList, CloseList, Comma, Path, Compare, Relate, In, Is, Length, IsKind, KindName, Plain, End, Test, TheValueIs, Compares, ComparesWith, HasLength, IsOfKind, Relates, IsAmong, Tree, At, Denied, Implies, Quantified, Joined, AtLeast, Trees, none, more}
+use Rattle.predicates_rules.specs.Trees.{Value, Natural, Text, Null, Sign, Join, Not, If, Then, Each, Any, AtWord, Keys, Least, Of, Open, Close, OpenList, CloseList, Comma, Path, Compare, Relate, In, Is, Length, IsKind, KindName, Plain, End, Test, TheValueIs, Compares, ComparesWith, HasLength, IsOfKind, Relates, IsAmong, HasKeysAmong, Tree, At, Denied, Implies, Quantified, Joined, AtLeast, Trees, none, more}
 
 -- How tightly an expression holds together: one joined by c or by what binds tighter, or a single
 -- one. A whole one may be an implication too. So may a premise, what stands behind an `if`, which
@@ -83,6 +83,8 @@ mutual
   pub data Spells : ℕ → Level → List Sign → Tree → List Sign → Type 0 where
     -- PATH ..
     test : {n : ℕ} {path : List ℕ} {t : Test} {ts rest : List Sign} → IsTest ts t rest → Spells n Single (Path path ∷ ts) (At path t) rest
+    -- keys PATH in [ T , .. , T ]
+    keys : {n : ℕ} {path : List ℕ} {texts : List (List ℕ)} {ts rest : List Sign} → IsTest ts (IsAmong (map Text texts)) rest → Spells n Single (Keys ∷ Path path ∷ ts) (At path (HasKeysAmong texts)) rest
     -- not E
     denied : {n : ℕ} {e : Tree} {ts rest : List Sign} → Spells n Single ts e rest → Spells (suc n) Single (Not ∷ ts) (Denied e) rest
     -- ( E )

@@ -13,7 +13,7 @@ use Rattle.predicates_rules.specs.declared.fixed.Fixed.{Fixed}
 use Rattle.predicates_rules.specs.declared.fixed.Fixed.TheVariants as fixed
 use Rattle.predicates_rules.specs.declared.lexer.Class.{Class}
 use Rattle.predicates_rules.specs.declared.lexer.Class.TheVariants.{Letter, Digit, Symbol, Mark, Slash, Quote, Space, Name, Other}
-use Rattle.predicates_rules.specs.Trees.{Value, Natural, Negative, Decimal, Text, Boolean, Null, Sign, Join, Not, If, Then, Each, Any, AtWord, Least, Of, Open, Close, OpenList, CloseList, Comma, Path, Compare, Relate, In, Is, Length, IsKind, KindName, Plain, End}
+use Rattle.predicates_rules.specs.Trees.{Value, Natural, Negative, Decimal, Text, Boolean, Null, Sign, Join, Not, If, Then, Each, Any, AtWord, Keys, Least, Of, Open, Close, OpenList, CloseList, Comma, Path, Compare, Relate, In, Is, Length, IsKind, KindName, Plain, End}
 
 -- ---- tokens with a text of their own
 
@@ -27,6 +27,7 @@ text_of fixed.Then = codes "then"
 text_of fixed.Each = codes "each"
 text_of fixed.Any = codes "any"
 text_of fixed.At = codes "at"
+text_of fixed.Keys = codes "keys"
 text_of fixed.Least = codes "least"
 text_of fixed.Of = codes "of"
 text_of fixed.StartsWith = codes "starts_with"
@@ -70,6 +71,7 @@ sign_of_fixed fixed.Then = Then
 sign_of_fixed fixed.Each = Each
 sign_of_fixed fixed.Any = Any
 sign_of_fixed fixed.At = AtWord
+sign_of_fixed fixed.Keys = Keys
 sign_of_fixed fixed.Least = Least
 sign_of_fixed fixed.Of = Of
 sign_of_fixed fixed.StartsWith = Relate relations.StartsWith
@@ -104,7 +106,7 @@ sign_of_fixed fixed.CloseList = CloseList
 sign_of_fixed fixed.Comma = Comma
 
 abbrev pub all_fixed : List Fixed
-all_fixed = fixed.Or ∷ fixed.Xor ∷ fixed.And ∷ fixed.Not ∷ fixed.If ∷ fixed.Then ∷ fixed.Each ∷ fixed.Any ∷ fixed.At ∷ fixed.Least ∷ fixed.Of ∷ fixed.StartsWith ∷ fixed.EndsWith ∷ fixed.Contains ∷ fixed.Matches ∷ fixed.In ∷ fixed.Exists ∷ fixed.Missing ∷ fixed.IsEmpty ∷ fixed.Length ∷ fixed.Is ∷ fixed.Text ∷ fixed.Number ∷ fixed.Whole ∷ fixed.Bool ∷ fixed.Array ∷ fixed.Object ∷ fixed.True ∷ fixed.False ∷ fixed.Null ∷ fixed.Equal ∷ fixed.Unequal ∷ fixed.Below ∷ fixed.AtMost ∷ fixed.Above ∷ fixed.AtLeast ∷ fixed.Open ∷ fixed.Close ∷ fixed.OpenList ∷ fixed.CloseList ∷ fixed.Comma ∷ []
+all_fixed = fixed.Or ∷ fixed.Xor ∷ fixed.And ∷ fixed.Not ∷ fixed.If ∷ fixed.Then ∷ fixed.Each ∷ fixed.Any ∷ fixed.At ∷ fixed.Keys ∷ fixed.Least ∷ fixed.Of ∷ fixed.StartsWith ∷ fixed.EndsWith ∷ fixed.Contains ∷ fixed.Matches ∷ fixed.In ∷ fixed.Exists ∷ fixed.Missing ∷ fixed.IsEmpty ∷ fixed.Length ∷ fixed.Is ∷ fixed.Text ∷ fixed.Number ∷ fixed.Whole ∷ fixed.Bool ∷ fixed.Array ∷ fixed.Object ∷ fixed.True ∷ fixed.False ∷ fixed.Null ∷ fixed.Equal ∷ fixed.Unequal ∷ fixed.Below ∷ fixed.AtMost ∷ fixed.Above ∷ fixed.AtLeast ∷ fixed.Open ∷ fixed.Close ∷ fixed.OpenList ∷ fixed.CloseList ∷ fixed.Comma ∷ []
 
 unfoldable pub fixed_at : List ℕ → Option Fixed
 fixed_at word = find (λ f. bytes_eq (text_of f) word) all_fixed

@@ -1,5 +1,5 @@
 -- How an expression is written, with no more parentheses than it needs.
-use Rattle.std.specs.Prelude.{◌≡◌, ◌⊎◌, ◌==◌, ℕ, suc, Some, ◌<◌, ◌^◌, max, pos, negsuc, Float, Bool, true, false, ◌&&◌, ◌||◌, List, [], ◌∷◌, ◌++◌, if◌then◌else◌}
+use Rattle.std.specs.Prelude.{◌≡◌, ◌⊎◌, ◌==◌, ℕ, suc, Some, ◌<◌, ◌^◌, max, pos, negsuc, Float, Bool, true, false, ◌&&◌, ◌||◌, List, [], ◌∷◌, ◌++◌, map, if◌then◌else◌}
 use Rattle.std.specs.List.{list_all}
 use Rattle.std.specs.Str.{IsUtf8, is_utf8}
 use Rattle.serde_json.specs.Data.{number, float}
@@ -18,7 +18,7 @@ use Rattle.predicates_rules.specs.declared.condition.ValueKind.{ValueKind}
 use Rattle.predicates_rules.specs.declared.condition.ValueKind.TheVariants as value_kinds
 use Rattle.predicates_rules.specs.declared.fixed.Fixed.TheVariants as fixed
 use Rattle.predicates_rules.specs.declared.lexer.Class.TheVariants.{Digit, Slash}
-use Rattle.predicates_rules.specs.Trees.{Value, Natural, Negative, Decimal, Text, Boolean, Null, Sign, Join, Not, If, Then, Each, Any, AtWord, Least, Of, Open, Close, OpenList, CloseList, Comma, Path, Compare, Relate, In, Is, Length, IsKind, KindName, Plain, End, Test, TheValueIs, Compares, ComparesWith, HasLength, IsOfKind, Relates, IsAmong, Tree, At, Denied, Implies, Quantified, Joined, AtLeast, Trees, none, more}
+use Rattle.predicates_rules.specs.Trees.{Value, Natural, Negative, Decimal, Text, Boolean, Null, Sign, Join, Not, If, Then, Each, Any, AtWord, Keys, Least, Of, Open, Close, OpenList, CloseList, Comma, Path, Compare, Relate, In, Is, Length, IsKind, KindName, Plain, End, Test, TheValueIs, Compares, ComparesWith, HasLength, IsOfKind, Relates, IsAmong, HasKeysAmong, Tree, At, Denied, Implies, Quantified, Joined, AtLeast, Trees, none, more}
 use Rattle.predicates_rules.specs.Grammar.{Level, By, Single, Whole, Premise, separator_sign, part_level}
 use Rattle.predicates_rules.specs.Lexemes.{class_of, continues, is_shown, text_of, data_of}
 
@@ -35,6 +35,16 @@ abbrev pub kind_sign : ValueKind → Sign
 kind_sign value_kinds.Null = Plain Null
 kind_sign k = KindName k
 
+-- in [ v , .. , v ]
+abbrev pub among_signs : List Value → List Sign
+among_signs vs = In ∷ OpenList ∷ items_signs vs
+
+-- what stands before the path of a test
+abbrev pub lead_signs : Test → List Sign
+lead_signs (HasKeysAmong texts) = Keys ∷ []
+lead_signs t = []
+
+-- and behind it
 abbrev pub test_signs : Test → List Sign
 test_signs (TheValueIs s) = Is s ∷ []
 test_signs (Compares o v) = Compare o ∷ Plain v ∷ []
@@ -42,7 +52,8 @@ test_signs (ComparesWith o path) = Compare o ∷ Path path ∷ []
 test_signs (HasLength o n) = Length ∷ Compare o ∷ Plain (Natural n) ∷ []
 test_signs (IsOfKind k) = IsKind ∷ kind_sign k ∷ []
 test_signs (Relates r text) = Relate r ∷ Plain (Text text) ∷ []
-test_signs (IsAmong vs) = In ∷ OpenList ∷ items_signs vs
+test_signs (IsAmong vs) = among_signs vs
+test_signs (HasKeysAmong texts) = among_signs (map Text texts)
 
 abbrev pub quantifier_signs : Quantifier → List Sign
 quantifier_signs quantifiers.Each = Each ∷ []
@@ -78,7 +89,7 @@ stands_at l c es = has_parts es && fits l c
 
 abbrev mutual
   pub signs_at : Level → Tree → List Sign
-  signs_at l (At path t) = Path path ∷ test_signs t
+  signs_at l (At path t) = lead_signs t ++ Path path ∷ test_signs t
   signs_at l (Denied e) = Not ∷ signs_at Single e
   signs_at l (Implies a b) = if takes_if l then If ∷ (signs_at Whole a ++ Then ∷ signs_at Whole b) else in_parentheses (If ∷ (signs_at Whole a ++ Then ∷ signs_at Whole b))
   signs_at l (Quantified q path e) = quantifier_signs q ++ Path path ∷ in_parentheses (signs_at Whole e)
@@ -153,6 +164,7 @@ word_of Then = text_of fixed.Then
 word_of Each = text_of fixed.Each
 word_of Any = text_of fixed.Any
 word_of AtWord = text_of fixed.At
+word_of Keys = text_of fixed.Keys
 word_of Least = text_of fixed.Least
 word_of Of = text_of fixed.Of
 word_of Open = text_of fixed.Open
@@ -257,6 +269,7 @@ IsPlainTest (HasLength o n) = IsValue (Natural n)
 IsPlainTest (IsOfKind k) = Unit {0}
 IsPlainTest (Relates r text) = IsUtf8 text
 IsPlainTest (IsAmong vs) = AreValues vs
+IsPlainTest (HasKeysAmong texts) = AreValues (map Text texts)
 
 abbrev pub IsPlainQuantifier : Quantifier → Type 0
 IsPlainQuantifier quantifiers.Each = Unit {0}

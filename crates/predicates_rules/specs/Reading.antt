@@ -13,7 +13,7 @@ use Rattle.predicates_rules.specs.declared.error.Expected.{Expected}
 use Rattle.predicates_rules.specs.declared.error.Expected.TheVariants as expected
 use Rattle.predicates_rules.specs.declared.error.Reason.TheVariants.{TooDeep}
 use Rattle.predicates_rules.specs.declared.stop.Stop.{Stop}
-use Rattle.predicates_rules.specs.Trees.{Value, Natural, Text, Null, Sign, Join, Not, If, Then, Each, Any, AtWord, Least, Of, Open, Close, OpenList, CloseList, Comma, Path, Compare, Relate, In, Is, Length, IsKind, KindName, Plain, End, Test, TheValueIs, Compares, ComparesWith, HasLength, IsOfKind, Relates, IsAmong, Tree, At, Denied, Implies, Quantified, Joined, AtLeast, Trees, none, more}
+use Rattle.predicates_rules.specs.Trees.{Value, Natural, Text, Null, Sign, Join, Not, If, Then, Each, Any, AtWord, Keys, Least, Of, Open, Close, OpenList, CloseList, Comma, Path, Compare, Relate, In, Is, Length, IsKind, KindName, Plain, End, Test, TheValueIs, Compares, ComparesWith, HasLength, IsOfKind, Relates, IsAmong, HasKeysAmong, Tree, At, Denied, Implies, Quantified, Joined, AtLeast, Trees, none, more}
 use Rattle.predicates_rules.specs.Grammar.{Level, By, Single, Whole, Premise, tighter}
 use Rattle.predicates_rules.specs.Answers.{◌>>=◌, stops}
 
@@ -94,6 +94,29 @@ test_at ts = fails expected.Condition ts
 unfoldable pub path_at : List Sign → Result (List ℕ × List Sign) Stop
 path_at (Path path ∷ ts) = Ok (path, ts)
 path_at ts = fails expected.Path ts
+
+unfoldable pub after_in : List Sign → Result (List Sign) Stop
+after_in (In ∷ ts) = Ok ts
+after_in ts = fails expected.In ts
+
+unfoldable pub texts_at : List Sign → Result (List (List ℕ) × List Sign) Stop
+texts_at (Plain (Text text) ∷ CloseList ∷ ts) = Ok (text ∷ [], ts)
+texts_at (Plain (Text text) ∷ Comma ∷ ts) = texts_at ts >>= λ x. Ok (text ∷ x.0, x.1)
+texts_at (Plain (Text text) ∷ ts) = fails expected.ListGoesOn ts
+texts_at ts = fails expected.Text ts
+
+unfoldable pub text_list_at : List Sign → Result (List (List ℕ) × List Sign) Stop
+text_list_at (CloseList ∷ ts) = Ok ([], ts)
+text_list_at ts = texts_at ts
+
+-- what stands behind `keys`
+unfoldable pub keys_at : List Sign → Answer
+keys_at ts = do
+  path ← path_at ts
+  us ← after_in path.1
+  vs ← after_bracket us
+  x ← text_list_at vs
+  Ok (At path.0 (HasKeysAmong x.0), x.1)
 
 unfoldable pub after_open : List Sign → Result (List Sign) Stop
 after_open (Open ∷ ts) = Ok ts
@@ -183,6 +206,7 @@ single deeper (Open ∷ ts) = group deeper ts
 single deeper (Each ∷ ts) = quantified deeper quantifiers.Each ts
 single deeper (Any ∷ ts) = quantified deeper quantifiers.Any ts
 single deeper (AtWord ∷ ts) = threshold deeper ts
+single deeper (Keys ∷ ts) = keys_at ts
 single deeper ts = fails expected.Expression ts
 
 abbrev pub join : Connective → Tree → Trees → Tree
@@ -215,6 +239,7 @@ begins Open = true
 begins Each = true
 begins Any = true
 begins AtWord = true
+begins Keys = true
 begins t = false
 
 unfoldable pub whole : (Level → List Sign → Answer) → List Sign → Answer

@@ -33,6 +33,7 @@ pub data Sign : Type 0 where
   Each : Sign
   Any : Sign
   AtWord : Sign
+  Keys : Sign
   Least : Sign
   Of : Sign
   Open : Sign
@@ -61,6 +62,7 @@ pub data Test : Type 0 where
   IsOfKind : (k : ValueKind) → Test
   Relates : (r : Relation) → (text : List ℕ) → Test
   IsAmong : (vs : List Value) → Test
+  HasKeysAmong : (texts : List (List ℕ)) → Test
 
 mutual
   pub data Tree : Type 0 where
@@ -95,6 +97,7 @@ sign_of kinds.Then = Then
 sign_of kinds.Each = Each
 sign_of kinds.Any = Any
 sign_of kinds.At = AtWord
+sign_of kinds.Keys = Keys
 sign_of kinds.Least = Least
 sign_of kinds.Of = Of
 sign_of kinds.Open = Open
@@ -124,6 +127,7 @@ test_of (conditions.Length o n) = HasLength o n
 test_of (conditions.IsOf k) = IsOfKind k
 test_of (conditions.Relate r text) = Relates r (string_bytes text)
 test_of (conditions.In vs) = IsAmong (map value_of vs.items)
+test_of (conditions.KeysIn texts) = HasKeysAmong (map string_bytes texts.items)
 
 -- one level, with each part already seen as its tree
 abbrev pub tree_step : Expression-F Tree → Tree

@@ -1,11 +1,11 @@
 -- The text of an expression, part by part as it is written.
-use Rattle.std.specs.Prelude.{ℕ, zero, suc, List, [], ◌∷◌, ◌++◌, codes, decimal, if◌then◌else◌}
+use Rattle.std.specs.Prelude.{ℕ, zero, suc, List, [], ◌∷◌, ◌++◌, map, codes, decimal, if◌then◌else◌}
 use Rattle.std.specs.List.{flat_map}
 use Rattle.predicates_rules.specs.declared.expression.Quantifier.{Quantifier}
 use Rattle.predicates_rules.specs.declared.expression.Quantifier.TheVariants as quantifiers
 use Rattle.predicates_rules.specs.declared.parser.Separator.{Separator}
 use Rattle.predicates_rules.specs.declared.parser.Separator.TheVariants as separators
-use Rattle.predicates_rules.specs.Trees.{Value, Text, Join, Compare, Relate, Is, Test, TheValueIs, Compares, ComparesWith, HasLength, IsOfKind, Relates, IsAmong, Tree, At, Denied, Implies, Quantified, Joined, AtLeast, Trees, none, more}
+use Rattle.predicates_rules.specs.Trees.{Value, Text, Join, Compare, Relate, Is, Test, TheValueIs, Compares, ComparesWith, HasLength, IsOfKind, Relates, IsAmong, HasKeysAmong, Tree, At, Denied, Implies, Quantified, Joined, AtLeast, Trees, none, more}
 use Rattle.predicates_rules.specs.Grammar.{Level, Single, Whole, part_level}
 use Rattle.predicates_rules.specs.Printing.{kind_sign, test_signs, stands_at, takes_if, path_text, value_text, word_of, laid}
 
@@ -14,6 +14,9 @@ abbrev pub items_text : List Value → List ℕ
 items_text [] = []
 items_text (v ∷ vs) = value_text v ++ flat_map (λ w. codes ", " ++ value_text w) vs
 
+abbrev pub among_text : List Value → List ℕ
+among_text vs = codes "in [" ++ (items_text vs ++ codes "]")
+
 abbrev pub test_text : Test → List ℕ
 test_text (TheValueIs s) = word_of (Is s)
 test_text (Compares o v) = word_of (Compare o) ++ (codes " " ++ value_text v)
@@ -21,7 +24,13 @@ test_text (ComparesWith o path) = word_of (Compare o) ++ (codes " " ++ path_text
 test_text (HasLength o n) = codes "length " ++ (word_of (Compare o) ++ (codes " " ++ decimal n))
 test_text (IsOfKind k) = codes "is " ++ word_of (kind_sign k)
 test_text (Relates r text) = word_of (Relate r) ++ (codes " " ++ value_text (Text text))
-test_text (IsAmong vs) = codes "in [" ++ (items_text vs ++ codes "]")
+test_text (IsAmong vs) = among_text vs
+test_text (HasKeysAmong texts) = among_text (map Text texts)
+
+-- what stands before the path of a test
+abbrev pub lead_text : Test → List ℕ
+lead_text (HasKeysAmong texts) = codes "keys "
+lead_text t = []
 
 abbrev pub quantifier_text : Quantifier → List ℕ
 quantifier_text quantifiers.Each = codes "each"
@@ -44,7 +53,7 @@ closing l = if takes_if l then [] else codes ")"
 
 abbrev mutual
   pub tree_text : Level → Tree → List ℕ
-  tree_text l (At path t) = path_text path ++ (codes " " ++ laid (test_signs t))
+  tree_text l (At path t) = lead_text t ++ (path_text path ++ (codes " " ++ laid (test_signs t)))
   tree_text l (Denied e) = codes "not " ++ tree_text Single e
   tree_text l (Implies a b) = opening l ++ (tree_text Whole a ++ (codes " then " ++ (tree_text Whole b ++ closing l)))
   tree_text l (Quantified q path e) = quantifier_text q ++ (codes " " ++ (path_text path ++ (codes " " ++ grouped (tree_text Whole e))))

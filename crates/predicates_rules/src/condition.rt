@@ -61,4 +61,7 @@ pub enum Condition {
     Relate(Relation, String),
     /// It is one of these, of which there may be none.
     In(Vec<Literal>),
+    /// It is an object, and each of its keys is one of these, of which there may be none. A rule
+    /// writes `keys` before the path: `keys /a in ["b", "c"]`.
+    KeysIn(Vec<String>),
 }

@@ -13,7 +13,7 @@ pub enum Expected {
     Name,
     /// The colon behind a rule's name.
     Colon,
-    /// A path, `not`, `each`, `any`, `at` or a parenthesis.
+    /// A path, `not`, `each`, `any`, `at`, `keys` or a parenthesis.
     Expression,
     /// One of these, or `if`.
     Whole,
@@ -27,8 +27,10 @@ pub enum Expected {
     Comparison,
     /// The word for the kind of a value.
     Kind,
-    /// A text, as the operator before it takes nothing else.
+    /// A text, as what is before it takes nothing else.
     Text,
+    /// The word `in` behind `keys` and its path.
+    In,
     /// The bracket that opens a list.
     List,
     /// A comma, or the bracket that closes a list.
@@ -66,8 +68,8 @@ impl fmt::Display for Expected {
         let text = match self {
             Expected::Name => "the name of a rule",
             Expected::Colon => "`:` behind the name of a rule",
-            Expected::Expression => "a path, `not`, `each`, `any`, `at` or `(`",
-            Expected::Whole => "a path, `not`, `each`, `any`, `at`, `if` or `(`",
+            Expected::Expression => "a path, `not`, `each`, `any`, `at`, `keys` or `(`",
+            Expected::Whole => "a path, `not`, `each`, `any`, `at`, `keys`, `if` or `(`",
             Expected::Path => "a path",
             Expected::Condition => "an operator, `exists`, `missing`, `is_empty`, `length` or `is`",
             Expected::Literal => "a literal",
@@ -75,6 +77,7 @@ impl fmt::Display for Expected {
             Expected::Comparison => "`==`, `!=`, `<`, `<=`, `>` or `>=`",
             Expected::Kind => "`text`, `number`, `whole`, `bool`, `array`, `object` or `null`",
             Expected::Text => "a text in quotes",
+            Expected::In => "`in`",
             Expected::List => "`[`",
             Expected::ListGoesOn => "`,` or `]`",
             Expected::Least => "`least`",

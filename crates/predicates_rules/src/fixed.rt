@@ -22,6 +22,7 @@ pub enum Fixed {
     Each,
     Any,
     At,
+    Keys,
     Least,
     Of,
     StartsWith,
@@ -57,7 +58,7 @@ pub enum Fixed {
 }
 
 /// All of them.
-pub const ALL: [Fixed; 41] = [
+pub const ALL: [Fixed; 42] = [
     Fixed::Or,
     Fixed::Xor,
     Fixed::And,
@@ -67,6 +68,7 @@ pub const ALL: [Fixed; 41] = [
     Fixed::Each,
     Fixed::Any,
     Fixed::At,
+    Fixed::Keys,
     Fixed::Least,
     Fixed::Of,
     Fixed::StartsWith,
@@ -115,6 +117,7 @@ pub fn text(fixed: Fixed) -> &'static [u8]
         Fixed::Each => b"each",
         Fixed::Any => b"any",
         Fixed::At => b"at",
+        Fixed::Keys => b"keys",
         Fixed::Least => b"least",
         Fixed::Of => b"of",
         Fixed::StartsWith => b"starts_with",
@@ -164,6 +167,7 @@ pub fn kind(fixed: Fixed) -> Kind
         Fixed::Each => Kind::Each,
         Fixed::Any => Kind::Any,
         Fixed::At => Kind::At,
+        Fixed::Keys => Kind::Keys,
         Fixed::Least => Kind::Least,
         Fixed::Of => Kind::Of,
         Fixed::StartsWith => Kind::Relation(Relation::StartsWith),

@@ -18,6 +18,8 @@ pub enum Hint {
     Text,
     /// An implication in parentheses, which are missing.
     Parentheses,
+    /// The word `keys`, which stands before its path.
+    KeysFirst,
 }
 
 impl fmt::Display for Hint {
@@ -27,6 +29,7 @@ impl fmt::Display for Hint {
             Hint::Path => f.write_str("a path begins with `/`"),
             Hint::Text => f.write_str("a text stands in double quotes"),
             Hint::Parentheses => f.write_str("`if` needs parentheses here"),
+            Hint::KeysFirst => f.write_str("`keys` stands before the path"),
         }
     }
 }
@@ -121,7 +124,7 @@ fn place_behind(before: &[u8]) -> Place {
         _ => {}
     }
     match last_word(before) {
-        b"not" | b"and" | b"or" | b"xor" | b"each" | b"any" => Place::Expression,
+        b"not" | b"and" | b"or" | b"xor" | b"each" | b"any" | b"keys" => Place::Expression,
         b"if" | b"then" => Place::Expression,
         b"starts_with" | b"ends_with" | b"contains" | b"matches" => Place::Literal,
         _ => Place::Unknown,
@@ -163,6 +166,7 @@ fn known_word(reason: Reason, word: &str, after: &[u8]) -> Option<Hint> {
             Some(Hint::Path)
         }
         Reason::Expected(Expected::Expression) if word == "if" => Some(Hint::Parentheses),
+        Reason::Expected(Expected::Condition) if word == "keys" => Some(Hint::KeysFirst),
         _ => None,
     }
 }

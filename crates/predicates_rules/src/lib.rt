@@ -13,6 +13,7 @@
 //!              PATH length == K    and the others; of a text, an array or an object
 //!              PATH is text   and number, whole, bool, array, object, null
 //!              PATH in [ L, .. ]
+//!              keys PATH in [ T, .. ]            an object with no other keys
 //!              PATH starts_with T      and ends_with, contains, matches
 //! ```
 //!

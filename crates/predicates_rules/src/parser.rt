@@ -5,7 +5,7 @@ ghost use Rattle.predicates_rules.specs.Trees.{Tree, Sign, value_of, test_of, tr
 ghost use Rattle.predicates_rules.specs.Grammar.{tighter, part_level, Whole, IsSpelled};
 ghost use Rattle.predicates_rules.specs.Levels.{level_of};
 ghost use Rattle.predicates_rules.specs.Answers.{Gives, IsSyntax, stop_at};
-ghost use Rattle.predicates_rules.specs.Reading.{literal_at, goes_on_at, items_at, list_at, after_bracket, text_at, compared_at, comparison_at, length_at, kind_at, test_at, path_at, after_open, after_close, after_then, after_least, count_at, same, after_join, after_comma, after_separator, group, quantified, listed, counted, threshold, single, part_at, parts_at, join, chain, implication, whole, at_level, below, is_end, all_of};
+ghost use Rattle.predicates_rules.specs.Reading.{literal_at, goes_on_at, items_at, list_at, after_bracket, text_at, compared_at, comparison_at, length_at, kind_at, test_at, after_in, texts_at, text_list_at, keys_at, path_at, after_open, after_close, after_then, after_least, count_at, same, after_join, after_comma, after_separator, group, quantified, listed, counted, threshold, single, part_at, parts_at, join, chain, implication, whole, at_level, below, is_end, all_of};
 
 use crate::condition::{Comparison, Condition, ValueKind};
 use crate::error::{Expected, Reason};
@@ -202,6 +202,62 @@ fn list(alloc: Global, tokens: &[Token]) -> Result<(Vec<Literal>, &[Token]), Rea
         Kind::CloseList => Ok((Vec::new(alloc), rest)),
         _ => items(alloc, tokens),
     }
+}
+
+#[tactic(auto, unfolding(crate::specs::Reading::after_in))]
+fn behind_in(tokens: &[Token]) -> Result<&[Token], ReadError>
+    ensures { Gives (λ x. signs x.now) result (after_in (signs tokens.now)) }
+{
+    let [first, rest @ ..] = tokens else {
+        return Err(stop(Expected::In, tokens));
+    };
+    match first.kind {
+        Kind::In => Ok(rest),
+        _ => Err(stop(Expected::In, tokens)),
+    }
+}
+
+fn texts(alloc: Global, tokens: &[Token]) -> Result<(Vec<String>, &[Token]), ReadError>
+    ensures { Gives (λ x. (map string_bytes x.0.items, signs x.1.now)) result
+        (texts_at (signs tokens.now)) }
+{
+    let mut texts = Vec::new(alloc);
+    let mut left = tokens;
+    loop {
+        let (text, rest) = text(left)?;
+        texts.push(text)?;
+        let (more, rest) = goes_on(rest)?;
+        left = rest;
+        if !more {
+            return Ok((texts, left));
+        }
+    }
+}
+
+#[tactic(auto, unfolding(crate::specs::Reading::text_list_at))]
+fn text_list(alloc: Global, tokens: &[Token]) -> Result<(Vec<String>, &[Token]), ReadError>
+    ensures { Gives (λ x. (map string_bytes x.0.items, signs x.1.now)) result
+        (text_list_at (signs tokens.now)) }
+{
+    let [first, rest @ ..] = tokens else {
+        return texts(alloc, tokens);
+    };
+    match first.kind {
+        Kind::CloseList => Ok((Vec::new(alloc), rest)),
+        _ => texts(alloc, tokens),
+    }
+}
+
+// What stands behind `keys`.
+#[tactic(auto, unfolding(crate::specs::Reading::keys_at))]
+fn keys(alloc: Global, tokens: &[Token]) -> Result<(Expression, &[Token]), ReadError>
+    ensures { Gives (λ x. (tree_of x.0, signs x.1.now)) result (keys_at (signs tokens.now)) }
+{
+    let (path, rest) = path_of(tokens)?;
+    let rest = behind_in(rest)?;
+    let rest = bracket(rest)?;
+    let (texts, rest) = text_list(alloc, rest)?;
+    Ok((Expression::Test(path, Condition::KeysIn(texts)), rest))
 }
 
 // What a value is compared with.
@@ -484,9 +540,10 @@ fn whole(alloc: Global, depth: u32, tokens: &[Token]) -> Result<(Expression, &[T
     };
     match first.kind {
         Kind::If => implication(alloc, depth, rest),
-        Kind::Path(_) | Kind::Not | Kind::Open | Kind::Each | Kind::Any | Kind::At => {
+        Kind::Path(_) | Kind::Keys | Kind::Not | Kind::Open => {
             joined(alloc, Connective::Or, depth, tokens)
         }
+        Kind::Each | Kind::Any | Kind::At => joined(alloc, Connective::Or, depth, tokens),
         _ => Err(stop(Expected::Whole, tokens)),
     }
 }
@@ -532,6 +589,7 @@ fn alone(alloc: Global, depth: u32, tokens: &[Token]) -> Result<(Expression, &[T
         Kind::Each => over_items(alloc, Quantifier::Each, depth, rest),
         Kind::Any => over_items(alloc, Quantifier::Any, depth, rest),
         Kind::At => threshold(alloc, depth, rest),
+        Kind::Keys => keys(alloc, rest),
         _ => Err(stop(Expected::Expression, tokens)),
     }
 }

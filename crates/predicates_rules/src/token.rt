@@ -13,6 +13,7 @@ pub enum Kind {
     Each,
     Any,
     At,
+    Keys,
     Least,
     Of,
     Open,

@@ -48,7 +48,7 @@ fn prints(alloc: Global, text: &str, expected: &str) -> Result<bool, AllocError>
 }
 
 // The expression of a rule, and how it is printed.
-const PRINTED: [(&str, &str); 46] = [
+const PRINTED: [(&str, &str); 50] = [
     ("/a==1", "/a == 1"),
     ("/\t exists", "/ exists"),
     ("/a/b~1c missing", "/a/b~1c missing"),
@@ -139,6 +139,16 @@ const PRINTED: [(&str, &str); 46] = [
     (
         "at least 1 of((if/a exists then/b exists),any/(if/ exists then/ exists))",
         "at least 1 of (if /a exists then /b exists, any / (if / exists then / exists))",
+    ),
+    ("keys/a in[]", "keys /a in []"),
+    (
+        "keys\t^/ in[\"b\\/c\",\"\\u00e9\" , \"\"]",
+        "keys ^/ in [\"b/c\", \"é\", \"\"]",
+    ),
+    ("not(keys / in[\"b\"])", "not keys / in [\"b\"]"),
+    (
+        "each/lines((keys/ in[\"sku\"])or/ is text)",
+        "each /lines (keys / in [\"sku\"] or / is text)",
     ),
 ];
 

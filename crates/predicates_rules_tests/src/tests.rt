@@ -31,7 +31,7 @@ fn shows(alloc: Global, text: &str, expected: &str) -> Result<bool, AllocError> 
 }
 
 // A text, and the rules that it says, as `Debug` shows them.
-const READ: [(&str, &str); 22] = [
+const READ: [(&str, &str); 24] = [
     (
         "\u{feff}# a\na: /b == 1",
         "Rule { name: \"a\", expression: Test(\"/b\", Compare(Equal, Natural(1))) }\n",
@@ -113,6 +113,14 @@ const READ: [(&str, &str); 22] = [
     (
         "\"a guest: 18 #1\":/a == 1 # b\n\t\"\\u00e9\\\"\": / exists\n\"c\": / exists",
         "Rule { name: \"a guest: 18 #1\", expression: Test(\"/a\", Compare(Equal, Natural(1))) }\nRule { name: \"é\\\"\", expression: Test(\"\", Is(Exists)) }\nRule { name: \"c\", expression: Test(\"\", Is(Exists)) }\n",
+    ),
+    (
+        "k: keys /a in [\"b\", \"c\"] or keys ^/ in[ ] and not keys / in[\"\\u00e9\",\"b\",\"b\"]",
+        "Rule { name: \"k\", expression: Joined(Or, [Test(\"/a\", KeysIn([\"b\", \"c\"])), Joined(And, [Test(\"^\", KeysIn([])), Not(Test(\"\", KeysIn([\"é\", \"b\", \"b\"])))])]) }\n",
+    ),
+    (
+        "keys: each /keys (keys/ in[\"keys\"])\nin: if keys ^/a in [\"in\"] then at least 1 of (keys / in [], / is null)",
+        "Rule { name: \"keys\", expression: Quantified(Each, \"/keys\", Test(\"\", KeysIn([\"keys\"]))) }\nRule { name: \"in\", expression: Implies(Test(\"^/a\", KeysIn([\"in\"])), AtLeast(1, [Test(\"\", KeysIn([])), Test(\"\", IsOf(Null))])) }\n",
     ),
 ];
 
@@ -202,11 +210,11 @@ const REFUSED: [(&str, &str); 75] = [
     ),
     (
         "a: or",
-        "line 1, column 4: expected a path, `not`, `each`, `any`, `at`, `if` or `(`, found `or`",
+        "line 1, column 4: expected a path, `not`, `each`, `any`, `at`, `keys`, `if` or `(`, found `or`",
     ),
     (
         "a:   # later",
-        "line 1, column 6: expected a path, `not`, `each`, `any`, `at`, `if` or `(`, found a comment",
+        "line 1, column 6: expected a path, `not`, `each`, `any`, `at`, `keys`, `if` or `(`, found a comment",
     ),
     ("a: each (", "line 1, column 9: expected a path, found `(`"),
     (
@@ -292,7 +300,7 @@ const REFUSED: [(&str, &str); 75] = [
     ),
     (
         "a: least 2 of (/b exists)",
-        "line 1, column 4: expected a path, `not`, `each`, `any`, `at`, `if` or `(`, found `least`",
+        "line 1, column 4: expected a path, `not`, `each`, `any`, `at`, `keys`, `if` or `(`, found `least`",
     ),
     (
         "a: at least of (/b exists)",
@@ -336,15 +344,15 @@ const REFUSED: [(&str, &str); 75] = [
     ),
     (
         "a: at least 2 of ()",
-        "line 1, column 19: expected a path, `not`, `each`, `any`, `at`, `if` or `(`, found `)`",
+        "line 1, column 19: expected a path, `not`, `each`, `any`, `at`, `keys`, `if` or `(`, found `)`",
     ),
     (
         "a: at least 2 of (/b exists,)",
-        "line 1, column 29: expected a path, `not`, `each`, `any`, `at`, `if` or `(`, found `)`",
+        "line 1, column 29: expected a path, `not`, `each`, `any`, `at`, `keys`, `if` or `(`, found `)`",
     ),
     (
         "a: at least 2 of (, /b exists)",
-        "line 1, column 19: expected a path, `not`, `each`, `any`, `at`, `if` or `(`, found `,`",
+        "line 1, column 19: expected a path, `not`, `each`, `any`, `at`, `keys`, `if` or `(`, found `,`",
     ),
     (
         "a: at least 2 of (/b exists, /c exists",
@@ -404,7 +412,7 @@ const REFUSED: [(&str, &str); 75] = [
     ),
     (
         "a: length > 1",
-        "line 1, column 4: expected a path, `not`, `each`, `any`, `at`, `if` or `(`, found `length`; a path begins with `/`",
+        "line 1, column 4: expected a path, `not`, `each`, `any`, `at`, `keys`, `if` or `(`, found `length`; a path begins with `/`",
     ),
     (
         "a: /b is",
@@ -432,11 +440,11 @@ const REFUSED: [(&str, &str); 75] = [
     ),
     (
         "a: if then /b exists",
-        "line 1, column 7: expected a path, `not`, `each`, `any`, `at`, `if` or `(`, found `then`",
+        "line 1, column 7: expected a path, `not`, `each`, `any`, `at`, `keys`, `if` or `(`, found `then`",
     ),
     (
         "a: if /b exists then",
-        "line 1, column 21: expected a path, `not`, `each`, `any`, `at`, `if` or `(`, found the end of the line",
+        "line 1, column 21: expected a path, `not`, `each`, `any`, `at`, `keys`, `if` or `(`, found the end of the line",
     ),
     (
         "a: if /b exists then /c exists then /d exists",
@@ -448,15 +456,15 @@ const REFUSED: [(&str, &str); 75] = [
     ),
     (
         "a: /b exists or if /c exists then /d exists",
-        "line 1, column 17: expected a path, `not`, `each`, `any`, `at` or `(`, found `if`; `if` needs parentheses here",
+        "line 1, column 17: expected a path, `not`, `each`, `any`, `at`, `keys` or `(`, found `if`; `if` needs parentheses here",
     ),
     (
         "a: not if /c exists then /d exists",
-        "line 1, column 8: expected a path, `not`, `each`, `any`, `at` or `(`, found `if`; `if` needs parentheses here",
+        "line 1, column 8: expected a path, `not`, `each`, `any`, `at`, `keys` or `(`, found `if`; `if` needs parentheses here",
     ),
     (
         "a: if == 1",
-        "line 1, column 7: expected a path, `not`, `each`, `any`, `at`, `if` or `(`, found `==`",
+        "line 1, column 7: expected a path, `not`, `each`, `any`, `at`, `keys`, `if` or `(`, found `==`",
     ),
     (
         "a: /b text",
@@ -473,8 +481,85 @@ fn says_what_was_expected(rt: HostRuntime) -> Result<(), Fail> {
     Ok(())
 }
 
+// The same of a rule that asks for the keys of an object.
+const REFUSED_KEYS: [(&str, &str); 16] = [
+    (
+        "a: keys",
+        "line 1, column 8: expected a path, found the end of the line",
+    ),
+    (
+        "a: keys in [\"b\"]",
+        "line 1, column 9: expected a path, found `in`",
+    ),
+    (
+        "a: keys (/b exists)",
+        "line 1, column 9: expected a path, found `(`",
+    ),
+    (
+        "a: keys /b",
+        "line 1, column 11: expected `in`, found the end of the line",
+    ),
+    (
+        "a: keys /b == 1",
+        "line 1, column 12: expected `in`, found `==`",
+    ),
+    (
+        "a: keys /b in",
+        "line 1, column 14: expected `[`, found the end of the line",
+    ),
+    (
+        "a: keys /b in \"c\"",
+        "line 1, column 15: expected `[`, found `\"c\"`",
+    ),
+    (
+        "a: keys /b in [1]",
+        "line 1, column 16: expected a text in quotes, found `1`",
+    ),
+    (
+        "a: keys /b in [null]",
+        "line 1, column 16: expected a text in quotes, found `null`",
+    ),
+    (
+        "a: keys /b in [",
+        "line 1, column 16: expected a text in quotes, found the end of the line",
+    ),
+    (
+        "a: keys /b in [\"c\",]",
+        "line 1, column 20: expected a text in quotes, found `]`",
+    ),
+    (
+        "a: keys /b in [\"c\", true]",
+        "line 1, column 21: expected a text in quotes, found `true`",
+    ),
+    (
+        "a: keys /b in [\"c\" \"d\"]",
+        "line 1, column 20: expected `,` or `]`, found `\"d\"`",
+    ),
+    (
+        "a: keys /b in [\"c\"",
+        "line 1, column 19: expected `,` or `]`, found the end of the line",
+    ),
+    (
+        "a: keys /b in [\"c\"] == 1",
+        "line 1, column 21: expected the end of the line, `or`, `xor` or `and`, found `==`",
+    ),
+    (
+        "a: /b keys in [\"c\"]",
+        "line 1, column 7: expected an operator, `exists`, `missing`, `is_empty`, `length` or `is`, found `keys`; `keys` stands before the path",
+    ),
+];
+
+#[test]
+fn says_what_was_expected_of_keys(rt: HostRuntime) -> Result<(), Fail> {
+    for (text, expected) in &REFUSED_KEYS {
+        let same = shows(rt.alloc(), text, expected)?;
+        assert!(rt; same, "{text}");
+    }
+    Ok(())
+}
+
 // A slip of a rule, and what is told behind what was expected.
-const SLIPS: [(&str, &str); 45] = [
+const SLIPS: [(&str, &str); 48] = [
     ("/b=1", "found `=`; did you mean `==`?"),
     ("/b === 1", "found `===`; did you mean `==`?"),
     ("/b =< 1", "found `=<`; did you mean `<=`?"),
@@ -564,6 +649,12 @@ const SLIPS: [(&str, &str); 45] = [
     (
         "/b abcdefghijklmnopqrstuvwxyzabcdefghijk exists",
         "found `abcdefghijklmnopqrstuvwxyzabcdef...`",
+    ),
+    ("key /b in [\"c\"]", "found `key`; did you mean `keys`?"),
+    ("keys b in [\"c\"]", "found `b`; a path begins with `/`"),
+    (
+        "keys /b in [c]",
+        "found `c`; a text stands in double quotes",
     ),
 ];
 

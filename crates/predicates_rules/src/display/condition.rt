@@ -1,10 +1,10 @@
 //! What a test says, as a rule says it.
-ghost use Rattle.std.specs.Prelude.{◌≡◌, ◌++◌, Some, codes, map};
+ghost use Rattle.std.specs.Prelude.{◌≡◌, ◌++◌, Some, codes, map, string_bytes};
 ghost use Rattle.std.specs.List.{flat_map};
 ghost use Rattle.std.specs.Fmt.{DisplaysOnOk};
-ghost use Rattle.predicates_rules.specs.Trees.{value_of, test_of};
+ghost use Rattle.predicates_rules.specs.Trees.{Text, value_of, test_of};
 ghost use Rattle.predicates_rules.specs.Printing.{path_text, value_text, laid, test_signs};
-ghost use Rattle.predicates_rules.specs.Writing.{items_text, test_text};
+ghost use Rattle.predicates_rules.specs.Writing.{items_text, test_text, lead_text};
 
 use crate::condition::Condition;
 use crate::display::literal::fmt_text;
@@ -47,6 +47,51 @@ fn fmt_items<W: fmt::Write>(literals: &[Literal], f: &mut fmt::Formatter<W>) -> 
     }
 }
 
+// A text behind a comma.
+fn fmt_further_text<W: fmt::Write>(text: &str, f: &mut fmt::Formatter<W>) -> fmt::Result
+    ensures { DisplaysOnOk W.write_str_gives f.old result
+        (Some (codes ", " ++ value_text (Text text.now))) f.new }
+{
+    f.write_str(", ")?;
+    fmt_text(text, f)
+}
+
+// The texts, each behind a comma.
+fn fmt_further_texts<W: fmt::Write>(texts: &[String], f: &mut fmt::Formatter<W>) -> fmt::Result
+    ensures { DisplaysOnOk W.write_str_gives f.old result
+        (Some (flat_map (λ v. codes ", " ++ value_text v) (map Text (map string_bytes texts.now))))
+        f.new }
+{
+    for text in texts {
+        fmt_further_text(text, f)?;
+    }
+    Ok(())
+}
+
+// The texts with commas between them.
+fn fmt_texts<W: fmt::Write>(texts: &[String], f: &mut fmt::Formatter<W>) -> fmt::Result
+    ensures { DisplaysOnOk W.write_str_gives f.old result
+        (Some (items_text (map Text (map string_bytes texts.now)))) f.new }
+{
+    match texts {
+        [] => Ok(()),
+        [first, rest @ ..] => {
+            fmt_text(first, f)?;
+            fmt_further_texts(rest, f)
+        }
+    }
+}
+
+/// What stands before the path.
+pub fn lead(condition: &Condition) -> &'static str
+    ensures { result.now ≡ lead_text (test_of condition.now) }
+{
+    match condition {
+        Condition::KeysIn(_) => "keys ",
+        _ => "",
+    }
+}
+
 // What is said of the value.
 fn fmt_test<W: fmt::Write>(condition: &Condition, f: &mut fmt::Formatter<W>) -> fmt::Result
     ensures { DisplaysOnOk W.write_str_gives f.old result
@@ -70,10 +115,15 @@ fn fmt_test<W: fmt::Write>(condition: &Condition, f: &mut fmt::Formatter<W>) -> 
             fmt_items(literals, f)?;
             f.write_str("]")
         }
+        Condition::KeysIn(texts) => {
+            f.write_str("in [")?;
+            fmt_texts(texts, f)?;
+            f.write_str("]")
+        }
     }
 }
 
-/// As a rule says it behind the path.
+/// As a rule says it behind the path; `keys` stands before the path.
 impl fmt::Display for Condition {
     ghost output = { λ condition. Some (laid (test_signs (test_of condition))) };
 

@@ -10,7 +10,7 @@ ghost use Rattle.predicates_rules.specs.Writing.{separator_text, opening, closin
 ghost use Rattle.predicates_rules.specs.Writing.{tree_text, row_text, part_text};
 
 use crate::condition::Condition;
-use crate::display::condition::path_shown;
+use crate::display::condition::{lead, path_shown};
 use crate::expression::{Connective, Expression, Quantifier};
 use crate::parser::{Grip, Separator, next_tighter};
 use std::fmt;
@@ -84,6 +84,7 @@ fn fmt_test<W: fmt::Write>(
     ensures { DisplaysOnOk W.write_str_gives f.old result
         (Some (tree_text Single (At path.now (test_of condition.now)))) f.new }
 {
+    f.write_str(lead(condition))?;
     f.write_str(path_shown(path))?;
     write!(f, " {condition}")
 }

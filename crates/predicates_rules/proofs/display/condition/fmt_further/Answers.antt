@@ -1,4 +1,4 @@
-use Rattle.std.proofs.Common.{◌≡◌, arith, Some, Ok, subst}
+use Rattle.std.proofs.Common.{arith, Some, Ok, subst}
 use Rattle.std.specs.List.{flat_map}
 use Rattle.std.specs.Fmt.{DisplaysOnOk}
 use Rattle.std.proofs.lemmas.List.{take_all}
