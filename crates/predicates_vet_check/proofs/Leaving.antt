@@ -10,7 +10,7 @@ use Rattle.predicates_core.proofs.Added.{IsCaseOf-with_product}
 use Rattle.serde_json.specs.Data.{Data}
 use Rattle.predicates_rules.specs.declared.condition.State.TheVariants as states
 use Rattle.predicates_vet_check.specs.Scopes.{Place}
-use Rattle.predicates_vet_check.specs.Queries.{Query, Stands, Compares, ComparesWith, HasLength, IsOfKind, Begins, Finishes, Holds, Matches, IsAmong, verdict, nothing_verdict, is_of_presence, misfit_text}
+use Rattle.predicates_vet_check.specs.Queries.{Query, Stands, Compares, ComparesWith, HasLength, IsOfKind, Begins, Finishes, Holds, Matches, IsAmong, HasKeysAmong, verdict, nothing_verdict, is_of_presence, misfit_text}
 use Rattle.predicates_vet_check.specs.Plans.{asked_formula, absent_formula, leaf_of_verdict, found_label, found_leaf, misfit_leaf, nothing_leaf, shown_beside, ShowsBeside}
 use Rattle.predicates_core.specs.Label.{Entry}
 use Rattle.predicates_core.specs.Tree.{Tree}
@@ -39,6 +39,7 @@ no_presence (Finishes s) e = refl
 no_presence (Holds s) e = refl
 no_presence (Matches re) e = refl
 no_presence (IsAmong vs) e = refl
+no_presence (HasKeysAmong texts) e = refl
 
 of_presence : (text path : List ℕ) (presence own : Bool) → (presence ≡ false → own ≡ false) → HasTruth (IsExactly (cond presence (Leaf (plain (Some text)) own) (nothing_leaf text path))) own
 of_presence text path true own h = HasTruth-exactly refl

@@ -6,6 +6,7 @@ mod Leaving
 mod Listing
 mod Members
 mod Numbers
+mod OtherKeys
 mod Places
 mod Refusing
 mod Rows

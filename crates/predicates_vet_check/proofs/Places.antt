@@ -1,5 +1,5 @@
 -- What stands at a path, by how the path begins.
-use Rattle.std.proofs.Common.{◌≡◌, ◌≢◌, ℕ, Bool, true, false, List, [], ◌∷◌, refl, sym, ap, ◌∙◌, arith}
+use Rattle.std.proofs.Common.{◌≡◌, ◌≢◌, ℕ, Bool, true, false, List, [], ◌∷◌, refl, sym, ap, arith}
 use Rattle.std.specs.Prelude.{cond, ◌==◌}
 use Rattle.std.proofs.lemmas.Bool.Decides.{nat_tests}
 use Rattle.serde_json.specs.Find.{pointer}
@@ -15,6 +15,3 @@ module _ (p : Place) where
   pub from_item : (path : List ℕ) → ((rest : List ℕ) → path ≢ 94 ∷ rest) → pointer path p.item ≡ stands path p
   from_item [] other = refl
   from_item (b ∷ path) other = sym (by_first b path (b == 94) refl other)
-
-  pub from_record : (path rest : List ℕ) → path ≡ 94 ∷ rest → pointer rest p.whole ≡ stands path p
-  from_record path rest e = ap (λ z. stands z p) (sym e)

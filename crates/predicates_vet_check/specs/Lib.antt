@@ -2,6 +2,7 @@ pub mod Alike
 pub mod Patterns
 pub mod Numbers
 pub mod Scopes
+pub mod Keys
 pub mod Queries
 pub mod Lists
 pub mod Plans

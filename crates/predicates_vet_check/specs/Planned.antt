@@ -6,7 +6,7 @@ use Rattle.regex.specs.declared.string.regex.Regex.{Regex}
 use Rattle.predicates_text.specs.Expressions.{IsReadFrom}
 use Rattle.predicates_rules.specs.declared.condition.Relation.{Relation}
 use Rattle.predicates_rules.specs.declared.condition.Relation.TheVariants as relations
-use Rattle.predicates_rules.specs.Trees.{Test, TheValueIs, Compares, ComparesWith, HasLength, IsOfKind, Relates, IsAmong, Tree, At, Denied, Implies, Quantified, Joined, AtLeast, Trees, none, more}
+use Rattle.predicates_rules.specs.Trees.{Test, TheValueIs, Compares, ComparesWith, HasLength, IsOfKind, Relates, IsAmong, HasKeysAmong, Tree, At, Denied, Implies, Quantified, Joined, AtLeast, Trees, none, more}
 use Rattle.predicates_rules.specs.declared.expression.Connective.TheVariants.{Or}
 use Rattle.predicates_rules.specs.Printing.{printed}
 use Rattle.predicates_vet_check.specs.Queries as queries
@@ -31,6 +31,7 @@ IsQuery (HasLength o n) q = q ≡ queries.HasLength o n
 IsQuery (IsOfKind k) q = q ≡ queries.IsOfKind k
 IsQuery (Relates r s) q = IsRelation r s q
 IsQuery (IsAmong vs) q = q ≡ queries.IsAmong vs
+IsQuery (HasKeysAmong texts) q = q ≡ queries.HasKeysAmong texts
 
 abbrev mutual
   -- the check has the expression's meaning, with each pattern as `regex` reads it; each prints its own expression

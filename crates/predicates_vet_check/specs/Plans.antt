@@ -1,6 +1,7 @@
 -- What a check is, apart from where it lies in memory, and its formula on an item of a record.
-use Rattle.std.specs.Prelude.{◌≡◌, ℕ, List, [], ◌∷◌, Bool, true, false, not, Option, Some, None, option_map, cond, codes, decimal}
-use Rattle.serde_json.specs.Data.{Data, Items, no_items, item}
+use Rattle.std.specs.Prelude.{◌≡◌, ℕ, List, [], ◌∷◌, Bool, true, false, not, Option, Some, None, option_map, option_and_then, cond, codes, decimal}
+use Rattle.serde_json.specs.Data.{Data, string, Items, no_items, item}
+use Rattle.serde_json.specs.Find.{as_object}
 use Rattle.serde_json.specs.Written.{has_float, compact_text}
 use Rattle.predicates_core.specs.Label.{Entry, Product, Label, plain, showing, value_of, with_last}
 use Rattle.predicates_core.specs.declared.custom.join.Operator.TheVariants as operators
@@ -15,8 +16,9 @@ use Rattle.predicates_rules.specs.declared.expression.Connective.TheVariants.{Or
 use Rattle.predicates_rules.specs.declared.expression.Quantifier.{Quantifier}
 use Rattle.predicates_rules.specs.declared.expression.Quantifier.TheVariants.{Each, Any, AtLeast}
 use Rattle.predicates_vet_check.specs.Scopes.{Place, within, stands}
+use Rattle.predicates_vet_check.specs.Keys.{other_key}
 use Rattle.predicates_vet_check.specs.Lists.{values_in}
-use Rattle.predicates_vet_check.specs.Queries.{Query, ComparesWith, HasLength, verdict, length_of, nothing_verdict, is_of_presence, nothing_text, misfit_text}
+use Rattle.predicates_vet_check.specs.Queries.{Query, ComparesWith, HasLength, HasKeysAmong, verdict, length_of, nothing_verdict, is_of_presence, nothing_text, misfit_text}
 
 mutual
   -- each with the text that it prints
@@ -67,10 +69,15 @@ other_product d = record { name = codes "other"; value = found_text d }
 abbrev pub length_product : ℕ → Product
 length_product n = record { name = codes "len"; value = Some (decimal n) }
 
+-- a key that is none of those that a rule allows, as JSON
+abbrev pub key_product : List ℕ → Product
+key_product key = record { name = codes "other key"; value = Some (compact_text (string key)) }
+
 -- what is shown beside the value
 abbrev pub shown_beside : Query → Place → (d : Data) → Option Product
 shown_beside (ComparesWith o path) p d = option_map other_product (stands path p)
 shown_beside (HasLength o n) p d = option_map length_product (length_of d)
+shown_beside (HasKeysAmong texts) p d = option_map key_product (option_and_then (other_key texts) (as_object d))
 shown_beside q p d = None
 
 -- t is c that shows it too, where there is one

@@ -17,7 +17,9 @@ use Rattle.predicates_rules.specs.declared.condition.Comparison.TheVariants as c
 use Rattle.predicates_rules.specs.declared.condition.ValueKind.{ValueKind}
 use Rattle.predicates_rules.specs.declared.condition.ValueKind.TheVariants as kinds
 use Rattle.predicates_rules.specs.Lexemes.{data_of}
+use Rattle.predicates_rules.specs.Printing.{path_text}
 use Rattle.predicates_rules.specs.Trees.{Value, Natural, Negative, Decimal, Boolean, value_of}
+use Rattle.predicates_vet_check.specs.Keys.{are_keys_among}
 use Rattle.predicates_vet_check.specs.Numbers.{number_cmp}
 use Rattle.predicates_vet_check.specs.Patterns.{regex_of}
 use Rattle.predicates_vet_check.specs.Scopes.{Place, stands}
@@ -36,6 +38,7 @@ pub data Query : Type 0 where
   Holds : (pattern : List ℕ) → Query
   Matches : (re : Re) → Query
   IsAmong : (vs : List Value) → Query
+  HasKeysAmong : (texts : List (List ℕ)) → Query
 
 abbrev pub query_of : Question → Query
 query_of (questions.Is s) = Stands s
@@ -48,6 +51,7 @@ query_of (questions.EndsWith s) = Finishes (string_bytes s)
 query_of (questions.Contains s) = Holds (string_bytes s)
 query_of (questions.Matches p) = Matches (regex_pattern (regex_of p))
 query_of (questions.In vs) = IsAmong (map value_of vs.items)
+query_of (questions.KeysIn texts) = HasKeysAmong (map string_bytes texts.items)
 
 -- how a value stands to another, where both are of one kind; every value but null is above null
 abbrev pub order : Data → Data → Option Ordering
@@ -136,6 +140,7 @@ verdict (ComparesWith o path) p d = option_map (holds_in o) (option_and_then (or
 verdict (HasLength o n) p d = option_map (λ k. holds_in o (nat_cmp k n)) (length_of d)
 verdict (IsOfKind k) p d = Some (is_of_kind k d)
 verdict (IsAmong vs) p d = Some (is_among vs d)
+verdict (HasKeysAmong texts) p d = option_map (are_keys_among texts) (as_object d)
 verdict q p d = option_map (text_fits q) (as_str d)
 
 -- whether it holds where nothing stands
@@ -147,11 +152,6 @@ abbrev pub is_of_presence : Query → Bool
 is_of_presence (Stands states.Missing) = true
 is_of_presence (Stands states.Exists) = true
 is_of_presence q = false
-
--- a path as a rule writes it
-abbrev pub path_text : List ℕ → List ℕ
-path_text [] = codes "/"
-path_text (b ∷ bytes) = b ∷ bytes
 
 abbrev pub nothing_text : List ℕ → List ℕ
 nothing_text path = codes "nothing at " ++ path_text path
@@ -168,6 +168,7 @@ misfit_text (Compares o (Negative n)) p = codes "not a number"
 misfit_text (Compares o (Decimal text x)) p = codes "not a number"
 misfit_text (Compares o (Boolean b)) p = codes "not true or false"
 misfit_text (ComparesWith o path) p = apart_text path (stands path p)
+misfit_text (HasKeysAmong texts) p = codes "not an object"
 misfit_text (HasLength o n) p = codes "not a string, an array or an object"
 misfit_text (Stands s) p = codes "not a string, an array or an object"
 misfit_text q p = codes "not a string"

@@ -54,6 +54,7 @@ fn question_of(alloc: Global, condition: Condition) -> Result<Question, CheckErr
             Ok(question)
         }
         Condition::In(literals) => Ok(Question::In(literals)),
+        Condition::KeysIn(texts) => Ok(Question::KeysIn(texts)),
     }
 }
 

@@ -1,19 +1,27 @@
 //! The cases of leaves that show what was found, or say what is wrong.
 ghost use Rattle.std.specs.Prelude.{false, []};
 ghost use Rattle.predicates_core.specs.Shows.{IsNode};
-ghost use Rattle.std.specs.Prelude.{◌≡◌, IfOk, IfSome, None, Some, option_map, string_bytes};
+ghost use Rattle.std.specs.Prelude.{◌≡◌, IfOk, IfSome, None, Some, map, option_map};
+ghost use Rattle.std.specs.Prelude.{option_and_then, string_bytes};
 ghost use Rattle.predicates_core.specs.Formula.{Leaf};
 ghost use Rattle.predicates_core.specs.Label.{plain};
 ghost use Rattle.predicates_core.specs.Leaves.{IsExactly};
 ghost use Rattle.predicates_core.specs.Shows.{IsCaseOf, IsFound};
+ghost use Rattle.serde_json.specs.Data.{string};
+ghost use Rattle.serde_json.specs.Find.{as_object};
 ghost use Rattle.serde_json.specs.View.{view};
+ghost use Rattle.serde_json.specs.Written.{compact_text};
+ghost use Rattle.predicates_rules.specs.Printing.{path_text};
 ghost use Rattle.predicates_vet_check.specs.Scopes.{place_of, stands};
 ghost use Rattle.predicates_vet_check.specs.Plans.{found_text, nothing_leaf, misfit_leaf};
 ghost use Rattle.predicates_vet_check.specs.Plans.{found_leaf};
+ghost use Rattle.predicates_vet_check.specs.Keys.{other_key};
 ghost use Rattle.predicates_vet_check.specs.Plans.{ShowsBeside, other_product, length_product};
-ghost use Rattle.predicates_vet_check.specs.Queries.{path_text, apart_text, length_of};
+ghost use Rattle.predicates_vet_check.specs.Plans.{key_product};
+ghost use Rattle.predicates_vet_check.specs.Queries.{apart_text, length_of};
 
 use crate::contents::length;
+use crate::keys::other_key;
 use crate::scope::Scope;
 use predicates_core::custom::is_other;
 use predicates_core::node::{leaf_node, showing, showing_text};
@@ -25,7 +33,11 @@ use std::alloc::{AllocError, Global};
 pub(crate) fn path_shown(path: &str) -> &str
     ensures { result.now ≡ path_text path.now }
 {
-    if path.is_empty() { "/" } else { path }
+    match path.as_bytes() {
+        [] => "/",
+        [b'^'] => "^/",
+        _ => path,
+    }
 }
 
 // The value as JSON.
@@ -122,6 +134,32 @@ pub(crate) fn showing_length(alloc: Global, case: Case, value: &Value) -> Result
     };
     let shown = format!(in alloc; "{length}")?;
     Ok(showing(case, "len", shown)?)
+}
+
+// The text as JSON.
+fn quoted(alloc: Global, text: &str) -> Result<String, AllocError>
+    ensures { IfOk result (λ bytes. string_bytes bytes ≡ compact_text (string text.now)) }
+{
+    let value = Value::String(copied(alloc, text)?);
+    value.to_string(alloc)
+}
+
+/// The case with the first key of the object that is none of the texts, if there is one.
+pub(crate) fn showing_key(
+    alloc: Global,
+    case: Case,
+    value: &Value,
+    texts: &[String],
+) -> Result<Case, AllocError>
+    ensures { IfOk result (λ shown. ShowsBeside (option_map key_product
+        (option_and_then (other_key (map string_bytes texts.now)) (as_object (view value.now))))
+        case shown) }
+{
+    let Some(key) = other_key(value, texts) else {
+        return Ok(case);
+    };
+    let shown = quoted(alloc, key)?;
+    Ok(showing(case, "other key", shown)?)
 }
 
 /// What is said where a value does not compare with what stands at the path.

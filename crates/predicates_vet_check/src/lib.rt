@@ -11,6 +11,7 @@ mod check_error;
 mod compile;
 mod contents;
 mod kept_matcher;
+mod keys;
 mod leaf;
 mod listed;
 mod matchers;

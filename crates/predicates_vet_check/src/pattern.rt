@@ -6,13 +6,21 @@ ghost use Rattle.predicates_text.specs.Expressions.{IsReadFrom};
 use crate::check_error::CheckError;
 use crate::pattern_fault::PatternFault;
 use regex::Regex;
-use std::alloc::Global;
+use std::alloc::{AllocError, Global};
 
 /// A regular expression, read under the default options.
 #[derive(Drop)]
 pub struct Pattern {
-    pub(crate) regex: Regex,
-    ghost by_default: { ∥ IsReadFrom (regex_source regex) regex ∥₁ },
+    // In a box, as it has over a thousand bytes, and a check, which is moved at each level of a
+    // rule, has the size of its largest part.
+    pub(crate) regex: Box<Regex>,
+    ghost by_default: { ∥ IsReadFrom (regex_source regex.value) regex.value ∥₁ },
+}
+
+fn boxed(alloc: Global, regex: Regex) -> Result<Box<Regex>, AllocError>
+    ensures { IfOk result (λ kept. kept.value ≡ regex) }
+{
+    Ok(Box::new(alloc, regex)?)
 }
 
 impl Pattern {
@@ -26,7 +34,10 @@ impl Pattern {
         ensures refused { IfErr result (IsFailure (λ pattern. pattern ≡ string_bytes source)) }
     {
         match Regex::new(alloc, &source) {
-            Ok(regex) => Ok(Pattern { regex }),
+            Ok(regex) => {
+                let regex = boxed(alloc, regex)?;
+                Ok(Pattern { regex })
+            }
             Err(regex::Error::OutOfMemory) => Err(CheckError::NoMemory),
             Err(error) => {
                 let fault = PatternFault::of_error(alloc, source, error)?;

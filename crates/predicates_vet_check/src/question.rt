@@ -9,7 +9,8 @@ ghost use Rattle.predicates_vet_check.specs.Queries.{holds_in};
 ghost use Rattle.predicates_vet_check.specs.Queries.{nothing_verdict, is_of_presence, misfit_text};
 
 use crate::contents::{emptiness, is_of, length};
-use crate::leaf::{apart, showing_length, showing_other};
+use crate::keys::has_only;
+use crate::leaf::{apart, showing_key, showing_length, showing_other};
 use crate::matchers::Matchers;
 use crate::order::{is_in, is_one_of, order_to_literal, order_to_place};
 use crate::pattern::Pattern;
@@ -44,6 +45,8 @@ pub enum Question {
     Matches(Pattern),
     /// Whether it is one of these.
     In(Vec<Literal>),
+    /// Whether each key of the object is one of these.
+    KeysIn(Vec<String>),
 }
 
 fn compares_in_length(value: &Value, comparison: Comparison, number: u64) -> Option<bool>
@@ -82,6 +85,7 @@ impl Question {
             }
             Question::IsOf(kind) => Ok(Some(is_of(*kind, value))),
             Question::In(literals) => Ok(Some(is_one_of(value, literals))),
+            Question::KeysIn(texts) => Ok(has_only(value, texts)),
             _ => match value.as_str() {
                 Some(text) => Ok(Some(self.fits(alloc, matchers, text)?)),
                 None => Ok(None),
@@ -147,6 +151,10 @@ impl Question {
                 let shown = showing_length(alloc, case, value)?;
                 Ok(shown)
             }
+            Question::KeysIn(texts) => {
+                let shown = showing_key(alloc, case, value, texts)?;
+                Ok(shown)
+            }
             _ => Ok(case),
         }
     }
@@ -168,6 +176,7 @@ impl Question {
             Question::Is(_) | Question::Length(_, _) => {
                 String::from_str(alloc, "not a string, an array or an object")
             }
+            Question::KeysIn(_) => String::from_str(alloc, "not an object"),
             _ => String::from_str(alloc, "not a string"),
         }
     }

@@ -1,7 +1,7 @@
-use Rattle.std.proofs.Common.{◌≡◌, ◌∙◌, arith}
+use Rattle.std.proofs.Common.{◌∙◌, arith}
 use Rattle.std.proofs.lemmas.Str.Pattern.{strip_prefix_char}
 use Rattle.predicates_vet_check.specs.Scopes.{place_of}
-use Rattle.predicates_vet_check.proofs.Places.{from_item, from_record}
+use Rattle.predicates_vet_check.proofs.Places.{from_item}
 use Rattle.predicates_vet_check.proofs.scope.Scope.at.Goals as goal
 
 pub returns-in-None : goal.returns-in-None
