@@ -4,12 +4,13 @@ mod files;
 use crate::slow::Slow;
 pub use files::OpenedFile;
 use std::alloc::{Alloc, Allocator, Global};
-use std::cell::RefCell;
+use std::cell::{Cell, RefCell};
 use std::env::FillError;
 use std::fmt::Display;
 use std::io;
 use std::io::{BufRead, Eprint, Error, ErrorKind, Input, Lines, Print};
-use std::rt::Env;
+use std::rt::{Clock, Env};
+use std::time::Duration;
 
 /// The output of a process that fails.
 #[derive(Clone, Copy, PartialEq, Eq)]
@@ -20,7 +21,8 @@ pub enum Closed {
 }
 
 /// A process with these words, of which the first is the program's name, files by their paths, this
-/// input with the error at its end, and an output that fails; it keeps what is written.
+/// input with the error at its end, and an output that fails; it keeps what is written. Its clock
+/// stands at 0, and each look at it puts it on by `tick` milliseconds.
 #[derive(Drop)]
 pub struct Process<'a> {
     pub alloc: Global,
@@ -29,6 +31,8 @@ pub struct Process<'a> {
     pub input: &'a [u8],
     pub end: Option<ErrorKind>,
     pub closed: Closed,
+    pub tick: u64,
+    time: Cell<u64>,
     output: RefCell<Vec<u8>>,
     error: RefCell<Vec<u8>>,
 }
@@ -48,6 +52,8 @@ impl<'a> Process<'a> {
             input,
             end: None,
             closed: Closed::Neither,
+            tick: 0,
+            time: Cell::new(0),
             output: RefCell::new(Vec::new(alloc)),
             error: RefCell::new(Vec::new(alloc)),
         }
@@ -86,6 +92,18 @@ impl Alloc for Process<'_> {
 
     fn alloc(&self) -> Global {
         self.alloc
+    }
+}
+
+impl Clock for Process<'_> {
+    fn monotonic(&self) -> io::Result<Duration> {
+        let now = self.time.get();
+        self.time.set(now.saturating_add(self.tick));
+        Ok(Duration::from_millis(now))
+    }
+
+    fn since_1970(&self) -> io::Result<Duration> {
+        self.monotonic()
     }
 }
 

@@ -1,4 +1,5 @@
 pub mod Ends
 pub mod Faults
+pub mod Progress
 pub mod Wants
 pub mod Words

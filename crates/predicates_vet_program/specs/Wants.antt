@@ -21,4 +21,5 @@ pub record IsWanted (found : Found) (wanted : Wanted) : Type 0 where
   pub summary : IsFlag found (codes "summary") wanted.summary
   pub input : wanted.input ≡ input_of found
   pub most : IsNumber found (codes "max") wanted.most
+  pub progress : IsFlag found (codes "progress") wanted.progress
   pub flush : IsFlag found (codes "flush") wanted.flush

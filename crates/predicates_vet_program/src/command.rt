@@ -81,6 +81,11 @@ fn most<'a>(alloc: Global) -> Arg<'a> {
     most.value_parser(value_parser!(u64))
 }
 
+fn progress<'a>(alloc: Global) -> Arg<'a> {
+    let help = "Show on a terminal, on standard error, how many lines are read and how fast";
+    flag(alloc, "progress", help)
+}
+
 fn flush<'a>(alloc: Global) -> Arg<'a> {
     flag(alloc, "flush", "Write of each record at once")
 }
@@ -113,6 +118,7 @@ pub(crate) fn command<'a>(alloc: Global) -> Result<Command<'a>, AllocError> {
         .arg(input_format(alloc))?
         .arg(summary(alloc))?
         .arg(most(alloc))?
+        .arg(progress(alloc))?
         .arg(flush(alloc))?
         .arg(files(alloc))
 }

@@ -1,14 +1,16 @@
 //! The inputs of a run, one after another.
 use crate::io_fault::IoFault;
+use crate::metered::Metered;
 use crate::stderr::Stderr;
 use crate::stdout::Stdout;
 use crate::tell::tell_file;
+use crate::watched::Watched;
 use predicates_vet::settings::Report;
 use predicates_vet::{Job, RunFault, Tally, run_records};
 use std::fs::File;
 use std::io;
-use std::io::{BufRead, BufReader, BufWriter, ErrorKind};
-use std::rt::Files;
+use std::io::{BufReader, BufWriter, ErrorKind, Read};
+use std::rt::{Clock, Files};
 
 /// How a run over inputs ended.
 #[derive(Clone, Copy)]
@@ -22,70 +24,70 @@ pub(crate) enum Ended {
 }
 
 /// Standard output, which keeps what is written for a while.
-pub(crate) type Output<'a, E> = BufWriter<Stdout<'a, E>>;
+pub(crate) type Output<'w, 'a, E> = BufWriter<Stdout<'w, Watched<'a, E>>>;
 
 // Runs over one input.
-fn run_input<E: Print + Eprint + AllocGlobal, R: BufRead>(
-    rt: &E,
+fn run_input<E: Print + Eprint + Clock + AllocGlobal, R: Read + Drop>(
+    watched: &Watched<'_, E>,
     job: &Job<'_>,
     tally: &mut Tally,
-    input: &mut R,
-    output: &mut Output<'_, E>,
-) -> Ended {
-    let mut messages = Stderr { rt };
-    match run_records(rt.alloc(), job, tally, input, output, &mut messages) {
-        Ok(()) => Ended::Whole { all_read: true },
-        Err(RunFault::Output) if output.get_ref().is_closed => Ended::Closed { all_read: true },
-        Err(fault) => Ended::Early(fault),
+    inner: R,
+    output: &mut Output<'_, '_, E>,
+) -> io::Result<Ended> {
+    let alloc = watched.alloc();
+    let mut input = BufReader::new(alloc, Metered { inner, watched })?;
+    let mut messages = Stderr { rt: watched };
+    match run_records(alloc, job, tally, &mut input, output, &mut messages) {
+        Ok(()) => Ok(Ended::Whole { all_read: true }),
+        Err(RunFault::Output) if output.get_ref().is_closed => Ok(Ended::Closed { all_read: true }),
+        Err(fault) => Ok(Ended::Early(fault)),
     }
 }
 
 /// Runs over standard input.
-pub(crate) fn run_stdin<E: Input + Print + Eprint + AllocGlobal>(
-    rt: &E,
+pub(crate) fn run_stdin<E: Input + Print + Eprint + Clock + AllocGlobal>(
+    watched: &Watched<'_, E>,
     job: &Job<'_>,
     tally: &mut Tally,
-    output: &mut Output<'_, E>,
+    output: &mut Output<'_, '_, E>,
 ) -> io::Result<Ended> {
-    let mut input = BufReader::new(rt.alloc(), rt.reader())?;
-    Ok(run_input(rt, job, tally, &mut input, output))
+    run_input(watched, job, tally, watched.rt.reader(), output)
 }
 
 // Runs over the file of this name; of one that can't be opened it is told why.
-fn run_file<E: Files + Print + Eprint + AllocGlobal>(
-    rt: &E,
+fn run_file<E: Files + Print + Eprint + Clock + AllocGlobal>(
+    watched: &Watched<'_, E>,
     name: &str,
     job: &Job<'_>,
     tally: &mut Tally,
-    output: &mut Output<'_, E>,
+    output: &mut Output<'_, '_, E>,
 ) -> io::Result<Ended> {
-    let file = match File::open(rt, name) {
+    let file = match File::open(watched.rt, name) {
         Ok(file) => file,
         Err(error) if error.kind() == ErrorKind::OutOfMemory => return Err(error),
         Err(error) => {
-            tell_file(rt, name, &IoFault(&error))?;
+            tell_file(watched, name, &IoFault(&error))?;
             return Ok(Ended::Whole { all_read: false });
         }
     };
-    let mut input = BufReader::new(rt.alloc(), file)?;
-    Ok(run_input(rt, job, tally, &mut input, output))
+    run_input(watched, job, tally, file, output)
 }
 
 // Runs over the input of this name; `-` is standard input. Of one that can't be read it is told.
-fn run_named<E: Files + Input + Print + Eprint + AllocGlobal>(
-    rt: &E,
+fn run_named<E: Files + Input + Print + Eprint + Clock + AllocGlobal>(
+    watched: &Watched<'_, E>,
     name: &str,
     job: &Job<'_>,
     tally: &mut Tally,
-    output: &mut Output<'_, E>,
+    output: &mut Output<'_, '_, E>,
 ) -> io::Result<Ended> {
     let ended = if name == "-" {
-        run_stdin(rt, job, tally, output)?
+        run_stdin(watched, job, tally, output)?
     } else {
-        run_file(rt, name, job, tally, output)?
+        run_file(watched, name, job, tally, output)?
     };
     if let Ended::Early(RunFault::Input) = ended {
-        tell_file(rt, name, &RunFault::Input)?;
+        tell_file(watched, name, &RunFault::Input)?;
         return Ok(Ended::Whole { all_read: false });
     }
     Ok(ended)
@@ -102,12 +104,12 @@ fn source<'r>(report: Report, is_only: bool, name: &'r str) -> Option<&'r str> {
 }
 
 /// Runs over the inputs of these names. With more than one, records stand at their names.
-pub(crate) fn run_files<'r, E: Files + Input + Print + Eprint + AllocGlobal>(
-    rt: &E,
+pub(crate) fn run_files<'r, E: Files + Input + Print + Eprint + Clock + AllocGlobal>(
+    watched: &Watched<'_, E>,
     names: &[&'r str],
     job: &Job<'r>,
     tally: &mut Tally,
-    output: &mut Output<'_, E>,
+    output: &mut Output<'_, '_, E>,
 ) -> io::Result<Ended> {
     let mut all_read = true;
     for name in names {
@@ -118,7 +120,7 @@ pub(crate) fn run_files<'r, E: Files + Input + Print + Eprint + AllocGlobal>(
             max_line: job.max_line,
             format: job.format,
         };
-        match run_named(rt, name, &job, tally, output)? {
+        match run_named(watched, name, &job, tally, output)? {
             Ended::Whole { all_read: is_read } => all_read = all_read && is_read,
             Ended::Closed { .. } => return Ok(Ended::Closed { all_read }),
             early => return Ok(early),

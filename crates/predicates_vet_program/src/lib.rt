@@ -9,11 +9,17 @@ mod format;
 mod input_format;
 mod inputs;
 mod io_fault;
+mod length;
+mod meter;
+mod metered;
 mod process;
+mod progress;
+mod shown;
 mod stderr;
 mod stdout;
 mod tell;
 mod wanted;
+mod watched;
 mod words_fault;
 
 pub use process::run_program;

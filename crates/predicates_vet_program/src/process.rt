@@ -11,6 +11,7 @@ use crate::io_fault::IoFault;
 use crate::stdout::Stdout;
 use crate::tell::{tell, tell_clash, tell_file, tell_no_path, tell_totals, tell_words};
 use crate::wanted::{Wanted, wanted_of};
+use crate::watched::Watched;
 use clap::ArgMatches;
 use clap::error::ErrorKind;
 use predicates_json::is_pointer;
@@ -19,7 +20,7 @@ use predicates_vet::{Job, ReadChecksError, RulesFault, RunFault, Tally, read_che
 use predicates_vet_check::RuleCheck;
 use std::alloc::{AllocError, Global};
 use std::io::BufWriter;
-use std::rt::{Env, Files};
+use std::rt::{Clock, Env, Files};
 use std::{env, fs, io};
 
 // How much of the output is kept back.
@@ -37,21 +38,21 @@ fn tally_of(alloc: Global, rules: &[RuleCheck], wanted: &Wanted) -> Result<Tally
 }
 
 // Runs over the files, or over standard input where there is none.
-fn run_inputs<'r, E: Files + Input + Print + Eprint + AllocGlobal>(
-    rt: &E,
+fn run_inputs<'r, E: Files + Input + Print + Eprint + Clock + AllocGlobal>(
+    watched: &Watched<'_, E>,
     files: Option<&[&'r str]>,
     job: &Job<'r>,
     kept: usize,
     tally: &mut Tally,
 ) -> io::Result<Ended> {
     let stdout = Stdout {
-        rt,
+        rt: watched,
         is_closed: false,
     };
-    let mut output = BufWriter::with_capacity(rt.alloc(), kept, stdout)?;
+    let mut output = BufWriter::with_capacity(watched.alloc(), kept, stdout)?;
     match files {
-        Some(names) => run_files(rt, names, job, tally, &mut output),
-        None => run_stdin(rt, job, tally, &mut output),
+        Some(names) => run_files(watched, names, job, tally, &mut output),
+        None => run_stdin(watched, job, tally, &mut output),
     }
 }
 
@@ -104,7 +105,7 @@ fn stop<E: Eprint>(rt: &E, fault: RunFault) -> io::Result<End>
 }
 
 // Runs by these rules of the file at the path. Where nothing reads the output any more, nothing is told.
-fn run_by<'r, E: Files + Input + Print + Eprint + AllocGlobal>(
+fn run_by<'r, E: Files + Input + Print + Eprint + Clock + AllocGlobal>(
     rt: &E,
     path: &str,
     rules: &'r [RuleCheck],
@@ -115,7 +116,10 @@ fn run_by<'r, E: Files + Input + Print + Eprint + AllocGlobal>(
     let mut job = Job::new(rules, &wanted.settings);
     job.format = wanted.input;
     let kept = if wanted.flush { 0 } else { KEPT };
-    match run_inputs(rt, files, &job, kept, &mut tally)? {
+    let watched = Watched::start(rt, wanted.progress, files)?;
+    let ended = run_inputs(&watched, files, &job, kept, &mut tally);
+    watched.erase();
+    match ended? {
         Ended::Whole { all_read } => finish(rt, path, rules, wanted, &tally, all_read),
         Ended::Closed { all_read } => Ok(End::Ran {
             counts: tally.counts,
@@ -143,7 +147,7 @@ fn refuse_rules<E: Eprint>(rt: &E, path: &str, error: &ReadChecksError) -> io::R
 }
 
 // Runs by the rules of the file at the path.
-fn run_by_file<E: Files + Input + Print + Eprint + AllocGlobal>(
+fn run_by_file<E: Files + Input + Print + Eprint + Clock + AllocGlobal>(
     rt: &E,
     path: &str,
     wanted: &Wanted,
@@ -181,11 +185,12 @@ fn refuse_path<E: Eprint>(rt: &E, path: &str) -> io::Result<End>
 }
 
 // Runs as the words want it.
-fn run_as<E: Files + Input + Print + Eprint + AllocGlobal>(
+fn run_as<E: Files + Input + Print + Eprint + Clock + AllocGlobal>(
     rt: &E,
+    on_terminal: bool,
     matches: &ArgMatches<'_>,
 ) -> io::Result<End> {
-    let Some(wanted) = wanted_of(rt.alloc(), matches)? else {
+    let Some(mut wanted) = wanted_of(rt.alloc(), matches)? else {
         return refuse_flags(rt, matches);
     };
     if let Some(path) = &wanted.settings.id {
@@ -193,6 +198,7 @@ fn run_as<E: Files + Input + Print + Eprint + AllocGlobal>(
             return refuse_path(rt, path);
         }
     }
+    wanted.progress = wanted.progress && on_terminal;
     let rules = matches.get_str("RULES").unwrap_or("");
     run_by_file(rt, rules, &wanted, matches.get_strs("FILES"))
 }
@@ -211,12 +217,15 @@ fn end_of_words<E: Print + Eprint + AllocGlobal>(rt: &E, error: &clap::Error) ->
     Ok(End::Refused)
 }
 
-fn try_run<E: Env + Files + Input + Print + Eprint + AllocGlobal>(rt: &E) -> io::Result<End> {
+fn try_run<E: Env + Files + Input + Print + Eprint + Clock + AllocGlobal>(
+    rt: &E,
+    on_terminal: bool,
+) -> io::Result<End> {
     let alloc = rt.alloc();
     let words: Vec<String> = env::args(rt)?.collect(alloc)?;
     let parsed = command(alloc)?.try_get_matches_from(words.as_slice());
     match parsed {
-        Ok(matches) => run_as(rt, &matches),
+        Ok(matches) => run_as(rt, on_terminal, &matches),
         Err(error) => end_of_words(rt, &error),
     }
 }
@@ -225,18 +234,22 @@ fn try_run<E: Env + Files + Input + Print + Eprint + AllocGlobal>(rt: &E) -> io:
 /// its status: 0 where every record keeps every rule, 1 where one breaks a rule, and 2 for wrong
 /// words, rules that can't be read, lines that are not JSON, faults of reading and writing, and out
 /// of memory, each told in a line on standard error. Where nothing reads standard output any more,
-/// it ends without a line, with the status of the records before. It takes memory as `run_records`
+/// it ends without a line, with the status of the records before. Whether standard error is a terminal
+/// is told by the caller: elsewhere `--progress` writes nothing. It takes memory as `run_records`
 /// does, and for the words and the rules.
 ///
 /// ```
 /// fn main(rt: HostRuntime) -> ExitCode {
-///     ExitCode::from(run_program(&rt))
+///     ExitCode::from(run_program(&rt, rt.stderr().is_terminal()))
 /// }
 /// ```
-pub fn run_program<E: Env + Files + Input + Print + Eprint + AllocGlobal>(rt: &E) -> u8
+pub fn run_program<E: Env + Files + Input + Print + Eprint + Clock + AllocGlobal>(
+    rt: &E,
+    on_terminal: bool,
+) -> u8
     ensures bound { result ≤ 2 }
 {
-    match try_run(rt) {
+    match try_run(rt, on_terminal) {
         Ok(end) => end.status(),
         Err(error) => {
             // Where this line can't be written either, the status alone tells.

@@ -6,8 +6,8 @@ use predicates_vet::Counts;
 use std::fmt::Display;
 use std::io;
 
-// The noun for so many things.
-fn noun(count: u64, one: &'static str, several: &'static str) -> &'static str
+/// The noun for so many things.
+pub(crate) fn noun(count: u64, one: &'static str, several: &'static str) -> &'static str
     ensures { result.now ≡ (if count == 1 then one.now else several.now) }
 {
     if count == 1 { one } else { several }

@@ -21,6 +21,8 @@ pub(crate) struct Wanted {
     pub(crate) summary: bool,
     /// Of how many records a run writes.
     pub(crate) most: Option<u64>,
+    /// Whether it is shown on a terminal how far the run is.
+    pub(crate) progress: bool,
     /// Whether what is written of a record is passed on at once.
     pub(crate) flush: bool,
 }
@@ -74,6 +76,7 @@ pub(crate) fn wanted_of(
         input: input_named(matches.get_str("input-format")),
         summary: matches.get_flag("summary"),
         most: most_of(matches),
+        progress: matches.get_flag("progress"),
         flush: matches.get_flag("flush"),
     }))
 }

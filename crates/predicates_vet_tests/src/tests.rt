@@ -12,6 +12,7 @@ mod numbers;
 mod pattern_faults;
 mod pieces;
 mod program;
+mod progress;
 mod records_and_items;
 mod reference;
 mod reports;

@@ -2,8 +2,9 @@
 #![tactic(auto)]
 
 use predicates_vet_program::run_program;
+use std::io::IsTerminal;
 use std::process::ExitCode;
 
 fn main(rt: HostRuntime) -> ExitCode {
-    ExitCode::from(run_program(&rt))
+    ExitCode::from(run_program(&rt, rt.stderr().is_terminal()))
 }

@@ -74,8 +74,13 @@ impl<'a> Files for Process<'a> {
         refuse()
     }
 
-    fn metadata(&self, _path: &str) -> io::Result<Metadata> {
-        refuse()
+    fn metadata(&self, path: &str) -> io::Result<Metadata> {
+        for (name, bytes) in self.files {
+            if path == *name {
+                return Ok(Metadata::of_file(bytes.len() as u64));
+            }
+        }
+        Err(Error::from(ErrorKind::NotFound))
     }
 
     fn symlink_metadata(&self, _path: &str) -> io::Result<Metadata> {

@@ -10,7 +10,7 @@ use std::alloc::{AllocError, Global};
 use std::fmt::Write;
 use std::test::Fail;
 
-const TESTS: [Test<'static>; 29] = [
+const TESTS: [Test<'static>; 31] = [
     ("/ exists", &[], "exists", Against::Nothing),
     ("/x missing", &["x"], "missing", Against::Nothing),
     ("/x is_empty", &["x"], "is_empty", Against::Nothing),
@@ -70,6 +70,13 @@ const TESTS: [Test<'static>; 29] = [
     ("/x is number", &["x"], "is", Against::Kind("number")),
     ("/x is whole", &["x"], "is", Against::Kind("whole")),
     ("/l is array", &["l"], "is", Against::Kind("array")),
+    (
+        "keys / in [\"l\", \"x\"]",
+        &[],
+        "keys",
+        Against::Keys(&["l", "x"]),
+    ),
+    ("keys /l in [\"x\"]", &["l"], "keys", Against::Keys(&["x"])),
 ];
 
 // The second test of a pair.

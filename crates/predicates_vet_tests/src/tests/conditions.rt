@@ -1,4 +1,4 @@
-//! Numbers compared by their values, two paths compared, lengths and kinds.
+//! Numbers compared by their values, two paths compared, lengths, kinds and keys.
 use super::writes;
 use predicates_vet::settings::Report;
 use std::alloc::{AllocError, Global};
@@ -145,6 +145,56 @@ const KINDS: [(&str, &[u8], &[u8]); 3] = [
     ),
 ];
 
+const KEYS: [(&str, &[u8], &[u8]); 11] = [
+    ("a: keys / in [\"x\", \"y\"]", b"{\"y\": {\"z\": 1}}", b""),
+    (
+        "a: keys / in [\"x\"]",
+        b"{\"z\": 2, \"x\": 1, \"y\": 3}",
+        b"record 1: false\na = false\n  rule: keys / in [\"x\"] = false\n    - found: {\"x\":1,\"y\":3,\"z\":2}\n    - other key: \"y\"\n",
+    ),
+    ("a: keys /x in []", b"{\"x\": {}}", b""),
+    (
+        "a: keys /x in []",
+        b"{\"x\": {\"\": 0}}",
+        b"record 1: false\na = false\n  rule: keys /x in [] = false\n    - found: {\"\":0}\n    - other key: \"\"\n",
+    ),
+    (
+        "a: keys / in [\"\\u0061\", \"/~0\", \"\u{e9}\"]",
+        b"{\"/~0\": 1, \"a\": 2, \"\\u00e9\": 3}",
+        b"",
+    ),
+    (
+        "a: keys / in [\"q\", \"A\"]",
+        b"{\"q\\\"\\n\": 1}",
+        b"record 1: false\na = false\n  rule: keys / in [\"q\", \"A\"] = false\n    - found: {\"q\\\"\\n\":1}\n    - other key: \"q\\\"\\n\"\n",
+    ),
+    (
+        "a: keys /x in [\"a\"]",
+        b"{\"x\": [\"b\"]}",
+        b"record 1: false\na = false\n  rule: keys /x in [\"a\"] = false\n    - found: [\"b\"]\n    - error: not an object\n",
+    ),
+    (
+        "a: keys /x in [\"a\"]",
+        b"{}",
+        b"record 1: false\na = false\n  rule: keys /x in [\"a\"] = false\n    - error: nothing at /x\n",
+    ),
+    (
+        "a: not keys /x in [\"a\"]",
+        b"{\"x\": {\"a\": 1}}",
+        b"record 1: false\na = false\n  rule: not keys /x in [\"a\"] = false\n    predicate: keys /x in [\"a\"] = true\n      - found: {\"a\":1}\n",
+    ),
+    (
+        "a: not keys /x in [\"a\"]",
+        b"{\"x\": {\"a\": 1, \"b\": 2}}",
+        b"",
+    ),
+    (
+        "a: each /l (keys / in [\"k\"] and keys ^/ in [\"l\"])",
+        b"{\"l\": [{\"k\": 1}, {\"k\": 1, \"K\": 2}]}",
+        b"record 1: false\na = false\n  rule: each /l (keys / in [\"k\"] and keys ^/ in [\"l\"]) = false\n    - index: 1\n    item: keys / in [\"k\"] and keys ^/ in [\"l\"] = false\n      - index: 0\n      part: keys / in [\"k\"] = false\n        - found: {\"K\":2,\"k\":1}\n        - other key: \"K\"\n",
+    ),
+];
+
 // Whether a run with this report writes each block for its rule and record.
 fn say(alloc: Global, report: Report, rows: &[(&str, &[u8], &[u8])]) -> Result<bool, AllocError> {
     for (rule, record, block) in rows {
@@ -162,10 +212,11 @@ fn blocks_of_conditions(rt: HostRuntime) -> Result<(), Fail> {
     assert!(rt; say(rt.alloc(), Report::First, &PATHS)?);
     assert!(rt; say(rt.alloc(), Report::First, &LENGTHS)?);
     assert!(rt; say(rt.alloc(), Report::First, &KINDS)?);
+    assert!(rt; say(rt.alloc(), Report::First, &KEYS)?);
     Ok(())
 }
 
-const CHANGES: [(&str, &[u8], &[u8]); 3] = [
+const CHANGES: [(&str, &[u8], &[u8]); 4] = [
     (
         "a: not /s < /e",
         b"{\"s\": 1, \"e\": 2}",
@@ -180,6 +231,11 @@ const CHANGES: [(&str, &[u8], &[u8]); 3] = [
         "a: /x is text",
         b"{\"x\": 1}",
         b"record 1: false\na = false\n  rule: /x is text = false\n    - found: 1\n",
+    ),
+    (
+        "a: keys / in [\"x\"]",
+        b"{\"y\": 1}",
+        b"record 1: false\na = false\n  rule: keys / in [\"x\"] = false\n    - found: {\"y\":1}\n    - other key: \"y\"\n",
     ),
 ];
 

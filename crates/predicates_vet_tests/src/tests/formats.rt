@@ -182,7 +182,7 @@ const ROWS: [Row; 19] = [
 fn ends(alloc: Global, row: Row) -> bool {
     let (words, status, output, messages) = row;
     let process = Process::new(alloc, words, &FILES, INPUT);
-    let found = run_program(&process);
+    let found = run_program(&process, true);
     let (written, told) = process.into_written();
     found == status
         && written.as_slice() == output.as_bytes()

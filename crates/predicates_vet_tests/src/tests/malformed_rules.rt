@@ -33,9 +33,14 @@ const WHOLE: &[u8] = b"a: not /x in [1, \"b\"] and /y >= 18";
 // the front; and what is expected there.
 const CUT: [(usize, usize, usize, &str); 21] = [
     (1, 1, 0, "`:` behind the name of a rule"),
-    (2, 3, 0, "a path, `not`, `each`, `any`, `at`, `if` or `(`"),
+    (
+        2,
+        3,
+        0,
+        "a path, `not`, `each`, `any`, `at`, `keys`, `if` or `(`",
+    ),
     (4, 5, 4, "a word, an operator, a path or a literal"),
-    (6, 7, 0, "a path, `not`, `each`, `any`, `at` or `(`"),
+    (6, 7, 0, "a path, `not`, `each`, `any`, `at`, `keys` or `(`"),
     (
         8,
         10,
@@ -50,7 +55,12 @@ const CUT: [(usize, usize, usize, &str); 21] = [
     (18, 19, 18, "the quote that ends the text"),
     (20, 20, 0, "`,` or `]`"),
     (23, 24, 23, "a word, an operator, a path or a literal"),
-    (25, 26, 0, "a path, `not`, `each`, `any`, `at` or `(`"),
+    (
+        25,
+        26,
+        0,
+        "a path, `not`, `each`, `any`, `at`, `keys` or `(`",
+    ),
     (
         27,
         29,
@@ -150,7 +160,7 @@ const CHANGED: [(usize, u8, usize, &str); 42] = [
         3,
         b'#',
         3,
-        "a path, `not`, `each`, `any`, `at`, `if` or `(`",
+        "a path, `not`, `each`, `any`, `at`, `keys`, `if` or `(`",
     ),
     (3, b' ', 4, TOKEN),
     (3, b'"', 3, QUOTE),

@@ -525,7 +525,7 @@ const ROWS: [Row; 50] = [
 ];
 
 // Flags, each with its value.
-const FLAGS: [&[&[u8]]; 9] = [
+const FLAGS: [&[&[u8]]; 10] = [
     &[b"--failed"],
     &[b"--passed"],
     &[b"--all"],
@@ -535,6 +535,7 @@ const FLAGS: [&[&[u8]]; 9] = [
     &[b"--flush"],
     &[b"--max", b"1"],
     &[b"--id", b"/"],
+    &[b"--progress"],
 ];
 
 // Which of them can't stand together, by their places.
@@ -561,7 +562,7 @@ fn run<'a>(
     let mut process = Process::new(alloc, words, files, input);
     process.end = end;
     process.closed = closed;
-    let status = run_program(&process);
+    let status = run_program(&process, true);
     let (output, error) = process.into_written();
     (status, output, error)
 }

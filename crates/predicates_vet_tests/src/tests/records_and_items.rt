@@ -110,7 +110,7 @@ const ROWS: [(&str, &str, &str, &str, &str); 9] = [
         "/c",
         "^",
         "{\"l\": [{\"c\": 1}]}",
-        "each /l (/c == ^/) = false\n  - index: 0\n  item: /c == ^/ = false\n    - found: 1\n    - other: {\"l\":[{\"c\":1}]}\n    - error: not comparable with ^\n",
+        "each /l (/c == ^/) = false\n  - index: 0\n  item: /c == ^/ = false\n    - found: 1\n    - other: {\"l\":[{\"c\":1}]}\n    - error: not comparable with ^/\n",
     ),
     (
         "^/l",

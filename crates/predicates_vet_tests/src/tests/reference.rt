@@ -1,6 +1,6 @@
 //! What a rule says of a value, worked out by plain steps over values of `serde_json`: its truth,
 //! and the lines that say why.
-use serde_json::Value;
+use serde_json::{Map, Value};
 use std::alloc::{AllocError, Global};
 use std::cmp::Ordering;
 
@@ -20,6 +20,8 @@ pub enum Against<'a> {
     Length(usize),
     /// A kind, by its word.
     Kind(&'a str),
+    /// The keys that an object may have.
+    Keys(&'a [&'a str]),
 }
 
 /// A test as a rule writes it, the names and places that its path goes by, its word, and what it
@@ -259,6 +261,32 @@ fn of_kind(alloc: Global, kind: &str, value: &Value) -> Result<(bool, String), A
     Ok((is_of(kind, &shown), below))
 }
 
+// The first key that is none of these.
+fn other_key<'v>(members: &'v Map<String, Value>, keys: &[&str]) -> Option<&'v str> {
+    for key in members.keys() {
+        if !keys.contains(&key.as_str()) {
+            return Some(key);
+        }
+    }
+    None
+}
+
+// No key of the records is one that JSON escapes.
+fn of_keys(alloc: Global, value: &Value, keys: &[&str]) -> Result<(bool, String), AllocError> {
+    let shown = value.to_string(alloc)?;
+    let Value::Object(members) = value else {
+        let below = format!(in alloc; "- found: {shown}\n- error: not an object\n")?;
+        return Ok((false, below));
+    };
+    match other_key(members, keys) {
+        Some(key) => {
+            let below = format!(in alloc; "- found: {shown}\n- other key: \"{key}\"\n")?;
+            Ok((false, below))
+        }
+        None => Ok((true, format!(in alloc; "- found: {shown}\n")?)),
+    }
+}
+
 fn of_found(
     alloc: Global,
     test: Test<'_>,
@@ -270,6 +298,7 @@ fn of_found(
         Against::Place(names) => of_two(alloc, test, value, value_of(whole, names)),
         Against::Length(number) => of_count(alloc, word, value, number),
         Against::Kind(kind) => of_kind(alloc, kind, value),
+        Against::Keys(keys) => of_keys(alloc, value, keys),
         _ => of_one(alloc, test, value),
     }
 }
@@ -280,7 +309,8 @@ fn of_nothing(alloc: Global, test: Test<'_>) -> Result<(bool, String), AllocErro
         "missing" => Ok((true, String::new(alloc))),
         "exists" => Ok((false, String::new(alloc))),
         _ => {
-            let path = text.split(' ').next().unwrap_or("");
+            let test = text.strip_prefix("keys ").unwrap_or(text);
+            let path = test.split(' ').next().unwrap_or("");
             Ok((false, format!(in alloc; "- error: nothing at {path}\n")?))
         }
     }
