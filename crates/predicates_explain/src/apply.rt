@@ -7,7 +7,7 @@ use crate::check::TextCheck;
 use crate::word::Word;
 use crate::word_fault::WordFault;
 use predicates_item::ord::eq;
-use predicates_text::{contains, ends_with, is_empty, is_match, starts_with};
+use predicates_text::{RegexError, contains, ends_with, is_empty, is_match, starts_with};
 use std::alloc::Global;
 
 // The last check, taken off.
@@ -57,6 +57,7 @@ fn make_check(alloc: Global, stack: &mut Vec<TextCheck>, word: Word) -> Result<T
         Word::Contains(pattern) => Ok(TextCheck::Contains(contains(pattern))),
         Word::Matches(pattern) => match is_match(alloc, pattern) {
             Ok(leaf) => Ok(TextCheck::Matches(leaf)),
+            Err(RegexError::OutOfMemory) => Err(WordFault::NoMemory),
             Err(_) => Err(WordFault::Pattern),
         },
         Word::Trim => Ok(TextCheck::Trim(take_one(alloc, stack)?)),

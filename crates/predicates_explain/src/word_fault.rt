@@ -11,7 +11,7 @@ use std::fmt;
 pub enum WordFault {
     /// There are fewer checks than the word takes.
     Operand,
-    /// The regular expression was refused.
+    /// The regular expression was refused, and not for want of memory.
     Pattern,
     /// Memory was refused. After it nothing is said of the checks.
     NoMemory,
