@@ -1,4 +1,6 @@
 //! Calls that make no request for memory.
+ghost use Rattle.std.specs.Prelude.{◌≡◌, true, IfOk};
+
 use crate::allocator;
 use crate::wrong::require;
 use std::alloc::Global;
@@ -18,7 +20,9 @@ pub fn refusing(alloc: Global, name: &str) -> Without<'_> {
 
 impl Without<'_> {
     /// No request was made, and the answer is right.
-    pub fn end<R: AllocGlobal + Print>(self, rt: &R, right: bool) -> Result<(), Fail> {
+    pub fn end<R: AllocGlobal + Print>(self, rt: &R, right: bool) -> Result<(), Fail>
+        ensures { IfOk result (λ _. right ≡ true) }
+    {
         let alloc = rt.alloc();
         let listens = allocator::listens(alloc);
         let requested = listens && allocator::was_refused(alloc);

@@ -1,4 +1,6 @@
 //! What a sweep finds wrong with a call.
+ghost use Rattle.std.specs.Prelude.{◌≡◌, true, IfOk};
+
 use std::alloc::Global;
 use std::test::Fail;
 
@@ -17,7 +19,9 @@ pub(crate) fn require(
     is_right: bool,
     what: &'static str,
     refusal: u16,
-) -> Result<(), Fail> {
+) -> Result<(), Fail>
+    ensures { IfOk result (λ _. is_right ≡ true) }
+{
     if is_right {
         return Ok(());
     }
