@@ -1,7 +1,10 @@
 mod checks;
+mod documents;
 mod ended_run;
 mod faulty_io;
 mod filters;
+mod pieces;
+mod rule_checks;
 mod rules;
 mod runs;
 mod summaries;

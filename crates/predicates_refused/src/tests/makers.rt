@@ -6,7 +6,7 @@ use predicates_path::Snapshot;
 use predicates_sweep::Memory::{GoesOn, Taken};
 use predicates_sweep::{Answer, Call, Rendered, sweep};
 use predicates_testing::text;
-use predicates_text::{IsEmptyPredicate, RegexPredicate, is_empty, is_match};
+use predicates_text::{IsEmptyPredicate, RegexError, RegexPredicate, is_empty, is_match};
 use std::alloc::{AllocError, Global};
 use std::fs::Files;
 use std::test::Fail;
@@ -61,18 +61,25 @@ fn memberships(rt: HostRuntime) -> Result<(), Fail> {
     )
 }
 
-// A pattern that was made.
+// A pattern that was made, or what is wrong with it.
 #[derive(Drop)]
-struct Made {
-    pattern: RegexPredicate,
+enum Made {
+    Pattern(RegexPredicate),
+    Fault(RegexError),
 }
 
-// Whether it matches a text.
+// The pattern, and whether it matches a text.
+fn told(alloc: Global, pattern: &RegexPredicate) -> Result<String, AllocError> {
+    let found = pattern.eval(alloc, &text(alloc, "One Two")?)?;
+    format!(in alloc; "{pattern} {found}")
+}
+
 impl Rendered for Made {
     fn rendered(&self, alloc: Global) -> Result<String, AllocError> {
-        let pattern = &self.pattern;
-        let found = pattern.eval(alloc, &text(alloc, "One Two")?)?;
-        format!(in alloc; "{pattern} {found}")
+        match self {
+            Made::Pattern(pattern) => told(alloc, pattern),
+            Made::Fault(error) => error.to_string(alloc),
+        }
     }
 }
 
@@ -92,25 +99,27 @@ impl Call for Pattern<'_> {
 
     fn call(&self, alloc: Global, pattern: String) -> Result<Made, AllocError> {
         match is_match(alloc, pattern) {
-            Ok(pattern) => Ok(Made { pattern }),
-            Err(_) => Err(AllocError),
+            Ok(pattern) => Ok(Made::Pattern(pattern)),
+            Err(RegexError::OutOfMemory) => Err(AllocError),
+            Err(error) => Ok(Made::Fault(error)),
         }
     }
 }
 
 #[test]
 fn patterns(rt: HostRuntime) -> Result<(), Fail> {
-    let pattern = Pattern { pattern: "T[a-z]*" };
-    let expected = "var.is_match(T[a-z]*) true";
-    sweep(&rt, "is_match", &pattern, expected, GoesOn)?;
-    let pattern = Pattern { pattern: "" };
-    sweep(
-        &rt,
-        "is_match of nothing",
-        &pattern,
-        "var.is_match() true",
-        GoesOn,
-    )
+    for (name, pattern, expected) in [
+        ("is_match", "T[a-z]*", "var.is_match(T[a-z]*) true"),
+        ("is_match of nothing", "", "var.is_match() true"),
+        (
+            "is_match of no pattern",
+            "[",
+            "regex parse error at 0..1: unclosed character class",
+        ),
+    ] {
+        sweep(&rt, name, &Pattern { pattern }, expected, GoesOn)?;
+    }
+    Ok(())
 }
 
 #[derive(Drop)]

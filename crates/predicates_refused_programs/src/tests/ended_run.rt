@@ -1,4 +1,5 @@
 //! What became of a run.
+use predicates_lines::RunFault;
 use predicates_sweep::Rendered;
 use std::alloc::{AllocError, Global};
 use std::str;
@@ -9,6 +10,17 @@ pub enum EndedRun {
     /// Whether each line was an item or kept the rules, and what was written.
     Wrote(bool, Vec<u8>),
     OtherFault,
+}
+
+impl EndedRun {
+    /// How a run ended that wrote this, by what it answered.
+    pub fn of(ended: Result<bool, RunFault>, written: Vec<u8>) -> Result<EndedRun, AllocError> {
+        match ended {
+            Ok(all) => Ok(EndedRun::Wrote(all, written)),
+            Err(RunFault::NoMemory) => Err(AllocError),
+            Err(_) => Ok(EndedRun::OtherFault),
+        }
+    }
 }
 
 // Whether all did, and below it what was written.

@@ -3,7 +3,7 @@ use super::ended_run::EndedRun;
 use super::words::check_of;
 use predicates::boolean::PredicateBooleanExt;
 use predicates::ord::{ge, le};
-use predicates_explain::{RunFault, TextCheck, explain_one, explain_total, run_between, run_text};
+use predicates_explain::{TextCheck, explain_one, explain_total, run_between, run_text};
 use predicates_sweep::Memory::{self, GoesOn, Never, Perhaps, Taken};
 use predicates_sweep::{Answer, Call, sweep};
 use std::alloc::{AllocError, Global};
@@ -62,15 +62,6 @@ fn blocks(rt: HostRuntime) -> Result<(), Fail> {
     )
 }
 
-// The answer of a run that wrote this.
-fn answer_of(ended: Result<bool, RunFault>, written: Vec<u8>) -> Result<EndedRun, AllocError> {
-    match ended {
-        Ok(all) => Ok(EndedRun::Wrote(all, written)),
-        Err(RunFault::NoMemory) => Err(AllocError),
-        Err(_) => Ok(EndedRun::OtherFault),
-    }
-}
-
 // A run over numbers between 5 and 10, or over texts by the check.
 #[derive(Drop)]
 struct Run<'a> {
@@ -94,7 +85,7 @@ impl Call for Run<'_> {
             Some(check) => run_text(alloc, check, &mut reader, &mut written),
             None => run_between(alloc, 5, 10, &mut reader, &mut written),
         };
-        answer_of(ended, written)
+        EndedRun::of(ended, written)
     }
 }
 

@@ -3,7 +3,7 @@ use super::ended_run::EndedRun;
 use predicates_sweep::Memory::{self, GoesOn, Perhaps, Taken};
 use predicates_sweep::{Answer, Call, sweep};
 use predicates_vet::settings::{Report, Settings};
-use predicates_vet::{Job, ReadChecksError, RuleFault, RunFault, Tally, read_checks, run_records};
+use predicates_vet::{InputFormat, Job, ReadChecksError, Tally, read_checks, run_records};
 use predicates_vet_check::RuleCheck;
 use std::alloc::{AllocError, Global};
 use std::test::Fail;
@@ -25,12 +25,6 @@ fn lines_of(alloc: Global, checks: &[RuleCheck]) -> Result<String, AllocError> {
     Ok(lines)
 }
 
-fn has_no_pattern(faults: &[RuleFault]) -> bool {
-    faults
-        .iter()
-        .all(|fault| matches!(fault, RuleFault::Unreadable(_)))
-}
-
 impl Call for Reading<'_> {
     type Operand = ();
 
@@ -43,19 +37,15 @@ impl Call for Reading<'_> {
     fn call(&self, alloc: Global, _operand: ()) -> Result<Answer, AllocError> {
         match read_checks(alloc, self.rules) {
             Ok(checks) => Ok(Answer::Text(lines_of(alloc, checks.as_slice())?)),
-            Err(ReadChecksError::Unreadable(faults)) if has_no_pattern(&faults) => {
-                let error = ReadChecksError::Unreadable(faults);
-                Ok(Answer::Text(format!(in alloc; "{error}")?))
-            }
-            // A pattern fails where memory runs out too.
-            Err(_) => Err(AllocError),
+            Err(ReadChecksError::NoMemory) => Err(AllocError),
+            Err(error) => Ok(Answer::Text(format!(in alloc; "{error}")?)),
         }
     }
 }
 
 // A name, rules, how they are told, and what reading them does with memory: a library under it may
 // do without a request.
-const RULES: [(&str, &[u8], &str, Memory); 4] = [
+const RULES: [(&str, &[u8], &str, Memory); 5] = [
     (
         "read_checks of joins and ranges",
         b"a: /x >= 18 and not /y in [1, \"b\", null] # c\n\nb: each /l (/q == true or /r missing)",
@@ -80,6 +70,12 @@ const RULES: [(&str, &[u8], &str, Memory); 4] = [
         "line 2, column 8: expected a literal or a path, found the end of the line",
         GoesOn,
     ),
+    (
+        "read_checks of no pattern",
+        b"a: /x matches \"[\"",
+        "line 1, rule a: no regular expression: unclosed character class at character 1: [",
+        GoesOn,
+    ),
 ];
 
 #[test]
@@ -96,6 +92,7 @@ struct Running<'a> {
     rules: &'a [u8],
     report: Report,
     id: Option<&'a str>,
+    format: InputFormat,
     input: &'a [u8],
 }
 
@@ -125,7 +122,8 @@ impl Call for Running<'_> {
         let mut reader = self.input;
         let mut written = Vec::new(alloc);
         let mut messages = Vec::new(alloc);
-        let job = Job::new(checks.as_slice(), &settings);
+        let mut job = Job::new(checks.as_slice(), &settings);
+        job.format = self.format;
         let mut tally = Tally::of_rules(alloc, checks.as_slice(), Some(9))?;
         let ended = run_records(
             alloc,
@@ -135,14 +133,10 @@ impl Call for Running<'_> {
             &mut written,
             &mut messages,
         );
-        match ended {
-            Ok(()) => {
-                written.extend_from_slice(&messages)?;
-                Ok(EndedRun::Wrote(tally.counts.status() == 0, written))
-            }
-            Err(RunFault::NoMemory) => Err(AllocError),
-            Err(_) => Ok(EndedRun::OtherFault),
+        if ended.is_ok() {
+            written.extend_from_slice(&messages)?;
         }
+        EndedRun::of(ended.map(|()| tally.counts.status() == 0), written)
     }
 }
 
@@ -152,7 +146,7 @@ const RECORDS: &[u8] = b"{\"x\": 3, \"l\": [1, 4]}\n{\"x\": 1, \"l\": []}\n[1";
 
 // A name, rules, a report on records, the path of their labels, the records, what is written with
 // the messages behind it, and what the run does with memory.
-const RUNS: [(&str, &[u8], Report, Option<&str>, &[u8], &str, Memory); 9] = [
+const RUNS: [(&str, &[u8], Report, Option<&str>, &[u8], &str, Memory); 10] = [
     (
         "run_records: the first rule and a message",
         ROW,
@@ -223,6 +217,15 @@ const RUNS: [(&str, &[u8], Report, Option<&str>, &[u8], &str, Memory); 9] = [
         Taken,
     ),
     (
+        "run_records: lines for GitHub",
+        ROW,
+        Report::GitHub { all: true },
+        Some("/x"),
+        b"{\"x\": 3, \"l\": [1, 4]}",
+        "false\n::error title=a::record 1 (3): false%0Aa = false%0A  rule: /x == 1 or /x == 2 = false%0A    part: /x == 1 = false%0A      - found: 3%0A    part: /x == 2 = false%0A      - found: 3\n::error title=b::record 1 (3): false%0Ab = false%0A  rule: each /l (/ < 3) = false%0A    - index: 1%0A    item: / < 3 = false%0A      - found: 4\n",
+        Taken,
+    ),
+    (
         "run_records: a pattern",
         b"a: / matches \"T[a-z]*\"",
         Report::First,
@@ -249,9 +252,39 @@ fn runs_over_records(rt: HostRuntime) -> Result<(), Fail> {
             rules,
             report,
             id,
+            format: InputFormat::JsonLines,
             input,
         };
         sweep(&rt, name, &call, expected, memory)?;
+    }
+    Ok(())
+}
+
+// Records that are values of JSON, and what is written of the kept ones, with the messages behind.
+const VALUES: [(&str, &[u8], &str); 2] = [
+    (
+        "run_records: members of an array",
+        b"[{\"x\": 3}, {\"x\":\n1}, 7]",
+        "false\n{\"x\":\n1}\n",
+    ),
+    (
+        "run_records: an array that is not closed",
+        b"{\"x\": 2} [{\"x\": 1},",
+        "false\n{\"x\": 2}\n{\"x\": 1}\nvet: record 3: not JSON: EOF while parsing at line 1 column 1\n",
+    ),
+];
+
+#[test]
+fn runs_over_values(rt: HostRuntime) -> Result<(), Fail> {
+    for (name, input, expected) in VALUES {
+        let call = Running {
+            rules: b"a: /x == 1 or /x == 2",
+            report: Report::Lines(true),
+            id: None,
+            format: InputFormat::Json,
+            input,
+        };
+        sweep(&rt, name, &call, expected, Taken)?;
     }
     Ok(())
 }

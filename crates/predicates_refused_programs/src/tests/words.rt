@@ -135,7 +135,6 @@ impl Call for Applying<'_> {
                 checks: Some(stack),
             }),
             Err(WordFault::NoMemory) => Err(AllocError),
-            Err(WordFault::Pattern) if self.token.starts_with("match=") => Err(AllocError),
             Err(_) => Ok(Applied { checks: None }),
         }
     }
@@ -151,6 +150,7 @@ fn words_of_no_operands(rt: HostRuntime) -> Result<(), Fail> {
         ("contains=a", "var.contains(a)\n", Taken),
         ("match=T[a-z]*", "var.is_match(T[a-z]*)\n", GoesOn),
         ("match=", "var.is_match()\n", GoesOn),
+        ("match=[", "another fault", GoesOn),
     ] {
         let name = format!(in rt.alloc(); "apply_word of {token}")?;
         sweep(
@@ -232,7 +232,9 @@ fn checks_from_words(rt: HostRuntime) -> Result<(), Fail> {
     ] {
         sweep(&rt, expected, &FromWords { words }, expected, Taken)?;
     }
-    Ok(())
+    let words = ["empty", "match=["].as_slice();
+    let expected = "word 2, \"match=[\": regular expression rejected";
+    sweep(&rt, expected, &FromWords { words }, expected, GoesOn)
 }
 
 #[test]

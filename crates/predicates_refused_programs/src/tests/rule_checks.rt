@@ -1,0 +1,63 @@
+//! The calls of checks of records, made of rules.
+use predicates_sweep::Memory::{self, GoesOn, Never, Perhaps, Taken};
+use predicates_sweep::{Row, sweep_calls};
+use predicates_vet::read_checks;
+use predicates_vet_check::RuleCheck;
+use serde_json::Value;
+use std::alloc::{AllocError, Global};
+use std::test::Fail;
+
+// The first rule of the text.
+fn rule_of(alloc: Global, text: &[u8]) -> Result<RuleCheck, AllocError> {
+    match read_checks(alloc, text) {
+        Ok(rules) => rules.into_iter().next().ok_or(AllocError),
+        Err(_) => Err(AllocError),
+    }
+}
+
+// A row of a check of records, which has neither parameters nor children.
+fn row<'a>(name: &'a str, verdict: bool, lines: &'a str, memory: [Memory; 3]) -> Row<'a> {
+    let [eval, case, opposite] = memory;
+    Row {
+        name,
+        verdict,
+        eval,
+        case,
+        opposite,
+        lines,
+        parameters: "",
+        children: "",
+    }
+}
+
+#[test]
+fn calls_of_checks_of_records(rt: HostRuntime) -> Result<(), Fail> {
+    let rule = rule_of(rt.alloc(), b"a: /x == 1 or /x == 2")?;
+    let record = Value::from_str(rt.alloc(), "{\"x\": 3}")?;
+    let memory = [Never, Taken, Perhaps];
+    let lines =
+        "/x == 1 or /x == 2 = false\n  part: /x == 1 = false\n    - found: 3\n  part: /x == 2 = false\n    - found: 3\n";
+    sweep_calls(
+        &rt,
+        &rule.check,
+        &record,
+        row("Check", false, lines, memory),
+    )?;
+    let lines =
+        "a = false\n  rule: /x == 1 or /x == 2 = false\n    part: /x == 1 = false\n      - found: 3\n    part: /x == 2 = false\n      - found: 3\n";
+    sweep_calls(&rt, &rule, &record, row("RuleCheck", false, lines, memory))
+}
+
+#[test]
+fn calls_of_a_check_with_a_pattern(rt: HostRuntime) -> Result<(), Fail> {
+    let rule = rule_of(rt.alloc(), b"a: /x matches \"T[a-z]*\"")?;
+    let record = Value::from_str(rt.alloc(), "{\"x\": \"Two\"}")?;
+    let lines = "a = true\n  rule: /x matches \"T[a-z]*\" = true\n    - found: \"Two\"\n";
+    let memory = [GoesOn, GoesOn, GoesOn];
+    sweep_calls(
+        &rt,
+        &rule,
+        &record,
+        row("RuleCheck with a pattern", true, lines, memory),
+    )
+}
