@@ -264,7 +264,7 @@ fn of_kind(alloc: Global, kind: &str, value: &Value) -> Result<(bool, String), A
 // The first key that is none of these.
 fn other_key<'v>(members: &'v Map<String, Value>, keys: &[&str]) -> Option<&'v str> {
     for key in members.keys() {
-        if !keys.contains(&key.as_str()) {
+        if !keys.iter().any(|known| *known == key.as_str()) {
             return Some(key);
         }
     }
