@@ -22,7 +22,7 @@ pub enum Closed {
 
 /// A process with these words, of which the first is the program's name, files by their paths, this
 /// input with the error at its end, and an output that fails; it keeps what is written. Its clock
-/// stands at 0, and each look at it puts it on by `tick` milliseconds.
+/// begins at 0, and each look at it moves it on by `tick` milliseconds; with None it has no clock.
 #[derive(Drop)]
 pub struct Process<'a> {
     pub alloc: Global,
@@ -31,7 +31,7 @@ pub struct Process<'a> {
     pub input: &'a [u8],
     pub end: Option<ErrorKind>,
     pub closed: Closed,
-    pub tick: u64,
+    pub tick: Option<u64>,
     time: Cell<u64>,
     output: RefCell<Vec<u8>>,
     error: RefCell<Vec<u8>>,
@@ -52,7 +52,7 @@ impl<'a> Process<'a> {
             input,
             end: None,
             closed: Closed::Neither,
-            tick: 0,
+            tick: Some(0),
             time: Cell::new(0),
             output: RefCell::new(Vec::new(alloc)),
             error: RefCell::new(Vec::new(alloc)),
@@ -97,8 +97,11 @@ impl Alloc for Process<'_> {
 
 impl Clock for Process<'_> {
     fn monotonic(&self) -> io::Result<Duration> {
+        let Some(tick) = self.tick else {
+            return Err(Error::from(ErrorKind::Unsupported));
+        };
         let now = self.time.get();
-        self.time.set(now.saturating_add(self.tick));
+        self.time.set(now.saturating_add(tick));
         Ok(Duration::from_millis(now))
     }
 

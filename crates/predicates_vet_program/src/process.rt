@@ -116,7 +116,7 @@ fn run_by<'r, E: Files + Input + Print + Eprint + Clock + AllocGlobal>(
     let mut job = Job::new(rules, &wanted.settings);
     job.format = wanted.input;
     let kept = if wanted.flush { 0 } else { KEPT };
-    let watched = Watched::start(rt, wanted.progress, files)?;
+    let watched = Watched::start(rt, wanted.progress, files);
     let ended = run_inputs(&watched, files, &job, kept, &mut tally);
     watched.erase();
     match ended? {

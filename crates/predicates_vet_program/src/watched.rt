@@ -1,5 +1,5 @@
 //! A process whose run is watched on a terminal.
-ghost use Rattle.std.specs.Prelude.{◌≡◌, IfOk, None, false};
+ghost use Rattle.std.specs.Prelude.{◌≡◌, None, false};
 
 use crate::length::length_of;
 use crate::meter::Meter;
@@ -19,22 +19,20 @@ pub(crate) struct Watched<'a, E> {
 
 impl<'a, E> Watched<'a, E> {
     /// The process before a run over the files of these names, or over standard input where there is
-    /// none, and whether the line is wanted.
-    pub(crate) fn start(
-        rt: &'a E,
-        is_wanted: bool,
-        names: Option<&[&str]>,
-    ) -> io::Result<Watched<'a, E>>
+    /// none, and whether the line is wanted. Without a clock there is no line.
+    pub(crate) fn start(rt: &'a E, is_wanted: bool, names: Option<&[&str]>) -> Watched<'a, E>
     where
         E: Files + Clock,
-        ensures { is_wanted ≡ false → IfOk result (λ watched. watched.meter ≡ None) }
+        ensures { is_wanted ≡ false → result.meter ≡ None }
     {
         if !is_wanted {
-            return Ok(Watched { rt, meter: None });
+            return Watched { rt, meter: None };
         }
         let whole = length_of(rt, names.unwrap_or(&["-"]));
-        let meter = Some(Meter::start(rt, whole)?);
-        Ok(Watched { rt, meter })
+        Watched {
+            rt,
+            meter: Meter::start(rt, whole).ok(),
+        }
     }
 
     /// Takes the line away.

@@ -1,4 +1,4 @@
-//! The program, where it shows on a terminal how far it is. Each look at the clock puts it on by
+//! The program, where it shows on a terminal how far it is. Each look at the clock moves it on by
 //! `tick` milliseconds: the first is before the inputs are opened, and there is one for each read.
 //! Standard input gives a byte a read, and a file all that it has; both are read at their end once
 //! more, and twice where the last line has no line feed.
@@ -150,7 +150,7 @@ fn ticking<'a>(
     words: &'a [&'a [u8]],
     files: &'a [(&'a str, &'a [u8])],
     input: &'a [u8],
-    tick: u64,
+    tick: Option<u64>,
 ) -> Process<'a> {
     let mut process = Process::new(alloc, words, files, input);
     process.tick = tick;
@@ -167,6 +167,7 @@ fn tells(watched: Process<'_>, plain: Process<'_>, messages: &str) -> bool {
 // Whether the program tells so.
 fn row_tells(alloc: Global, row: Row) -> bool {
     let (words, tick, stdin, input, messages) = row;
+    let tick = Some(tick);
     let [rules, one, two] = FILES;
     let files = [rules, one, two, ("/dev/stdin", stdin.unwrap_or(b""))];
     let known = if stdin.is_some() { 4 } else { 3 };
@@ -176,7 +177,7 @@ fn row_tells(alloc: Global, row: Row) -> bool {
 }
 
 fn failing(alloc: Global, end: Option<ErrorKind>, closed: Closed) -> Process<'static> {
-    let mut process = ticking(alloc, PLAIN, &FILES, b"2\n", 200);
+    let mut process = ticking(alloc, PLAIN, &FILES, b"2\n", Some(200));
     process.end = end;
     process.closed = closed;
     process
@@ -190,8 +191,8 @@ fn fault_tells(alloc: Global, fault: (Option<ErrorKind>, Closed, &str)) -> bool 
 }
 
 // Whether nothing is shown.
-fn is_silent(alloc: Global, words: &[&[u8]], on_terminal: bool) -> bool {
-    let process = ticking(alloc, words, &FILES, b"1\n2\n1\n", 100);
+fn is_silent(alloc: Global, words: &[&[u8]], tick: Option<u64>, on_terminal: bool) -> bool {
+    let process = ticking(alloc, words, &FILES, b"1\n2\n1\n", tick);
     let (_, _, told) = run(process, on_terminal);
     told.as_slice() == b"3 records, 1 failed\n".as_slice()
 }
@@ -216,7 +217,9 @@ fn faults(rt: HostRuntime) -> Result<(), Fail> {
 
 #[test]
 fn silent_elsewhere(rt: HostRuntime) -> Result<(), Fail> {
-    assert!(rt; is_silent(rt.alloc(), PLAIN, false));
-    assert!(rt; is_silent(rt.alloc(), &[b"vet", b"rules"], true));
+    assert!(rt; is_silent(rt.alloc(), PLAIN, Some(100), false));
+    assert!(rt; is_silent(rt.alloc(), &[b"vet", b"rules"], Some(100), true));
+    // Without a clock.
+    assert!(rt; is_silent(rt.alloc(), PLAIN, None, true));
     Ok(())
 }
