@@ -1,8 +1,8 @@
 mod Slices
 mod AlreadyTrimmed
 mod Found
+mod Verdicts
 mod Counting
-mod Showing
 pub mod Trimming
 pub mod LineEndings
 pub mod CaseFolding

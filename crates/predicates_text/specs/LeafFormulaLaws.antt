@@ -1,19 +1,20 @@
 -- The laws of the leaves of the tests of texts: the printed text fits, there is one, and a function
 -- of the text gives it.
-use Rattle.std.specs.Prelude.{◌≡◌, refl, ℕ, List, ◌==◌}
+use Rattle.std.specs.Prelude.{◌≡◌, ◌↔◌, refl, ℕ, Bool, IsTrue, List, ◌==◌}
 use Rattle.std.proofs.Common.{sym, ap, ◌∙◌}
 use Rattle.std.specs.Str.{chars}
 use Rattle.predicates_core.specs.Label.{Entry, FitsEntry}
 use Rattle.predicates_core.specs.Formula.{Formula, text_of}
 use Rattle.predicates_core.specs.LeafLaws.{exactly_text_fits}
+use Rattle.predicates_core.specs.Leaves.{IsExactly}
 use Rattle.predicates_text.specs.Leaves.{text_leaf, counted_leaf, contains_text, empty_formula}
 use Rattle.predicates_text.specs.Leaves.{starts_formula, ends_formula, contains_formula}
-use Rattle.predicates_text.specs.Leaves.{matches_formula, eq_ignore_case_formula}
+use Rattle.predicates_text.specs.Leaves.{matches_formula}
 use Rattle.predicates_text.specs.PlaceLaws.{empty_decides, front_decides, back_decides, part_decides}
-use Rattle.predicates_text.specs.PlaceLaws.{eq_ignore_case_decides, same_test}
+use Rattle.predicates_text.specs.PlaceLaws.{same_test}
 use Rattle.predicates_text.specs.CountLaws.{count_unique, count_of_counts}
 use Rattle.predicates_text.specs.LeafFormulas.{IsTextLeaf, IsEmptyLeaf, IsStartsLeaf, IsEndsLeaf}
-use Rattle.predicates_text.specs.LeafFormulas.{IsContainsLeaf, IsCountedLeaf, IsEqIgnoreCaseLeaf}
+use Rattle.predicates_text.specs.LeafFormulas.{IsContainsLeaf, IsCountedLeaf}
 
 module _ {printed : Entry} {bytes : List ℕ} {fact : Type 0} where
   pub text_leaf_fits : {f : Formula} → IsTextLeaf printed bytes fact f
@@ -25,27 +26,32 @@ module _ {printed : Entry} {bytes : List ℕ} {fact : Type 0} where
   one_text_leaf h k =
       h.is ∙ ap (text_leaf printed bytes) (same_test h.own k.own h.exactly k.exactly) ∙ sym k.is
 
+module _ {printed : Entry} {bytes : List ℕ} {fact : Type 0} {test : Bool} where
+  pub has_text_leaf : IsTrue test ↔ fact
+      → IsTextLeaf printed bytes fact (text_leaf printed bytes test)
+  has_text_leaf decides = record { own = test; exactly = decides; is = refl }
+
+  -- so it is the one that a test of the fact gives
+  pub is_text_leaf : {f : Formula} → IsTrue test ↔ fact
+      → IsTextLeaf printed bytes fact f ↔ IsExactly (text_leaf printed bytes test) f
+  is_text_leaf decides = (
+    (λ h. record { is = one_text_leaf h (has_text_leaf decides) }),
+    λ h. record { own = test; exactly = decides; is = h.is },
+  )
+
 pub has_empty : (bytes : List ℕ) → IsEmptyLeaf bytes (empty_formula bytes)
-has_empty bytes = record { own = _; exactly = empty_decides (chars bytes); is = refl }
+has_empty bytes = has_text_leaf (empty_decides (chars bytes))
 
 pub has_starts : (pattern bytes : List ℕ)
     → IsStartsLeaf pattern bytes (starts_formula pattern bytes)
-has_starts pattern bytes = record
-    { own = _; exactly = front_decides (chars pattern) (chars bytes); is = refl }
+has_starts pattern bytes = has_text_leaf (front_decides (chars pattern) (chars bytes))
 
 pub has_ends : (pattern bytes : List ℕ) → IsEndsLeaf pattern bytes (ends_formula pattern bytes)
-has_ends pattern bytes = record
-    { own = _; exactly = back_decides (chars pattern) (chars bytes); is = refl }
+has_ends pattern bytes = has_text_leaf (back_decides (chars pattern) (chars bytes))
 
 pub has_contains : (pattern bytes : List ℕ)
     → IsContainsLeaf pattern bytes (contains_formula pattern bytes)
-has_contains pattern bytes = record
-    { own = _; exactly = part_decides (chars pattern) (chars bytes); is = refl }
-
-pub has_eq_ignore_case : (other bytes : List ℕ)
-    → IsEqIgnoreCaseLeaf other bytes (eq_ignore_case_formula other bytes)
-has_eq_ignore_case other bytes = record
-    { own = _; exactly = eq_ignore_case_decides (chars other) (chars bytes); is = refl }
+has_contains pattern bytes = has_text_leaf (part_decides (chars pattern) (chars bytes))
 
 module _ {pattern : List ℕ} {count : ℕ} {bytes : List ℕ} where
   pub counted_text_fits : {f : Formula} → IsCountedLeaf pattern count bytes f
@@ -63,3 +69,11 @@ pub has_counted : (pattern : List ℕ) (count : ℕ) (bytes : List ℕ)
     → IsCountedLeaf pattern count bytes (matches_formula pattern count bytes)
 has_counted pattern count bytes = record
     { number = _; greatest = count_of_counts (chars pattern) (chars bytes); is = refl }
+
+-- so it is the one that counting gives
+pub is_counted_leaf : (pattern : List ℕ) (count : ℕ) (bytes : List ℕ) {f : Formula}
+    → IsCountedLeaf pattern count bytes f ↔ IsExactly (matches_formula pattern count bytes) f
+is_counted_leaf pattern count bytes = (
+  (λ h. record { is = one_counted h (has_counted pattern count bytes) }),
+  λ h. record { number = _; greatest = count_of_counts (chars pattern) (chars bytes); is = h.is },
+)

@@ -4,7 +4,7 @@ use Rattle.std.specs.Fmt.{◌++?◌, debug_str, decimal}
 use Rattle.std.specs.Str.{chars}
 use Rattle.predicates_core.specs.Label.{Entry, showing, showing_both}
 use Rattle.predicates_core.specs.Formula.{Formula, Leaf}
-use Rattle.predicates_text.specs.Places.{is_empty, is_front, is_back, is_part, is_eq_ignore_case}
+use Rattle.predicates_text.specs.Places.{is_empty, is_front, is_back, is_part}
 use Rattle.predicates_text.specs.Count.{count_of}
 
 -- a leaf that shows the text itself as `var`
@@ -15,6 +15,10 @@ text_leaf text bytes own = Leaf (showing text (codes "var") (Some bytes)) own
 abbrev pub counted_leaf : Entry → List ℕ → ℕ → Bool → Formula
 counted_leaf text bytes n own = Leaf
     (showing_both text (codes "var") (Some bytes) (codes "actual count") (Some (decimal n))) own
+
+-- one that is true where the number is the count
+abbrev pub number_leaf : Entry → List ℕ → ℕ → ℕ → Formula
+number_leaf text bytes n count = counted_leaf text bytes n (n == count)
 
 -- the text has no characters
 abbrev pub empty_text : Entry
@@ -52,12 +56,7 @@ abbrev pub eq_ignore_case_text : List ℕ → Entry
 eq_ignore_case_text other =
     Some (codes "var.eq_ignore_case(") ++? debug_str other ++? Some (codes ")")
 
-abbrev pub eq_ignore_case_formula : List ℕ → List ℕ → Formula
-eq_ignore_case_formula other bytes = text_leaf (eq_ignore_case_text other) bytes
-    (is_eq_ignore_case (chars other) (chars bytes))
-
 -- the pattern has `count` places in the text, of which no two overlap
 abbrev pub matches_formula : List ℕ → ℕ → List ℕ → Formula
-matches_formula pattern count bytes =
-    let n : ℕ = count_of (chars pattern) (chars bytes) in
-    counted_leaf (contains_text pattern) bytes n (n == count)
+matches_formula pattern count bytes = number_leaf (contains_text pattern) bytes
+    (count_of (chars pattern) (chars bytes)) count

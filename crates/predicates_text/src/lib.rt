@@ -18,21 +18,29 @@ mod expressions;
 mod leaf_case;
 pub mod search;
 pub mod semantics;
+mod text_count;
+mod text_test;
 mod views;
 
 pub use adapters::{
     FoldCasePredicate, FoldCaseView, NormalizeView, NormalizedPredicate, PredicateStrExt, TextView,
     TrimPredicate, TrimView, Utf8Predicate, Utf8View, View, ViewPredicate,
 };
-pub use basics::contains::{ContainsPredicate, contains};
-pub use basics::ends_with::{EndsWithPredicate, ends_with};
-pub use basics::eq_ignore_case::{EqIgnoreCasePredicate, eq_ignore_case};
-pub use basics::is_empty::{IsEmptyPredicate, is_empty};
+pub use basics::contains::contains;
+pub use basics::ends_with::ends_with;
+pub use basics::eq_ignore_case::eq_ignore_case;
+pub use basics::is_empty::is_empty;
 pub use basics::matches::MatchesPredicate;
-pub use basics::starts_with::{StartsWithPredicate, starts_with};
-pub use expressions::RegexError;
-pub use expressions::is_match::{RegexPredicate, is_match};
+pub use basics::starts_with::starts_with;
+pub use basics::{
+    ContainsPredicate, EndsWithPredicate, EqIgnoreCasePredicate, IsEmptyPredicate,
+    StartsWithPredicate,
+};
+pub use expressions::is_match::is_match;
 pub use expressions::match_count::RegexMatchesPredicate;
+pub use expressions::{RegexError, RegexPredicate};
+pub use text_count::{TextCount, TextCountPredicate};
+pub use text_test::{TextTest, TextTestPredicate};
 pub use views::{
     case_folded, case_folded_view, is_case_folded, lines_even, lines_even_view, trimmed,
     trimmed_view,

@@ -30,13 +30,12 @@ ghost use Rattle.predicates_text.specs.ViewFormulas.{IsOfEach, IsDecoded, IsTrim
 ghost use Rattle.predicates_text.specs.ViewFormulas.{HasEvenLinesOf, IsCaseFoldedOf};
 
 use crate::adapters::{FoldCasePredicate, NormalizedPredicate, TrimPredicate, Utf8Predicate};
-use crate::basics::contains::ContainsPredicate;
-use crate::basics::ends_with::EndsWithPredicate;
-use crate::basics::eq_ignore_case::EqIgnoreCasePredicate;
-use crate::basics::is_empty::IsEmptyPredicate;
 use crate::basics::matches::MatchesPredicate;
-use crate::basics::starts_with::StartsWithPredicate;
-use crate::expressions::is_match::RegexPredicate;
+use crate::basics::{
+    ContainsPredicate, EndsWithPredicate, EqIgnoreCasePredicate, IsEmptyPredicate,
+    StartsWithPredicate,
+};
+use crate::expressions::RegexPredicate;
 use crate::expressions::match_count::RegexMatchesPredicate;
 use predicates_core::Predicate;
 use predicates_core::reflection::PredicateReflection;

@@ -1,20 +1,19 @@
 //! Whether a text ends with a pattern.
-ghost use Rattle.std.specs.Prelude.{◌≡◌, [], string_bytes};
-ghost use Rattle.predicates_core.specs.Tree.{empty};
-ghost use Rattle.predicates_text.specs.Leaves.{ends_text, ends_formula};
+ghost use Rattle.std.specs.Prelude.{◌≡◌, string_bytes};
+ghost use Rattle.std.specs.Str.{chars};
+ghost use Rattle.predicates_text.specs.Leaves.{ends_text};
+ghost use Rattle.predicates_text.specs.LeafFormulaLaws.{is_text_leaf};
 ghost use Rattle.predicates_text.specs.LeafFormulas.{IsEndsLeaf};
-ghost use Rattle.predicates_text.specs.LeafFormulaLaws.{text_leaf_fits, one_text_leaf, has_ends};
 ghost use Rattle.predicates_text.specs.Patterns.{ends_pattern};
+ghost use Rattle.predicates_text.specs.PlaceLaws.{back_decides};
+ghost use Rattle.predicates_text.specs.Places.{is_back};
 
-use crate::leaf_case::text_case;
 use crate::search;
-use predicates_core::custom::leaf_change;
-use predicates_core::reflection::{Case, Child, Parameter, PredicateReflection};
-use predicates_core::{Predicate, PredicateChange, ReadsContent, Total};
+use crate::text_test::{TextTest, TextTestPredicate};
 use std::alloc::{AllocError, Global};
 use std::fmt;
 
-/// Whether a text ends with a pattern. Made by `ends_with`.
+/// What `ends_with` was given.
 #[derive(Debug, PartialEq, Eq, Drop)]
 pub struct EndsWithPredicate {
     pattern: String,
@@ -28,14 +27,16 @@ pub struct EndsWithPredicate {
 /// assert!(rt; is_source.eval(alloc, &"lib.rt".to_owned(alloc)?)?);
 /// assert!(rt; !is_source.eval(alloc, &"lib.rt.orig".to_owned(alloc)?)?);
 /// ```
-pub fn ends_with(pattern: String) -> EndsWithPredicate
+pub fn ends_with(pattern: String) -> TextTestPredicate<EndsWithPredicate>
     ensures pattern { ends_pattern result ≡ string_bytes pattern }
 {
-    EndsWithPredicate { pattern }
+    TextTestPredicate {
+        test: EndsWithPredicate { pattern },
+    }
 }
 
 impl fmt::Display for EndsWithPredicate {
-    ghost output = { λ p. ends_text (ends_pattern p) };
+    ghost output = { λ t. ends_text (string_bytes t.pattern) };
 
     fn fmt<W: fmt::Write>(&self, f: &mut fmt::Formatter<W>) -> fmt::Result {
         let pattern = &self.pattern;
@@ -43,78 +44,15 @@ impl fmt::Display for EndsWithPredicate {
     }
 }
 
-impl PredicateReflection for EndsWithPredicate {
-    ghost parameters_of = { λ p. [] };
+impl TextTest for EndsWithPredicate {
+    ghost leaf = { λ t bytes. IsEndsLeaf (string_bytes t.pattern) bytes };
 
-    ghost children_of = { λ p. empty };
+    ghost holds_of = { λ t bytes. is_back (chars (string_bytes t.pattern)) (chars bytes) };
 
-    fn parameters(&self, alloc: Global) -> Result<Vec<Parameter>, AllocError> {
-        Ok(Vec::new(alloc))
+    fn holds(&self, _alloc: Global, text: &str) -> Result<bool, AllocError> {
+        Ok(search::ends_with(text, &self.pattern))
     }
 
-    fn children(&self, alloc: Global) -> Result<Vec<Child>, AllocError> {
-        Ok(Vec::new(alloc))
-    }
-}
-
-impl Predicate<String> for EndsWithPredicate {
-    ghost formula = { λ p v. IsEndsLeaf (ends_pattern p) (string_bytes v) };
-
-    ghost infallible = { λ p v. Unit {0} };
-
-    ghost text_fits = { λ p v f. text_leaf_fits };
-
-    ghost one_formula = { λ p v f g lawful. one_text_leaf };
-
-    #[tactic(auto, using(crate::proofs::Showing::leaf_formulas))]
-    fn eval(&self, _alloc: Global, item: &String) -> Result<bool, AllocError> {
-        Ok(search::ends_with(item, &self.pattern))
-    }
-
-    fn find_case(
-        &self,
-        alloc: Global,
-        expected: bool,
-        item: &String,
-    ) -> Result<Option<Case>, AllocError> {
-        self.explain(alloc, Some(expected), item)
-    }
-
-    #[tactic(auto, using(crate::proofs::Showing::leaf_formulas))]
-    fn explain(
-        &self,
-        alloc: Global,
-        wanted: Option<bool>,
-        item: &String,
-    ) -> Result<Option<Case>, AllocError> {
-        let holds = search::ends_with(item, &self.pattern);
-        text_case(alloc, self, holds, wanted, item)
-    }
-}
-
-impl PredicateChange<String> for EndsWithPredicate {
-    fn find_change(
-        &self,
-        alloc: Global,
-        wanted: Option<bool>,
-        item: &String,
-    ) -> Result<Option<Case>, AllocError> {
-        leaf_change(alloc, self, wanted, item)
-    }
-}
-
-impl Total<String> for EndsWithPredicate {
-    ghost formula_of = { λ p v. ends_formula (ends_pattern p) (string_bytes v) };
-
-    ghost always_lawful = { λ p. tt };
-
-    ghost has_formula = { λ p v. has_ends (ends_pattern p) (string_bytes v) };
-}
-
-impl ReadsContent<String> for EndsWithPredicate {
-    ghost content_formula = { λ p bytes. ends_formula (ends_pattern p) bytes };
-
-    ghost always_lawful = { λ p. tt };
-
-    ghost has_formula = { λ p t. has_ends (ends_pattern p) (string_bytes t) };
+    ghost is_leaf = { λ t bytes f. is_text_leaf
+        (back_decides (chars (string_bytes t.pattern)) (chars bytes)) };
 }
