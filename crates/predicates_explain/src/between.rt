@@ -6,6 +6,7 @@ ghost use Rattle.predicates_boolean.specs.declared.boolean.join.JoinPredicate.{J
 ghost use Rattle.predicates_boolean.specs.declared.boolean.join.AndOperator.{AndOperator};
 ghost use Rattle.predicates_item.specs.Makers.{at_least, at_most};
 ghost use Rattle.predicates_item.specs.declared.ord.order.OrdPredicate.{OrdPredicate};
+ghost use Rattle.predicates_item.specs.declared.showing.ShowingPredicate.{ShowingPredicate};
 ghost use Rattle.predicates_explain.specs.Answers.{between_formula, no_number, IsNumber};
 ghost use Rattle.predicates_explain.specs.Answers.{IsNumberAnswer};
 ghost use Rattle.predicates_explain.specs.Runs.{HasRun};
@@ -94,7 +95,8 @@ pub fn run_between<R: BufRead, W: Write>(
     ensures run { IfOk result (HasRun (IsNumberAnswer (between_formula lo hi)) IsNumber
         (R.remaining input.old) (R.remaining input.new)
         (W.contents output.old) (W.contents output.new)) }
-    ensures formula { (both : JoinPredicate AndOperator (OrdPredicate ℤ) (OrdPredicate ℤ) ℤ) (n : ℤ)
+    ensures formula { (both : JoinPredicate AndOperator
+        (ShowingPredicate (OrdPredicate ℤ)) (ShowingPredicate (OrdPredicate ℤ)) ℤ) (n : ℤ)
         → left_of both ≡ at_least lo → right_of both ≡ at_most hi
         → ⟦<AndPredicate<OrdPredicate<i64>, OrdPredicate<i64>, i64> as Total<i64>>⟧.formula_of both n
         ≡ between_formula lo hi n }

@@ -1,8 +1,6 @@
 -- What the comparisons print and test.
 use Rattle.std.specs.Prelude.{ℕ, Bool, not, List, Option, Some, codes}
 use Rattle.std.specs.Fmt.{◌++?◌}
-use Rattle.predicates_core.specs.Label.{Entry, showing}
-use Rattle.predicates_core.specs.Formula.{Formula, Leaf}
 use Rattle.std.specs.declared.cmp.Ordering.{Ordering}
 use Rattle.std.specs.Ordering.{is_lt, is_le, is_ge, is_gt}
 use Rattle.predicates_item.specs.declared.ord.equality.EqOps.{EqOps}
@@ -37,15 +35,3 @@ ord_truth GreaterThan o = is_gt o
 abbrev pub comparison_text : List ℕ → Option (List ℕ) → Option (List ℕ)
 comparison_text symbol constant = Some (codes "var ") ++? Some symbol ++? Some (codes " ") ++?
     constant
-
--- the formula of an equality, from the debug texts of the constant and the item, and whether the
--- item equals the constant
-abbrev pub eq_leaf : EqOps → Entry → Entry → Bool → Formula
-eq_leaf op constant item equal = Leaf
-    (showing (comparison_text (eq_symbol op) constant) (codes "var") item) (eq_truth op equal)
-
--- the formula of an order, from these texts and the order of the item, on the left, and the
--- constant
-abbrev pub ord_leaf : OrdOps → Entry → Entry → Ordering → Formula
-ord_leaf op constant item order = Leaf
-    (showing (comparison_text (ord_symbol op) constant) (codes "var") item) (ord_truth op order)

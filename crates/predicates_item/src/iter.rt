@@ -14,10 +14,22 @@ mod listed;
 mod multiset;
 mod sorted;
 mod steps;
+mod values;
 
+pub use crate::showing::ShowingPredicate;
 pub use any_order::same_members;
-pub use hashed::{HashableInPredicate, in_hash};
-pub use listed::{InPredicate, in_iter};
+pub use hashed::in_hash;
+pub use listed::in_iter;
 pub use multiset::SameMembersPredicate;
-pub use sorted::OrdInPredicate;
 pub use steps::Steps;
+
+/// Holds of an item that equals one of its members, which are compared one by one. Made by
+/// `in_iter`.
+pub type InPredicate<T> = ShowingPredicate<listed::InPredicate<T>>;
+
+/// Holds of an item that equals one of its members, which are kept in ascending order and found by
+/// binary search. Made by `InPredicate::sort`.
+pub type OrdInPredicate<T> = ShowingPredicate<sorted::OrdInPredicate<T>>;
+
+/// Holds of an item that equals one of its members, which stand in a hash set. Made by `in_hash`.
+pub type HashableInPredicate<T> = ShowingPredicate<hashed::HashableInPredicate<T>>;

@@ -14,3 +14,4 @@ pub mod function;
 pub mod iter;
 pub mod ord;
 pub mod semantics;
+mod showing;

@@ -10,5 +10,13 @@
 mod equality;
 mod order;
 
-pub use equality::{EqPredicate, eq, ne};
-pub use order::{OrdPredicate, ge, gt, le, lt};
+pub use crate::showing::ShowingPredicate;
+pub use equality::{eq, ne};
+pub use order::{ge, gt, le, lt};
+
+/// Equality with a constant, or its opposite. Made by `eq` and `ne`.
+pub type EqPredicate<T> = ShowingPredicate<equality::EqPredicate<T>>;
+
+/// The order of the item and a constant, with the item on the left. Made by `lt`, `le`, `ge` and
+/// `gt`.
+pub type OrdPredicate<T> = ShowingPredicate<order::OrdPredicate<T>>;

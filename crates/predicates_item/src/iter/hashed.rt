@@ -2,21 +2,19 @@
 ghost use Rattle.std.specs.Prelude.{◌≡◌, refl, codes, IfOk, None};
 ghost use Rattle.std.specs.Iterator.{IsFiniteIterable};
 ghost use Rattle.predicates_core.specs.Label.{value_of};
-ghost use Rattle.predicates_core.specs.Tree.{empty};
-ghost use Rattle.predicates_core.specs.Leaves.{IsExactly};
-ghost use Rattle.predicates_core.specs.LeafLaws.{exactly_text_fits, one_exactly};
-ghost use Rattle.predicates_item.specs.Members.{KeepsFirst, has_equal, member_text, member_leaf};
+ghost use Rattle.predicates_item.specs.Members.{KeepsFirst, has_equal, has_text, member_text};
 ghost use Rattle.predicates_item.specs.HashableIn.{members_of};
 
+use crate::iter::values::values;
+use crate::showing::{ContentTest, ShowingPredicate};
 use indexmap::IndexSet;
-use predicates_core::custom::{leaf_change, showing_case};
-use predicates_core::reflection::{Case, Child, Parameter, PredicateReflection};
-use predicates_core::{Predicate, PredicateChange, ReadsContent, Total};
+use predicates_core::custom::{Test, TestParameters};
+use predicates_core::reflection::Parameter;
 use std::alloc::{AllocError, Global};
 use std::fmt;
 use std::hash::Hash;
 
-/// Holds of an item that equals one of its members, which stand in a hash set. Made by `in_hash`.
+/// Whether an item equals one of the members, which stand in a hash set.
 #[derive(Debug, Drop)]
 pub struct HashableInPredicate<T: Eq + Hash> {
     members: IndexSet<T>,
@@ -34,22 +32,15 @@ pub struct HashableInPredicate<T: Eq + Hash> {
 pub fn in_hash<I: IntoIterator<Item = T>, T: fmt::Debug + Hash + Eq + Drop>(
     alloc: Global,
     iter: I,
-) -> Result<HashableInPredicate<T>, AllocError>
+) -> Result<ShowingPredicate<HashableInPredicate<T>>, AllocError>
     requires { IsFiniteIterable I.into_iter_gives I.IntoIter.can_next I.IntoIter.remaining iter }
     ensures { IfOk result (λ p.
         KeepsFirst I.into_iter_gives I.IntoIter.next_gives T.eq iter (members_of p)) }
 {
     let members = IndexSet::from_iter(alloc, iter)?;
-    Ok(HashableInPredicate { members })
-}
-
-impl<T: Eq + Hash> HashableInPredicate<T> {
-    // Whether some member equals the item, by the set's look-up.
-    fn holds(&self, item: &T) -> bool
-        ensures { result ≡ has_equal T.eq (members_of self.now) item.now }
-    {
-        self.members.contains(item)
-    }
+    Ok(ShowingPredicate {
+        test: HashableInPredicate { members },
+    })
 }
 
 impl<T: Eq + Hash> fmt::Display for HashableInPredicate<T> {
@@ -60,84 +51,24 @@ impl<T: Eq + Hash> fmt::Display for HashableInPredicate<T> {
     }
 }
 
-impl<T: fmt::Debug + Eq + Hash> PredicateReflection for HashableInPredicate<T> {
+impl<T: fmt::Debug + Eq + Hash> TestParameters for HashableInPredicate<T> {
     ghost parameters_of = { λ p. value_of (codes "values") None };
 
-    ghost children_of = { λ p. empty };
-
     fn parameters(&self, alloc: Global) -> Result<Vec<Parameter>, AllocError> {
-        let members = &self.members;
-        let mut parameters = Vec::new(alloc);
-        parameters.push(Parameter::new("values", format!(in alloc; "{members:?}")?))?;
-        Ok(parameters)
-    }
-
-    fn children(&self, alloc: Global) -> Result<Vec<Child>, AllocError> {
-        Ok(Vec::new(alloc))
+        values(alloc, &self.members)
     }
 }
 
-impl<T: fmt::Debug + Eq + Hash> Predicate<T> for HashableInPredicate<T> {
-    ghost formula = { λ p v. IsExactly
-        (member_leaf (T.debug_output v) (has_equal T.eq p.members.keys v)) };
+impl<T: Eq + Hash> Test<T> for HashableInPredicate<T> {
+    ghost holds_of = { λ p v. has_equal T.eq p.members.keys v };
 
-    ghost infallible = { λ p v. Unit {0} };
-
-    ghost text_fits = { λ p v f. exactly_text_fits };
-
-    ghost one_formula = { λ p v f g lawful. one_exactly };
-
-    #[tactic(auto, using(predicates_core::proofs::Leaves::leaves))]
-    fn eval(&self, _alloc: Global, item: &T) -> Result<bool, AllocError> {
-        Ok(self.holds(item))
-    }
-
-    fn find_case(
-        &self,
-        alloc: Global,
-        expected: bool,
-        item: &T,
-    ) -> Result<Option<Case>, AllocError> {
-        self.explain(alloc, Some(expected), item)
-    }
-
-    fn explain(
-        &self,
-        alloc: Global,
-        wanted: Option<bool>,
-        item: &T,
-    ) -> Result<Option<Case>, AllocError> {
-        showing_case(alloc, self, self.holds(item), wanted, item)
+    fn holds(&self, item: &T) -> bool {
+        self.members.contains(item)
     }
 }
 
-impl<T: fmt::Debug + Eq + Hash> PredicateChange<T> for HashableInPredicate<T> {
-    fn find_change(
-        &self,
-        alloc: Global,
-        wanted: Option<bool>,
-        item: &T,
-    ) -> Result<Option<Case>, AllocError> {
-        leaf_change(alloc, self, wanted, item)
-    }
-}
+impl ContentTest for HashableInPredicate<String> {
+    ghost holds_of_bytes = { λ p bytes. has_text p.members.keys bytes };
 
-impl<T: fmt::Debug + Eq + Hash> Total<T> for HashableInPredicate<T> {
-    ghost formula_of = { λ p v. member_leaf (T.debug_output v) (has_equal T.eq p.members.keys v) };
-
-    ghost always_lawful = { λ p. tt };
-
-    ghost has_formula = { λ p v. record { is = refl } };
-}
-
-impl ReadsContent<String> for HashableInPredicate<String> {
-    ghost use Rattle.predicates_item.specs.Members.{has_text};
-    ghost use Rattle.std.specs.Fmt.{debug_str};
-
-    ghost content_formula = { λ p bytes. member_leaf (debug_str bytes)
-        (has_text p.members.keys bytes) };
-
-    ghost always_lawful = { λ p. tt };
-
-    ghost has_formula = { λ p v. record { is = refl } };
+    ghost reads_bytes = { λ p v. refl };
 }

@@ -2,6 +2,7 @@
 ghost use Rattle.std.specs.List.Sorted.{IsSorted};
 
 use crate::iter::differences::{Differences, printed_list};
+use crate::iter::values::values;
 use predicates_core::custom::{is_other, leaf_change};
 use predicates_core::node::{leaf_node, printed, showing};
 use predicates_core::reflection::{Case, Child, Parameter, PredicateReflection};
@@ -57,10 +58,7 @@ impl<T: fmt::Debug + Ord> PredicateReflection for SameMembersPredicate<T> {
     ghost children_of = { λ p. empty };
 
     fn parameters(&self, alloc: Global) -> Result<Vec<Parameter>, AllocError> {
-        let members = &self.members;
-        let mut parameters = Vec::new(alloc);
-        parameters.push(Parameter::new("values", format!(in alloc; "{members:?}")?))?;
-        Ok(parameters)
+        values(alloc, &self.members)
     }
 
     fn children(&self, alloc: Global) -> Result<Vec<Child>, AllocError> {

@@ -1,25 +1,28 @@
 //! Membership in a sorted list.
+ghost use Rattle.std.specs.Prelude.{◌≡◌, ◌≤◌, codes, length, refl};
+ghost use Rattle.std.specs.Fmt.{debug_list};
 ghost use Rattle.std.specs.List.Sorted.{IsSorted};
+ghost use Rattle.predicates_core.specs.Label.{value_of};
+ghost use Rattle.predicates_item.specs.Digits.{digits};
+ghost use Rattle.predicates_item.specs.Members.{has_equal, has_text, member_text};
 
 use crate::iter::steps::Steps;
-use predicates_core::custom::{leaf_change, showing_case};
-use predicates_core::reflection::{Case, Child, Parameter, PredicateReflection};
-use predicates_core::{Predicate, PredicateChange, ReadsContent, Total};
+use crate::iter::values::values;
+use crate::showing::{ContentTest, ShowingPredicate};
+use predicates_core::custom::{Test, TestParameters};
+use predicates_core::reflection::Parameter;
 use std::alloc::{AllocError, Global};
 use std::fmt;
 
-/// Holds of an item that equals one of its members, which are kept in ascending order and found by
-/// binary search. Made by `InPredicate::sort`.
+/// Whether an item equals one of the members, which are kept in ascending order and found by binary
+/// search.
 #[derive(Debug, PartialEq, Eq, Drop)]
 pub struct OrdInPredicate<T: Ord> {
     pub(crate) members: Vec<T>,
     ghost sorted: { IsSorted T.cmp members.items },
 }
 
-impl<T: Ord> OrdInPredicate<T> {
-    ghost use Rattle.std.specs.Prelude.{◌≡◌, ◌≤◌, length};
-    ghost use Rattle.predicates_item.specs.Digits.{digits};
-    ghost use Rattle.predicates_item.specs.Members.{has_equal};
+impl<T: Ord> ShowingPredicate<OrdInPredicate<T>> {
     ghost use Rattle.predicates_item.specs.OrdIn.{members_of};
 
     /// Whether some member equals the item. Afterwards `steps` is the number of comparisons of
@@ -35,6 +38,16 @@ impl<T: Ord> OrdInPredicate<T> {
     pub fn search_counted(&self, item: &T, steps: &mut Steps) -> bool
         ensures member { result ≡ has_equal T.eq (members_of self.now) item.now }
         ensures bound { steps.new ≤ digits (length (members_of self.now)) }
+    {
+        self.test.search_counted(item, steps)
+    }
+}
+
+impl<T: Ord> OrdInPredicate<T> {
+    // The `search_counted` of the predicate.
+    fn search_counted(&self, item: &T, steps: &mut Steps) -> bool
+        ensures member { result ≡ has_equal T.eq self.now.members.items item.now }
+        ensures bound { steps.new ≤ digits (length self.now.members.items) }
     {
         steps.clear();
         // The `left` members from `base` on are undecided, and `found` is the end of the members
@@ -62,8 +75,6 @@ impl<T: Ord> OrdInPredicate<T> {
 }
 
 impl<T: Ord> fmt::Display for OrdInPredicate<T> {
-    ghost use Rattle.predicates_item.specs.Members.{member_text};
-
     ghost output = { λ p. member_text };
 
     fn fmt<W: fmt::Write>(&self, f: &mut fmt::Formatter<W>) -> fmt::Result {
@@ -71,99 +82,25 @@ impl<T: Ord> fmt::Display for OrdInPredicate<T> {
     }
 }
 
-impl<T: fmt::Debug + Ord> PredicateReflection for OrdInPredicate<T> {
-    ghost use Rattle.std.specs.Prelude.{codes};
-    ghost use Rattle.std.specs.Fmt.{debug_list};
-    ghost use Rattle.predicates_core.specs.Label.{value_of};
-    ghost use Rattle.predicates_core.specs.Tree.{empty};
-
+impl<T: fmt::Debug + Ord> TestParameters for OrdInPredicate<T> {
     ghost parameters_of = { λ p. value_of (codes "values")
         (debug_list T.debug_output p.members.items) };
 
-    ghost children_of = { λ p. empty };
-
     fn parameters(&self, alloc: Global) -> Result<Vec<Parameter>, AllocError> {
-        let members = &self.members;
-        let mut parameters = Vec::new(alloc);
-        parameters.push(Parameter::new("values", format!(in alloc; "{members:?}")?))?;
-        Ok(parameters)
-    }
-
-    fn children(&self, alloc: Global) -> Result<Vec<Child>, AllocError> {
-        Ok(Vec::new(alloc))
+        values(alloc, &self.members)
     }
 }
 
-impl<T: fmt::Debug + Ord> Predicate<T> for OrdInPredicate<T> {
-    ghost use Rattle.predicates_core.specs.Leaves.{IsExactly};
-    ghost use Rattle.predicates_core.specs.LeafLaws.{exactly_text_fits, one_exactly};
-    ghost use Rattle.predicates_item.specs.Members.{has_equal, member_leaf};
+impl<T: Ord> Test<T> for OrdInPredicate<T> {
+    ghost holds_of = { λ p v. has_equal T.eq p.members.items v };
 
-    ghost formula = { λ p v. IsExactly
-        (member_leaf (T.debug_output v) (has_equal T.eq p.members.items v)) };
-
-    ghost infallible = { λ p v. Unit {0} };
-
-    ghost text_fits = { λ p v f. exactly_text_fits };
-
-    ghost one_formula = { λ p v f g lawful. one_exactly };
-
-    #[tactic(auto, using(predicates_core::proofs::Leaves::leaves))]
-    fn eval(&self, _alloc: Global, item: &T) -> Result<bool, AllocError> {
-        Ok(self.search_counted(item, &mut Steps::new()))
-    }
-
-    fn find_case(
-        &self,
-        alloc: Global,
-        expected: bool,
-        item: &T,
-    ) -> Result<Option<Case>, AllocError> {
-        self.explain(alloc, Some(expected), item)
-    }
-
-    fn explain(
-        &self,
-        alloc: Global,
-        wanted: Option<bool>,
-        item: &T,
-    ) -> Result<Option<Case>, AllocError> {
-        let holds = self.search_counted(item, &mut Steps::new());
-        showing_case(alloc, self, holds, wanted, item)
+    fn holds(&self, item: &T) -> bool {
+        self.search_counted(item, &mut Steps::new())
     }
 }
 
-impl<T: fmt::Debug + Ord> PredicateChange<T> for OrdInPredicate<T> {
-    fn find_change(
-        &self,
-        alloc: Global,
-        wanted: Option<bool>,
-        item: &T,
-    ) -> Result<Option<Case>, AllocError> {
-        leaf_change(alloc, self, wanted, item)
-    }
-}
+impl ContentTest for OrdInPredicate<String> {
+    ghost holds_of_bytes = { λ p bytes. has_text p.members.items bytes };
 
-impl<T: fmt::Debug + Ord> Total<T> for OrdInPredicate<T> {
-    ghost use Rattle.std.specs.Prelude.{refl};
-    ghost use Rattle.predicates_item.specs.Members.{has_equal, member_leaf};
-
-    ghost formula_of = { λ p v. member_leaf (T.debug_output v) (has_equal T.eq p.members.items v) };
-
-    ghost always_lawful = { λ p. tt };
-
-    ghost has_formula = { λ p v. record { is = refl } };
-}
-
-impl ReadsContent<String> for OrdInPredicate<String> {
-    ghost use Rattle.std.specs.Prelude.{refl};
-    ghost use Rattle.std.specs.Fmt.{debug_str};
-    ghost use Rattle.predicates_item.specs.Members.{has_text, member_leaf};
-
-    ghost content_formula = { λ p bytes. member_leaf (debug_str bytes)
-        (has_text p.members.items bytes) };
-
-    ghost always_lawful = { λ p. tt };
-
-    ghost has_formula = { λ p v. record { is = refl } };
+    ghost reads_bytes = { λ p v. refl };
 }

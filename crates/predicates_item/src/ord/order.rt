@@ -1,13 +1,13 @@
 //! The order of the item and a constant.
-ghost use Rattle.std.specs.Prelude.{◌≡◌, refl, []};
-ghost use Rattle.predicates_core.specs.Tree.{empty};
+ghost use Rattle.std.specs.Prelude.{◌≡◌, refl, [], string_bytes};
+ghost use Rattle.std.specs.Cmp.Lexicographic.{slice_cmp};
+ghost use Rattle.std.specs.Ordering.{nat_cmp};
+ghost use Rattle.predicates_item.specs.Comparison.{comparison_text, ord_symbol, ord_truth};
 ghost use Rattle.predicates_item.specs.Makers.{less_than, at_most, at_least, greater_than};
-ghost use Rattle.predicates_core.specs.Leaves.{IsExactly};
-ghost use Rattle.predicates_core.specs.LeafLaws.{exactly_text_fits, one_exactly};
 
-use predicates_core::custom::{leaf_change, showing_case};
-use predicates_core::reflection::{Case, Child, Parameter, PredicateReflection};
-use predicates_core::{Predicate, PredicateChange, ReadsContent, Total};
+use crate::showing::{ContentTest, ShowingPredicate};
+use predicates_core::custom::{Test, TestParameters};
+use predicates_core::reflection::Parameter;
 use std::alloc::{AllocError, Global};
 use std::fmt;
 
@@ -21,7 +21,6 @@ enum OrdOps {
 
 impl fmt::Display for OrdOps {
     ghost use Rattle.std.specs.Prelude.{Some};
-    ghost use Rattle.predicates_item.specs.Comparison.{ord_symbol};
 
     ghost output = { λ op. Some (ord_symbol op) };
 
@@ -35,21 +34,35 @@ impl fmt::Display for OrdOps {
     }
 }
 
-/// The order of the item and a constant, with the item on the left. Made by `lt`, `le`, `ge` and
-/// `gt`.
+/// Whether an item, on the left, has an order to a constant.
 #[derive(Debug, Clone, Copy, PartialEq, Eq, Drop)]
 pub struct OrdPredicate<T> {
     constant: T,
     op: OrdOps,
 }
 
-impl<T: Ord> OrdPredicate<T> {
-    ghost use Rattle.predicates_item.specs.Comparison.{ord_truth};
+impl<T: fmt::Debug> fmt::Display for OrdPredicate<T> {
+    ghost output = { λ p. comparison_text (ord_symbol p.op) (T.debug_output p.constant) };
 
-    // Whether the item has the order to the constant.
-    fn holds(&self, item: &T) -> bool
-        ensures { result ≡ ord_truth self.now.op (T.cmp item.now self.now.constant) }
-    {
+    fn fmt<W: fmt::Write>(&self, f: &mut fmt::Formatter<W>) -> fmt::Result {
+        let op = self.op;
+        let constant = &self.constant;
+        write!(f, "var {op} {constant:?}")
+    }
+}
+
+impl<T> TestParameters for OrdPredicate<T> {
+    ghost parameters_of = { λ p. [] };
+
+    fn parameters(&self, alloc: Global) -> Result<Vec<Parameter>, AllocError> {
+        Ok(Vec::new(alloc))
+    }
+}
+
+impl<T: fmt::Debug + Ord> Test<T> for OrdPredicate<T> {
+    ghost holds_of = { λ p v. ord_truth p.op (T.cmp v p.constant) };
+
+    fn holds(&self, item: &T) -> bool {
         let order = item.cmp(&self.constant);
         match self.op {
             OrdOps::LessThan => order.is_lt(),
@@ -60,103 +73,11 @@ impl<T: Ord> OrdPredicate<T> {
     }
 }
 
-impl<T: fmt::Debug> fmt::Display for OrdPredicate<T> {
-    ghost use Rattle.predicates_item.specs.Comparison.{ord_symbol, comparison_text};
+impl ContentTest for OrdPredicate<String> {
+    ghost holds_of_bytes = { λ p bytes. ord_truth p.op
+        (slice_cmp nat_cmp bytes (string_bytes p.constant)) };
 
-    ghost output = { λ p. comparison_text (ord_symbol p.op) (T.debug_output p.constant) };
-
-    fn fmt<W: fmt::Write>(&self, f: &mut fmt::Formatter<W>) -> fmt::Result {
-        let op = self.op;
-        let constant = &self.constant;
-        write!(f, "var {op} {constant:?}")
-    }
-}
-
-impl<T: fmt::Debug> PredicateReflection for OrdPredicate<T> {
-    ghost parameters_of = { λ p. [] };
-
-    ghost children_of = { λ p. empty };
-
-    fn parameters(&self, alloc: Global) -> Result<Vec<Parameter>, AllocError> {
-        Ok(Vec::new(alloc))
-    }
-
-    fn children(&self, alloc: Global) -> Result<Vec<Child>, AllocError> {
-        Ok(Vec::new(alloc))
-    }
-}
-
-impl<T: fmt::Debug + Ord> Predicate<T> for OrdPredicate<T> {
-    ghost use Rattle.predicates_item.specs.Comparison.{ord_leaf};
-
-    ghost formula = { λ p v. IsExactly
-        (ord_leaf p.op (T.debug_output p.constant) (T.debug_output v) (T.cmp v p.constant)) };
-
-    ghost infallible = { λ p v. Unit {0} };
-
-    ghost text_fits = { λ p v f. exactly_text_fits };
-
-    ghost one_formula = { λ p v f g lawful. one_exactly };
-
-    #[tactic(auto, using(predicates_core::proofs::Leaves::leaves))]
-    fn eval(&self, _alloc: Global, item: &T) -> Result<bool, AllocError> {
-        Ok(self.holds(item))
-    }
-
-    fn find_case(
-        &self,
-        alloc: Global,
-        expected: bool,
-        item: &T,
-    ) -> Result<Option<Case>, AllocError> {
-        self.explain(alloc, Some(expected), item)
-    }
-
-    fn explain(
-        &self,
-        alloc: Global,
-        wanted: Option<bool>,
-        item: &T,
-    ) -> Result<Option<Case>, AllocError> {
-        showing_case(alloc, self, self.holds(item), wanted, item)
-    }
-}
-
-impl<T: fmt::Debug + Ord> PredicateChange<T> for OrdPredicate<T> {
-    fn find_change(
-        &self,
-        alloc: Global,
-        wanted: Option<bool>,
-        item: &T,
-    ) -> Result<Option<Case>, AllocError> {
-        leaf_change(alloc, self, wanted, item)
-    }
-}
-
-impl<T: fmt::Debug + Ord> Total<T> for OrdPredicate<T> {
-    ghost use Rattle.predicates_item.specs.Comparison.{ord_leaf};
-
-    ghost formula_of = { λ p v. ord_leaf p.op (T.debug_output p.constant) (T.debug_output v)
-        (T.cmp v p.constant) };
-
-    ghost always_lawful = { λ p. tt };
-
-    ghost has_formula = { λ p v. record { is = refl } };
-}
-
-impl ReadsContent<String> for OrdPredicate<String> {
-    ghost use Rattle.std.specs.Prelude.{string_bytes};
-    ghost use Rattle.std.specs.Cmp.Lexicographic.{slice_cmp};
-    ghost use Rattle.std.specs.Ordering.{nat_cmp};
-    ghost use Rattle.std.specs.Fmt.{debug_str};
-    ghost use Rattle.predicates_item.specs.Comparison.{ord_leaf};
-
-    ghost content_formula = { λ p bytes. ord_leaf p.op (debug_str (string_bytes p.constant))
-        (debug_str bytes) (slice_cmp nat_cmp bytes (string_bytes p.constant)) };
-
-    ghost always_lawful = { λ p. tt };
-
-    ghost has_formula = { λ p v. record { is = refl } };
+    ghost reads_bytes = { λ p v. refl };
 }
 
 /// Holds of an item less than the constant.
@@ -166,12 +87,14 @@ impl ReadsContent<String> for OrdPredicate<String> {
 /// assert!(rt; below.eval(alloc, &4)?);
 /// assert!(rt; !below.eval(alloc, &5)?);
 /// ```
-pub fn lt<T: fmt::Debug + Ord>(constant: T) -> OrdPredicate<T>
+pub fn lt<T: fmt::Debug + Ord>(constant: T) -> ShowingPredicate<OrdPredicate<T>>
     ensures { result ≡ less_than constant }
 {
-    OrdPredicate {
-        constant,
-        op: OrdOps::LessThan,
+    ShowingPredicate {
+        test: OrdPredicate {
+            constant,
+            op: OrdOps::LessThan,
+        },
     }
 }
 
@@ -182,12 +105,14 @@ pub fn lt<T: fmt::Debug + Ord>(constant: T) -> OrdPredicate<T>
 /// assert!(rt; at_most.eval(alloc, &5)?);
 /// assert!(rt; !at_most.eval(alloc, &6)?);
 /// ```
-pub fn le<T: fmt::Debug + Ord>(constant: T) -> OrdPredicate<T>
+pub fn le<T: fmt::Debug + Ord>(constant: T) -> ShowingPredicate<OrdPredicate<T>>
     ensures { result ≡ at_most constant }
 {
-    OrdPredicate {
-        constant,
-        op: OrdOps::LessThanOrEqual,
+    ShowingPredicate {
+        test: OrdPredicate {
+            constant,
+            op: OrdOps::LessThanOrEqual,
+        },
     }
 }
 
@@ -198,12 +123,14 @@ pub fn le<T: fmt::Debug + Ord>(constant: T) -> OrdPredicate<T>
 /// assert!(rt; at_least.eval(alloc, &5)?);
 /// assert!(rt; !at_least.eval(alloc, &4)?);
 /// ```
-pub fn ge<T: fmt::Debug + Ord>(constant: T) -> OrdPredicate<T>
+pub fn ge<T: fmt::Debug + Ord>(constant: T) -> ShowingPredicate<OrdPredicate<T>>
     ensures { result ≡ at_least constant }
 {
-    OrdPredicate {
-        constant,
-        op: OrdOps::GreaterThanOrEqual,
+    ShowingPredicate {
+        test: OrdPredicate {
+            constant,
+            op: OrdOps::GreaterThanOrEqual,
+        },
     }
 }
 
@@ -214,11 +141,13 @@ pub fn ge<T: fmt::Debug + Ord>(constant: T) -> OrdPredicate<T>
 /// assert!(rt; above.eval(alloc, &6)?);
 /// assert!(rt; !above.eval(alloc, &5)?);
 /// ```
-pub fn gt<T: fmt::Debug + Ord>(constant: T) -> OrdPredicate<T>
+pub fn gt<T: fmt::Debug + Ord>(constant: T) -> ShowingPredicate<OrdPredicate<T>>
     ensures { result ≡ greater_than constant }
 {
-    OrdPredicate {
-        constant,
-        op: OrdOps::GreaterThan,
+    ShowingPredicate {
+        test: OrdPredicate {
+            constant,
+            op: OrdOps::GreaterThan,
+        },
     }
 }
