@@ -9,6 +9,7 @@ ghost use Rattle.predicates_lines.specs.declared.taken_line.TakenLine.TheVariant
 
 use crate::run_fault::{RunFault, classify_error};
 use crate::taken_line::TakenLine;
+use memchr::memchr;
 use std::io::{BufRead, ErrorKind};
 
 /// How many bytes a line may have where the caller has no other limit: 64 MiB.
@@ -21,14 +22,11 @@ fn len_through(shown: &[u8], most: usize) -> usize
     ensures some { 0 < length shown.now → 0 < most → 0 < result }
     ensures before { All (λ x. x ≢ 10) (take (result - 1) shown.now) }
 {
-    let mut end = 0;
-    while end < shown.len() && end < most {
-        if shown[end] == b'\n' {
-            return end + 1;
-        }
-        end += 1;
+    let part = &shown[..most.min(shown.len())];
+    match memchr(b'\n', part) {
+        Some(at) => at + 1,
+        None => part.len(),
     }
-    end
 }
 
 // Takes what the reader shows of the line, `most` bytes at most, and says whether the line ends

@@ -1,18 +1,18 @@
 -- The block of the first record that breaks each rule, rule after rule and line after line.
-use Rattle.std.proofs.Common.{◌≡◌, ◌≢◌, ℕ, ◌+◌, ◌<◌, ◌≤◌, Bool, true, false, List, [], ◌∷◌, ◌++◌, Option, Some, None, length, map, get_or, set, refl, sym, ap, ◌∙◌, subst, arith, length-set, ⊎_elim}
+use Rattle.std.proofs.Common.{◌≡◌, ◌≢◌, ℕ, ◌+◌, ◌<◌, ◌≤◌, Bool, true, false, List, [], ◌∷◌, ◌++◌, Option, None, length, map, get_or, set, refl, sym, ap, ◌∙◌, subst, arith, length-set, ⊎_elim}
 use Rattle.std.specs.Prelude.{◌==◌}
 use Rattle.std.proofs.lemmas.Bool.{cases_order}
 use Rattle.std.proofs.lemmas.Bool.Decides.{nat_tests}
 use Rattle.std.proofs.lemmas.List.{get_or-map, get_or-set_same, get_or-set_other, get_or_default, length-map, map-set}
 use Rattle.serde_json.specs.Data.{Data}
-use Rattle.predicates_core.specs.Formula.{truth, HasTruth}
+use Rattle.predicates_core.specs.Formula.{HasTruth}
 use Rattle.predicates_core.specs.Leaves.{IsExactly}
 use Rattle.predicates_core.specs.Tree.{Tree}
 use Rattle.predicates_core.specs.Describe.{CaseNode}
 use Rattle.predicates_vet_check.specs.declared.rule_check.RuleCheck.{RuleCheck}
 use Rattle.predicates_vet.specs.FirstBlocks.{TakesFirst, TakesFirsts, TakesOn, AreFirsts, block_at}
 use Rattle.predicates_vet.specs.InputLines.{record_taken}
-use Rattle.predicates_vet.specs.Records.{AddsCase, HeadsRecord, block, formula_on}
+use Rattle.predicates_vet.specs.Records.{AddsCase, IsBlockOf, formula_on}
 use Rattle.predicates_vet.specs.declared.job.Job.{Job}
 
 module _ (j : Job) (number : ℕ) (d : Data) where
@@ -32,19 +32,17 @@ module _ (j : Job) (number : ℕ) (d : Data) where
     breaks = λ none h. let apart : true ≡ false = sym (held.at (formula_on d r) (record { is = refl })) ∙ h in absurd (cc);
   }
 
-  pub takes_broken : (r : RuleCheck) (old new head : List ℕ) (before cases : List (Tree CaseNode)) (added : Bool)
+  pub takes_broken : (r : RuleCheck) (old new : List ℕ) (before cases : List (Tree CaseNode)) (added : Bool)
       → AddsCase d r before cases added → added ≡ true → before ≡ [] → (length old == 0) ≡ true
-      → HeadsRecord j number d head → new ≡ block head cases → TakesFirst j r number d old new
-  takes_broken r old new head before cases false h not_added none empty heads is = absurd (let apart : false ≡ true = not_added in cc)
-  takes_broken r old new head before cases true h is_added none empty heads is = record {
+      → IsBlockOf j number d cases new → TakesFirst j r number d old new
+  takes_broken r old new before cases false h not_added none empty is = absurd (let apart : false ≡ true = not_added in cc)
+  takes_broken r old new before cases true h is_added none empty is = record {
     has = λ some. absurd (let short : length old ≡ 0 = grind (arith, nat_tests, empty) in omega (arith, short, some));
     keeps = λ held. absurd (let apart : true ≡ false = sym held ∙ h.2.truth.at (formula_on d r) (record { is = refl }) in cc);
     breaks = λ nothing broken. record {
       case = h.0;
       explains = h.2.explains (formula_on d r) (record { is = refl });
-      head = head;
-      heads = heads;
-      is = is ∙ ap (block head) (h.1 ∙ ap (λ cs. cs ++ h.0 ∷ []) none);
+      is = subst (λ cs. IsBlockOf j number d cs new) (h.1 ∙ ap (λ cs. cs ++ h.0 ∷ []) none) is;
     };
   }
 

@@ -1,5 +1,5 @@
 -- How far a run has come in its input.
-use Rattle.std.proofs.Common.{◌≡◌, ◌≢◌, ℕ, ◌+◌, ◌<◌, ◌≤◌, Bool, true, false, List, [], ◌∷◌, ◌++◌, length, Option, Some, None, Result, Ok, Err, refl, sym, ◌∙◌, ap, subst, arith, append_assoc, append-nil, length-append, le-ltb, lt-ltb, if◌then◌else◌, map}
+use Rattle.std.proofs.Common.{◌≡◌, ℕ, ◌+◌, Bool, true, false, List, [], ◌∷◌, ◌++◌, length, Option, Some, None, Result, Ok, Err, refl, sym, ◌∙◌, ap, subst, arith, append_assoc, append-nil, length-append, if◌then◌else◌, map}
 use Rattle.std.specs.Prelude.{flat_map, option_map, string_bytes}
 use Rattle.std.specs.Result.{OnOk, OnErr}
 use Rattle.std.specs.Io.KnownBytes.{Appends}
@@ -11,7 +11,7 @@ use Rattle.std.proofs.lemmas.Str.{IsUtf8-from_is_utf8, is_utf8-from_IsUtf8}
 use Rattle.serde_json.specs.Read.{read}
 use Rattle.serde_json.specs.Data.{Data}
 use Rattle.predicates_lines.specs.declared.taken_line.TakenLine.{TakenLine}
-use Rattle.predicates_lines.specs.declared.taken_line.TakenLine.TheVariants.{Line, TooLong, End}
+use Rattle.predicates_lines.specs.declared.taken_line.TakenLine.TheVariants.{TooLong}
 use Rattle.predicates_vet.specs.Counting.{CountsOne, AreCounted, one_counted, all_counted, has_room, left_after}
 use Rattle.predicates_vet.specs.FirstBlocks.{TakesOn, AreFirsts, blocks_of}
 use Rattle.predicates_vet.specs.InputLines.{record_on, record_taken, line_found, too_long_text}

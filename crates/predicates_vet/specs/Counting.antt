@@ -1,5 +1,5 @@
 -- What runs count.
-use Rattle.std.specs.Prelude.{nat_lt, ◌≡◌, ◌||◌, ◌&&◌, ℕ, ◌+◌, ◌-◌, List, [], ◌∷◌, Bool, true, false, not, cond, Option, Some, None, if◌then◌else◌, filter, length, slice_index, slice_set, is_some, option_map}
+use Rattle.std.specs.Prelude.{nat_lt, ◌≡◌, ◌||◌, ℕ, ◌+◌, ◌-◌, List, [], ◌∷◌, Bool, true, false, not, Option, Some, None, if◌then◌else◌, filter, length, slice_index, slice_set, is_some, option_map}
 use Rattle.serde_json.specs.Data.{Data}
 use Rattle.predicates_core.specs.Formula.{truth, HasTruth}
 use Rattle.predicates_core.specs.Leaves.{IsExactly}

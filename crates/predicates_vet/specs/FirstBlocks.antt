@@ -7,7 +7,7 @@ use Rattle.predicates_core.specs.Shows.{Explains}
 use Rattle.predicates_core.specs.Tree.{Tree}
 use Rattle.predicates_vet_check.specs.declared.rule_check.RuleCheck.{RuleCheck}
 use Rattle.predicates_vet.specs.InputLines.{record_taken}
-use Rattle.predicates_vet.specs.Records.{formula_on, block, HeadsRecord}
+use Rattle.predicates_vet.specs.Records.{formula_on, IsBlockOf}
 use Rattle.predicates_vet.specs.declared.job.Job.{Job}
 use Rattle.predicates_vet.specs.declared.tally.Tally.{Tally}
 
@@ -15,9 +15,7 @@ use Rattle.predicates_vet.specs.declared.tally.Tally.{Tally}
 pub record IsRuleBlock (j : Job) (r : RuleCheck) (number : ℕ) (d : Data) (text : List ℕ) : Type 0 where
   pub case : Tree CaseNode
   pub explains : Explains (formula_on d r) case
-  pub head : List ℕ
-  pub heads : HeadsRecord j number d head
-  pub is : text ≡ block head (case ∷ [])
+  pub is : IsBlockOf j number d (case ∷ []) text
 
 -- what a rule has once a record is taken: what it had, where that is a block or the record keeps the
 -- rule; else its block

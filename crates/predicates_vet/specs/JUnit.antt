@@ -1,5 +1,5 @@
 -- The document that readers of JUnit's reports take: a test case for each rule.
-use Rattle.std.specs.Prelude.{◌==◌, ◌+◌, ◌++◌, nat_lt, ℕ, List, [], ◌∷◌, Bool, true, false, not, if◌then◌else◌, codes, decimal, get_or, slice_index, length, filter}
+use Rattle.std.specs.Prelude.{◌==◌, ◌+◌, ◌++◌, nat_lt, ℕ, List, [], ◌∷◌, Bool, true, false, if◌then◌else◌, codes, decimal, get_or, slice_index, length, filter}
 use Rattle.predicates_vet.specs.Xml.{xml_text}
 
 -- how many records break a rule, in words

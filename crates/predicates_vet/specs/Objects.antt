@@ -1,10 +1,10 @@
 -- The text of a record's object.
-use Rattle.std.specs.Prelude.{◌≡◌, ◌||◌, ◌&&◌, ℕ, List, [], ◌∷◌, ◌++◌, Bool, true, false, Option, Some, None, codes, map, is_some, if◌then◌else◌}
+use Rattle.std.specs.Prelude.{ℕ, List, [], ◌∷◌, ◌++◌, Bool, true, false, Option, Some, None, codes, map, is_some, if◌then◌else◌}
 use Rattle.serde_json.specs.Data.{string}
 use Rattle.serde_json.specs.Read.{read}
 use Rattle.serde_json.specs.Written.{comma_if, compact_text}
 use Rattle.predicates_core.specs.Tree.{Tree, Forest, empty, branch}
-use Rattle.predicates_core.specs.Describe.{CaseNode, NamedBytes, NamedCase}
+use Rattle.predicates_core.specs.Describe.{CaseNode, NamedBytes}
 use Rattle.predicates_core.specs.Leaves.{word}
 
 -- texts with commas between them, and one before them where something stands before

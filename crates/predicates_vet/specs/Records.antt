@@ -53,31 +53,32 @@ shown all fs = cond all fs (take 1 fs)
 abbrev pub cut : Style
 cut = record { children = None; characters = Some 1000; escapes = false; colours = false }
 
--- the line with what heads it, and the lines of each case; nothing where there is no case
+-- the line with what heads it, and the lines of each case
 abbrev pub block : List ℕ → List (Tree CaseNode) → List ℕ
-block head [] = []
-block head (c ∷ cs) = head ++ (codes ": false\n" ++ flat_map (styled_lines cut) (c ∷ cs))
+block head cases = head ++ (codes ": false\n" ++ flat_map (styled_lines cut) cases)
 
 -- what heads the block of the record on the line of this number
 abbrev pub HeadsRecord : Job → ℕ → Data → List ℕ → Type 0
 HeadsRecord j number d text = IsHead (id_of j.settings.now) (place_text (source_of j) number) d text
 
+-- the block of a record's cases; nothing where there is no case
+abbrev pub IsBlockOf : Job → ℕ → Data → List (Tree CaseNode) → List ℕ → Type 0
+IsBlockOf j number d [] text = text ≡ []
+IsBlockOf j number d (c ∷ cs) text =
+    (head : List ℕ) × HeadsRecord j number d head × (text ≡ block head (c ∷ cs))
+
 -- the block of the rules that a record breaks, of all or of the first
 pub record IsBlock (j : Job) (all : Bool) (number : ℕ) (d : Data) (written : List ℕ) : Type 0 where
   pub cases : List (Tree CaseNode)
   pub explain : AllZip Explains (shown all (broken j.rules.now d)) cases
-  pub head : List ℕ
-  pub heads : HeadsRecord j number d head
-  pub is : written ≡ block head cases
+  pub is : IsBlockOf j number d cases written
 
 -- the block of what would have to change in each rule that a record breaks: that is the first change
 -- of all rules together
 pub record IsChangeBlock (j : Job) (number : ℕ) (d : Data) (written : List ℕ) : Type 0 where
   pub cases : List (Tree CaseNode)
   pub explain : AllZip ExplainsChange (broken j.rules.now d) cases
-  pub head : List ℕ
-  pub heads : HeadsRecord j number d head
-  pub is : written ≡ block head cases
+  pub is : IsBlockOf j number d cases written
 
 -- the object of the cases; nothing where there is no case and the failed alone are wanted
 abbrev pub wanted_text : Bool → Option (List ℕ) → List ℕ → Bool → List (Tree CaseNode) → List ℕ

@@ -4,18 +4,10 @@ ghost use Rattle.serde_json.specs.View.{view};
 ghost use Rattle.predicates_vet.specs.FirstBlocks.{TakesFirst, TakesFirsts};
 
 use crate::job::Job;
-use crate::place::head;
+use crate::numbered::Numbered;
 use crate::record::{add_case, write_block};
 use predicates_vet_check::{Matchers, RuleCheck};
-use serde_json::Value;
 use std::alloc::{AllocError, Global};
-
-/// A record, and the number of its line.
-#[derive(Clone, Copy)]
-pub(crate) struct Numbered<'v> {
-    pub(crate) number: u64,
-    pub(crate) value: &'v Value,
-}
 
 // Writes the block of the rule where there is none yet and the record breaks the rule.
 fn take_first<'r>(
@@ -36,9 +28,7 @@ fn take_first<'r>(
     if !add_case(alloc, rule, matchers, numbered.value, &mut cases)? {
         return Ok(());
     }
-    let head = head(alloc, job, numbered.number, numbered.value)?;
-    write_block(block, &head, cases.as_slice())?;
-    Ok(())
+    write_block(alloc, job, numbered, block, cases.as_slice())
 }
 
 /// Writes the block of each rule that has none yet and that the record breaks.

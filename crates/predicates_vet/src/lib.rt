@@ -11,6 +11,7 @@ mod github;
 mod input_format;
 mod job;
 mod line;
+mod numbered;
 mod object;
 mod piece;
 mod place;

@@ -9,9 +9,10 @@ ghost use Rattle.predicates_core.specs.Shows.{Explains};
 ghost use Rattle.serde_json.specs.View.{view};
 ghost use Rattle.predicates_vet.specs.Counting.{AddsCount, one_counted};
 ghost use Rattle.predicates_vet.specs.Records.{keeps, broken, shown, block, cut, AddsCase, AddsChange};
-ghost use Rattle.predicates_vet.specs.Records.{IsBlock, IsChangeBlock, IsObject, wanted_text};
+ghost use Rattle.predicates_vet.specs.Records.{IsBlock, IsBlockOf, IsChangeBlock, IsObject, wanted_text};
 
 use crate::job::Job;
+use crate::numbered::Numbered;
 use crate::object::write_object;
 use crate::place::{head, name};
 use crate::workspace::Workspace;
@@ -203,17 +204,33 @@ fn write_cases(text: &mut String, cases: &[Case]) -> Result<(), AllocError>
     Ok(())
 }
 
-/// Writes the block of the cases in place of what the text held.
-pub(crate) fn write_block(text: &mut String, head: &str, cases: &[Case]) -> Result<(), AllocError>
-    ensures { OnOk result (string_bytes text.new ≡ block head.now cases.now) }
+// Writes the line with what heads the block, and the lines of each case, behind the text.
+fn write_headed(text: &mut String, head: &str, cases: &[Case]) -> Result<(), AllocError>
+    ensures { OnOk result
+        (string_bytes text.new ≡ string_bytes text.old ++ block head.now cases.now) }
+{
+    text.push_str(head)?;
+    text.push_str(": false\n")?;
+    write_cases(text, cases)
+}
+
+/// Writes the block of the record's cases in place of what the text held.
+pub(crate) fn write_block(
+    alloc: Global,
+    job: &Job<'_>,
+    numbered: &Numbered<'_>,
+    text: &mut String,
+    cases: &[Case],
+) -> Result<(), AllocError>
+    ensures { OnOk result (IsBlockOf job.now numbered.now.number (view numbered.now.value.now) cases.now
+        (string_bytes text.new)) }
 {
     text.clear();
     if cases.is_empty() {
         return Ok(());
     }
-    text.push_str(head)?;
-    text.push_str(": false\n")?;
-    write_cases(text, cases)
+    let head = head(alloc, job, numbered.number, numbered.value)?;
+    write_headed(text, &head, cases)
 }
 
 /// Whether no rule is broken.
@@ -230,16 +247,21 @@ pub(crate) fn write_broken<'r>(
     job: &Job<'r>,
     workspace: &mut Workspace<'r>,
     all: bool,
-    number: u64,
-    value: &Value,
+    numbered: &Numbered<'_>,
 ) -> Result<bool, AllocError>
-    ensures block { OnOk result
-        (IsBlock job.now all number (view value.now) (string_bytes workspace.new.text)) }
-    ensures held { IfOk result (λ held. held ≡ keeps job.now.rules.now (view value.now)) }
+    ensures block { OnOk result (IsBlock job.now all numbered.now.number (view numbered.now.value.now)
+        (string_bytes workspace.new.text)) }
+    ensures held { IfOk result (λ held.
+        held ≡ keeps job.now.rules.now (view numbered.now.value.now)) }
 {
-    let cases = broken(alloc, job.rules, &mut workspace.matchers, all, value)?;
-    let head = head(alloc, job, number, value)?;
-    write_block(&mut workspace.text, &head, cases.as_slice())?;
+    let cases = broken(
+        alloc,
+        job.rules,
+        &mut workspace.matchers,
+        all,
+        numbered.value,
+    )?;
+    write_block(alloc, job, numbered, &mut workspace.text, cases.as_slice())?;
     Ok(is_none(&cases))
 }
 
@@ -249,16 +271,15 @@ pub(crate) fn write_changes<'r>(
     alloc: Global,
     job: &Job<'r>,
     workspace: &mut Workspace<'r>,
-    number: u64,
-    value: &Value,
+    numbered: &Numbered<'_>,
 ) -> Result<bool, AllocError>
-    ensures block { OnOk result
-        (IsChangeBlock job.now number (view value.now) (string_bytes workspace.new.text)) }
-    ensures held { IfOk result (λ held. held ≡ keeps job.now.rules.now (view value.now)) }
+    ensures block { OnOk result (IsChangeBlock job.now numbered.now.number
+        (view numbered.now.value.now) (string_bytes workspace.new.text)) }
+    ensures held { IfOk result (λ held.
+        held ≡ keeps job.now.rules.now (view numbered.now.value.now)) }
 {
-    let cases = changes(alloc, job.rules, &mut workspace.matchers, value)?;
-    let head = head(alloc, job, number, value)?;
-    write_block(&mut workspace.text, &head, cases.as_slice())?;
+    let cases = changes(alloc, job.rules, &mut workspace.matchers, numbered.value)?;
+    write_block(alloc, job, numbered, &mut workspace.text, cases.as_slice())?;
     Ok(is_none(&cases))
 }
 

@@ -16,9 +16,10 @@ ghost use Rattle.predicates_vet.specs.Settings.{source_of};
 ghost use Rattle.predicates_lines.specs.declared.taken_line.TakenLine.TheVariants.{End};
 
 use crate::annotations::tell_errors;
-use crate::first_blocks::{Numbered, take_firsts};
+use crate::first_blocks::take_firsts;
 use crate::job::Job;
 use crate::line::{Line, is_blank, read_record, too_long};
+use crate::numbered::Numbered;
 use crate::piece::next_piece;
 use crate::place::place;
 use crate::record::{count_broken, keeps, write_broken, write_changes, write_json};
@@ -66,16 +67,16 @@ fn tell_block<'r, W: Write>(
     job: &Job<'r>,
     workspace: &mut Workspace<'r>,
     all: bool,
-    number: u64,
-    value: &Value,
+    numbered: &Numbered<'_>,
     output: &mut W,
 ) -> Result<bool, RunFault>
     ensures written { IfOk result (λ _. (written : List ℕ)
-        × IsBlock job.now all number (view value.now) written
+        × IsBlock job.now all numbered.now.number (view numbered.now.value.now) written
         × Appends (W.contents output.old) (W.contents output.new) written) }
-    ensures held { IfOk result (λ held. held ≡ keeps job.now.rules.now (view value.now)) }
+    ensures held { IfOk result (λ held.
+        held ≡ keeps job.now.rules.now (view numbered.now.value.now)) }
 {
-    let held = write_broken(alloc, job, workspace, all, number, value)?;
+    let held = write_broken(alloc, job, workspace, all, numbered)?;
     write_bytes(output, workspace.text.as_bytes())?;
     Ok(held)
 }
@@ -85,16 +86,16 @@ fn tell_changes<'r, W: Write>(
     alloc: Global,
     job: &Job<'r>,
     workspace: &mut Workspace<'r>,
-    number: u64,
-    value: &Value,
+    numbered: &Numbered<'_>,
     output: &mut W,
 ) -> Result<bool, RunFault>
     ensures written { IfOk result (λ _. (written : List ℕ)
-        × IsChangeBlock job.now number (view value.now) written
+        × IsChangeBlock job.now numbered.now.number (view numbered.now.value.now) written
         × Appends (W.contents output.old) (W.contents output.new) written) }
-    ensures held { IfOk result (λ held. held ≡ keeps job.now.rules.now (view value.now)) }
+    ensures held { IfOk result (λ held.
+        held ≡ keeps job.now.rules.now (view numbered.now.value.now)) }
 {
-    let held = write_changes(alloc, job, workspace, number, value)?;
+    let held = write_changes(alloc, job, workspace, numbered)?;
     write_bytes(output, workspace.text.as_bytes())?;
     Ok(held)
 }
@@ -158,10 +159,11 @@ fn tell_record<'r, W: Write>(
     ensures held { IfOk result (λ held. held ≡ keeps job.now.rules.now (view value.now)) }
 {
     let Line { number, bytes } = *line;
+    let numbered = Numbered { number, value };
     match job.settings.report {
-        Report::First => tell_block(alloc, job, workspace, false, number, value, output),
-        Report::All => tell_block(alloc, job, workspace, true, number, value, output),
-        Report::Change => tell_changes(alloc, job, workspace, number, value, output),
+        Report::First => tell_block(alloc, job, workspace, false, &numbered, output),
+        Report::All => tell_block(alloc, job, workspace, true, &numbered, output),
+        Report::Change => tell_changes(alloc, job, workspace, &numbered, output),
         Report::Json { all, failed } => {
             tell_object(alloc, job, workspace, all, failed, number, value, output)
         }

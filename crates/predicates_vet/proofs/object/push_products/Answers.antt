@@ -1,4 +1,4 @@
-use Rattle.std.proofs.Common.{rules, arith}
+use Rattle.std.proofs.Common.{arith}
 use Rattle.predicates_vet.specs.Objects.{product_text}
 use Rattle.predicates_vet.proofs.Listing.{later_more, listed_more}
 use Rattle.predicates_vet.proofs.object.push_products.Goals as goal

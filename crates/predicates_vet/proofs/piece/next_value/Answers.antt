@@ -1,4 +1,4 @@
-use Rattle.std.proofs.Common.{refl, ◌∙◌, ap}
+use Rattle.std.proofs.Common.{refl}
 use Rattle.predicates_vet.proofs.Taking.{takes_record, takes_long_record, takes_unclosed, no_record}
 use Rattle.predicates_vet.proofs.piece.next_value.Goals as goal
 

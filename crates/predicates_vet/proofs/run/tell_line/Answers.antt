@@ -1,8 +1,10 @@
-use Rattle.std.proofs.Common.{◌∙◌, ap, sym}
+use Rattle.std.proofs.Common.{◌∙◌, ◌||◌, [], ap, is_some, not, refl, subst, sym}
 use Rattle.std.specs.Prelude.{option_map}
+use Rattle.std.proofs.KnownBytes.{Appends-nil}
 use Rattle.serde_json.specs.View.{view}
 use Rattle.predicates_vet.specs.FirstBlocks.{blocks_of}
-use Rattle.predicates_vet.specs.InputLines.{record_on}
+use Rattle.predicates_vet.specs.InputLines.{is_blank, record_on}
+use Rattle.predicates_vet.specs.Runs.{IsMessageIf}
 use Rattle.predicates_vet.proofs.Counted.{unread_counted}
 use Rattle.predicates_vet.proofs.Firsts.{unread_taken}
 use Rattle.predicates_vet.proofs.run.tell_line.Goals as goal
@@ -14,3 +16,10 @@ returns-in_ok-tell_problem-in-None-clause-broken g c =
 pub returns-in_ok-tell_problem-in-None-clause-firsts : goal.returns-in_ok-tell_problem-in-None-clause-firsts
 returns-in_ok-tell_problem-in-None-clause-firsts g c =
     unread_taken c.args.job.now c.args.line.now.number (record_on c.args.line.now.bytes.now) (blocks_of c.args.tally.now) (ap (option_map view) (sym c.in-None.is) ∙ c.in_ok-record.ensures)
+
+-- a record stands on the line, so no message is written
+pub returns-in_ok-held-in-Some-clause-message : goal.returns-in_ok-held-in-Some-clause-message
+returns-in_ok-held-in-Some-clause-message g c =
+    let none = subst (λ found. IsMessageIf (not (is_some found || is_blank c.args.line.now.bytes.now)) c.args.job.now c.args.line.now.number [])
+    (ap (option_map view) (sym c.in-Some.is) ∙ c.in_ok-record.ensures) refl in
+    ([], none, Appends-nil _)
