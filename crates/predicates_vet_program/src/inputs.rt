@@ -1,4 +1,5 @@
 //! The inputs of a run, one after another.
+use crate::input_fault::InputFault;
 use crate::io_fault::IoFault;
 use crate::metered::Metered;
 use crate::stderr::Stderr;
@@ -13,13 +14,15 @@ use std::io::{BufReader, BufWriter, ErrorKind, Read};
 use std::rt::{Clock, Files};
 
 /// How a run over inputs ended.
-#[derive(Clone, Copy)]
+#[derive(Drop)]
 pub(crate) enum Ended {
     /// With the last input. Whether all could be read: of one that could not it was told.
     Whole { all_read: bool },
     /// Where nothing reads the output any more, and whether all before could be read.
     Closed { all_read: bool },
-    /// With a fault, which is to be told.
+    /// Where an input could not be read, which is to be told.
+    Unread(InputFault),
+    /// With another fault, which is to be told.
     Early(RunFault),
 }
 
@@ -35,11 +38,20 @@ fn run_input<E: Print + Eprint + Clock + AllocGlobal, R: Read + Drop>(
     output: &mut Output<'_, '_, E>,
 ) -> io::Result<Ended> {
     let alloc = watched.alloc();
-    let mut input = BufReader::new(alloc, Metered { inner, watched })?;
+    let metered = Metered {
+        inner,
+        watched,
+        error: None,
+    };
+    let mut input = BufReader::new(alloc, metered)?;
     let mut messages = Stderr { rt: watched };
     match run_records(alloc, job, tally, &mut input, output, &mut messages) {
         Ok(()) => Ok(Ended::Whole { all_read: true }),
         Err(RunFault::Output) if output.get_ref().is_closed => Ok(Ended::Closed { all_read: true }),
+        Err(RunFault::Input) => {
+            let Metered { error, .. } = input.into_inner();
+            Ok(Ended::Unread(InputFault { error }))
+        }
         Err(fault) => Ok(Ended::Early(fault)),
     }
 }
@@ -86,11 +98,13 @@ fn run_named<E: Files + Input + Print + Eprint + Clock + AllocGlobal>(
     } else {
         run_file(watched, name, job, tally, output)?
     };
-    if let Ended::Early(RunFault::Input) = ended {
-        tell_file(watched, name, &RunFault::Input)?;
-        return Ok(Ended::Whole { all_read: false });
+    match ended {
+        Ended::Unread(fault) => {
+            tell_file(watched, name, &fault)?;
+            Ok(Ended::Whole { all_read: false })
+        }
+        ended => Ok(ended),
     }
-    Ok(ended)
 }
 
 // What an input of this name is called: nothing where it is the only one. GitHub is told the name of

@@ -6,6 +6,7 @@ mod document;
 mod end;
 mod flags;
 mod format;
+mod input_fault;
 mod input_format;
 mod inputs;
 mod io_fault;

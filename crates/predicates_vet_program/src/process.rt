@@ -16,9 +16,10 @@ use clap::ArgMatches;
 use clap::error::ErrorKind;
 use predicates_json::is_pointer;
 use predicates_vet::settings::Report;
-use predicates_vet::{Job, ReadChecksError, RulesFault, RunFault, Tally, read_checks, summary};
+use predicates_vet::{Job, ReadChecksError, RulesFault, Tally, read_checks, summary};
 use predicates_vet_check::RuleCheck;
 use std::alloc::{AllocError, Global};
+use std::fmt::Display;
 use std::io::BufWriter;
 use std::rt::{Clock, Env, Files};
 use std::{env, fs, io};
@@ -97,10 +98,10 @@ fn finish<E: Print + Eprint + AllocGlobal>(
 }
 
 // Tells the fault that ended the run.
-fn stop<E: Eprint>(rt: &E, fault: RunFault) -> io::Result<End>
+fn stop<E: Eprint, T: Display>(rt: &E, fault: &T) -> io::Result<End>
     ensures { IfOk result (λ end. end ≡ Stopped) }
 {
-    tell(rt, &fault)?;
+    tell(rt, fault)?;
     Ok(End::Stopped)
 }
 
@@ -125,7 +126,8 @@ fn run_by<'r, E: Files + Input + Print + Eprint + Clock + AllocGlobal>(
             counts: tally.counts,
             all_read,
         }),
-        Ended::Early(fault) => stop(rt, fault),
+        Ended::Unread(fault) => stop(rt, &fault),
+        Ended::Early(fault) => stop(rt, &fault),
     }
 }
 

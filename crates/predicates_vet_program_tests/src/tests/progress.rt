@@ -120,7 +120,7 @@ const FAULTS: [(Option<ErrorKind>, Closed, &str); 3] = [
     (
         Some(ErrorKind::BrokenPipe),
         Closed::Neither,
-        "\r0 lines, 0 a second\x1b[K\r1 line, 2 a second\x1b[K\r\x1b[Kvet: input could not be read\n",
+        "\r0 lines, 0 a second\x1b[K\r1 line, 2 a second\x1b[K\r\x1b[Kvet: input could not be read: broken pipe\n",
     ),
     // Nothing else is told.
     (

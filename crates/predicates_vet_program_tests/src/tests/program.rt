@@ -434,7 +434,7 @@ const ROWS: [Row; 50] = [
         Closed::Neither,
         2,
         "",
-        "vet: input could not be read\n",
+        "vet: input could not be read: broken pipe\n",
     ),
     (
         PLAIN,
@@ -520,7 +520,7 @@ const ROWS: [Row; 50] = [
         Closed::Neither,
         2,
         "one:1: false\na = false\n  rule: / == 1 = false\n    - found: 2\n",
-        "vet: -: input could not be read\n3 records, 1 failed\n",
+        "vet: -: input could not be read: broken pipe\n3 records, 1 failed\n",
     ),
 ];
 
