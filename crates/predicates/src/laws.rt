@@ -7,7 +7,9 @@
 
 mod rewriting;
 
-pub use predicates_core::laws::{first_reasons, one_child};
+pub use predicates_core::laws::{
+    each_meets_each, enough_children, first_changes, first_reasons, one_child,
+};
 pub use rewriting::{
     complements, de_morgan, double_negation, exclusive_or, memberships, named, one_case,
     one_verdict, same_function,

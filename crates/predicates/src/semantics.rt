@@ -14,7 +14,7 @@ ghost use Rattle.predicates.specs.Boxed.{inner_of, kept_text};
 ghost use Rattle.predicates.specs.Printed.{IsPrintedAs};
 
 use crate::boxed::{BoxPredicate, TextPredicate};
-pub use predicates_boolean::semantics::{join, named, not, rules};
+pub use predicates_boolean::semantics::{at_least, join, named, not, rules};
 use predicates_core::reflection::PredicateReflection;
 use predicates_core::{Predicate, PredicateChange, ReadsContent};
 pub use predicates_item::semantics::{
@@ -22,7 +22,7 @@ pub use predicates_item::semantics::{
     sorted, stored_function,
 };
 pub use predicates_part::semantics::{
-    description, length, members, of, of_field, of_ref, of_some_ref, variant,
+    description, length, members, members_at_least, of, of_field, of_ref, of_some_ref, variant,
 };
 pub use predicates_path::semantics::{existence, file_bytes, file_content, file_text, file_type};
 pub use predicates_text::semantics::{

@@ -15,6 +15,9 @@ fn laws_of_predicates(rt: HostRuntime) -> Result<(), Fail> {
     laws::same_function(&lt(3i64), &lt(3).not().not(), &4);
     laws::first_reasons();
     laws::one_child();
+    laws::enough_children();
+    laws::first_changes();
+    laws::each_meets_each();
     laws::one_case(&lt(3i64), &9);
     laws::one_verdict(&lt(3i64), &9);
     laws::complements(&5i64, &9);

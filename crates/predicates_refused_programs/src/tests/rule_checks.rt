@@ -48,16 +48,32 @@ fn calls_of_checks_of_records(rt: HostRuntime) -> Result<(), Fail> {
     sweep_calls(&rt, &rule, &record, row("RuleCheck", false, lines, memory))
 }
 
+// A name, a rule, a record, the verdict, the lines of the case, and what each call does with memory.
+const RULES: [(&str, &[u8], &str, bool, &str, [Memory; 3]); 2] = [
+    (
+        "RuleCheck with a pattern",
+        b"a: /x matches \"T[a-z]*\"",
+        "{\"x\": \"Two\"}",
+        true,
+        "a = true\n  rule: /x matches \"T[a-z]*\" = true\n    - found: \"Two\"\n",
+        [GoesOn, GoesOn, GoesOn],
+    ),
+    (
+        "RuleCheck of keys",
+        b"a: keys / in [\"x\"]",
+        "{\"y\": 1}",
+        false,
+        "a = false\n  rule: keys / in [\"x\"] = false\n    - found: {\"y\":1}\n    - other key: \"y\"\n",
+        [Never, Taken, Perhaps],
+    ),
+];
+
 #[test]
-fn calls_of_a_check_with_a_pattern(rt: HostRuntime) -> Result<(), Fail> {
-    let rule = rule_of(rt.alloc(), b"a: /x matches \"T[a-z]*\"")?;
-    let record = Value::from_str(rt.alloc(), "{\"x\": \"Two\"}")?;
-    let lines = "a = true\n  rule: /x matches \"T[a-z]*\" = true\n    - found: \"Two\"\n";
-    let memory = [GoesOn, GoesOn, GoesOn];
-    sweep_calls(
-        &rt,
-        &rule,
-        &record,
-        row("RuleCheck with a pattern", true, lines, memory),
-    )
+fn calls_of_checks_of_rules(rt: HostRuntime) -> Result<(), Fail> {
+    for (name, rule, record, verdict, lines, memory) in RULES {
+        let rule = rule_of(rt.alloc(), rule)?;
+        let record = Value::from_str(rt.alloc(), record)?;
+        sweep_calls(&rt, &rule, &record, row(name, verdict, lines, memory))?;
+    }
+    Ok(())
 }

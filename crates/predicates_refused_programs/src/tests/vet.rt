@@ -45,7 +45,7 @@ impl Call for Reading<'_> {
 
 // A name, rules, how they are told, and what reading them does with memory: a library under it may
 // do without a request.
-const RULES: [(&str, &[u8], &str, Memory); 5] = [
+const RULES: [(&str, &[u8], &str, Memory); 6] = [
     (
         "read_checks of joins and ranges",
         b"a: /x >= 18 and not /y in [1, \"b\", null] # c\n\nb: each /l (/q == true or /r missing)",
@@ -62,6 +62,12 @@ const RULES: [(&str, &[u8], &str, Memory); 5] = [
         "read_checks of a pattern",
         b"a: / matches \"T[a-z]*\"",
         "a: / matches \"T[a-z]*\"\n",
+        GoesOn,
+    ),
+    (
+        "read_checks of keys",
+        b"a: keys / in [\"b\", \"a\"]",
+        "a: keys / in [\"b\", \"a\"]\n",
         GoesOn,
     ),
     (
