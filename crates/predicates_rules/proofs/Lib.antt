@@ -19,3 +19,4 @@ pub mod Escaped
 pub mod Further
 pub mod Contents
 pub mod Readable
+pub mod Quotation

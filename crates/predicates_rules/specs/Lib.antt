@@ -11,3 +11,5 @@ pub mod Faults
 pub mod Findings
 pub mod Printing
 pub mod Writing
+pub mod Quoting
+pub mod Messages

@@ -1,4 +1,6 @@
 //! Why rules could not be read.
+ghost use Rattle.std.specs.Prelude.{Some};
+ghost use Rattle.predicates_rules.specs.Messages.{expected_text, reason_text, error_text};
 
 use crate::expression::MAX_DEPTH;
 use crate::fault::Fault;
@@ -64,6 +66,8 @@ pub enum Expected {
 }
 
 impl fmt::Display for Expected {
+    ghost output = { λ expected. Some (expected_text expected) };
+
     fn fmt<W: fmt::Write>(&self, f: &mut fmt::Formatter<W>) -> fmt::Result {
         let text = match self {
             Expected::Name => "the name of a rule",
@@ -109,6 +113,8 @@ pub enum Reason {
 }
 
 impl fmt::Display for Reason {
+    ghost output = { λ reason. Some (reason_text reason) };
+
     fn fmt<W: fmt::Write>(&self, f: &mut fmt::Formatter<W>) -> fmt::Result {
         match self {
             Reason::Expected(expected) => write!(f, "expected {expected}"),
@@ -127,6 +133,8 @@ pub enum RulesError {
 }
 
 impl fmt::Display for RulesError {
+    ghost output = { λ error. error_text error };
+
     fn fmt<W: fmt::Write>(&self, f: &mut fmt::Formatter<W>) -> fmt::Result {
         match self {
             RulesError::NoMemory => f.write_str("no memory"),

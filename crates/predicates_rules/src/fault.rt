@@ -1,4 +1,7 @@
 //! Where a text stops being rules.
+ghost use Rattle.std.specs.Prelude.{Some};
+ghost use Rattle.std.specs.Fmt.{DisplaysOnOk};
+ghost use Rattle.predicates_rules.specs.Messages.{found_text, why_text, meant_text, fault_text};
 
 use crate::error::Reason;
 use crate::hint::Hint;
@@ -25,6 +28,8 @@ pub struct Fault {
 struct Found<'a>(&'a [u8]);
 
 impl fmt::Display for Found<'_> {
+    ghost output = { λ found. found_text found.0.now };
+
     fn fmt<W: fmt::Write>(&self, f: &mut fmt::Formatter<W>) -> fmt::Result {
         match self.0 {
             [] => f.write_str("the end of the line"),
@@ -34,25 +39,39 @@ impl fmt::Display for Found<'_> {
     }
 }
 
+// Why it is a fault, with what was found.
+fn fmt_why<W: fmt::Write>(reason: Reason, found: &[u8], f: &mut fmt::Formatter<W>) -> fmt::Result
+    ensures { DisplaysOnOk W.write_str_gives f.old result (why_text reason found.now) f.new }
+{
+    match reason {
+        Reason::Expected(expected) => { write!(f, "expected {expected}, found {}", Found(found)) }
+        Reason::TooDeep => write!(f, "{reason}"),
+        Reason::Repeated(line) => {
+            let name = Quoted(found);
+            write!(f, "the name `{name}` stands on line {line} already")
+        }
+    }
+}
+
+// What was likely meant, behind a semicolon.
+fn fmt_meant<W: fmt::Write>(hint: Option<Hint>, f: &mut fmt::Formatter<W>) -> fmt::Result
+    ensures { DisplaysOnOk W.write_str_gives f.old result (Some (meant_text hint)) f.new }
+{
+    match hint {
+        Some(hint) => write!(f, "; {hint}"),
+        None => Ok(()),
+    }
+}
+
 /// One line: `line 1, column 7: expected .., found `=`; did you mean `==`?`, or `line 4, column 1:
 /// the name `adult` stands on line 2 already`. Of what was found it quotes 32 characters, and
 /// escapes what does not print.
 impl fmt::Display for Fault {
+    ghost output = { λ fault. fault_text fault };
+
     fn fmt<W: fmt::Write>(&self, f: &mut fmt::Formatter<W>) -> fmt::Result {
         write!(f, "line {}, column {}: ", self.line, self.column)?;
-        match self.reason {
-            Reason::Expected(expected) => {
-                write!(f, "expected {expected}, found {}", Found(&self.found))?;
-            }
-            Reason::TooDeep => write!(f, "{}", self.reason)?,
-            Reason::Repeated(line) => {
-                let name = Quoted(&self.found);
-                write!(f, "the name `{name}` stands on line {line} already")?;
-            }
-        }
-        match self.hint {
-            Some(hint) => write!(f, "; {hint}"),
-            None => Ok(()),
-        }
+        fmt_why(self.reason, &self.found, f)?;
+        fmt_meant(self.hint, f)
     }
 }

@@ -23,6 +23,11 @@ pub enum Hint {
 }
 
 impl fmt::Display for Hint {
+    ghost use Rattle.std.specs.Prelude.{Some};
+    ghost use Rattle.predicates_rules.specs.Messages.{hint_text};
+
+    ghost output = { λ hint. Some (hint_text hint) };
+
     fn fmt<W: fmt::Write>(&self, f: &mut fmt::Formatter<W>) -> fmt::Result {
         match self {
             Hint::Meant(word) => write!(f, "did you mean `{word}`?"),
