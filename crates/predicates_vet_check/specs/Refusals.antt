@@ -2,12 +2,14 @@
 use Rattle.std.specs.Prelude.{◌≡◌, ◌≢◌, ◌⊎◌, ℕ, ◌+◌, List, ◌++◌, Option, Some, None, codes, decimal, length, string_bytes}
 use Rattle.std.specs.List.{slice_range}
 use Rattle.std.specs.Str.{chars}
+use Rattle.std.specs.Fmt.{◌++?◌}
 use Rattle.regex.specs.Patterns.{default_config}
 use Rattle.regex.specs.Sources.{IsTextRefusal}
 use Rattle.regex.specs.Failures.{IsRightKind}
 use Rattle.regex.specs.declared.error.Error.{Error}
 use Rattle.regex.specs.declared.error.Error.TheVariants.{Syntax, CompiledTooBig, Internal, OutOfMemory}
 use Rattle.predicates_rules.specs.declared.condition.Relation.TheVariants.{Matches}
+use Rattle.predicates_rules.specs.Quoting.{quoted_text}
 use Rattle.predicates_rules.specs.Trees.{Test, Relates, Tree, At, Denied, Implies, Quantified, Joined, AtLeast, Trees, none, more}
 use Rattle.predicates_vet_check.specs.declared.check_error.CheckError.{CheckError}
 use Rattle.predicates_vet_check.specs.declared.check_error.CheckError.TheVariants.{NoMemory, Pattern}
@@ -23,6 +25,16 @@ column_of pattern OutOfMemory = None
 abbrev pub fault_text : List ℕ → Option ℕ → List ℕ
 fault_text reason None = reason
 fault_text reason (Some k) = reason ++ (codes " at character " ++ decimal k)
+
+-- what is told of a pattern, which is open where its quotation is
+abbrev pub refusal_text : PatternFault → Option (List ℕ)
+refusal_text fault =
+    Some (codes "no regular expression: ") ++? Some (fault_text (string_bytes fault.reason) fault.column)
+    ++? Some (codes ": ") ++? quoted_text (string_bytes fault.pattern)
+
+abbrev pub error_text : CheckError → Option (List ℕ)
+error_text NoMemory = Some (codes "no memory")
+error_text (Pattern fault) = refusal_text fault
 
 -- `regex` refuses the pattern, which is no lack of memory: no text that its grammar reads, or one that is too large; the column is that of its error
 pub record IsRefused (fault : PatternFault) : Type 0 where

@@ -1,5 +1,6 @@
 //! Why a check was not made of an expression.
 ghost use Rattle.std.specs.Prelude.{◌≡◌};
+ghost use Rattle.predicates_vet_check.specs.Refusals.{error_text};
 ghost use Rattle.predicates_vet_check.specs.declared.check_error.CheckError.TheVariants.{NoMemory};
 
 use crate::pattern_fault::PatternFault;
@@ -18,6 +19,8 @@ pub enum CheckError {
 }
 
 impl fmt::Display for CheckError {
+    ghost output = { error_text };
+
     fn fmt<W: fmt::Write>(&self, f: &mut fmt::Formatter<W>) -> fmt::Result {
         match self {
             CheckError::NoMemory => f.write_str("no memory"),
