@@ -7,3 +7,4 @@ mod Ranking
 mod Reading
 mod Running
 mod Taking
+mod Telling

@@ -7,6 +7,7 @@ pub mod Objects
 pub mod Pieces
 pub mod Places
 pub mod Records
+pub mod RuleFaults
 pub mod RulesFile
 pub mod Runs
 pub mod Settings

@@ -1,4 +1,6 @@
 //! What is wrong with a line of a file of rules.
+ghost use Rattle.predicates_vet.specs.RuleFaults.{rule_fault_text};
+
 use predicates_rules::fault::Fault;
 use predicates_rules::quoted::Quoted;
 use predicates_vet_check::PatternFault;
@@ -19,6 +21,8 @@ pub enum RuleFault {
 
 /// One line: `line 1, column 7: ..`, or `line 1, rule a: no regular expression: unclosed group at character 1: (`.
 impl fmt::Display for RuleFault {
+    ghost output = { rule_fault_text };
+
     fn fmt<W: fmt::Write>(&self, f: &mut fmt::Formatter<W>) -> fmt::Result {
         match self {
             RuleFault::Unreadable(fault) => write!(f, "{fault}"),

@@ -1,4 +1,10 @@
 //! What is told of a file of rules that is not read.
+ghost use Rattle.std.specs.Prelude.{map};
+ghost use Rattle.std.specs.Fmt.{DisplaysOnOk};
+ghost use Rattle.predicates_vet.specs.RuleFaults.{rule_fault_text, joined_texts, told_line};
+ghost use Rattle.predicates_vet.specs.RulesFile.{rules_fault_text};
+
+use crate::rule_fault::RuleFault;
 use crate::rules_file::ReadChecksError;
 use std::fmt;
 
@@ -11,15 +17,28 @@ pub struct RulesFault<'a> {
     pub error: &'a ReadChecksError,
 }
 
+// A line for each fault.
+fn fmt_faults<W: fmt::Write>(
+    path: &str,
+    faults: &[RuleFault],
+    f: &mut fmt::Formatter<W>,
+) -> fmt::Result
+    ensures { DisplaysOnOk W.write_str_gives f.old result
+        (joined_texts (map (λ fault. told_line path.now (rule_fault_text fault)) faults.now))
+        f.new }
+{
+    for fault in faults {
+        writeln!(f, "vet: {path}: {fault}")?;
+    }
+    Ok(())
+}
+
 impl fmt::Display for RulesFault<'_> {
+    ghost output = { λ fault. rules_fault_text fault.path.now fault.error.now };
+
     fn fmt<W: fmt::Write>(&self, f: &mut fmt::Formatter<W>) -> fmt::Result {
         match self.error {
-            ReadChecksError::Unreadable(faults) => {
-                for fault in faults {
-                    writeln!(f, "vet: {}: {fault}", self.path)?;
-                }
-                Ok(())
-            }
+            ReadChecksError::Unreadable(faults) => fmt_faults(self.path, faults, f),
             other => writeln!(f, "vet: {}: {other}", self.path),
         }
     }

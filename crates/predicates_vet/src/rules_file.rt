@@ -1,9 +1,11 @@
 //! The rules of a file, each with its check.
 ghost use Rattle.std.specs.Prelude.{◌≡◌, ℕ, List, IfOk, map};
 ghost use Rattle.std.specs.List.{AllZip};
+ghost use Rattle.std.specs.Fmt.{DisplaysOnOk};
 ghost use Rattle.predicates_rules.specs.Grammar.{max_depth};
 ghost use Rattle.predicates_rules.specs.Rules.{AreRulesOf, rule_of};
 ghost use Rattle.predicates_rules.specs.Trees.{Tree};
+ghost use Rattle.predicates_vet.specs.RuleFaults.{rule_fault_text, texts_of_lines, text_behind};
 ghost use Rattle.predicates_vet.specs.RulesFile.{IsCheckOf};
 
 use crate::rule_fault::RuleFault;
@@ -23,6 +25,31 @@ pub enum ReadChecksError {
     Unreadable(Vec<RuleFault>),
 }
 
+// A fault, behind a line feed where it is not the first.
+fn fmt_fault<W: fmt::Write>(
+    fault: &RuleFault,
+    index: usize,
+    f: &mut fmt::Formatter<W>,
+) -> fmt::Result
+    ensures { DisplaysOnOk W.write_str_gives f.old result
+        (text_behind index (rule_fault_text fault.now)) f.new }
+{
+    if index == 0 {
+        return write!(f, "{fault}");
+    }
+    write!(f, "\n{fault}")
+}
+
+fn fmt_faults<W: fmt::Write>(faults: &[RuleFault], f: &mut fmt::Formatter<W>) -> fmt::Result
+    ensures { DisplaysOnOk W.write_str_gives f.old result
+        (texts_of_lines (map rule_fault_text faults.now)) f.new }
+{
+    for (index, fault) in faults.iter().enumerate() {
+        fmt_fault(fault, index, f)?;
+    }
+    Ok(())
+}
+
 /// One line for each fault, with line feeds between them.
 impl fmt::Display for ReadChecksError {
     ghost use Rattle.predicates_vet.specs.RulesFile.{read_error_text};
@@ -32,15 +59,7 @@ impl fmt::Display for ReadChecksError {
     fn fmt<W: fmt::Write>(&self, f: &mut fmt::Formatter<W>) -> fmt::Result {
         match self {
             ReadChecksError::NoMemory => f.write_str("no memory"),
-            ReadChecksError::Unreadable(faults) => {
-                for (index, fault) in faults.iter().enumerate() {
-                    if index > 0 {
-                        f.write_str("\n")?;
-                    }
-                    write!(f, "{fault}")?;
-                }
-                Ok(())
-            }
+            ReadChecksError::Unreadable(faults) => fmt_faults(faults, f),
         }
     }
 }
