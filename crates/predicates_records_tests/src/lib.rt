@@ -1,5 +1,5 @@
-//! Tests of what no clause of `predicates_records` says: which bytes end a record, and that calls
-//! succeed.
+//! Tests of what no clause of `predicates_records` and `predicates_lines` says: which bytes end a
+//! record, and that calls succeed.
 #![tactic(auto)]
 
 #[cfg(test)]

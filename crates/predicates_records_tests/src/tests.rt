@@ -1,6 +1,7 @@
-//! The records of inputs.
+//! The records of inputs, and their lines.
 mod examples;
 mod faults;
+mod lines;
 
 use predicates_fakes::Slow;
 use predicates_lines::{MAX_LINE, RunFault, write_bytes};

@@ -4,7 +4,6 @@ mod conditions;
 mod examples;
 mod faults;
 mod implications;
-mod lines;
 mod malformed_records;
 mod malformed_rules;
 mod numbers;
