@@ -1,6 +1,7 @@
 //! How often the leaves of a predicate are evaluated, which no contract says.
 mod around;
 mod counting;
+mod reports;
 mod shapes;
 
 use around::{Around, Asked};
