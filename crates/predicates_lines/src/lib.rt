@@ -14,12 +14,14 @@
 
 mod read;
 mod run_fault;
+mod stderr;
 mod taken_line;
 mod within;
 mod write;
 
 pub use read::next_line;
 pub use run_fault::RunFault;
+pub use stderr::Stderr;
 pub use taken_line::TakenLine;
 pub use within::{MAX_LINE, next_line_within};
 pub use write::{flush, write_bytes};
