@@ -19,7 +19,7 @@ ghost use Rattle.predicates_core.proofs.Several.{each_holds, each_weaker};
 ghost use Rattle.predicates_boolean.specs.Rules.{rules_of, word};
 
 use predicates_core::custom::{
-    AtLeastOne, Every, Quantifier, each_child, parts_case, parts_change, parts_explained,
+    AtLeastOne, Deciding, Every, Quantifier, each_child, parts_case, parts_change, parts_explained,
     parts_hold,
 };
 use predicates_core::reflection::{Case, Child, Parameter, PredicateReflection};
@@ -72,6 +72,21 @@ pub fn any_of<P>(rules: Vec<P>) -> AnyOfPredicate<P>
     RulesPredicate {
         rules,
         quantifier: PhantomData,
+    }
+}
+
+impl<Q: Quantifier, P> RulesPredicate<Q, P> {
+    // What its cases are made of.
+    fn deciding(&self) -> Deciding<'_, RulesPredicate<Q, P>>
+        ensures whole { result.whole.now ≡ self.now }
+        ensures name { result.name.now ≡ codes "rule" }
+        ensures decides { result.decides ≡ Q.one_suffices }
+    {
+        Deciding {
+            whole: self,
+            name: "rule",
+            decides: Q::one_suffices(),
+        }
     }
 }
 
@@ -149,16 +164,8 @@ impl<Q: Quantifier, P: Predicate<Item>, Item> Predicate<Item> for RulesPredicate
         expected: bool,
         item: &Item,
     ) -> Result<Option<Case>, AllocError> {
-        let rules = self.rules.as_slice();
-        parts_case(
-            alloc,
-            self,
-            rules,
-            "rule",
-            Q::one_suffices(),
-            expected,
-            item,
-        )
+        let list = self.deciding();
+        parts_case(alloc, list, self.rules.as_slice(), expected, item)
     }
 
     fn explain(
@@ -167,9 +174,8 @@ impl<Q: Quantifier, P: Predicate<Item>, Item> Predicate<Item> for RulesPredicate
         wanted: Option<bool>,
         item: &Item,
     ) -> Result<Option<Case>, AllocError> {
-        let rules = self.rules.as_slice();
-        let decides = Q::one_suffices();
-        parts_explained(alloc, self, rules, "rule", decides, wanted, item)
+        let list = self.deciding();
+        parts_explained(alloc, list, self.rules.as_slice(), wanted, item)
     }
 }
 
@@ -180,9 +186,8 @@ impl<Q: Quantifier, P: PredicateChange<Item>, Item> PredicateChange<Item> for Ru
         wanted: Option<bool>,
         item: &Item,
     ) -> Result<Option<Case>, AllocError> {
-        let rules = self.rules.as_slice();
-        let decides = Q::one_suffices();
-        parts_change(alloc, self, rules, "rule", decides, wanted, item)
+        let list = self.deciding();
+        parts_change(alloc, list, self.rules.as_slice(), wanted, item)
     }
 }
 

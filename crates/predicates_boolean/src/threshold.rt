@@ -18,7 +18,7 @@ ghost use Rattle.predicates_boolean.specs.Threshold.{counted_of, least_of, one_m
 use crate::boolean::{AndPredicate, NotPredicate};
 use crate::rules::write_further;
 use predicates_core::custom::{
-    each_child, threshold_case, threshold_change, threshold_explained, threshold_holds,
+    Counting, each_child, threshold_case, threshold_change, threshold_explained, threshold_holds,
 };
 use predicates_core::reflection::{Case, Child, Parameter, PredicateReflection};
 use predicates_core::{Content, Predicate, PredicateChange, ReadsContent, Total};
@@ -112,6 +112,21 @@ pub fn one_more(number: usize) -> usize
     }
 }
 
+impl<P> AtLeastPredicate<P> {
+    // What its cases are made of.
+    fn counting(&self) -> Counting<'_, AtLeastPredicate<P>>
+        ensures whole { result.whole.now ≡ self.now }
+        ensures name { result.name.now ≡ codes "rule" }
+        ensures least { result.least ≡ self.now.least }
+    {
+        Counting {
+            whole: self,
+            name: "rule",
+            least: self.least,
+        }
+    }
+}
+
 impl<P: fmt::Display> fmt::Display for AtLeastPredicate<P> {
     ghost output = { λ p. counted_text (codes "at_least") (least_of p)
         (map P.output (counted_of p)) };
@@ -163,8 +178,8 @@ impl<P: Predicate<Item>, Item> Predicate<Item> for AtLeastPredicate<P> {
         expected: bool,
         item: &Item,
     ) -> Result<Option<Case>, AllocError> {
-        let rules = self.rules.as_slice();
-        threshold_case(alloc, self, self.least, rules, "rule", expected, item)
+        let list = self.counting();
+        threshold_case(alloc, list, self.rules.as_slice(), expected, item)
     }
 
     fn explain(
@@ -173,8 +188,8 @@ impl<P: Predicate<Item>, Item> Predicate<Item> for AtLeastPredicate<P> {
         wanted: Option<bool>,
         item: &Item,
     ) -> Result<Option<Case>, AllocError> {
-        let rules = self.rules.as_slice();
-        threshold_explained(alloc, self, self.least, rules, "rule", wanted, item)
+        let list = self.counting();
+        threshold_explained(alloc, list, self.rules.as_slice(), wanted, item)
     }
 }
 
@@ -185,8 +200,8 @@ impl<P: PredicateChange<Item>, Item> PredicateChange<Item> for AtLeastPredicate<
         wanted: Option<bool>,
         item: &Item,
     ) -> Result<Option<Case>, AllocError> {
-        let rules = self.rules.as_slice();
-        threshold_change(alloc, self, self.least, rules, "rule", wanted, item)
+        let list = self.counting();
+        threshold_change(alloc, list, self.rules.as_slice(), wanted, item)
     }
 }
 

@@ -9,13 +9,15 @@
 //!
 //! ```
 //! let holds = join_truth(alloc, Operator::Or, &self.left, &self.right, item)?;
-//! let case = join_explained(alloc, Operator::Or, self, &self.left, &self.right, wanted, item)?;
-//! let change = join_change(alloc, Operator::Or, self, &self.left, &self.right, wanted, item)?;
+//! let join = Join { whole: self, operator: Operator::Or, left: &self.left, right: &self.right };
+//! let case = join_explained(alloc, join, wanted, item)?;
+//! let change = join_change(alloc, join, wanted, item)?;
 //! let children = two_children(alloc, &self.left, &self.right)?;
 //!
 //! let holds = members_hold(alloc, &self.part, false, members)?;
-//! let case = members_explained(alloc, self, &self.part, "item", false, wanted, members)?;
-//! let change = members_change(alloc, self, &self.part, "item", false, wanted, members)?;
+//! let list = Deciding { whole: self, name: "item", decides: false };
+//! let case = members_explained(alloc, list, &self.part, wanted, members)?;
+//! let change = members_change(alloc, list, &self.part, wanted, members)?;
 //! ```
 mod ask;
 mod changes;
@@ -28,6 +30,7 @@ mod members;
 mod named;
 mod not;
 mod parts;
+mod present;
 mod quantifier;
 mod several;
 mod test_predicate;
@@ -37,7 +40,9 @@ mod threshold_changes;
 pub use changes::{join_change, leaf_change, named_change, not_change};
 pub use children::{one_child, two_children};
 pub use detailed_test::{DetailedPredicate, DetailedTest, TestParameters, detailed_leaf};
-pub use join::{Operator, is_other, join_case, join_explained, join_truth, kept_if, shown_verdict};
+pub use join::{
+    Join, Operator, is_other, join_case, join_explained, join_truth, kept_if, shown_verdict,
+};
 pub use leaf_cases::{absent_case, bare_case, showing_case};
 pub use list_changes::{asked_at, first_alone, is_first_passed, next_change};
 pub use members::{
@@ -50,8 +55,9 @@ pub use parts::{
     each_child, parts_case, parts_change, parts_explained, parts_hold, threshold_case,
     threshold_change, threshold_explained, threshold_holds,
 };
+pub use present::{present_case, present_change, present_explained, present_holds};
 pub use quantifier::{AtLeastOne, Every, Quantifier};
-pub use several::{deciding_case, is_deciding, is_wanted, no_member, with_index};
+pub use several::{Deciding, deciding_case, is_deciding, is_wanted, no_member, with_index};
 pub use test_predicate::{Test, TestPredicate, leaf};
-pub use threshold::{enough_of, is_settled, settled_case};
+pub use threshold::{Counting, enough_of, is_settled, settled_case};
 pub use threshold_changes::node_of_first;

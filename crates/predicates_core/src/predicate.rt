@@ -128,7 +128,7 @@ impl Content for String {
 /// A predicate that may be asked about every item, and whose formula is a function of the item's
 /// content.
 ///
-/// It has no methods. A predicate has to implement it to be boxed, trimmed or decoded.
+/// It has no methods. A predicate of texts has to implement it to be boxed.
 pub trait ReadsContent<Item: Content>: Predicate<Item> {
     // The formula that the predicate has on an item with a content.
     ghost content_formula: { Self → List ℕ → Formula };

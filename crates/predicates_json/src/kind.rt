@@ -13,7 +13,9 @@ ghost use Rattle.predicates_core.specs.Present.{IsOfPresent, present_text_fits, 
 ghost use Rattle.predicates_core.specs.Present.{has_present};
 ghost use Rattle.predicates_json.specs.KindParts.{inner_of};
 
-use predicates_core::custom::{absent_case, is_other, one_child};
+use predicates_core::custom::{
+    one_child, present_case, present_change, present_explained, present_holds,
+};
 use predicates_core::reflection::{Case, Child, Parameter, PredicateReflection};
 use predicates_core::{Predicate, PredicateChange, Total};
 use serde_json::{Map, Value};
@@ -148,26 +150,17 @@ impl<P: Predicate<U>, U: JsonKind> Predicate<Value> for KindPredicate<P, U> {
     ghost one_formula = { λ p v f g lawful. one_present (U.held_by v)
         (λ u x y. P.one_formula (inner_of p) u x y lawful) };
 
-    #[tactic(auto, using(predicates_core::proofs::PresentCases::present_cases))]
     fn eval(&self, alloc: Global, item: &Value) -> Result<bool, AllocError> {
-        match U::held(item) {
-            Some(held) => self.inner.eval(alloc, held),
-            None => Ok(false),
-        }
+        present_holds(alloc, &self.inner, U::held(item))
     }
 
-    #[tactic(auto, using(predicates_core::proofs::PresentCases::present_cases))]
     fn find_case(
         &self,
         alloc: Global,
         expected: bool,
         item: &Value,
     ) -> Result<Option<Case>, AllocError> {
-        match U::held(item) {
-            Some(held) => self.inner.find_case(alloc, expected, held),
-            None if expected => Ok(None),
-            None => Ok(Some(absent_case(alloc, &self.inner, kind(item))?)),
-        }
+        present_case(alloc, &self.inner, U::held(item), kind(item), expected)
     }
 
     fn explain(
@@ -176,11 +169,7 @@ impl<P: Predicate<U>, U: JsonKind> Predicate<Value> for KindPredicate<P, U> {
         wanted: Option<bool>,
         item: &Value,
     ) -> Result<Option<Case>, AllocError> {
-        match U::held(item) {
-            Some(held) => self.inner.explain(alloc, wanted, held),
-            None if is_other(wanted, false) => Ok(None),
-            None => Ok(Some(absent_case(alloc, &self.inner, kind(item))?)),
-        }
+        present_explained(alloc, &self.inner, U::held(item), kind(item), wanted)
     }
 }
 
@@ -191,12 +180,7 @@ impl<P: PredicateChange<U>, U: JsonKind> PredicateChange<Value> for KindPredicat
         wanted: Option<bool>,
         item: &Value,
     ) -> Result<Option<Case>, AllocError> {
-        let inner = &self.inner;
-        match U::held(item) {
-            Some(held) => inner.find_change(alloc, wanted, held),
-            None if is_other(wanted, false) => Ok(None),
-            None => Ok(Some(absent_case(alloc, inner, kind(item))?)),
-        }
+        present_change(alloc, &self.inner, U::held(item), kind(item), wanted)
     }
 }
 

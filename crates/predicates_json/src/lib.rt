@@ -42,7 +42,6 @@ pub use pointer::{JsonPointer, PointerPredicate, is_pointer};
 use predicates_core::Predicate;
 pub use presence::{PointerPresencePredicate, has_pointer, lacks_pointer};
 use serde_json::{Map, Value};
-use std::marker::PhantomData;
 
 /// Makes a predicate of JSON values from one of what they hold, or of what stands within them.
 pub trait PredicateJsonExt: Sized {
@@ -135,10 +134,7 @@ impl<P> PredicateJsonExt for P {
     where
         P: Predicate<Value>,
     {
-        PointerPredicate {
-            inner: self,
-            pointer,
-        }
+        PointerPredicate::new(self, pointer)
     }
 
     fn of_string(self) -> KindPredicate<P, String>
@@ -173,9 +169,6 @@ impl<P> PredicateJsonExt for P {
     where
         P: Predicate<N>,
     {
-        NumberPredicate {
-            inner: self,
-            number: PhantomData,
-        }
+        NumberPredicate::new(self)
     }
 }

@@ -15,7 +15,9 @@ ghost use Rattle.predicates_core.specs.Present.{has_present};
 ghost use Rattle.predicates_json.specs.NumberParts.{inner_of};
 
 use crate::kind::kind;
-use predicates_core::custom::{absent_case, is_other, one_child};
+use predicates_core::custom::{
+    one_child, present_case, present_change, present_explained, present_holds,
+};
 use predicates_core::reflection::{Case, Child, Parameter, PredicateReflection};
 use predicates_core::{Predicate, PredicateChange, Total};
 use serde_json::{Number, Value};
@@ -116,8 +118,20 @@ fn number_of<N: JsonNumber>(value: &Value) -> Option<N>
 /// `of_number` of `PredicateJsonExt`.
 #[derive(Debug, Clone, Copy, PartialEq, Eq, Drop)]
 pub struct NumberPredicate<P, N> {
-    pub(crate) inner: P,
-    pub(crate) number: PhantomData<N>,
+    inner: P,
+    number: PhantomData<N>,
+}
+
+impl<P, N> NumberPredicate<P, N> {
+    // The predicate of a number over this one.
+    pub(crate) fn new(inner: P) -> NumberPredicate<P, N>
+        ensures { inner_of result ≡ inner }
+    {
+        NumberPredicate {
+            inner,
+            number: PhantomData,
+        }
+    }
 }
 
 impl<P: fmt::Display, N> fmt::Display for NumberPredicate<P, N> {
@@ -161,26 +175,19 @@ impl<P: Predicate<N>, N: JsonNumber> Predicate<Value> for NumberPredicate<P, N> 
         (option_and_then N.number_as (as_number (view v)))
         (λ u x y. P.one_formula (inner_of p) u x y lawful) };
 
-    #[tactic(auto, using(predicates_core::proofs::PresentCases::present_cases))]
     fn eval(&self, alloc: Global, item: &Value) -> Result<bool, AllocError> {
-        match number_of::<N>(item) {
-            Some(number) => self.inner.eval(alloc, &number),
-            None => Ok(false),
-        }
+        let number = number_of::<N>(item);
+        present_holds(alloc, &self.inner, number.as_ref())
     }
 
-    #[tactic(auto, using(predicates_core::proofs::PresentCases::present_cases))]
     fn find_case(
         &self,
         alloc: Global,
         expected: bool,
         item: &Value,
     ) -> Result<Option<Case>, AllocError> {
-        match number_of::<N>(item) {
-            Some(number) => self.inner.find_case(alloc, expected, &number),
-            None if expected => Ok(None),
-            None => Ok(Some(absent_case(alloc, &self.inner, no_number::<N>(item))?)),
-        }
+        let (number, reason) = (number_of::<N>(item), no_number::<N>(item));
+        present_case(alloc, &self.inner, number.as_ref(), reason, expected)
     }
 
     fn explain(
@@ -189,11 +196,8 @@ impl<P: Predicate<N>, N: JsonNumber> Predicate<Value> for NumberPredicate<P, N> 
         wanted: Option<bool>,
         item: &Value,
     ) -> Result<Option<Case>, AllocError> {
-        match number_of::<N>(item) {
-            Some(number) => self.inner.explain(alloc, wanted, &number),
-            None if is_other(wanted, false) => Ok(None),
-            None => Ok(Some(absent_case(alloc, &self.inner, no_number::<N>(item))?)),
-        }
+        let (number, reason) = (number_of::<N>(item), no_number::<N>(item));
+        present_explained(alloc, &self.inner, number.as_ref(), reason, wanted)
     }
 }
 
@@ -204,12 +208,8 @@ impl<P: PredicateChange<N>, N: JsonNumber> PredicateChange<Value> for NumberPred
         wanted: Option<bool>,
         item: &Value,
     ) -> Result<Option<Case>, AllocError> {
-        let inner = &self.inner;
-        match number_of::<N>(item) {
-            Some(number) => inner.find_change(alloc, wanted, &number),
-            None if is_other(wanted, false) => Ok(None),
-            None => Ok(Some(absent_case(alloc, inner, no_number::<N>(item))?)),
-        }
+        let (number, reason) = (number_of::<N>(item), no_number::<N>(item));
+        present_change(alloc, &self.inner, number.as_ref(), reason, wanted)
     }
 }
 

@@ -3,10 +3,8 @@
 //! ```
 //! let adult = predicate::ge(18i64).of_number().of_pointer("/age");
 //! ```
-ghost use Rattle.std.specs.Prelude.{◌≡◌, ℕ, List, [], codes, false, Some, IfOk, IfSome, string_bytes};
+ghost use Rattle.std.specs.Prelude.{◌≡◌, ℕ, List, [], codes, false, Some, IfSome, string_bytes};
 ghost use Rattle.predicates_core.specs.Parts.{part};
-ghost use Rattle.predicates_core.specs.Shows.{IsAnswer, IsFound};
-ghost use Rattle.predicates_core.specs.Change.{IsFoundChange};
 ghost use Rattle.predicates_json.specs.At.{at_pointer};
 ghost use Rattle.predicates_core.specs.Present.{IsOfPresent, present_text_fits, one_present, present_formula};
 ghost use Rattle.predicates_core.specs.Present.{has_present};
@@ -16,7 +14,9 @@ ghost use Rattle.predicates_json.specs.PointerText.{is_pointer_text, has_whole_e
 ghost use Rattle.predicates_json.specs.PointerLaws.{at_text_fits, one_at, has_at};
 
 use crate::at::value_at;
-use predicates_core::custom::{absent_case, is_other, one_child};
+use predicates_core::custom::{
+    one_child, present_case, present_change, present_explained, present_holds,
+};
 use predicates_core::node::{printed, unary_node};
 use predicates_core::reflection::{Case, Child, Parameter, PredicateReflection};
 use predicates_core::static_text::StaticText;
@@ -69,8 +69,18 @@ impl JsonPointer for String {
 /// by `PredicateJsonExt::of_pointer`.
 #[derive(Debug, Clone, Copy, PartialEq, Eq, Drop)]
 pub struct PointerPredicate<P, N = &'static str> {
-    pub(crate) inner: P,
-    pub(crate) pointer: N,
+    inner: P,
+    pointer: N,
+}
+
+impl<P, N> PointerPredicate<P, N> {
+    // The predicate of what stands at the pointer over this one.
+    pub(crate) fn new(inner: P, pointer: N) -> PointerPredicate<P, N>
+        ensures inner { inner_of result ≡ inner }
+        ensures pointer { pointer_of result ≡ pointer }
+    {
+        PointerPredicate { inner, pointer }
+    }
 }
 
 impl<P, N: JsonPointer> fmt::Display for PointerPredicate<P, N> {
@@ -98,47 +108,6 @@ impl<P: PredicateReflection, N: JsonPointer> PredicateReflection for PointerPred
     }
 }
 
-impl<P: Predicate<Value>, N: JsonPointer> PointerPredicate<P, N> {
-    // The `find_case` of the value at the pointer, or of none: the case below the pointer's node.
-    #[tactic(auto, using(predicates_core::proofs::PresentCases::present_cases))]
-    fn case_below(
-        &self,
-        alloc: Global,
-        expected: bool,
-        item: &Value,
-    ) -> Result<Option<Case>, AllocError>
-        requires { P.lawful (inner_of self.now) }
-        ensures { IfOk result (IsAnswer (IsOfPresent (P.output (inner_of self.now)) no_value_text
-            (P.formula (inner_of self.now)) (at_pointer (N.bytes (pointer_of self.now)) item.now))
-            expected) }
-    {
-        match value_at(item, self.pointer.text()) {
-            Some(value) => self.inner.find_case(alloc, expected, value),
-            None if expected => Ok(None),
-            None => Ok(Some(absent_case(alloc, &self.inner, "no value")?)),
-        }
-    }
-
-    // The `explain` of the same.
-    fn explain_below(
-        &self,
-        alloc: Global,
-        wanted: Option<bool>,
-        item: &Value,
-    ) -> Result<Option<Case>, AllocError>
-        requires { P.lawful (inner_of self.now) }
-        ensures { IfOk result (IsFound (IsOfPresent (P.output (inner_of self.now)) no_value_text
-            (P.formula (inner_of self.now)) (at_pointer (N.bytes (pointer_of self.now)) item.now))
-            wanted) }
-    {
-        match value_at(item, self.pointer.text()) {
-            Some(value) => self.inner.explain(alloc, wanted, value),
-            None if is_other(wanted, false) => Ok(None),
-            None => Ok(Some(absent_case(alloc, &self.inner, "no value")?)),
-        }
-    }
-}
-
 impl<P: Predicate<Value>, N: JsonPointer> Predicate<Value> for PointerPredicate<P, N> {
     ghost lawful = { λ p. P.lawful (inner_of p) };
 
@@ -154,12 +123,10 @@ impl<P: Predicate<Value>, N: JsonPointer> Predicate<Value> for PointerPredicate<
         (at_pointer (N.bytes (pointer_of p)) v)
         (λ u k l. P.one_formula (inner_of p) u k l lawful)) };
 
-    #[tactic(auto, using(crate::proofs::PointerCases::pointers, predicates_core::proofs::PresentCases::present_cases))]
+    #[tactic(auto, using(crate::proofs::PointerCases::pointers))]
     fn eval(&self, alloc: Global, item: &Value) -> Result<bool, AllocError> {
-        match value_at(item, self.pointer.text()) {
-            Some(value) => self.inner.eval(alloc, value),
-            None => Ok(false),
-        }
+        let value = value_at(item, self.pointer.text());
+        present_holds(alloc, &self.inner, value)
     }
 
     #[tactic(auto, using(crate::proofs::PointerCases::pointers))]
@@ -169,7 +136,8 @@ impl<P: Predicate<Value>, N: JsonPointer> Predicate<Value> for PointerPredicate<
         expected: bool,
         item: &Value,
     ) -> Result<Option<Case>, AllocError> {
-        let Some(case) = self.case_below(alloc, expected, item)? else {
+        let value = value_at(item, self.pointer.text());
+        let Some(case) = present_case(alloc, &self.inner, value, "no value", expected)? else {
             return Ok(None);
         };
         let text = printed(alloc, self)?;
@@ -182,34 +150,13 @@ impl<P: Predicate<Value>, N: JsonPointer> Predicate<Value> for PointerPredicate<
         wanted: Option<bool>,
         item: &Value,
     ) -> Result<Option<Case>, AllocError> {
-        let Some(case) = self.explain_below(alloc, wanted, item)? else {
+        let value = value_at(item, self.pointer.text());
+        let Some(case) = present_explained(alloc, &self.inner, value, "no value", wanted)? else {
             return Ok(None);
         };
         let outcome = case.root().result();
         let pointer = printed(alloc, self)?;
         Ok(Some(unary_node(alloc, pointer, outcome, "value", case)?))
-    }
-}
-
-impl<P: PredicateChange<Value>, N: JsonPointer> PointerPredicate<P, N> {
-    // The `find_change` of the value at the pointer, or of none.
-    fn change_below(
-        &self,
-        alloc: Global,
-        wanted: Option<bool>,
-        item: &Value,
-    ) -> Result<Option<Case>, AllocError>
-        requires { P.lawful (inner_of self.now) }
-        ensures { IfOk result (IsFoundChange (IsOfPresent (P.output (inner_of self.now))
-            no_value_text (P.formula (inner_of self.now))
-            (at_pointer (N.bytes (pointer_of self.now)) item.now)) wanted) }
-    {
-        let inner = &self.inner;
-        match value_at(item, self.pointer.text()) {
-            Some(value) => inner.find_change(alloc, wanted, value),
-            None if is_other(wanted, false) => Ok(None),
-            None => Ok(Some(absent_case(alloc, inner, "no value")?)),
-        }
     }
 }
 
@@ -220,7 +167,8 @@ impl<P: PredicateChange<Value>, N: JsonPointer> PredicateChange<Value> for Point
         wanted: Option<bool>,
         item: &Value,
     ) -> Result<Option<Case>, AllocError> {
-        let Some(change) = self.change_below(alloc, wanted, item)? else {
+        let value = value_at(item, self.pointer.text());
+        let Some(change) = present_change(alloc, &self.inner, value, "no value", wanted)? else {
             return Ok(None);
         };
         let outcome = change.root().result();

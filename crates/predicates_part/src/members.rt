@@ -11,8 +11,8 @@ ghost use Rattle.predicates_core.proofs.Several.{members_text_fits, one_members,
 ghost use Rattle.predicates_part.specs.Members.{applied_text, inner_of, word};
 
 use predicates_core::custom::{
-    AtLeastOne, Every, Quantifier, members_case, members_change, members_explained, members_hold,
-    one_child,
+    AtLeastOne, Deciding, Every, Quantifier, members_case, members_change, members_explained,
+    members_hold, one_child,
 };
 use predicates_core::reflection::{Case, Child, Parameter, PredicateReflection};
 use predicates_core::{Predicate, PredicateChange, Total};
@@ -42,6 +42,21 @@ impl<Q, P> MembersPredicate<Q, P> {
         MembersPredicate {
             inner,
             quantifier: PhantomData,
+        }
+    }
+}
+
+impl<Q: Quantifier, P> MembersPredicate<Q, P> {
+    // What its cases are made of.
+    fn deciding(&self) -> Deciding<'_, MembersPredicate<Q, P>>
+        ensures whole { result.whole.now ≡ self.now }
+        ensures name { result.name.now ≡ codes "item" }
+        ensures decides { result.decides ≡ Q.one_suffices }
+    {
+        Deciding {
+            whole: self,
+            name: "item",
+            decides: Q::one_suffices(),
         }
     }
 }
@@ -103,16 +118,8 @@ impl<Q: Quantifier, P: Predicate<U>, U> Predicate<Vec<U>> for MembersPredicate<Q
         expected: bool,
         item: &Vec<U>,
     ) -> Result<Option<Case>, AllocError> {
-        let members = item.as_slice();
-        members_case(
-            alloc,
-            self,
-            &self.inner,
-            "item",
-            Q::one_suffices(),
-            expected,
-            members,
-        )
+        let list = self.deciding();
+        members_case(alloc, list, &self.inner, expected, item.as_slice())
     }
 
     fn explain(
@@ -121,9 +128,8 @@ impl<Q: Quantifier, P: Predicate<U>, U> Predicate<Vec<U>> for MembersPredicate<Q
         wanted: Option<bool>,
         item: &Vec<U>,
     ) -> Result<Option<Case>, AllocError> {
-        let members = item.as_slice();
-        let decides = Q::one_suffices();
-        members_explained(alloc, self, &self.inner, "item", decides, wanted, members)
+        let list = self.deciding();
+        members_explained(alloc, list, &self.inner, wanted, item.as_slice())
     }
 }
 
@@ -134,9 +140,8 @@ impl<Q: Quantifier, P: PredicateChange<U>, U> PredicateChange<Vec<U>> for Member
         wanted: Option<bool>,
         item: &Vec<U>,
     ) -> Result<Option<Case>, AllocError> {
-        let members = item.as_slice();
-        let suffices = Q::one_suffices();
-        members_change(alloc, self, &self.inner, "item", suffices, wanted, members)
+        let list = self.deciding();
+        members_change(alloc, list, &self.inner, wanted, item.as_slice())
     }
 }
 

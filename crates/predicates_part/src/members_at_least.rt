@@ -14,7 +14,7 @@ ghost use Rattle.predicates_part.specs.MembersAtLeast.{inner_of, least_of};
 
 use predicates_boolean::boolean::{AndPredicate, NotPredicate};
 use predicates_core::custom::{
-    members_threshold_case, members_threshold_change, members_threshold_explained,
+    Counting, members_threshold_case, members_threshold_change, members_threshold_explained,
     members_threshold_holds, one_child,
 };
 use predicates_core::reflection::{Case, Child, Parameter, PredicateReflection};
@@ -47,6 +47,19 @@ impl<P> MembersAtLeastPredicate<P> {
         ensures inner { inner_of result ≡ inner }
     {
         MembersAtLeastPredicate { least, inner }
+    }
+
+    // What its cases are made of.
+    fn counting(&self) -> Counting<'_, MembersAtLeastPredicate<P>>
+        ensures whole { result.whole.now ≡ self.now }
+        ensures name { result.name.now ≡ codes "item" }
+        ensures least { result.least ≡ self.now.least }
+    {
+        Counting {
+            whole: self,
+            name: "item",
+            least: self.least,
+        }
     }
 }
 
@@ -101,16 +114,8 @@ impl<P: Predicate<U>, U> Predicate<Vec<U>> for MembersAtLeastPredicate<P> {
         expected: bool,
         item: &Vec<U>,
     ) -> Result<Option<Case>, AllocError> {
-        let members = item.as_slice();
-        members_threshold_case(
-            alloc,
-            self,
-            self.least,
-            &self.inner,
-            members,
-            "item",
-            expected,
-        )
+        let list = self.counting();
+        members_threshold_case(alloc, list, &self.inner, expected, item.as_slice())
     }
 
     fn explain(
@@ -119,16 +124,8 @@ impl<P: Predicate<U>, U> Predicate<Vec<U>> for MembersAtLeastPredicate<P> {
         wanted: Option<bool>,
         item: &Vec<U>,
     ) -> Result<Option<Case>, AllocError> {
-        let members = item.as_slice();
-        members_threshold_explained(
-            alloc,
-            self,
-            self.least,
-            &self.inner,
-            members,
-            "item",
-            wanted,
-        )
+        let list = self.counting();
+        members_threshold_explained(alloc, list, &self.inner, wanted, item.as_slice())
     }
 }
 
@@ -139,16 +136,8 @@ impl<P: PredicateChange<U>, U> PredicateChange<Vec<U>> for MembersAtLeastPredica
         wanted: Option<bool>,
         item: &Vec<U>,
     ) -> Result<Option<Case>, AllocError> {
-        let members = item.as_slice();
-        members_threshold_change(
-            alloc,
-            self,
-            self.least,
-            &self.inner,
-            members,
-            "item",
-            wanted,
-        )
+        let list = self.counting();
+        members_threshold_change(alloc, list, &self.inner, wanted, item.as_slice())
     }
 }
 

@@ -13,7 +13,7 @@ ghost use Rattle.predicates_part.specs.Part.{one_of_part, owned, borrowed};
 ghost use Rattle.predicates_part.specs.Part.{part_inner_of, part_function_of};
 
 use predicates_boolean::name::NamePredicate;
-use predicates_core::custom::{absent_case, is_other};
+use predicates_core::custom::{present_case, present_change, present_explained, present_holds};
 use predicates_core::reflection::{Case, Child, Parameter, PredicateReflection};
 use predicates_core::{Predicate, PredicateChange, Total};
 use std::alloc::{AllocError, Global};
@@ -228,10 +228,8 @@ impl<P: Predicate<U>, F: Fn(&T) -> Option<&U>, T, U> Predicate<T>
 
     #[tactic(auto, using(crate::proofs::Parts::parts))]
     fn eval(&self, alloc: Global, item: &T) -> Result<bool, AllocError> {
-        match (self.function)(item) {
-            Some(part) => self.inner.eval(alloc, part),
-            None => Ok(false),
-        }
+        let part = (self.function)(item);
+        present_holds(alloc, &self.inner, part)
     }
 
     #[inline(always)] // a call would copy the case
@@ -241,11 +239,8 @@ impl<P: Predicate<U>, F: Fn(&T) -> Option<&U>, T, U> Predicate<T>
         expected: bool,
         item: &T,
     ) -> Result<Option<Case>, AllocError> {
-        match (self.function)(item) {
-            Some(part) => self.inner.find_case(alloc, expected, part),
-            None if expected => Ok(None),
-            None => Ok(Some(absent_case(alloc, &self.inner, "no value")?)),
-        }
+        let part = (self.function)(item);
+        present_case(alloc, &self.inner, part, "no value", expected)
     }
 
     #[inline(always)] // a call would copy the case
@@ -255,11 +250,8 @@ impl<P: Predicate<U>, F: Fn(&T) -> Option<&U>, T, U> Predicate<T>
         wanted: Option<bool>,
         item: &T,
     ) -> Result<Option<Case>, AllocError> {
-        match (self.function)(item) {
-            Some(part) => self.inner.explain(alloc, wanted, part),
-            None if is_other(wanted, false) => Ok(None),
-            None => Ok(Some(absent_case(alloc, &self.inner, "no value")?)),
-        }
+        let part = (self.function)(item);
+        present_explained(alloc, &self.inner, part, "no value", wanted)
     }
 }
 
@@ -272,12 +264,8 @@ impl<P: PredicateChange<U>, F: Fn(&T) -> Option<&U>, T, U> PredicateChange<T>
         wanted: Option<bool>,
         item: &T,
     ) -> Result<Option<Case>, AllocError> {
-        let inner = &self.inner;
-        match (self.function)(item) {
-            Some(part) => inner.find_change(alloc, wanted, part),
-            None if is_other(wanted, false) => Ok(None),
-            None => Ok(Some(absent_case(alloc, inner, "no value")?)),
-        }
+        let part = (self.function)(item);
+        present_change(alloc, &self.inner, part, "no value", wanted)
     }
 }
 

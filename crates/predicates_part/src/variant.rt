@@ -4,16 +4,15 @@
 //! let adult = predicate::ge(18).of_some();
 //! let forbidden = predicate::eq(403).of_err();
 //! ```
-ghost use Rattle.std.specs.Prelude.{◌≡◌, ℕ, [], List, Option, Some, None, codes, false, IfOk, IfSome, option_copied};
-ghost use Rattle.predicates_core.specs.Leaves.{IsExactly};
+ghost use Rattle.std.specs.Prelude.{◌≡◌, ℕ, [], List, Option, codes, IfSome, option_copied};
 ghost use Rattle.predicates_core.specs.Parts.{part};
-ghost use Rattle.predicates_core.specs.Shows.{IsCaseOf};
-ghost use Rattle.predicates_core.specs.Present.{IsOfPresent, absent_leaf};
-ghost use Rattle.predicates_core.specs.Present.{present_text_fits, one_present};
+ghost use Rattle.predicates_core.specs.Present.{IsOfPresent, present_text_fits, one_present};
 ghost use Rattle.predicates_core.specs.Present.{present_formula, has_present};
 ghost use Rattle.predicates_part.specs.Optional.{inner_of, value_of_ok, value_of_err};
 
-use predicates_core::custom::{absent_case, is_other, one_child};
+use predicates_core::custom::{
+    one_child, present_case, present_change, present_explained, present_holds,
+};
 use predicates_core::reflection::{Case, Child, Parameter, PredicateReflection};
 use predicates_core::{Predicate, PredicateChange, Total};
 use std::alloc::{AllocError, Global};
@@ -168,26 +167,17 @@ impl<V: Variant<T>, P: Predicate<V::Value>, T> Predicate<T> for VariantPredicate
     ghost one_formula = { λ p v f g lawful. one_present (V.value_of v)
         (λ u x y. P.one_formula (inner_of p) u x y lawful) };
 
-    #[tactic(auto, using(predicates_core::proofs::PresentCases::present_cases))]
     fn eval(&self, alloc: Global, item: &T) -> Result<bool, AllocError> {
-        match V::value(item) {
-            Some(value) => self.inner.eval(alloc, value),
-            None => Ok(false),
-        }
+        present_holds(alloc, &self.inner, V::value(item))
     }
 
-    #[tactic(auto, using(predicates_core::proofs::PresentCases::present_cases))]
     fn find_case(
         &self,
         alloc: Global,
         expected: bool,
         item: &T,
     ) -> Result<Option<Case>, AllocError> {
-        match V::value(item) {
-            Some(value) => self.inner.find_case(alloc, expected, value),
-            None if expected => Ok(None),
-            None => Ok(Some(absent_case(alloc, &self.inner, V::absent())?)),
-        }
+        present_case(alloc, &self.inner, V::value(item), V::absent(), expected)
     }
 
     fn explain(
@@ -196,11 +186,7 @@ impl<V: Variant<T>, P: Predicate<V::Value>, T> Predicate<T> for VariantPredicate
         wanted: Option<bool>,
         item: &T,
     ) -> Result<Option<Case>, AllocError> {
-        match V::value(item) {
-            Some(value) => self.inner.explain(alloc, wanted, value),
-            None if is_other(wanted, false) => Ok(None),
-            None => Ok(Some(absent_case(alloc, &self.inner, V::absent())?)),
-        }
+        present_explained(alloc, &self.inner, V::value(item), V::absent(), wanted)
     }
 }
 
@@ -211,12 +197,7 @@ impl<V: Variant<T>, P: PredicateChange<V::Value>, T> PredicateChange<T> for Vari
         wanted: Option<bool>,
         item: &T,
     ) -> Result<Option<Case>, AllocError> {
-        let inner = &self.inner;
-        match V::value(item) {
-            Some(value) => inner.find_change(alloc, wanted, value),
-            None if is_other(wanted, false) => Ok(None),
-            None => Ok(Some(absent_case(alloc, inner, V::absent())?)),
-        }
+        present_change(alloc, &self.inner, V::value(item), V::absent(), wanted)
     }
 }
 

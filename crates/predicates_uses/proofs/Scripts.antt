@@ -29,6 +29,7 @@ use Rattle.predicates_text.specs.LeafFormulaLaws.{has_starts}
 use Rattle.predicates_path.specs.Content.{IsOfContent}
 use Rattle.predicates_path.specs.ContentLaws.{has_content_formula}
 use Rattle.predicates_path.specs.Kind.{tested_kind, follows, found_kind, has_kind, kind_formula}
+use Rattle.predicates_path.specs.declared.file_test.FileTestPredicate.{FileTestPredicate}
 use Rattle.predicates_path.specs.declared.file_type_predicate.FileTypePredicate.{FileTypePredicate}
 use Rattle.predicates_path.specs.declared.file_type.FileType.TheVariants.{File}
 use Rattle.predicates_path.specs.declared.snapshot.Snapshot.{Snapshot}
@@ -58,7 +59,7 @@ module _ (name : List ℕ) (text : Entry) (K C : Formula → Type 0) where
   answered k r a b (Some case) of_k of_r is_a is_b h = named_truth k r a b false of_k of_r is_a is_b h.truth
 
 -- the test of the kind and that of the content, under whatever they print
-pub script_told : (name : List ℕ) (text : Entry) (kind : FileTypePredicate) (mark : List ℕ) (s : Snapshot) (found : Option (Tree CaseNode))
+pub script_told : (name : List ℕ) (text : Entry) (kind : FileTestPredicate FileTypePredicate) (mark : List ℕ) (s : Snapshot) (found : Option (Tree CaseNode))
     → tested_kind kind ≡ File → follows kind ≡ true → mark ≡ codes "#!"
     → IsAnswer (IsNamed name (IsPair And text (IsExactly (kind_formula kind s))
     (IsOfContent (starts_text mark) (λ v. IsDecoded (starts_text mark) (λ t. IsStartsLeaf mark (string_bytes t)) v.items) (path_of s) (held_of s)))) false found
@@ -68,7 +69,7 @@ script_told name text kind mark s found is_kind follow is_mark h =
     let has : Bytes → Formula → Type 0 = λ v. IsDecoded (starts_text mark) (λ t. IsStartsLeaf mark (string_bytes t)) v.items in
     let of_content : IsOfContent (starts_text mark) has (path_of s) (held_of s) (content_formula (starts_text mark) content (path_of s) (held_of s)) =
     has_content_formula (starts_text mark) has content (path_of s) (held_of s) (λ v. has_decoded_formula (starts_formula mark) (starts_text mark) (λ t. IsStartsLeaf mark (string_bytes t)) v.items (λ t. has_starts mark (string_bytes t))) in
-    let own : Bool = has_kind (tested_kind kind) (found_kind kind s) in
+    let own : Bool = has_kind (tested_kind kind) (found_kind (follows kind) s) in
     let told : MatchOption found ((own && is_marked mark (held_of s)) ≡ true) (λ case. (own && is_marked mark (held_of s)) ≡ false) =
     answered name text (IsExactly (kind_formula kind s)) (IsOfContent (starts_text mark) has (path_of s) (held_of s)) (kind_formula kind s) (content_formula (starts_text mark) content (path_of s) (held_of s)) own (is_marked mark (held_of s)) found (record { is = refl }) of_content (truth-Leaf _ _) (content_truth (starts_text mark) mark (path_of s) (held_of s)) h in
     let same : (own && is_marked mark (held_of s)) ≡ is_script s = λ i. has_kind (is_kind i) (cond (follow i) (followed_of s) (plain_of s)) && is_marked (is_mark i) (held_of s) in

@@ -10,7 +10,7 @@ ghost use Rattle.predicates_core.specs.Shows.{IsNode, IsAnswer, IsFound};
 ghost use Rattle.predicates_core.proofs.CombinedLemmas.{pair_text_fits, one_pair, has_pair};
 ghost use Rattle.predicates_uses.specs.Either.{either_text, left_of, right_of};
 
-use predicates::custom::{Operator, join_change};
+use predicates::custom::{Join, Operator, join_change};
 use predicates::reflection::{Case, Child, Parameter, PredicateReflection, describe};
 use predicates::{Predicate, PredicateChange, Total};
 use std::alloc::{AllocError, Global};
@@ -217,8 +217,13 @@ impl<P: PredicateChange<Item>, Q: PredicateChange<Item>, Item> PredicateChange<I
         wanted: Option<bool>,
         item: &Item,
     ) -> Result<Option<Case>, AllocError> {
-        let operator = Operator::Or;
-        join_change(alloc, operator, self, &self.left, &self.right, wanted, item)
+        let join = Join {
+            whole: self,
+            operator: Operator::Or,
+            left: &self.left,
+            right: &self.right,
+        };
+        join_change(alloc, join, wanted, item)
     }
 }
 

@@ -10,7 +10,7 @@ ghost use Rattle.predicates_uses.specs.Either.{either_text};
 ghost use Rattle.predicates_uses.specs.RightFirst.{left_of, right_of};
 
 use crate::IsTheAnswer;
-use predicates::custom::{Operator, join_change, two_children};
+use predicates::custom::{Join, Operator, join_change, two_children};
 use predicates::node::{binary_node, unary_node};
 use predicates::ord::lt;
 use predicates::reflection::{Case, Child, Parameter, PredicateReflection};
@@ -129,8 +129,13 @@ impl<P: PredicateChange<Item>, Q: PredicateChange<Item>, Item> PredicateChange<I
         wanted: Option<bool>,
         item: &Item,
     ) -> Result<Option<Case>, AllocError> {
-        let operator = Operator::Or;
-        join_change(alloc, operator, self, &self.left, &self.right, wanted, item)
+        let join = Join {
+            whole: self,
+            operator: Operator::Or,
+            left: &self.left,
+            right: &self.right,
+        };
+        join_change(alloc, join, wanted, item)
     }
 }
 

@@ -9,7 +9,7 @@ ghost use Rattle.predicates_core.specs.Combined.{infix_text, sign, IsPair};
 ghost use Rattle.predicates_core.proofs.CombinedLemmas.{pair_text_fits, one_pair, has_pair};
 
 use predicates_core::custom::{
-    Operator, join_case, join_change, join_explained, join_truth, two_children,
+    Join, Operator, join_case, join_change, join_explained, join_truth, two_children,
 };
 use predicates_core::reflection::{Case, Child, Parameter, PredicateReflection};
 use predicates_core::{Content, Predicate, PredicateChange, ReadsContent, Total};
@@ -97,6 +97,23 @@ impl<O, M1, M2, Item> JoinPredicate<O, M1, M2, Item> {
     }
 }
 
+impl<O: JoinOperator, M1, M2, Item> JoinPredicate<O, M1, M2, Item> {
+    // What its cases are made of.
+    fn join(&self) -> Join<'_, JoinPredicate<O, M1, M2, Item>, M1, M2>
+        ensures whole { result.whole.now ≡ self.now }
+        ensures operator { result.operator ≡ O.joins_by }
+        ensures left { result.left.now ≡ self.now.a }
+        ensures right { result.right.now ≡ self.now.b }
+    {
+        Join {
+            whole: self,
+            operator: O::operator(),
+            left: &self.a,
+            right: &self.b,
+        }
+    }
+}
+
 impl<O: JoinOperator, M1: fmt::Display, M2: fmt::Display, Item> fmt::Display
     for JoinPredicate<O, M1, M2, Item> {
     ghost output = { λ p. infix_text (sign O.joins_by) (M1.output p.a) (M2.output p.b) };
@@ -153,7 +170,7 @@ impl<O: JoinOperator, M1: Predicate<Item>, M2: Predicate<Item>, Item> Predicate<
         expected: bool,
         item: &Item,
     ) -> Result<Option<Case>, AllocError> {
-        join_case(alloc, O::operator(), self, &self.a, &self.b, expected, item)
+        join_case(alloc, self.join(), expected, item)
     }
 
     fn explain(
@@ -162,7 +179,7 @@ impl<O: JoinOperator, M1: Predicate<Item>, M2: Predicate<Item>, Item> Predicate<
         wanted: Option<bool>,
         item: &Item,
     ) -> Result<Option<Case>, AllocError> {
-        join_explained(alloc, O::operator(), self, &self.a, &self.b, wanted, item)
+        join_explained(alloc, self.join(), wanted, item)
     }
 }
 
@@ -175,7 +192,7 @@ impl<O: JoinOperator, M1: PredicateChange<Item>, M2: PredicateChange<Item>, Item
         wanted: Option<bool>,
         item: &Item,
     ) -> Result<Option<Case>, AllocError> {
-        join_change(alloc, O::operator(), self, &self.a, &self.b, wanted, item)
+        join_change(alloc, self.join(), wanted, item)
     }
 }
 

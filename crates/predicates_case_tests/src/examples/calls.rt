@@ -1,10 +1,11 @@
 //! The examples that stand at the traits' calls and at the steps of own predicates.
 use predicates::custom::{
-    AtLeastOne, Every, Operator, Quantifier, absent_case, deciding_case, detailed_leaf, each_child,
-    enough_of, is_other, is_settled, is_wanted, join_case, join_change, join_explained, join_truth,
-    leaf, leaf_change, members_hold, members_threshold_holds, named_change, no_member, not_case,
-    not_change, not_explained, one_child, opposite_of, parts_hold, showing_case, threshold_holds,
-    two_children, with_index,
+    AtLeastOne, Deciding, Every, Join, Operator, Quantifier, absent_case, deciding_case,
+    detailed_leaf, each_child, enough_of, is_other, is_settled, is_wanted, join_case, join_change,
+    join_explained, join_truth, leaf, leaf_change, members_hold, members_threshold_holds,
+    named_change, no_member, not_case, not_change, not_explained, one_child, opposite_of,
+    parts_hold, present_case, present_change, present_explained, present_holds, showing_case,
+    threshold_holds, two_children, with_index,
 };
 use predicates::node::{binary_node_of, leaf_node, showing_all};
 use predicates::path::{FileType, PathFault};
@@ -107,6 +108,45 @@ fn cases_of_absence(rt: HostRuntime) -> Result<(), Fail> {
 }
 
 #[test]
+fn verdicts_of_what_may_be_absent(rt: HostRuntime) -> Result<(), Fail> {
+    let alloc = rt.alloc();
+
+    assert!(rt; present_holds(alloc, &predicate::ge(18), Some(&36))?);
+    assert!(rt; !present_holds(alloc, &predicate::ge(18), None)?);
+    Ok(())
+}
+
+#[test]
+fn cases_of_what_is_absent(rt: HostRuntime) -> Result<(), Fail> {
+    let alloc = rt.alloc();
+
+    let found = present_case(alloc, &predicate::ge(18), None, "no age", false)?;
+    let lines = render(alloc, &found.ok_or("no case")?)?;
+    assert!(rt; lines.as_str() == "var >= 18 = false\n  - error: no age\n");
+    Ok(())
+}
+
+#[test]
+fn cases_of_what_is_present(rt: HostRuntime) -> Result<(), Fail> {
+    let alloc = rt.alloc();
+
+    let found = present_explained(alloc, &predicate::ge(18), Some(&17), "no age", None)?;
+    let lines = render(alloc, &found.ok_or("no case")?)?;
+    assert!(rt; lines.as_str() == "var >= 18 = false\n  - var: 17\n");
+    Ok(())
+}
+
+#[test]
+fn changes_of_what_is_absent(rt: HostRuntime) -> Result<(), Fail> {
+    let alloc = rt.alloc();
+
+    let change = present_change(alloc, &predicate::ge(18), None, "no age", None)?;
+    let lines = render(alloc, &change.ok_or("no change")?)?;
+    assert!(rt; lines.as_str() == "var >= 18 = false\n  - error: no age\n");
+    Ok(())
+}
+
+#[test]
 fn changes_of_a_leaf(rt: HostRuntime) -> Result<(), Fail> {
     let alloc = rt.alloc();
 
@@ -142,7 +182,13 @@ fn changes_of_a_join(rt: HostRuntime) -> Result<(), Fail> {
 
     let (low, high) = (predicate::ge(5), predicate::le(10));
     let text = "between".to_owned(alloc)?;
-    let found = join_change(alloc, Operator::And, &text, &low, &high, None, &7)?;
+    let join = Join {
+        whole: &text,
+        operator: Operator::And,
+        left: &low,
+        right: &high,
+    };
+    let found = join_change(alloc, join, None, &7)?;
     let lines = "between = true\n  left: var >= 5 = true\n    - var: 7\n";
     assert!(rt; render(alloc, &found.ok_or("no change")?)?.as_str() == lines);
     Ok(())
@@ -199,7 +245,13 @@ fn cases_of_a_join(rt: HostRuntime) -> Result<(), Fail> {
 
     let (low, high) = (predicate::ge(5), predicate::le(10));
     let text = "between".to_owned(alloc)?;
-    let found = join_case(alloc, Operator::And, &text, &low, &high, false, &11)?;
+    let join = Join {
+        whole: &text,
+        operator: Operator::And,
+        left: &low,
+        right: &high,
+    };
+    let found = join_case(alloc, join, false, &11)?;
     let lines = "between = false\n  right: var <= 10 = false\n    - var: 11\n";
     assert!(rt; render(alloc, &found.ok_or("no case")?)?.as_str() == lines);
     Ok(())
@@ -211,7 +263,13 @@ fn explanations_of_a_join(rt: HostRuntime) -> Result<(), Fail> {
 
     let (low, high) = (predicate::ge(5), predicate::le(10));
     let text = "between".to_owned(alloc)?;
-    let found = join_explained(alloc, Operator::And, &text, &low, &high, None, &7)?;
+    let join = Join {
+        whole: &text,
+        operator: Operator::And,
+        left: &low,
+        right: &high,
+    };
+    let found = join_explained(alloc, join, None, &7)?;
     assert!(rt; found.ok_or("no case")?.root().result());
     Ok(())
 }
@@ -309,7 +367,13 @@ fn cases_of_a_deciding_part(rt: HostRuntime) -> Result<(), Fail> {
     let alloc = rt.alloc();
 
     let part = leaf_node(alloc, "a".to_owned(alloc)?, false);
-    let case = deciding_case(alloc, &predicate::ge(5), "rule", false, 2, part)?;
+    let whole = predicate::ge(5);
+    let list = Deciding {
+        whole: &whole,
+        name: "rule",
+        decides: false,
+    };
+    let case = deciding_case(alloc, list, 2, part)?;
     let lines = "var >= 5 = false\n  - index: 2\n  rule: a = false\n";
     assert!(rt; render(alloc, &case)?.as_str() == lines);
     Ok(())

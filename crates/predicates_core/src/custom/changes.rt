@@ -1,7 +1,7 @@
 //! What would turn the verdict of a leaf, of one part and of two.
 //!
 //! ```
-//! join_change(alloc, Operator::And, self, &self.a, &self.b, wanted, item)
+//! join_change(alloc, join, wanted, item)
 //! ```
 ghost use Rattle.std.specs.Prelude.{◌≡◌, IfOk};
 ghost use Rattle.predicates_core.specs.Change.{IsFoundChange};
@@ -9,7 +9,7 @@ ghost use Rattle.predicates_core.specs.Combined.{IsNamed, IsNot, IsPair};
 ghost use Rattle.predicates_core.specs.Formula.{Formula, IsLeaf};
 ghost use Rattle.predicates_core.specs.Turning.{IsRightChange};
 
-use crate::custom::join::{Operator, is_other, kept_if, shown_verdict};
+use crate::custom::join::{Join, Operator, is_other, kept_if, shown_verdict};
 use crate::custom::named::named_node;
 use crate::custom::not::opposite_of;
 use crate::node::{binary_node_of, printed, unary_node};
@@ -132,33 +132,33 @@ fn right_change<P: PredicateChange<Item>, Item>(
 /// ```
 /// let (low, high) = (predicate::ge(5), predicate::le(10));
 /// let text = "between".to_owned(alloc)?;
-/// let found = join_change(alloc, Operator::And, &text, &low, &high, None, &7)?;
+/// let join = Join { whole: &text, operator: Operator::And, left: &low, right: &high };
+/// let found = join_change(alloc, join, None, &7)?;
 /// let lines = "between = true\n  left: var >= 5 = true\n    - var: 7\n";
 /// assert!(rt; render(alloc, &found.ok_or("no change")?)?.as_str() == lines);
 /// ```
 pub fn join_change<W: fmt::Display, P: PredicateChange<Item>, Q: PredicateChange<Item>, Item>(
     alloc: Global,
-    operator: Operator,
-    whole: &W,
-    left_part: &P,
-    right_part: &Q,
+    join: Join<'_, W, P, Q>,
     wanted: Option<bool>,
     item: &Item,
 ) -> Result<Option<Case>, AllocError>
-    requires left { P.lawful left_part.now }
-    requires right { Q.lawful right_part.now }
-    ensures { IfOk result (IsFoundChange (IsPair operator (W.output whole.now)
-        (P.formula left_part.now item.now) (Q.formula right_part.now item.now)) wanted) }
+    requires left { P.lawful join.left.now }
+    requires right { Q.lawful join.right.now }
+    ensures { IfOk result (IsFoundChange (IsPair join.entry.operator (W.output join.entry.whole.now)
+        (P.formula join.entry.left.now item.now) (Q.formula join.entry.right.now item.now))
+        wanted) }
 {
+    let operator = join.operator;
     let left_wanted = operator.left_wanted(wanted);
-    let left = left_part.find_change(alloc, left_wanted, item)?;
+    let left = join.left.find_change(alloc, left_wanted, item)?;
     let left_holds = shown_verdict(left_wanted, &left);
-    let right = right_change(alloc, operator, right_part, item)?;
+    let right = right_change(alloc, operator, join.right, item)?;
     let holds = operator.apply(left_holds, right.holds);
     if is_other(wanted, holds) {
         return Ok(None);
     }
     let kept = kept_if(operator.keeps(left_holds, right.holds), left);
-    let text = printed(alloc, whole)?;
+    let text = printed(alloc, join.whole)?;
     Ok(Some(binary_node_of(alloc, text, holds, kept, right.change)?))
 }

@@ -1,5 +1,6 @@
 //! The verdict and the case of two parts that an operator joins.
 ghost use Rattle.std.specs.Prelude.{◌≡◌, ℕ, List, Option, None, if◌then◌else◌, IfOk, IsOk};
+ghost use Rattle.std.specs.Prelude.{⊤};
 ghost use Rattle.predicates_core.specs.Asked.{asks, keeps, left_wanted, right_wanted, IsFoundIf};
 ghost use Rattle.predicates_core.specs.Asked.{shown_verdict, is_other};
 ghost use Rattle.predicates_core.specs.Combined.{sign, IsPair};
@@ -96,6 +97,31 @@ impl Operator {
     }
 }
 
+/// A whole that an operator joins of two parts.
+#[derive(Drop)]
+pub struct Join<'a, W, P, Q> {
+    /// What prints the whole.
+    pub whole: &'a W,
+    /// How the truths of the parts make that of the whole.
+    pub operator: Operator,
+    /// The part that is evaluated first.
+    pub left: &'a P,
+    /// The other part.
+    pub right: &'a Q,
+}
+
+impl<'a, W, P, Q> Copy for Join<'a, W, P, Q> {}
+
+impl<'a, W, P, Q> Clone for Join<'a, W, P, Q> {
+    ghost is_clone = { λ x y. y ≡ x };
+
+    ghost is_infallible = { λ _. ⊤ };
+
+    fn clone(&self) -> Result<Self, AllocError> {
+        Ok(*self)
+    }
+}
+
 // What is found of the part if it is `asked`.
 fn explain_if<P: Predicate<Item>, Item>(
     alloc: Global,
@@ -167,29 +193,27 @@ pub fn join_truth<P: Predicate<Item>, Q: Predicate<Item>, Item>(
 /// ```
 /// let (low, high) = (predicate::ge(5), predicate::le(10));
 /// let text = "between".to_owned(alloc)?;
-/// let found = join_case(alloc, Operator::And, &text, &low, &high, false, &11)?;
+/// let join = Join { whole: &text, operator: Operator::And, left: &low, right: &high };
+/// let found = join_case(alloc, join, false, &11)?;
 /// let lines = "between = false\n  right: var <= 10 = false\n    - var: 11\n";
 /// assert!(rt; render(alloc, &found.ok_or("no case")?)?.as_str() == lines);
 /// ```
 pub fn join_case<W: fmt::Display, P: Predicate<Item>, Q: Predicate<Item>, Item>(
     alloc: Global,
-    operator: Operator,
-    whole: &W,
-    left_part: &P,
-    right_part: &Q,
+    join: Join<'_, W, P, Q>,
     expected: bool,
     item: &Item,
 ) -> Result<Option<Case>, AllocError>
-    requires left { P.lawful left_part.now }
-    requires right { Q.lawful right_part.now }
-    ensures { IfOk result (IsAnswer (IsPair operator (W.output whole.now)
-        (P.formula left_part.now item.now) (Q.formula right_part.now item.now)) expected) }
+    requires left { P.lawful join.left.now }
+    requires right { Q.lawful join.right.now }
+    ensures { IfOk result (IsAnswer (IsPair join.entry.operator (W.output join.entry.whole.now)
+        (P.formula join.entry.left.now item.now) (Q.formula join.entry.right.now item.now))
+        expected) }
 {
-    if join_truth(alloc, operator, left_part, right_part, item)? != expected {
+    if join_truth(alloc, join.operator, join.left, join.right, item)? != expected {
         return Ok(None);
     }
-    let wanted = Some(expected);
-    join_explained(alloc, operator, whole, left_part, right_part, wanted, item)
+    join_explained(alloc, join, Some(expected), item)
 }
 
 /// The `explain` of such a predicate. It asks its parts for their cases, the left one first, and
@@ -198,36 +222,36 @@ pub fn join_case<W: fmt::Display, P: Predicate<Item>, Q: Predicate<Item>, Item>(
 /// ```
 /// let (low, high) = (predicate::ge(5), predicate::le(10));
 /// let text = "between".to_owned(alloc)?;
-/// let found = join_explained(alloc, Operator::And, &text, &low, &high, None, &7)?;
+/// let join = Join { whole: &text, operator: Operator::And, left: &low, right: &high };
+/// let found = join_explained(alloc, join, None, &7)?;
 /// assert!(rt; found.ok_or("no case")?.root().result());
 /// ```
 pub fn join_explained<W: fmt::Display, P: Predicate<Item>, Q: Predicate<Item>, Item>(
     alloc: Global,
-    operator: Operator,
-    whole: &W,
-    left_part: &P,
-    right_part: &Q,
+    join: Join<'_, W, P, Q>,
     wanted: Option<bool>,
     item: &Item,
 ) -> Result<Option<Case>, AllocError>
-    requires left { P.lawful left_part.now }
-    requires right { Q.lawful right_part.now }
-    ensures { IfOk result (IsFound (IsPair operator (W.output whole.now)
-        (P.formula left_part.now item.now) (Q.formula right_part.now item.now)) wanted) }
+    requires left { P.lawful join.left.now }
+    requires right { Q.lawful join.right.now }
+    ensures { IfOk result (IsFound (IsPair join.entry.operator (W.output join.entry.whole.now)
+        (P.formula join.entry.left.now item.now) (Q.formula join.entry.right.now item.now))
+        wanted) }
 {
+    let operator = join.operator;
     let left_wanted = operator.left_wanted(wanted);
-    let left = left_part.explain(alloc, left_wanted, item)?;
+    let left = join.left.explain(alloc, left_wanted, item)?;
     let left_holds = shown_verdict(left_wanted, &left);
     let asks = operator.asks(left_holds);
     let right_wanted = operator.right_wanted(wanted, left_holds);
-    let right = explain_if(alloc, asks, right_part, right_wanted, item)?;
+    let right = explain_if(alloc, asks, join.right, right_wanted, item)?;
     let right_holds = shown_verdict(right_wanted, &right);
     let holds = operator.apply(left_holds, right_holds);
     if is_other(wanted, holds) {
         return Ok(None);
     }
     let kept = kept_if(operator.keeps(left_holds, right_holds), left);
-    let text = printed(alloc, whole)?;
+    let text = printed(alloc, join.whole)?;
     Ok(Some(binary_node_of(alloc, text, holds, kept, right)?))
 }
 

@@ -10,7 +10,7 @@ ghost use Rattle.predicates_core.specs.Several.{IsOfMembers};
 ghost use Rattle.predicates_core.specs.Turning.{IsFirstAlone, IsNextNode};
 
 use crate::custom::ask::AskChange;
-use crate::custom::several::{deciding_case, no_member, with_index};
+use crate::custom::several::{Deciding, deciding_case, no_member, with_index};
 use crate::node::{printed, unary_node};
 use crate::reflection::Case;
 use std::alloc::{AllocError, Global};
@@ -19,55 +19,47 @@ use std::fmt;
 // The `find_change` of a predicate of a list that one member with the verdict `decides` decides.
 pub(super) fn several_change<W: fmt::Display, A: AskChange<Common, Member>, Common, Member>(
     alloc: Global,
-    whole: &W,
+    list: Deciding<'_, W>,
     common: &Common,
-    name: &'static str,
-    decides: bool,
     wanted: Option<bool>,
     members: &[Member],
 ) -> Result<Option<Case>, AllocError>
     requires { AllByRecursion (A.lawful_of common.now) members.now }
-    ensures { IfOk result (IsFoundChange (IsOfMembers decides (W.output whole.now) name.entry.now
+    ensures { IfOk result (IsFoundChange (IsOfMembers list.entry.decides
+        (W.output list.entry.whole.now) list.entry.name.now
         (A.formula_of common.now) members.now) wanted) }
 {
     match wanted {
         Some(expected) => {
-            if expected == decides {
-                deciding_members::<W, A, Common, Member>(
-                    alloc, whole, common, name, decides, members,
-                )
+            if expected == list.decides {
+                deciding_members::<W, A, Common, Member>(alloc, list, common, members)
             } else {
-                passing_members::<W, A, Common, Member>(
-                    alloc, whole, common, name, decides, members,
-                )
+                passing_members::<W, A, Common, Member>(alloc, list, common, members)
             }
         }
-        None => whichever_members::<W, A, Common, Member>(
-            alloc, whole, common, name, decides, members,
-        ),
+        None => whichever_members::<W, A, Common, Member>(alloc, list, common, members),
     }
 }
 
 // What would turn all the members that decide, where one does.
 fn deciding_members<W: fmt::Display, A: AskChange<Common, Member>, Common, Member>(
     alloc: Global,
-    whole: &W,
+    list: Deciding<'_, W>,
     common: &Common,
-    name: &'static str,
-    decides: bool,
     members: &[Member],
 ) -> Result<Option<Case>, AllocError>
     requires { AllByRecursion (A.lawful_of common.now) members.now }
-    ensures { IfOk result (IsFoundChange (IsOfMembers decides (W.output whole.now) name.entry.now
-        (A.formula_of common.now) members.now) (Some decides)) }
+    ensures { IfOk result (IsFoundChange (IsOfMembers list.entry.decides
+        (W.output list.entry.whole.now) list.entry.name.now
+        (A.formula_of common.now) members.now) (Some list.entry.decides)) }
 {
     let mut found: Option<Case> = None;
     for (index, member) in members.iter().enumerate() {
-        let Some(case) = A::find_change(alloc, common, Some(decides), member)? else {
+        let Some(case) = A::find_change(alloc, common, Some(list.decides), member)? else {
             continue;
         };
         let told = with_index(alloc, index, case)?;
-        found = Some(next_change(alloc, whole, name, decides, index, found, told)?);
+        found = Some(next_change(alloc, list, index, found, told)?);
     }
     Ok(found)
 }
@@ -75,64 +67,62 @@ fn deciding_members<W: fmt::Display, A: AskChange<Common, Member>, Common, Membe
 // What would turn the first member, where none decides.
 fn passing_members<W: fmt::Display, A: AskChange<Common, Member>, Common, Member>(
     alloc: Global,
-    whole: &W,
+    list: Deciding<'_, W>,
     common: &Common,
-    name: &'static str,
-    decides: bool,
     members: &[Member],
 ) -> Result<Option<Case>, AllocError>
     requires { AllByRecursion (A.lawful_of common.now) members.now }
-    ensures { IfOk result (IsFoundChange (IsOfMembers decides (W.output whole.now) name.entry.now
-        (A.formula_of common.now) members.now) (Some (not decides))) }
+    ensures { IfOk result (IsFoundChange (IsOfMembers list.entry.decides
+        (W.output list.entry.whole.now) list.entry.name.now
+        (A.formula_of common.now) members.now) (Some (not list.entry.decides))) }
 {
     let Some((first, rest)) = members.split_first() else {
-        return Ok(Some(no_member(alloc, whole, !decides)?));
+        return Ok(Some(no_member(alloc, list.whole, !list.decides)?));
     };
-    let Some(case) = A::find_change(alloc, common, Some(!decides), first)? else {
+    let Some(case) = A::find_change(alloc, common, Some(!list.decides), first)? else {
         return Ok(None);
     };
     for member in rest {
-        if A::eval(alloc, common, member)? == decides {
+        if A::eval(alloc, common, member)? == list.decides {
             return Ok(None);
         }
     }
-    first_alone(alloc, whole, name, decides, Some(case))
+    first_alone(alloc, list, Some(case))
 }
 
 // What would turn the whole, whichever its verdict. The first member is asked for its change, and each
 // other only for that of a member that decides.
 fn whichever_members<W: fmt::Display, A: AskChange<Common, Member>, Common, Member>(
     alloc: Global,
-    whole: &W,
+    list: Deciding<'_, W>,
     common: &Common,
-    name: &'static str,
-    decides: bool,
     members: &[Member],
 ) -> Result<Option<Case>, AllocError>
     requires { AllByRecursion (A.lawful_of common.now) members.now }
-    ensures { IfOk result (IsFoundChange (IsOfMembers decides (W.output whole.now) name.entry.now
+    ensures { IfOk result (IsFoundChange (IsOfMembers list.entry.decides
+        (W.output list.entry.whole.now) list.entry.name.now
         (A.formula_of common.now) members.now) None) }
 {
     if members.is_empty() {
-        return Ok(Some(no_member(alloc, whole, !decides)?));
+        return Ok(Some(no_member(alloc, list.whole, !list.decides)?));
     }
     let mut found: Option<Case> = None;
     let mut first: Option<Case> = None;
     for (index, member) in members.iter().enumerate() {
-        let asked = asked_at(index, decides);
+        let asked = asked_at(index, list.decides);
         let Some(case) = A::find_change(alloc, common, asked, member)? else {
             continue;
         };
-        if is_first_passed(index, decides, &case) {
+        if is_first_passed(index, list.decides, &case) {
             first = Some(case);
             continue;
         }
         let told = with_index(alloc, index, case)?;
-        found = Some(next_change(alloc, whole, name, decides, index, found, told)?);
+        found = Some(next_change(alloc, list, index, found, told)?);
     }
     match found {
         Some(node) => Ok(Some(node)),
-        None => first_alone(alloc, whole, name, decides, first),
+        None => first_alone(alloc, list, first),
     }
 }
 
@@ -140,19 +130,17 @@ fn whichever_members<W: fmt::Display, A: AskChange<Common, Member>, Common, Memb
 /// this one. It takes memory for the node, and for the first its text and its number.
 pub fn next_change<W: fmt::Display>(
     alloc: Global,
-    whole: &W,
-    name: &'static str,
-    decides: bool,
+    list: Deciding<'_, W>,
     index: usize,
     found: Option<Case>,
     case: Case,
 ) -> Result<Case, AllocError>
-    ensures { IfOk result
-        (IsNextNode decides (W.output whole.now) name.entry.now index found case) }
+    ensures { IfOk result (IsNextNode list.entry.decides (W.output list.entry.whole.now)
+        list.entry.name.now index found case) }
 {
     match found {
-        Some(node) => node.add_child(name, case),
-        None => deciding_case(alloc, whole, name, decides, index, case),
+        Some(node) => node.add_child(list.name, case),
+        None => deciding_case(alloc, list, index, case),
     }
 }
 
@@ -178,17 +166,16 @@ pub fn is_first_passed(index: usize, decides: bool, case: &Case) -> bool
 /// memory for the node, its text and the number.
 pub fn first_alone<W: fmt::Display>(
     alloc: Global,
-    whole: &W,
-    name: &'static str,
-    decides: bool,
+    list: Deciding<'_, W>,
     first: Option<Case>,
 ) -> Result<Option<Case>, AllocError>
-    ensures { IfOk result (IsFirstAlone decides (W.output whole.now) name.entry.now first) }
+    ensures { IfOk result (IsFirstAlone list.entry.decides (W.output list.entry.whole.now)
+        list.entry.name.now first) }
 {
     let Some(case) = first else {
         return Ok(None);
     };
     let told = with_index(alloc, 0, case)?;
-    let text = printed(alloc, whole)?;
-    Ok(Some(unary_node(alloc, text, !decides, name, told)?))
+    let text = printed(alloc, list.whole)?;
+    Ok(Some(unary_node(alloc, text, !list.decides, list.name, told)?))
 }

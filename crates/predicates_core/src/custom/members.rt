@@ -10,8 +10,8 @@ ghost use Rattle.predicates_core.specs.Thresholds.{IsOfThreshold};
 
 use crate::custom::ask::ByPredicate;
 use crate::custom::list_changes::several_change;
-use crate::custom::several::{several_case, several_explained, several_hold};
-use crate::custom::threshold::{counted_case, counted_explained, counted_hold};
+use crate::custom::several::{Deciding, several_case, several_explained, several_hold};
+use crate::custom::threshold::{Counting, counted_case, counted_explained, counted_hold};
 use crate::custom::threshold_changes::counted_change;
 use crate::reflection::Case;
 use crate::{Predicate, PredicateChange};
@@ -44,52 +44,49 @@ pub fn members_hold<P: Predicate<Item>, Item>(
 /// that of the first member that decides, with its number as the product `index`.
 pub fn members_case<W: fmt::Display, P: Predicate<Item>, Item>(
     alloc: Global,
-    whole: &W,
+    list: Deciding<'_, W>,
     part: &P,
-    name: &'static str,
-    decides: bool,
     expected: bool,
     members: &[Item],
 ) -> Result<Option<Case>, AllocError>
     requires { P.lawful part.now }
-    ensures { IfOk result (IsAnswer (IsOfMembers decides (W.output whole.now) name.entry.now
+    ensures { IfOk result (IsAnswer (IsOfMembers list.entry.decides
+        (W.output list.entry.whole.now) list.entry.name.now
         (P.formula part.now) members.now) expected) }
 {
-    several_case::<W, ByPredicate, P, Item>(alloc, whole, part, name, decides, expected, members)
+    several_case::<W, ByPredicate, P, Item>(alloc, list, part, expected, members)
 }
 
 /// The `explain` of such a predicate.
 pub fn members_explained<W: fmt::Display, P: Predicate<Item>, Item>(
     alloc: Global,
-    whole: &W,
+    list: Deciding<'_, W>,
     part: &P,
-    name: &'static str,
-    decides: bool,
     wanted: Option<bool>,
     members: &[Item],
 ) -> Result<Option<Case>, AllocError>
     requires { P.lawful part.now }
-    ensures { IfOk result (IsFound (IsOfMembers decides (W.output whole.now) name.entry.now
+    ensures { IfOk result (IsFound (IsOfMembers list.entry.decides
+        (W.output list.entry.whole.now) list.entry.name.now
         (P.formula part.now) members.now) wanted) }
 {
-    several_explained::<W, ByPredicate, P, Item>(alloc, whole, part, name, decides, wanted, members)
+    several_explained::<W, ByPredicate, P, Item>(alloc, list, part, wanted, members)
 }
 
 /// The `find_change` of a predicate of a list that one member with the verdict `decides` decides.
 pub fn members_change<W: fmt::Display, P: PredicateChange<Item>, Item>(
     alloc: Global,
-    whole: &W,
+    list: Deciding<'_, W>,
     part: &P,
-    name: &'static str,
-    decides: bool,
     wanted: Option<bool>,
     members: &[Item],
 ) -> Result<Option<Case>, AllocError>
     requires { P.lawful part.now }
-    ensures { IfOk result (IsFoundChange (IsOfMembers decides (W.output whole.now) name.entry.now
+    ensures { IfOk result (IsFoundChange (IsOfMembers list.entry.decides
+        (W.output list.entry.whole.now) list.entry.name.now
         (P.formula part.now) members.now) wanted) }
 {
-    several_change::<W, ByPredicate, P, Item>(alloc, whole, part, name, decides, wanted, members)
+    several_change::<W, ByPredicate, P, Item>(alloc, list, part, wanted, members)
 }
 
 /// The `eval` of a predicate that holds where at least so many of its members do. It stops at the
@@ -117,52 +114,49 @@ pub fn members_threshold_holds<P: Predicate<Item>, Item>(
 /// under the name.
 pub fn members_threshold_case<W: fmt::Display, P: Predicate<Item>, Item>(
     alloc: Global,
-    whole: &W,
-    least: usize,
+    list: Counting<'_, W>,
     part: &P,
-    members: &[Item],
-    name: &'static str,
     expected: bool,
+    members: &[Item],
 ) -> Result<Option<Case>, AllocError>
     requires { P.lawful part.now }
-    ensures { IfOk result (IsAnswer (IsOfThreshold least (W.output whole.now) name.entry.now
+    ensures { IfOk result (IsAnswer (IsOfThreshold list.entry.least
+        (W.output list.entry.whole.now) list.entry.name.now
         (P.formula part.now) members.now) expected) }
 {
-    counted_case::<W, ByPredicate, P, Item>(alloc, whole, least, part, members, name, expected)
+    counted_case::<W, ByPredicate, P, Item>(alloc, list, part, expected, members)
 }
 
 /// The `explain` of such a predicate.
 pub fn members_threshold_explained<W: fmt::Display, P: Predicate<Item>, Item>(
     alloc: Global,
-    whole: &W,
-    least: usize,
+    list: Counting<'_, W>,
     part: &P,
-    members: &[Item],
-    name: &'static str,
     wanted: Option<bool>,
+    members: &[Item],
 ) -> Result<Option<Case>, AllocError>
     requires { P.lawful part.now }
-    ensures { IfOk result (IsFound (IsOfThreshold least (W.output whole.now) name.entry.now
+    ensures { IfOk result (IsFound (IsOfThreshold list.entry.least
+        (W.output list.entry.whole.now) list.entry.name.now
         (P.formula part.now) members.now) wanted) }
 {
-    counted_explained::<W, ByPredicate, P, Item>(alloc, whole, least, part, members, name, wanted)
+    counted_explained::<W, ByPredicate, P, Item>(alloc, list, part, wanted, members)
 }
 
-/// The `find_change` of such a predicate. Of the members with the whole's verdict, as many as turn it
-/// are shown, the first ones; each member is asked once, and memory is taken for the changes of all
-/// members with that verdict.
+/// The `find_change` of such a predicate. Of the members with the whole's verdict, as many as turn
+/// it are shown, the first ones. Where their number alone decides, no member is asked; otherwise each
+/// is asked once, and memory is taken for every change that is found.
 pub fn members_threshold_change<W: fmt::Display, P: PredicateChange<Item>, Item>(
     alloc: Global,
-    whole: &W,
-    least: usize,
+    list: Counting<'_, W>,
     part: &P,
-    members: &[Item],
-    name: &'static str,
     wanted: Option<bool>,
+    members: &[Item],
 ) -> Result<Option<Case>, AllocError>
     requires { P.lawful part.now }
-    ensures { IfOk result (IsFoundChange (IsOfThreshold least (W.output whole.now) name.entry.now
+    ensures { IfOk result (IsFoundChange (IsOfThreshold list.entry.least
+        (W.output list.entry.whole.now) list.entry.name.now
         (P.formula part.now) members.now) wanted) }
 {
-    counted_change::<W, ByPredicate, P, Item>(alloc, whole, least, part, members, name, wanted)
+    counted_change::<W, ByPredicate, P, Item>(alloc, list, part, wanted, members)
 }

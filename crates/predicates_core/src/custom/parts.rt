@@ -12,8 +12,8 @@ ghost use Rattle.predicates_core.specs.Tree.{forest};
 
 use crate::custom::ask::OfItem;
 use crate::custom::list_changes::several_change;
-use crate::custom::several::{several_case, several_explained, several_hold};
-use crate::custom::threshold::{counted_case, counted_explained, counted_hold};
+use crate::custom::several::{Deciding, several_case, several_explained, several_hold};
+use crate::custom::threshold::{Counting, counted_case, counted_explained, counted_hold};
 use crate::custom::threshold_changes::counted_change;
 use crate::reflection::{Case, Child, PredicateReflection, describe};
 use crate::{Predicate, PredicateChange};
@@ -46,52 +46,49 @@ pub fn parts_hold<P: Predicate<Item>, Item>(
 /// of the first part that decides, with its number as the product `index`.
 pub fn parts_case<W: fmt::Display, P: Predicate<Item>, Item>(
     alloc: Global,
-    whole: &W,
+    list: Deciding<'_, W>,
     parts: &[P],
-    name: &'static str,
-    decides: bool,
     expected: bool,
     item: &Item,
 ) -> Result<Option<Case>, AllocError>
     requires { AllByRecursion P.lawful parts.now }
-    ensures { IfOk result (IsAnswer (IsOfMembers decides (W.output whole.now) name.entry.now
+    ensures { IfOk result (IsAnswer (IsOfMembers list.entry.decides
+        (W.output list.entry.whole.now) list.entry.name.now
         (λ p. P.formula p item.now) parts.now) expected) }
 {
-    several_case::<W, OfItem, Item, P>(alloc, whole, item, name, decides, expected, parts)
+    several_case::<W, OfItem, Item, P>(alloc, list, item, expected, parts)
 }
 
 /// The `explain` of such a predicate.
 pub fn parts_explained<W: fmt::Display, P: Predicate<Item>, Item>(
     alloc: Global,
-    whole: &W,
+    list: Deciding<'_, W>,
     parts: &[P],
-    name: &'static str,
-    decides: bool,
     wanted: Option<bool>,
     item: &Item,
 ) -> Result<Option<Case>, AllocError>
     requires { AllByRecursion P.lawful parts.now }
-    ensures { IfOk result (IsFound (IsOfMembers decides (W.output whole.now) name.entry.now
+    ensures { IfOk result (IsFound (IsOfMembers list.entry.decides
+        (W.output list.entry.whole.now) list.entry.name.now
         (λ p. P.formula p item.now) parts.now) wanted) }
 {
-    several_explained::<W, OfItem, Item, P>(alloc, whole, item, name, decides, wanted, parts)
+    several_explained::<W, OfItem, Item, P>(alloc, list, item, wanted, parts)
 }
 
 /// The `find_change` of a predicate that one part with the verdict `decides` decides.
 pub fn parts_change<W: fmt::Display, P: PredicateChange<Item>, Item>(
     alloc: Global,
-    whole: &W,
+    list: Deciding<'_, W>,
     parts: &[P],
-    name: &'static str,
-    decides: bool,
     wanted: Option<bool>,
     item: &Item,
 ) -> Result<Option<Case>, AllocError>
     requires { AllByRecursion P.lawful parts.now }
-    ensures { IfOk result (IsFoundChange (IsOfMembers decides (W.output whole.now) name.entry.now
+    ensures { IfOk result (IsFoundChange (IsOfMembers list.entry.decides
+        (W.output list.entry.whole.now) list.entry.name.now
         (λ p. P.formula p item.now) parts.now) wanted) }
 {
-    several_change::<W, OfItem, Item, P>(alloc, whole, item, name, decides, wanted, parts)
+    several_change::<W, OfItem, Item, P>(alloc, list, item, wanted, parts)
 }
 
 /// The `eval` of a predicate that holds where at least so many of its parts do. It stops at the
@@ -119,54 +116,51 @@ pub fn threshold_holds<P: Predicate<Item>, Item>(
 /// under the name.
 pub fn threshold_case<W: fmt::Display, P: Predicate<Item>, Item>(
     alloc: Global,
-    whole: &W,
-    least: usize,
+    list: Counting<'_, W>,
     parts: &[P],
-    name: &'static str,
     expected: bool,
     item: &Item,
 ) -> Result<Option<Case>, AllocError>
     requires { AllByRecursion P.lawful parts.now }
-    ensures { IfOk result (IsAnswer (IsOfThreshold least (W.output whole.now) name.entry.now
+    ensures { IfOk result (IsAnswer (IsOfThreshold list.entry.least
+        (W.output list.entry.whole.now) list.entry.name.now
         (λ p. P.formula p item.now) parts.now) expected) }
 {
-    counted_case::<W, OfItem, Item, P>(alloc, whole, least, item, parts, name, expected)
+    counted_case::<W, OfItem, Item, P>(alloc, list, item, expected, parts)
 }
 
 /// The `explain` of such a predicate.
 pub fn threshold_explained<W: fmt::Display, P: Predicate<Item>, Item>(
     alloc: Global,
-    whole: &W,
-    least: usize,
+    list: Counting<'_, W>,
     parts: &[P],
-    name: &'static str,
     wanted: Option<bool>,
     item: &Item,
 ) -> Result<Option<Case>, AllocError>
     requires { AllByRecursion P.lawful parts.now }
-    ensures { IfOk result (IsFound (IsOfThreshold least (W.output whole.now) name.entry.now
+    ensures { IfOk result (IsFound (IsOfThreshold list.entry.least
+        (W.output list.entry.whole.now) list.entry.name.now
         (λ p. P.formula p item.now) parts.now) wanted) }
 {
-    counted_explained::<W, OfItem, Item, P>(alloc, whole, least, item, parts, name, wanted)
+    counted_explained::<W, OfItem, Item, P>(alloc, list, item, wanted, parts)
 }
 
 /// The `find_change` of such a predicate. Of the parts with the whole's verdict, as many as turn it
-/// are shown, the first ones; each part is asked once, and memory is taken for the changes of all
-/// parts with that verdict.
+/// are shown, the first ones. Where the number alone decides, no part is asked; otherwise each is
+/// asked once, and memory is taken for every change that is found.
 pub fn threshold_change<W: fmt::Display, P: PredicateChange<Item>, Item>(
     alloc: Global,
-    whole: &W,
-    least: usize,
+    list: Counting<'_, W>,
     parts: &[P],
-    name: &'static str,
     wanted: Option<bool>,
     item: &Item,
 ) -> Result<Option<Case>, AllocError>
     requires { AllByRecursion P.lawful parts.now }
-    ensures { IfOk result (IsFoundChange (IsOfThreshold least (W.output whole.now) name.entry.now
+    ensures { IfOk result (IsFoundChange (IsOfThreshold list.entry.least
+        (W.output list.entry.whole.now) list.entry.name.now
         (λ p. P.formula p item.now) parts.now) wanted) }
 {
-    counted_change::<W, OfItem, Item, P>(alloc, whole, least, item, parts, name, wanted)
+    counted_change::<W, OfItem, Item, P>(alloc, list, item, wanted, parts)
 }
 
 /// The descriptions of several parts under one name, for `children`.

@@ -2,7 +2,8 @@
 //! decides.
 ghost use Rattle.std.specs.Fmt.{decimal};
 ghost use Rattle.std.specs.List.{AllByRecursion};
-ghost use Rattle.std.specs.Prelude.{◌≡◌, ◌≢◌, ℕ, [], List, Some, true, false, not, codes, IfOk, IsOk};
+ghost use Rattle.std.specs.Prelude.{◌≡◌, ◌≢◌, ℕ, [], List, Some, true, false, not, codes};
+ghost use Rattle.std.specs.Prelude.{IfOk, IsOk, ⊤};
 ghost use Rattle.predicates_core.specs.Formula.{HasTruth};
 ghost use Rattle.predicates_core.specs.Label.{Entry};
 ghost use Rattle.predicates_core.specs.Leaves.{IsExactly, IsShowing};
@@ -14,6 +15,29 @@ use crate::node::{leaf_node, printed, showing, showing_text, unary_node};
 use crate::reflection::Case;
 use std::alloc::{AllocError, Global};
 use std::fmt;
+
+/// A whole of which one member with the verdict `decides` decides.
+#[derive(Drop)]
+pub struct Deciding<'a, W> {
+    /// What prints the whole.
+    pub whole: &'a W,
+    /// The name that the members have in a case.
+    pub name: &'static str,
+    /// The verdict of a member that decides.
+    pub decides: bool,
+}
+
+impl<'a, W> Copy for Deciding<'a, W> {}
+
+impl<'a, W> Clone for Deciding<'a, W> {
+    ghost is_clone = { λ x y. y ≡ x };
+
+    ghost is_infallible = { λ _. ⊤ };
+
+    fn clone(&self) -> Result<Self, AllocError> {
+        Ok(*self)
+    }
+}
 
 // The `eval` of a predicate of a list that one member with the verdict `decides` decides. It stops
 // at the first such member.
@@ -40,68 +64,63 @@ pub(super) fn several_hold<A: Ask<Common, Member>, Common, Member>(
 // that of the first member that decides, with its number as the product `index`.
 pub(super) fn several_case<W: fmt::Display, A: Ask<Common, Member>, Common, Member>(
     alloc: Global,
-    whole: &W,
+    list: Deciding<'_, W>,
     common: &Common,
-    name: &'static str,
-    decides: bool,
     expected: bool,
     members: &[Member],
 ) -> Result<Option<Case>, AllocError>
     requires { AllByRecursion (A.lawful_of common.now) members.now }
-    ensures { IfOk result (IsAnswer (IsOfMembers decides (W.output whole.now) name.entry.now
+    ensures { IfOk result (IsAnswer (IsOfMembers list.entry.decides
+        (W.output list.entry.whole.now) list.entry.name.now
         (A.formula_of common.now) members.now) expected) }
 {
-    if expected == decides {
-        return first_member::<W, A, Common, Member>(
-            alloc, whole, common, name, decides, true, members,
-        );
+    if expected == list.decides {
+        let asking = Asking::EvaluateFirst;
+        return first_member::<W, A, Common, Member>(alloc, list, common, asking, members);
     }
     if members.is_empty() {
-        return Ok(Some(no_member(alloc, whole, expected)?));
+        return Ok(Some(no_member(alloc, list.whole, expected)?));
     }
-    if several_hold::<A, Common, Member>(alloc, common, decides, members)? == decides {
+    if several_hold::<A, Common, Member>(alloc, common, list.decides, members)? == list.decides {
         return Ok(None);
     }
-    every_member::<W, A, Common, Member>(
-        alloc,
-        whole,
-        common,
-        name,
-        decides,
-        Some(expected),
-        members,
-    )
+    every_member::<W, A, Common, Member>(alloc, list, common, Some(expected), members)
 }
 
 // The `explain` of such a predicate.
 pub(super) fn several_explained<W: fmt::Display, A: Ask<Common, Member>, Common, Member>(
     alloc: Global,
-    whole: &W,
+    list: Deciding<'_, W>,
     common: &Common,
-    name: &'static str,
-    decides: bool,
     wanted: Option<bool>,
     members: &[Member],
 ) -> Result<Option<Case>, AllocError>
     requires { AllByRecursion (A.lawful_of common.now) members.now }
-    ensures { IfOk result (IsFound (IsOfMembers decides (W.output whole.now) name.entry.now
+    ensures { IfOk result (IsFound (IsOfMembers list.entry.decides
+        (W.output list.entry.whole.now) list.entry.name.now
         (A.formula_of common.now) members.now) wanted) }
 {
-    if is_wanted(wanted, decides) {
-        return first_member::<W, A, Common, Member>(
-            alloc, whole, common, name, decides, false, members,
-        );
+    if is_wanted(wanted, list.decides) {
+        let asking = Asking::ExplainAtOnce;
+        return first_member::<W, A, Common, Member>(alloc, list, common, asking, members);
     }
     if members.is_empty() {
-        return Ok(Some(no_member(alloc, whole, !decides)?));
+        return Ok(Some(no_member(alloc, list.whole, !list.decides)?));
     }
-    every_member::<W, A, Common, Member>(alloc, whole, common, name, decides, wanted, members)
+    every_member::<W, A, Common, Member>(alloc, list, common, wanted, members)
 }
 
-// Whether the member is known not to decide. It is evaluated only where that is asked.
-pub(super) fn is_passed<A: Ask<Common, Member>, Common, Member>(
+// Whether a member is evaluated before it is asked for its case.
+#[derive(Clone, Copy)]
+enum Asking {
+    EvaluateFirst,
+    ExplainAtOnce,
+}
+
+// Whether the member is known not to decide.
+fn is_passed<A: Ask<Common, Member>, Common, Member>(
     alloc: Global,
-    asked: bool,
+    asking: Asking,
     common: &Common,
     decides: bool,
     member: &Member,
@@ -110,10 +129,9 @@ pub(super) fn is_passed<A: Ask<Common, Member>, Common, Member>(
     ensures { IfOk result (λ passed. passed ≡ true
         → HasTruth (A.formula_of common.now member.now) (not decides)) }
 {
-    if asked {
-        Ok(A::eval(alloc, common, member)? != decides)
-    } else {
-        Ok(false)
+    match asking {
+        Asking::EvaluateFirst => Ok(A::eval(alloc, common, member)? != decides),
+        Asking::ExplainAtOnce => Ok(false),
     }
 }
 
@@ -147,22 +165,23 @@ pub fn is_deciding(wanted: Option<bool>, decides: bool, case: &Case) -> bool
 ///
 /// ```
 /// let part = leaf_node(alloc, "a".to_owned(alloc)?, false);
-/// let case = deciding_case(alloc, &predicate::ge(5), "rule", false, 2, part)?;
+/// let whole = predicate::ge(5);
+/// let list = Deciding { whole: &whole, name: "rule", decides: false };
+/// let case = deciding_case(alloc, list, 2, part)?;
 /// let lines = "var >= 5 = false\n  - index: 2\n  rule: a = false\n";
 /// assert!(rt; render(alloc, &case)?.as_str() == lines);
 /// ```
 pub fn deciding_case<W: fmt::Display>(
     alloc: Global,
-    whole: &W,
-    name: &'static str,
-    decides: bool,
+    list: Deciding<'_, W>,
     index: usize,
     case: Case,
 ) -> Result<Case, AllocError>
-    ensures { IfOk result (IsDecidedBy decides (W.output whole.now) name.entry.now index case) }
+    ensures { IfOk result (IsDecidedBy list.entry.decides (W.output list.entry.whole.now)
+        list.entry.name.now index case) }
 {
-    let text = printed(alloc, whole)?;
-    let node = unary_node(alloc, text, decides, name, case)?;
+    let text = printed(alloc, list.whole)?;
+    let node = unary_node(alloc, text, list.decides, list.name, case)?;
     Ok(with_index(alloc, index, node)?)
 }
 
@@ -195,29 +214,28 @@ pub fn no_member<W: fmt::Display>(
     Ok(showing_text(alloc, node, "len", "0")?)
 }
 
-// The case of the first member that decides. Where they are to be evaluated first, no other member
-// is asked for its case.
+// The case of the first member that decides. Where each is evaluated first, no other one is asked for
+// its case.
 fn first_member<W: fmt::Display, A: Ask<Common, Member>, Common, Member>(
     alloc: Global,
-    whole: &W,
+    list: Deciding<'_, W>,
     common: &Common,
-    name: &'static str,
-    decides: bool,
-    evaluates: bool,
+    asking: Asking,
     members: &[Member],
 ) -> Result<Option<Case>, AllocError>
     requires { AllByRecursion (A.lawful_of common.now) members.now }
-    ensures { IfOk result (IsAnswer (IsOfMembers decides (W.output whole.now) name.entry.now
-        (A.formula_of common.now) members.now) decides) }
+    ensures { IfOk result (IsAnswer (IsOfMembers list.entry.decides
+        (W.output list.entry.whole.now) list.entry.name.now
+        (A.formula_of common.now) members.now) list.entry.decides) }
 {
     for (index, member) in members.iter().enumerate() {
-        if is_passed::<A, Common, Member>(alloc, evaluates, common, decides, member)? {
+        if is_passed::<A, Common, Member>(alloc, asking, common, list.decides, member)? {
             continue;
         }
-        let Some(case) = A::explain(alloc, common, Some(decides), member)? else {
+        let Some(case) = A::explain(alloc, common, Some(list.decides), member)? else {
             continue;
         };
-        return Ok(Some(deciding_case(alloc, whole, name, decides, index, case)?));
+        return Ok(Some(deciding_case(alloc, list, index, case)?));
     }
     Ok(None)
 }
@@ -225,28 +243,27 @@ fn first_member<W: fmt::Display, A: Ask<Common, Member>, Common, Member>(
 // The case of all members, or of the first that decides, where it is not wanted that none does.
 fn every_member<W: fmt::Display, A: Ask<Common, Member>, Common, Member>(
     alloc: Global,
-    whole: &W,
+    list: Deciding<'_, W>,
     common: &Common,
-    name: &'static str,
-    decides: bool,
     wanted: Option<bool>,
     members: &[Member],
 ) -> Result<Option<Case>, AllocError>
     requires lawful { AllByRecursion (A.lawful_of common.now) members.now }
     requires some { members.now ≢ [] }
-    requires other { wanted ≢ Some decides }
-    ensures { IfOk result (IsFound (IsOfMembers decides (W.output whole.now) name.entry.now
+    requires other { wanted ≢ Some list.decides }
+    ensures { IfOk result (IsFound (IsOfMembers list.entry.decides
+        (W.output list.entry.whole.now) list.entry.name.now
         (A.formula_of common.now) members.now) wanted) }
 {
-    let mut node = leaf_node(alloc, printed(alloc, whole)?, !decides);
+    let mut node = leaf_node(alloc, printed(alloc, list.whole)?, !list.decides);
     for (index, member) in members.iter().enumerate() {
         let Some(case) = A::explain(alloc, common, wanted, member)? else {
             return Ok(None);
         };
-        if is_deciding(wanted, decides, &case) {
-            return Ok(Some(deciding_case(alloc, whole, name, decides, index, case)?));
+        if is_deciding(wanted, list.decides, &case) {
+            return Ok(Some(deciding_case(alloc, list, index, case)?));
         }
-        node = node.add_child(name, case)?;
+        node = node.add_child(list.name, case)?;
     }
     Ok(Some(node))
 }

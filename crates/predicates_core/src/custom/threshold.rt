@@ -1,5 +1,6 @@
 //! Verdicts and cases of a list whose members are each asked, of which at least so many have to hold.
 ghost use Rattle.std.specs.Prelude.{◌≡◌, ◌≤◌, ℕ, List, None, Some, true, false, codes, IfOk, IsOk};
+ghost use Rattle.std.specs.Prelude.{⊤};
 ghost use Rattle.std.specs.Fmt.{decimal};
 ghost use Rattle.std.specs.List.{AllByRecursion};
 ghost use Rattle.predicates_core.specs.Formula.{Leaf, HasTruth};
@@ -15,6 +16,29 @@ use crate::node::{leaf_node, printed, showing};
 use crate::reflection::Case;
 use std::alloc::{AllocError, Global};
 use std::fmt;
+
+/// A whole that holds where at least `least` of its members do.
+#[derive(Drop)]
+pub struct Counting<'a, W> {
+    /// What prints the whole.
+    pub whole: &'a W,
+    /// The name that the members have in a case.
+    pub name: &'static str,
+    /// How many members have to hold.
+    pub least: usize,
+}
+
+impl<'a, W> Copy for Counting<'a, W> {}
+
+impl<'a, W> Clone for Counting<'a, W> {
+    ghost is_clone = { λ x y. y ≡ x };
+
+    ghost is_infallible = { λ _. ⊤ };
+
+    fn clone(&self) -> Result<Self, AllocError> {
+        Ok(*self)
+    }
+}
 
 /// Whether so many of the number hold, or fail to, whatever they answer: none is needed, or more than
 /// there are.
@@ -82,64 +106,61 @@ pub(super) fn counted_hold<A: Ask<Common, Member>, Common, Member>(
 // under the name.
 pub(super) fn counted_case<W: fmt::Display, A: Ask<Common, Member>, Common, Member>(
     alloc: Global,
-    whole: &W,
-    least: usize,
+    list: Counting<'_, W>,
     common: &Common,
-    members: &[Member],
-    name: &'static str,
     expected: bool,
+    members: &[Member],
 ) -> Result<Option<Case>, AllocError>
     requires { AllByRecursion (A.lawful_of common.now) members.now }
-    ensures { IfOk result (IsAnswer (IsOfThreshold least (W.output whole.now) name.entry.now
+    ensures { IfOk result (IsAnswer (IsOfThreshold list.entry.least
+        (W.output list.entry.whole.now) list.entry.name.now
         (A.formula_of common.now) members.now) expected) }
 {
-    if counted_hold::<A, Common, Member>(alloc, least, common, members)? != expected {
+    if counted_hold::<A, Common, Member>(alloc, list.least, common, members)? != expected {
         return Ok(None);
     }
-    counted_wanted::<W, A, Common, Member>(alloc, whole, least, common, members, name, expected)
+    counted_wanted::<W, A, Common, Member>(alloc, list, common, expected, members)
 }
 
 // The `explain` of such a predicate.
 pub(super) fn counted_explained<W: fmt::Display, A: Ask<Common, Member>, Common, Member>(
     alloc: Global,
-    whole: &W,
-    least: usize,
+    list: Counting<'_, W>,
     common: &Common,
-    members: &[Member],
-    name: &'static str,
     wanted: Option<bool>,
+    members: &[Member],
 ) -> Result<Option<Case>, AllocError>
     requires { AllByRecursion (A.lawful_of common.now) members.now }
-    ensures { IfOk result (IsFound (IsOfThreshold least (W.output whole.now) name.entry.now
+    ensures { IfOk result (IsFound (IsOfThreshold list.entry.least
+        (W.output list.entry.whole.now) list.entry.name.now
         (A.formula_of common.now) members.now) wanted) }
 {
     match wanted {
-        Some(expected) => counted_wanted::<W, A, Common, Member>(
-            alloc, whole, least, common, members, name, expected,
-        ),
-        None => counted_either::<W, A, Common, Member>(alloc, whole, least, common, members, name),
+        Some(expected) => {
+            counted_wanted::<W, A, Common, Member>(alloc, list, common, expected, members)
+        }
+        None => counted_either::<W, A, Common, Member>(alloc, list, common, members),
     }
 }
 
 // The case of whichever verdict the whole has. Each member is asked once.
 fn counted_either<W: fmt::Display, A: Ask<Common, Member>, Common, Member>(
     alloc: Global,
-    whole: &W,
-    least: usize,
+    list: Counting<'_, W>,
     common: &Common,
     members: &[Member],
-    name: &'static str,
 ) -> Result<Option<Case>, AllocError>
     requires { AllByRecursion (A.lawful_of common.now) members.now }
-    ensures { IfOk result (IsFound (IsOfThreshold least (W.output whole.now) name.entry.now
+    ensures { IfOk result (IsFound (IsOfThreshold list.entry.least
+        (W.output list.entry.whole.now) list.entry.name.now
         (A.formula_of common.now) members.now) None) }
 {
-    if is_settled(least, members.len()) {
-        return settled_case(alloc, whole, least, members.len(), None);
+    if is_settled(list.least, members.len()) {
+        return settled_case(alloc, list.whole, list.least, members.len(), None);
     }
-    let most = enough_of(false, least, members.len());
-    let mut held_node = leaf_node(alloc, printed(alloc, whole)?, true);
-    let mut failed_node = leaf_node(alloc, printed(alloc, whole)?, false);
+    let most = enough_of(false, list.least, members.len());
+    let mut held_node = leaf_node(alloc, printed(alloc, list.whole)?, true);
+    let mut failed_node = leaf_node(alloc, printed(alloc, list.whole)?, false);
     let mut held = 0usize;
     let mut failed = 0usize;
     for (index, member) in members.iter().enumerate() {
@@ -149,13 +170,13 @@ fn counted_either<W: fmt::Display, A: Ask<Common, Member>, Common, Member>(
         let holds = case.root().result();
         let told = with_index(alloc, index, case)?;
         if holds {
-            held_node = held_node.add_child(name, told)?;
+            held_node = held_node.add_child(list.name, told)?;
             held += 1;
-            if held == least {
+            if held == list.least {
                 return Ok(Some(held_node));
             }
         } else {
-            failed_node = failed_node.add_child(name, told)?;
+            failed_node = failed_node.add_child(list.name, told)?;
             failed += 1;
             if failed == most {
                 return Ok(Some(failed_node));
@@ -168,29 +189,28 @@ fn counted_either<W: fmt::Display, A: Ask<Common, Member>, Common, Member>(
 // The case of a whole that is wanted to have the verdict.
 fn counted_wanted<W: fmt::Display, A: Ask<Common, Member>, Common, Member>(
     alloc: Global,
-    whole: &W,
-    least: usize,
+    list: Counting<'_, W>,
     common: &Common,
-    members: &[Member],
-    name: &'static str,
     decides: bool,
+    members: &[Member],
 ) -> Result<Option<Case>, AllocError>
     requires { AllByRecursion (A.lawful_of common.now) members.now }
-    ensures { IfOk result (IsAnswer (IsOfThreshold least (W.output whole.now) name.entry.now
+    ensures { IfOk result (IsAnswer (IsOfThreshold list.entry.least
+        (W.output list.entry.whole.now) list.entry.name.now
         (A.formula_of common.now) members.now) decides) }
 {
-    if is_settled(least, members.len()) {
-        return settled_case(alloc, whole, least, members.len(), Some(decides));
+    if is_settled(list.least, members.len()) {
+        return settled_case(alloc, list.whole, list.least, members.len(), Some(decides));
     }
-    let enough = enough_of(decides, least, members.len());
-    let mut node = leaf_node(alloc, printed(alloc, whole)?, decides);
+    let enough = enough_of(decides, list.least, members.len());
+    let mut node = leaf_node(alloc, printed(alloc, list.whole)?, decides);
     let mut kept = 0usize;
     for (index, member) in members.iter().enumerate() {
         let Some(case) = A::explain(alloc, common, Some(decides), member)? else {
             continue;
         };
         let told = with_index(alloc, index, case)?;
-        node = node.add_child(name, told)?;
+        node = node.add_child(list.name, told)?;
         kept += 1;
         if kept == enough {
             return Ok(Some(node));

@@ -1,6 +1,6 @@
 //! Custom predicates: a leaf, combinators and an adapter.
 use super::has_lines;
-use predicates::custom::{Operator, bare_case, detailed_leaf, join_case, leaf, not_case};
+use predicates::custom::{Join, Operator, bare_case, detailed_leaf, join_case, leaf, not_case};
 use predicates::iter::InPredicate;
 use predicates::ord::OrdPredicate;
 use predicates::prelude::*;
@@ -301,7 +301,14 @@ fn has_case_of_two(
     lines: &str,
 ) -> Result<bool, AllocError> {
     let (low, small) = (predicate::lt(3), predicate::lt(5));
-    let found = join_case(alloc, operator, &IsTheAnswer, &low, &small, verdict, &4)?;
+    let whole = IsTheAnswer;
+    let join = Join {
+        whole: &whole,
+        operator,
+        left: &low,
+        right: &small,
+    };
+    let found = join_case(alloc, join, verdict, &4)?;
     has_lines(alloc, found, lines)
 }
 

@@ -3,25 +3,11 @@ use super::render_failures;
 use predicates::check::Expectation;
 use predicates::path::{FileType, PathFault};
 use predicates::prelude::*;
+use predicates_testing::new_folder;
 use std::alloc::{AllocError, Global};
 use std::os::unix::fs::symlink;
 use std::test::Fail;
-use std::{env, fs, io};
-
-// Makes a folder that no other test uses.
-fn new_folder(rt: &HostRuntime) -> io::Result<String> {
-    let parent = env::temp_dir(rt)?;
-    let parent = parent.as_path().as_str();
-    for number in 0..10_000u32 {
-        let folder = format!(in rt.alloc(); "{parent}/predicates_check_{number}")?;
-        match fs::create_dir(rt, folder.as_str()) {
-            Ok(()) => return Ok(folder),
-            Err(error) if error.kind() == io::ErrorKind::AlreadyExists => {}
-            Err(error) => return Err(error),
-        }
-    }
-    Err(io::Error::from(io::ErrorKind::AlreadyExists))
-}
+use std::{fs, io};
 
 fn fill(rt: &HostRuntime, folder: &str) -> io::Result<()> {
     let alloc = rt.alloc();
@@ -80,7 +66,7 @@ fn contents(rt: &HostRuntime, folder: &str) -> Result<String, AllocError> {
 
 // The folder, which is removed by now, and the failures of its kinds and of its contents.
 fn check_folder(rt: &HostRuntime) -> Result<[String; 3], Fail> {
-    let folder = new_folder(rt)?;
+    let folder = new_folder(rt, "predicates_check")?;
     fill(rt, folder.as_str())?;
     let kinds = kinds(rt, folder.as_str());
     let contents = contents(rt, folder.as_str());

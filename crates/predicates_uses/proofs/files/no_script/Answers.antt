@@ -21,4 +21,4 @@ returns c =
     let is_kind : tested_kind kind ≡ File = search rules in
     let follow : follows kind ≡ true = search rules in
     let is_mark : mark ≡ codes "#!" = search rules in
-    IfOk-weaker c.find_case.result _ _ (λ found h. script_told (Name.name_of c.name-script.result).now (infix_text (sign And) (Some (kind_predicate_text kind)) (starts_text mark)) kind mark c.args.file.now found is_kind follow is_mark h) c.find_case.ensures
+    IfOk-weaker c.find_case.result _ _ (λ found h. script_told (Name.name_of c.name-script.result).now (infix_text (sign And) (Some (kind_predicate_text (tested_kind kind))) (starts_text mark)) kind mark c.args.file.now found is_kind follow is_mark h) c.find_case.ensures

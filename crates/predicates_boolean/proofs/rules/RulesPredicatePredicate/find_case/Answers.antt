@@ -1,4 +1,4 @@
 use Rattle.predicates_boolean.proofs.rules.RulesPredicatePredicate.find_case.Goals as goal
 
 pub returns : goal.returns
-returns g c = rw (c.as_slice-rules.ensures.value, c.one_suffices.ensures) at c.parts_case.ensures
+returns g c = rw (c.as_slice.ensures.value, c.deciding-list.ensures.whole, c.deciding-list.ensures.name, c.deciding-list.ensures.decides) at c.parts_case.ensures

@@ -3,7 +3,7 @@ use Rattle.predicates_core.proofs.Several.{decided_case, members_pass, passes_mo
 use Rattle.predicates_core.proofs.custom.several.first_member.Goals as goal
 
 pub returns-in-loop-index : goal.returns-in-loop-index
-returns-in-loop-index g c = decided_case c.args.decides c.args.name.now (g.A.Ask.formula_of c.args.common.now)
+returns-in-loop-index g c = decided_case c.args.list.decides c.args.list.name.now (g.A.Ask.formula_of c.args.common.now)
     {us = c.args.members.now} {k = c.loop-index.index} {u = c.index-members-index.result}
     c.in_ok-deciding_case.ensures
     (record { within = omega arith; is = c.index-members-index.is; before = c.loop-index.invariant })
@@ -14,5 +14,5 @@ loop-index-preserved g c = passes_more _ c.args.members.now c.loop-index.index c
     (rw c.in_default.is at c.in_ok-case.ensures)
 
 pub returns : goal.returns
-returns g c = members_pass c.args.decides c.args.name.now (g.A.Ask.formula_of c.args.common.now) c.args.members.now
+returns g c = members_pass c.args.list.decides c.args.list.name.now (g.A.Ask.formula_of c.args.common.now) c.args.members.now
     (passes_all _ c.args.members.now c.loop-index.index (omega arith) c.loop-index.invariant)

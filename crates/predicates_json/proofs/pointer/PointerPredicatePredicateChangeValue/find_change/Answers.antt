@@ -3,7 +3,7 @@ use Rattle.predicates_json.proofs.PointerChanges.{no_change_at, change_at}
 use Rattle.predicates_json.proofs.pointer.PointerPredicatePredicateChangeValue.find_change.Goals as goal
 
 pub returns-in_default : goal.returns-in_default
-returns-in_default g c = no_change_at _ _ c.args.wanted (rw c.in_default.is at c.in_ok-change.ensures)
+returns-in_default g c = no_change_at _ _ c.args.wanted (rw (c.value_at-value.ensures.found, c.text.ensures, c.in_default.is) at c.in_ok-change.ensures)
 
 pub returns : goal.returns
-returns g c = change_at _ _ c.args.wanted (rw (c.result-outcome.ensures, c.root.ensures.value) at c.in_ok-unary_node.ensures) (search rules) (rw c.in-Some.is at c.in_ok-change.ensures)
+returns g c = change_at _ _ c.args.wanted (rw (c.result-outcome.ensures, c.root.ensures.value) at c.in_ok-unary_node.ensures) (search rules) (rw (c.value_at-value.ensures.found, c.text.ensures, c.in-Some.is) at c.in_ok-change.ensures)
