@@ -1,1 +1,2 @@
 pub mod ContentCases
+pub mod FileTests

@@ -6,16 +6,17 @@ use Rattle.predicates_core.specs.Label.{Entry, plain}
 use Rattle.predicates_core.specs.Formula.{Formula, Leaf}
 use Rattle.predicates_path.specs.declared.equality.BinaryFilePredicate.{BinaryFilePredicate}
 use Rattle.predicates_path.specs.declared.fault.PathFault.{PathFault}
+use Rattle.predicates_path.specs.declared.file_test.FileTestPredicate.{FileTestPredicate}
 use Rattle.predicates_path.specs.declared.snapshot.Snapshot.{Snapshot}
 use Rattle.predicates_path.specs.Snapshot.{content_of}
 
 -- the path of the file
-abbrev pub compared_path : BinaryFilePredicate → List ℕ
-compared_path p = string_bytes p.path
+abbrev pub compared_path : FileTestPredicate BinaryFilePredicate → List ℕ
+compared_path p = string_bytes p.test.path
 
 -- the bytes of the file
-abbrev pub compared_bytes : BinaryFilePredicate → List ℕ
-compared_bytes p = p.content.items
+abbrev pub compared_bytes : FileTestPredicate BinaryFilePredicate → List ℕ
+compared_bytes p = p.test.content.items
 
 abbrev pub equality_text : List ℕ → List ℕ
 equality_text path = codes "var is " ++ path

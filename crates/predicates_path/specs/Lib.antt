@@ -1,6 +1,7 @@
 pub mod Fault
 pub mod FileType
 pub mod Snapshot
+pub mod FileTest
 pub mod Existence
 pub mod Kind
 pub mod Equality

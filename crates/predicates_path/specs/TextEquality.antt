@@ -1,11 +1,12 @@
 -- What the equality with a file's text compares.
 use Rattle.std.specs.Prelude.{ℕ, List, string_bytes}
-use Rattle.predicates_path.specs.declared.text_equality.StrFilePredicate.{StrFilePredicate}
+use Rattle.predicates_path.specs.declared.file_test.FileTestPredicate.{FileTestPredicate}
+use Rattle.predicates_path.specs.declared.equality.StrFilePredicate.{StrFilePredicate}
 
 -- the path of the file
-abbrev pub compared_path : StrFilePredicate → List ℕ
-compared_path p = string_bytes p.path
+abbrev pub compared_path : FileTestPredicate StrFilePredicate → List ℕ
+compared_path p = string_bytes p.test.path
 
 -- the bytes of the text of the file
-abbrev pub compared_text : StrFilePredicate → List ℕ
-compared_text p = string_bytes p.content
+abbrev pub compared_text : FileTestPredicate StrFilePredicate → List ℕ
+compared_text p = string_bytes p.test.content

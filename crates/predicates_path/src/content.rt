@@ -12,7 +12,7 @@ ghost use Rattle.predicates_path.specs.ContentLaws.{has_content_formula};
 
 use crate::fault::show_fault;
 use crate::{PathFault, Snapshot};
-use predicates_core::custom::{is_other, one_child};
+use predicates_core::custom::{is_other, leaf_change, one_child};
 use predicates_core::node::{leaf_node, printed};
 use predicates_core::reflection::{Case, Child, Parameter, PredicateReflection};
 use predicates_core::{Predicate, PredicateChange, Total};
@@ -104,12 +104,7 @@ impl<P: Predicate<Vec<u8>>> Predicate<Snapshot> for FileContentPredicate<P> {
                 };
                 Ok(Some(item.show_path(alloc, case)?))
             }
-            Err(fault) => {
-                if expected {
-                    return Ok(None);
-                }
-                Ok(Some(self.no_content(alloc, item, *fault)?))
-            }
+            Err(_) => self.explain(alloc, Some(expected), item),
         }
     }
 
@@ -152,12 +147,7 @@ impl<P: PredicateChange<Vec<u8>>> PredicateChange<Snapshot> for FileContentPredi
                 let change = item.show_path(alloc, change)?;
                 Ok(Some(change))
             }
-            Err(fault) => {
-                if is_other(wanted, false) {
-                    return Ok(None);
-                }
-                Ok(Some(self.no_content(alloc, item, *fault)?))
-            }
+            Err(_) => leaf_change(alloc, self, wanted, item),
         }
     }
 }

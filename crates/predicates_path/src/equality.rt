@@ -1,31 +1,34 @@
-//! Whether a content equals the bytes of a file.
-ghost use Rattle.std.specs.Prelude.{◌≡◌, refl, codes, Ok, Err, Some, IsOkAnd};
+//! Whether a content equals the bytes or the text of a file.
+ghost use Rattle.std.specs.Prelude.{◌≡◌, refl, codes, Ok, Err, None, Some, IsOkAnd, string_bytes};
 ghost use Rattle.std.specs.Prelude.{MatchOption, MatchResult};
 ghost use Rattle.std.specs.Str.{IsUtf8};
-ghost use Rattle.predicates_core.specs.Tree.{empty};
 ghost use Rattle.predicates_core.specs.Label.{value_of};
-ghost use Rattle.predicates_core.specs.Leaves.{IsExactly};
-ghost use Rattle.predicates_core.specs.LeafLaws.{exactly_text_fits, one_exactly};
-ghost use Rattle.predicates_path.specs.declared.snapshot.Snapshot.{Snapshot};
 ghost use Rattle.predicates_path.specs.Snapshot.{path_of, content_of};
 ghost use Rattle.predicates_path.specs.Equality.{compared_path, compared_bytes, equality_text};
-ghost use Rattle.predicates_path.specs.Equality.{equals_content, equals_bytes};
+ghost use Rattle.predicates_path.specs.Equality.{shown_bytes, has_bytes, has_content, equals_bytes};
 ghost use Rattle.predicates_path.specs.TextEquality as text;
 
+use crate::file_test::{FileTest, FileTestPredicate};
 use crate::snapshot::has_bytes;
-use crate::text_equality::StrFilePredicate;
 use crate::{PathFault, Snapshot};
-use predicates_core::custom::{bare_case, leaf_change};
-use predicates_core::reflection::{Case, Child, Parameter, PredicateReflection};
-use predicates_core::{Predicate, PredicateChange, Total};
+use predicates_core::ReadsContent;
+use predicates_core::custom::TestParameters;
+use predicates_core::reflection::{Case, Parameter};
 use std::alloc::{AllocError, Global};
 use std::fmt;
 
-/// Whether a content equals the bytes of a file. Made by `eq_file`.
+/// The bytes of a file.
 #[derive(Debug, PartialEq, Eq, Drop)]
 pub struct BinaryFilePredicate {
     path: String,
     content: Vec<u8>,
+}
+
+/// The text of a file.
+#[derive(Debug, PartialEq, Eq, Drop)]
+pub struct StrFilePredicate {
+    path: String,
+    content: String,
 }
 
 /// Holds where the content equals the snapshot's. It fails with the snapshot's fault where that has
@@ -36,20 +39,20 @@ pub struct BinaryFilePredicate {
 /// assert!(rt; same.eval(alloc, &Vec::from_slice(alloc, b"hello")?)?);
 /// assert!(rt; predicate::path::eq_file(gone) == Err(PathFault::NotFound));
 /// ```
-pub fn eq_file(snapshot: Snapshot) -> Result<BinaryFilePredicate, PathFault>
+pub fn eq_file(snapshot: Snapshot) -> Result<FileTestPredicate<BinaryFilePredicate>, PathFault>
     ensures content { MatchResult (content_of snapshot)
         (λ bytes. IsOkAnd result
         (λ p. (compared_path p ≡ path_of snapshot) × (compared_bytes p ≡ bytes)))
         (λ fault. result ≡ Err fault) }
 {
-    let (path, content) = snapshot.into_file();
-    Ok(BinaryFilePredicate {
-        path,
-        content: content?,
+    let (path, content) = (snapshot.path, snapshot.content);
+    let content = content?;
+    Ok(FileTestPredicate {
+        test: BinaryFilePredicate { path, content },
     })
 }
 
-impl BinaryFilePredicate {
+impl FileTestPredicate<BinaryFilePredicate> {
     /// The predicate that compares texts and contents with these bytes, where they are UTF-8. Where
     /// they are not, it is `None`, and the path and the bytes are dropped. It takes no memory.
     ///
@@ -57,21 +60,23 @@ impl BinaryFilePredicate {
     /// let same = predicate::path::eq_file(file)?.utf8().ok_or("no text")?;
     /// assert!(rt; same.eval(alloc, &"hello".to_owned(alloc)?)?);
     /// ```
-    pub fn utf8(self) -> Option<StrFilePredicate>
+    pub fn utf8(self) -> Option<FileTestPredicate<StrFilePredicate>>
         ensures text { MatchOption result (¬ (IsUtf8 (compared_bytes self)))
             (λ p. (text.compared_path p ≡ compared_path self)
             × (text.compared_text p ≡ compared_bytes self)) }
     {
-        let BinaryFilePredicate { path, content } = self;
+        let BinaryFilePredicate { path, content } = self.test;
         match String::from_utf8(content) {
-            Ok(text) => Some(StrFilePredicate::new(path, text)),
+            Ok(content) => Some(FileTestPredicate {
+                test: StrFilePredicate { path, content },
+            }),
             Err(_) => None,
         }
     }
 }
 
 impl fmt::Display for BinaryFilePredicate {
-    ghost output = { λ p. Some (equality_text (compared_path p)) };
+    ghost output = { λ t. Some (equality_text (string_bytes t.path)) };
 
     fn fmt<W: fmt::Write>(&self, f: &mut fmt::Formatter<W>) -> fmt::Result {
         let path = &self.path;
@@ -79,12 +84,8 @@ impl fmt::Display for BinaryFilePredicate {
     }
 }
 
-impl PredicateReflection for BinaryFilePredicate {
-    ghost use Rattle.predicates_path.specs.Equality.{shown_bytes};
-
-    ghost parameters_of = { λ p. value_of (codes "content") (shown_bytes (compared_bytes p)) };
-
-    ghost children_of = { λ p. empty };
+impl TestParameters for BinaryFilePredicate {
+    ghost parameters_of = { λ t. value_of (codes "content") (shown_bytes t.content.items) };
 
     fn parameters(&self, alloc: Global) -> Result<Vec<Parameter>, AllocError> {
         let content = &self.content;
@@ -92,112 +93,86 @@ impl PredicateReflection for BinaryFilePredicate {
         parameters.push(Parameter::new("content", format!(in alloc; "{content:?}")?))?;
         Ok(parameters)
     }
+}
 
-    fn children(&self, alloc: Global) -> Result<Vec<Child>, AllocError> {
-        Ok(Vec::new(alloc))
+impl FileTest<Snapshot> for BinaryFilePredicate {
+    ghost holds_of = { λ t s. has_content t.content.items (content_of s) };
+
+    ghost product_of = { λ t s. None };
+
+    fn holds(&self, item: &Snapshot) -> bool {
+        item.has_content(self.content.as_slice())
+    }
+
+    fn show(&self, _alloc: Global, case: Case, _item: &Snapshot) -> Result<Case, AllocError> {
+        Ok(case)
     }
 }
 
-impl Predicate<Snapshot> for BinaryFilePredicate {
-    ghost formula = { λ p s. IsExactly (equals_content (compared_path p) (compared_bytes p) s) };
+impl FileTest<Vec<u8>> for BinaryFilePredicate {
+    ghost holds_of = { λ t v. has_bytes t.content.items v.items };
 
-    ghost infallible = { λ p s. Unit {0} };
+    ghost product_of = { λ t v. None };
 
-    ghost text_fits = { λ p s f. exactly_text_fits };
-
-    ghost one_formula = { λ p s f g lawful. one_exactly };
-
-    #[tactic(auto, using(predicates_core::proofs::Leaves::leaves))]
-    fn eval(&self, _alloc: Global, item: &Snapshot) -> Result<bool, AllocError> {
-        Ok(item.has_content(self.content.as_slice()))
+    fn holds(&self, item: &Vec<u8>) -> bool {
+        has_bytes(self.content.as_slice(), item.as_slice())
     }
 
-    fn find_case(
-        &self,
-        alloc: Global,
-        expected: bool,
-        item: &Snapshot,
-    ) -> Result<Option<Case>, AllocError> {
-        self.explain(alloc, Some(expected), item)
-    }
-
-    fn explain(
-        &self,
-        alloc: Global,
-        wanted: Option<bool>,
-        item: &Snapshot,
-    ) -> Result<Option<Case>, AllocError> {
-        let holds = item.has_content(self.content.as_slice());
-        bare_case(alloc, self, holds, wanted)
+    fn show(&self, _alloc: Global, case: Case, _item: &Vec<u8>) -> Result<Case, AllocError> {
+        Ok(case)
     }
 }
 
-impl PredicateChange<Snapshot> for BinaryFilePredicate {
-    fn find_change(
-        &self,
-        alloc: Global,
-        wanted: Option<bool>,
-        item: &Snapshot,
-    ) -> Result<Option<Case>, AllocError> {
-        leaf_change(alloc, self, wanted, item)
+impl fmt::Display for StrFilePredicate {
+    ghost output = { λ t. Some (equality_text (string_bytes t.path)) };
+
+    fn fmt<W: fmt::Write>(&self, f: &mut fmt::Formatter<W>) -> fmt::Result {
+        let file = &self.path;
+        write!(f, "var is {file}")
     }
 }
 
-impl Predicate<Vec<u8>> for BinaryFilePredicate {
-    ghost formula = { λ p v. IsExactly (equals_bytes (compared_path p) (compared_bytes p) v.items) };
+impl TestParameters for StrFilePredicate {
+    ghost parameters_of = { λ t. value_of (codes "content") (Some (string_bytes t.content)) };
 
-    ghost infallible = { λ p v. Unit {0} };
-
-    ghost text_fits = { λ p v f. exactly_text_fits };
-
-    ghost one_formula = { λ p v f g lawful. one_exactly };
-
-    #[tactic(auto, using(predicates_core::proofs::Leaves::leaves))]
-    fn eval(&self, _alloc: Global, item: &Vec<u8>) -> Result<bool, AllocError> {
-        Ok(has_bytes(self.content.as_slice(), item.as_slice()))
-    }
-
-    fn find_case(
-        &self,
-        alloc: Global,
-        expected: bool,
-        item: &Vec<u8>,
-    ) -> Result<Option<Case>, AllocError> {
-        self.explain(alloc, Some(expected), item)
-    }
-
-    fn explain(
-        &self,
-        alloc: Global,
-        wanted: Option<bool>,
-        item: &Vec<u8>,
-    ) -> Result<Option<Case>, AllocError> {
-        let holds = has_bytes(self.content.as_slice(), item.as_slice());
-        bare_case(alloc, self, holds, wanted)
+    fn parameters(&self, alloc: Global) -> Result<Vec<Parameter>, AllocError> {
+        let mut parameters = Vec::new(alloc);
+        parameters.push(Parameter::new("content", self.content.clone()?))?;
+        Ok(parameters)
     }
 }
 
-impl PredicateChange<Vec<u8>> for BinaryFilePredicate {
-    fn find_change(
-        &self,
-        alloc: Global,
-        wanted: Option<bool>,
-        item: &Vec<u8>,
-    ) -> Result<Option<Case>, AllocError> {
-        leaf_change(alloc, self, wanted, item)
+impl FileTest<Snapshot> for StrFilePredicate {
+    ghost holds_of = { λ t s. has_content (string_bytes t.content) (content_of s) };
+
+    ghost product_of = { λ t s. None };
+
+    fn holds(&self, item: &Snapshot) -> bool {
+        item.has_content(self.content.as_bytes())
+    }
+
+    fn show(&self, _alloc: Global, case: Case, _item: &Snapshot) -> Result<Case, AllocError> {
+        Ok(case)
     }
 }
 
-impl Total<Snapshot> for BinaryFilePredicate {
-    ghost formula_of = { λ p s. equals_content (compared_path p) (compared_bytes p) s };
+impl FileTest<String> for StrFilePredicate {
+    ghost holds_of = { λ t v. has_bytes (string_bytes t.content) (string_bytes v) };
 
-    ghost always_lawful = { λ p. tt };
+    ghost product_of = { λ t v. None };
 
-    ghost has_formula = { λ p s. record { is = refl } };
+    fn holds(&self, item: &String) -> bool {
+        has_bytes(self.content.as_bytes(), item.as_bytes())
+    }
+
+    fn show(&self, _alloc: Global, case: Case, _item: &String) -> Result<Case, AllocError> {
+        Ok(case)
+    }
 }
 
-impl Total<Vec<u8>> for BinaryFilePredicate {
-    ghost formula_of = { λ p v. equals_bytes (compared_path p) (compared_bytes p) v.items };
+impl ReadsContent<String> for FileTestPredicate<StrFilePredicate> {
+    ghost content_formula = { λ p bytes.
+        equals_bytes (text.compared_path p) (text.compared_text p) bytes };
 
     ghost always_lawful = { λ p. tt };
 

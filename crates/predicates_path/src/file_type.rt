@@ -1,12 +1,8 @@
 //! Kinds of files.
-ghost use Rattle.std.specs.Prelude.{Some, codes, IfOk};
+ghost use Rattle.std.specs.Prelude.{Some};
 ghost use Rattle.std.specs.Fs.{file_type};
-ghost use Rattle.predicates_core.specs.Leaves.{IsShowing};
 ghost use Rattle.predicates_path.specs.FileType.{IsKindOf, kind_text};
 
-use predicates_core::node::showing;
-use predicates_core::reflection::Case;
-use std::alloc::{AllocError, Global};
 use std::fmt;
 use std::fs::Metadata;
 
@@ -50,11 +46,4 @@ pub(crate) fn kind_of(metadata: &Metadata) -> FileType
     } else {
         FileType::Other
     }
-}
-
-// Adds the kind as the product `actual filetype`.
-pub(crate) fn show_kind(alloc: Global, case: Case, kind: FileType) -> Result<Case, AllocError>
-    ensures { IfOk result (IsShowing (codes "actual filetype") (Some (kind_text kind)) case) }
-{
-    showing(case, "actual filetype", kind.to_string(alloc)?)
 }

@@ -26,11 +26,8 @@ ghost use Rattle.predicates_core.specs.Text.{Text};
 ghost use Rattle.predicates_path.specs.declared.snapshot.Snapshot.{Snapshot};
 
 use crate::content::FileContentPredicate;
-use crate::equality::BinaryFilePredicate;
-use crate::existence::ExistencePredicate;
-use crate::file_type_predicate::FileTypePredicate;
 use crate::snapshot::Snapshot;
-use crate::text_equality::StrFilePredicate;
+use crate::{BinaryFilePredicate, ExistencePredicate, FileTypePredicate, StrFilePredicate};
 use predicates_core::Predicate;
 use predicates_core::reflection::PredicateReflection;
 

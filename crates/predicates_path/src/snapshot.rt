@@ -25,10 +25,10 @@ use std::{fs, io};
 /// A path with the kinds and the content that were found there, or the faults in their place.
 #[derive(Drop)]
 pub struct Snapshot {
-    path: String,
+    pub(crate) path: String,
     plain: Result<FileType, PathFault>,
     followed: Result<FileType, PathFault>,
-    content: Result<Vec<u8>, PathFault>,
+    pub(crate) content: Result<Vec<u8>, PathFault>,
 }
 
 // The kind that the metadata gives, or the fault.
@@ -193,13 +193,5 @@ impl Snapshot {
         ensures { result.now ≡ held_of self.now }
     {
         &self.content
-    }
-
-    // The path and the content.
-    pub(crate) fn into_file(self) -> (String, Result<Vec<u8>, PathFault>)
-        ensures path { string_bytes result.0 ≡ path_of self }
-        ensures content { result.1 ≡ held_of self }
-    {
-        (self.path, self.content)
     }
 }

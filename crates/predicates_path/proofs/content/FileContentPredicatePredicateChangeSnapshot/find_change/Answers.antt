@@ -1,5 +1,5 @@
 use Rattle.std.proofs.Common.{sym, ◌∙◌}
-use Rattle.predicates_path.proofs.ContentCases.{no_change_of_content, change_of_content, no_change_without_content, change_without_content}
+use Rattle.predicates_path.proofs.ContentCases.{no_change_of_content, change_of_content, leaf_without_content}
 use Rattle.predicates_path.proofs.content.FileContentPredicatePredicateChangeSnapshot.find_change.Goals as goal
 
 pub returns-in_default : goal.returns-in_default
@@ -8,8 +8,5 @@ returns-in_default g c = no_change_of_content _ _ _ _ c.args.wanted c.in-Ok.byte
 pub returns-in_ok-change-in-Ok-2 : goal.returns-in_ok-change-in-Ok-2
 returns-in_ok-change-in-Ok-2 g c = change_of_content _ _ _ _ c.args.wanted c.in-Ok.bytes (sym c.content_or_fault.ensures ∙ c.in-Ok.is) c.in_ok-change-in-Ok-2.ensures (rw c.in-Some.is at c.in_ok-change-in-Ok.ensures)
 
-pub returns-then-is_other : goal.returns-then-is_other
-returns-then-is_other g c = no_change_without_content _ _ _ _ c.args.wanted _ (sym c.content_or_fault.ensures ∙ c.in-Err.is) (rw (← c.is_other.ensures) c.if-is_other.true)
-
-pub returns-in_ok-no_content-in-Err : goal.returns-in_ok-no_content-in-Err
-returns-in_ok-no_content-in-Err g c = change_without_content _ _ _ _ c.args.wanted _ (sym c.content_or_fault.ensures ∙ c.in-Err.is) (rw (← c.is_other.ensures) c.if-is_other.false) c.in_ok-no_content-in-Err.ensures
+pub leaf_change-requires-clause-leaf : goal.leaf_change-requires-clause-leaf
+leaf_change-requires-clause-leaf g c = leaf_without_content (sym c.content_or_fault.ensures ∙ c.in-Err.is)
