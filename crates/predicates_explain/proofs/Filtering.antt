@@ -7,24 +7,22 @@ use Rattle.std.proofs.lemmas.List.{map-append}
 use Rattle.std.proofs.lemmas.Grind.{flat_map-append}
 use Rattle.std.proofs.lemmas.List.Filters.{length-filter_both}
 use Rattle.std.proofs.lemmas.List.Elements.{All-nil, All-push, filter-append}
-use Rattle.predicates_core.specs.Text.{Text}
-use Rattle.predicates_core.specs.Formula.{Formula}
 use Rattle.predicates_lines.specs.Lines.{ended_lines}
 use Rattle.predicates_explain.specs.Runs.{AreAnswers}
-use Rattle.predicates_explain.specs.Filtered.{is_wanted, Judged, IsVerdict, HasFilteredTelling}
+use Rattle.predicates_explain.specs.Filtered.{Judged, HasJudgedTelling}
 use Rattle.predicates_explain.specs.declared.filter.Filtered.{Filtered}
 use Rattle.predicates_explain.proofs.Progress.{AreAnswers-more}
 
--- the lines that are taken have their verdicts, those that are wanted are written, and of each is told what may be
-pub record HasPassed (has : Text → Formula → Type 0) (IsTold : ℕ → Judged → List ℕ → Type 0) (wanted : Bool)
+-- the lines that are taken have their verdicts, those that are kept are written, and of each is told what may be
+pub record HasPassed (Has : List ℕ → Option Bool → Type 0) (kept : Option Bool → Bool) (IsTold : ℕ → Judged → List ℕ → Type 0)
     (reader_before reader_now writer_before writer_now reasons_before reasons_now : Option (List ℕ)) (count : ℕ) (counts : Filtered) : Type 0 where
   pub lines : List Judged
   pub left : (bytes : List ℕ) → reader_before ≡ Some bytes
       → (left : List ℕ) × (reader_now ≡ Some left) × (ended_lines bytes ≡ map (λ (l : Judged). l.0) lines ++ ended_lines left)
   pub counted : length lines ≡ count
-  pub verdicts : All (λ (l : Judged). IsVerdict has l.0 l.1) lines
-  pub appends : Appends writer_before writer_now (flat_map (λ (l : Judged). l.0) (filter (λ (l : Judged). is_wanted wanted l.1) lines))
-  pub written : counts.written ≡ length (filter (λ (l : Judged). is_wanted wanted l.1) lines)
+  pub verdicts : All (λ (l : Judged). Has l.0 l.1) lines
+  pub appends : Appends writer_before writer_now (flat_map (λ (l : Judged). l.0) (filter (λ (l : Judged). kept l.1) lines))
+  pub written : counts.written ≡ length (filter (λ (l : Judged). kept l.1) lines)
   pub not_utf8 : counts.not_utf8 ≡ length (filter (λ (l : Judged). is_none l.1) lines)
   pub told : List ℕ
   pub tells : Appends reasons_before reasons_now told
@@ -45,14 +43,14 @@ flat-more p lines l false e =
     ap (flat_map (λ (l : Judged). l.0)) (filter-append p lines (l ∷ [])) ∙ flat_map-append (λ (l : Judged). l.0) (filter p lines) (filter p (l ∷ []))
     ∙ ap (λ xs. flat_map (λ (l : Judged). l.0) (filter p lines) ++ xs) (rw e refl)
 
-module _ (has : Text → Formula → Type 0) (IsTold : ℕ → Judged → List ℕ → Type 0) (wanted : Bool) where
+module _ (Has : List ℕ → Option Bool → Type 0) (kept : Option Bool → Bool) (IsTold : ℕ → Judged → List ℕ → Type 0) where
   pub has_passed_none : (reader writer reasons : Option (List ℕ))
-      → HasPassed has IsTold wanted reader reader writer writer reasons reasons 0 (record { written = 0; not_utf8 = 0 })
+      → HasPassed Has kept IsTold reader reader writer writer reasons reasons 0 (record { written = 0; not_utf8 = 0 })
   has_passed_none reader writer reasons = record {
     lines = [];
     left = λ bytes known. (bytes, known, refl);
     counted = refl;
-    verdicts = All-nil (λ (l : Judged). IsVerdict has l.0 l.1);
+    verdicts = All-nil (λ (l : Judged). Has l.0 l.1);
     appends = Appends-nil writer;
     written = refl;
     not_utf8 = refl;
@@ -63,16 +61,16 @@ module _ (has : Text → Formula → Type 0) (IsTold : ℕ → Judged → List �
 
   -- one more line is taken and judged
   pub has_passed_more : (r0 r1 r2 w0 w1 w2 t0 t1 t2 : Option (List ℕ)) (count : ℕ) (before after : Filtered) (line more : List ℕ) (verdict : Option Bool)
-      → HasPassed has IsTold wanted r0 r1 w0 w1 t0 t1 count before
+      → HasPassed Has kept IsTold r0 r1 w0 w1 t0 t1 count before
       → ((bytes : List ℕ) → r1 ≡ Some bytes → (left : List ℕ) × (r2 ≡ Some left) × (ended_lines bytes ≡ line ∷ ended_lines left))
-      → IsVerdict has line verdict → Appends w1 w2 (if is_wanted wanted verdict then line else [])
+      → Has line verdict → Appends w1 w2 (if kept verdict then line else [])
       → IsTold (count + 1) (line, verdict) more → Appends t1 t2 more
-      → after.written ≡ before.written + (if is_wanted wanted verdict then 1 else 0)
+      → after.written ≡ before.written + (if kept verdict then 1 else 0)
       → after.not_utf8 ≡ before.not_utf8 + (if is_none verdict then 1 else 0)
-      → HasPassed has IsTold wanted r0 r2 w0 w2 t0 t2 (count + 1) after
+      → HasPassed Has kept IsTold r0 r2 w0 w2 t0 t2 (count + 1) after
   has_passed_more r0 r1 r2 w0 w1 w2 t0 t1 t2 count before after line more verdict h next judged appends told tells written not_utf8 =
       let l : Judged = (line, verdict) in
-      let p : Judged → Bool = λ l. is_wanted wanted l.1 in
+      let p : Judged → Bool = λ l. kept l.1 in
       let q : Judged → Bool = λ l. is_none l.1 in
       record {
         lines = h.lines ++ l ∷ [];
@@ -84,9 +82,9 @@ module _ (has : Text → Formula → Type 0) (IsTold : ℕ → Judged → List �
               ∙ ap (λ xs. xs ++ ended_lines n.0) (sym (map-append (λ (l : Judged). l.0) h.lines (l ∷ []))),
         );
         counted = omega (arith, h.counted, length-append h.lines (l ∷ []));
-        verdicts = All-push (λ (l : Judged). IsVerdict has l.0 l.1) h.lines l h.verdicts judged;
-        appends = rw (flat-more p h.lines l (is_wanted wanted verdict) refl) (Appends-trans _ _ _ _ _ h.appends appends);
-        written = written ∙ ap (λ n. n + (if is_wanted wanted verdict then 1 else 0)) h.written ∙ sym (filter-more p h.lines l (is_wanted wanted verdict) refl);
+        verdicts = All-push (λ (l : Judged). Has l.0 l.1) h.lines l h.verdicts judged;
+        appends = rw (flat-more p h.lines l (kept verdict) refl) (Appends-trans _ _ _ _ _ h.appends appends);
+        written = written ∙ ap (λ n. n + (if kept verdict then 1 else 0)) h.written ∙ sym (filter-more p h.lines l (kept verdict) refl);
         not_utf8 = not_utf8 ∙ ap (λ n. n + (if is_none verdict then 1 else 0)) h.not_utf8 ∙ sym (filter-more q h.lines l (is_none verdict) refl);
         told = h.told ++ more;
         tells = Appends-trans _ _ _ _ _ h.tells tells;
@@ -96,9 +94,9 @@ module _ (has : Text → Formula → Type 0) (IsTold : ℕ → Judged → List �
 
   -- the input is at its end, and both writers are flushed
   pub has_passed_all : (r0 r1 r2 w0 w1 w2 t0 t1 t2 : Option (List ℕ)) (count : ℕ) (counts : Filtered)
-      → HasPassed has IsTold wanted r0 r1 w0 w1 t0 t1 count counts
+      → HasPassed Has kept IsTold r0 r1 w0 w1 t0 t1 count counts
       → ((bytes : List ℕ) → r1 ≡ Some bytes → (r2 ≡ Some []) × (ended_lines bytes ≡ []))
-      → Keeps w1 w2 → Keeps t1 t2 → HasFilteredTelling has IsTold wanted r0 r2 w0 w2 t0 t2 counts
+      → Keeps w1 w2 → Keeps t1 t2 → HasJudgedTelling Has kept IsTold r0 r2 w0 w2 t0 t2 counts
   has_passed_all r0 r1 r2 w0 w1 w2 t0 t1 t2 count counts h end flushed told = record {
     filtered = record {
       lines = h.lines;
@@ -117,8 +115,8 @@ module _ (has : Text → Formula → Type 0) (IsTold : ℕ → Judged → List �
   }
 
   -- no more lines are counted than are taken
-  pub written_within : {r0 r1 w0 w1 t0 t1 : Option (List ℕ)} {count : ℕ} {counts : Filtered} → HasPassed has IsTold wanted r0 r1 w0 w1 t0 t1 count counts → counts.written ≤ count
-  written_within h = omega (arith, h.written, h.counted, length-filter_both (λ (l : Judged). is_wanted wanted l.1) (λ (l : Judged). not (is_wanted wanted l.1)) (λ _. refl) h.lines)
+  pub written_within : {r0 r1 w0 w1 t0 t1 : Option (List ℕ)} {count : ℕ} {counts : Filtered} → HasPassed Has kept IsTold r0 r1 w0 w1 t0 t1 count counts → counts.written ≤ count
+  written_within h = omega (arith, h.written, h.counted, length-filter_both (λ (l : Judged). kept l.1) (λ (l : Judged). not (kept l.1)) (λ _. refl) h.lines)
 
-  pub not_utf8_within : {r0 r1 w0 w1 t0 t1 : Option (List ℕ)} {count : ℕ} {counts : Filtered} → HasPassed has IsTold wanted r0 r1 w0 w1 t0 t1 count counts → counts.not_utf8 ≤ count
+  pub not_utf8_within : {r0 r1 w0 w1 t0 t1 : Option (List ℕ)} {count : ℕ} {counts : Filtered} → HasPassed Has kept IsTold r0 r1 w0 w1 t0 t1 count counts → counts.not_utf8 ≤ count
   not_utf8_within h = omega (arith, h.not_utf8, h.counted, length-filter_both (λ (l : Judged). is_none l.1) (λ (l : Judged). not (is_none l.1)) (λ _. refl) h.lines)

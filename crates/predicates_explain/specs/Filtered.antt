@@ -28,19 +28,24 @@ is_wanted wanted None = false
 abbrev pub Judged : Type 0
 Judged = List ℕ × Option Bool
 
--- each line of the input has its verdict; what is written is the lines of which that is the wanted
--- one, in order and byte for byte; and the counts are of these, and of the lines without a verdict
-pub record HasFiltered (has : Text → Formula → Type 0) (wanted : Bool)
+-- each line of the input has its verdict; what is written is the lines with a verdict that is kept,
+-- in order and byte for byte; and the counts are of these, and of the lines without a verdict
+pub record HasJudged (Has : List ℕ → Option Bool → Type 0) (kept : Option Bool → Bool)
     (reader_before reader_after writer_before writer_after : Option (List ℕ)) (counts : Filtered) :
     Type 0 where
   pub lines : List Judged
   pub whole : ForSome reader_before
       (λ bytes. (map (λ l. l.0) lines ≡ ended_lines bytes) × (reader_after ≡ Some []))
-  pub verdicts : All (λ l. IsVerdict has l.0 l.1) lines
+  pub verdicts : All (λ l. Has l.0 l.1) lines
   pub appends : Appends writer_before writer_after
-      (flat_map (λ l. l.0) (filter (λ l. is_wanted wanted l.1) lines))
-  pub written : counts.written ≡ length (filter (λ l. is_wanted wanted l.1) lines)
+      (flat_map (λ l. l.0) (filter (λ l. kept l.1) lines))
+  pub written : counts.written ≡ length (filter (λ l. kept l.1) lines)
   pub not_utf8 : counts.not_utf8 ≡ length (filter (λ l. is_none l.1) lines)
+
+-- so it is, with the verdicts of the predicate, of which the wanted one is kept
+abbrev pub HasFiltered : (Text → Formula → Type 0) → Bool → Option (List ℕ) → Option (List ℕ)
+    → Option (List ℕ) → Option (List ℕ) → Filtered → Type 0
+HasFiltered has wanted = HasJudged (IsVerdict has) (is_wanted wanted)
 
 -- what is told of the line of this number: nothing where it is written, and else what a run over
 -- texts answers to it
@@ -52,12 +57,17 @@ pub data IsReason (has : Text → Formula → Type 0) (wanted : Bool) (number : 
         → IsTextAnswer has number (strip_last 10 line.0) told
         → IsReason has wanted number line told
 
--- so it is, and what is told is what may be told of each line in order, and nothing else
-pub record HasFilteredTelling (has : Text → Formula → Type 0)
-    (IsTold : ℕ → Judged → List ℕ → Type 0) (wanted : Bool)
+-- the lines are judged, and what is told is what may be told of each line in order, and nothing else
+pub record HasJudgedTelling (Has : List ℕ → Option Bool → Type 0) (kept : Option Bool → Bool)
+    (IsTold : ℕ → Judged → List ℕ → Type 0)
     (reader_before reader_after writer_before writer_after : Option (List ℕ))
     (reasons_before reasons_after : Option (List ℕ)) (counts : Filtered) : Type 0 where
-  pub filtered : HasFiltered has wanted reader_before reader_after writer_before writer_after counts
+  pub filtered : HasJudged Has kept reader_before reader_after writer_before writer_after counts
   pub told : List ℕ
   pub tells : Appends reasons_before reasons_after told
   pub reasons : AreAnswers IsTold 1 filtered.lines told
+
+abbrev pub HasFilteredTelling : (Text → Formula → Type 0) → (ℕ → Judged → List ℕ → Type 0) → Bool
+    → Option (List ℕ) → Option (List ℕ) → Option (List ℕ) → Option (List ℕ) → Option (List ℕ)
+    → Option (List ℕ) → Filtered → Type 0
+HasFilteredTelling has IsTold wanted = HasJudgedTelling (IsVerdict has) (is_wanted wanted) IsTold

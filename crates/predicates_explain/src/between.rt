@@ -1,5 +1,5 @@
 //! A run over numbers.
-ghost use Rattle.std.specs.Prelude.{◌≡◌, ℤ, IfOk, OnOk, string_bytes};
+ghost use Rattle.std.specs.Prelude.{◌≡◌, ℤ, false, IfOk, OnOk, string_bytes};
 ghost use Rattle.std.specs.Fmt.{signed_decimal};
 ghost use Rattle.predicates_boolean.specs.Join.{left_of, right_of};
 ghost use Rattle.predicates_boolean.specs.declared.boolean.join.JoinPredicate.{JoinPredicate};
@@ -9,11 +9,11 @@ ghost use Rattle.predicates_item.specs.declared.ord.order.OrdPredicate.{OrdPredi
 ghost use Rattle.predicates_item.specs.declared.showing.ShowingPredicate.{ShowingPredicate};
 ghost use Rattle.predicates_explain.specs.Answers.{between_formula, no_number, IsNumber};
 ghost use Rattle.predicates_explain.specs.Answers.{IsNumberAnswer};
-ghost use Rattle.predicates_explain.specs.Runs.{HasRun};
+ghost use Rattle.predicates_explain.specs.Runs.{IsItemVerdict, IsToldAs, HasRun};
 
 use crate::block::complete_block;
 use crate::parse_number;
-use crate::run::{AnswerLine, drop_last, run_lines};
+use crate::run::{JudgeLine, Line, drop_last, run_lines};
 use predicates_boolean::boolean::{AndPredicate, PredicateBooleanExt};
 use predicates_core::Total;
 use predicates_item::ord::{OrdPredicate, ge, le};
@@ -44,29 +44,33 @@ fn write_no_number(text: &mut String, number: u64) -> Result<(), AllocError>
     writeln!(text, "line {number}: not a number")
 }
 
-impl<P: Total<i64>> AnswerLine for Numbers<'_, P> {
-    ghost is_answer = { λ s number line written. IsNumberAnswer (P.formula_of s.predicate.now) number
-        line written };
+impl<P: Total<i64>> JudgeLine for Numbers<'_, P> {
+    ghost is_verdict = { λ _. IsItemVerdict IsNumber };
 
-    ghost is_item = { λ _ line. IsNumber line };
+    ghost is_kept = { λ _ _. false };
 
-    fn answer(
+    ghost is_told = { λ s. IsToldAs (IsNumberAnswer (P.formula_of s.predicate.now)) };
+
+    fn keeps(&self, _verdict: Option<bool>) -> bool {
+        false
+    }
+
+    fn judge(
         &self,
         alloc: Global,
-        number: u64,
-        line: &[u8],
-        text: &mut String,
-        _scratch: &mut String,
-    ) -> Result<bool, AllocError> {
-        match parse_number::number(drop_last(line, b'\r')) {
+        line: Line<'_>,
+        _item: &mut String,
+        told: &mut String,
+    ) -> Result<Option<bool>, AllocError> {
+        let bare = drop_last(line.bytes, b'\n');
+        match parse_number::number(drop_last(bare, b'\r')) {
             Some(n) => {
-                write_number(text, n)?;
-                complete_block(alloc, text, self.predicate, &n)?;
-                Ok(true)
+                write_number(told, n)?;
+                Ok(Some(complete_block(alloc, told, self.predicate, &n)?))
             }
             None => {
-                write_no_number(text, number)?;
-                Ok(false)
+                write_no_number(told, line.number)?;
+                Ok(None)
             }
         }
     }
@@ -102,12 +106,10 @@ pub fn run_between<R: BufRead, W: Write>(
         ≡ between_formula lo hi n }
 {
     let between = ge(lo).and(le(hi));
-    run_lines(
-        alloc,
-        &Numbers {
-            predicate: &between,
-        },
-        input,
-        output,
-    )
+    let judge = Numbers {
+        predicate: &between,
+    };
+    let mut unwritten = Vec::new(alloc);
+    let counts = run_lines(alloc, &judge, input, &mut unwritten, output)?;
+    Ok(counts.is_of_items())
 }

@@ -17,14 +17,14 @@ pub(crate) fn write_verdict(text: &mut String, holds: bool) -> Result<(), AllocE
     }
 }
 
-// Makes the label that the text holds into its block.
+// Makes the label that the text holds into its block, and answers the verdict.
 #[tactic(auto, using(crate::proofs::BlockLemmas::blocks))]
 pub(crate) fn complete_block<P: Predicate<Item>, Item>(
     alloc: Global,
     text: &mut String,
     predicate: &P,
     item: &Item,
-) -> Result<(), AllocError>
+) -> Result<bool, AllocError>
     requires { P.lawful predicate.now }
     ensures { OnOk result
         (HasBlocks (P.formula predicate.now item.now) (string_bytes text.old)
@@ -34,9 +34,10 @@ pub(crate) fn complete_block<P: Predicate<Item>, Item>(
     write_verdict(text, holds)?;
     // There is a case, unless the predicate has no formula on the item.
     let Some(case) = predicate.explain(alloc, Some(holds), item)? else {
-        return Ok(());
+        return Ok(holds);
     };
-    render_onto(text, &case)
+    render_onto(text, &case)?;
+    Ok(holds)
 }
 
 /// The label with the verdict, and the lines of a case that explains it: `11: false`, and the case

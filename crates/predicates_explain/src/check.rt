@@ -15,6 +15,7 @@ mod change;
 mod explain;
 mod rotate;
 
+use explain::Question;
 use predicates_core::custom::Operator;
 use predicates_core::reflection::{Case, Child, Parameter, PredicateReflection};
 use predicates_core::{Predicate, PredicateChange, ReadsContent, Total};
@@ -294,7 +295,7 @@ impl Predicate<String> for TextCheck {
         item: &String,
     ) -> Result<Option<Case>, AllocError> {
         let mut found = None;
-        self.explain_into(alloc, wanted, item, &mut found)?;
+        self.explain_into(alloc, Question { wanted, item }, &mut found)?;
         Ok(found)
     }
 }
@@ -307,7 +308,7 @@ impl PredicateChange<String> for TextCheck {
         item: &String,
     ) -> Result<Option<Case>, AllocError> {
         let mut found = None;
-        self.change_into(alloc, wanted, item, &mut found)?;
+        self.change_into(alloc, Question { wanted, item }, &mut found)?;
         Ok(found)
     }
 }

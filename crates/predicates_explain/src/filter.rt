@@ -1,16 +1,14 @@
 //! A filter over the lines of an input.
-ghost use Rattle.std.specs.Prelude.{◌≡◌, ◌+◌, ◌<◌, ◌^◌, [], IfOk, OnOk, if◌then◌else◌, is_none};
-ghost use Rattle.std.specs.Io.KnownBytes.{Appends};
+ghost use Rattle.std.specs.Prelude.{◌≡◌, ◌↔◌, ◌+◌, ◌<◌, ◌^◌, IfOk, IsTrue, if◌then◌else◌, is_none};
 ghost use Rattle.predicates_explain.specs.Filtered.{is_wanted, IsReason};
 ghost use Rattle.predicates_explain.specs.Filtered.{HasFiltered, HasFilteredTelling};
 
-mod judge;
 mod reasons;
 mod verdicts;
 
-use judge::JudgeLine;
+use crate::run::run_lines;
 use predicates_core::Predicate;
-use predicates_lines::{RunFault, flush, next_line, write_bytes};
+use predicates_lines::RunFault;
 use reasons::Reasons;
 use std::alloc::Global;
 use std::io::{BufRead, Write};
@@ -27,85 +25,39 @@ pub struct Filtered {
 
 impl Filtered {
     // Counts one line more.
-    fn count(self, wanted: bool, verdict: Option<bool>) -> Filtered
+    pub(crate) fn count(self, kept: bool, verdict: Option<bool>) -> Filtered
         requires written { self.written + 1 < 2 ^ 64 }
         requires not_utf8 { self.not_utf8 + 1 < 2 ^ 64 }
-        ensures written { result.written
-            ≡ self.written + (if is_wanted wanted verdict then 1 else 0) }
+        ensures written { result.written ≡ self.written + (if kept then 1 else 0) }
         ensures not_utf8 { result.not_utf8
             ≡ self.not_utf8 + (if is_none verdict then 1 else 0) }
     {
         let Filtered { written, not_utf8 } = self;
-        match verdict {
-            Some(verdict) if verdict == wanted => Filtered {
-                written: written + 1,
-                not_utf8,
-            },
-            Some(_) => self,
-            None => Filtered {
-                written,
-                not_utf8: not_utf8 + 1,
+        Filtered {
+            written: if kept { written + 1 } else { written },
+            not_utf8: match verdict {
+                Some(_) => not_utf8,
+                None => not_utf8 + 1,
             },
         }
     }
+
+    // Whether each line had a verdict.
+    pub(crate) fn is_of_items(self) -> bool
+        ensures { IsTrue result ↔ (self.not_utf8 ≡ 0) }
+    {
+        self.not_utf8 == 0
+    }
 }
 
-// Writes the line where the verdict is the wanted one.
-fn write_wanted<W: Write>(
-    output: &mut W,
-    line: &[u8],
-    wanted: bool,
-    verdict: Option<bool>,
-) -> Result<(), RunFault>
-    ensures { OnOk result (Appends (W.contents output.old) (W.contents output.new)
-        (if is_wanted wanted verdict then line.now else [])) }
+// Whether the verdict is the wanted one.
+fn is_wanted(wanted: bool, verdict: Option<bool>) -> bool
+    ensures { result ≡ is_wanted wanted verdict }
 {
     match verdict {
-        Some(verdict) if verdict == wanted => write_bytes(output, line),
-        _ => Ok(()),
+        Some(verdict) => verdict == wanted,
+        None => false,
     }
-}
-
-// Writes the lines of the wanted verdict, and what is told of each line.
-fn filter_judged<J: JudgeLine, R: BufRead, W: Write, T: Write>(
-    alloc: Global,
-    judge: &J,
-    wanted: bool,
-    input: &mut R,
-    output: &mut W,
-    reasons: &mut T,
-) -> Result<Filtered, RunFault>
-    requires { J.lawful judge.now }
-    ensures { IfOk result (HasFilteredTelling (J.has judge.now) (J.is_told judge.now) wanted
-        (R.remaining input.old) (R.remaining input.new)
-        (W.contents output.old) (W.contents output.new)
-        (T.contents reasons.old) (T.contents reasons.new)) }
-{
-    let mut line = Vec::new(alloc);
-    let mut item = String::new(alloc);
-    let mut told = String::new(alloc);
-    let mut counts = Filtered {
-        written: 0,
-        not_utf8: 0,
-    };
-    for taken in 0..u64::MAX {
-        if !next_line(input, &mut line)? {
-            flush(output)?;
-            flush(reasons)?;
-            return Ok(counts);
-        }
-        let verdict = judge.judge(alloc, taken + 1, &line, &mut item, &mut told)?;
-        write_wanted(output, &line, wanted, verdict)?;
-        write_bytes(reasons, told.as_bytes())?;
-        counts = counts.count(wanted, verdict);
-    }
-    // More lines than can be counted.
-    if next_line(input, &mut line)? {
-        return Err(RunFault::Input);
-    }
-    flush(output)?;
-    flush(reasons)?;
-    Ok(counts)
 }
 
 /// Writes those lines of the input of which the verdict is the wanted one, byte for byte, and
@@ -133,14 +85,8 @@ pub fn filter_lines<P: Predicate<String>, R: BufRead, W: Write>(
         (W.contents output.old) (W.contents output.new)) }
 {
     let mut untold = Vec::new(alloc);
-    filter_judged(
-        alloc,
-        &Verdicts { predicate },
-        wanted,
-        input,
-        output,
-        &mut untold,
-    )
+    let judge = Verdicts { predicate, wanted };
+    run_lines(alloc, &judge, input, output, &mut untold)
 }
 
 /// Does what `filter_lines` does, and writes to `reasons` why each line that is not written has
@@ -172,5 +118,5 @@ pub fn filter_with_reasons<P: Predicate<String>, R: BufRead, W: Write, T: Write>
         (T.contents reasons.old) (T.contents reasons.new)) }
 {
     let judge = Reasons { predicate, wanted };
-    filter_judged(alloc, &judge, wanted, input, output, reasons)
+    run_lines(alloc, &judge, input, output, reasons)
 }

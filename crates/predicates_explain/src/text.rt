@@ -1,11 +1,11 @@
 //! A run over texts.
-ghost use Rattle.std.specs.Prelude.{◌≡◌, IfOk, OnOk, string_bytes};
+ghost use Rattle.std.specs.Prelude.{◌≡◌, false, IfOk, OnOk, string_bytes};
 ghost use Rattle.std.specs.Str.{IsUtf8};
 ghost use Rattle.predicates_explain.specs.TextAnswers.{line_label, no_text, IsTextAnswer};
-ghost use Rattle.predicates_explain.specs.Runs.{HasRun};
+ghost use Rattle.predicates_explain.specs.Runs.{IsItemVerdict, IsToldAs, HasRun};
 
 use crate::block::complete_block;
-use crate::run::{AnswerLine, run_lines};
+use crate::run::{JudgeLine, Line, drop_last, run_lines};
 use predicates_core::Predicate;
 use predicates_lines::RunFault;
 use std::alloc::{AllocError, Global};
@@ -43,32 +43,35 @@ pub(crate) fn set_item(item: &mut String, line: &str) -> Result<(), AllocError>
     item.push_str(line)
 }
 
-impl<P: Predicate<String>> AnswerLine for Texts<'_, P> {
+impl<P: Predicate<String>> JudgeLine for Texts<'_, P> {
     ghost lawful = { λ s. P.lawful s.predicate.now };
 
-    ghost is_answer = { λ s number line written. IsTextAnswer (P.formula s.predicate.now) number
-        line written };
+    ghost is_verdict = { λ _. IsItemVerdict IsUtf8 };
 
-    ghost is_item = { λ _ line. IsUtf8 line };
+    ghost is_kept = { λ _ _. false };
 
-    fn answer(
+    ghost is_told = { λ s. IsToldAs (IsTextAnswer (P.formula s.predicate.now)) };
+
+    fn keeps(&self, _verdict: Option<bool>) -> bool {
+        false
+    }
+
+    fn judge(
         &self,
         alloc: Global,
-        number: u64,
-        line: &[u8],
-        text: &mut String,
-        scratch: &mut String,
-    ) -> Result<bool, AllocError> {
-        match str::from_utf8(line) {
-            Ok(decoded) => {
-                set_item(scratch, decoded)?;
-                write_label(text, number)?;
-                complete_block(alloc, text, self.predicate, &*scratch)?;
-                Ok(true)
+        line: Line<'_>,
+        item: &mut String,
+        told: &mut String,
+    ) -> Result<Option<bool>, AllocError> {
+        match str::from_utf8(drop_last(line.bytes, b'\n')) {
+            Ok(text) => {
+                set_item(item, text)?;
+                write_label(told, line.number)?;
+                Ok(Some(complete_block(alloc, told, self.predicate, &*item)?))
             }
             Err(_) => {
-                write_no_text(text, number)?;
-                Ok(false)
+                write_no_text(told, line.number)?;
+                Ok(None)
             }
         }
     }
@@ -100,5 +103,7 @@ pub fn run_text<P: Predicate<String>, R: BufRead, W: Write>(
         (R.remaining input.old) (R.remaining input.new)
         (W.contents output.old) (W.contents output.new)) }
 {
-    run_lines(alloc, &Texts { predicate }, input, output)
+    let mut unwritten = Vec::new(alloc);
+    let counts = run_lines(alloc, &Texts { predicate }, input, &mut unwritten, output)?;
+    Ok(counts.is_of_items())
 }

@@ -4,12 +4,13 @@ ghost use Rattle.std.specs.Prelude.{◌≡◌, None, IfOk, OnOk, string_bytes};
 ghost use Rattle.predicates_core.specs.Change.{IsFoundChange};
 ghost use Rattle.predicates_core.specs.Combined.{IsNot, IsPair};
 ghost use Rattle.predicates_core.specs.Turning.{IsRightChange};
-ghost use Rattle.predicates_explain.specs.Checks.{check_text, HasFormula};
+ghost use Rattle.predicates_explain.specs.Checks.{check_text, operator_of, HasFormula};
 ghost use Rattle.predicates_explain.specs.Weight.{IsLeafCheck};
 
 use crate::check::TextCheck;
+use crate::check::explain::{PartCases, Parts, Question};
 use predicates_core::Predicate;
-use predicates_core::custom::{Operator, is_other, opposite_of, shown_verdict};
+use predicates_core::custom::{Operator, is_other, kept_if, opposite_of, shown_verdict};
 use predicates_core::node::{printed, unary_node};
 use predicates_core::reflection::Case;
 use predicates_text::{lines_even_view, trimmed_view};
@@ -21,33 +22,32 @@ impl TextCheck {
     pub(crate) fn change_into(
         &self,
         alloc: Global,
-        wanted: Option<bool>,
-        item: &String,
+        question: Question<'_>,
         found: &mut Option<Case>,
     ) -> Result<(), AllocError>
         requires { found.old ≡ None }
         ensures { OnOk result
-            (IsFoundChange (HasFormula self.now (string_bytes item.now)) wanted found.new) }
+            (IsFoundChange (HasFormula self.now (string_bytes question.entry.item.now))
+            question.entry.wanted found.new) }
     {
         match self {
             TextCheck::Trim(inner) => {
                 let mut copy = String::new(alloc);
-                let view = trimmed_view(alloc, item, &mut copy)?;
-                inner.change_into(alloc, wanted, view, found)
+                let item = trimmed_view(alloc, question.item, &mut copy)?;
+                inner.change_into(alloc, Question { item, ..question }, found)
             }
             TextCheck::Normalize(inner) => {
                 let mut copy = String::new(alloc);
-                let view = lines_even_view(alloc, item, &mut copy)?;
-                inner.change_into(alloc, wanted, view, found)
+                let item = lines_even_view(alloc, question.item, &mut copy)?;
+                inner.change_into(alloc, Question { item, ..question }, found)
             }
-            TextCheck::Not(inner) => self.change_not(alloc, inner, wanted, item, found),
+            TextCheck::Not(inner) => self.change_not(alloc, inner, question, found),
             TextCheck::And(left, right)
             | TextCheck::Or(left, right)
             | TextCheck::Xor(left, right) => {
-                let operator = self.operator();
-                self.change_join(alloc, operator, left, right, wanted, item, found)
+                self.change_join(alloc, Parts { left, right }, question, found)
             }
-            _ => self.change_leaf(alloc, wanted, item, found),
+            _ => self.change_leaf(alloc, question, found),
         }
     }
 
@@ -55,15 +55,15 @@ impl TextCheck {
     fn change_leaf(
         &self,
         alloc: Global,
-        wanted: Option<bool>,
-        item: &String,
+        question: Question<'_>,
         found: &mut Option<Case>,
     ) -> Result<(), AllocError>
         requires { IsLeafCheck self.now }
         ensures { OnOk result
-            (IsFoundChange (HasFormula self.now (string_bytes item.now)) wanted found.new) }
+            (IsFoundChange (HasFormula self.now (string_bytes question.entry.item.now))
+            question.entry.wanted found.new) }
     {
-        self.explain_leaf(alloc, wanted, item, found)
+        self.explain_leaf(alloc, question, found)
     }
 
     // As `not_change`.
@@ -73,16 +73,17 @@ impl TextCheck {
         &self,
         alloc: Global,
         inner: &TextCheck,
-        wanted: Option<bool>,
-        item: &String,
+        question: Question<'_>,
         found: &mut Option<Case>,
     ) -> Result<(), AllocError>
         requires { found.old ≡ None }
         ensures { OnOk result (IsFoundChange (IsNot (check_text self.now)
-            (HasFormula inner.now (string_bytes item.now))) wanted found.new) }
+            (HasFormula inner.now (string_bytes question.entry.item.now)))
+            question.entry.wanted found.new) }
     {
         let mut part = None;
-        inner.change_into(alloc, opposite_of(wanted), item, &mut part)?;
+        let wanted = opposite_of(question.wanted);
+        inner.change_into(alloc, Question { wanted, ..question }, &mut part)?;
         let Some(part) = part else {
             return Ok(());
         };
@@ -107,11 +108,13 @@ impl TextCheck {
     {
         match operator {
             Operator::And => {
-                self.change_into(alloc, Some(false), item, found)?;
+                let wanted = Some(false);
+                self.change_into(alloc, Question { wanted, item }, found)?;
                 Ok(found.is_none())
             }
             Operator::Or => {
-                self.change_into(alloc, Some(true), item, found)?;
+                let wanted = Some(true);
+                self.change_into(alloc, Question { wanted, item }, found)?;
                 Ok(found.is_some())
             }
             Operator::Xor => self.eval(alloc, item),
@@ -124,30 +127,34 @@ impl TextCheck {
     fn change_join(
         &self,
         alloc: Global,
-        operator: Operator,
-        left_part: &TextCheck,
-        right_part: &TextCheck,
-        wanted: Option<bool>,
-        item: &String,
+        parts: Parts<'_>,
+        question: Question<'_>,
         found: &mut Option<Case>,
     ) -> Result<(), AllocError>
         requires { found.old ≡ None }
-        ensures { OnOk result (IsFoundChange (IsPair operator (check_text self.now)
-            (HasFormula left_part.now (string_bytes item.now))
-            (HasFormula right_part.now (string_bytes item.now))) wanted found.new) }
+        ensures { OnOk result (IsFoundChange (IsPair (operator_of self.now) (check_text self.now)
+            (HasFormula parts.entry.left.now (string_bytes question.entry.item.now))
+            (HasFormula parts.entry.right.now (string_bytes question.entry.item.now)))
+            question.entry.wanted found.new) }
     {
-        let left_wanted = operator.left_wanted(wanted);
+        let operator = self.operator();
+        let left_wanted = operator.left_wanted(question.wanted);
+        let left_question = Question {
+            wanted: left_wanted,
+            ..question
+        };
         let mut left = None;
-        left_part.change_into(alloc, left_wanted, item, &mut left)?;
+        parts.left.change_into(alloc, left_question, &mut left)?;
         let left_holds = shown_verdict(left_wanted, &left);
         let mut right = None;
-        let right_holds = right_part.change_right(alloc, operator, item, &mut right)?;
+        let item = question.item;
+        let right_holds = parts.right.change_right(alloc, operator, item, &mut right)?;
         let holds = operator.apply(left_holds, right_holds);
-        if is_other(wanted, holds) {
+        if is_other(question.wanted, holds) {
             return Ok(());
         }
-        let keeps_left = operator.keeps(left_holds, right_holds);
-        self.write_node(alloc, holds, keeps_left, left, right, found)?;
+        let kept = kept_if(operator.keeps(left_holds, right_holds), left);
+        self.write_node(alloc, holds, PartCases { left: kept, right }, found)?;
         Ok(())
     }
 }

@@ -2,20 +2,41 @@
 //!
 //! A case is written to a place that is handed down, since an answer that holds one is large, and
 //! each level would copy it.
-ghost use Rattle.std.specs.Prelude.{◌≡◌, None, if◌then◌else◌, OnOk, string_bytes};
+ghost use Rattle.std.specs.Prelude.{◌≡◌, None, OnOk, string_bytes};
 ghost use Rattle.predicates_core.specs.Combined.{IsNot, IsPair};
 ghost use Rattle.predicates_core.specs.Asked.{IsFoundIf};
 ghost use Rattle.predicates_core.specs.Shows.{IsFound, found_parts};
-ghost use Rattle.predicates_explain.specs.Checks.{check_text, HasFormula, IsNodeOf};
+ghost use Rattle.predicates_explain.specs.Checks.{check_text, operator_of, HasFormula, IsNodeOf};
 ghost use Rattle.predicates_explain.specs.Weight.{IsLeafCheck};
 
 use crate::check::TextCheck;
 use predicates_core::Predicate;
-use predicates_core::custom::{Operator, is_other, kept_if, opposite_of, shown_verdict};
+use predicates_core::custom::{is_other, kept_if, opposite_of, shown_verdict};
 use predicates_core::node::{binary_node_of, printed, unary_node};
 use predicates_core::reflection::Case;
 use predicates_text::{lines_even_view, trimmed_view};
 use std::alloc::{AllocError, Global};
+
+// What is asked: about which item, and the case of which verdict, if only one is wanted.
+#[derive(Clone, Copy)]
+pub(crate) struct Question<'a> {
+    pub(crate) wanted: Option<bool>,
+    pub(crate) item: &'a String,
+}
+
+// The parts of a check that joins two.
+#[derive(Clone, Copy)]
+pub(crate) struct Parts<'a> {
+    pub(crate) left: &'a TextCheck,
+    pub(crate) right: &'a TextCheck,
+}
+
+// What was found of each of them.
+#[derive(Drop)]
+pub(crate) struct PartCases {
+    pub(crate) left: Option<Case>,
+    pub(crate) right: Option<Case>,
+}
 
 impl TextCheck {
     // The `explain` of the check. The place for the case holds none before.
@@ -23,33 +44,32 @@ impl TextCheck {
     pub(crate) fn explain_into(
         &self,
         alloc: Global,
-        wanted: Option<bool>,
-        item: &String,
+        question: Question<'_>,
         found: &mut Option<Case>,
     ) -> Result<(), AllocError>
         requires { found.old ≡ None }
         ensures { OnOk result
-            (IsFound (HasFormula self.now (string_bytes item.now)) wanted found.new) }
+            (IsFound (HasFormula self.now (string_bytes question.entry.item.now))
+            question.entry.wanted found.new) }
     {
         match self {
             TextCheck::Trim(inner) => {
                 let mut copy = String::new(alloc);
-                let view = trimmed_view(alloc, item, &mut copy)?;
-                inner.explain_into(alloc, wanted, view, found)
+                let item = trimmed_view(alloc, question.item, &mut copy)?;
+                inner.explain_into(alloc, Question { item, ..question }, found)
             }
             TextCheck::Normalize(inner) => {
                 let mut copy = String::new(alloc);
-                let view = lines_even_view(alloc, item, &mut copy)?;
-                inner.explain_into(alloc, wanted, view, found)
+                let item = lines_even_view(alloc, question.item, &mut copy)?;
+                inner.explain_into(alloc, Question { item, ..question }, found)
             }
-            TextCheck::Not(inner) => self.explain_not(alloc, inner, wanted, item, found),
+            TextCheck::Not(inner) => self.explain_not(alloc, inner, question, found),
             TextCheck::And(left, right)
             | TextCheck::Or(left, right)
             | TextCheck::Xor(left, right) => {
-                let operator = self.operator();
-                self.explain_join(alloc, operator, left, right, wanted, item, found)
+                self.explain_join(alloc, Parts { left, right }, question, found)
             }
-            _ => self.explain_leaf(alloc, wanted, item, found),
+            _ => self.explain_leaf(alloc, question, found),
         }
     }
 
@@ -58,21 +78,21 @@ impl TextCheck {
     pub(crate) fn explain_leaf(
         &self,
         alloc: Global,
-        wanted: Option<bool>,
-        item: &String,
+        question: Question<'_>,
         found: &mut Option<Case>,
     ) -> Result<(), AllocError>
         requires { IsLeafCheck self.now }
         ensures { OnOk result
-            (IsFound (HasFormula self.now (string_bytes item.now)) wanted found.new) }
+            (IsFound (HasFormula self.now (string_bytes question.entry.item.now))
+            question.entry.wanted found.new) }
     {
         let answer = match self {
-            TextCheck::Empty(leaf) => leaf.explain(alloc, wanted, item),
-            TextCheck::Equals(leaf) => leaf.explain(alloc, wanted, item),
-            TextCheck::Starts(leaf) => leaf.explain(alloc, wanted, item),
-            TextCheck::Ends(leaf) => leaf.explain(alloc, wanted, item),
-            TextCheck::Contains(leaf) => leaf.explain(alloc, wanted, item),
-            TextCheck::Matches(leaf) => leaf.explain(alloc, wanted, item),
+            TextCheck::Empty(leaf) => leaf.explain(alloc, question.wanted, question.item),
+            TextCheck::Equals(leaf) => leaf.explain(alloc, question.wanted, question.item),
+            TextCheck::Starts(leaf) => leaf.explain(alloc, question.wanted, question.item),
+            TextCheck::Ends(leaf) => leaf.explain(alloc, question.wanted, question.item),
+            TextCheck::Contains(leaf) => leaf.explain(alloc, question.wanted, question.item),
+            TextCheck::Matches(leaf) => leaf.explain(alloc, question.wanted, question.item),
             _ => unreachable!(),
         };
         *found = answer?;
@@ -86,16 +106,17 @@ impl TextCheck {
         &self,
         alloc: Global,
         inner: &TextCheck,
-        wanted: Option<bool>,
-        item: &String,
+        question: Question<'_>,
         found: &mut Option<Case>,
     ) -> Result<(), AllocError>
         requires { found.old ≡ None }
         ensures { OnOk result (IsFound (IsNot (check_text self.now)
-            (HasFormula inner.now (string_bytes item.now))) wanted found.new) }
+            (HasFormula inner.now (string_bytes question.entry.item.now)))
+            question.entry.wanted found.new) }
     {
         let mut part = None;
-        inner.explain_into(alloc, opposite_of(wanted), item, &mut part)?;
+        let wanted = opposite_of(question.wanted);
+        inner.explain_into(alloc, Question { wanted, ..question }, &mut part)?;
         let Some(part) = part else {
             return Ok(());
         };
@@ -111,16 +132,16 @@ impl TextCheck {
         &self,
         alloc: Global,
         asked: bool,
-        wanted: Option<bool>,
-        item: &String,
+        question: Question<'_>,
         found: &mut Option<Case>,
     ) -> Result<(), AllocError>
         requires { found.old ≡ None }
         ensures { OnOk result
-            (IsFoundIf asked (HasFormula self.now (string_bytes item.now)) wanted found.new) }
+            (IsFoundIf asked (HasFormula self.now (string_bytes question.entry.item.now))
+            question.entry.wanted found.new) }
     {
         if asked {
-            self.explain_into(alloc, wanted, item, found)
+            self.explain_into(alloc, question, found)
         } else {
             Ok(())
         }
@@ -132,54 +153,60 @@ impl TextCheck {
     fn explain_join(
         &self,
         alloc: Global,
-        operator: Operator,
-        left_part: &TextCheck,
-        right_part: &TextCheck,
-        wanted: Option<bool>,
-        item: &String,
+        parts: Parts<'_>,
+        question: Question<'_>,
         found: &mut Option<Case>,
     ) -> Result<(), AllocError>
         requires { found.old ≡ None }
-        ensures { OnOk result (IsFound (IsPair operator (check_text self.now)
-            (HasFormula left_part.now (string_bytes item.now))
-            (HasFormula right_part.now (string_bytes item.now))) wanted found.new) }
+        ensures { OnOk result (IsFound (IsPair (operator_of self.now) (check_text self.now)
+            (HasFormula parts.entry.left.now (string_bytes question.entry.item.now))
+            (HasFormula parts.entry.right.now (string_bytes question.entry.item.now)))
+            question.entry.wanted found.new) }
     {
-        let left_wanted = operator.left_wanted(wanted);
+        let operator = self.operator();
+        let left_wanted = operator.left_wanted(question.wanted);
+        let left_question = Question {
+            wanted: left_wanted,
+            ..question
+        };
         let mut left = None;
-        left_part.explain_into(alloc, left_wanted, item, &mut left)?;
+        parts.left.explain_into(alloc, left_question, &mut left)?;
         let left_holds = shown_verdict(left_wanted, &left);
         let asks = operator.asks(left_holds);
-        let right_wanted = operator.right_wanted(wanted, left_holds);
+        let right_wanted = operator.right_wanted(question.wanted, left_holds);
+        let right_question = Question {
+            wanted: right_wanted,
+            ..question
+        };
         let mut right = None;
-        right_part.explain_if(alloc, asks, right_wanted, item, &mut right)?;
+        parts
+            .right
+            .explain_if(alloc, asks, right_question, &mut right)?;
         let right_holds = shown_verdict(right_wanted, &right);
         let holds = operator.apply(left_holds, right_holds);
-        if is_other(wanted, holds) {
+        if is_other(question.wanted, holds) {
             return Ok(());
         }
-        let keeps_left = operator.keeps(left_holds, right_holds);
-        self.write_node(alloc, holds, keeps_left, left, right, found)?;
+        let kept = kept_if(operator.keeps(left_holds, right_holds), left);
+        self.write_node(alloc, holds, PartCases { left: kept, right }, found)?;
         Ok(())
     }
 
-    // Writes the node over the parts that were found, the left one if it is to be kept. It is not
-    // inlined, so that a level without a case has a small frame.
+    // Writes the node over the cases of the parts. It is not inlined, so that a level without a
+    // case has a small frame.
     #[inline(never)]
     pub(crate) fn write_node(
         &self,
         alloc: Global,
         holds: bool,
-        keeps_left: bool,
-        left: Option<Case>,
-        right: Option<Case>,
+        cases: PartCases,
         found: &mut Option<Case>,
     ) -> Result<(), AllocError>
-        ensures { OnOk result (IsNodeOf self.now holds
-            (found_parts (if keeps_left then left else None) right) found.new) }
+        ensures { OnOk result
+            (IsNodeOf self.now holds (found_parts cases.left cases.right) found.new) }
     {
-        let kept = kept_if(keeps_left, left);
         let text = printed(alloc, self)?;
-        *found = Some(binary_node_of(alloc, text, holds, kept, right)?);
+        *found = Some(binary_node_of(alloc, text, holds, cases.left, cases.right)?);
         Ok(())
     }
 }

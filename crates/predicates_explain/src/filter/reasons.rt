@@ -3,11 +3,11 @@ ghost use Rattle.std.specs.Prelude.{◌≡◌, ◌++◌, IfOk, OnOk, string_byte
 ghost use Rattle.predicates_core.specs.Lines.{lines};
 ghost use Rattle.predicates_explain.specs.Blocks.{heading};
 ghost use Rattle.predicates_explain.specs.TextAnswers.{line_label};
-ghost use Rattle.predicates_explain.specs.Filtered.{IsVerdict, IsReason};
+ghost use Rattle.predicates_explain.specs.Filtered.{is_wanted, IsVerdict, IsReason};
 
-use super::judge::JudgeLine;
+use super::is_wanted;
 use crate::block::write_verdict;
-use crate::run::drop_last;
+use crate::run::{JudgeLine, Line, drop_last};
 use crate::text::{set_item, write_label, write_no_text};
 use predicates_core::Predicate;
 use predicates_core::reflection::{Case, render_onto};
@@ -34,27 +34,32 @@ fn write_block(text: &mut String, number: u64, holds: bool, case: &Case) -> Resu
 impl<P: Predicate<String>> JudgeLine for Reasons<'_, P> {
     ghost lawful = { λ s. P.lawful s.predicate.now };
 
-    ghost has = { λ s. P.formula s.predicate.now };
+    ghost is_verdict = { λ s. IsVerdict (P.formula s.predicate.now) };
+
+    ghost is_kept = { λ s. is_wanted s.wanted };
 
     ghost is_told = { λ s. IsReason (P.formula s.predicate.now) s.wanted };
+
+    fn keeps(&self, verdict: Option<bool>) -> bool {
+        is_wanted(self.wanted, verdict)
+    }
 
     fn judge(
         &self,
         alloc: Global,
-        number: u64,
-        line: &[u8],
+        line: Line<'_>,
         item: &mut String,
         told: &mut String,
     ) -> Result<Option<bool>, AllocError> {
-        let Ok(text) = str::from_utf8(drop_last(line, b'\n')) else {
-            write_no_text(told, number)?;
+        let Ok(text) = str::from_utf8(drop_last(line.bytes, b'\n')) else {
+            write_no_text(told, line.number)?;
             return Ok(None);
         };
         set_item(item, text)?;
         let unwanted = !self.wanted;
         match self.predicate.explain(alloc, Some(unwanted), &*item)? {
             Some(case) => {
-                write_block(told, number, unwanted, &case)?;
+                write_block(told, line.number, unwanted, &case)?;
                 Ok(Some(unwanted))
             }
             None => {

@@ -1,9 +1,9 @@
 //! Verdicts on lines, of which nothing is told.
 ghost use Rattle.std.specs.Prelude.{◌≡◌, [], IfOk, string_bytes};
-ghost use Rattle.predicates_explain.specs.Filtered.{IsVerdict};
+ghost use Rattle.predicates_explain.specs.Filtered.{is_wanted, IsVerdict};
 
-use super::judge::JudgeLine;
-use crate::run::drop_last;
+use super::is_wanted;
+use crate::run::{JudgeLine, Line, drop_last};
 use crate::text::set_item;
 use predicates_core::Predicate;
 use std::alloc::{AllocError, Global};
@@ -13,25 +13,31 @@ use std::str;
 #[derive(Drop)]
 pub(super) struct Verdicts<'a, P> {
     pub(super) predicate: &'a P,
+    pub(super) wanted: bool,
 }
 
 impl<P: Predicate<String>> JudgeLine for Verdicts<'_, P> {
     ghost lawful = { λ s. P.lawful s.predicate.now };
 
-    ghost has = { λ s. P.formula s.predicate.now };
+    ghost is_verdict = { λ s. IsVerdict (P.formula s.predicate.now) };
+
+    ghost is_kept = { λ s. is_wanted s.wanted };
 
     ghost is_told = { λ _ _ _ told. told ≡ [] };
+
+    fn keeps(&self, verdict: Option<bool>) -> bool {
+        is_wanted(self.wanted, verdict)
+    }
 
     fn judge(
         &self,
         alloc: Global,
-        _number: u64,
-        line: &[u8],
+        line: Line<'_>,
         item: &mut String,
         told: &mut String,
     ) -> Result<Option<bool>, AllocError> {
         told.clear();
-        match str::from_utf8(drop_last(line, b'\n')) {
+        match str::from_utf8(drop_last(line.bytes, b'\n')) {
             Ok(text) => {
                 set_item(item, text)?;
                 Ok(Some(self.predicate.eval(alloc, &*item)?))

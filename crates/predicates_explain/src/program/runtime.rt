@@ -1,31 +1,12 @@
 //! The program over what its process is given.
 use super::command_line::run_command_line;
 use super::exit::Exit;
+use predicates_lines::Stderr;
 use std::alloc::{AllocError, Global};
 use std::env::FillError;
-use std::io::{BufReader, BufWriter, Error, ErrorKind, Write};
+use std::io;
+use std::io::{BufReader, BufWriter, Write};
 use std::rt::Env;
-use std::{io, str};
-
-// Standard error, as a place for texts.
-#[derive(Drop)]
-struct Stderr<'a, E> {
-    rt: &'a E,
-}
-
-impl<E: Eprint> Write for Stderr<'_, E> {
-    fn write(&mut self, buf: &[u8]) -> io::Result<usize> {
-        let Ok(text) = str::from_utf8(buf) else {
-            return Err(Error::from(ErrorKind::InvalidData));
-        };
-        self.rt.eprint(text)?;
-        Ok(buf.len())
-    }
-
-    fn flush(&mut self) -> io::Result<()> {
-        Ok(())
-    }
-}
 
 // The word at the place, or `None` past the last one.
 fn read_argument<E: Env>(

@@ -47,14 +47,20 @@ fn lines_by_their_verdict(rt: HostRuntime) -> Result<(), Fail> {
     Ok(())
 }
 
-// Whether the filter that tells writes the lines to the one writer and the reasons to the other.
+// What the filter that tells writes: the lines, and what it tells of the others.
+#[derive(Clone, Copy)]
+struct Sifted<'a> {
+    lines: &'a [u8],
+    told: &'a str,
+}
+
+// Whether that filter writes these to its two writers.
 fn tells(
     alloc: Global,
     words: &[&str],
     wanted: bool,
     input: &[u8],
-    lines: &[u8],
-    told: &str,
+    sifted: Sifted<'_>,
 ) -> Result<bool, Fail> {
     let check = read_check(alloc, words)?;
     let mut reader = input;
@@ -67,7 +73,7 @@ fn tells(
         &mut output,
         &mut reasons,
     )?;
-    Ok(output.as_slice() == lines && reasons.as_slice() == told.as_bytes())
+    Ok(output.as_slice() == sifted.lines && reasons.as_slice() == sifted.told.as_bytes())
 }
 
 // The wanted verdict, the input, what is written, and what is told of the other lines, where lines
@@ -104,7 +110,8 @@ const MARKED: [(bool, &[u8], &[u8], &str); 6] = [
 #[test]
 fn reasons_of_the_lines_left_out(rt: HostRuntime) -> Result<(), Fail> {
     for (wanted, input, lines, told) in MARKED {
-        let holds = tells(rt.alloc(), &["contains=#"], wanted, input, lines, told)?;
+        let sifted = Sifted { lines, told };
+        let holds = tells(rt.alloc(), &["contains=#"], wanted, input, sifted)?;
         assert!(rt; holds, "{input:?}");
     }
     Ok(())
@@ -123,7 +130,11 @@ line 4: not UTF-8
 fn reasons_of_a_comment(rt: HostRuntime) -> Result<(), Fail> {
     let words = ["empty", "trim", "starts=#", "trim", "or", "not"];
     let input = b"one\n  # a note\ntwo\n\xff\n".as_slice();
-    let holds = tells(rt.alloc(), &words, true, input, b"one\ntwo\n", COMMENT)?;
+    let sifted = Sifted {
+        lines: b"one\ntwo\n",
+        told: COMMENT,
+    };
+    let holds = tells(rt.alloc(), &words, true, input, sifted)?;
     assert!(rt; holds);
     Ok(())
 }

@@ -78,15 +78,16 @@ const REFUSED_PATTERNS: [&[u8]; 5] = [
     b"text|empty|empty|match=(",
 ];
 
-// Whether the words end so on the input, and the message could be written.
-fn ends(
-    alloc: Global,
-    line: &[u8],
-    input: &[u8],
+// How a call ends, with what it writes.
+#[derive(Clone, Copy)]
+struct End<'a> {
     status: u8,
-    output: &str,
-    message: &str,
-) -> Result<bool, AllocError> {
+    output: &'a str,
+    message: &'a str,
+}
+
+// Whether the words end so on the input, and the message could be written.
+fn ends(alloc: Global, line: &[u8], input: &[u8], wanted: End<'_>) -> Result<bool, AllocError> {
     let words = split_words(alloc, line)?;
     let mut reader = input;
     let mut written = Vec::new(alloc);
@@ -99,12 +100,16 @@ fn ends(
         &mut messages,
     );
     // Wrong words are reported before any input is read.
-    let left = if status < 2 { b"".as_slice() } else { input };
+    let left = if wanted.status < 2 {
+        b"".as_slice()
+    } else {
+        input
+    };
     Ok(
-        end.status() == status
+        end.status() == wanted.status
             && message_written
-            && written.as_slice() == output.as_bytes()
-            && messages.as_slice() == message.as_bytes()
+            && written.as_slice() == wanted.output.as_bytes()
+            && messages.as_slice() == wanted.message.as_bytes()
             && reader == left,
     )
 }
@@ -112,15 +117,24 @@ fn ends(
 #[test]
 fn statuses_and_outputs_of_words(rt: HostRuntime) -> Result<(), Fail> {
     for (line, input, status, output) in ROWS {
-        let holds = ends(rt.alloc(), line, input, status, output, "")?;
-        assert!(rt; holds, "at {line:?}");
+        let wanted = End {
+            status,
+            output,
+            message: "",
+        };
+        assert!(rt; ends(rt.alloc(), line, input, wanted)?, "at {line:?}");
     }
     Ok(())
 }
 
 // Whether the words are refused with the message, whatever the input.
 fn is_refused(alloc: Global, line: &[u8], message: &str) -> Result<bool, AllocError> {
-    ends(alloc, line, b"7", 2, "", message)
+    let wanted = End {
+        status: 2,
+        output: "",
+        message,
+    };
+    ends(alloc, line, b"7", wanted)
 }
 
 #[test]

@@ -1,7 +1,8 @@
-use Rattle.predicates_explain.proofs.Progress.{HasAnswered}
+use Rattle.predicates_explain.proofs.Filtering.{HasPassed}
 use Rattle.predicates_explain.proofs.run.run_lines.Given as goal
 
 abbrev pub invariant-loop-taken : goal.invariant-loop-taken
-invariant-loop-taken g l = HasAnswered (g.C.AnswerLine.is_answer l.check) (g.C.AnswerLine.is_item l.check)
+invariant-loop-taken g l = HasPassed (g.J.JudgeLine.is_verdict l.judge) (g.J.JudgeLine.is_kept l.judge) (g.J.JudgeLine.is_told l.judge)
     (g.R.Read.remaining l.initial.input) (g.R.Read.remaining l.input)
-    (g.W.Write.contents l.initial.output) (g.W.Write.contents l.output) l.taken l.all
+    (g.W.Write.contents l.initial.output) (g.W.Write.contents l.output)
+    (g.T.Write.contents l.initial.reasons) (g.T.Write.contents l.reasons) l.taken l.counts

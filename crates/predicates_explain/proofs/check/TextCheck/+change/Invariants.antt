@@ -12,4 +12,4 @@ abbrev pub decreases-change_right : goal.decreases-change_right
 decreases-change_right l = 4 * weight l.self.now + 1
 
 abbrev pub decreases-change_join : goal.decreases-change_join
-decreases-change_join l = 4 * (weight l.left_part.now + weight l.right_part.now) + 2
+decreases-change_join l = 4 * (weight l.parts.left.now + weight l.parts.right.now) + 2

@@ -6,16 +6,16 @@ use Rattle.predicates_explain.proofs.Joined.{found_of_node}
 use Rattle.predicates_explain.proofs.check.TextCheck.+explain.Goals as goal
 
 pub explain_not-returns-in_default : goal.explain_not-returns-in_default
-explain_not-returns-in_default t c = rw (c.requires) (none_of_not _ _ c.args.wanted (rw (← c.opposite_of.ensures, ← c.in_default.is) c.in_ok-explain_into.ensures))
+explain_not-returns-in_default t c = rw (c.requires) (none_of_not _ _ c.args.question.wanted (rw (← c.opposite_of-wanted.ensures, ← c.in_default.is) c.in_ok-explain_into.ensures))
 
 pub explain_not-returns : goal.explain_not-returns
-explain_not-returns t c = case_of_not _ _ c.args.wanted (rw (c.result-outcome.ensures, c.root.ensures.value) at c.in_ok-unary_node.ensures) c.in_ok-text.ensures (rw (← c.opposite_of.ensures, ← c.in-Some.is) c.in_ok-explain_into.ensures)
+explain_not-returns t c = case_of_not _ _ c.args.question.wanted (rw (c.result-outcome.ensures, c.root.ensures.value) at c.in_ok-unary_node.ensures) c.in_ok-text.ensures (rw (← c.opposite_of-wanted.ensures, ← c.in-Some.is) c.in_ok-explain_into.ensures)
 
 pub explain_join-returns-then-is_other : goal.explain_join-returns-then-is_other
-explain_join-returns-then-is_other t c = rw (c.requires) (none_in_turn c.args.operator c.args.wanted c.explain_into.new.found c.explain_if.new.found (check_text c.args.self.now) (HasFormula c.args.left_part.now (string_bytes c.args.item.now)) (HasFormula c.args.right_part.now (string_bytes c.args.item.now))
+explain_join-returns-then-is_other t c = rw (c.requires, ← c.operator-operator.ensures) (none_in_turn c.operator-operator.result c.args.question.wanted c.explain_into.new.found c.explain_if.new.found (check_text c.args.self.now) (HasFormula c.args.parts.left.now (string_bytes c.args.question.item.now)) (HasFormula c.args.parts.right.now (string_bytes c.args.question.item.now))
     c.left_wanted-left_wanted.ensures c.in_ok-explain_into.ensures c.shown_verdict-left_holds.ensures c.asks-asks.ensures c.right_wanted-right_wanted.ensures c.in_ok-explain_if.ensures c.shown_verdict-right_holds.ensures c.apply-holds.ensures (rw (← c.is_other.ensures) c.if-is_other.true))
 
 pub explain_join-returns : goal.explain_join-returns
-explain_join-returns t c = found_of_node c.args.self.now _ _ _ c.args.wanted c.write_node.new.found c.in_ok-write_node.ensures (λ bytes t fits written. case_in_turn c.args.operator c.args.wanted c.explain_into.new.found c.explain_if.new.found (check_text c.args.self.now) (HasFormula c.args.left_part.now (string_bytes c.args.item.now)) (HasFormula c.args.right_part.now (string_bytes c.args.item.now)) bytes
+explain_join-returns t c = rw (← c.operator-operator.ensures) (found_of_node c.args.self.now _ _ _ c.args.question.wanted c.write_node.new.found (rw (c.kept_if-kept.ensures) at c.in_ok-write_node.ensures) (λ bytes t fits written. case_in_turn c.operator-operator.result c.args.question.wanted c.explain_into.new.found c.explain_if.new.found (check_text c.args.self.now) (HasFormula c.args.parts.left.now (string_bytes c.args.question.item.now)) (HasFormula c.args.parts.right.now (string_bytes c.args.question.item.now)) bytes
     c.left_wanted-left_wanted.ensures c.in_ok-explain_into.ensures c.shown_verdict-left_holds.ensures c.asks-asks.ensures c.right_wanted-right_wanted.ensures c.in_ok-explain_if.ensures c.shown_verdict-right_holds.ensures c.apply-holds.ensures (rw (← c.is_other.ensures) c.if-is_other.false)
-    c.keeps-keeps_left.ensures written fits)
+    c.keeps.ensures written fits))

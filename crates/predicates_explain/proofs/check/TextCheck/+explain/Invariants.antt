@@ -12,4 +12,4 @@ abbrev pub decreases-explain_if : goal.decreases-explain_if
 decreases-explain_if l = 4 * weight l.self.now + 1
 
 abbrev pub decreases-explain_join : goal.decreases-explain_join
-decreases-explain_join l = 4 * (weight l.left_part.now + weight l.right_part.now) + 2
+decreases-explain_join l = 4 * (weight l.parts.left.now + weight l.parts.right.now) + 2
