@@ -15,13 +15,15 @@ mod odd;
 
 use self::members::{members_threshold_changed, quantified_changed};
 use self::odd::odd_changed;
+use crate::asked::Asked;
 use crate::check::Check;
-use crate::hold::{are_lawful, holds};
+use crate::hold::{Left, are_lawful, holds};
 use crate::members::Members;
 use predicates_core::PredicateChange;
 use predicates_core::custom::{
-    Operator, asked_at, enough_of, first_alone, is_first_passed, is_other, is_settled, kept_if,
-    next_change, no_member, node_of_first, opposite_of, settled_case, shown_verdict, with_index,
+    Counting, Deciding, Operator, asked_at, enough_of, first_alone, is_first_passed, is_other,
+    is_settled, kept_if, next_change, no_member, node_of_first, opposite_of, settled_case,
+    shown_verdict, with_index,
 };
 use predicates_core::node::{binary_node_of, printed, unary_node};
 use predicates_core::reflection::Case;
@@ -40,30 +42,34 @@ pub(crate) fn changed<L: PredicateChange<Item>, V: Members<Item>, Item>(
         (IsFoundChange (Has L.output V.output L.formula V.members_of V.reason_of item.now check.now)
         wanted) }
 {
+    let asked = Asked {
+        whole: check,
+        wanted,
+        item,
+    };
     match check {
         Check::Leaf(leaf) => leaf.find_change(alloc, wanted, item),
-        Check::Not(inner) => not_changed(alloc, inner, check, wanted, item),
-        Check::Named(name, inner) => {
-            named_changed(alloc, inner, name.as_str(), check, wanted, item)
-        }
-        Check::Pair(operator, left_part, right_part) => {
+        Check::Not(inner) => not_changed(alloc, inner, asked),
+        Check::Named(name, inner) => named_changed(alloc, inner, name.as_str(), asked),
+        Check::Pair(operator, part, right_part) => {
             let operator = *operator;
-            let left_part: &Check<L, V> = left_part;
-            let left = changed(alloc, left_part, operator.left_wanted(wanted), item)?;
-            pair_changed(
-                alloc, right_part, left_part, operator, check, left, wanted, item,
-            )
+            let part: &Check<L, V> = part;
+            let found = changed(alloc, part, operator.left_wanted(wanted), item)?;
+            let left = Left {
+                operator,
+                part,
+                found,
+            };
+            pair_changed(alloc, right_part, left, asked)
         }
-        Check::Row(decides, parts) => row_changed(alloc, parts, *decides, check, wanted, item),
-        Check::AtLeast(least, parts) => {
-            threshold_changed(alloc, parts, *least, check, wanted, item)
-        }
-        Check::Odd(parts) => odd_changed(alloc, parts, check, wanted, item),
+        Check::Row(decides, parts) => row_changed(alloc, parts, *decides, asked),
+        Check::AtLeast(least, parts) => threshold_changed(alloc, parts, *least, asked),
+        Check::Odd(parts) => odd_changed(alloc, parts, asked),
         Check::Quantified(decides, view, inner) => {
-            quantified_changed(alloc, inner, view, *decides, check, wanted, item)
+            quantified_changed(alloc, inner, view, *decides, asked)
         }
         Check::MembersAtLeast(least, view, inner) => {
-            members_threshold_changed(alloc, inner, view, *least, check, wanted, item)
+            members_threshold_changed(alloc, inner, view, *least, asked)
         }
     }
 }
@@ -73,20 +79,18 @@ pub(crate) fn changed<L: PredicateChange<Item>, V: Members<Item>, Item>(
 fn not_changed<L: PredicateChange<Item>, V: Members<Item>, Item>(
     alloc: Global,
     inner: &Check<L, V>,
-    whole: &Check<L, V>,
-    wanted: Option<bool>,
-    item: &Item,
+    asked: Asked<'_, L, V, Item>,
 ) -> Result<Option<Case>, AllocError>
     requires lawful { AllOf L.lawful inner.now }
-    requires whole { tree_of whole.now ≡ Denies (tree_of inner.now) }
-    ensures { IfOk result
-        (IsFoundChange (Has L.output V.output L.formula V.members_of V.reason_of item.now whole.now)
-        wanted) }
+    requires whole { tree_of asked.whole.now ≡ Denies (tree_of inner.now) }
+    ensures { IfOk result (IsFoundChange
+        (Has L.output V.output L.formula V.members_of V.reason_of asked.entry.item.now
+        asked.entry.whole.now) asked.entry.wanted) }
 {
-    let Some(part) = changed(alloc, inner, opposite_of(wanted), item)? else {
+    let Some(part) = changed(alloc, inner, opposite_of(asked.wanted), asked.item)? else {
         return Ok(None);
     };
-    let text = printed(alloc, whole)?;
+    let text = printed(alloc, asked.whole)?;
     let outcome = !part.root().result();
     let node = unary_node(alloc, text, outcome, "predicate", part)?;
     Ok(Some(node))
@@ -98,17 +102,15 @@ fn named_changed<L: PredicateChange<Item>, V: Members<Item>, Item>(
     alloc: Global,
     inner: &Check<L, V>,
     name: &'static str,
-    whole: &Check<L, V>,
-    wanted: Option<bool>,
-    item: &Item,
+    asked: Asked<'_, L, V, Item>,
 ) -> Result<Option<Case>, AllocError>
     requires lawful { AllOf L.lawful inner.now }
-    requires whole { tree_of whole.now ≡ Names name.now (tree_of inner.now) }
-    ensures { IfOk result
-        (IsFoundChange (Has L.output V.output L.formula V.members_of V.reason_of item.now whole.now)
-        wanted) }
+    requires whole { tree_of asked.whole.now ≡ Names name.now (tree_of inner.now) }
+    ensures { IfOk result (IsFoundChange
+        (Has L.output V.output L.formula V.members_of V.reason_of asked.entry.item.now
+        asked.entry.whole.now) asked.entry.wanted) }
 {
-    let Some(part) = changed(alloc, inner, wanted, item)? else {
+    let Some(part) = changed(alloc, inner, asked.wanted, asked.item)? else {
         return Ok(None);
     };
     let text = String::from_str(alloc, name)?;
@@ -161,32 +163,29 @@ fn right_changed<L: PredicateChange<Item>, V: Members<Item>, Item>(
 fn pair_changed<L: PredicateChange<Item>, V: Members<Item>, Item>(
     alloc: Global,
     right_part: &Check<L, V>,
-    left_part: &Check<L, V>,
-    operator: Operator,
-    whole: &Check<L, V>,
-    left: Option<Case>,
-    wanted: Option<bool>,
-    item: &Item,
+    left: Left<'_, L, V, Option<Case>>,
+    asked: Asked<'_, L, V, Item>,
 ) -> Result<Option<Case>, AllocError>
     requires lawful { AllOf L.lawful right_part.now }
     requires left { IsFoundChange
-        (Has L.output V.output L.formula V.members_of V.reason_of item.now left_part.now)
-        (left_wanted operator wanted) left }
-    requires whole { tree_of whole.now ≡ Pairs operator (tree_of left_part.now)
+        (Has L.output V.output L.formula V.members_of V.reason_of asked.item.now left.part.now)
+        (left_wanted left.operator asked.wanted) left.found }
+    requires whole { tree_of asked.whole.now ≡ Pairs left.operator (tree_of left.part.now)
         (tree_of right_part.now) }
-    ensures { IfOk result
-        (IsFoundChange (Has L.output V.output L.formula V.members_of V.reason_of item.now whole.now)
-        wanted) }
+    ensures { IfOk result (IsFoundChange
+        (Has L.output V.output L.formula V.members_of V.reason_of asked.entry.item.now
+        asked.entry.whole.now) asked.entry.wanted) }
 {
-    let left_wanted = operator.left_wanted(wanted);
-    let left_holds = shown_verdict(left_wanted, &left);
-    let right = right_changed(alloc, right_part, operator, item)?;
+    let operator = left.operator;
+    let left_wanted = operator.left_wanted(asked.wanted);
+    let left_holds = shown_verdict(left_wanted, &left.found);
+    let right = right_changed(alloc, right_part, operator, asked.item)?;
     let holds = operator.apply(left_holds, right.holds);
-    if is_other(wanted, holds) {
+    if is_other(asked.wanted, holds) {
         return Ok(None);
     }
-    let kept = kept_if(operator.keeps(left_holds, right.holds), left);
-    let text = printed(alloc, whole)?;
+    let kept = kept_if(operator.keeps(left_holds, right.holds), left.found);
+    let text = printed(alloc, asked.whole)?;
     let node = binary_node_of(alloc, text, holds, kept, right.change)?;
     Ok(Some(node))
 }
@@ -197,18 +196,21 @@ fn row_changed<L: PredicateChange<Item>, V: Members<Item>, Item>(
     alloc: Global,
     parts: &[Check<L, V>],
     decides: bool,
-    whole: &Check<L, V>,
-    wanted: Option<bool>,
-    item: &Item,
+    asked: Asked<'_, L, V, Item>,
 ) -> Result<Option<Case>, AllocError>
     requires lawful { AllLeaves L.lawful (Rows decides (trees_of (map tree_of parts.now))) }
-    requires whole { tree_of whole.now ≡ Rows decides (trees_of (map tree_of parts.now)) }
-    ensures { IfOk result
-        (IsFoundChange (Has L.output V.output L.formula V.members_of V.reason_of item.now whole.now)
-        wanted) }
+    requires whole { tree_of asked.whole.now ≡ Rows decides (trees_of (map tree_of parts.now)) }
+    ensures { IfOk result (IsFoundChange
+        (Has L.output V.output L.formula V.members_of V.reason_of asked.entry.item.now
+        asked.entry.whole.now) asked.entry.wanted) }
 {
     are_lawful::<L, V, Item>(parts);
-    let found = parts_changed(alloc, parts, decides, whole, wanted, item)?;
+    let list = Deciding {
+        whole: asked.whole,
+        name: "rule",
+        decides,
+    };
+    let found = parts_changed(alloc, parts, list, asked.wanted, asked.item)?;
     Ok(found)
 }
 
@@ -217,26 +219,25 @@ fn row_changed<L: PredicateChange<Item>, V: Members<Item>, Item>(
 fn parts_changed<L: PredicateChange<Item>, V: Members<Item>, Item>(
     alloc: Global,
     parts: &[Check<L, V>],
-    decides: bool,
-    whole: &Check<L, V>,
+    list: Deciding<'_, Check<L, V>>,
     wanted: Option<bool>,
     item: &Item,
 ) -> Result<Option<Case>, AllocError>
     requires { AllByRecursion (AllOf L.lawful) parts.now }
-    ensures { IfOk result (IsFoundChange (IsOfMembers decides
-        (check_text L.output V.output whole.now) (codes "rule")
+    ensures { IfOk result (IsFoundChange (IsOfMembers list.entry.decides
+        (check_text L.output V.output list.entry.whole.now) list.entry.name.now
         (Has L.output V.output L.formula V.members_of V.reason_of item.now) parts.now)
         wanted) }
 {
     match wanted {
         Some(expected) => {
-            if expected == decides {
-                deciding_parts(alloc, parts, decides, whole, item)
+            if expected == list.decides {
+                deciding_parts(alloc, parts, list, item)
             } else {
-                passing_parts(alloc, parts, decides, whole, item)
+                passing_parts(alloc, parts, list, item)
             }
         }
-        None => whichever_parts(alloc, parts, decides, whole, item),
+        None => whichever_parts(alloc, parts, list, item),
     }
 }
 
@@ -245,23 +246,22 @@ fn parts_changed<L: PredicateChange<Item>, V: Members<Item>, Item>(
 fn deciding_parts<L: PredicateChange<Item>, V: Members<Item>, Item>(
     alloc: Global,
     parts: &[Check<L, V>],
-    decides: bool,
-    whole: &Check<L, V>,
+    list: Deciding<'_, Check<L, V>>,
     item: &Item,
 ) -> Result<Option<Case>, AllocError>
     requires { AllByRecursion (AllOf L.lawful) parts.now }
-    ensures { IfOk result (IsFoundChange (IsOfMembers decides
-        (check_text L.output V.output whole.now) (codes "rule")
+    ensures { IfOk result (IsFoundChange (IsOfMembers list.entry.decides
+        (check_text L.output V.output list.entry.whole.now) list.entry.name.now
         (Has L.output V.output L.formula V.members_of V.reason_of item.now) parts.now)
-        (Some decides)) }
+        (Some list.entry.decides)) }
 {
     let mut found: Option<Case> = None;
     for (index, part) in parts.iter().enumerate() {
-        let Some(case) = changed(alloc, part, Some(decides), item)? else {
+        let Some(case) = changed(alloc, part, Some(list.decides), item)? else {
             continue;
         };
         let told = with_index(alloc, index, case)?;
-        found = Some(next_change(alloc, whole, "rule", decides, index, found, told)?);
+        found = Some(next_change(alloc, list, index, found, told)?);
     }
     Ok(found)
 }
@@ -271,28 +271,27 @@ fn deciding_parts<L: PredicateChange<Item>, V: Members<Item>, Item>(
 fn passing_parts<L: PredicateChange<Item>, V: Members<Item>, Item>(
     alloc: Global,
     parts: &[Check<L, V>],
-    decides: bool,
-    whole: &Check<L, V>,
+    list: Deciding<'_, Check<L, V>>,
     item: &Item,
 ) -> Result<Option<Case>, AllocError>
     requires { AllByRecursion (AllOf L.lawful) parts.now }
-    ensures { IfOk result (IsFoundChange (IsOfMembers decides
-        (check_text L.output V.output whole.now) (codes "rule")
+    ensures { IfOk result (IsFoundChange (IsOfMembers list.entry.decides
+        (check_text L.output V.output list.entry.whole.now) list.entry.name.now
         (Has L.output V.output L.formula V.members_of V.reason_of item.now) parts.now)
-        (Some (not decides))) }
+        (Some (not list.entry.decides))) }
 {
     let Some((first, rest)) = parts.split_first() else {
-        return Ok(Some(no_member(alloc, whole, !decides)?));
+        return Ok(Some(no_member(alloc, list.whole, !list.decides)?));
     };
-    let Some(case) = changed(alloc, first, Some(!decides), item)? else {
+    let Some(case) = changed(alloc, first, Some(!list.decides), item)? else {
         return Ok(None);
     };
     for part in rest {
-        if holds(alloc, part, item)? == decides {
+        if holds(alloc, part, item)? == list.decides {
             return Ok(None);
         }
     }
-    first_alone(alloc, whole, "rule", decides, Some(case))
+    first_alone(alloc, list, Some(case))
 }
 
 // What would turn the whole, whichever its verdict. The first part is asked for its change, and
@@ -301,36 +300,35 @@ fn passing_parts<L: PredicateChange<Item>, V: Members<Item>, Item>(
 fn whichever_parts<L: PredicateChange<Item>, V: Members<Item>, Item>(
     alloc: Global,
     parts: &[Check<L, V>],
-    decides: bool,
-    whole: &Check<L, V>,
+    list: Deciding<'_, Check<L, V>>,
     item: &Item,
 ) -> Result<Option<Case>, AllocError>
     requires { AllByRecursion (AllOf L.lawful) parts.now }
-    ensures { IfOk result (IsFoundChange (IsOfMembers decides
-        (check_text L.output V.output whole.now) (codes "rule")
+    ensures { IfOk result (IsFoundChange (IsOfMembers list.entry.decides
+        (check_text L.output V.output list.entry.whole.now) list.entry.name.now
         (Has L.output V.output L.formula V.members_of V.reason_of item.now) parts.now)
         None) }
 {
     if parts.is_empty() {
-        return Ok(Some(no_member(alloc, whole, !decides)?));
+        return Ok(Some(no_member(alloc, list.whole, !list.decides)?));
     }
     let mut found: Option<Case> = None;
     let mut first: Option<Case> = None;
     for (index, part) in parts.iter().enumerate() {
-        let asked = asked_at(index, decides);
+        let asked = asked_at(index, list.decides);
         let Some(case) = changed(alloc, part, asked, item)? else {
             continue;
         };
-        if is_first_passed(index, decides, &case) {
+        if is_first_passed(index, list.decides, &case) {
             first = Some(case);
             continue;
         }
         let told = with_index(alloc, index, case)?;
-        found = Some(next_change(alloc, whole, "rule", decides, index, found, told)?);
+        found = Some(next_change(alloc, list, index, found, told)?);
     }
     match found {
         Some(node) => Ok(Some(node)),
-        None => first_alone(alloc, whole, "rule", decides, first),
+        None => first_alone(alloc, list, first),
     }
 }
 
@@ -340,18 +338,21 @@ fn threshold_changed<L: PredicateChange<Item>, V: Members<Item>, Item>(
     alloc: Global,
     parts: &[Check<L, V>],
     least: usize,
-    whole: &Check<L, V>,
-    wanted: Option<bool>,
-    item: &Item,
+    asked: Asked<'_, L, V, Item>,
 ) -> Result<Option<Case>, AllocError>
     requires lawful { AllLeaves L.lawful (Counts least (trees_of (map tree_of parts.now))) }
-    requires whole { tree_of whole.now ≡ Counts least (trees_of (map tree_of parts.now)) }
-    ensures { IfOk result
-        (IsFoundChange (Has L.output V.output L.formula V.members_of V.reason_of item.now whole.now)
-        wanted) }
+    requires whole { tree_of asked.whole.now ≡ Counts least (trees_of (map tree_of parts.now)) }
+    ensures { IfOk result (IsFoundChange
+        (Has L.output V.output L.formula V.members_of V.reason_of asked.entry.item.now
+        asked.entry.whole.now) asked.entry.wanted) }
 {
     are_lawful::<L, V, Item>(parts);
-    let found = counted_changed(alloc, parts, least, whole, wanted, item)?;
+    let list = Counting {
+        whole: asked.whole,
+        name: "rule",
+        least,
+    };
+    let found = counted_changed(alloc, parts, list, asked.wanted, asked.item)?;
     Ok(found)
 }
 
@@ -360,23 +361,22 @@ fn threshold_changed<L: PredicateChange<Item>, V: Members<Item>, Item>(
 fn counted_changed<L: PredicateChange<Item>, V: Members<Item>, Item>(
     alloc: Global,
     parts: &[Check<L, V>],
-    least: usize,
-    whole: &Check<L, V>,
+    list: Counting<'_, Check<L, V>>,
     wanted: Option<bool>,
     item: &Item,
 ) -> Result<Option<Case>, AllocError>
     requires { AllByRecursion (AllOf L.lawful) parts.now }
-    ensures { IfOk result (IsFoundChange (IsOfThreshold least
-        (check_text L.output V.output whole.now) (codes "rule")
+    ensures { IfOk result (IsFoundChange (IsOfThreshold list.entry.least
+        (check_text L.output V.output list.entry.whole.now) list.entry.name.now
         (Has L.output V.output L.formula V.members_of V.reason_of item.now) parts.now)
         wanted) }
 {
-    if is_settled(least, parts.len()) {
-        return settled_case(alloc, whole, least, parts.len(), wanted);
+    if is_settled(list.least, parts.len()) {
+        return settled_case(alloc, list.whole, list.least, parts.len(), wanted);
     }
     match wanted {
-        Some(decides) => turned_wanted(alloc, parts, least, whole, decides, item),
-        None => turned_either(alloc, parts, least, whole, item),
+        Some(decides) => turned_wanted(alloc, parts, list, decides, item),
+        None => turned_either(alloc, parts, list, item),
     }
 }
 
@@ -385,20 +385,19 @@ fn counted_changed<L: PredicateChange<Item>, V: Members<Item>, Item>(
 fn turned_wanted<L: PredicateChange<Item>, V: Members<Item>, Item>(
     alloc: Global,
     parts: &[Check<L, V>],
-    least: usize,
-    whole: &Check<L, V>,
+    list: Counting<'_, Check<L, V>>,
     expected: bool,
     item: &Item,
 ) -> Result<Option<Case>, AllocError>
     requires lawful { AllByRecursion (AllOf L.lawful) parts.now }
-    requires some { 1 ≤ least }
-    requires within { least ≤ length parts.now }
-    ensures { IfOk result (IsFoundChange (IsOfThreshold least
-        (check_text L.output V.output whole.now) (codes "rule")
+    requires some { 1 ≤ list.least }
+    requires within { list.least ≤ length parts.now }
+    ensures { IfOk result (IsFoundChange (IsOfThreshold list.entry.least
+        (check_text L.output V.output list.entry.whole.now) list.entry.name.now
         (Has L.output V.output L.formula V.members_of V.reason_of item.now) parts.now)
         (Some expected)) }
 {
-    let enough = enough_of(expected, least, parts.len());
+    let enough = enough_of(expected, list.least, parts.len());
     let mut cases: Vec<Case> = Vec::new(alloc);
     for (index, part) in parts.iter().enumerate() {
         let Some(case) = changed(alloc, part, Some(expected), item)? else {
@@ -411,7 +410,12 @@ fn turned_wanted<L: PredicateChange<Item>, V: Members<Item>, Item>(
         return Ok(None);
     }
     let turns = cases.len() - enough + 1;
-    Ok(Some(node_of_first(alloc, whole, "rule", expected, cases, turns)?))
+    let turned = Deciding {
+        whole: list.whole,
+        name: list.name,
+        decides: expected,
+    };
+    Ok(Some(node_of_first(alloc, turned, cases, turns)?))
 }
 
 // The change of a whole, whichever its verdict. Each part is asked once.
@@ -419,15 +423,14 @@ fn turned_wanted<L: PredicateChange<Item>, V: Members<Item>, Item>(
 fn turned_either<L: PredicateChange<Item>, V: Members<Item>, Item>(
     alloc: Global,
     parts: &[Check<L, V>],
-    least: usize,
-    whole: &Check<L, V>,
+    list: Counting<'_, Check<L, V>>,
     item: &Item,
 ) -> Result<Option<Case>, AllocError>
     requires lawful { AllByRecursion (AllOf L.lawful) parts.now }
-    requires some { 1 ≤ least }
-    requires within { least ≤ length parts.now }
-    ensures { IfOk result (IsFoundChange (IsOfThreshold least
-        (check_text L.output V.output whole.now) (codes "rule")
+    requires some { 1 ≤ list.least }
+    requires within { list.least ≤ length parts.now }
+    ensures { IfOk result (IsFoundChange (IsOfThreshold list.entry.least
+        (check_text L.output V.output list.entry.whole.now) list.entry.name.now
         (Has L.output V.output L.formula V.members_of V.reason_of item.now) parts.now)
         None) }
 {
@@ -445,10 +448,20 @@ fn turned_either<L: PredicateChange<Item>, V: Members<Item>, Item>(
             failed.push(told)?;
         }
     }
-    if held.len() >= least {
-        let turns = held.len() - least + 1;
-        return Ok(Some(node_of_first(alloc, whole, "rule", true, held, turns)?));
+    if held.len() >= list.least {
+        let turns = held.len() - list.least + 1;
+        let turned = Deciding {
+            whole: list.whole,
+            name: list.name,
+            decides: true,
+        };
+        return Ok(Some(node_of_first(alloc, turned, held, turns)?));
     }
-    let turns = failed.len() - enough_of(false, least, parts.len()) + 1;
-    Ok(Some(node_of_first(alloc, whole, "rule", false, failed, turns)?))
+    let turns = failed.len() - enough_of(false, list.least, parts.len()) + 1;
+    let turned = Deciding {
+        whole: list.whole,
+        name: list.name,
+        decides: false,
+    };
+    Ok(Some(node_of_first(alloc, turned, failed, turns)?))
 }

@@ -32,12 +32,12 @@ use std::fmt;
 ///
 /// It means, prints and explains what the library's own combinators do over the same parts: `not`,
 /// `name`, `and`, `or`, `xor`, for several parts `all_of`, `any_of` and `at_least`, and over the
-/// members that a view `V` gives of an item `of_each`, `of_any` and `of_at_least`. A row of which an
-/// odd number has to hold is a check's alone. Each leaf is evaluated at most twice on an item,
+/// members that a view `V` gives of an item `of_each`, `of_any` and `of_at_least`. A row of which
+/// an odd number has to hold is a check's alone. Each leaf is evaluated at most twice on an item,
 /// however deep it stands.
 ///
-/// Each call takes a stack frame or two a level. Making and dropping a check does not, however deep
-/// it is.
+/// A call takes up to five stack frames a level, as to print a row; making and dropping a check
+/// takes no more for a deep one.
 pub enum Check<L, V = NoMembers> {
     /// The leaf holds. It prints and shows what the leaf does.
     Leaf(L),

@@ -15,13 +15,14 @@ mod odd;
 use self::members::{members_threshold_explained, quantified_explained};
 pub(crate) use self::odd::no_part_found;
 use self::odd::odd_explained;
+use crate::asked::Asked;
 use crate::check::Check;
-use crate::hold::{are_lawful, holds};
+use crate::hold::{Left, are_lawful, holds};
 use crate::members::Members;
 use predicates_core::Predicate;
 use predicates_core::custom::{
-    Operator, deciding_case, enough_of, is_deciding, is_other, is_settled, is_wanted, kept_if,
-    no_member, opposite_of, settled_case, shown_verdict, with_index,
+    Counting, Deciding, Operator, deciding_case, enough_of, is_deciding, is_other, is_settled,
+    is_wanted, kept_if, no_member, opposite_of, settled_case, shown_verdict, with_index,
 };
 use predicates_core::node::{binary_node_of, leaf_node, printed, unary_node};
 use predicates_core::reflection::Case;
@@ -56,35 +57,34 @@ pub(crate) fn explained<L: Predicate<Item>, V: Members<Item>, Item>(
     ensures { IfOk result (IsFound
         (Has L.output V.output L.formula V.members_of V.reason_of item.now check.now) wanted) }
 {
+    let asked = Asked {
+        whole: check,
+        wanted,
+        item,
+    };
     match check {
         Check::Leaf(leaf) => leaf.explain(alloc, wanted, item),
-        Check::Not(inner) => not_explained(alloc, inner, check, wanted, item),
-        Check::Named(name, inner) => named_explained(
-            alloc,
-            inner,
-            name.as_str(),
-            check,
-            wanted,
-            item,
-        ),
-        Check::Pair(operator, left_part, right_part) => {
+        Check::Not(inner) => not_explained(alloc, inner, asked),
+        Check::Named(name, inner) => named_explained(alloc, inner, name.as_str(), asked),
+        Check::Pair(operator, part, right_part) => {
             let operator = *operator;
-            let left_part: &Check<L, V> = left_part;
-            let left = explained(alloc, left_part, operator.left_wanted(wanted), item)?;
-            pair_explained(
-                alloc, right_part, left_part, operator, check, left, wanted, item,
-            )
+            let part: &Check<L, V> = part;
+            let found = explained(alloc, part, operator.left_wanted(wanted), item)?;
+            let left = Left {
+                operator,
+                part,
+                found,
+            };
+            pair_explained(alloc, right_part, left, asked)
         }
-        Check::Row(decides, parts) => row_explained(alloc, parts, *decides, check, wanted, item),
-        Check::AtLeast(least, parts) => {
-            threshold_explained(alloc, parts, *least, check, wanted, item)
-        }
-        Check::Odd(parts) => odd_explained(alloc, parts, check, wanted, item),
+        Check::Row(decides, parts) => row_explained(alloc, parts, *decides, asked),
+        Check::AtLeast(least, parts) => threshold_explained(alloc, parts, *least, asked),
+        Check::Odd(parts) => odd_explained(alloc, parts, asked),
         Check::Quantified(decides, view, inner) => {
-            quantified_explained(alloc, inner, view, *decides, check, wanted, item)
+            quantified_explained(alloc, inner, view, *decides, asked)
         }
         Check::MembersAtLeast(least, view, inner) => {
-            members_threshold_explained(alloc, inner, view, *least, check, wanted, item)
+            members_threshold_explained(alloc, inner, view, *least, asked)
         }
     }
 }
@@ -94,19 +94,18 @@ pub(crate) fn explained<L: Predicate<Item>, V: Members<Item>, Item>(
 fn not_explained<L: Predicate<Item>, V: Members<Item>, Item>(
     alloc: Global,
     inner: &Check<L, V>,
-    whole: &Check<L, V>,
-    wanted: Option<bool>,
-    item: &Item,
+    asked: Asked<'_, L, V, Item>,
 ) -> Result<Option<Case>, AllocError>
     requires lawful { AllOf L.lawful inner.now }
-    requires whole { tree_of whole.now ≡ Denies (tree_of inner.now) }
+    requires whole { tree_of asked.whole.now ≡ Denies (tree_of inner.now) }
     ensures { IfOk result (IsFound
-        (Has L.output V.output L.formula V.members_of V.reason_of item.now whole.now) wanted) }
+        (Has L.output V.output L.formula V.members_of V.reason_of asked.entry.item.now
+        asked.entry.whole.now) asked.entry.wanted) }
 {
-    let Some(part) = explained(alloc, inner, opposite_of(wanted), item)? else {
+    let Some(part) = explained(alloc, inner, opposite_of(asked.wanted), asked.item)? else {
         return Ok(None);
     };
-    let text = printed(alloc, whole)?;
+    let text = printed(alloc, asked.whole)?;
     let outcome = !part.root().result();
     let node = unary_node(alloc, text, outcome, "predicate", part)?;
     Ok(Some(node))
@@ -118,16 +117,15 @@ fn named_explained<L: Predicate<Item>, V: Members<Item>, Item>(
     alloc: Global,
     inner: &Check<L, V>,
     name: &'static str,
-    whole: &Check<L, V>,
-    wanted: Option<bool>,
-    item: &Item,
+    asked: Asked<'_, L, V, Item>,
 ) -> Result<Option<Case>, AllocError>
     requires lawful { AllOf L.lawful inner.now }
-    requires whole { tree_of whole.now ≡ Names name.now (tree_of inner.now) }
+    requires whole { tree_of asked.whole.now ≡ Names name.now (tree_of inner.now) }
     ensures { IfOk result (IsFound
-        (Has L.output V.output L.formula V.members_of V.reason_of item.now whole.now) wanted) }
+        (Has L.output V.output L.formula V.members_of V.reason_of asked.entry.item.now
+        asked.entry.whole.now) asked.entry.wanted) }
 {
-    let Some(part) = explained(alloc, inner, wanted, item)? else {
+    let Some(part) = explained(alloc, inner, asked.wanted, asked.item)? else {
         return Ok(None);
     };
     let text = String::from_str(alloc, name)?;
@@ -141,34 +139,32 @@ fn named_explained<L: Predicate<Item>, V: Members<Item>, Item>(
 fn pair_explained<L: Predicate<Item>, V: Members<Item>, Item>(
     alloc: Global,
     right_part: &Check<L, V>,
-    left_part: &Check<L, V>,
-    operator: Operator,
-    whole: &Check<L, V>,
-    left: Option<Case>,
-    wanted: Option<bool>,
-    item: &Item,
+    left: Left<'_, L, V, Option<Case>>,
+    asked: Asked<'_, L, V, Item>,
 ) -> Result<Option<Case>, AllocError>
     requires lawful { AllOf L.lawful right_part.now }
     requires left { IsFound
-        (Has L.output V.output L.formula V.members_of V.reason_of item.now left_part.now)
-        (left_wanted operator wanted) left }
-    requires whole { tree_of whole.now ≡ Pairs operator (tree_of left_part.now)
+        (Has L.output V.output L.formula V.members_of V.reason_of asked.item.now left.part.now)
+        (left_wanted left.operator asked.wanted) left.found }
+    requires whole { tree_of asked.whole.now ≡ Pairs left.operator (tree_of left.part.now)
         (tree_of right_part.now) }
     ensures { IfOk result (IsFound
-        (Has L.output V.output L.formula V.members_of V.reason_of item.now whole.now) wanted) }
+        (Has L.output V.output L.formula V.members_of V.reason_of asked.entry.item.now
+        asked.entry.whole.now) asked.entry.wanted) }
 {
-    let left_wanted = operator.left_wanted(wanted);
-    let left_holds = shown_verdict(left_wanted, &left);
+    let operator = left.operator;
+    let left_wanted = operator.left_wanted(asked.wanted);
+    let left_holds = shown_verdict(left_wanted, &left.found);
     let asks = operator.asks(left_holds);
-    let right_wanted = operator.right_wanted(wanted, left_holds);
-    let right = explained_if(alloc, right_part, asks, right_wanted, item)?;
+    let right_wanted = operator.right_wanted(asked.wanted, left_holds);
+    let right = explained_if(alloc, right_part, asks, right_wanted, asked.item)?;
     let right_holds = shown_verdict(right_wanted, &right);
     let holds = operator.apply(left_holds, right_holds);
-    if is_other(wanted, holds) {
+    if is_other(asked.wanted, holds) {
         return Ok(None);
     }
-    let kept = kept_if(operator.keeps(left_holds, right_holds), left);
-    let text = printed(alloc, whole)?;
+    let kept = kept_if(operator.keeps(left_holds, right_holds), left.found);
+    let text = printed(alloc, asked.whole)?;
     let node = binary_node_of(alloc, text, holds, kept, right)?;
     Ok(Some(node))
 }
@@ -201,17 +197,21 @@ fn row_explained<L: Predicate<Item>, V: Members<Item>, Item>(
     alloc: Global,
     parts: &[Check<L, V>],
     decides: bool,
-    whole: &Check<L, V>,
-    wanted: Option<bool>,
-    item: &Item,
+    asked: Asked<'_, L, V, Item>,
 ) -> Result<Option<Case>, AllocError>
     requires lawful { AllLeaves L.lawful (Rows decides (trees_of (map tree_of parts.now))) }
-    requires whole { tree_of whole.now ≡ Rows decides (trees_of (map tree_of parts.now)) }
+    requires whole { tree_of asked.whole.now ≡ Rows decides (trees_of (map tree_of parts.now)) }
     ensures { IfOk result (IsFound
-        (Has L.output V.output L.formula V.members_of V.reason_of item.now whole.now) wanted) }
+        (Has L.output V.output L.formula V.members_of V.reason_of asked.entry.item.now
+        asked.entry.whole.now) asked.entry.wanted) }
 {
     are_lawful::<L, V, Item>(parts);
-    let found = parts_explained(alloc, parts, decides, whole, wanted, item)?;
+    let list = Deciding {
+        whole: asked.whole,
+        name: "rule",
+        decides,
+    };
+    let found = parts_explained(alloc, parts, list, asked.wanted, asked.item)?;
     Ok(found)
 }
 
@@ -220,25 +220,24 @@ fn row_explained<L: Predicate<Item>, V: Members<Item>, Item>(
 fn parts_explained<L: Predicate<Item>, V: Members<Item>, Item>(
     alloc: Global,
     parts: &[Check<L, V>],
-    decides: bool,
-    whole: &Check<L, V>,
+    list: Deciding<'_, Check<L, V>>,
     wanted: Option<bool>,
     item: &Item,
 ) -> Result<Option<Case>, AllocError>
     requires { AllByRecursion (AllOf L.lawful) parts.now }
-    ensures { IfOk result (IsFound (IsOfMembers decides
-        (check_text L.output V.output whole.now) (codes "rule")
+    ensures { IfOk result (IsFound (IsOfMembers list.entry.decides
+        (check_text L.output V.output list.entry.whole.now) list.entry.name.now
         (Has L.output V.output L.formula V.members_of V.reason_of item.now) parts.now)
         wanted) }
 {
-    if is_wanted(wanted, decides) {
-        let found = first_part(alloc, parts, decides, whole, item)?;
+    if is_wanted(wanted, list.decides) {
+        let found = first_part(alloc, parts, list, item)?;
         return Ok(found);
     }
     if parts.is_empty() {
-        return Ok(Some(no_member(alloc, whole, !decides)?));
+        return Ok(Some(no_member(alloc, list.whole, !list.decides)?));
     }
-    let found = every_part(alloc, parts, decides, whole, wanted, item)?;
+    let found = every_part(alloc, parts, list, wanted, item)?;
     Ok(found)
 }
 
@@ -247,21 +246,20 @@ fn parts_explained<L: Predicate<Item>, V: Members<Item>, Item>(
 fn first_part<L: Predicate<Item>, V: Members<Item>, Item>(
     alloc: Global,
     parts: &[Check<L, V>],
-    decides: bool,
-    whole: &Check<L, V>,
+    list: Deciding<'_, Check<L, V>>,
     item: &Item,
 ) -> Result<Option<Case>, AllocError>
     requires { AllByRecursion (AllOf L.lawful) parts.now }
-    ensures { IfOk result (IsAnswer (IsOfMembers decides
-        (check_text L.output V.output whole.now) (codes "rule")
+    ensures { IfOk result (IsAnswer (IsOfMembers list.entry.decides
+        (check_text L.output V.output list.entry.whole.now) list.entry.name.now
         (Has L.output V.output L.formula V.members_of V.reason_of item.now) parts.now)
-        decides) }
+        list.entry.decides) }
 {
     for (index, part) in parts.iter().enumerate() {
-        let Some(case) = explained(alloc, part, Some(decides), item)? else {
+        let Some(case) = explained(alloc, part, Some(list.decides), item)? else {
             continue;
         };
-        return Ok(Some(deciding_case(alloc, whole, "rule", decides, index, case)?));
+        return Ok(Some(deciding_case(alloc, list, index, case)?));
     }
     Ok(None)
 }
@@ -271,28 +269,27 @@ fn first_part<L: Predicate<Item>, V: Members<Item>, Item>(
 fn every_part<L: Predicate<Item>, V: Members<Item>, Item>(
     alloc: Global,
     parts: &[Check<L, V>],
-    decides: bool,
-    whole: &Check<L, V>,
+    list: Deciding<'_, Check<L, V>>,
     wanted: Option<bool>,
     item: &Item,
 ) -> Result<Option<Case>, AllocError>
     requires lawful { AllByRecursion (AllOf L.lawful) parts.now }
     requires some { parts.now ≢ [] }
-    requires other { wanted ≢ Some decides }
-    ensures { IfOk result (IsFound (IsOfMembers decides
-        (check_text L.output V.output whole.now) (codes "rule")
+    requires other { wanted ≢ Some list.decides }
+    ensures { IfOk result (IsFound (IsOfMembers list.entry.decides
+        (check_text L.output V.output list.entry.whole.now) list.entry.name.now
         (Has L.output V.output L.formula V.members_of V.reason_of item.now) parts.now)
         wanted) }
 {
-    let mut node = leaf_node(alloc, printed(alloc, whole)?, !decides);
+    let mut node = leaf_node(alloc, printed(alloc, list.whole)?, !list.decides);
     for (index, part) in parts.iter().enumerate() {
         let Some(case) = explained(alloc, part, wanted, item)? else {
             return Ok(None);
         };
-        if is_deciding(wanted, decides, &case) {
-            return Ok(Some(deciding_case(alloc, whole, "rule", decides, index, case)?));
+        if is_deciding(wanted, list.decides, &case) {
+            return Ok(Some(deciding_case(alloc, list, index, case)?));
         }
-        node = node.add_child("rule", case)?;
+        node = node.add_child(list.name, case)?;
     }
     Ok(Some(node))
 }
@@ -303,17 +300,21 @@ fn threshold_explained<L: Predicate<Item>, V: Members<Item>, Item>(
     alloc: Global,
     parts: &[Check<L, V>],
     least: usize,
-    whole: &Check<L, V>,
-    wanted: Option<bool>,
-    item: &Item,
+    asked: Asked<'_, L, V, Item>,
 ) -> Result<Option<Case>, AllocError>
     requires lawful { AllLeaves L.lawful (Counts least (trees_of (map tree_of parts.now))) }
-    requires whole { tree_of whole.now ≡ Counts least (trees_of (map tree_of parts.now)) }
+    requires whole { tree_of asked.whole.now ≡ Counts least (trees_of (map tree_of parts.now)) }
     ensures { IfOk result (IsFound
-        (Has L.output V.output L.formula V.members_of V.reason_of item.now whole.now) wanted) }
+        (Has L.output V.output L.formula V.members_of V.reason_of asked.entry.item.now
+        asked.entry.whole.now) asked.entry.wanted) }
 {
     are_lawful::<L, V, Item>(parts);
-    let found = counted_explained(alloc, parts, least, whole, wanted, item)?;
+    let list = Counting {
+        whole: asked.whole,
+        name: "rule",
+        least,
+    };
+    let found = counted_explained(alloc, parts, list, asked.wanted, asked.item)?;
     Ok(found)
 }
 
@@ -322,20 +323,19 @@ fn threshold_explained<L: Predicate<Item>, V: Members<Item>, Item>(
 fn counted_explained<L: Predicate<Item>, V: Members<Item>, Item>(
     alloc: Global,
     parts: &[Check<L, V>],
-    least: usize,
-    whole: &Check<L, V>,
+    list: Counting<'_, Check<L, V>>,
     wanted: Option<bool>,
     item: &Item,
 ) -> Result<Option<Case>, AllocError>
     requires { AllByRecursion (AllOf L.lawful) parts.now }
-    ensures { IfOk result (IsFound (IsOfThreshold least
-        (check_text L.output V.output whole.now) (codes "rule")
+    ensures { IfOk result (IsFound (IsOfThreshold list.entry.least
+        (check_text L.output V.output list.entry.whole.now) list.entry.name.now
         (Has L.output V.output L.formula V.members_of V.reason_of item.now) parts.now)
         wanted) }
 {
     match wanted {
-        Some(expected) => counted_wanted(alloc, parts, least, whole, expected, item),
-        None => counted_either(alloc, parts, least, whole, item),
+        Some(expected) => counted_wanted(alloc, parts, list, expected, item),
+        None => counted_either(alloc, parts, list, item),
     }
 }
 
@@ -344,22 +344,21 @@ fn counted_explained<L: Predicate<Item>, V: Members<Item>, Item>(
 fn counted_either<L: Predicate<Item>, V: Members<Item>, Item>(
     alloc: Global,
     parts: &[Check<L, V>],
-    least: usize,
-    whole: &Check<L, V>,
+    list: Counting<'_, Check<L, V>>,
     item: &Item,
 ) -> Result<Option<Case>, AllocError>
     requires { AllByRecursion (AllOf L.lawful) parts.now }
-    ensures { IfOk result (IsFound (IsOfThreshold least
-        (check_text L.output V.output whole.now) (codes "rule")
+    ensures { IfOk result (IsFound (IsOfThreshold list.entry.least
+        (check_text L.output V.output list.entry.whole.now) list.entry.name.now
         (Has L.output V.output L.formula V.members_of V.reason_of item.now) parts.now)
         None) }
 {
-    if is_settled(least, parts.len()) {
-        return settled_case(alloc, whole, least, parts.len(), None);
+    if is_settled(list.least, parts.len()) {
+        return settled_case(alloc, list.whole, list.least, parts.len(), None);
     }
-    let most = enough_of(false, least, parts.len());
-    let mut held_node = leaf_node(alloc, printed(alloc, whole)?, true);
-    let mut failed_node = leaf_node(alloc, printed(alloc, whole)?, false);
+    let most = enough_of(false, list.least, parts.len());
+    let mut held_node = leaf_node(alloc, printed(alloc, list.whole)?, true);
+    let mut failed_node = leaf_node(alloc, printed(alloc, list.whole)?, false);
     let mut held = 0usize;
     let mut failed = 0usize;
     for (index, part) in parts.iter().enumerate() {
@@ -369,13 +368,13 @@ fn counted_either<L: Predicate<Item>, V: Members<Item>, Item>(
         let holds = case.root().result();
         let told = with_index(alloc, index, case)?;
         if holds {
-            held_node = held_node.add_child("rule", told)?;
+            held_node = held_node.add_child(list.name, told)?;
             held += 1;
-            if held == least {
+            if held == list.least {
                 return Ok(Some(held_node));
             }
         } else {
-            failed_node = failed_node.add_child("rule", told)?;
+            failed_node = failed_node.add_child(list.name, told)?;
             failed += 1;
             if failed == most {
                 return Ok(Some(failed_node));
@@ -390,29 +389,28 @@ fn counted_either<L: Predicate<Item>, V: Members<Item>, Item>(
 fn counted_wanted<L: Predicate<Item>, V: Members<Item>, Item>(
     alloc: Global,
     parts: &[Check<L, V>],
-    least: usize,
-    whole: &Check<L, V>,
+    list: Counting<'_, Check<L, V>>,
     expected: bool,
     item: &Item,
 ) -> Result<Option<Case>, AllocError>
     requires { AllByRecursion (AllOf L.lawful) parts.now }
-    ensures { IfOk result (IsAnswer (IsOfThreshold least
-        (check_text L.output V.output whole.now) (codes "rule")
+    ensures { IfOk result (IsAnswer (IsOfThreshold list.entry.least
+        (check_text L.output V.output list.entry.whole.now) list.entry.name.now
         (Has L.output V.output L.formula V.members_of V.reason_of item.now) parts.now)
         expected) }
 {
-    if is_settled(least, parts.len()) {
-        return settled_case(alloc, whole, least, parts.len(), Some(expected));
+    if is_settled(list.least, parts.len()) {
+        return settled_case(alloc, list.whole, list.least, parts.len(), Some(expected));
     }
-    let enough = enough_of(expected, least, parts.len());
-    let mut node = leaf_node(alloc, printed(alloc, whole)?, expected);
+    let enough = enough_of(expected, list.least, parts.len());
+    let mut node = leaf_node(alloc, printed(alloc, list.whole)?, expected);
     let mut kept = 0usize;
     for (index, part) in parts.iter().enumerate() {
         let Some(case) = explained(alloc, part, Some(expected), item)? else {
             continue;
         };
         let told = with_index(alloc, index, case)?;
-        node = node.add_child("rule", told)?;
+        node = node.add_child(list.name, told)?;
         kept += 1;
         if kept == enough {
             return Ok(Some(node));

@@ -37,18 +37,25 @@ pub(crate) fn holds<L: Predicate<Item>, V: Members<Item>, Item>(
         Check::Leaf(leaf) => leaf.eval(alloc, item),
         Check::Not(inner) => not_holds(alloc, inner, item),
         Check::Named(name, inner) => named_holds(alloc, inner, name.as_str(), check, item),
-        Check::Pair(operator, left, right) => {
-            let left_holds = holds(alloc, left, item)?;
-            pair_holds(alloc, right, left, *operator, left_holds, item)
+        Check::Pair(operator, part, right_part) => {
+            let operator = *operator;
+            let part: &Check<L, V> = part;
+            let found = holds(alloc, part, item)?;
+            let left = Left {
+                operator,
+                part,
+                found,
+            };
+            pair_holds(alloc, right_part, left, item)
         }
         Check::Row(decides, parts) => row_holds(alloc, parts, *decides, check, item),
         Check::AtLeast(least, parts) => threshold_holds(alloc, parts, *least, check, item),
         Check::Odd(parts) => odd_holds(alloc, parts, check, item),
         Check::Quantified(decides, view, inner) => {
-            quantified_holds(alloc, inner, view, *decides, check, item)
+            quantified_holds(alloc, inner, view, *decides, item)
         }
         Check::MembersAtLeast(least, view, inner) => {
-            members_threshold_holds(alloc, inner, view, *least, check, item)
+            members_threshold_holds(alloc, inner, view, *least, item)
         }
     }
 }
@@ -89,31 +96,38 @@ fn named_holds<L: Predicate<Item>, V: Members<Item>, Item>(
     Ok(held)
 }
 
-// The same of two checks that an operator joins, where the left one has the verdict. The measure
-// is the first check, so the right one comes first.
+// The left of two checks that an operator joins, and what was found of it.
+#[derive(Drop)]
+pub(crate) struct Left<'a, L, V, Found> {
+    pub(crate) operator: Operator,
+    pub(crate) part: &'a Check<L, V>,
+    pub(crate) found: Found,
+}
+
+// The same of two checks that an operator joins, from the verdict of the left one. The measure is
+// the first check, so the right one comes first.
 #[cycle(hold)]
 fn pair_holds<L: Predicate<Item>, V: Members<Item>, Item>(
     alloc: Global,
     right_part: &Check<L, V>,
-    left_part: &Check<L, V>,
-    operator: Operator,
-    left_holds: bool,
+    left: Left<'_, L, V, bool>,
     item: &Item,
 ) -> Result<bool, AllocError>
     requires lawful { AllOf L.lawful right_part.now }
     requires left { HasTruth
-        (Has L.output V.output L.formula V.members_of V.reason_of item.now left_part.now)
-        left_holds }
+        (Has L.output V.output L.formula V.members_of V.reason_of item.now left.part.now)
+        left.found }
     ensures truth { IfOk result (HasTruth
         (HasFormula L.output V.output L.formula V.members_of V.reason_of item.now
-        (Pairs operator (tree_of left_part.now) (tree_of right_part.now)))) }
+        (Pairs left.entry.operator (tree_of left.entry.part.now) (tree_of right_part.now)))) }
     ensures infallible { AsksAll L.infallible V.members_of item.now right_part.now → IsOk result }
 {
-    if !operator.asks(left_holds) {
-        return Ok(operator.apply(left_holds, false));
+    let operator = left.operator;
+    if !operator.asks(left.found) {
+        return Ok(operator.apply(left.found, false));
     }
     let right_holds = holds(alloc, right_part, item)?;
-    Ok(operator.apply(left_holds, right_holds))
+    Ok(operator.apply(left.found, right_holds))
 }
 
 // The same of a row of checks, of which one with the verdict decides.

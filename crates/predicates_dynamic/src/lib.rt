@@ -7,6 +7,7 @@
 //! ```
 #![tactic(auto)]
 
+mod asked;
 mod build;
 mod change;
 mod check;

@@ -6,14 +6,15 @@ ghost use Rattle.predicates_core.specs.Thresholds.{IsOfThreshold};
 ghost use Rattle.predicates_dynamic.specs.Trees.{AllOf, tree_of, Quantifies, CountsMembers};
 ghost use Rattle.predicates_dynamic.specs.Formulas.{check_text, Has, HasOn};
 
+use crate::asked::Asked;
 use crate::change::changed;
 use crate::check::Check;
 use crate::hold::holds;
 use crate::members::{Members, absent_found};
 use predicates_core::PredicateChange;
 use predicates_core::custom::{
-    asked_at, enough_of, first_alone, is_first_passed, is_settled, next_change, no_member,
-    node_of_first, settled_case, with_index,
+    Counting, Deciding, asked_at, enough_of, first_alone, is_first_passed, is_settled, next_change,
+    no_member, node_of_first, settled_case, with_index,
 };
 use predicates_core::reflection::Case;
 use std::alloc::{AllocError, Global};
@@ -25,18 +26,24 @@ pub(super) fn quantified_changed<L: PredicateChange<Item>, V: Members<Item>, Ite
     inner: &Check<L, V>,
     view: &V,
     decides: bool,
-    whole: &Check<L, V>,
-    wanted: Option<bool>,
-    item: &Item,
+    asked: Asked<'_, L, V, Item>,
 ) -> Result<Option<Case>, AllocError>
     requires lawful { AllOf L.lawful inner.now }
-    requires whole { tree_of whole.now ≡ Quantifies decides view.now (tree_of inner.now) }
+    requires whole { tree_of asked.whole.now ≡ Quantifies decides view.now (tree_of inner.now) }
     ensures { IfOk result (IsFoundChange
-        (Has L.output V.output L.formula V.members_of V.reason_of item.now whole.now) wanted) }
+        (Has L.output V.output L.formula V.members_of V.reason_of asked.entry.item.now
+        asked.entry.whole.now) asked.entry.wanted) }
 {
-    match view.members(item) {
-        Some(members) => members_changed(alloc, inner, decides, whole, wanted, members),
-        None => absent_found(alloc, whole, view, wanted, item),
+    match view.members(asked.item) {
+        Some(members) => {
+            let list = Deciding {
+                whole: asked.whole,
+                name: "item",
+                decides,
+            };
+            members_changed(alloc, inner, list, asked.wanted, members)
+        }
+        None => absent_found(alloc, asked.whole, view, asked.wanted, asked.item),
     }
 }
 
@@ -45,26 +52,25 @@ pub(super) fn quantified_changed<L: PredicateChange<Item>, V: Members<Item>, Ite
 fn members_changed<L: PredicateChange<Item>, V: Members<Item>, Item>(
     alloc: Global,
     inner: &Check<L, V>,
-    decides: bool,
-    whole: &Check<L, V>,
+    list: Deciding<'_, Check<L, V>>,
     wanted: Option<bool>,
     members: &[Item],
 ) -> Result<Option<Case>, AllocError>
     requires { AllOf L.lawful inner.now }
-    ensures { IfOk result (IsFoundChange (IsOfMembers decides
-        (check_text L.output V.output whole.now) (codes "item")
+    ensures { IfOk result (IsFoundChange (IsOfMembers list.entry.decides
+        (check_text L.output V.output list.entry.whole.now) list.entry.name.now
         (HasOn L.output V.output L.formula V.members_of V.reason_of inner.now) members.now)
         wanted) }
 {
     match wanted {
         Some(expected) => {
-            if expected == decides {
-                deciding_members(alloc, inner, decides, whole, members)
+            if expected == list.decides {
+                deciding_members(alloc, inner, list, members)
             } else {
-                passing_members(alloc, inner, decides, whole, members)
+                passing_members(alloc, inner, list, members)
             }
         }
-        None => whichever_members(alloc, inner, decides, whole, members),
+        None => whichever_members(alloc, inner, list, members),
     }
 }
 
@@ -73,23 +79,22 @@ fn members_changed<L: PredicateChange<Item>, V: Members<Item>, Item>(
 fn deciding_members<L: PredicateChange<Item>, V: Members<Item>, Item>(
     alloc: Global,
     inner: &Check<L, V>,
-    decides: bool,
-    whole: &Check<L, V>,
+    list: Deciding<'_, Check<L, V>>,
     members: &[Item],
 ) -> Result<Option<Case>, AllocError>
     requires { AllOf L.lawful inner.now }
-    ensures { IfOk result (IsFoundChange (IsOfMembers decides
-        (check_text L.output V.output whole.now) (codes "item")
+    ensures { IfOk result (IsFoundChange (IsOfMembers list.entry.decides
+        (check_text L.output V.output list.entry.whole.now) list.entry.name.now
         (HasOn L.output V.output L.formula V.members_of V.reason_of inner.now) members.now)
-        (Some decides)) }
+        (Some list.entry.decides)) }
 {
     let mut found: Option<Case> = None;
     for (index, member) in members.iter().enumerate() {
-        let Some(case) = changed(alloc, inner, Some(decides), member)? else {
+        let Some(case) = changed(alloc, inner, Some(list.decides), member)? else {
             continue;
         };
         let told = with_index(alloc, index, case)?;
-        found = Some(next_change(alloc, whole, "item", decides, index, found, told)?);
+        found = Some(next_change(alloc, list, index, found, told)?);
     }
     Ok(found)
 }
@@ -99,28 +104,27 @@ fn deciding_members<L: PredicateChange<Item>, V: Members<Item>, Item>(
 fn passing_members<L: PredicateChange<Item>, V: Members<Item>, Item>(
     alloc: Global,
     inner: &Check<L, V>,
-    decides: bool,
-    whole: &Check<L, V>,
+    list: Deciding<'_, Check<L, V>>,
     members: &[Item],
 ) -> Result<Option<Case>, AllocError>
     requires { AllOf L.lawful inner.now }
-    ensures { IfOk result (IsFoundChange (IsOfMembers decides
-        (check_text L.output V.output whole.now) (codes "item")
+    ensures { IfOk result (IsFoundChange (IsOfMembers list.entry.decides
+        (check_text L.output V.output list.entry.whole.now) list.entry.name.now
         (HasOn L.output V.output L.formula V.members_of V.reason_of inner.now) members.now)
-        (Some (not decides))) }
+        (Some (not list.entry.decides))) }
 {
     let Some((first, rest)) = members.split_first() else {
-        return Ok(Some(no_member(alloc, whole, !decides)?));
+        return Ok(Some(no_member(alloc, list.whole, !list.decides)?));
     };
-    let Some(case) = changed(alloc, inner, Some(!decides), first)? else {
+    let Some(case) = changed(alloc, inner, Some(!list.decides), first)? else {
         return Ok(None);
     };
     for member in rest {
-        if holds(alloc, inner, member)? == decides {
+        if holds(alloc, inner, member)? == list.decides {
             return Ok(None);
         }
     }
-    first_alone(alloc, whole, "item", decides, Some(case))
+    first_alone(alloc, list, Some(case))
 }
 
 // What would turn the whole, whichever its verdict. The first member is asked for its change, and
@@ -129,36 +133,35 @@ fn passing_members<L: PredicateChange<Item>, V: Members<Item>, Item>(
 fn whichever_members<L: PredicateChange<Item>, V: Members<Item>, Item>(
     alloc: Global,
     inner: &Check<L, V>,
-    decides: bool,
-    whole: &Check<L, V>,
+    list: Deciding<'_, Check<L, V>>,
     members: &[Item],
 ) -> Result<Option<Case>, AllocError>
     requires { AllOf L.lawful inner.now }
-    ensures { IfOk result (IsFoundChange (IsOfMembers decides
-        (check_text L.output V.output whole.now) (codes "item")
+    ensures { IfOk result (IsFoundChange (IsOfMembers list.entry.decides
+        (check_text L.output V.output list.entry.whole.now) list.entry.name.now
         (HasOn L.output V.output L.formula V.members_of V.reason_of inner.now) members.now)
         None) }
 {
     if members.is_empty() {
-        return Ok(Some(no_member(alloc, whole, !decides)?));
+        return Ok(Some(no_member(alloc, list.whole, !list.decides)?));
     }
     let mut found: Option<Case> = None;
     let mut first: Option<Case> = None;
     for (index, member) in members.iter().enumerate() {
-        let asked = asked_at(index, decides);
+        let asked = asked_at(index, list.decides);
         let Some(case) = changed(alloc, inner, asked, member)? else {
             continue;
         };
-        if is_first_passed(index, decides, &case) {
+        if is_first_passed(index, list.decides, &case) {
             first = Some(case);
             continue;
         }
         let told = with_index(alloc, index, case)?;
-        found = Some(next_change(alloc, whole, "item", decides, index, found, told)?);
+        found = Some(next_change(alloc, list, index, found, told)?);
     }
     match found {
         Some(node) => Ok(Some(node)),
-        None => first_alone(alloc, whole, "item", decides, first),
+        None => first_alone(alloc, list, first),
     }
 }
 
@@ -169,18 +172,24 @@ pub(super) fn members_threshold_changed<L: PredicateChange<Item>, V: Members<Ite
     inner: &Check<L, V>,
     view: &V,
     least: usize,
-    whole: &Check<L, V>,
-    wanted: Option<bool>,
-    item: &Item,
+    asked: Asked<'_, L, V, Item>,
 ) -> Result<Option<Case>, AllocError>
     requires lawful { AllOf L.lawful inner.now }
-    requires whole { tree_of whole.now ≡ CountsMembers least view.now (tree_of inner.now) }
+    requires whole { tree_of asked.whole.now ≡ CountsMembers least view.now (tree_of inner.now) }
     ensures { IfOk result (IsFoundChange
-        (Has L.output V.output L.formula V.members_of V.reason_of item.now whole.now) wanted) }
+        (Has L.output V.output L.formula V.members_of V.reason_of asked.entry.item.now
+        asked.entry.whole.now) asked.entry.wanted) }
 {
-    match view.members(item) {
-        Some(members) => counted_members_changed(alloc, inner, least, whole, wanted, members),
-        None => absent_found(alloc, whole, view, wanted, item),
+    match view.members(asked.item) {
+        Some(members) => {
+            let list = Counting {
+                whole: asked.whole,
+                name: "item",
+                least,
+            };
+            counted_members_changed(alloc, inner, list, asked.wanted, members)
+        }
+        None => absent_found(alloc, asked.whole, view, asked.wanted, asked.item),
     }
 }
 
@@ -189,23 +198,22 @@ pub(super) fn members_threshold_changed<L: PredicateChange<Item>, V: Members<Ite
 fn counted_members_changed<L: PredicateChange<Item>, V: Members<Item>, Item>(
     alloc: Global,
     inner: &Check<L, V>,
-    least: usize,
-    whole: &Check<L, V>,
+    list: Counting<'_, Check<L, V>>,
     wanted: Option<bool>,
     members: &[Item],
 ) -> Result<Option<Case>, AllocError>
     requires { AllOf L.lawful inner.now }
-    ensures { IfOk result (IsFoundChange (IsOfThreshold least
-        (check_text L.output V.output whole.now) (codes "item")
+    ensures { IfOk result (IsFoundChange (IsOfThreshold list.entry.least
+        (check_text L.output V.output list.entry.whole.now) list.entry.name.now
         (HasOn L.output V.output L.formula V.members_of V.reason_of inner.now) members.now)
         wanted) }
 {
-    if is_settled(least, members.len()) {
-        return settled_case(alloc, whole, least, members.len(), wanted);
+    if is_settled(list.least, members.len()) {
+        return settled_case(alloc, list.whole, list.least, members.len(), wanted);
     }
     match wanted {
-        Some(decides) => turned_members(alloc, inner, least, whole, decides, members),
-        None => turned_members_either(alloc, inner, least, whole, members),
+        Some(decides) => turned_members(alloc, inner, list, decides, members),
+        None => turned_members_either(alloc, inner, list, members),
     }
 }
 
@@ -214,20 +222,19 @@ fn counted_members_changed<L: PredicateChange<Item>, V: Members<Item>, Item>(
 fn turned_members<L: PredicateChange<Item>, V: Members<Item>, Item>(
     alloc: Global,
     inner: &Check<L, V>,
-    least: usize,
-    whole: &Check<L, V>,
+    list: Counting<'_, Check<L, V>>,
     expected: bool,
     members: &[Item],
 ) -> Result<Option<Case>, AllocError>
     requires lawful { AllOf L.lawful inner.now }
-    requires some { 1 ≤ least }
-    requires within { least ≤ length members.now }
-    ensures { IfOk result (IsFoundChange (IsOfThreshold least
-        (check_text L.output V.output whole.now) (codes "item")
+    requires some { 1 ≤ list.least }
+    requires within { list.least ≤ length members.now }
+    ensures { IfOk result (IsFoundChange (IsOfThreshold list.entry.least
+        (check_text L.output V.output list.entry.whole.now) list.entry.name.now
         (HasOn L.output V.output L.formula V.members_of V.reason_of inner.now) members.now)
         (Some expected)) }
 {
-    let enough = enough_of(expected, least, members.len());
+    let enough = enough_of(expected, list.least, members.len());
     let mut cases: Vec<Case> = Vec::new(alloc);
     for (index, member) in members.iter().enumerate() {
         let Some(case) = changed(alloc, inner, Some(expected), member)? else {
@@ -240,7 +247,12 @@ fn turned_members<L: PredicateChange<Item>, V: Members<Item>, Item>(
         return Ok(None);
     }
     let turns = cases.len() - enough + 1;
-    Ok(Some(node_of_first(alloc, whole, "item", expected, cases, turns)?))
+    let turned = Deciding {
+        whole: list.whole,
+        name: list.name,
+        decides: expected,
+    };
+    Ok(Some(node_of_first(alloc, turned, cases, turns)?))
 }
 
 // The change of a whole, whichever its verdict. Each member is asked once.
@@ -248,15 +260,14 @@ fn turned_members<L: PredicateChange<Item>, V: Members<Item>, Item>(
 fn turned_members_either<L: PredicateChange<Item>, V: Members<Item>, Item>(
     alloc: Global,
     inner: &Check<L, V>,
-    least: usize,
-    whole: &Check<L, V>,
+    list: Counting<'_, Check<L, V>>,
     members: &[Item],
 ) -> Result<Option<Case>, AllocError>
     requires lawful { AllOf L.lawful inner.now }
-    requires some { 1 ≤ least }
-    requires within { least ≤ length members.now }
-    ensures { IfOk result (IsFoundChange (IsOfThreshold least
-        (check_text L.output V.output whole.now) (codes "item")
+    requires some { 1 ≤ list.least }
+    requires within { list.least ≤ length members.now }
+    ensures { IfOk result (IsFoundChange (IsOfThreshold list.entry.least
+        (check_text L.output V.output list.entry.whole.now) list.entry.name.now
         (HasOn L.output V.output L.formula V.members_of V.reason_of inner.now) members.now)
         None) }
 {
@@ -274,10 +285,20 @@ fn turned_members_either<L: PredicateChange<Item>, V: Members<Item>, Item>(
             failed.push(told)?;
         }
     }
-    if held.len() >= least {
-        let turns = held.len() - least + 1;
-        return Ok(Some(node_of_first(alloc, whole, "item", true, held, turns)?));
+    if held.len() >= list.least {
+        let turns = held.len() - list.least + 1;
+        let turned = Deciding {
+            whole: list.whole,
+            name: list.name,
+            decides: true,
+        };
+        return Ok(Some(node_of_first(alloc, turned, held, turns)?));
     }
-    let turns = failed.len() - enough_of(false, least, members.len()) + 1;
-    Ok(Some(node_of_first(alloc, whole, "item", false, failed, turns)?))
+    let turns = failed.len() - enough_of(false, list.least, members.len()) + 1;
+    let turned = Deciding {
+        whole: list.whole,
+        name: list.name,
+        decides: false,
+    };
+    Ok(Some(node_of_first(alloc, turned, failed, turns)?))
 }

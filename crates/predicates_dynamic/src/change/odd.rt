@@ -6,6 +6,7 @@ ghost use Rattle.predicates_dynamic.specs.Trees.{AllOf, AllLeaves, Odds, tree_of
 ghost use Rattle.predicates_dynamic.specs.Formulas.{check_text, Has};
 ghost use Rattle.predicates_dynamic.specs.OddRows.{IsOfOddRow};
 
+use crate::asked::Asked;
 use crate::change::changed;
 use crate::check::Check;
 use crate::explain::no_part_found;
@@ -22,18 +23,16 @@ use std::alloc::{AllocError, Global};
 pub(super) fn odd_changed<L: PredicateChange<Item>, V: Members<Item>, Item>(
     alloc: Global,
     parts: &[Check<L, V>],
-    whole: &Check<L, V>,
-    wanted: Option<bool>,
-    item: &Item,
+    asked: Asked<'_, L, V, Item>,
 ) -> Result<Option<Case>, AllocError>
     requires lawful { AllLeaves L.lawful (Odds (trees_of (map tree_of parts.now))) }
-    requires whole { tree_of whole.now ≡ Odds (trees_of (map tree_of parts.now)) }
-    ensures { IfOk result
-        (IsFoundChange (Has L.output V.output L.formula V.members_of V.reason_of item.now whole.now)
-        wanted) }
+    requires whole { tree_of asked.whole.now ≡ Odds (trees_of (map tree_of parts.now)) }
+    ensures { IfOk result (IsFoundChange
+        (Has L.output V.output L.formula V.members_of V.reason_of asked.entry.item.now
+        asked.entry.whole.now) asked.entry.wanted) }
 {
     are_lawful::<L, V, Item>(parts);
-    let found = odd_parts_changed(alloc, parts, whole, wanted, item)?;
+    let found = odd_parts_changed(alloc, parts, asked.whole, asked.wanted, asked.item)?;
     Ok(found)
 }
 

@@ -6,13 +6,14 @@ ghost use Rattle.predicates_core.specs.Thresholds.{IsOfThreshold};
 ghost use Rattle.predicates_dynamic.specs.Trees.{AllOf, tree_of, Quantifies, CountsMembers};
 ghost use Rattle.predicates_dynamic.specs.Formulas.{check_text, Has, HasOn};
 
+use crate::asked::Asked;
 use crate::check::Check;
 use crate::explain::explained;
 use crate::members::{Members, absent_found};
 use predicates_core::Predicate;
 use predicates_core::custom::{
-    deciding_case, enough_of, is_deciding, is_settled, is_wanted, no_member, settled_case,
-    with_index,
+    Counting, Deciding, deciding_case, enough_of, is_deciding, is_settled, is_wanted, no_member,
+    settled_case, with_index,
 };
 use predicates_core::node::{leaf_node, printed};
 use predicates_core::reflection::Case;
@@ -25,18 +26,24 @@ pub(super) fn quantified_explained<L: Predicate<Item>, V: Members<Item>, Item>(
     inner: &Check<L, V>,
     view: &V,
     decides: bool,
-    whole: &Check<L, V>,
-    wanted: Option<bool>,
-    item: &Item,
+    asked: Asked<'_, L, V, Item>,
 ) -> Result<Option<Case>, AllocError>
     requires lawful { AllOf L.lawful inner.now }
-    requires whole { tree_of whole.now ≡ Quantifies decides view.now (tree_of inner.now) }
+    requires whole { tree_of asked.whole.now ≡ Quantifies decides view.now (tree_of inner.now) }
     ensures { IfOk result (IsFound
-        (Has L.output V.output L.formula V.members_of V.reason_of item.now whole.now) wanted) }
+        (Has L.output V.output L.formula V.members_of V.reason_of asked.entry.item.now
+        asked.entry.whole.now) asked.entry.wanted) }
 {
-    match view.members(item) {
-        Some(members) => members_explained(alloc, inner, decides, whole, wanted, members),
-        None => absent_found(alloc, whole, view, wanted, item),
+    match view.members(asked.item) {
+        Some(members) => {
+            let list = Deciding {
+                whole: asked.whole,
+                name: "item",
+                decides,
+            };
+            members_explained(alloc, inner, list, asked.wanted, members)
+        }
+        None => absent_found(alloc, asked.whole, view, asked.wanted, asked.item),
     }
 }
 
@@ -45,25 +52,24 @@ pub(super) fn quantified_explained<L: Predicate<Item>, V: Members<Item>, Item>(
 fn members_explained<L: Predicate<Item>, V: Members<Item>, Item>(
     alloc: Global,
     inner: &Check<L, V>,
-    decides: bool,
-    whole: &Check<L, V>,
+    list: Deciding<'_, Check<L, V>>,
     wanted: Option<bool>,
     members: &[Item],
 ) -> Result<Option<Case>, AllocError>
     requires { AllOf L.lawful inner.now }
-    ensures { IfOk result (IsFound (IsOfMembers decides
-        (check_text L.output V.output whole.now) (codes "item")
+    ensures { IfOk result (IsFound (IsOfMembers list.entry.decides
+        (check_text L.output V.output list.entry.whole.now) list.entry.name.now
         (HasOn L.output V.output L.formula V.members_of V.reason_of inner.now) members.now)
         wanted) }
 {
-    if is_wanted(wanted, decides) {
-        let found = first_member(alloc, inner, decides, whole, members)?;
+    if is_wanted(wanted, list.decides) {
+        let found = first_member(alloc, inner, list, members)?;
         return Ok(found);
     }
     if members.is_empty() {
-        return Ok(Some(no_member(alloc, whole, !decides)?));
+        return Ok(Some(no_member(alloc, list.whole, !list.decides)?));
     }
-    let found = every_member(alloc, inner, decides, whole, wanted, members)?;
+    let found = every_member(alloc, inner, list, wanted, members)?;
     Ok(found)
 }
 
@@ -72,21 +78,20 @@ fn members_explained<L: Predicate<Item>, V: Members<Item>, Item>(
 fn first_member<L: Predicate<Item>, V: Members<Item>, Item>(
     alloc: Global,
     inner: &Check<L, V>,
-    decides: bool,
-    whole: &Check<L, V>,
+    list: Deciding<'_, Check<L, V>>,
     members: &[Item],
 ) -> Result<Option<Case>, AllocError>
     requires { AllOf L.lawful inner.now }
-    ensures { IfOk result (IsAnswer (IsOfMembers decides
-        (check_text L.output V.output whole.now) (codes "item")
+    ensures { IfOk result (IsAnswer (IsOfMembers list.entry.decides
+        (check_text L.output V.output list.entry.whole.now) list.entry.name.now
         (HasOn L.output V.output L.formula V.members_of V.reason_of inner.now) members.now)
-        decides) }
+        list.entry.decides) }
 {
     for (index, member) in members.iter().enumerate() {
-        let Some(case) = explained(alloc, inner, Some(decides), member)? else {
+        let Some(case) = explained(alloc, inner, Some(list.decides), member)? else {
             continue;
         };
-        return Ok(Some(deciding_case(alloc, whole, "item", decides, index, case)?));
+        return Ok(Some(deciding_case(alloc, list, index, case)?));
     }
     Ok(None)
 }
@@ -96,28 +101,27 @@ fn first_member<L: Predicate<Item>, V: Members<Item>, Item>(
 fn every_member<L: Predicate<Item>, V: Members<Item>, Item>(
     alloc: Global,
     inner: &Check<L, V>,
-    decides: bool,
-    whole: &Check<L, V>,
+    list: Deciding<'_, Check<L, V>>,
     wanted: Option<bool>,
     members: &[Item],
 ) -> Result<Option<Case>, AllocError>
     requires lawful { AllOf L.lawful inner.now }
     requires some { members.now ≢ [] }
-    requires other { wanted ≢ Some decides }
-    ensures { IfOk result (IsFound (IsOfMembers decides
-        (check_text L.output V.output whole.now) (codes "item")
+    requires other { wanted ≢ Some list.decides }
+    ensures { IfOk result (IsFound (IsOfMembers list.entry.decides
+        (check_text L.output V.output list.entry.whole.now) list.entry.name.now
         (HasOn L.output V.output L.formula V.members_of V.reason_of inner.now) members.now)
         wanted) }
 {
-    let mut node = leaf_node(alloc, printed(alloc, whole)?, !decides);
+    let mut node = leaf_node(alloc, printed(alloc, list.whole)?, !list.decides);
     for (index, member) in members.iter().enumerate() {
         let Some(case) = explained(alloc, inner, wanted, member)? else {
             return Ok(None);
         };
-        if is_deciding(wanted, decides, &case) {
-            return Ok(Some(deciding_case(alloc, whole, "item", decides, index, case)?));
+        if is_deciding(wanted, list.decides, &case) {
+            return Ok(Some(deciding_case(alloc, list, index, case)?));
         }
-        node = node.add_child("item", case)?;
+        node = node.add_child(list.name, case)?;
     }
     Ok(Some(node))
 }
@@ -129,18 +133,24 @@ pub(super) fn members_threshold_explained<L: Predicate<Item>, V: Members<Item>, 
     inner: &Check<L, V>,
     view: &V,
     least: usize,
-    whole: &Check<L, V>,
-    wanted: Option<bool>,
-    item: &Item,
+    asked: Asked<'_, L, V, Item>,
 ) -> Result<Option<Case>, AllocError>
     requires lawful { AllOf L.lawful inner.now }
-    requires whole { tree_of whole.now ≡ CountsMembers least view.now (tree_of inner.now) }
+    requires whole { tree_of asked.whole.now ≡ CountsMembers least view.now (tree_of inner.now) }
     ensures { IfOk result (IsFound
-        (Has L.output V.output L.formula V.members_of V.reason_of item.now whole.now) wanted) }
+        (Has L.output V.output L.formula V.members_of V.reason_of asked.entry.item.now
+        asked.entry.whole.now) asked.entry.wanted) }
 {
-    match view.members(item) {
-        Some(members) => counted_members_explained(alloc, inner, least, whole, wanted, members),
-        None => absent_found(alloc, whole, view, wanted, item),
+    match view.members(asked.item) {
+        Some(members) => {
+            let list = Counting {
+                whole: asked.whole,
+                name: "item",
+                least,
+            };
+            counted_members_explained(alloc, inner, list, asked.wanted, members)
+        }
+        None => absent_found(alloc, asked.whole, view, asked.wanted, asked.item),
     }
 }
 
@@ -149,20 +159,19 @@ pub(super) fn members_threshold_explained<L: Predicate<Item>, V: Members<Item>, 
 fn counted_members_explained<L: Predicate<Item>, V: Members<Item>, Item>(
     alloc: Global,
     inner: &Check<L, V>,
-    least: usize,
-    whole: &Check<L, V>,
+    list: Counting<'_, Check<L, V>>,
     wanted: Option<bool>,
     members: &[Item],
 ) -> Result<Option<Case>, AllocError>
     requires { AllOf L.lawful inner.now }
-    ensures { IfOk result (IsFound (IsOfThreshold least
-        (check_text L.output V.output whole.now) (codes "item")
+    ensures { IfOk result (IsFound (IsOfThreshold list.entry.least
+        (check_text L.output V.output list.entry.whole.now) list.entry.name.now
         (HasOn L.output V.output L.formula V.members_of V.reason_of inner.now) members.now)
         wanted) }
 {
     match wanted {
-        Some(expected) => members_wanted(alloc, inner, least, whole, expected, members),
-        None => members_either(alloc, inner, least, whole, members),
+        Some(expected) => members_wanted(alloc, inner, list, expected, members),
+        None => members_either(alloc, inner, list, members),
     }
 }
 
@@ -171,22 +180,21 @@ fn counted_members_explained<L: Predicate<Item>, V: Members<Item>, Item>(
 fn members_either<L: Predicate<Item>, V: Members<Item>, Item>(
     alloc: Global,
     inner: &Check<L, V>,
-    least: usize,
-    whole: &Check<L, V>,
+    list: Counting<'_, Check<L, V>>,
     members: &[Item],
 ) -> Result<Option<Case>, AllocError>
     requires { AllOf L.lawful inner.now }
-    ensures { IfOk result (IsFound (IsOfThreshold least
-        (check_text L.output V.output whole.now) (codes "item")
+    ensures { IfOk result (IsFound (IsOfThreshold list.entry.least
+        (check_text L.output V.output list.entry.whole.now) list.entry.name.now
         (HasOn L.output V.output L.formula V.members_of V.reason_of inner.now) members.now)
         None) }
 {
-    if is_settled(least, members.len()) {
-        return settled_case(alloc, whole, least, members.len(), None);
+    if is_settled(list.least, members.len()) {
+        return settled_case(alloc, list.whole, list.least, members.len(), None);
     }
-    let most = enough_of(false, least, members.len());
-    let mut held_node = leaf_node(alloc, printed(alloc, whole)?, true);
-    let mut failed_node = leaf_node(alloc, printed(alloc, whole)?, false);
+    let most = enough_of(false, list.least, members.len());
+    let mut held_node = leaf_node(alloc, printed(alloc, list.whole)?, true);
+    let mut failed_node = leaf_node(alloc, printed(alloc, list.whole)?, false);
     let mut held = 0usize;
     let mut failed = 0usize;
     for (index, member) in members.iter().enumerate() {
@@ -196,13 +204,13 @@ fn members_either<L: Predicate<Item>, V: Members<Item>, Item>(
         let holds = case.root().result();
         let told = with_index(alloc, index, case)?;
         if holds {
-            held_node = held_node.add_child("item", told)?;
+            held_node = held_node.add_child(list.name, told)?;
             held += 1;
-            if held == least {
+            if held == list.least {
                 return Ok(Some(held_node));
             }
         } else {
-            failed_node = failed_node.add_child("item", told)?;
+            failed_node = failed_node.add_child(list.name, told)?;
             failed += 1;
             if failed == most {
                 return Ok(Some(failed_node));
@@ -217,29 +225,28 @@ fn members_either<L: Predicate<Item>, V: Members<Item>, Item>(
 fn members_wanted<L: Predicate<Item>, V: Members<Item>, Item>(
     alloc: Global,
     inner: &Check<L, V>,
-    least: usize,
-    whole: &Check<L, V>,
+    list: Counting<'_, Check<L, V>>,
     expected: bool,
     members: &[Item],
 ) -> Result<Option<Case>, AllocError>
     requires { AllOf L.lawful inner.now }
-    ensures { IfOk result (IsAnswer (IsOfThreshold least
-        (check_text L.output V.output whole.now) (codes "item")
+    ensures { IfOk result (IsAnswer (IsOfThreshold list.entry.least
+        (check_text L.output V.output list.entry.whole.now) list.entry.name.now
         (HasOn L.output V.output L.formula V.members_of V.reason_of inner.now) members.now)
         expected) }
 {
-    if is_settled(least, members.len()) {
-        return settled_case(alloc, whole, least, members.len(), Some(expected));
+    if is_settled(list.least, members.len()) {
+        return settled_case(alloc, list.whole, list.least, members.len(), Some(expected));
     }
-    let enough = enough_of(expected, least, members.len());
-    let mut node = leaf_node(alloc, printed(alloc, whole)?, expected);
+    let enough = enough_of(expected, list.least, members.len());
+    let mut node = leaf_node(alloc, printed(alloc, list.whole)?, expected);
     let mut kept = 0usize;
     for (index, member) in members.iter().enumerate() {
         let Some(case) = explained(alloc, inner, Some(expected), member)? else {
             continue;
         };
         let told = with_index(alloc, index, case)?;
-        node = node.add_child("item", told)?;
+        node = node.add_child(list.name, told)?;
         kept += 1;
         if kept == enough {
             return Ok(Some(node));

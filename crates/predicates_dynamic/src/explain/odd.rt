@@ -8,12 +8,13 @@ ghost use Rattle.predicates_dynamic.specs.Trees.{AllOf, AllLeaves, Odds, tree_of
 ghost use Rattle.predicates_dynamic.specs.Formulas.{check_text, Has};
 ghost use Rattle.predicates_dynamic.specs.OddRows.{IsOfOddRow};
 
+use crate::asked::Asked;
 use crate::check::Check;
 use crate::explain::explained;
 use crate::hold::are_lawful;
 use crate::members::Members;
 use predicates_core::Predicate;
-use predicates_core::custom::{is_other, no_member, node_of_first};
+use predicates_core::custom::{Deciding, is_other, no_member, node_of_first};
 use predicates_core::reflection::Case;
 use std::alloc::{AllocError, Global};
 use std::fmt;
@@ -23,17 +24,16 @@ use std::fmt;
 pub(super) fn odd_explained<L: Predicate<Item>, V: Members<Item>, Item>(
     alloc: Global,
     parts: &[Check<L, V>],
-    whole: &Check<L, V>,
-    wanted: Option<bool>,
-    item: &Item,
+    asked: Asked<'_, L, V, Item>,
 ) -> Result<Option<Case>, AllocError>
     requires lawful { AllLeaves L.lawful (Odds (trees_of (map tree_of parts.now))) }
-    requires whole { tree_of whole.now ≡ Odds (trees_of (map tree_of parts.now)) }
+    requires whole { tree_of asked.whole.now ≡ Odds (trees_of (map tree_of parts.now)) }
     ensures { IfOk result (IsFound
-        (Has L.output V.output L.formula V.members_of V.reason_of item.now whole.now) wanted) }
+        (Has L.output V.output L.formula V.members_of V.reason_of asked.entry.item.now
+        asked.entry.whole.now) asked.entry.wanted) }
 {
     are_lawful::<L, V, Item>(parts);
-    let found = odd_parts_explained(alloc, parts, whole, wanted, item)?;
+    let found = odd_parts_explained(alloc, parts, asked.whole, asked.wanted, asked.item)?;
     Ok(found)
 }
 
@@ -69,7 +69,12 @@ fn odd_parts_explained<L: Predicate<Item>, V: Members<Item>, Item>(
         return Ok(None);
     }
     let number = cases.len();
-    Ok(Some(node_of_first(alloc, whole, "rule", odd, cases, number)?))
+    let list = Deciding {
+        whole,
+        name: "rule",
+        decides: odd,
+    };
+    Ok(Some(node_of_first(alloc, list, cases, number)?))
 }
 
 // What is found of a row without parts, of which no odd number holds.

@@ -5,9 +5,9 @@ ghost use Rattle.predicates_core.specs.Formula.{HasTruth};
 ghost use Rattle.predicates_core.specs.Label.{Entry};
 ghost use Rattle.predicates_core.specs.Several.{IsOfMembers};
 ghost use Rattle.predicates_core.specs.Thresholds.{IsOfThreshold};
-ghost use Rattle.predicates_dynamic.specs.Trees.{AllOf, AsksAll, tree_of, Quantifies};
+ghost use Rattle.predicates_dynamic.specs.Trees.{AllAsked, AllOf, AsksAll, tree_of, Quantifies};
 ghost use Rattle.predicates_dynamic.specs.Trees.{CountsMembers};
-ghost use Rattle.predicates_dynamic.specs.Formulas.{Has, HasOn};
+ghost use Rattle.predicates_dynamic.specs.Formulas.{HasFormula, HasOn};
 
 use crate::check::Check;
 use crate::hold::holds;
@@ -23,14 +23,14 @@ pub(super) fn quantified_holds<L: Predicate<Item>, V: Members<Item>, Item>(
     inner: &Check<L, V>,
     view: &V,
     decides: bool,
-    whole: &Check<L, V>,
     item: &Item,
 ) -> Result<bool, AllocError>
-    requires lawful { AllOf L.lawful inner.now }
-    requires whole { tree_of whole.now ≡ Quantifies decides view.now (tree_of inner.now) }
+    requires { AllOf L.lawful inner.now }
     ensures truth { IfOk result (HasTruth
-        (Has L.output V.output L.formula V.members_of V.reason_of item.now whole.now)) }
-    ensures infallible { AsksAll L.infallible V.members_of item.now whole.now → IsOk result }
+        (HasFormula L.output V.output L.formula V.members_of V.reason_of item.now
+        (Quantifies decides view.now (tree_of inner.now)))) }
+    ensures infallible { AllAsked L.infallible V.members_of item.now
+        (Quantifies decides view.now (tree_of inner.now)) → IsOk result }
 {
     match view.members(item) {
         Some(members) => members_hold(alloc, inner, decides, members),
@@ -68,14 +68,14 @@ pub(super) fn members_threshold_holds<L: Predicate<Item>, V: Members<Item>, Item
     inner: &Check<L, V>,
     view: &V,
     least: usize,
-    whole: &Check<L, V>,
     item: &Item,
 ) -> Result<bool, AllocError>
-    requires lawful { AllOf L.lawful inner.now }
-    requires whole { tree_of whole.now ≡ CountsMembers least view.now (tree_of inner.now) }
+    requires { AllOf L.lawful inner.now }
     ensures truth { IfOk result (HasTruth
-        (Has L.output V.output L.formula V.members_of V.reason_of item.now whole.now)) }
-    ensures infallible { AsksAll L.infallible V.members_of item.now whole.now → IsOk result }
+        (HasFormula L.output V.output L.formula V.members_of V.reason_of item.now
+        (CountsMembers least view.now (tree_of inner.now)))) }
+    ensures infallible { AllAsked L.infallible V.members_of item.now
+        (CountsMembers least view.now (tree_of inner.now)) → IsOk result }
 {
     match view.members(item) {
         Some(members) => counted_members_hold(alloc, inner, least, members),

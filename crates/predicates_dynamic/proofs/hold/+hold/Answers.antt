@@ -23,10 +23,10 @@ named_holds-returns-clause-truth g t c =
     rw is (HasTruth-named c.in_ok-held.ensures.truth)
 
 pub pair_holds-returns-then-not-asks-clause-truth : goal.pair_holds-returns-then-not-asks-clause-truth
-pair_holds-returns-then-not-asks-clause-truth g t c = truth_of_first c.args.operator c.args.left_holds (rw (← c.asks.ensures) (search rules)) c.requires.left c.apply.ensures
+pair_holds-returns-then-not-asks-clause-truth g t c = truth_of_first c.args.left.operator c.args.left.found (rw (← c.asks.ensures) (search rules)) c.requires.left c.apply.ensures
 
 pub pair_holds-returns-clause-truth : goal.pair_holds-returns-clause-truth
-pair_holds-returns-clause-truth g t c = truth_of_pair c.args.operator _ _ c.requires.left c.in_ok-right_holds.ensures.truth c.apply-2.ensures _
+pair_holds-returns-clause-truth g t c = truth_of_pair c.args.left.operator _ _ c.requires.left c.in_ok-right_holds.ensures.truth c.apply-2.ensures _
 
 pub row_holds-returns-clause-truth : goal.row_holds-returns-clause-truth
 row_holds-returns-clause-truth g t c = rw c.requires.whole (verdict_of_row g.L.Display.output g.V.Display.output g.L.Predicate.formula g.V.Members.members_of g.V.Members.reason_of c.args.item.now c.args.decides c.args.parts.now c.parts_hold.result c.parts_hold.ensures.truth)
@@ -119,22 +119,22 @@ members::counted_members_hold-loop-member-preserved g t c = elim c.if-branch.bra
 ]
 
 pub members::quantified_holds-returns-in-Some-clause-truth : goal.members::quantified_holds-returns-in-Some-clause-truth
-members::quantified_holds-returns-in-Some-clause-truth g t c = rw c.requires.whole (verdict_of_members g.L.Display.output g.V.Display.output g.L.Predicate.formula g.V.Members.members_of g.V.Members.reason_of c.args.view.now c.args.inner.now c.args.item.now c.args.decides c.members_hold.result (sym c.in-Some.ensures) c.members_hold.ensures.truth)
+members::quantified_holds-returns-in-Some-clause-truth g t c = verdict_of_members g.L.Display.output g.V.Display.output g.L.Predicate.formula g.V.Members.members_of g.V.Members.reason_of c.args.view.now c.args.inner.now c.args.item.now c.args.decides c.members_hold.result (sym c.in-Some.ensures) c.members_hold.ensures.truth
 
 pub members::quantified_holds-returns-in-Some-clause-infallible : goal.members::quantified_holds-returns-in-Some-clause-infallible
-members::quantified_holds-returns-in-Some-clause-infallible g t c = λ h. c.members_hold.ensures.infallible (each_asked_member g.L.Predicate.infallible g.V.Members.members_of c.args.view.now c.args.inner.now c.args.item.now (sym c.in-Some.ensures) (subst (AllAsked g.L.Predicate.infallible g.V.Members.members_of c.args.item.now) c.requires.whole h))
+members::quantified_holds-returns-in-Some-clause-infallible g t c = λ h. c.members_hold.ensures.infallible (each_asked_member g.L.Predicate.infallible g.V.Members.members_of c.args.view.now c.args.inner.now c.args.item.now (sym c.in-Some.ensures) h)
 
 pub members::quantified_holds-returns-in-None-clause-truth : goal.members::quantified_holds-returns-in-None-clause-truth
-members::quantified_holds-returns-in-None-clause-truth g t c = rw c.requires.whole (HasTruth-absent (sym c.in-None.ensures) refl)
+members::quantified_holds-returns-in-None-clause-truth g t c = HasTruth-absent (sym c.in-None.ensures) refl
 
 pub members::members_threshold_holds-returns-in-Some-clause-truth : goal.members::members_threshold_holds-returns-in-Some-clause-truth
-members::members_threshold_holds-returns-in-Some-clause-truth g t c = rw c.requires.whole (verdict_of_counted_members g.L.Display.output g.V.Display.output g.L.Predicate.formula g.V.Members.members_of g.V.Members.reason_of c.args.view.now c.args.inner.now c.args.item.now c.args.least c.counted_members_hold.result (sym c.in-Some.ensures) c.counted_members_hold.ensures.truth)
+members::members_threshold_holds-returns-in-Some-clause-truth g t c = verdict_of_counted_members g.L.Display.output g.V.Display.output g.L.Predicate.formula g.V.Members.members_of g.V.Members.reason_of c.args.view.now c.args.inner.now c.args.item.now c.args.least c.counted_members_hold.result (sym c.in-Some.ensures) c.counted_members_hold.ensures.truth
 
 pub members::members_threshold_holds-returns-in-Some-clause-infallible : goal.members::members_threshold_holds-returns-in-Some-clause-infallible
-members::members_threshold_holds-returns-in-Some-clause-infallible g t c = λ h. c.counted_members_hold.ensures.infallible (each_asked_member g.L.Predicate.infallible g.V.Members.members_of c.args.view.now c.args.inner.now c.args.item.now (sym c.in-Some.ensures) (subst (AllAsked g.L.Predicate.infallible g.V.Members.members_of c.args.item.now) c.requires.whole h))
+members::members_threshold_holds-returns-in-Some-clause-infallible g t c = λ h. c.counted_members_hold.ensures.infallible (each_asked_member g.L.Predicate.infallible g.V.Members.members_of c.args.view.now c.args.inner.now c.args.item.now (sym c.in-Some.ensures) h)
 
 pub members::members_threshold_holds-returns-in-None-clause-truth : goal.members::members_threshold_holds-returns-in-None-clause-truth
-members::members_threshold_holds-returns-in-None-clause-truth g t c = rw c.requires.whole (HasTruth-absent (sym c.in-None.ensures) refl)
+members::members_threshold_holds-returns-in-None-clause-truth g t c = HasTruth-absent (sym c.in-None.ensures) refl
 
 pub odd::odd_holds-returns-clause-truth : goal.odd::odd_holds-returns-clause-truth
 odd::odd_holds-returns-clause-truth g t c = rw c.requires.whole (verdict_of_odd g.L.Display.output g.V.Display.output g.L.Predicate.formula g.V.Members.members_of g.V.Members.reason_of c.args.item.now c.args.parts.now c.odd_parts_hold.result c.odd_parts_hold.ensures.truth)
