@@ -7,7 +7,8 @@ use Rattle.predicates_check.specs.declared.expectation.Expectation.{Expectation}
 use Rattle.predicates_check.specs.declared.failure.Failure.{Failure}
 
 -- the formulas that the check has on the item
-abbrev pub expected : {Item P : Type 0} → (P → Item → Formula → Type 0) → Expectation Item P → Formula
+abbrev pub expected : {Item P : Type 0} → (P → Item → Formula → Type 0) → Expectation Item P
+    → Formula
     → Type 0
 expected formula expectation = formula expectation.check expectation.item
 
@@ -23,7 +24,8 @@ IsMetInfallibly infallible formula expectation =
     × ((f : Formula) × expected formula expectation f × (truth f ≡ true))
 
 -- the expectation's label, with a case that explains why it is not met
-abbrev pub IsFailure : {Item P : Type 0} → (P → Item → Formula → Type 0) → Expectation Item P → Failure
+abbrev pub IsFailure : {Item P : Type 0} → (P → Item → Formula → Type 0) → Expectation Item P
+    → Failure
     → Type 0
 IsFailure formula expectation failure =
     (string_bytes failure.label ≡ string_bytes expectation.label)

@@ -5,8 +5,8 @@ use predicates_core::reflection::Case;
 use std::fmt;
 
 /// The label of an expectation that is not met, and the case that explains why. Its `Debug` and its
-/// `Display` are the same text, that of the error of `require_as`: the label, `: `, and the lines of
-/// the case. Printing it takes no memory.
+/// `Display` are the same text, that of the error of `require_as`: the label, `: `, and the lines
+/// of the case. Printing it takes no memory.
 ///
 /// ```
 /// let failure = failures.pop().ok_or("met")?;

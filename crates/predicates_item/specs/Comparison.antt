@@ -7,7 +7,8 @@ use Rattle.predicates_item.specs.declared.ord.equality.EqOps.{EqOps}
 use Rattle.predicates_item.specs.declared.ord.equality.EqOps.TheVariants.{Equal, NotEqual}
 use Rattle.predicates_item.specs.declared.ord.order.OrdOps.{OrdOps}
 use Rattle.predicates_item.specs.declared.ord.order.OrdOps.TheVariants.{LessThan, LessThanOrEqual}
-use Rattle.predicates_item.specs.declared.ord.order.OrdOps.TheVariants.{GreaterThanOrEqual, GreaterThan}
+use Rattle.predicates_item.specs.declared.ord.order.OrdOps.TheVariants.{GreaterThanOrEqual}
+use Rattle.predicates_item.specs.declared.ord.order.OrdOps.TheVariants.{GreaterThan}
 
 abbrev pub eq_symbol : EqOps → List ℕ
 eq_symbol Equal = codes "=="

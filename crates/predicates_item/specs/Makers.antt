@@ -3,7 +3,8 @@ use Rattle.predicates_item.specs.declared.ord.equality.EqPredicate.{EqPredicate}
 use Rattle.predicates_item.specs.declared.ord.equality.EqOps.TheVariants.{Equal, NotEqual}
 use Rattle.predicates_item.specs.declared.ord.order.OrdPredicate.{OrdPredicate}
 use Rattle.predicates_item.specs.declared.ord.order.OrdOps.TheVariants.{LessThan, LessThanOrEqual}
-use Rattle.predicates_item.specs.declared.ord.order.OrdOps.TheVariants.{GreaterThanOrEqual, GreaterThan}
+use Rattle.predicates_item.specs.declared.ord.order.OrdOps.TheVariants.{GreaterThanOrEqual}
+use Rattle.predicates_item.specs.declared.ord.order.OrdOps.TheVariants.{GreaterThan}
 use Rattle.predicates_item.specs.declared.showing.ShowingPredicate.{ShowingPredicate}
 
 module _ {T : Type 0} where

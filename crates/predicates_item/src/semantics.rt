@@ -45,7 +45,8 @@ pub fn constant<Item>(constant: &BooleanPredicate<Item>, item: &Item)
         ↔ IsExactly
         (Leaf (plain (Some (word (answer_of constant.now)))) (answer_of constant.now)) f }
     ensures lawful { ⟦<BooleanPredicate<Item> as Predicate<Item>>⟧.lawful constant.now }
-    ensures infallible { ⟦<BooleanPredicate<Item> as Predicate<Item>>⟧.infallible constant.now item.now }
+    ensures infallible { ⟦<BooleanPredicate<Item> as Predicate<Item>>⟧.infallible constant.now
+        item.now }
     ensures values { ⟦<BooleanPredicate<Item> as PredicateReflection>⟧.parameters_of constant.now
         ≡ value_of (codes "value") (Some (word (answer_of constant.now))) }
     ensures parts { ⟦<BooleanPredicate<Item> as PredicateReflection>⟧.children_of constant.now
@@ -129,11 +130,13 @@ pub fn same_members<T: fmt::Debug + Ord>(same: &SameMembersPredicate<T>, list: &
         (difference T.eq (ascending T.cmp list.now.items) (Multiset.members_of same.now)) value
         ≡ count_of T.eq list.now.items value - count_of T.eq (Multiset.members_of same.now) value }
     ensures lawful { ⟦<SameMembersPredicate<T> as Predicate<Vec<T>>>⟧.lawful same.now }
-    ensures infallible { ⟦<SameMembersPredicate<T> as Predicate<Vec<T>>>⟧.infallible same.now list.now
+    ensures infallible { ⟦<SameMembersPredicate<T> as Predicate<Vec<T>>>⟧.infallible same.now
+        list.now
         ↔ (length list.now.items ≡ length (Multiset.members_of same.now) → ⊥) }
     ensures values { ⟦<SameMembersPredicate<T> as PredicateReflection>⟧.parameters_of same.now
         ≡ value_of (codes "values") (debug_list T.debug_output (Multiset.members_of same.now)) }
-    ensures parts { ⟦<SameMembersPredicate<T> as PredicateReflection>⟧.children_of same.now ≡ empty }
+    ensures parts { ⟦<SameMembersPredicate<T> as PredicateReflection>⟧.children_of same.now
+        ≡ empty }
 {}
 
 /// Leaves that show the item, true where it equals the constant, and where it does not.

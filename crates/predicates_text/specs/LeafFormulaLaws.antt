@@ -10,7 +10,8 @@ use Rattle.predicates_core.specs.Leaves.{IsExactly}
 use Rattle.predicates_text.specs.Leaves.{text_leaf, counted_leaf, contains_text, empty_formula}
 use Rattle.predicates_text.specs.Leaves.{starts_formula, ends_formula, contains_formula}
 use Rattle.predicates_text.specs.Leaves.{matches_formula}
-use Rattle.predicates_text.specs.PlaceLaws.{empty_decides, front_decides, back_decides, part_decides}
+use Rattle.predicates_text.specs.PlaceLaws.{empty_decides, front_decides, back_decides}
+use Rattle.predicates_text.specs.PlaceLaws.{part_decides}
 use Rattle.predicates_text.specs.PlaceLaws.{same_test}
 use Rattle.predicates_text.specs.CountLaws.{count_unique, count_of_counts}
 use Rattle.predicates_text.specs.LeafFormulas.{IsTextLeaf, IsEmptyLeaf, IsStartsLeaf, IsEndsLeaf}

@@ -7,8 +7,8 @@
 //!
 //! Items are `String`s, and lengths, positions and counts are in characters. A predicate owns the
 //! text that it is made of, so making one takes no memory, except for `is_match`. Tests against a
-//! text evaluate without memory; `trim`, `normalize`, `fold_case`, `from_utf8` and regular expressions
-//! may take some.
+//! text evaluate without memory; `trim`, `normalize`, `fold_case`, `from_utf8` and regular
+//! expressions may take some.
 #![tactic(auto)]
 
 mod adapters;

@@ -42,7 +42,8 @@ use predicates_core::reflection::PredicateReflection;
 
 /// A leaf that shows the text, true where it has no characters.
 pub fn is_empty(tested: &IsEmptyPredicate, item: &String)
-    ensures formula { (f : Formula) → ⟦<IsEmptyPredicate as Predicate<String>>⟧.formula tested.now item.now f
+    ensures formula { (f : Formula)
+        → ⟦<IsEmptyPredicate as Predicate<String>>⟧.formula tested.now item.now f
         ↔ IsEmptyLeaf (string_bytes item.now) f }
     ensures lawful { ⟦<IsEmptyPredicate as Predicate<String>>⟧.lawful tested.now }
     ensures infallible { ⟦<IsEmptyPredicate as Predicate<String>>⟧.infallible tested.now item.now }
@@ -52,17 +53,20 @@ pub fn is_empty(tested: &IsEmptyPredicate, item: &String)
 
 /// A leaf that shows the text, true where it begins with the pattern.
 pub fn starts_with(prefix: &StartsWithPredicate, item: &String)
-    ensures formula { (f : Formula) → ⟦<StartsWithPredicate as Predicate<String>>⟧.formula prefix.now item.now f
+    ensures formula { (f : Formula)
+        → ⟦<StartsWithPredicate as Predicate<String>>⟧.formula prefix.now item.now f
         ↔ IsStartsLeaf (starts_pattern prefix.now) (string_bytes item.now) f }
     ensures lawful { ⟦<StartsWithPredicate as Predicate<String>>⟧.lawful prefix.now }
-    ensures infallible { ⟦<StartsWithPredicate as Predicate<String>>⟧.infallible prefix.now item.now }
+    ensures infallible { ⟦<StartsWithPredicate as Predicate<String>>⟧.infallible prefix.now
+        item.now }
     ensures values { ⟦<StartsWithPredicate as PredicateReflection>⟧.parameters_of prefix.now ≡ [] }
     ensures parts { ⟦<StartsWithPredicate as PredicateReflection>⟧.children_of prefix.now ≡ empty }
 {}
 
 /// A leaf that shows the text, true where it ends with the pattern.
 pub fn ends_with(suffix: &EndsWithPredicate, item: &String)
-    ensures formula { (f : Formula) → ⟦<EndsWithPredicate as Predicate<String>>⟧.formula suffix.now item.now f
+    ensures formula { (f : Formula)
+        → ⟦<EndsWithPredicate as Predicate<String>>⟧.formula suffix.now item.now f
         ↔ IsEndsLeaf (ends_pattern suffix.now) (string_bytes item.now) f }
     ensures lawful { ⟦<EndsWithPredicate as Predicate<String>>⟧.lawful suffix.now }
     ensures infallible { ⟦<EndsWithPredicate as Predicate<String>>⟧.infallible suffix.now item.now }
@@ -72,7 +76,8 @@ pub fn ends_with(suffix: &EndsWithPredicate, item: &String)
 
 /// A leaf that shows the text, true where the pattern occurs in it.
 pub fn contains(within: &ContainsPredicate, item: &String)
-    ensures formula { (f : Formula) → ⟦<ContainsPredicate as Predicate<String>>⟧.formula within.now item.now f
+    ensures formula { (f : Formula)
+        → ⟦<ContainsPredicate as Predicate<String>>⟧.formula within.now item.now f
         ↔ IsContainsLeaf (contains_pattern within.now) (string_bytes item.now) f }
     ensures lawful { ⟦<ContainsPredicate as Predicate<String>>⟧.lawful within.now }
     ensures infallible { ⟦<ContainsPredicate as Predicate<String>>⟧.infallible within.now item.now }
@@ -82,28 +87,33 @@ pub fn contains(within: &ContainsPredicate, item: &String)
 
 /// A leaf that shows the text, true where the other text has the same case folding.
 pub fn eq_ignore_case(same: &EqIgnoreCasePredicate, item: &String)
-    ensures formula { (f : Formula) → ⟦<EqIgnoreCasePredicate as Predicate<String>>⟧.formula same.now item.now f
+    ensures formula { (f : Formula)
+        → ⟦<EqIgnoreCasePredicate as Predicate<String>>⟧.formula same.now item.now f
         ↔ IsEqIgnoreCaseLeaf (eq_ignore_case_other same.now) (string_bytes item.now) f }
     ensures lawful { ⟦<EqIgnoreCasePredicate as Predicate<String>>⟧.lawful same.now }
-    ensures infallible { ⟦<EqIgnoreCasePredicate as Predicate<String>>⟧.infallible same.now item.now }
+    ensures infallible { ⟦<EqIgnoreCasePredicate as Predicate<String>>⟧.infallible same.now
+        item.now }
     ensures values { ⟦<EqIgnoreCasePredicate as PredicateReflection>⟧.parameters_of same.now ≡ [] }
     ensures parts { ⟦<EqIgnoreCasePredicate as PredicateReflection>⟧.children_of same.now ≡ empty }
 {}
 
 /// A leaf that shows the text and how often the pattern occurs in it, true where that is the count.
 pub fn count(counted: &MatchesPredicate, item: &String)
-    ensures formula { (f : Formula) → ⟦<MatchesPredicate as Predicate<String>>⟧.formula counted.now item.now f
+    ensures formula { (f : Formula)
+        → ⟦<MatchesPredicate as Predicate<String>>⟧.formula counted.now item.now f
         ↔ IsCountedLeaf (matches_pattern counted.now) (matches_count counted.now)
         (string_bytes item.now) f }
     ensures lawful { ⟦<MatchesPredicate as Predicate<String>>⟧.lawful counted.now }
     ensures infallible { ⟦<MatchesPredicate as Predicate<String>>⟧.infallible counted.now item.now }
-    ensures values { ⟦<MatchesPredicate as PredicateReflection>⟧.parameters_of counted.now ≡ value_of (codes "count") (Some (decimal (matches_count counted.now))) }
+    ensures values { ⟦<MatchesPredicate as PredicateReflection>⟧.parameters_of counted.now
+        ≡ value_of (codes "count") (Some (decimal (matches_count counted.now))) }
     ensures parts { ⟦<MatchesPredicate as PredicateReflection>⟧.children_of counted.now ≡ empty }
 {}
 
 /// A leaf that shows the text, true where the expression has a match in it.
 pub fn is_match(matched: &RegexPredicate, item: &String)
-    ensures formula { (f : Formula) → ⟦<RegexPredicate as Predicate<String>>⟧.formula matched.now item.now f
+    ensures formula { (f : Formula)
+        → ⟦<RegexPredicate as Predicate<String>>⟧.formula matched.now item.now f
         ↔ IsExactly (match_formula (regex_text matched.now) (regex_meaning matched.now)
         (string_bytes item.now)) f }
     ensures lawful { ⟦<RegexPredicate as Predicate<String>>⟧.lawful matched.now }
@@ -114,21 +124,29 @@ pub fn is_match(matched: &RegexPredicate, item: &String)
 
 /// A leaf that shows the text and the number of matches in it, true where that is the count.
 pub fn match_count(counted: &RegexMatchesPredicate, item: &String)
-    ensures formula { (f : Formula) → ⟦<RegexMatchesPredicate as Predicate<String>>⟧.formula counted.now item.now f
+    ensures formula { (f : Formula)
+        → ⟦<RegexMatchesPredicate as Predicate<String>>⟧.formula counted.now item.now f
         ↔ IsExactly (match_count_formula (regex_matches_text counted.now)
-        (regex_matches_meaning counted.now) (regex_matches_count counted.now) (string_bytes item.now)) f }
+        (regex_matches_meaning counted.now) (regex_matches_count counted.now)
+        (string_bytes item.now)) f }
     ensures lawful { ⟦<RegexMatchesPredicate as Predicate<String>>⟧.lawful counted.now }
-    ensures fallible { ¬ (⟦<RegexMatchesPredicate as Predicate<String>>⟧.infallible counted.now item.now) }
-    ensures values { ⟦<RegexMatchesPredicate as PredicateReflection>⟧.parameters_of counted.now ≡ value_of (codes "count") (Some (decimal (regex_matches_count counted.now))) }
-    ensures parts { ⟦<RegexMatchesPredicate as PredicateReflection>⟧.children_of counted.now ≡ empty }
+    ensures fallible { ¬ (⟦<RegexMatchesPredicate as Predicate<String>>⟧.infallible counted.now
+        item.now) }
+    ensures values { ⟦<RegexMatchesPredicate as PredicateReflection>⟧.parameters_of counted.now
+        ≡ value_of (codes "count") (Some (decimal (regex_matches_count counted.now))) }
+    ensures parts { ⟦<RegexMatchesPredicate as PredicateReflection>⟧.children_of counted.now
+        ≡ empty }
 {}
 
 /// Its formulas are those of its part on the text without the white space at its ends.
 pub fn trim<P: Predicate<String>>(trimmed: &TrimPredicate<P>, item: &String)
-    ensures formula { (f : Formula) → ⟦<TrimPredicate<P> as Predicate<String>>⟧.formula trimmed.now item.now f
+    ensures formula { (f : Formula)
+        → ⟦<TrimPredicate<P> as Predicate<String>>⟧.formula trimmed.now item.now f
         ↔ IsOfEach (P.formula (inner_of trimmed.now)) (IsTrimmedOf item.now) f }
-    ensures lawful { ⟦<TrimPredicate<P> as Predicate<String>>⟧.lawful trimmed.now ↔ P.lawful (inner_of trimmed.now) }
-    ensures fallible { ¬ (⟦<TrimPredicate<P> as Predicate<String>>⟧.infallible trimmed.now item.now) }
+    ensures lawful { ⟦<TrimPredicate<P> as Predicate<String>>⟧.lawful trimmed.now
+        ↔ P.lawful (inner_of trimmed.now) }
+    ensures fallible { ¬ (⟦<TrimPredicate<P> as Predicate<String>>⟧.infallible trimmed.now
+        item.now) }
     ensures values { ⟦<TrimPredicate<P> as PredicateReflection>⟧.parameters_of trimmed.now ≡ [] }
     ensures parts { ⟦<TrimPredicate<P> as PredicateReflection>⟧.children_of trimmed.now
         ≡ part (codes "predicate") (P.output (inner_of trimmed.now))
@@ -137,11 +155,15 @@ pub fn trim<P: Predicate<String>>(trimmed: &TrimPredicate<P>, item: &String)
 
 /// Its formulas are those of its part on the text with even line endings.
 pub fn normalize<P: Predicate<String>>(normalized: &NormalizedPredicate<P>, item: &String)
-    ensures formula { (f : Formula) → ⟦<NormalizedPredicate<P> as Predicate<String>>⟧.formula normalized.now item.now f
+    ensures formula { (f : Formula)
+        → ⟦<NormalizedPredicate<P> as Predicate<String>>⟧.formula normalized.now item.now f
         ↔ IsOfEach (P.formula (inner_of normalized.now)) (HasEvenLinesOf item.now) f }
-    ensures lawful { ⟦<NormalizedPredicate<P> as Predicate<String>>⟧.lawful normalized.now ↔ P.lawful (inner_of normalized.now) }
-    ensures fallible { ¬ (⟦<NormalizedPredicate<P> as Predicate<String>>⟧.infallible normalized.now item.now) }
-    ensures values { ⟦<NormalizedPredicate<P> as PredicateReflection>⟧.parameters_of normalized.now ≡ [] }
+    ensures lawful { ⟦<NormalizedPredicate<P> as Predicate<String>>⟧.lawful normalized.now
+        ↔ P.lawful (inner_of normalized.now) }
+    ensures fallible { ¬ (⟦<NormalizedPredicate<P> as Predicate<String>>⟧.infallible normalized.now
+        item.now) }
+    ensures values { ⟦<NormalizedPredicate<P> as PredicateReflection>⟧.parameters_of normalized.now
+        ≡ [] }
     ensures parts { ⟦<NormalizedPredicate<P> as PredicateReflection>⟧.children_of normalized.now
         ≡ part (codes "predicate") (P.output (inner_of normalized.now))
         (P.parameters_of (inner_of normalized.now)) (P.children_of (inner_of normalized.now)) }
@@ -149,10 +171,13 @@ pub fn normalize<P: Predicate<String>>(normalized: &NormalizedPredicate<P>, item
 
 /// Its formulas are those of its part on the text with its case folded.
 pub fn fold_case<P: Predicate<String>>(folded: &FoldCasePredicate<P>, item: &String)
-    ensures formula { (f : Formula) → ⟦<FoldCasePredicate<P> as Predicate<String>>⟧.formula folded.now item.now f
+    ensures formula { (f : Formula)
+        → ⟦<FoldCasePredicate<P> as Predicate<String>>⟧.formula folded.now item.now f
         ↔ IsOfEach (P.formula (inner_of folded.now)) (IsCaseFoldedOf item.now) f }
-    ensures lawful { ⟦<FoldCasePredicate<P> as Predicate<String>>⟧.lawful folded.now ↔ P.lawful (inner_of folded.now) }
-    ensures fallible { ¬ (⟦<FoldCasePredicate<P> as Predicate<String>>⟧.infallible folded.now item.now) }
+    ensures lawful { ⟦<FoldCasePredicate<P> as Predicate<String>>⟧.lawful folded.now
+        ↔ P.lawful (inner_of folded.now) }
+    ensures fallible { ¬ (⟦<FoldCasePredicate<P> as Predicate<String>>⟧.infallible folded.now
+        item.now) }
     ensures values { ⟦<FoldCasePredicate<P> as PredicateReflection>⟧.parameters_of folded.now ≡ [] }
     ensures parts { ⟦<FoldCasePredicate<P> as PredicateReflection>⟧.children_of folded.now
         ≡ part (codes "predicate") (P.output (inner_of folded.now))
@@ -164,17 +189,21 @@ pub fn fold_case_twice<P: Predicate<String>>(
     twice: &FoldCasePredicate<FoldCasePredicate<P>>,
     item: &String,
 )
-    ensures { (f : Formula) → ⟦<FoldCasePredicate<FoldCasePredicate<P>> as Predicate<String>>⟧.formula twice.now item.now f
+    ensures { (f : Formula)
+        → ⟦<FoldCasePredicate<FoldCasePredicate<P>> as Predicate<String>>⟧.formula twice.now
+        item.now f
         ↔ ⟦<FoldCasePredicate<P> as Predicate<String>>⟧.formula (inner_of twice.now) item.now f }
 {}
 
 /// Its formulas are those of its part on the text that the bytes encode, with that text as one more
 /// product; on other bytes it is a false leaf, which takes no memory to evaluate.
 pub fn from_utf8<P: Predicate<String>>(decoded: &Utf8Predicate<P>, item: &Vec<u8>)
-    ensures formula { (f : Formula) → ⟦<Utf8Predicate<P> as Predicate<Vec<u8>>>⟧.formula decoded.now item.now f
+    ensures formula { (f : Formula)
+        → ⟦<Utf8Predicate<P> as Predicate<Vec<u8>>>⟧.formula decoded.now item.now f
         ↔ IsDecoded (P.output (inner_of decoded.now)) (P.formula (inner_of decoded.now))
         item.now.items f }
-    ensures lawful { ⟦<Utf8Predicate<P> as Predicate<Vec<u8>>>⟧.lawful decoded.now ↔ P.lawful (inner_of decoded.now) }
+    ensures lawful { ⟦<Utf8Predicate<P> as Predicate<Vec<u8>>>⟧.lawful decoded.now
+        ↔ P.lawful (inner_of decoded.now) }
     ensures infallible { ⟦<Utf8Predicate<P> as Predicate<Vec<u8>>>⟧.infallible decoded.now item.now
         ↔ ¬ (IsUtf8 item.now.items) }
     ensures values { ⟦<Utf8Predicate<P> as PredicateReflection>⟧.parameters_of decoded.now ≡ [] }

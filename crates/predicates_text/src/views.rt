@@ -61,7 +61,8 @@ pub fn trimmed_view<'a>(
 pub fn lines_even(alloc: Global, text: &str) -> Result<String, AllocError>
     ensures view { IfOk result (λ s. chars (string_bytes s) ≡ lines_even (chars text.now)) }
     ensures no_return { IfOk result (λ s. All (λ c. c ≢ carriage_return) (chars (string_bytes s))) }
-    ensures again { IfOk result (λ s. lines_even (chars (string_bytes s)) ≡ chars (string_bytes s)) }
+    ensures again { IfOk result (λ s. lines_even (chars (string_bytes s))
+        ≡ chars (string_bytes s)) }
 {
     let mut even = String::with_capacity(alloc, text.len())?;
     let mut rest = text;

@@ -8,7 +8,8 @@ use std::alloc::{AllocError, Global};
 
 // Whether the expression has a match in the text.
 pub(crate) fn has_match(alloc: Global, regex: &Regex, text: &str) -> Result<bool, AllocError>
-    ensures { IfOk result (λ found. found ≡ is_some (find_str (regex_pattern regex.now) text.now 0)) }
+    ensures { IfOk result (λ found. found
+        ≡ is_some (find_str (regex_pattern regex.now) text.now 0)) }
 {
     let mut matcher = regex.matcher(alloc)?;
     Ok(matcher.is_match(text))
