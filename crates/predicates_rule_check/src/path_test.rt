@@ -1,0 +1,308 @@
+//! A test of the value at a path.
+ghost use Rattle.std.specs.Prelude.{◌≡◌, refl, [], Some, string_bytes};
+ghost use Rattle.predicates_core.specs.Tree.{empty};
+ghost use Rattle.predicates_core.specs.Formula.{HasTruth};
+ghost use Rattle.predicates_core.specs.Leaves.{IsExactly};
+ghost use Rattle.predicates_core.specs.LeafLaws.{one_exactly};
+ghost use Rattle.serde_json.specs.View.{view};
+ghost use Rattle.std.specs.Prelude.{IfOk, false};
+ghost use Rattle.predicates_core.specs.Shows.{IsCaseOf, IsFound};
+ghost use Rattle.predicates_core.specs.Change.{IsFoundChange};
+ghost use Rattle.predicates_rule_check.specs.Scopes.{alone, place_of, stands};
+ghost use Rattle.predicates_rule_check.specs.Queries.{verdict};
+ghost use Rattle.predicates_rule_check.specs.PlanLaws.{asked_text_fits};
+ghost use Rattle.predicates_rule_check.specs.Plans.{asked_formula, absent_formula, leaf_of_verdict};
+ghost use Rattle.predicates_rule_check.specs.Plans.{found_leaf, misfit_leaf, shown_beside};
+ghost use Rattle.predicates_rule_check.specs.Queries.{nothing_verdict, misfit_text};
+ghost use Rattle.predicates_rule_check.specs.Tests.{text_of_test, path_of_test, query_of_test};
+
+use crate::leaf::{bare_leaf, found_at, nothing_at};
+use crate::matchers::Matchers;
+use crate::question::Question;
+use crate::scope::Scope;
+use predicates_core::custom::is_other;
+use predicates_core::node::showing;
+use predicates_core::reflection::{Case, Child, Parameter, PredicateReflection};
+use predicates_core::{Predicate, PredicateChange, Total};
+use serde_json::Value;
+use std::alloc::{AllocError, Global};
+use std::fmt;
+
+/// A test of the value at a path. It prints the test as a rule writes it, and its case shows the
+/// value that it found, or says what is wrong.
+#[derive(Drop)]
+pub struct PathTest {
+    pub(crate) text: String,
+    pub(crate) path: String,
+    pub(crate) question: Question,
+}
+
+impl fmt::Display for PathTest {
+    ghost output = { λ t. Some (text_of_test t) };
+
+    fn fmt<W: fmt::Write>(&self, f: &mut fmt::Formatter<W>) -> fmt::Result {
+        f.write_str(&self.text)
+    }
+}
+
+impl PredicateReflection for PathTest {
+    ghost parameters_of = { λ _. [] };
+
+    ghost children_of = { λ _. empty };
+
+    fn parameters(&self, alloc: Global) -> Result<Vec<Parameter>, AllocError> {
+        Ok(Vec::new(alloc))
+    }
+
+    fn children(&self, alloc: Global) -> Result<Vec<Child>, AllocError> {
+        Ok(Vec::new(alloc))
+    }
+}
+
+impl PathTest {
+    // Whether it holds of an item of a record, by the matchers of a run.
+    #[tactic(auto, using(crate::proofs::Leaving::leavings))]
+    pub(crate) fn holds_in<'r>(
+        &'r self,
+        alloc: Global,
+        matchers: &mut Matchers<'r>,
+        scope: Scope<'_>,
+    ) -> Result<bool, AllocError>
+        ensures { IfOk result (HasTruth (IsExactly (asked_formula (text_of_test self.now)
+            (path_of_test self.now) (query_of_test self.now) (place_of scope.entry)
+            (stands (path_of_test self.now) (place_of scope.entry))))) }
+    {
+        let Some(value) = scope.at(&self.path) else {
+            return Ok(self.question.holds_of_nothing());
+        };
+        match self.question.verdict(alloc, matchers, scope, value)? {
+            Some(holds) => Ok(holds),
+            None => Ok(false),
+        }
+    }
+
+    // What is found of an item of a record.
+    #[tactic(auto, using(crate::proofs::Leaving::leavings))]
+    pub(crate) fn explain_in(
+        &self,
+        alloc: Global,
+        wanted: Option<bool>,
+        scope: Scope<'_>,
+    ) -> Result<Option<Case>, AllocError>
+        ensures { IfOk result (IsFound (IsExactly (asked_formula (text_of_test self.now)
+            (path_of_test self.now) (query_of_test self.now) (place_of scope.entry)
+            (stands (path_of_test self.now) (place_of scope.entry)))) wanted) }
+    {
+        match scope.at(&self.path) {
+            Some(value) => {
+                let found = self.value_found(alloc, scope, value, wanted)?;
+                Ok(found)
+            }
+            None => {
+                let found = self.nothing_found(alloc, wanted)?;
+                Ok(found)
+            }
+        }
+    }
+
+    // What would turn it for an item of a record: its own answer.
+    pub(crate) fn find_change_in(
+        &self,
+        alloc: Global,
+        wanted: Option<bool>,
+        scope: Scope<'_>,
+    ) -> Result<Option<Case>, AllocError>
+        ensures { IfOk result (IsFoundChange (IsExactly (asked_formula (text_of_test self.now)
+            (path_of_test self.now) (query_of_test self.now) (place_of scope.entry)
+            (stands (path_of_test self.now) (place_of scope.entry)))) wanted) }
+    {
+        let found = self.explain_in(alloc, wanted, scope)?;
+        Ok(found)
+    }
+
+    // What is found of a value that stands at the path.
+    #[tactic(auto, using(crate::proofs::Leaving::leavings))]
+    fn value_found(
+        &self,
+        alloc: Global,
+        scope: Scope<'_>,
+        value: &Value,
+        wanted: Option<bool>,
+    ) -> Result<Option<Case>, AllocError>
+        ensures { IfOk result (IsFound (IsExactly (leaf_of_verdict (text_of_test self.now)
+            (query_of_test self.now) (place_of scope.entry) (view value.now)
+            (verdict (query_of_test self.now) (place_of scope.entry) (view value.now)))) wanted) }
+    {
+        let mut matchers = Matchers::new(alloc);
+        match self.question.verdict(alloc, &mut matchers, scope, value)? {
+            Some(holds) => {
+                let found = self.answer_found(alloc, scope, value, holds, wanted)?;
+                Ok(found)
+            }
+            None => {
+                let found = self.misfit_found(alloc, scope, value, wanted)?;
+                Ok(found)
+            }
+        }
+    }
+
+    // What is found of a value that answers.
+    fn answer_found(
+        &self,
+        alloc: Global,
+        scope: Scope<'_>,
+        value: &Value,
+        holds: bool,
+        wanted: Option<bool>,
+    ) -> Result<Option<Case>, AllocError>
+        ensures { IfOk result (IsFound (IsExactly (found_leaf (text_of_test self.now)
+            (view value.now)
+            (shown_beside (query_of_test self.now) (place_of scope.entry) (view value.now)) holds))
+            wanted) }
+    {
+        if is_other(wanted, holds) {
+            return Ok(None);
+        }
+        let case = self.value_case(alloc, scope, value, holds)?;
+        Ok(Some(case))
+    }
+
+    // What is found of a value that can't answer.
+    fn misfit_found(
+        &self,
+        alloc: Global,
+        scope: Scope<'_>,
+        value: &Value,
+        wanted: Option<bool>,
+    ) -> Result<Option<Case>, AllocError>
+        ensures { IfOk result (IsFound (IsExactly (misfit_leaf (text_of_test self.now)
+            (misfit_text (query_of_test self.now) (place_of scope.entry)) (view value.now)
+            (shown_beside (query_of_test self.now) (place_of scope.entry) (view value.now))))
+            wanted) }
+    {
+        if is_other(wanted, false) {
+            return Ok(None);
+        }
+        let case = self.misfit_case(alloc, scope, value)?;
+        Ok(Some(case))
+    }
+
+    // The case that shows the value, and what is shown beside it.
+    fn value_case(
+        &self,
+        alloc: Global,
+        scope: Scope<'_>,
+        value: &Value,
+        holds: bool,
+    ) -> Result<Case, AllocError>
+        ensures { IfOk result (IsCaseOf (IsExactly (found_leaf (text_of_test self.now)
+            (view value.now)
+            (shown_beside (query_of_test self.now) (place_of scope.entry) (view value.now)) holds))
+            holds) }
+    {
+        let case = found_at(alloc, &self.text, value, holds)?;
+        let shown = self.question.showing_beside(alloc, case, scope, value)?;
+        Ok(shown)
+    }
+
+    // The same of a value that can't answer, with why.
+    fn misfit_case(
+        &self,
+        alloc: Global,
+        scope: Scope<'_>,
+        value: &Value,
+    ) -> Result<Case, AllocError>
+        ensures { IfOk result (IsCaseOf (IsExactly (misfit_leaf (text_of_test self.now)
+            (misfit_text (query_of_test self.now) (place_of scope.entry)) (view value.now)
+            (shown_beside (query_of_test self.now) (place_of scope.entry) (view value.now))))
+            false) }
+    {
+        let case = self.value_case(alloc, scope, value, false)?;
+        let error = self.question.misfit(alloc, scope)?;
+        Ok(showing(case, "error", error)?)
+    }
+
+    // What is found where nothing stands at the path.
+    #[tactic(auto, using(crate::proofs::Leaving::leavings))]
+    fn nothing_found(&self, alloc: Global, wanted: Option<bool>) -> Result<Option<Case>, AllocError>
+        ensures { IfOk result (IsFound (IsExactly (absent_formula (text_of_test self.now)
+            (path_of_test self.now) (query_of_test self.now))) wanted) }
+    {
+        let holds = self.question.holds_of_nothing();
+        if is_other(wanted, holds) {
+            return Ok(None);
+        }
+        let case = self.nothing_case(alloc, holds)?;
+        Ok(Some(case))
+    }
+
+    #[tactic(auto, using(crate::proofs::Leaving::leavings))]
+    fn nothing_case(&self, alloc: Global, holds: bool) -> Result<Case, AllocError>
+        requires truth { holds ≡ nothing_verdict (query_of_test self.now) }
+        ensures { IfOk result (IsCaseOf (IsExactly (absent_formula (text_of_test self.now)
+            (path_of_test self.now) (query_of_test self.now))) holds) }
+    {
+        if self.question.is_of_presence() {
+            let case = bare_leaf(alloc, &self.text, holds)?;
+            return Ok(case);
+        }
+        let case = nothing_at(alloc, &self.text, &self.path)?;
+        Ok(case)
+    }
+}
+
+impl Predicate<Value> for PathTest {
+    ghost formula = { λ t v. IsExactly (asked_formula (text_of_test t) (path_of_test t)
+        (query_of_test t) (alone (view v)) (stands (path_of_test t) (alone (view v)))) };
+
+    ghost infallible = { λ _ _. ⊥ };
+
+    ghost text_fits = { λ t v f. asked_text_fits (text_of_test t) (path_of_test t)
+        (query_of_test t) (alone (view v)) (stands (path_of_test t) (alone (view v))) };
+
+    ghost one_formula = { λ t v f g lawful. one_exactly };
+
+    fn eval(&self, alloc: Global, item: &Value) -> Result<bool, AllocError> {
+        let mut matchers = Matchers::new(alloc);
+        let held = self.holds_in(alloc, &mut matchers, Scope { whole: item, item })?;
+        Ok(held)
+    }
+
+    fn find_case(
+        &self,
+        alloc: Global,
+        expected: bool,
+        item: &Value,
+    ) -> Result<Option<Case>, AllocError> {
+        self.explain_in(alloc, Some(expected), Scope { whole: item, item })
+    }
+
+    fn explain(
+        &self,
+        alloc: Global,
+        wanted: Option<bool>,
+        item: &Value,
+    ) -> Result<Option<Case>, AllocError> {
+        self.explain_in(alloc, wanted, Scope { whole: item, item })
+    }
+}
+
+impl PredicateChange<Value> for PathTest {
+    fn find_change(
+        &self,
+        alloc: Global,
+        wanted: Option<bool>,
+        item: &Value,
+    ) -> Result<Option<Case>, AllocError> {
+        self.find_change_in(alloc, wanted, Scope { whole: item, item })
+    }
+}
+
+impl Total<Value> for PathTest {
+    ghost formula_of = { λ t v. asked_formula (text_of_test t) (path_of_test t)
+        (query_of_test t) (alone (view v)) (stands (path_of_test t) (alone (view v))) };
+
+    ghost always_lawful = { λ _. tt };
+
+    ghost has_formula = { λ t v. record { is = refl } };
+}

@@ -1,0 +1,184 @@
+//! What a test asks of the value at its path.
+ghost use Rattle.std.specs.Prelude.{◌≡◌, IfOk, option_map, string_bytes};
+ghost use Rattle.std.specs.Ordering.{nat_cmp};
+ghost use Rattle.serde_json.specs.View.{view};
+ghost use Rattle.predicates_rule_check.specs.Scopes.{place_of};
+ghost use Rattle.predicates_rule_check.specs.Plans.{ShowsBeside, shown_beside};
+ghost use Rattle.predicates_rule_check.specs.Queries.{query_of, verdict, text_fits, length_of};
+ghost use Rattle.predicates_rule_check.specs.Queries.{holds_in};
+ghost use Rattle.predicates_rule_check.specs.Queries.{nothing_verdict, is_of_presence, misfit_text};
+
+use crate::contents::{emptiness, is_of, length};
+use crate::keys::has_only;
+use crate::leaf::{apart, showing_key, showing_length, showing_other};
+use crate::matchers::Matchers;
+use crate::order::{is_in, is_one_of, order_to_literal, order_to_place};
+use crate::pattern::Pattern;
+use crate::scope::Scope;
+use predicates_core::reflection::Case;
+use predicates_rules::condition::{Comparison, State, ValueKind};
+use predicates_rules::literal::Literal;
+use predicates_text::search;
+use serde_json::Value;
+use std::alloc::{AllocError, Global};
+
+/// What a test asks of the value at its path.
+#[derive(Drop)]
+pub enum Question {
+    /// Whether it is there, or is empty.
+    Is(State),
+    /// How it compares with a literal of its kind.
+    Compare(Comparison, Literal),
+    /// How it compares with what stands at another path.
+    CompareWith(Comparison, String),
+    /// How many characters, items or members it has.
+    Length(Comparison, u64),
+    /// Whether it is of this kind.
+    IsOf(ValueKind),
+    /// Whether the text begins with another.
+    StartsWith(String),
+    /// Whether the text ends with another.
+    EndsWith(String),
+    /// Whether the text contains another.
+    Contains(String),
+    /// Whether a regular expression has a match in the text.
+    Matches(Pattern),
+    /// Whether it is one of these.
+    In(Vec<Literal>),
+    /// Whether each key of the object is one of these.
+    KeysIn(Vec<String>),
+}
+
+fn compares_in_length(value: &Value, comparison: Comparison, number: u64) -> Option<bool>
+    ensures { result ≡ option_map (λ k. holds_in comparison (nat_cmp k number))
+        (length_of (view value.now)) }
+{
+    let length = length(value)? as u64;
+    Some(is_in(comparison, length.cmp(&number)))
+}
+
+impl Question {
+    // Whether the value, which stands at the test's path, answers it, or none where it can't. It takes
+    // memory for a regular expression alone.
+    pub(crate) fn verdict<'r>(
+        &'r self,
+        alloc: Global,
+        matchers: &mut Matchers<'r>,
+        scope: Scope<'_>,
+        value: &Value,
+    ) -> Result<Option<bool>, AllocError>
+        ensures { IfOk result (λ found.
+            found ≡ verdict (query_of self.now) (place_of scope.entry) (view value.now)) }
+    {
+        match self {
+            Question::Is(State::Exists) => Ok(Some(true)),
+            Question::Is(State::Missing) => Ok(Some(false)),
+            Question::Is(State::IsEmpty) => Ok(emptiness(value)),
+            Question::Compare(comparison, literal) => {
+                Ok(order_to_literal(value, literal).map(|order| is_in(*comparison, order)))
+            }
+            Question::CompareWith(comparison, path) => {
+                let order = order_to_place(value, scope, path);
+                Ok(order.map(|order| is_in(*comparison, order)))
+            }
+            Question::Length(comparison, number) => {
+                Ok(compares_in_length(value, *comparison, *number))
+            }
+            Question::IsOf(kind) => Ok(Some(is_of(*kind, value))),
+            Question::In(literals) => Ok(Some(is_one_of(value, literals))),
+            Question::KeysIn(texts) => Ok(has_only(value, texts)),
+            _ => match value.as_str() {
+                Some(text) => Ok(Some(self.fits(alloc, matchers, text)?)),
+                None => Ok(None),
+            },
+        }
+    }
+
+    // Whether the text is as it asks.
+    fn fits<'r>(
+        &'r self,
+        alloc: Global,
+        matchers: &mut Matchers<'r>,
+        text: &str,
+    ) -> Result<bool, AllocError>
+        ensures { IfOk result (λ found. found ≡ text_fits (query_of self.now) text.now) }
+    {
+        match self {
+            Question::StartsWith(pattern) => Ok(search::starts_with(text, pattern)),
+            Question::EndsWith(pattern) => Ok(search::ends_with(text, pattern)),
+            Question::Contains(pattern) => Ok(search::contains(text, pattern)),
+            Question::Matches(pattern) => matchers.has_match(alloc, pattern, text),
+            _ => Ok(false),
+        }
+    }
+
+    // Whether it holds where nothing stands at the path.
+    pub(crate) fn holds_of_nothing(&self) -> bool
+        ensures { result ≡ nothing_verdict (query_of self.now) }
+    {
+        match self {
+            Question::Is(State::Missing) => true,
+            _ => false,
+        }
+    }
+
+    // Whether it is about presence alone.
+    pub(crate) fn is_of_presence(&self) -> bool
+        ensures { result ≡ is_of_presence (query_of self.now) }
+    {
+        match self {
+            Question::Is(State::Missing | State::Exists) => true,
+            _ => false,
+        }
+    }
+
+    // The case with what is shown beside the value.
+    pub(crate) fn showing_beside(
+        &self,
+        alloc: Global,
+        case: Case,
+        scope: Scope<'_>,
+        value: &Value,
+    ) -> Result<Case, AllocError>
+        ensures { IfOk result (λ shown. ShowsBeside
+            (shown_beside (query_of self.now) (place_of scope.entry) (view value.now)) case shown) }
+    {
+        match self {
+            Question::CompareWith(_, path) => {
+                let shown = showing_other(alloc, case, scope, path)?;
+                Ok(shown)
+            }
+            Question::Length(_, _) => {
+                let shown = showing_length(alloc, case, value)?;
+                Ok(shown)
+            }
+            Question::KeysIn(texts) => {
+                let shown = showing_key(alloc, case, value, texts)?;
+                Ok(shown)
+            }
+            _ => Ok(case),
+        }
+    }
+
+    // What is said of a value that can't answer.
+    pub(crate) fn misfit(&self, alloc: Global, scope: Scope<'_>) -> Result<String, AllocError>
+        ensures { IfOk result (λ text.
+            string_bytes text ≡ misfit_text (query_of self.now) (place_of scope.entry)) }
+    {
+        match self {
+            Question::CompareWith(_, path) => apart(alloc, scope, path),
+            Question::Compare(
+                _,
+                Literal::Natural(_) | Literal::Negative(_) | Literal::Decimal { .. },
+            ) => String::from_str(alloc, "not a number"),
+            Question::Compare(_, Literal::Boolean(_)) => {
+                String::from_str(alloc, "not true or false")
+            }
+            Question::Is(_) | Question::Length(_, _) => {
+                String::from_str(alloc, "not a string, an array or an object")
+            }
+            Question::KeysIn(_) => String::from_str(alloc, "not an object"),
+            _ => String::from_str(alloc, "not a string"),
+        }
+    }
+}
