@@ -4,7 +4,7 @@ use Rattle.std.specs.Prelude.{filter, is_some, option_map}
 use Rattle.std.proofs.lemmas.List.{take_more, take_all, length-take-le}
 use Rattle.std.proofs.lemmas.List.Elements.{filter-append}
 use Rattle.serde_json.specs.Data.{Data}
-use Rattle.predicates_vet_check.specs.declared.rule_check.RuleCheck.{RuleCheck}
+use Rattle.predicates_rule_check.specs.declared.rule_check.RuleCheck.{RuleCheck}
 use Rattle.predicates_vet.specs.Counting.{is_false, breaks, one_if, CountsOne, number_of, AreCounted, breaks_one, AddsCount, one_counted, all_counted}
 use Rattle.predicates_vet.specs.InputLines.{record_taken, is_blank_taken, is_unreadable}
 use Rattle.predicates_core.specs.Formula.{HasTruth}

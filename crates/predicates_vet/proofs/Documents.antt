@@ -2,9 +2,9 @@
 use Rattle.std.proofs.Common.{◌≡◌, ℕ, ◌+◌, ◌<◌, suc, List, [], ◌∷◌, ◌++◌, map, drop, get_or, length, ap, sym, ◌∙◌, append_assoc, add-one, drop-cons, Bool, codes, subst}
 use Rattle.std.specs.Prelude.{slice_index}
 use Rattle.std.proofs.lemmas.List.{length-map}
-use Rattle.predicates_vet_check.specs.RuleChecks.{name_of}
+use Rattle.predicates_rule_check.specs.RuleChecks.{name_of}
 use Rattle.predicates_vet.specs.JUnit.{errors, failures, files_text, head_text, lines_text, rule_text, rules_text, document_text}
-use Rattle.predicates_vet_check.specs.declared.rule_check.RuleCheck.{RuleCheck}
+use Rattle.predicates_rule_check.specs.declared.rule_check.RuleCheck.{RuleCheck}
 
 joined_three : (t a b c : List ℕ) → ((t ++ a) ++ b) ++ c ≡ t ++ (a ++ (b ++ c))
 joined_three t a b c = simp append_assoc

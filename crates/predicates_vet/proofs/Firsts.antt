@@ -9,7 +9,7 @@ use Rattle.predicates_core.specs.Formula.{HasTruth}
 use Rattle.predicates_core.specs.Leaves.{IsExactly}
 use Rattle.predicates_core.specs.Tree.{Tree}
 use Rattle.predicates_core.specs.Describe.{CaseNode}
-use Rattle.predicates_vet_check.specs.declared.rule_check.RuleCheck.{RuleCheck}
+use Rattle.predicates_rule_check.specs.declared.rule_check.RuleCheck.{RuleCheck}
 use Rattle.predicates_vet.specs.FirstBlocks.{TakesFirst, TakesFirsts, TakesOn, AreFirsts, block_at}
 use Rattle.predicates_vet.specs.InputLines.{record_taken}
 use Rattle.predicates_vet.specs.Records.{AddsCase, IsBlockOf, formula_on}

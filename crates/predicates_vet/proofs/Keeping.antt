@@ -11,7 +11,7 @@ use Rattle.predicates_core.specs.Shows.{Explains, IsCaseOf}
 use Rattle.predicates_core.specs.Change.{ExplainsChange}
 use Rattle.predicates_core.specs.Tree.{Tree}
 use Rattle.predicates_core.specs.Describe.{CaseNode}
-use Rattle.predicates_vet_check.specs.declared.rule_check.RuleCheck.{RuleCheck}
+use Rattle.predicates_rule_check.specs.declared.rule_check.RuleCheck.{RuleCheck}
 use Rattle.predicates_vet.specs.Records.{formula_on, keeps, broken, shown, AddsCase, AddsChange}
 
 and_true : (a : Bool) → (a && true) ≡ a

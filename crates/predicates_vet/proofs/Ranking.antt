@@ -2,8 +2,8 @@
 use Rattle.std.proofs.Common.{◌≡◌, ℕ, ◌+◌, ◌<◌, List, [], ◌∷◌, ◌++◌, length, take, get_or, map, sym, ◌∙◌, ap, arith}
 use Rattle.std.specs.Prelude.{slice_index}
 use Rattle.std.proofs.lemmas.List.{take_more, map-append, length-map, length-take-le}
-use Rattle.predicates_vet_check.specs.RuleChecks.{name_of}
-use Rattle.predicates_vet_check.specs.declared.rule_check.RuleCheck.{RuleCheck}
+use Rattle.predicates_rule_check.specs.RuleChecks.{name_of}
+use Rattle.predicates_rule_check.specs.declared.rule_check.RuleCheck.{RuleCheck}
 use Rattle.predicates_vet.specs.Summaries.{row_of, rows_of}
 use Rattle.predicates_vet.specs.declared.summary_lines.Row.{Row}
 

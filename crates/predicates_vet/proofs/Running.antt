@@ -10,11 +10,9 @@ use Rattle.std.specs.Str.{IsUtf8, is_utf8}
 use Rattle.std.proofs.lemmas.Str.{IsUtf8-from_is_utf8, is_utf8-from_IsUtf8}
 use Rattle.serde_json.specs.Read.{read}
 use Rattle.serde_json.specs.Data.{Data}
-use Rattle.predicates_lines.specs.declared.taken_line.TakenLine.{TakenLine}
-use Rattle.predicates_lines.specs.declared.taken_line.TakenLine.TheVariants.{TooLong}
 use Rattle.predicates_vet.specs.Counting.{CountsOne, AreCounted, one_counted, all_counted, has_room, left_after}
 use Rattle.predicates_vet.specs.FirstBlocks.{TakesOn, AreFirsts, blocks_of}
-use Rattle.predicates_vet.specs.InputLines.{record_on, record_taken, line_found, too_long_text}
+use Rattle.predicates_vet.specs.InputLines.{record_on, record_taken, too_long_text}
 use Rattle.predicates_vet.specs.Pieces.{pieces, TakesPiece, IsOver}
 use Rattle.predicates_records.specs.declared.position.Position.{Position}
 use Rattle.predicates_records.specs.declared.position.Position.TheVariants.{Outside}
@@ -79,7 +77,7 @@ module _ (j : Job) where
   flat_more f ls l = flat_map-append f ls (l ∷ []) ∙ ap (λ z. flat_map f ls ++ z) (append-nil (f l))
 
   -- of a line that is too long only the message is written
-  long_one : (number : ℕ) (w m0 m1 : Option (List ℕ)) (before after : Tally)
+  pub long_one : (number : ℕ) (w m0 m1 : Option (List ℕ)) (before after : Tally)
       → Appends m0 m1 (message_text (place_text (source_of j) number) (too_long_text j.max_line))
       → CountsOne None false before.counts after.counts → after.broken ≡ before.broken → after.firsts ≡ before.firsts → after.left ≡ before.left
       → TakesOne j number None w w m0 m1 before after
@@ -95,13 +93,6 @@ module _ (j : Job) where
     firsts = ap (λ v. map string_bytes v.items) firsts;
     left = left;
   }
-
-  pub long_found : (number : ℕ) (w m0 m1 : Option (List ℕ)) (before after : Tally) (found : TakenLine) (bytes : List ℕ) → found ≡ TooLong
-      → Appends m0 m1 (message_text (place_text (source_of j) number) (too_long_text j.max_line))
-      → CountsOne None false before.counts after.counts → after.broken ≡ before.broken → after.firsts ≡ before.firsts → after.left ≡ before.left
-      → TakesOne j number (line_found found bytes) w w m0 m1 before after
-  long_found number w m0 m1 before after found bytes is message counts broken firsts left =
-      subst (λ f. TakesOne j number (line_found f bytes) w w m0 m1 before after) (sym is) (long_one number w m0 m1 before after message counts broken firsts left)
 
   -- one more line is taken and told
   pub has_told_more : (r0 r1 r2 w0 w1 w2 m0 m1 m2 : Option (List ℕ)) (p q : Position) (count : ℕ) (before now after : Tally) (line : Option (List ℕ))
@@ -172,11 +163,6 @@ module _ (j : Job) where
 pub on_err : {T E P : Type 0} (r : Result T E) → P → OnErr r P
 on_err (Ok x) p = tt
 on_err (Err e) p = p
-
--- two facts of what went well, and what follows of both
-pub on_ok : {T E A B C : Type 0} (r : Result T E) → OnOk r A → OnOk r B → (A → B → C) → OnOk r C
-on_ok (Ok x) a b f = f a b
-on_ok (Err e) a b f = tt
 
 -- ---- the record on a line
 

@@ -1,15 +1,12 @@
 -- The next piece of an input.
-use Rattle.std.proofs.Common.{◌≡◌, ◌≢◌, ℕ, ◌<◌, ◌≤◌, true, false, List, [], ◌∷◌, ◌++◌, length, map, Option, Some, None, refl, sym, ap, ◌∙◌, le-ltb, lt-ltb, if◌then◌else◌}
+use Rattle.std.proofs.Common.{◌≡◌, ℕ, ◌<◌, ◌≤◌, true, false, List, [], ◌∷◌, ◌++◌, length, map, Option, Some, None, sym, ap, ◌∙◌, le-ltb, lt-ltb, if◌then◌else◌}
 use Rattle.predicates_lines.specs.Lines.{ended_lines}
 use Rattle.predicates_records.specs.declared.position.Position.{Position}
 use Rattle.predicates_records.specs.declared.position.Position.TheVariants.{Outside}
 use Rattle.predicates_records.specs.Records.{records, is_closed}
 use Rattle.predicates_records.specs.Runs as runs
 use Rattle.predicates_vet.specs.declared.input_format.InputFormat.TheVariants.{JsonLines, Json}
-use Rattle.predicates_lines.specs.declared.taken_line.TakenLine.{TakenLine}
-use Rattle.predicates_lines.specs.declared.taken_line.TakenLine.TheVariants.{Line, TooLong, End}
-use Rattle.predicates_vet.specs.declared.input_format.InputFormat.{InputFormat}
-use Rattle.predicates_vet.specs.InputLines.{taken_of, taken_lines, line_found}
+use Rattle.predicates_vet.specs.InputLines.{taken_of, taken_lines}
 use Rattle.predicates_vet.specs.Pieces.{taken_record, unclosed, pieces, TakesPiece, IsOver}
 
 -- ---- lines
@@ -69,12 +66,3 @@ module _ (limit : ℕ) (r1 r2 : Option (List ℕ)) (p q : Position) where
   pub no_record : runs.IsOver r1 r2 p true → IsOver Json limit r1 r2 p
   no_record over bytes known = let n = over bytes known in
       (n.0, ap (λ vs. map (taken_record limit) vs ++ unclosed (is_closed p bytes)) n.1 ∙ ap unclosed n.2)
-
--- ---- what was found
-
-pub takes_found : (format : InputFormat) (limit : ℕ) (r1 r2 : Option (List ℕ)) (p q : Position) (bytes : List ℕ) (found : TakenLine) → found ≢ End
-    → (found ≡ Line → TakesPiece format limit r1 r2 p q (Some bytes)) → (found ≡ TooLong → TakesPiece format limit r1 r2 p q None)
-    → TakesPiece format limit r1 r2 p q (line_found found bytes)
-takes_found format limit r1 r2 p q bytes Line some line long = line refl
-takes_found format limit r1 r2 p q bytes TooLong some line long = long refl
-takes_found format limit r1 r2 p q bytes End some line long = absurd (some refl)

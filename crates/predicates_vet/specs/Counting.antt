@@ -3,7 +3,7 @@ use Rattle.std.specs.Prelude.{nat_lt, ◌≡◌, ◌||◌, ℕ, ◌+◌, ◌-◌
 use Rattle.serde_json.specs.Data.{Data}
 use Rattle.predicates_core.specs.Formula.{truth, HasTruth}
 use Rattle.predicates_core.specs.Leaves.{IsExactly}
-use Rattle.predicates_vet_check.specs.declared.rule_check.RuleCheck.{RuleCheck}
+use Rattle.predicates_rule_check.specs.declared.rule_check.RuleCheck.{RuleCheck}
 use Rattle.predicates_vet.specs.InputLines.{record_taken, is_unreadable}
 use Rattle.predicates_vet.specs.Records.{keeps, formula_on}
 use Rattle.predicates_vet.specs.declared.counts.Counts.{Counts}

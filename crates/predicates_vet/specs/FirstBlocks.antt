@@ -5,7 +5,7 @@ use Rattle.predicates_core.specs.Describe.{CaseNode}
 use Rattle.predicates_core.specs.Formula.{truth}
 use Rattle.predicates_core.specs.Shows.{Explains}
 use Rattle.predicates_core.specs.Tree.{Tree}
-use Rattle.predicates_vet_check.specs.declared.rule_check.RuleCheck.{RuleCheck}
+use Rattle.predicates_rule_check.specs.declared.rule_check.RuleCheck.{RuleCheck}
 use Rattle.predicates_vet.specs.InputLines.{record_taken}
 use Rattle.predicates_vet.specs.Records.{formula_on, IsBlockOf}
 use Rattle.predicates_vet.specs.declared.job.Job.{Job}

@@ -2,6 +2,8 @@
 use Rattle.std.specs.Prelude.{◌==◌, ◌-◌, ◌++◌, ℕ, List, [], ◌∷◌, Option, Some, None, if◌then◌else◌, codes, decimal, flat_map, length, take, unwrap_or}
 use Rattle.predicates_core.specs.Tree.{Tree}
 use Rattle.predicates_core.specs.Describe.{CaseNode}
+use Rattle.predicates_vet.specs.declared.input_format.InputFormat.{InputFormat}
+use Rattle.predicates_vet.specs.declared.input_format.InputFormat.TheVariants.{JsonLines, Json}
 
 -- a byte of a message
 abbrev pub message_byte : ℕ → List ℕ
@@ -25,10 +27,20 @@ property_text text = flat_map property_byte text
 abbrev pub without_last : List ℕ → List ℕ
 without_last text = take (length text - 1) text
 
--- where the line of this number stands, in an input with a name
-abbrev pub position_text : Option (List ℕ) → ℕ → List ℕ
-position_text None number = []
-position_text (Some name) number = codes "file=" ++ (property_text name ++ (codes ",line=" ++ (decimal number ++ codes ",")))
+-- the line on which the record of this number stands: where records stand one behind another, it is
+-- not known
+abbrev pub line_of : InputFormat → ℕ → Option ℕ
+line_of JsonLines number = Some number
+line_of Json number = None
+
+abbrev pub line_text : Option ℕ → List ℕ
+line_text None = []
+line_text (Some line) = codes ",line=" ++ decimal line
+
+-- where a record stands, in an input with a name
+abbrev pub position_text : Option (List ℕ) → Option ℕ → List ℕ
+position_text None line = []
+position_text (Some name) line = codes "file=" ++ (property_text name ++ (line_text line ++ codes ","))
 
 -- what the case is of: a rule's name
 abbrev pub title : Tree CaseNode → List ℕ
@@ -36,13 +48,14 @@ title c = unwrap_or c.root.text []
 
 -- what stands before a case's lines: what heads the record, but nothing where that is only the place,
 -- which the position says
-abbrev pub opening : Option (List ℕ) → Option (List ℕ) → List ℕ → List ℕ
-opening None id head = head ++ codes ": false\n"
-opening (Some name) None head = []
-opening (Some name) (Some path) head = head ++ codes ": false\n"
+abbrev pub opening : Option (List ℕ) → Option ℕ → Option (List ℕ) → List ℕ → List ℕ
+opening None line id head = head ++ codes ": false\n"
+opening (Some name) None id head = head ++ codes ": false\n"
+opening (Some name) (Some line) None head = []
+opening (Some name) (Some line) (Some path) head = head ++ codes ": false\n"
 
 -- the line with this title and this message, with the message's last line feed left out
-abbrev pub error_line : Option (List ℕ) → ℕ → List ℕ → List ℕ → List ℕ
-error_line source number title message =
-    codes "::error " ++ (position_text source number ++ (codes "title=" ++ (property_text title
+abbrev pub error_line : Option (List ℕ) → Option ℕ → List ℕ → List ℕ → List ℕ
+error_line source line title message =
+    codes "::error " ++ (position_text source line ++ (codes "title=" ++ (property_text title
     ++ (codes "::" ++ (message_text (without_last message) ++ codes "\n")))))

@@ -1,12 +1,10 @@
 -- What stands on a line of the input.
-use Rattle.std.specs.Prelude.{◌==◌, ◌||◌, nat_lt, ℕ, List, ◌++◌, Bool, false, not, Option, Some, None, if◌then◌else◌, is_some, length, map, codes, decimal}
-use Rattle.std.specs.List.{list_all}
+use Rattle.std.specs.Prelude.{◌==◌, ◌||◌, nat_eq, nat_lt, ℕ, List, [], ◌++◌, Bool, false, not, Option, Some, None, if◌then◌else◌, is_some, length, map, codes, decimal}
+use Rattle.std.specs.List.{list_all, ends_with}
 use Rattle.std.specs.Str.{is_utf8}
 use Rattle.serde_json.specs.Data.{Data}
 use Rattle.serde_json.specs.Read.{read}
 use Rattle.predicates_lines.specs.Lines.{ended_lines}
-use Rattle.predicates_lines.specs.declared.taken_line.TakenLine.{TakenLine}
-use Rattle.predicates_lines.specs.declared.taken_line.TakenLine.TheVariants.{Line, TooLong, End}
 
 -- the record that stands on a line, if one does: text that JSON reads
 abbrev pub record_on : List ℕ → Option Data
@@ -20,15 +18,17 @@ is_white byte = byte == 32 || byte == 9 || byte == 10 || byte == 13
 abbrev pub is_blank : List ℕ → Bool
 is_blank line = list_all is_white line
 
+-- what ends a line: a line feed where it has none
+abbrev pub line_end : List ℕ → List ℕ
+line_end line = if ends_with nat_eq line (codes "\n") then [] else codes "\n"
+
+-- the line with its line feed
+abbrev pub ended : List ℕ → List ℕ
+ended line = line ++ line_end line
+
 -- what is taken of a line: nothing of one that has more bytes than the limit
 abbrev pub taken_of : ℕ → List ℕ → Option (List ℕ)
 taken_of limit line = if nat_lt limit (length line) then None else Some line
-
--- what was found of a line, which stands in the buffer unless it is too long
-abbrev pub line_found : TakenLine → List ℕ → Option (List ℕ)
-line_found Line bytes = Some bytes
-line_found TooLong bytes = None
-line_found End bytes = None
 
 -- what is taken of the lines of an input
 abbrev pub taken_lines : ℕ → List ℕ → List (Option (List ℕ))

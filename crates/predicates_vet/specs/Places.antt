@@ -2,7 +2,7 @@
 use Rattle.std.specs.Prelude.{◌≡◌, ℕ, List, ◌++◌, Option, Some, None, IfSome, codes, decimal, unwrap_or}
 use Rattle.serde_json.specs.Data.{Data, null}
 use Rattle.serde_json.specs.Find.{pointer}
-use Rattle.predicates_vet_check.specs.Plans.{found_text}
+use Rattle.predicates_rule_check.specs.Plans.{found_text}
 
 -- the line of this number, with the input's name where it has one
 abbrev pub place_text : Option (List ℕ) → ℕ → List ℕ

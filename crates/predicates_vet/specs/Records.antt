@@ -11,13 +11,14 @@ use Rattle.predicates_style.specs.StyledLines.{styled_lines}
 use Rattle.predicates_style.specs.declared.style.Style.{Style}
 use Rattle.predicates_core.specs.Shows.{Explains, IsCaseOf}
 use Rattle.predicates_core.specs.Change.{ExplainsChange, IsChangeOf}
-use Rattle.predicates_vet_check.specs.RuleChecks.{rule_formula, name_of, plan_of_rule}
-use Rattle.predicates_vet_check.specs.Scopes.{alone}
-use Rattle.predicates_vet_check.specs.declared.rule_check.RuleCheck.{RuleCheck}
+use Rattle.predicates_rule_check.specs.RuleChecks.{rule_formula, name_of, plan_of_rule}
+use Rattle.predicates_rule_check.specs.Scopes.{alone}
+use Rattle.predicates_rule_check.specs.declared.rule_check.RuleCheck.{RuleCheck}
 use Rattle.predicates_vet.specs.declared.job.Job.{Job}
 use Rattle.predicates_vet.specs.declared.settings.Report.{Report}
 use Rattle.predicates_vet.specs.declared.settings.Report.TheVariants.{First, All, Change, Json, Lines, GitHub, JUnit}
-use Rattle.predicates_vet.specs.GitHub.{opening, error_line, title}
+use Rattle.predicates_vet.specs.GitHub.{line_of, opening, error_line, title}
+use Rattle.predicates_vet.specs.InputLines.{ended}
 use Rattle.predicates_vet.specs.Objects.{object_text}
 use Rattle.predicates_vet.specs.Places.{place_text, IsHead, IsName}
 use Rattle.predicates_vet.specs.Settings.{id_of, source_of}
@@ -94,8 +95,8 @@ pub record IsObject (j : Job) (all failed : Bool) (number : ℕ) (d : Data) (wri
   pub is : written ≡ wanted_text failed (source_of j) name all cases
 
 -- the line that GitHub shows of a case
-abbrev pub error_of : Option (List ℕ) → ℕ → List ℕ → Tree CaseNode → List ℕ
-error_of source number opening c = error_line source number (title c) (opening ++ styled_lines cut c)
+abbrev pub error_of : Option (List ℕ) → Option ℕ → List ℕ → Tree CaseNode → List ℕ
+error_of source line opening c = error_line source line (title c) (opening ++ styled_lines cut c)
 
 -- a line for each rule that a record breaks, of all or of the first
 pub record IsErrors (j : Job) (all : Bool) (number : ℕ) (d : Data) (written : List ℕ) : Type 0 where
@@ -103,7 +104,7 @@ pub record IsErrors (j : Job) (all : Bool) (number : ℕ) (d : Data) (written : 
   pub explain : AllZip Explains (shown all (broken j.rules.now d)) cases
   pub head : List ℕ
   pub heads : HeadsRecord j number d head
-  pub is : written ≡ flat_map (error_of (source_of j) number (opening (source_of j) (id_of j.settings.now) head)) cases
+  pub is : written ≡ flat_map (error_of (source_of j) (line_of j.format number) (opening (source_of j) (line_of j.format number) (id_of j.settings.now) head)) cases
 
 -- what is written for the record of this number, which stands on the line
 abbrev pub IsReport : Report → Job → ℕ → List ℕ → Data → List ℕ → Type 0
@@ -113,7 +114,7 @@ IsReport Change j number line d written = IsChangeBlock j number d written
 IsReport (Json all failed) j number line d written = IsObject j all failed number d written
 IsReport (GitHub all) j number line d written = IsErrors j all number d written
 IsReport JUnit j number line d written = written ≡ []
-IsReport (Lines wanted) j number line d written = written ≡ cond (beq (keeps j.rules.now d) wanted) line []
+IsReport (Lines wanted) j number line d written = written ≡ cond (beq (keeps j.rules.now d) wanted) (ended line) []
 
 -- nothing where there is no room for more
 abbrev pub IsWritten : Job → Bool → ℕ → List ℕ → Data → List ℕ → Type 0

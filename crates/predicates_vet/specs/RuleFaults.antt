@@ -3,7 +3,7 @@ use Rattle.std.specs.Prelude.{ℕ, zero, suc, List, [], ◌∷◌, map, Option, 
 use Rattle.std.specs.Fmt.{◌++?◌}
 use Rattle.predicates_rules.specs.Messages.{fault_text}
 use Rattle.predicates_rules.specs.Quoting.{quoted_text}
-use Rattle.predicates_vet_check.specs.Refusals.{fault_text as reason_text}
+use Rattle.predicates_rule_check.specs.Refusals.{fault_text as reason_text}
 use Rattle.predicates_vet.specs.declared.rule_fault.RuleFault.{RuleFault}
 use Rattle.predicates_vet.specs.declared.rule_fault.RuleFault.TheVariants.{Unreadable, Pattern}
 

@@ -1,9 +1,9 @@
 -- The check of a rule of a file, and why none is made.
 use Rattle.std.specs.Prelude.{◌≡◌, ℕ, List, map, Option, Some, codes}
 use Rattle.predicates_rules.specs.Trees.{Tree}
-use Rattle.predicates_vet_check.specs.Planned.{IsPlan}
-use Rattle.predicates_vet_check.specs.RuleChecks.{name_of, plan_of_rule}
-use Rattle.predicates_vet_check.specs.declared.rule_check.RuleCheck.{RuleCheck}
+use Rattle.predicates_rule_check.specs.Planned.{IsPlan}
+use Rattle.predicates_rule_check.specs.RuleChecks.{name_of, plan_of_rule}
+use Rattle.predicates_rule_check.specs.declared.rule_check.RuleCheck.{RuleCheck}
 use Rattle.predicates_vet.specs.declared.rules_file.ReadChecksError.{ReadChecksError}
 use Rattle.predicates_vet.specs.declared.rules_file.ReadChecksError.TheVariants.{NoMemory, Unreadable}
 use Rattle.predicates_vet.specs.RuleFaults.{rule_fault_text, joined_texts, texts_of_lines, told_line}

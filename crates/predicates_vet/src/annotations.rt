@@ -8,22 +8,22 @@ ghost use Rattle.predicates_vet.specs.Settings.{id_of, source_of};
 
 use crate::github::{Position, push_error};
 use crate::job::Job;
+use crate::line::Record;
 use crate::place::head;
 use crate::record::{broken, is_none};
 use crate::workspace::Workspace;
 use predicates_core::reflection::Case;
 use predicates_lines::{RunFault, write_bytes};
-use serde_json::Value;
 use std::alloc::{AllocError, Global};
 use std::io::Write;
 
 // What opens the message of each line of a record under this head.
-fn opening(job: &Job<'_>, head: String) -> Result<String, AllocError>
+fn opening(job: &Job<'_>, line: Option<u64>, head: String) -> Result<String, AllocError>
     ensures { IfOk result (λ text. string_bytes text
-        ≡ opening (source_of job.now) (id_of job.now.settings.now) (string_bytes head)) }
+        ≡ opening (source_of job.now) line (id_of job.now.settings.now) (string_bytes head)) }
 {
     let mut text = head;
-    if job.source.is_some() && job.settings.id.is_none() {
+    if job.source.is_some() && line.is_some() && job.settings.id.is_none() {
         text.clear();
         return Ok(text);
     }
@@ -39,7 +39,7 @@ fn push_errors(
     cases: &[Case],
 ) -> Result<(), AllocError>
     ensures { OnOk result (lines.new.items ≡ lines.old.items
-        ++ flat_map (error_of (option_map (λ s. s.now) position.now.source) position.now.number
+        ++ flat_map (error_of (option_map (λ s. s.now) position.now.source) position.now.line
         position.now.opening.now) cases.now) }
 {
     for case in cases {
@@ -51,25 +51,27 @@ fn push_errors(
 // Writes the lines of the rules that the record breaks, of all or of the first, and says whether it
 // keeps every rule.
 fn push_broken<'r>(
-    alloc: Global,
     job: &Job<'r>,
     workspace: &mut Workspace<'r>,
     all: bool,
-    number: u64,
-    value: &Value,
+    record: &Record<'_>,
     lines: &mut Vec<u8>,
 ) -> Result<bool, AllocError>
     ensures written { OnOk result ((written : List ℕ)
-        × IsErrors job.now all number (view value.now) written
+        × IsErrors job.now all record.now.number (view record.now.value.now) written
         × (lines.new.items ≡ lines.old.items ++ written)) }
-    ensures held { IfOk result (λ held. held ≡ keeps job.now.rules.now (view value.now)) }
+    ensures held { IfOk result (λ held.
+        held ≡ keeps job.now.rules.now (view record.now.value.now)) }
 {
-    let cases = broken(alloc, job.rules, &mut workspace.matchers, all, value)?;
+    let Record { number, value, .. } = *record;
+    let alloc = workspace.alloc;
+    let cases = broken(job.rules, workspace, all, value)?;
     let head = head(alloc, job, number, value)?;
-    let opening = opening(job, head)?;
+    let line = job.format.line_of(number);
+    let opening = opening(job, line, head)?;
     let position = Position {
         source: job.source,
-        number,
+        line,
         opening: &opening,
     };
     push_errors(alloc, lines, &position, cases.as_slice())?;
@@ -79,21 +81,20 @@ fn push_broken<'r>(
 /// Writes the lines of the rules that the record breaks, of all or of the first, and says whether it
 /// keeps every rule.
 pub(crate) fn tell_errors<'r, W: Write>(
-    alloc: Global,
     job: &Job<'r>,
     workspace: &mut Workspace<'r>,
     all: bool,
-    number: u64,
-    value: &Value,
+    record: &Record<'_>,
     output: &mut W,
 ) -> Result<bool, RunFault>
     ensures written { IfOk result (λ _. (written : List ℕ)
-        × IsErrors job.now all number (view value.now) written
+        × IsErrors job.now all record.now.number (view record.now.value.now) written
         × Appends (W.contents output.old) (W.contents output.new) written) }
-    ensures held { IfOk result (λ held. held ≡ keeps job.now.rules.now (view value.now)) }
+    ensures held { IfOk result (λ held.
+        held ≡ keeps job.now.rules.now (view record.now.value.now)) }
 {
-    let mut lines = Vec::new(alloc);
-    let held = push_broken(alloc, job, workspace, all, number, value, &mut lines)?;
+    let mut lines = Vec::new(workspace.alloc);
+    let held = push_broken(job, workspace, all, record, &mut lines)?;
     write_bytes(output, lines.as_slice())?;
     Ok(held)
 }

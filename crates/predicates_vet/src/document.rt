@@ -1,6 +1,6 @@
 //! The document that readers of JUnit's reports take.
 ghost use Rattle.std.specs.Prelude.{◌≡◌, ◌++◌, IfOk, OnOk, map, string_bytes, get_or, []};
-ghost use Rattle.predicates_vet_check.specs.RuleChecks.{name_of};
+ghost use Rattle.predicates_rule_check.specs.RuleChecks.{name_of};
 ghost use Rattle.predicates_vet.specs.FirstBlocks.{blocks_of};
 ghost use Rattle.predicates_vet.specs.JUnit.{breaks_text, content_text, document_text, errors};
 ghost use Rattle.predicates_vet.specs.JUnit.{failure_text, failures, files_text, head_text};
@@ -11,7 +11,7 @@ use crate::bytes::{push_bytes, push_number};
 use crate::summary_lines::count_at;
 use crate::tally::Tally;
 use crate::xml::push_xml;
-use predicates_vet_check::RuleCheck;
+use predicates_rule_check::RuleCheck;
 use std::alloc::{AllocError, Global};
 
 // The block at this place; nothing where there is none.
@@ -166,23 +166,25 @@ fn push_files(text: &mut Vec<u8>, all_read: bool) -> Result<(), AllocError>
     )
 }
 
-// Writes how many test cases there are.
-fn push_totals(
-    alloc: Global,
-    text: &mut Vec<u8>,
+// How many test cases a document has, and how many of them fail or have an error.
+#[derive(Clone, Copy)]
+struct Totals {
     tests: u128,
-    failed: usize,
-    wrong: u8,
-) -> Result<(), AllocError>
-    ensures { OnOk result
-        (text.new.items ≡ text.old.items ++ totals_text tests failed wrong) }
+    failures: usize,
+    errors: u8,
+}
+
+// Writes how many test cases there are.
+fn push_totals(alloc: Global, text: &mut Vec<u8>, totals: Totals) -> Result<(), AllocError>
+    ensures { OnOk result (text.new.items
+        ≡ text.old.items ++ totals_text totals.tests totals.failures totals.errors) }
 {
     push_bytes(text, b" tests=\"")?;
-    push_number(alloc, text, tests)?;
+    push_number(alloc, text, totals.tests)?;
     push_bytes(text, b"\" failures=\"")?;
-    push_number(alloc, text, failed as u128)?;
+    push_number(alloc, text, totals.failures as u128)?;
     push_bytes(text, b"\" errors=\"")?;
-    push_number(alloc, text, wrong as u128)?;
+    push_number(alloc, text, totals.errors as u128)?;
     push_bytes(text, b"\">\n")
 }
 
@@ -195,17 +197,15 @@ fn push_head(
     alloc: Global,
     text: &mut Vec<u8>,
     name: &str,
-    tests: u128,
-    failed: usize,
-    wrong: u8,
+    totals: Totals,
 ) -> Result<(), AllocError>
-    ensures { OnOk result
-        (text.new.items ≡ text.old.items ++ head_text name.now tests failed wrong) }
+    ensures { OnOk result (text.new.items
+        ≡ text.old.items ++ head_text name.now totals.tests totals.failures totals.errors) }
 {
     push_bytes(text, START)?;
     push_xml(text, name)?;
     push_bytes(text, b"\"")?;
-    push_totals(alloc, text, tests, failed, wrong)?;
+    push_totals(alloc, text, totals)?;
     Ok(())
 }
 
@@ -234,10 +234,14 @@ pub fn junit(
     let unreadable = tally.counts.unreadable;
     let counts = tally.broken.as_slice();
     let blocks = tally.firsts.as_slice();
-    let wrong = errors(unreadable, all_read);
-    let tests = rules.len() as u128 + wrong as u128;
+    let errors = errors(unreadable, all_read);
+    let totals = Totals {
+        tests: rules.len() as u128 + errors as u128,
+        failures: failures(counts),
+        errors,
+    };
     let mut text = Vec::new(alloc);
-    push_head(alloc, &mut text, name, tests, failures(counts), wrong)?;
+    push_head(alloc, &mut text, name, totals)?;
     push_rules(alloc, &mut text, rules, counts, blocks)?;
     push_lines(alloc, &mut text, unreadable)?;
     push_files(&mut text, all_read)?;

@@ -1,6 +1,6 @@
 //! The line that GitHub shows beside a file: a command of its workflows.
 ghost use Rattle.std.specs.Prelude.{◌≡◌, ◌++◌, OnOk, option_map, flat_map};
-ghost use Rattle.predicates_vet.specs.GitHub.{message_byte, message_text, position_text};
+ghost use Rattle.predicates_vet.specs.GitHub.{line_text, message_byte, message_text, position_text};
 ghost use Rattle.predicates_vet.specs.GitHub.{property_byte, property_text, title, without_last};
 ghost use Rattle.predicates_vet.specs.Records.{error_of};
 
@@ -13,7 +13,8 @@ use std::alloc::{AllocError, Global};
 #[derive(Clone, Copy)]
 pub(crate) struct Position<'a> {
     pub(crate) source: Option<&'a str>,
-    pub(crate) number: u64,
+    /// The number of its line, where it is known.
+    pub(crate) line: Option<u64>,
     pub(crate) opening: &'a str,
 }
 
@@ -56,24 +57,35 @@ fn push_property(line: &mut Vec<u8>, text: &str) -> Result<(), AllocError>
     Ok(())
 }
 
+// Writes the number of a line, where it is known.
+fn push_line(alloc: Global, text: &mut Vec<u8>, line: Option<u64>) -> Result<(), AllocError>
+    ensures { OnOk result (text.new.items ≡ text.old.items ++ line_text line) }
+{
+    let Some(number) = line else {
+        return Ok(());
+    };
+    push_bytes(text, b",line=")?;
+    push_number(alloc, text, number as u128)?;
+    Ok(())
+}
+
 // Writes where the record stands, where the input has a name.
 fn push_position(
     alloc: Global,
-    line: &mut Vec<u8>,
+    text: &mut Vec<u8>,
     source: Option<&str>,
-    number: u64,
+    line: Option<u64>,
 ) -> Result<(), AllocError>
-    ensures { OnOk result (line.new.items
-        ≡ line.old.items ++ position_text (option_map (λ s. s.now) source.entry) number) }
+    ensures { OnOk result (text.new.items
+        ≡ text.old.items ++ position_text (option_map (λ s. s.now) source.entry) line) }
 {
     let Some(name) = source else {
         return Ok(());
     };
-    push_bytes(line, b"file=")?;
-    push_property(line, name)?;
-    push_bytes(line, b",line=")?;
-    push_number(alloc, line, number as u128)?;
-    push_bytes(line, b",")
+    push_bytes(text, b"file=")?;
+    push_property(text, name)?;
+    push_line(alloc, text, line)?;
+    push_bytes(text, b",")
 }
 
 // What the case is of: a rule's name.
@@ -100,18 +112,18 @@ pub(crate) fn push_error(
     case: &Case,
 ) -> Result<(), AllocError>
     ensures { OnOk result (lines.new.items ≡ lines.old.items
-        ++ error_of (option_map (λ s. s.now) position.now.source) position.now.number
+        ++ error_of (option_map (λ s. s.now) position.now.source) position.now.line
         position.now.opening.now case.now) }
 {
     let Position {
         source,
-        number,
+        line,
         opening,
     } = *position;
     let mut message = String::from_str(alloc, opening)?;
     write_case(&mut message, case)?;
     push_bytes(lines, b"::error ")?;
-    push_position(alloc, lines, source, number)?;
+    push_position(alloc, lines, source, line)?;
     push_bytes(lines, b"title=")?;
     push_property(lines, title(case))?;
     push_bytes(lines, b"::")?;

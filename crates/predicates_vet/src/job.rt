@@ -5,7 +5,7 @@ ghost use Rattle.predicates_vet.specs.declared.input_format.InputFormat.TheVaria
 use crate::input_format::InputFormat;
 use crate::settings::Settings;
 use predicates_lines::MAX_LINE;
-use predicates_vet_check::RuleCheck;
+use predicates_rule_check::RuleCheck;
 
 /// The rules that a run checks, how it reports, and what its input is called.
 #[derive(Drop)]

@@ -16,6 +16,14 @@ pub(crate) struct Line<'l> {
     pub(crate) bytes: &'l [u8],
 }
 
+/// A record, and the line on which it stands.
+#[derive(Clone, Copy)]
+pub(crate) struct Record<'l> {
+    pub(crate) number: u64,
+    pub(crate) bytes: &'l [u8],
+    pub(crate) value: &'l Value,
+}
+
 // How deep a record may nest.
 const MAX_NESTING: usize = 127;
 

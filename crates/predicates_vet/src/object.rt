@@ -11,6 +11,18 @@ use predicates_core::reflection::{Case, CaseChild, CaseView, Product};
 use serde_json::Value;
 use std::alloc::{AllocError, Global};
 
+/// What the object of a record is made of.
+#[derive(Clone, Copy)]
+pub(crate) struct Object<'a> {
+    /// The name of the input, where it has one.
+    pub(crate) source: Option<&'a str>,
+    /// What the record is labelled by.
+    pub(crate) name: &'a str,
+    /// Whether all cases are shown, or the first.
+    pub(crate) all: bool,
+    pub(crate) cases: &'a [Case],
+}
+
 fn word_of(truth: bool) -> &'static str
     ensures { result.now ≡ word truth }
 {
@@ -196,18 +208,22 @@ fn push_file(alloc: Global, text: &mut String, source: Option<&str>) -> Result<(
     text.push_str(",")
 }
 
-/// Writes the object of a record under its name, on a line, in place of what the text held.
+/// Writes the object of a record, on a line, in place of what the text held.
 pub(crate) fn write_object(
     alloc: Global,
     text: &mut String,
-    source: Option<&str>,
-    name: &str,
-    all: bool,
-    cases: &[Case],
+    object: &Object<'_>,
 ) -> Result<(), AllocError>
-    ensures { OnOk result (string_bytes text.new ≡ object_text (option_map (λ s. s.now) source.entry)
-        name.now (length cases.now == 0) all cases.now) }
+    ensures { OnOk result (string_bytes text.new
+        ≡ object_text (option_map (λ s. s.now) object.now.source) object.now.name.now
+        (length object.now.cases.now == 0) object.now.all object.now.cases.now) }
 {
+    let Object {
+        source,
+        name,
+        all,
+        cases,
+    } = *object;
     text.clear();
     text.push_str("{")?;
     push_file(alloc, text, source)?;

@@ -12,29 +12,28 @@ ghost use Rattle.predicates_vet.specs.Records.{keeps, broken, shown, block, cut,
 ghost use Rattle.predicates_vet.specs.Records.{IsBlock, IsBlockOf, IsChangeBlock, IsObject, wanted_text};
 
 use crate::job::Job;
-use crate::numbered::Numbered;
-use crate::object::write_object;
+use crate::line::Record;
+use crate::object::{Object, write_object};
 use crate::place::{head, name};
 use crate::workspace::Workspace;
 use predicates_core::reflection::Case;
 use predicates_core::{Predicate, PredicateChange};
 use predicates_lines::RunFault;
+use predicates_rule_check::RuleCheck;
 use predicates_style::{Style, render_styled_onto};
-use predicates_vet_check::{Matchers, RuleCheck};
 use serde_json::Value;
 use std::alloc::{AllocError, Global};
 
 // Whether the record keeps every rule.
 pub(crate) fn keeps<'r>(
-    alloc: Global,
     rules: &'r [RuleCheck],
-    matchers: &mut Matchers<'r>,
+    workspace: &mut Workspace<'r>,
     value: &Value,
 ) -> Result<bool, AllocError>
     ensures { IfOk result (λ held. held ≡ keeps rules.now (view value.now)) }
 {
     for rule in rules {
-        let held = rule.holds(alloc, matchers, value)?;
+        let held = rule.holds(workspace.alloc, &mut workspace.matchers, value)?;
         if !held {
             return Ok(false);
         }
@@ -57,9 +56,8 @@ fn add_one(counts: &mut Vec<u64>, index: usize) -> Result<(), RunFault>
 
 // Counts whether the record breaks the rule, and says whether it keeps it.
 fn count_rule<'r>(
-    alloc: Global,
     rule: &'r RuleCheck,
-    matchers: &mut Matchers<'r>,
+    workspace: &mut Workspace<'r>,
     value: &Value,
     counts: &mut Vec<u64>,
     index: usize,
@@ -68,7 +66,7 @@ fn count_rule<'r>(
     ensures { IfOk result
         (AddsCount (view value.now) rule.now index counts.old.items counts.new.items) }
 {
-    if rule.holds(alloc, matchers, value)? {
+    if rule.holds(workspace.alloc, &mut workspace.matchers, value)? {
         return Ok(true);
     }
     add_one(counts, index)?;
@@ -78,9 +76,8 @@ fn count_rule<'r>(
 // Counts for each rule whether the record breaks it.
 #[tactic(auto, using(crate::proofs::Counted::enough_counted))]
 pub(crate) fn count_broken<'r>(
-    alloc: Global,
     rules: &'r [RuleCheck],
-    matchers: &mut Matchers<'r>,
+    workspace: &mut Workspace<'r>,
     value: &Value,
     counts: &mut Vec<u64>,
 ) -> Result<(), RunFault>
@@ -91,25 +88,24 @@ pub(crate) fn count_broken<'r>(
         let Some(rule) = rules.get(index) else {
             return Ok(());
         };
-        count_rule(alloc, rule, matchers, value, counts, index)?;
+        count_rule(rule, workspace, value, counts, index)?;
     }
     Ok(())
 }
 
 /// The cases of the rules that the record breaks: of the first, or of all.
 pub(crate) fn broken<'r>(
-    alloc: Global,
     rules: &'r [RuleCheck],
-    matchers: &mut Matchers<'r>,
+    workspace: &mut Workspace<'r>,
     all: bool,
     value: &Value,
 ) -> Result<Vec<Case>, AllocError>
     ensures { IfOk result (λ cases.
         AllZip Explains (shown all (broken rules.now (view value.now))) cases.items) }
 {
-    let mut cases = Vec::new(alloc);
+    let mut cases = Vec::new(workspace.alloc);
     for rule in rules {
-        let added = add_case(alloc, rule, matchers, value, &mut cases)?;
+        let added = add_case(rule, workspace, value, &mut cases)?;
         if added && !all {
             return Ok(cases);
         }
@@ -119,19 +115,18 @@ pub(crate) fn broken<'r>(
 
 /// Adds the case of the rule where the record breaks it, and says whether it does.
 pub(crate) fn add_case<'r>(
-    alloc: Global,
     rule: &'r RuleCheck,
-    matchers: &mut Matchers<'r>,
+    workspace: &mut Workspace<'r>,
     value: &Value,
     cases: &mut Vec<Case>,
 ) -> Result<bool, AllocError>
     ensures { IfOk result
         (AddsCase (view value.now) rule.now cases.old.items cases.new.items) }
 {
-    if rule.holds(alloc, matchers, value)? {
+    if rule.holds(workspace.alloc, &mut workspace.matchers, value)? {
         return Ok(false);
     }
-    let Some(case) = rule.find_case(alloc, false, value)? else {
+    let Some(case) = rule.find_case(workspace.alloc, false, value)? else {
         return Ok(false);
     };
     cases.push(case)?;
@@ -140,36 +135,34 @@ pub(crate) fn add_case<'r>(
 
 // What would have to change in each rule that the record breaks.
 fn changes<'r>(
-    alloc: Global,
     rules: &'r [RuleCheck],
-    matchers: &mut Matchers<'r>,
+    workspace: &mut Workspace<'r>,
     value: &Value,
 ) -> Result<Vec<Case>, AllocError>
     ensures { IfOk result (λ cases.
         AllZip ExplainsChange (broken rules.now (view value.now)) cases.items) }
 {
-    let mut cases = Vec::new(alloc);
+    let mut cases = Vec::new(workspace.alloc);
     for rule in rules {
-        add_change(alloc, rule, matchers, value, &mut cases)?;
+        add_change(rule, workspace, value, &mut cases)?;
     }
     Ok(cases)
 }
 
 // Adds what would have to change in the rule where the record breaks it.
 fn add_change<'r>(
-    alloc: Global,
     rule: &'r RuleCheck,
-    matchers: &mut Matchers<'r>,
+    workspace: &mut Workspace<'r>,
     value: &Value,
     cases: &mut Vec<Case>,
 ) -> Result<(), AllocError>
     ensures { OnOk result (AddsChange (view value.now) rule.now cases.old.items cases.new.items) }
 {
-    let held = rule.holds(alloc, matchers, value)?;
+    let held = rule.holds(workspace.alloc, &mut workspace.matchers, value)?;
     if held {
         return Ok(());
     }
-    match rule.find_change(alloc, Some(false), value)? {
+    match rule.find_change(workspace.alloc, Some(false), value)? {
         Some(case) => Ok(cases.push(case)?),
         None => Ok(()),
     }
@@ -218,18 +211,18 @@ fn write_headed(text: &mut String, head: &str, cases: &[Case]) -> Result<(), All
 pub(crate) fn write_block(
     alloc: Global,
     job: &Job<'_>,
-    numbered: &Numbered<'_>,
+    record: &Record<'_>,
     text: &mut String,
     cases: &[Case],
 ) -> Result<(), AllocError>
-    ensures { OnOk result (IsBlockOf job.now numbered.now.number (view numbered.now.value.now) cases.now
+    ensures { OnOk result (IsBlockOf job.now record.now.number (view record.now.value.now) cases.now
         (string_bytes text.new)) }
 {
     text.clear();
     if cases.is_empty() {
         return Ok(());
     }
-    let head = head(alloc, job, numbered.number, numbered.value)?;
+    let head = head(alloc, job, record.number, record.value)?;
     write_headed(text, &head, cases)
 }
 
@@ -243,92 +236,91 @@ pub(crate) fn is_none(cases: &Vec<Case>) -> bool
 /// Writes the block of the rules that the record breaks, of all or of the first, in place of what
 /// the text held, and says whether it keeps every rule.
 pub(crate) fn write_broken<'r>(
-    alloc: Global,
     job: &Job<'r>,
     workspace: &mut Workspace<'r>,
     all: bool,
-    numbered: &Numbered<'_>,
+    record: &Record<'_>,
 ) -> Result<bool, AllocError>
-    ensures block { OnOk result (IsBlock job.now all numbered.now.number (view numbered.now.value.now)
+    ensures block { OnOk result (IsBlock job.now all record.now.number (view record.now.value.now)
         (string_bytes workspace.new.text)) }
     ensures held { IfOk result (λ held.
-        held ≡ keeps job.now.rules.now (view numbered.now.value.now)) }
+        held ≡ keeps job.now.rules.now (view record.now.value.now)) }
 {
-    let cases = broken(
-        alloc,
-        job.rules,
-        &mut workspace.matchers,
-        all,
-        numbered.value,
+    let cases = broken(job.rules, workspace, all, record.value)?;
+    write_block(
+        workspace.alloc,
+        job,
+        record,
+        &mut workspace.text,
+        cases.as_slice(),
     )?;
-    write_block(alloc, job, numbered, &mut workspace.text, cases.as_slice())?;
     Ok(is_none(&cases))
 }
 
 /// Writes the block of what would have to change in the rules that the record breaks, in place of
 /// what the text held, and says whether it keeps every rule.
 pub(crate) fn write_changes<'r>(
-    alloc: Global,
     job: &Job<'r>,
     workspace: &mut Workspace<'r>,
-    numbered: &Numbered<'_>,
+    record: &Record<'_>,
 ) -> Result<bool, AllocError>
-    ensures block { OnOk result (IsChangeBlock job.now numbered.now.number
-        (view numbered.now.value.now) (string_bytes workspace.new.text)) }
+    ensures block { OnOk result (IsChangeBlock job.now record.now.number
+        (view record.now.value.now) (string_bytes workspace.new.text)) }
     ensures held { IfOk result (λ held.
-        held ≡ keeps job.now.rules.now (view numbered.now.value.now)) }
+        held ≡ keeps job.now.rules.now (view record.now.value.now)) }
 {
-    let cases = changes(alloc, job.rules, &mut workspace.matchers, numbered.value)?;
-    write_block(alloc, job, numbered, &mut workspace.text, cases.as_slice())?;
+    let cases = changes(job.rules, workspace, record.value)?;
+    write_block(
+        workspace.alloc,
+        job,
+        record,
+        &mut workspace.text,
+        cases.as_slice(),
+    )?;
     Ok(is_none(&cases))
 }
 
-// Writes the object of the cases under its name, or nothing where there is no case and the failed
-// alone are wanted, in place of what the text held.
+// Writes the object, or nothing where it has no case and the failed alone are wanted, in place of
+// what the text held.
 fn write_wanted(
     alloc: Global,
     text: &mut String,
-    source: Option<&str>,
-    name: &str,
-    all: bool,
     failed: bool,
-    cases: &[Case],
+    object: &Object<'_>,
 ) -> Result<(), AllocError>
     ensures { OnOk result (string_bytes text.new
-        ≡ wanted_text failed (option_map (λ s. s.now) source.entry) name.now all cases.now) }
+        ≡ wanted_text failed (option_map (λ s. s.now) object.now.source) object.now.name.now
+        object.now.all object.now.cases.now) }
 {
-    if failed && cases.is_empty() {
+    if failed && object.cases.is_empty() {
         text.clear();
         return Ok(());
     }
-    write_object(alloc, text, source, name, all, cases)
+    write_object(alloc, text, object)
 }
 
 /// Writes an object of JSON for the record in place of what the text held, or nothing where it
 /// keeps every rule and the failed alone are wanted, and says whether it keeps every rule.
 pub(crate) fn write_json<'r>(
-    alloc: Global,
     job: &Job<'r>,
     workspace: &mut Workspace<'r>,
     all: bool,
     failed: bool,
-    number: u64,
-    value: &Value,
+    record: &Record<'_>,
 ) -> Result<bool, AllocError>
-    ensures object { OnOk result
-        (IsObject job.now all failed number (view value.now) (string_bytes workspace.new.text)) }
-    ensures held { IfOk result (λ held. held ≡ keeps job.now.rules.now (view value.now)) }
+    ensures object { OnOk result (IsObject job.now all failed record.now.number
+        (view record.now.value.now) (string_bytes workspace.new.text)) }
+    ensures held { IfOk result (λ held.
+        held ≡ keeps job.now.rules.now (view record.now.value.now)) }
 {
-    let cases = broken(alloc, job.rules, &mut workspace.matchers, all, value)?;
-    let name = name(alloc, job.settings, number, value)?;
-    write_wanted(
-        alloc,
-        &mut workspace.text,
-        job.source,
-        &name,
+    let cases = broken(job.rules, workspace, all, record.value)?;
+    let name = name(workspace.alloc, job.settings, record.number, record.value)?;
+    let object = Object {
+        source: job.source,
+        name: &name,
         all,
-        failed,
-        cases.as_slice(),
-    )?;
+        cases: cases.as_slice(),
+    };
+    write_wanted(workspace.alloc, &mut workspace.text, failed, &object)?;
     Ok(is_none(&cases))
 }

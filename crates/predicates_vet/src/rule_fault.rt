@@ -1,9 +1,9 @@
 //! What is wrong with a line of a file of rules.
 ghost use Rattle.predicates_vet.specs.RuleFaults.{rule_fault_text};
 
+use predicates_rule_check::PatternFault;
 use predicates_rules::fault::Fault;
 use predicates_rules::quoted::Quoted;
-use predicates_vet_check::PatternFault;
 use std::fmt;
 
 /// What is wrong with a line of a file of rules.

@@ -9,10 +9,10 @@ ghost use Rattle.predicates_vet.specs.RuleFaults.{rule_fault_text, texts_of_line
 ghost use Rattle.predicates_vet.specs.RulesFile.{IsCheckOf};
 
 use crate::rule_fault::RuleFault;
+use predicates_rule_check::{CheckError, RuleCheck, check_of};
 use predicates_rules::error::RulesError;
 use predicates_rules::fault::Fault;
 use predicates_rules::rule::{Rule, read_faults, read_rules, without_mark};
-use predicates_vet_check::{CheckError, RuleCheck, check_of};
 use std::alloc::{AllocError, AllocFailed, Global};
 use std::error::Error;
 use std::fmt;

@@ -1,34 +1,31 @@
 //! A run over the records of an input, one on a line.
-ghost use Rattle.std.specs.Prelude.{◌≡◌, ◌≢◌, ℕ, List, IfOk, OnOk, OnErr, option_map, string_bytes};
+ghost use Rattle.std.specs.Prelude.{◌≡◌, ℕ, List, IfOk, OnOk, OnErr, option_map, string_bytes};
 ghost use Rattle.std.specs.Prelude.{cond, not, [], false, Some, None};
 ghost use mathlib.Core.Bool.{beq};
 ghost use Rattle.std.specs.Io.KnownBytes.{Appends};
 ghost use Rattle.serde_json.specs.View.{view};
 ghost use Rattle.predicates_vet.specs.Counting.{CountsOne, has_room, left_after, one_counted};
 ghost use Rattle.predicates_vet.specs.FirstBlocks.{TakesFirsts, TakesOn, blocks_of};
-ghost use Rattle.predicates_vet.specs.InputLines.{is_blank, line_found, record_on, too_long_text};
+ghost use Rattle.predicates_vet.specs.InputLines.{ended, is_blank, line_end, record_on, too_long_text};
 ghost use Rattle.predicates_vet.specs.Places.{place_text};
-ghost use Rattle.predicates_vet.specs.Records.{keeps, IsBlock, IsChangeBlock, IsObject};
-ghost use Rattle.predicates_vet.specs.Records.{IsReport, IsWritten};
+ghost use Rattle.predicates_vet.specs.Records.{keeps, IsReport, IsWritten};
 ghost use Rattle.predicates_vet.specs.Runs.{HasRun, HasStopped, IsLineWritten, IsMessage};
 ghost use Rattle.predicates_vet.specs.Runs.{IsMessageIf, TakesOne, is_told, message_text};
 ghost use Rattle.predicates_vet.specs.Settings.{source_of};
-ghost use Rattle.predicates_lines.specs.declared.taken_line.TakenLine.TheVariants.{End};
 
 use crate::annotations::tell_errors;
 use crate::first_blocks::take_firsts;
 use crate::job::Job;
-use crate::line::{Line, is_blank, read_record, too_long};
-use crate::numbered::Numbered;
+use crate::line::{Line, Record, is_blank, read_record, too_long};
 use crate::piece::next_piece;
 use crate::place::place;
 use crate::record::{count_broken, keeps, write_broken, write_changes, write_json};
 use crate::settings::Report;
+use crate::streams::Streams;
 use crate::tally::Tally;
 use crate::workspace::Workspace;
 use predicates_lines::{RunFault, TakenLine, flush, write_bytes};
 use predicates_records::Position;
-use serde_json::Value;
 use std::alloc::{AllocError, Global};
 use std::io::{BufRead, Write};
 
@@ -60,184 +57,120 @@ fn tell_problem<M: Write>(
     write_bytes(messages, message.as_bytes())
 }
 
-// Writes the block of the rules that the record breaks, of all or of the first, and says whether it
-// keeps every rule.
-fn tell_block<'r, W: Write>(
-    alloc: Global,
-    job: &Job<'r>,
-    workspace: &mut Workspace<'r>,
-    all: bool,
-    numbered: &Numbered<'_>,
-    output: &mut W,
-) -> Result<bool, RunFault>
-    ensures written { IfOk result (λ _. (written : List ℕ)
-        × IsBlock job.now all numbered.now.number (view numbered.now.value.now) written
-        × Appends (W.contents output.old) (W.contents output.new) written) }
-    ensures held { IfOk result (λ held.
-        held ≡ keeps job.now.rules.now (view numbered.now.value.now)) }
+// What ends the line: a line feed where it has none.
+fn line_end(line: &[u8]) -> &'static str
+    ensures { result.now ≡ line_end line.now }
 {
-    let held = write_broken(alloc, job, workspace, all, numbered)?;
-    write_bytes(output, workspace.text.as_bytes())?;
-    Ok(held)
+    if line.ends_with(b"\n") { "" } else { "\n" }
 }
 
-// The same with what would have to change in each rule that the record breaks.
-fn tell_changes<'r, W: Write>(
-    alloc: Global,
-    job: &Job<'r>,
-    workspace: &mut Workspace<'r>,
-    numbered: &Numbered<'_>,
-    output: &mut W,
-) -> Result<bool, RunFault>
-    ensures written { IfOk result (λ _. (written : List ℕ)
-        × IsChangeBlock job.now numbered.now.number (view numbered.now.value.now) written
-        × Appends (W.contents output.old) (W.contents output.new) written) }
-    ensures held { IfOk result (λ held.
-        held ≡ keeps job.now.rules.now (view numbered.now.value.now)) }
+// Writes the line with its line feed.
+fn write_line<W: Write>(output: &mut W, line: &[u8]) -> Result<(), RunFault>
+    ensures { OnOk result
+        (Appends (W.contents output.old) (W.contents output.new) (ended line.now)) }
 {
-    let held = write_changes(alloc, job, workspace, numbered)?;
-    write_bytes(output, workspace.text.as_bytes())?;
-    Ok(held)
-}
-
-// The same with an object of JSON.
-fn tell_object<'r, W: Write>(
-    alloc: Global,
-    job: &Job<'r>,
-    workspace: &mut Workspace<'r>,
-    all: bool,
-    failed: bool,
-    number: u64,
-    value: &Value,
-    output: &mut W,
-) -> Result<bool, RunFault>
-    ensures written { IfOk result (λ _. (written : List ℕ)
-        × IsObject job.now all failed number (view value.now) written
-        × Appends (W.contents output.old) (W.contents output.new) written) }
-    ensures held { IfOk result (λ held. held ≡ keeps job.now.rules.now (view value.now)) }
-{
-    let held = write_json(alloc, job, workspace, all, failed, number, value)?;
-    write_bytes(output, workspace.text.as_bytes())?;
-    Ok(held)
+    write_bytes(output, line)?;
+    write_bytes(output, line_end(line).as_bytes())?;
+    Ok(())
 }
 
 // Writes the line where it is as wanted whether the record on it keeps every rule, and says whether
 // it does.
 fn tell_wanted<'r, W: Write>(
-    alloc: Global,
     job: &Job<'r>,
     workspace: &mut Workspace<'r>,
     wanted: bool,
-    line: &[u8],
-    value: &Value,
+    record: &Record<'_>,
     output: &mut W,
 ) -> Result<bool, RunFault>
     ensures written { IfOk result (λ _. Appends (W.contents output.old) (W.contents output.new)
-        (cond (beq (keeps job.now.rules.now (view value.now)) wanted) line.now [])) }
-    ensures held { IfOk result (λ held. held ≡ keeps job.now.rules.now (view value.now)) }
+        (cond (beq (keeps job.now.rules.now (view record.now.value.now)) wanted)
+        (ended record.now.bytes.now) [])) }
+    ensures held { IfOk result (λ held.
+        held ≡ keeps job.now.rules.now (view record.now.value.now)) }
 {
-    let held = keeps(alloc, job.rules, &mut workspace.matchers, value)?;
+    let held = keeps(job.rules, workspace, record.value)?;
     if held == wanted {
-        write_bytes(output, line)?;
+        write_line(output, record.bytes)?;
     }
     Ok(held)
 }
 
 // Writes what is told of the record, and says whether it keeps every rule.
 fn tell_record<'r, W: Write>(
-    alloc: Global,
     job: &Job<'r>,
     workspace: &mut Workspace<'r>,
-    line: &Line<'_>,
-    value: &Value,
+    record: &Record<'_>,
     output: &mut W,
 ) -> Result<bool, RunFault>
     ensures written { IfOk result (λ _. (written : List ℕ)
-        × IsReport job.now.settings.now.report job.now line.now.number line.now.bytes.now
-        (view value.now) written
+        × IsReport job.now.settings.now.report job.now record.now.number record.now.bytes.now
+        (view record.now.value.now) written
         × Appends (W.contents output.old) (W.contents output.new) written) }
-    ensures held { IfOk result (λ held. held ≡ keeps job.now.rules.now (view value.now)) }
+    ensures held { IfOk result (λ held.
+        held ≡ keeps job.now.rules.now (view record.now.value.now)) }
 {
-    let Line { number, bytes } = *line;
-    let numbered = Numbered { number, value };
-    match job.settings.report {
-        Report::First => tell_block(alloc, job, workspace, false, &numbered, output),
-        Report::All => tell_block(alloc, job, workspace, true, &numbered, output),
-        Report::Change => tell_changes(alloc, job, workspace, &numbered, output),
-        Report::Json { all, failed } => {
-            tell_object(alloc, job, workspace, all, failed, number, value, output)
-        }
-        Report::GitHub { all } => tell_errors(alloc, job, workspace, all, number, value, output),
-        Report::JUnit => Ok(keeps(alloc, job.rules, &mut workspace.matchers, value)?),
-        Report::Lines(wanted) => tell_wanted(alloc, job, workspace, wanted, bytes, value, output),
-    }
+    let held = match job.settings.report {
+        Report::First => write_broken(job, workspace, false, record)?,
+        Report::All => write_broken(job, workspace, true, record)?,
+        Report::Change => write_changes(job, workspace, record)?,
+        Report::Json { all, failed } => write_json(job, workspace, all, failed, record)?,
+        Report::GitHub { all } => return tell_errors(job, workspace, all, record, output),
+        Report::JUnit => return Ok(keeps(job.rules, workspace, record.value)?),
+        Report::Lines(wanted) => return tell_wanted(job, workspace, wanted, record, output),
+    };
+    write_bytes(output, workspace.text.as_bytes())?;
+    Ok(held)
 }
 
 // The same where there is room for more, and nothing otherwise.
 fn tell_in_room<'r, W: Write>(
-    alloc: Global,
     job: &Job<'r>,
     workspace: &mut Workspace<'r>,
     room: bool,
-    line: &Line<'_>,
-    value: &Value,
+    record: &Record<'_>,
     output: &mut W,
 ) -> Result<bool, RunFault>
     ensures written { IfOk result (λ _. (written : List ℕ)
-        × IsWritten job.now room line.now.number line.now.bytes.now (view value.now) written
+        × IsWritten job.now room record.now.number record.now.bytes.now
+        (view record.now.value.now) written
         × Appends (W.contents output.old) (W.contents output.new) written) }
-    ensures held { IfOk result (λ held. held ≡ keeps job.now.rules.now (view value.now)) }
+    ensures held { IfOk result (λ held.
+        held ≡ keeps job.now.rules.now (view record.now.value.now)) }
 {
     if room {
-        return tell_record(alloc, job, workspace, line, value, output);
+        return tell_record(job, workspace, record, output);
     }
-    Ok(keeps(alloc, job.rules, &mut workspace.matchers, value)?)
+    Ok(keeps(job.rules, workspace, record.value)?)
 }
 
 // Counts which rules the record breaks, writes what is told of it, and says whether it keeps every
 // rule.
 fn take_record<'r, W: Write>(
-    alloc: Global,
     job: &Job<'r>,
     workspace: &mut Workspace<'r>,
     tally: &mut Tally,
-    line: &Line<'_>,
-    value: &Value,
+    record: &Record<'_>,
     output: &mut W,
 ) -> Result<bool, RunFault>
     ensures written { IfOk result (λ _. (written : List ℕ)
-        × IsWritten job.now (has_room tally.old.left) line.now.number line.now.bytes.now
-        (view value.now) written
+        × IsWritten job.now (has_room tally.old.left) record.now.number record.now.bytes.now
+        (view record.now.value.now) written
         × Appends (W.contents output.old) (W.contents output.new) written) }
-    ensures held { IfOk result (λ held. held ≡ keeps job.now.rules.now (view value.now)) }
+    ensures held { IfOk result (λ held.
+        held ≡ keeps job.now.rules.now (view record.now.value.now)) }
     ensures counts { tally.new.counts ≡ tally.old.counts }
     ensures broken { IfOk result (λ _. tally.new.broken.items
-        ≡ one_counted job.now.rules.now (Some (view value.now)) tally.old.broken.items) }
-    ensures firsts { IfOk result (λ _. TakesFirsts job.now line.now.number (view value.now)
-        (blocks_of tally.old) (blocks_of tally.new)) }
+        ≡ one_counted job.now.rules.now (Some (view record.now.value.now)) tally.old.broken.items) }
+    ensures firsts { IfOk result (λ _. TakesFirsts job.now record.now.number
+        (view record.now.value.now) (blocks_of tally.old) (blocks_of tally.new)) }
     ensures left { IfOk result (λ _. tally.new.left
-        ≡ left_after (is_told job.now (Some (view value.now))) tally.old.left) }
+        ≡ left_after (is_told job.now (Some (view record.now.value.now))) tally.old.left) }
 {
     let room = tally.has_room();
-    count_broken(
-        alloc,
-        job.rules,
-        &mut workspace.matchers,
-        value,
-        &mut tally.broken,
-    )?;
-    let record = Numbered {
-        number: line.number,
-        value,
-    };
-    take_firsts(
-        alloc,
-        job,
-        &mut workspace.matchers,
-        &record,
-        &mut tally.firsts,
-    )?;
-    let held = tell_in_room(alloc, job, workspace, room, line, value, output)?;
+    count_broken(job.rules, workspace, record.value, &mut tally.broken)?;
+    take_firsts(job, workspace, record, &mut tally.firsts)?;
+    let held = tell_in_room(job, workspace, room, record, output)?;
     tally.take_room(job.settings.report.tells(held));
     Ok(held)
 }
@@ -245,21 +178,19 @@ fn take_record<'r, W: Write>(
 // Tells the record on the line, and says whether it keeps every rule; where something else stands
 // there, a message says so.
 fn tell_line<'r, W: Write, M: Write>(
-    alloc: Global,
     job: &Job<'r>,
     workspace: &mut Workspace<'r>,
     tally: &mut Tally,
     line: &Line<'_>,
-    output: &mut W,
-    messages: &mut M,
+    streams: &mut Streams<W, M>,
 ) -> Result<Option<bool>, RunFault>
     ensures written { IfOk result (λ _. (written : List ℕ)
         × IsLineWritten job.now (has_room tally.old.left) line.now.number line.now.bytes.now
         (record_on line.now.bytes.now) written
-        × Appends (W.contents output.old) (W.contents output.new) written) }
+        × Appends (W.contents streams.old.output) (W.contents streams.new.output) written) }
     ensures message { IfOk result (λ _. (message : List ℕ)
         × IsMessage job.now line.now.number (Some line.now.bytes.now) message
-        × Appends (M.contents messages.old) (M.contents messages.new) message) }
+        × Appends (M.contents streams.old.messages) (M.contents streams.new.messages) message) }
     ensures held { IfOk result (λ held.
         held ≡ option_map (keeps job.now.rules.now) (record_on line.now.bytes.now)) }
     ensures counts { tally.new.counts ≡ tally.old.counts }
@@ -270,13 +201,20 @@ fn tell_line<'r, W: Write, M: Write>(
     ensures left { IfOk result (λ _. tally.new.left
         ≡ left_after (is_told job.now (record_on line.now.bytes.now)) tally.old.left) }
 {
-    match read_record(alloc, line.bytes, &mut workspace.text)? {
-        Some(record) => {
-            let held = take_record(alloc, job, workspace, tally, line, &record, output)?;
+    let Line { number, bytes } = *line;
+    match read_record(workspace.alloc, bytes, &mut workspace.text)? {
+        Some(value) => {
+            let record = Record {
+                number,
+                bytes,
+                value: &value,
+            };
+            let held = take_record(job, workspace, tally, &record, &mut streams.output)?;
             Ok(Some(held))
         }
         None => {
-            tell_problem(alloc, job, line, &workspace.text, messages)?;
+            let messages = &mut streams.messages;
+            tell_problem(workspace.alloc, job, line, &workspace.text, messages)?;
             Ok(None)
         }
     }
@@ -284,20 +222,19 @@ fn tell_line<'r, W: Write, M: Write>(
 
 // Takes the line: tells what stands on it, and counts it.
 fn take_line<'r, W: Write, M: Write>(
-    alloc: Global,
     job: &Job<'r>,
     workspace: &mut Workspace<'r>,
     tally: &mut Tally,
     line: &Line<'_>,
-    output: &mut W,
-    messages: &mut M,
+    streams: &mut Streams<W, M>,
 ) -> Result<(), RunFault>
     ensures taken { OnOk result (TakesOne job.now line.now.number (Some line.now.bytes.now)
-        (W.contents output.old) (W.contents output.new)
-        (M.contents messages.old) (M.contents messages.new) tally.old tally.new) }
+        (W.contents streams.old.output) (W.contents streams.new.output)
+        (M.contents streams.old.messages) (M.contents streams.new.messages)
+        tally.old tally.new) }
     ensures counts { OnErr result (tally.new.counts ≡ tally.old.counts) }
 {
-    let held = tell_line(alloc, job, workspace, tally, line, output, messages)?;
+    let held = tell_line(job, workspace, tally, line, streams)?;
     tally.count(held, is_blank(line.bytes))
 }
 
@@ -336,31 +273,6 @@ fn take_long_line<M: Write>(
     tally.count(None, false)
 }
 
-// Takes what was found of a line.
-fn take_found<'r, W: Write, M: Write>(
-    alloc: Global,
-    job: &Job<'r>,
-    workspace: &mut Workspace<'r>,
-    tally: &mut Tally,
-    found: TakenLine,
-    line: &Line<'_>,
-    output: &mut W,
-    messages: &mut M,
-) -> Result<(), RunFault>
-    ensures taken { OnOk result (TakesOne job.now line.now.number
-        (line_found found line.now.bytes.now) (W.contents output.old) (W.contents output.new)
-        (M.contents messages.old) (M.contents messages.new) tally.old tally.new) }
-    ensures some { OnOk result (found ≢ End) }
-    ensures counts { OnErr result (tally.new.counts ≡ tally.old.counts) }
-{
-    match found {
-        TakenLine::Line => take_line(alloc, job, workspace, tally, line, output, messages),
-        TakenLine::TooLong => take_long_line(alloc, job, tally, line.number, messages),
-        // There is no line.
-        TakenLine::End => Err(RunFault::Input),
-    }
-}
-
 /// Writes what is told of each record of the input, in order, and counts the lines beside those
 /// that the tally has. A line on which no record stands, as it is not JSON, nests more than 127 deep
 /// or is longer than the job allows, is told by a message, and the run goes on. A blank line is
@@ -381,32 +293,28 @@ fn take_found<'r, W: Write, M: Write>(
 /// };
 /// let job = Job::new(&rules, &settings);
 /// let mut records: &[u8] = b"{\"age\": 30}\n{\"age\": 17}\n";
-/// let (mut output, mut messages) = (Vec::new(alloc), Vec::new(alloc));
+/// let mut streams = Streams {
+///     output: Vec::new(alloc),
+///     messages: Vec::new(alloc),
+/// };
 /// let mut tally = Tally::new(alloc, None);
-/// run_records(
-///     alloc,
-///     &job,
-///     &mut tally,
-///     &mut records,
-///     &mut output,
-///     &mut messages,
-/// )?;
+/// run_records(alloc, &job, &mut tally, &mut records, &mut streams)?;
 /// let counts = tally.counts;
 /// assert!(rt; counts.records == 2 && counts.failed == 1 && counts.status() == 1);
 /// let told = b"record 2: false\nadult = false\n  rule: /age >= 18 = false\n    - found: 17\n";
-/// assert!(rt; output.as_slice() == told.as_slice() && messages.is_empty());
+/// assert!(rt; streams.output.as_slice() == told.as_slice() && streams.messages.is_empty());
 /// ```
 pub fn run_records<R: BufRead, W: Write, M: Write>(
     alloc: Global,
     job: &Job<'_>,
     tally: &mut Tally,
     input: &mut R,
-    output: &mut W,
-    messages: &mut M,
+    streams: &mut Streams<W, M>,
 ) -> Result<(), RunFault>
     ensures run { OnOk result (HasRun job.now (R.remaining input.old) (R.remaining input.new)
-        (W.contents output.old) (W.contents output.new)
-        (M.contents messages.old) (M.contents messages.new) tally.old tally.new) }
+        (W.contents streams.old.output) (W.contents streams.new.output)
+        (M.contents streams.old.messages) (M.contents streams.new.messages)
+        tally.old tally.new) }
     ensures stopped { OnErr result (HasStopped job.now (R.remaining input.old) tally.old tally.new) }
 {
     let mut bytes = Vec::new(alloc);
@@ -414,30 +322,29 @@ pub fn run_records<R: BufRead, W: Write, M: Write>(
     let mut workspace = Workspace::new(alloc);
     for taken in 0..u64::MAX {
         let found = next_piece(input, job.format, &mut position, &mut bytes, job.max_line)?;
-        if let TakenLine::End = found {
-            flush(output)?;
-            return Ok(());
+        let number = taken + 1;
+        match found {
+            TakenLine::Line => {
+                let line = Line {
+                    number,
+                    bytes: &bytes,
+                };
+                take_line(job, &mut workspace, tally, &line, streams)?;
+            }
+            TakenLine::TooLong => {
+                take_long_line(alloc, job, tally, number, &mut streams.messages)?;
+            }
+            TakenLine::End => {
+                flush(&mut streams.output)?;
+                return Ok(());
+            }
         }
-        let line = Line {
-            number: taken + 1,
-            bytes: &bytes,
-        };
-        take_found(
-            alloc,
-            job,
-            &mut workspace,
-            tally,
-            found,
-            &line,
-            output,
-            messages,
-        )?;
     }
     match next_piece(input, job.format, &mut position, &mut bytes, job.max_line)? {
         // More lines than can be counted.
         TakenLine::Line | TakenLine::TooLong => Err(RunFault::Input),
         TakenLine::End => {
-            flush(output)?;
+            flush(&mut streams.output)?;
             Ok(())
         }
     }

@@ -19,7 +19,8 @@ pub enum Report {
     GitHub { all: bool },
     /// Nothing: the tally has what the document of JUnit is made of.
     JUnit,
-    /// The line itself, where the record keeps every rule (`true`), or breaks one (`false`).
+    /// The line itself, where the record keeps every rule (`true`), or breaks one (`false`), with a
+    /// line feed behind it where it has none.
     Lines(bool),
 }
 

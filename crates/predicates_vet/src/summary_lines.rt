@@ -3,11 +3,11 @@ ghost use Rattle.std.specs.Prelude.{◌≡◌, ◌-◌, ◌<◌, ◌+◌, ◌++�
 ghost use Rattle.std.specs.Prelude.{replicate, slice_index, IsPermutation};
 ghost use Rattle.std.specs.List.Sorted.{IsNonDecreasingBy, IsStableByKey};
 ghost use Rattle.std.specs.Ordering.{nat_cmp};
-ghost use Rattle.predicates_vet_check.specs.RuleChecks.{name_of};
+ghost use Rattle.predicates_rule_check.specs.RuleChecks.{name_of};
 ghost use Rattle.predicates_vet.specs.Summaries.{row_of, rows_of, unit_of, row_text};
 ghost use Rattle.predicates_vet.specs.Summaries.{falling, IsSummary};
 
-use predicates_vet_check::RuleCheck;
+use predicates_rule_check::RuleCheck;
 use std::alloc::{AllocError, Global};
 
 /// A rule's name, and how many records break it.

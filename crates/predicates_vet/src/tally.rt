@@ -4,7 +4,7 @@ ghost use Rattle.predicates_vet.specs.Counting.{CountsOne, has_room, left_after}
 
 use crate::counts::Counts;
 use predicates_lines::RunFault;
-use predicates_vet_check::RuleCheck;
+use predicates_rule_check::RuleCheck;
 use std::alloc::{AllocError, Global};
 
 /// What is counted over the lines of an input, or of several that are read one after another.

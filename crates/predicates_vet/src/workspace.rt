@@ -1,10 +1,12 @@
 //! What a run keeps from one line to the next.
-use predicates_vet_check::Matchers;
+use predicates_rule_check::Matchers;
 use std::alloc::Global;
 
-/// Texts and matchers that take memory once for many lines.
+/// The memory that a run works with: where it takes it, and a text and matchers that take it once
+/// for many lines.
 #[derive(Drop)]
 pub(crate) struct Workspace<'r> {
+    pub(crate) alloc: Global,
     pub(crate) text: String,
     pub(crate) matchers: Matchers<'r>,
 }
@@ -12,6 +14,7 @@ pub(crate) struct Workspace<'r> {
 impl<'r> Workspace<'r> {
     pub(crate) fn new(alloc: Global) -> Workspace<'r> {
         Workspace {
+            alloc,
             text: String::new(alloc),
             matchers: Matchers::new(alloc),
         }

@@ -1,24 +1,23 @@
 //! The document at the end of the runs.
+use crate::rule_file::RuleFile;
 use predicates_vet::settings::Report;
 use predicates_vet::{Tally, junit};
-use predicates_vet_check::RuleCheck;
 use std::io;
 use std::io::ErrorKind;
 
-/// Writes the document of runs by the rules of the file of this name, where the report is one, and
-/// says whether anything reads it.
+/// Writes the document of runs by the rules of the file, where the report is one, and says whether
+/// anything reads it.
 pub(crate) fn write_document<E: Print + AllocGlobal>(
     rt: &E,
     report: Report,
-    name: &str,
-    rules: &[RuleCheck],
+    file: RuleFile<'_>,
     tally: &Tally,
     all_read: bool,
 ) -> io::Result<bool> {
     let Report::JUnit = report else {
         return Ok(true);
     };
-    let document = junit(rt.alloc(), name, rules, tally, all_read)?;
+    let document = junit(rt.alloc(), file.path, file.rules, tally, all_read)?;
     match rt.write_all(&document) {
         Ok(()) => Ok(true),
         Err(error) if error.kind() == ErrorKind::BrokenPipe => Ok(false),

@@ -2,12 +2,12 @@
 use crate::input_fault::InputFault;
 use crate::io_fault::IoFault;
 use crate::metered::Metered;
-use crate::stderr::Stderr;
 use crate::stdout::Stdout;
 use crate::tell::tell_file;
 use crate::watched::Watched;
+use predicates_lines::Stderr;
 use predicates_vet::settings::Report;
-use predicates_vet::{Job, RunFault, Tally, run_records};
+use predicates_vet::{Job, RunFault, Streams, Tally, run_records};
 use std::fs::File;
 use std::io;
 use std::io::{BufReader, BufWriter, ErrorKind, Read};
@@ -26,8 +26,11 @@ pub(crate) enum Ended {
     Early(RunFault),
 }
 
-/// Standard output, which keeps what is written for a while.
-pub(crate) type Output<'w, 'a, E> = BufWriter<Stdout<'w, Watched<'a, E>>>;
+/// Standard output, which keeps what is written for a while, and standard error.
+pub(crate) type Outputs<'w, 'a, E> = Streams<
+    BufWriter<Stdout<'w, Watched<'a, E>>>,
+    Stderr<'w, Watched<'a, E>>,
+>;
 
 // Runs over one input.
 fn run_input<E: Print + Eprint + Clock + AllocGlobal, R: Read + Drop>(
@@ -35,7 +38,7 @@ fn run_input<E: Print + Eprint + Clock + AllocGlobal, R: Read + Drop>(
     job: &Job<'_>,
     tally: &mut Tally,
     inner: R,
-    output: &mut Output<'_, '_, E>,
+    outputs: &mut Outputs<'_, '_, E>,
 ) -> io::Result<Ended> {
     let alloc = watched.alloc();
     let metered = Metered {
@@ -44,10 +47,11 @@ fn run_input<E: Print + Eprint + Clock + AllocGlobal, R: Read + Drop>(
         error: None,
     };
     let mut input = BufReader::new(alloc, metered)?;
-    let mut messages = Stderr { rt: watched };
-    match run_records(alloc, job, tally, &mut input, output, &mut messages) {
+    match run_records(alloc, job, tally, &mut input, outputs) {
         Ok(()) => Ok(Ended::Whole { all_read: true }),
-        Err(RunFault::Output) if output.get_ref().is_closed => Ok(Ended::Closed { all_read: true }),
+        Err(RunFault::Output) if outputs.output.get_ref().is_closed => {
+            Ok(Ended::Closed { all_read: true })
+        }
         Err(RunFault::Input) => {
             let Metered { error, .. } = input.into_inner();
             Ok(Ended::Unread(InputFault { error }))
@@ -61,9 +65,9 @@ pub(crate) fn run_stdin<E: Input + Print + Eprint + Clock + AllocGlobal>(
     watched: &Watched<'_, E>,
     job: &Job<'_>,
     tally: &mut Tally,
-    output: &mut Output<'_, '_, E>,
+    outputs: &mut Outputs<'_, '_, E>,
 ) -> io::Result<Ended> {
-    run_input(watched, job, tally, watched.rt.reader(), output)
+    run_input(watched, job, tally, watched.rt.reader(), outputs)
 }
 
 // Runs over the file of this name; of one that can't be opened it is told why.
@@ -72,7 +76,7 @@ fn run_file<E: Files + Print + Eprint + Clock + AllocGlobal>(
     name: &str,
     job: &Job<'_>,
     tally: &mut Tally,
-    output: &mut Output<'_, '_, E>,
+    outputs: &mut Outputs<'_, '_, E>,
 ) -> io::Result<Ended> {
     let file = match File::open(watched.rt, name) {
         Ok(file) => file,
@@ -82,7 +86,7 @@ fn run_file<E: Files + Print + Eprint + Clock + AllocGlobal>(
             return Ok(Ended::Whole { all_read: false });
         }
     };
-    run_input(watched, job, tally, file, output)
+    run_input(watched, job, tally, file, outputs)
 }
 
 // Runs over the input of this name; `-` is standard input. Of one that can't be read it is told.
@@ -91,12 +95,12 @@ fn run_named<E: Files + Input + Print + Eprint + Clock + AllocGlobal>(
     name: &str,
     job: &Job<'_>,
     tally: &mut Tally,
-    output: &mut Output<'_, '_, E>,
+    outputs: &mut Outputs<'_, '_, E>,
 ) -> io::Result<Ended> {
     let ended = if name == "-" {
-        run_stdin(watched, job, tally, output)?
+        run_stdin(watched, job, tally, outputs)?
     } else {
-        run_file(watched, name, job, tally, output)?
+        run_file(watched, name, job, tally, outputs)?
     };
     match ended {
         Ended::Unread(fault) => {
@@ -123,7 +127,7 @@ pub(crate) fn run_files<'r, E: Files + Input + Print + Eprint + Clock + AllocGlo
     names: &[&'r str],
     job: &Job<'r>,
     tally: &mut Tally,
-    output: &mut Output<'_, '_, E>,
+    outputs: &mut Outputs<'_, '_, E>,
 ) -> io::Result<Ended> {
     let mut all_read = true;
     for name in names {
@@ -134,7 +138,7 @@ pub(crate) fn run_files<'r, E: Files + Input + Print + Eprint + Clock + AllocGlo
             max_line: job.max_line,
             format: job.format,
         };
-        match run_named(watched, name, &job, tally, output)? {
+        match run_named(watched, name, &job, tally, outputs)? {
             Ended::Whole { all_read: is_read } => all_read = all_read && is_read,
             Ended::Closed { .. } => return Ok(Ended::Closed { all_read }),
             early => return Ok(early),

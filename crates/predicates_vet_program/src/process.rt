@@ -8,6 +8,7 @@ use crate::document::write_document;
 use crate::end::End;
 use crate::inputs::{Ended, run_files, run_stdin};
 use crate::io_fault::IoFault;
+use crate::rule_file::RuleFile;
 use crate::stdout::Stdout;
 use crate::tell::{tell, tell_clash, tell_file, tell_no_path, tell_totals, tell_words};
 use crate::wanted::{Wanted, wanted_of};
@@ -15,9 +16,10 @@ use crate::watched::Watched;
 use clap::ArgMatches;
 use clap::error::ErrorKind;
 use predicates_json::is_pointer;
+use predicates_lines::Stderr;
+use predicates_rule_check::RuleCheck;
 use predicates_vet::settings::Report;
-use predicates_vet::{Job, ReadChecksError, RulesFault, Tally, read_checks, summary};
-use predicates_vet_check::RuleCheck;
+use predicates_vet::{Job, ReadChecksError, RulesFault, Streams, Tally, read_checks, summary};
 use std::alloc::{AllocError, Global};
 use std::fmt::Display;
 use std::io::BufWriter;
@@ -50,10 +52,13 @@ fn run_inputs<'r, E: Files + Input + Print + Eprint + Clock + AllocGlobal>(
         rt: watched,
         is_closed: false,
     };
-    let mut output = BufWriter::with_capacity(watched.alloc(), kept, stdout)?;
+    let mut outputs = Streams {
+        output: BufWriter::with_capacity(watched.alloc(), kept, stdout)?,
+        messages: Stderr { rt: watched },
+    };
     match files {
-        Some(names) => run_files(watched, names, job, tally, &mut output),
-        None => run_stdin(watched, job, tally, &mut output),
+        Some(names) => run_files(watched, names, job, tally, &mut outputs),
+        None => run_stdin(watched, job, tally, &mut outputs),
     }
 }
 
@@ -79,8 +84,7 @@ fn end<E: Eprint + AllocGlobal>(
 // Writes the document where one is asked for, and tells the counts.
 fn finish<E: Print + Eprint + AllocGlobal>(
     rt: &E,
-    path: &str,
-    rules: &[RuleCheck],
+    file: RuleFile<'_>,
     wanted: &Wanted,
     tally: &Tally,
     all_read: bool,
@@ -88,8 +92,8 @@ fn finish<E: Print + Eprint + AllocGlobal>(
     ensures { IfOk result (λ end. end ≡ Ran tally.now.counts all_read) }
 {
     let report = wanted.settings.report;
-    if write_document(rt, report, path, rules, tally, all_read)? {
-        return end(rt, rules, wanted, tally, all_read);
+    if write_document(rt, report, file, tally, all_read)? {
+        return end(rt, file.rules, wanted, tally, all_read);
     }
     Ok(End::Ran {
         counts: tally.counts,
@@ -105,23 +109,22 @@ fn stop<E: Eprint, T: Display>(rt: &E, fault: &T) -> io::Result<End>
     Ok(End::Stopped)
 }
 
-// Runs by these rules of the file at the path. Where nothing reads the output any more, nothing is told.
+// Runs by the rules of the file. Where nothing reads the output any more, nothing is told.
 fn run_by<'r, E: Files + Input + Print + Eprint + Clock + AllocGlobal>(
     rt: &E,
-    path: &str,
-    rules: &'r [RuleCheck],
+    file: RuleFile<'r>,
     wanted: &'r Wanted,
     files: Option<&[&'r str]>,
 ) -> io::Result<End> {
-    let mut tally = tally_of(rt.alloc(), rules, wanted)?;
-    let mut job = Job::new(rules, &wanted.settings);
+    let mut tally = tally_of(rt.alloc(), file.rules, wanted)?;
+    let mut job = Job::new(file.rules, &wanted.settings);
     job.format = wanted.input;
     let kept = if wanted.flush { 0 } else { KEPT };
     let watched = Watched::start(rt, wanted.progress, files);
     let ended = run_inputs(&watched, files, &job, kept, &mut tally);
     watched.erase();
     match ended? {
-        Ended::Whole { all_read } => finish(rt, path, rules, wanted, &tally, all_read),
+        Ended::Whole { all_read } => finish(rt, file, wanted, &tally, all_read),
         Ended::Closed { all_read } => Ok(End::Ran {
             counts: tally.counts,
             all_read,
@@ -160,7 +163,13 @@ fn run_by_file<E: Files + Input + Print + Eprint + Clock + AllocGlobal>(
         Err(error) => return refuse_file(rt, path, &error),
     };
     match read_checks(rt.alloc(), &text) {
-        Ok(rules) => run_by(rt, path, &rules, wanted, files),
+        Ok(rules) => {
+            let file = RuleFile {
+                path,
+                rules: &rules,
+            };
+            run_by(rt, file, wanted, files)
+        }
         Err(error) => refuse_rules(rt, path, &error),
     }
 }

@@ -15,42 +15,34 @@ mod reports;
 mod thresholds;
 
 use predicates_vet::settings::{Report, Settings};
-use predicates_vet::{Counts, Job, ReadChecksError, RunFault, Tally, read_checks, run_records};
+use predicates_vet::{
+    Counts, Job, ReadChecksError, RunFault, Streams, Tally, read_checks, run_records,
+};
 use std::alloc::{AllocError, Global};
 use std::test::Fail;
 
 // What a run writes, its messages, and how it ends.
 type Run = (Vec<u8>, Vec<u8>, Result<Counts, RunFault>);
 
-// The messages of a run by the rules over the records, and how it ends.
-fn run_onto(
-    alloc: Global,
-    settings: &Settings,
-    rules: &[u8],
-    mut records: &[u8],
-    output: &mut Vec<u8>,
-) -> Result<(Vec<u8>, Result<Counts, RunFault>), ReadChecksError> {
-    let checks = read_checks(alloc, rules)?;
-    let job = Job::new(&checks, settings);
-    let mut tally = Tally::new(alloc, None);
-    let mut messages = Vec::new(alloc);
-    let ended = match run_records(alloc, &job, &mut tally, &mut records, output, &mut messages) {
-        Ok(()) => Ok(tally.counts),
-        Err(fault) => Err(fault),
-    };
-    Ok((messages, ended))
-}
-
 // The run by the rules over the records.
 fn run_of(
     alloc: Global,
     settings: &Settings,
     rules: &[u8],
-    records: &[u8],
+    mut records: &[u8],
 ) -> Result<Run, ReadChecksError> {
-    let mut output = Vec::new(alloc);
-    let (messages, ended) = run_onto(alloc, settings, rules, records, &mut output)?;
-    Ok((output, messages, ended))
+    let checks = read_checks(alloc, rules)?;
+    let job = Job::new(&checks, settings);
+    let mut tally = Tally::new(alloc, None);
+    let mut streams = Streams {
+        output: Vec::new(alloc),
+        messages: Vec::new(alloc),
+    };
+    let ended = match run_records(alloc, &job, &mut tally, &mut records, &mut streams) {
+        Ok(()) => Ok(tally.counts),
+        Err(fault) => Err(fault),
+    };
+    Ok((streams.output, streams.messages, ended))
 }
 
 // Settings with this path of the labels.
@@ -296,7 +288,7 @@ fn changes_of_records(rt: HostRuntime) -> Result<(), Fail> {
 // The records, those that break the rule, those that keep it, and the counts.
 const LINES: [(&[u8], &[u8], &[u8], (u64, u64, u64)); 5] = [
     (b"", b"", b"", (0, 0, 0)),
-    (b"1\n 2 \n1", b" 2 \n", b"1\n1", (3, 1, 0)),
+    (b"1\n 2 \n1", b" 2 \n", b"1\n1\n", (3, 1, 0)),
     (b"1\n[\n\xff\n\n3\r\n", b"3\r\n", b"1\n", (2, 1, 2)),
     // Blank lines, and those with white space that JSON does not have.
     (b"\n1\n \t\r\n\n\n2\n ", b"2\n", b"1\n", (2, 1, 0)),

@@ -1,11 +1,11 @@
 //! The document that readers of JUnit's reports take.
 use super::ended_run::EndedRun;
 use predicates_lines::RunFault;
+use predicates_rule_check::RuleCheck;
 use predicates_sweep::Memory::Taken;
 use predicates_sweep::{Call, refusing, sweep};
 use predicates_vet::settings::{Report, Settings};
-use predicates_vet::{Job, Tally, junit, read_checks, run_records};
-use predicates_vet_check::RuleCheck;
+use predicates_vet::{Job, Streams, Tally, junit, read_checks, run_records};
 use std::alloc::{AllocError, Global};
 use std::test::Fail;
 
@@ -31,10 +31,13 @@ impl Documenting<'_> {
     // Runs over the records, and says whether each keeps the rules.
     fn run(&self, alloc: Global, rules: &[RuleCheck], tally: &mut Tally) -> Result<bool, RunFault> {
         let mut input = self.input;
-        let (mut written, mut told) = (Vec::new(alloc), Vec::new(alloc));
+        let mut streams = Streams {
+            output: Vec::new(alloc),
+            messages: Vec::new(alloc),
+        };
         let settings = settings();
         let job = Job::new(rules, &settings);
-        run_records(alloc, &job, tally, &mut input, &mut written, &mut told)?;
+        run_records(alloc, &job, tally, &mut input, &mut streams)?;
         Ok(tally.counts.status() == 0)
     }
 }

@@ -1,8 +1,8 @@
 //! The calls of checks of records, made of rules.
+use predicates_rule_check::RuleCheck;
 use predicates_sweep::Memory::{self, GoesOn, Never, Perhaps, Taken};
 use predicates_sweep::{Row, sweep_calls};
 use predicates_vet::read_checks;
-use predicates_vet_check::RuleCheck;
 use serde_json::Value;
 use std::alloc::{AllocError, Global};
 use std::test::Fail;

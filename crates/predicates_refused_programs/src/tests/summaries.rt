@@ -1,8 +1,8 @@
 //! How many records break each rule, as lines.
+use predicates_rule_check::RuleCheck;
 use predicates_sweep::Memory::Taken;
 use predicates_sweep::{Answer, Call, sweep};
 use predicates_vet::{read_checks, summary};
-use predicates_vet_check::RuleCheck;
 use std::alloc::{AllocError, Global};
 use std::test::Fail;
 

@@ -1,10 +1,10 @@
 //! Rules of a file, and runs over records.
 use super::ended_run::EndedRun;
+use predicates_rule_check::RuleCheck;
 use predicates_sweep::Memory::{self, GoesOn, Perhaps, Taken};
 use predicates_sweep::{Answer, Call, sweep};
 use predicates_vet::settings::{Report, Settings};
-use predicates_vet::{InputFormat, Job, ReadChecksError, Tally, read_checks, run_records};
-use predicates_vet_check::RuleCheck;
+use predicates_vet::{InputFormat, Job, ReadChecksError, Streams, Tally, read_checks, run_records};
 use std::alloc::{AllocError, Global};
 use std::test::Fail;
 
@@ -126,19 +126,18 @@ impl Call for Running<'_> {
     ) -> Result<EndedRun, AllocError> {
         let (checks, settings) = operand;
         let mut reader = self.input;
-        let mut written = Vec::new(alloc);
-        let mut messages = Vec::new(alloc);
+        let mut streams = Streams {
+            output: Vec::new(alloc),
+            messages: Vec::new(alloc),
+        };
         let mut job = Job::new(checks.as_slice(), &settings);
         job.format = self.format;
         let mut tally = Tally::of_rules(alloc, checks.as_slice(), Some(9))?;
-        let ended = run_records(
-            alloc,
-            &job,
-            &mut tally,
-            &mut reader,
-            &mut written,
-            &mut messages,
-        );
+        let ended = run_records(alloc, &job, &mut tally, &mut reader, &mut streams);
+        let Streams {
+            output: mut written,
+            messages,
+        } = streams;
         if ended.is_ok() {
             written.extend_from_slice(&messages)?;
         }

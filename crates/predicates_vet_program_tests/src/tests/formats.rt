@@ -16,7 +16,7 @@ const FILES: [(&str, &[u8]); 4] = [
 
 const INPUT: &[u8] = b"2\n1\n5\n";
 
-const ROWS: [Row; 19] = [
+const ROWS: [Row; 20] = [
     // A file, which has its name though it is the only one.
     (
         &[b"vet", b"--format", b"github", b"rules", b"one"],
@@ -37,6 +37,21 @@ const ROWS: [Row; 19] = [
         1,
         "::error title=a%2C b%3A 5%25::record 1: false%0Aa, b: 5%25 = false%0A  rule: / == 1 = false%0A    - found: 2\n::error title=a%2C b%3A 5%25::record 3: false%0Aa, b: 5%25 = false%0A  rule: / == 1 = false%0A    - found: 5\n::error title=c::record 3: false%0Ac = false%0A  rule: / < 3 = false%0A    - found: 5\n",
         "3 records, 2 failed\n",
+    ),
+    // Of a value in a file no line is known.
+    (
+        &[
+            b"vet",
+            b"--format",
+            b"github",
+            b"--input-format",
+            b"json",
+            b"rules",
+            b"one",
+        ],
+        1,
+        "::error file=one,title=a%2C b%3A 5%25::one:2: false%0Aa, b: 5%25 = false%0A  rule: / == 1 = false%0A    - found: 4\n",
+        "2 records, 1 failed\n",
     ),
     // A label, a name with signs that have a meaning, and standard input among files.
     (

@@ -33,7 +33,7 @@ const BAD: &[u8] = b"[\n1";
 
 const BLOCK: &str = "record 1: false\na = false\n  rule: / == 1 = false\n    - found: 2\n";
 
-const ROWS: [Row; 50] = [
+const ROWS: [Row; 51] = [
     // Records as values, one behind another or as the members of an array.
     (
         &[b"vet", b"--input-format", b"json", b"rules"],
@@ -114,7 +114,7 @@ const ROWS: [Row; 50] = [
         None,
         Closed::Neither,
         1,
-        "1",
+        "1\n",
         "2 records, 1 failed\n",
     ),
     (
@@ -500,6 +500,17 @@ const ROWS: [Row; 50] = [
         2,
         "{\"file\":\"two\",\"record\":3,\"holds\":false,\"case\":{\"text\":\"a\",\"result\":false,\"products\":[],\"children\":[{\"name\":\"rule\",\"case\":{\"text\":\"/ == 1\",\"result\":false,\"products\":[{\"name\":\"found\",\"value\":3}],\"children\":[]}}]}}\n",
         "vet: bad:1: not JSON: EOF while parsing at line 2 column 0\n3 records, 1 failed, 1 line unreadable\n",
+    ),
+    // The last line of a file has a line feed where another file goes on.
+    (
+        &[b"vet", b"--failed", b"rules", b"two", b"one", b"bad"],
+        b"a: / == 2",
+        b"",
+        None,
+        Closed::Neither,
+        2,
+        "1\n3\n1\n1\n",
+        "vet: bad:1: not JSON: EOF while parsing at line 2 column 0\n5 records, 4 failed, 1 line unreadable\n",
     ),
     // One that can't be read is told, and the others are read.
     (

@@ -265,8 +265,9 @@ const VALUES: [(&str, &str); 11] = [
 // Whether the rule passes the value where it is of the kind, and not where it is of another.
 fn passes(alloc: Global, word: &str, value: &str, kinds: &str) -> Result<bool, AllocError> {
     let rule = format!(in alloc; "a: / is {word}")?;
+    let line = format!(in alloc; "{value}\n")?;
     let (kept, failed) = if kinds.contains(word) {
-        (value, 0)
+        (line.as_str(), 0)
     } else {
         ("", 1)
     };
@@ -275,7 +276,7 @@ fn passes(alloc: Global, word: &str, value: &str, kinds: &str) -> Result<bool, A
         Report::Lines(true),
         None,
         &rule,
-        value.as_bytes(),
+        line.as_bytes(),
         kept.as_bytes(),
         (1, failed, 0),
     )

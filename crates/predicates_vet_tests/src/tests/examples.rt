@@ -1,6 +1,6 @@
 //! The examples in the comments of `predicates_vet`.
 use predicates_vet::settings::{Report, Settings};
-use predicates_vet::{Job, Tally, junit, read_checks, run_records};
+use predicates_vet::{Job, Streams, Tally, junit, read_checks, run_records};
 use std::test::Fail;
 
 #[test]
@@ -22,20 +22,16 @@ fn records_are_told(rt: HostRuntime) -> Result<(), Fail> {
     };
     let job = Job::new(&rules, &settings);
     let mut records: &[u8] = b"{\"age\": 30}\n{\"age\": 17}\n";
-    let (mut output, mut messages) = (Vec::new(alloc), Vec::new(alloc));
+    let mut streams = Streams {
+        output: Vec::new(alloc),
+        messages: Vec::new(alloc),
+    };
     let mut tally = Tally::new(alloc, None);
-    run_records(
-        alloc,
-        &job,
-        &mut tally,
-        &mut records,
-        &mut output,
-        &mut messages,
-    )?;
+    run_records(alloc, &job, &mut tally, &mut records, &mut streams)?;
     let counts = tally.counts;
     assert!(rt; counts.records == 2 && counts.failed == 1 && counts.status() == 1);
     let told = b"record 2: false\nadult = false\n  rule: /age >= 18 = false\n    - found: 17\n";
-    assert!(rt; output.as_slice() == told.as_slice() && messages.is_empty());
+    assert!(rt; streams.output.as_slice() == told.as_slice() && streams.messages.is_empty());
     Ok(())
 }
 

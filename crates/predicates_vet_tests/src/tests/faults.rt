@@ -2,7 +2,7 @@
 //! message.
 use predicates_fakes::{Narrow, Slow};
 use predicates_vet::settings::{Report, Settings};
-use predicates_vet::{Counts, Job, RunFault, Tally, read_checks, run_records};
+use predicates_vet::{Counts, Job, RunFault, Streams, Tally, read_checks, run_records};
 use std::alloc::{AllocError, Global};
 use std::io::ErrorKind;
 use std::test::Fail;
@@ -75,28 +75,22 @@ fn ran(
     let job = Job::new(&checks, &settings);
     let mut tally = Tally::new(alloc, None);
     let mut input = Slow { bytes, end };
-    let mut output = Narrow {
+    let output = Narrow {
         got: Vec::new(alloc),
         room,
         kind,
     };
-    let mut messages = Narrow {
+    let messages = Narrow {
         got: Vec::new(alloc),
         room: message_room,
         kind,
     };
-    let ended = match run_records(
-        alloc,
-        &job,
-        &mut tally,
-        &mut input,
-        &mut output,
-        &mut messages,
-    ) {
+    let mut streams = Streams { output, messages };
+    let ended = match run_records(alloc, &job, &mut tally, &mut input, &mut streams) {
         Ok(()) => Ok(tally.counts),
         Err(fault) => Err(fault),
     };
-    Some((ended, output.got, messages.got))
+    Some((ended, streams.output.got, streams.messages.got))
 }
 
 // Whether the run over the front of the input, with a fault behind it, answers that fault, after

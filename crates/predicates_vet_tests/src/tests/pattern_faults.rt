@@ -1,5 +1,5 @@
 //! What is told of patterns that are no regular expressions.
-use predicates_vet_check::PatternFault;
+use predicates_rule_check::PatternFault;
 use std::test::Fail;
 
 #[test]

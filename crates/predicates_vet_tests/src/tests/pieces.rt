@@ -1,7 +1,7 @@
 //! An input that is cut at each line: with `--id` the objects of both pieces join to those of the
 //! whole.
 use super::combined::RECORDS;
-use super::{run_onto, settings_of};
+use super::{run_of, settings_of};
 use predicates_vet::settings::Report;
 use std::alloc::{AllocError, Global};
 use std::test::Fail;
@@ -16,8 +16,11 @@ fn write_run(
     written: &mut Vec<u8>,
 ) -> Result<bool, AllocError> {
     let settings = settings_of(alloc, report, Some("/x"))?;
-    match run_onto(alloc, &settings, RULES, records, written) {
-        Ok((messages, Ok(_))) => Ok(messages.is_empty()),
+    match run_of(alloc, &settings, RULES, records) {
+        Ok((output, messages, Ok(_))) => {
+            written.extend_from_slice(&output)?;
+            Ok(messages.is_empty())
+        }
         _ => Ok(false),
     }
 }

@@ -1,9 +1,9 @@
 //! Paths that begin at the record, within a list of it.
 use predicates_core::reflection::{Case, render};
 use predicates_core::{Predicate, PredicateChange};
+use predicates_rule_check::check_of;
 use predicates_rules::condition::{Comparison, Condition};
 use predicates_rules::expression::{Expression, Quantifier};
-use predicates_vet_check::check_of;
 use serde_json::Value;
 use std::alloc::{AllocError, Global};
 use std::test::Fail;

@@ -4,7 +4,8 @@ use super::{settings_of, writes as writes_of};
 use predicates_lines::MAX_LINE;
 use predicates_vet::settings::Report;
 use predicates_vet::{
-    Counts, InputFormat, Job, ReadChecksError, RulesFault, Tally, read_checks, run_records, summary,
+    Counts, InputFormat, Job, ReadChecksError, RulesFault, Streams, Tally, read_checks,
+    run_records, summary,
 };
 use std::alloc::{AllocError, Global};
 use std::test::Fail;
@@ -114,18 +115,14 @@ fn writes(alloc: Global, asked: Asked<'_>, told: Told<'_>) -> Result<bool, Fail>
     };
     let mut tally = Tally::of_rules(alloc, &rules, most)?;
     let mut records = RECORDS;
-    let (mut output, mut messages) = (Vec::new(alloc), Vec::new(alloc));
-    run_records(
-        alloc,
-        &job,
-        &mut tally,
-        &mut records,
-        &mut output,
-        &mut messages,
-    )?;
+    let mut streams = Streams {
+        output: Vec::new(alloc),
+        messages: Vec::new(alloc),
+    };
+    run_records(alloc, &job, &mut tally, &mut records, &mut streams)?;
     Ok(
-        output.as_slice() == told.0
-            && messages.as_slice() == told.1
+        streams.output.as_slice() == told.0
+            && streams.messages.as_slice() == told.1
             && tally.counts == COUNTS
             && tally.broken.as_slice() == [2, 2, 1].as_slice(),
     )
@@ -163,16 +160,14 @@ fn lines_that_are_too_long(rt: HostRuntime) -> Result<(), Fail> {
     let mut job = Job::new(&rules, &settings);
     job.max_line = 9;
     let mut tally = Tally::new(alloc, None);
-    let (mut records, mut output, mut messages) = (LONG, Vec::new(alloc), Vec::new(alloc));
-    run_records(
-        alloc,
-        &job,
-        &mut tally,
-        &mut records,
-        &mut output,
-        &mut messages,
-    )?;
-    assert!(rt; output.as_slice() == SHORT_TOLD && messages.as_slice() == LONG_TOLD);
+    let mut records = LONG;
+    let mut streams = Streams {
+        output: Vec::new(alloc),
+        messages: Vec::new(alloc),
+    };
+    run_records(alloc, &job, &mut tally, &mut records, &mut streams)?;
+    assert!(rt; streams.output.as_slice() == SHORT_TOLD);
+    assert!(rt; streams.messages.as_slice() == LONG_TOLD);
     assert!(rt; tally.counts == LONG_COUNTS);
     Ok(())
 }

@@ -1,6 +1,6 @@
 use Rattle.std.proofs.Common.{◌≡◌, ◌++◌, drop, map}
 use Rattle.std.specs.Prelude.{string_bytes}
-use Rattle.predicates_vet_check.specs.RuleChecks.{name_of}
+use Rattle.predicates_rule_check.specs.RuleChecks.{name_of}
 use Rattle.predicates_vet.specs.JUnit.{rules_text}
 use Rattle.predicates_vet.proofs.document.push_rules.Given as goal
 

@@ -5,4 +5,4 @@ use Rattle.predicates_vet.proofs.Firsts.{HaveTaken}
 use Rattle.predicates_vet.proofs.first_blocks.take_firsts.Given as goal
 
 abbrev pub invariant-loop-index : goal.invariant-loop-index
-invariant-loop-index l = HaveTaken l.job l.numbered.number (view l.numbered.value.now) l.index (map string_bytes l.initial.blocks.items) (map string_bytes l.blocks.items)
+invariant-loop-index l = HaveTaken l.job l.record.number (view l.record.value.now) l.index (map string_bytes l.initial.blocks.items) (map string_bytes l.blocks.items)

@@ -4,4 +4,4 @@ use Rattle.predicates_vet.proofs.Keeping.{keeps_where_none}
 use Rattle.predicates_vet.proofs.record.write_json.Goals as goal
 
 pub returns-clause-held : goal.returns-clause-held
-returns-clause-held c = c.is_none.ensures ∙ keeps_where_none (view c.args.value.now) c.args.all c.args.job.now.rules.now c.in_ok-cases.cases.items c.in_ok-cases.ensures
+returns-clause-held c = c.is_none.ensures ∙ keeps_where_none (view c.args.record.now.value.now) c.args.all c.args.job.now.rules.now c.in_ok-cases.cases.items c.in_ok-cases.ensures

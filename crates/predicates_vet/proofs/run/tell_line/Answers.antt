@@ -11,15 +11,15 @@ use Rattle.predicates_vet.proofs.run.tell_line.Goals as goal
 
 pub returns-in_ok-tell_problem-in-None-clause-broken : goal.returns-in_ok-tell_problem-in-None-clause-broken
 returns-in_ok-tell_problem-in-None-clause-broken g c =
-    unread_counted c.args.job.now.rules.now (record_on c.args.line.now.bytes.now) c.args.tally.now.broken.items (ap (option_map view) (sym c.in-None.is) ∙ c.in_ok-record.ensures)
+    unread_counted c.args.job.now.rules.now (record_on c.args.line.now.bytes.now) c.args.tally.now.broken.items (ap (option_map view) (sym c.in-None.is) ∙ c.in_ok-value.ensures)
 
 pub returns-in_ok-tell_problem-in-None-clause-firsts : goal.returns-in_ok-tell_problem-in-None-clause-firsts
 returns-in_ok-tell_problem-in-None-clause-firsts g c =
-    unread_taken c.args.job.now c.args.line.now.number (record_on c.args.line.now.bytes.now) (blocks_of c.args.tally.now) (ap (option_map view) (sym c.in-None.is) ∙ c.in_ok-record.ensures)
+    unread_taken c.args.job.now c.args.line.now.number (record_on c.args.line.now.bytes.now) (blocks_of c.args.tally.now) (ap (option_map view) (sym c.in-None.is) ∙ c.in_ok-value.ensures)
 
 -- a record stands on the line, so no message is written
 pub returns-in_ok-held-in-Some-clause-message : goal.returns-in_ok-held-in-Some-clause-message
 returns-in_ok-held-in-Some-clause-message g c =
     let none = subst (λ found. IsMessageIf (not (is_some found || is_blank c.args.line.now.bytes.now)) c.args.job.now c.args.line.now.number [])
-    (ap (option_map view) (sym c.in-Some.is) ∙ c.in_ok-record.ensures) refl in
+    (ap (option_map view) (sym c.in-Some.is) ∙ c.in_ok-value.ensures) refl in
     ([], none, Appends-nil _)

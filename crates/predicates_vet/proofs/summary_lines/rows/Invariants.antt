@@ -1,5 +1,5 @@
 use Rattle.std.proofs.Common.{◌≡◌, map, take, vec_len}
-use Rattle.predicates_vet_check.specs.RuleChecks.{name_of}
+use Rattle.predicates_rule_check.specs.RuleChecks.{name_of}
 use Rattle.predicates_vet.specs.Summaries.{row_of, rows_of}
 use Rattle.predicates_vet.proofs.summary_lines.rows.Given as goal
 
