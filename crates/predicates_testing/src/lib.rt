@@ -8,6 +8,7 @@ mod changes;
 mod choices;
 mod counting;
 mod escapes;
+mod folder;
 mod from_words;
 mod helpers;
 mod kept_leaves;
@@ -32,6 +33,7 @@ pub use changes::{Changes, find_changes};
 pub use choices::greatest_choice;
 pub use counting::Counting;
 pub use escapes::unescape;
+pub use folder::new_folder;
 pub use from_words::{Combinator, FromWords, Word, answer};
 pub use helpers::{
     are_copied, characters, describe, description, differ, explains, is_described, render_verdict,

@@ -28,7 +28,7 @@ fn compare_numbers(
     outcome.compare_text(column, expected, found.as_str())
 }
 
-// Compares the leaves that the reference program finds, where there are at most nine.
+// Compares the leaves that the reference program finds, where they are few enough for it.
 fn compare_first(outcome: &mut Outcome, formula: &ReferenceFormula, kept: &str) -> Result<()> {
     match first_reason(outcome.alloc, formula)? {
         Some(first) => compare_numbers(outcome, "first reason", kept, first.as_slice()),

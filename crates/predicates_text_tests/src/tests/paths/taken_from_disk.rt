@@ -3,12 +3,13 @@ use super::parts::{Parts, has_parts};
 use predicates_path::FileType::{Dir, File, Other, Symlink};
 use predicates_path::PathFault::{NotFound, NotRegular, Other as Fault};
 use predicates_path::Snapshot;
+use predicates_testing::new_folder;
 use std::alloc::{AllocError, Global};
 use std::io::{Read, Write};
 use std::os::unix::fs::symlink;
 use std::os::unix::io::AsRawFd;
 use std::test::Fail;
-use std::{env, fs, io};
+use std::{fs, io};
 
 // The names in the folder, and what stands under each.
 const ROWS: [(&str, Parts<'static>); 15] = [
@@ -28,21 +29,6 @@ const ROWS: [(&str, Parts<'static>); 15] = [
     ("file/", (Err(Fault), Err(Fault), Err(Fault))),
     ("folder/", (Ok(Dir), Ok(Dir), Err(NotRegular))),
 ];
-
-// Makes a folder that no other test uses.
-fn new_folder(rt: &HostRuntime) -> io::Result<String> {
-    let parent = env::temp_dir(rt)?;
-    let parent = parent.as_path().as_str();
-    for number in 0..10_000u32 {
-        let folder = format!(in rt.alloc(); "{parent}/predicates_path_{number}")?;
-        match fs::create_dir(rt, folder.as_str()) {
-            Ok(()) => return Ok(folder),
-            Err(error) if error.kind() == io::ErrorKind::AlreadyExists => {}
-            Err(error) => return Err(error),
-        }
-    }
-    Err(io::Error::from(io::ErrorKind::AlreadyExists))
-}
 
 // The files in the folder, and the content of each.
 const FILES: [(&str, &[u8]); 5] = [
@@ -113,7 +99,7 @@ fn first_wrong(rt: &HostRuntime, folder: &str) -> io::Result<&'static str> {
 
 #[test]
 fn what_stands_in_a_folder(rt: HostRuntime) -> Result<(), Fail> {
-    let folder = new_folder(&rt)?;
+    let folder = new_folder(&rt, "predicates_path")?;
     let wrong = first_wrong(&rt, folder.as_str());
     fs::remove_dir_all(&rt, folder.as_str())?;
     assert_eq!(rt; wrong?, "none");
@@ -138,7 +124,7 @@ fn is_kept(rt: &HostRuntime, folder: &str, content: &[u8]) -> io::Result<bool> {
 #[test]
 fn a_long_content(rt: HostRuntime) -> Result<(), Fail> {
     let content = bytes(rt.alloc(), 70_001)?;
-    let folder = new_folder(&rt)?;
+    let folder = new_folder(&rt, "predicates_path")?;
     let kept = is_kept(&rt, folder.as_str(), content.as_slice());
     fs::remove_dir_all(&rt, folder.as_str())?;
     assert!(rt; kept?);
