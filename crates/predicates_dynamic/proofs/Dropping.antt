@@ -2,10 +2,9 @@
 use Rattle.std.proofs.Common.{◌≡◌, ℕ, zero, suc, ◌+◌, ◌-◌, ◌<◌, ◌≤◌, List, [], ◌∷◌, ◌++◌, Bool, Option, Some, None, IfSome, Vec, Box, Global, arith, refl, sym, ap, ◌∙◌, subst}
 use Rattle.predicates_core.specs.declared.custom.join.Operator.{Operator}
 use Rattle.predicates_dynamic.specs.declared.check.Check.{Check}
-use Rattle.predicates_dynamic.specs.declared.check.Check.TheFolds.{fold-roll-Check}
-use Rattle.predicates_dynamic.specs.declared.check.Check.TheOpen.{Check-F}
-use Rattle.predicates_dynamic.specs.declared.check.Check.TheVariants.{Leaf, Not, Named, Pair, Row, AtLeast, Odd, Quantified, MembersAtLeast, rolls-Leaf, rolls-Not, rolls-Named, rolls-Pair, rolls-Row, rolls-AtLeast, rolls-Odd, rolls-Quantified, rolls-MembersAtLeast}
-use Rattle.predicates_dynamic.specs.Trees.{Tree, tree_step}
+use Rattle.predicates_dynamic.specs.declared.check.Check.TheVariants.{Leaf, Not, Named, Pair, Row, AtLeast, Odd, Quantified, MembersAtLeast}
+use Rattle.predicates_dynamic.specs.Trees.{computed}
+use Rattle.predicates_dynamic.proofs.Unrolled.{leaf_tree, not_tree, named_tree, pair_tree, row_tree, counted_tree, odd_tree, quantified_tree, members_tree}
 use Rattle.predicates_dynamic.specs.Sizes.{tree_size, size_of, sizes_of, size_left, steps, left_of, left_over}
 
 grow : (n d m : ℕ) → m ≡ d + n → steps n ≤ steps m
@@ -33,48 +32,48 @@ fewer_left n m c d h k =
 smaller_first : (n m c d : ℕ) → n ≤ m → c < d → steps n + c < steps m + d
 smaller_first n m c d h k = let next = more n m h in omega (arith, next, k)
 
-pub leaf_size : {L : Type 0} (V : Type 0) (l : L) → size_of {L = L} {V = V} (Leaf l) ≡ 1
-leaf_size {L} V l = ap (size_of {L = L} {V = V}) (sym (rolls-Leaf l)) ∙ ap tree_size (fold-roll-Check L V (Tree L V) tree_step (Check-F.Leaf l))
+pub leaf_size : {L : Type 0} (V S : Type 0) (l : L) → size_of {L = L} {V = V} {S = S} (Leaf l) ≡ 1
+leaf_size {L} V S l = ap tree_size (leaf_tree {V = V} {S = S} (λ _. computed) l)
 
-module _ {L V : Type 0} where
-  pub not_size : (b : Box (Check L V) Global) → size_of (Not b) ≡ suc (size_of b.value)
-  not_size b = ap size_of (sym (rolls-Not b)) ∙ ap tree_size (fold-roll-Check L V (Tree L V) tree_step (Check-F.Not b))
+module _ {L V S : Type 0} where
+  pub not_size : (s : S) (b : Box (Check L V S) Global) → size_of (Not s b) ≡ suc (size_of b.value)
+  not_size s b = ap tree_size (not_tree (λ _. computed) s b)
 
-  pub named_size : (name : List ℕ) (b : Box (Check L V) Global) → size_of (Named name b) ≡ suc (size_of b.value)
-  named_size name b = ap size_of (sym (rolls-Named name b)) ∙ ap tree_size (fold-roll-Check L V (Tree L V) tree_step (Check-F.Named name b))
+  pub named_size : (name : List ℕ) (b : Box (Check L V S) Global) → size_of (Named name b) ≡ suc (size_of b.value)
+  named_size name b = ap tree_size (named_tree (λ _. computed) name b)
 
-  pub pair_size : (op : Operator) (a b : Box (Check L V) Global) → size_of (Pair op a b) ≡ suc (size_of a.value + size_of b.value)
-  pair_size op a b = ap size_of (sym (rolls-Pair op a b)) ∙ ap tree_size (fold-roll-Check L V (Tree L V) tree_step (Check-F.Pair op a b))
+  pub pair_size : (s : S) (op : Operator) (a b : Box (Check L V S) Global) → size_of (Pair s op a b) ≡ suc (size_of a.value + size_of b.value)
+  pair_size s op a b = ap tree_size (pair_tree (λ _. computed) s op a b)
 
-  pub quantified_size : (decides : Bool) (view : V) (b : Box (Check L V) Global) → size_of (Quantified decides view b) ≡ suc (size_of b.value)
-  quantified_size decides view b = ap size_of (sym (rolls-Quantified decides view b)) ∙ ap tree_size (fold-roll-Check L V (Tree L V) tree_step (Check-F.Quantified decides view b))
+  pub quantified_size : (s : S) (decides : Bool) (view : V) (b : Box (Check L V S) Global) → size_of (Quantified s decides view b) ≡ suc (size_of b.value)
+  quantified_size s decides view b = ap tree_size (quantified_tree (λ _. computed) s decides view b)
 
-  pub members_size : (least : ℕ) (view : V) (b : Box (Check L V) Global) → size_of (MembersAtLeast least view b) ≡ suc (size_of b.value)
-  members_size least view b = ap size_of (sym (rolls-MembersAtLeast least view b)) ∙ ap tree_size (fold-roll-Check L V (Tree L V) tree_step (Check-F.MembersAtLeast least view b))
+  pub members_size : (s : S) (least : ℕ) (view : V) (b : Box (Check L V S) Global) → size_of (MembersAtLeast s least view b) ≡ suc (size_of b.value)
+  members_size s least view b = ap tree_size (members_tree (λ _. computed) s least view b)
 
-  pub row_size : (decides : Bool) (cs : Vec (Check L V) Global) → size_of (Row decides cs) ≡ suc (sizes_of cs.items)
-  row_size decides cs = ap size_of (sym (rolls-Row decides cs)) ∙ ap tree_size (fold-roll-Check L V (Tree L V) tree_step (Check-F.Row decides cs))
+  pub row_size : (s : S) (decides : Bool) (cs : Vec (Check L V S) Global) → size_of (Row s decides cs) ≡ suc (sizes_of cs.items)
+  row_size s decides cs = ap tree_size (row_tree (λ _. computed) s decides cs)
 
-  pub counted_size : (least : ℕ) (cs : Vec (Check L V) Global) → size_of (AtLeast least cs) ≡ suc (sizes_of cs.items)
-  counted_size least cs = ap size_of (sym (rolls-AtLeast least cs)) ∙ ap tree_size (fold-roll-Check L V (Tree L V) tree_step (Check-F.AtLeast least cs))
+  pub counted_size : (s : S) (least : ℕ) (cs : Vec (Check L V S) Global) → size_of (AtLeast s least cs) ≡ suc (sizes_of cs.items)
+  counted_size s least cs = ap tree_size (counted_tree (λ _. computed) s least cs)
 
-  pub odd_size : (cs : Vec (Check L V) Global) → size_of (Odd cs) ≡ suc (sizes_of cs.items)
-  odd_size cs = ap size_of (sym (rolls-Odd cs)) ∙ ap tree_size (fold-roll-Check L V (Tree L V) tree_step (Check-F.Odd cs))
+  pub odd_size : (s : S) (cs : Vec (Check L V S) Global) → size_of (Odd s cs) ≡ suc (sizes_of cs.items)
+  odd_size s cs = ap tree_size (odd_tree (λ _. computed) s cs)
 
-  pub fewer : (a : Check L V) (n : ℕ) (p q : Option (Check L V)) → size_of a + size_left p < n + size_left q → left_over a p < left_of n q
+  pub fewer : (a : Check L V S) (n : ℕ) (p q : Option (Check L V S)) → size_of a + size_left p < n + size_left q → left_over a p < left_of n q
   fewer a n p q h = fewer_left (size_of a + size_left p) (n + size_left q) (size_of a) n h (omega arith)
 
-  pub smaller : (a : Check L V) (n : ℕ) (p q : Option (Check L V)) → size_of a + size_left p ≤ n + size_left q → size_of a < n → left_over a p < left_of n q
+  pub smaller : (a : Check L V S) (n : ℕ) (p q : Option (Check L V S)) → size_of a + size_left p ≤ n + size_left q → size_of a < n → left_over a p < left_of n q
   smaller a n p q h k = smaller_first (size_of a + size_left p) (n + size_left q) (size_of a) n h k
 
-  pub sizes_first : (c : Check L V) (cs : List (Check L V)) → sizes_of (c ∷ cs) ≡ sizes_of cs + size_of c
+  pub sizes_first : (c : Check L V S) (cs : List (Check L V S)) → sizes_of (c ∷ cs) ≡ sizes_of cs + size_of c
   sizes_first c cs = omega arith
 
-  pub sizes_last : (cs : List (Check L V)) (c : Check L V) → sizes_of (cs ++ c ∷ []) ≡ sizes_of cs + size_of c
+  pub sizes_last : (cs : List (Check L V S)) (c : Check L V S) → sizes_of (cs ++ c ∷ []) ≡ sizes_of cs + size_of c
   sizes_last [] c = omega arith
   sizes_last (d ∷ cs) c = let ih = sizes_last cs c in omega (arith, ih)
 
   -- nothing is left of the check itself
-  pub then_waiting : (n : ℕ) (q : Option (Check L V)) (r : Option (Check L V × Option (Check L V))) → 0 < n → IfSome r (λ next. (size_left next.1 ≡ 0) × (size_of next.0 ≡ size_left q)) → IfSome r (λ next. left_over next.0 next.1 < left_of n q)
+  pub then_waiting : (n : ℕ) (q : Option (Check L V S)) (r : Option (Check L V S × Option (Check L V S))) → 0 < n → IfSome r (λ next. (size_left next.1 ≡ 0) × (size_of next.0 ≡ size_left q)) → IfSome r (λ next. left_over next.0 next.1 < left_of n q)
   then_waiting n q None some h = tt
   then_waiting n q (Some next) some h = fewer next.0 n next.1 q (let e = h.0 in let f = h.1 in omega (arith, e, f, some))

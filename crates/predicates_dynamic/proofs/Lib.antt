@@ -2,3 +2,4 @@ pub mod Rows
 pub mod OddRows
 pub mod Listing
 pub mod Dropping
+mod Unrolled

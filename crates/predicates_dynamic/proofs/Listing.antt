@@ -10,9 +10,8 @@ use Rattle.predicates_core.specs.Parts.{Part, part_of_each}
 use Rattle.predicates_core.specs.Several.{further_texts, listed_text}
 use Rattle.predicates_core.specs.Tree.{Forest, empty, branch}
 use Rattle.predicates_dynamic.specs.declared.check.Check.{Check}
-use Rattle.predicates_core.specs.Thresholds.{counted_text}
-use Rattle.predicates_dynamic.specs.Trees.{Rows, Counts, Odds, trees_of, tree_of}
-use Rattle.predicates_dynamic.specs.Formulas.{tree_text, tree_texts, check_text, word}
+use Rattle.predicates_dynamic.specs.Trees.{Words, trees_of, tree_of}
+use Rattle.predicates_dynamic.specs.Formulas.{tree_texts, check_text}
 use Rattle.predicates_dynamic.specs.Described.{row_parts, check_parameters, check_parts}
 use Rattle.predicates_dynamic.specs.Listed.{joined_texts, row_text, text_at}
 
@@ -42,7 +41,7 @@ joined_last [] t = nothing_behind t ∙ sym (nothing_before t)
 joined_last (s ∷ ts) t = ap (λ z. s ++? z) (further_last ts t) ∙ sym (append_joined s (further_texts ts) (Some (codes ", ") ++? t))
 
 -- the texts, apart from where the first one ends
-listed : (before : List ℕ) (ts : List (Option (List ℕ))) → listed_text before ts ≡ row_text before (joined_texts ts)
+pub listed : (before : List ℕ) (ts : List (Option (List ℕ))) → listed_text before ts ≡ row_text before (joined_texts ts)
 listed before [] = refl
 listed before (t ∷ ts) = ap (λ z. Some before ++? (Some (codes "(") ++? z)) (sym (append_joined t (further_texts ts) (Some (codes ")"))))
 
@@ -73,25 +72,16 @@ module _ {W : Type 0} (took : W → List ℕ → W → Type 0) where
       ap (λ z. further_texts (map output z)) one_more ∙ ap further_texts (map-append output (take k us) (u ∷ [])) ∙ further_last (map output (take k us)) (output u) in
       subst (λ o. DisplaysOnOk took f (Ok tt) o h) (sym texts) (displays_on_IsOk_append took f g h (Ok tt) (Ok tt) _ _ (λ ok. refl) x y)
 
-module _ {L V : Type 0} (text : L → Entry) (view_text : V → Entry) where
-  each_text : (cs : List (Check L V)) → tree_texts text view_text (trees_of (map tree_of cs)) ≡ map (check_text text view_text) cs
+module _ {L V S : Type 0} (text : L → Entry) (view_text : V → Entry) (words : S → Words) where
+  pub each_text : (cs : List (Check L V S)) → tree_texts text view_text (trees_of (map (tree_of words) cs)) ≡ map (check_text text view_text words) cs
   each_text [] = refl
-  each_text (c ∷ cs) = ap (λ ts. check_text text view_text c ∷ ts) (each_text cs)
-
-  pub row_is : (decides : Bool) (cs : List (Check L V)) → tree_text text view_text (Rows decides (trees_of (map tree_of cs))) ≡ row_text (word decides) (joined_texts (map (check_text text view_text) cs))
-  row_is decides cs = ap (listed_text (word decides)) (each_text cs) ∙ listed (word decides) (map (check_text text view_text) cs)
-
-  pub counted_is : (least : ℕ) (cs : List (Check L V)) → tree_text text view_text (Counts least (trees_of (map tree_of cs))) ≡ counted_text (codes "at_least") least (map (check_text text view_text) cs)
-  counted_is least cs = ap (counted_text (codes "at_least") least) (each_text cs)
-
-  pub odd_is : (cs : List (Check L V)) → tree_text text view_text (Odds (trees_of (map tree_of cs))) ≡ row_text (codes "odd_of") (joined_texts (map (check_text text view_text) cs))
-  odd_is cs = ap (listed_text (codes "odd_of")) (each_text cs) ∙ listed (codes "odd_of") (map (check_text text view_text) cs)
+  each_text (c ∷ cs) = ap (λ ts. check_text text view_text words c ∷ ts) (each_text cs)
 
   module _ (parameters : L → List Product) (below : L → Forest Part) where
-    pub each_described : (cs : List (Check L V)) → row_parts text view_text parameters below (trees_of (map tree_of cs)) ≡ part_of_each (codes "rule") (check_text text view_text) (check_parameters parameters) (check_parts text view_text parameters below) cs
-    each_described [] = refl
-    each_described (c ∷ cs) = λ i. branch (codes "rule") (record { text = check_text text view_text c; parameters = check_parameters parameters c }) (check_parts text view_text parameters below c) (each_described cs i)
+    pub each_described : (name : List ℕ) (cs : List (Check L V S)) → row_parts text view_text parameters below name (trees_of (map (tree_of words) cs)) ≡ part_of_each name (check_text text view_text words) (check_parameters parameters words) (check_parts text view_text parameters below words) cs
+    each_described name [] = refl
+    each_described name (c ∷ cs) = λ i. branch name (record { text = check_text text view_text words c; parameters = check_parameters parameters words c }) (check_parts text view_text parameters below words c) (each_described name cs i)
 
-    pub no_parts : (cs : List (Check L V)) → row_parts text view_text parameters below (trees_of (map tree_of cs)) ≡ empty → cs ≡ []
-    no_parts [] e = refl
-    no_parts (c ∷ cs) e = absurd (cc)
+    pub no_parts : (name : List ℕ) (cs : List (Check L V S)) → row_parts text view_text parameters below name (trees_of (map (tree_of words) cs)) ≡ empty → cs ≡ []
+    no_parts name [] e = refl
+    no_parts name (c ∷ cs) e = absurd (cc)

@@ -63,6 +63,10 @@ pub some_of_length : {U : Type 0} (us : List U) → (length us == 0) ≡ false �
 some_of_length [] e is = absurd (let apart : true ≡ false = e in cc)
 some_of_length (u ∷ us) e is = cc
 
+pub none_of_length : {U : Type 0} (us : List U) → (length us == 0) ≡ true → us ≡ []
+none_of_length [] e = refl
+none_of_length (u ∷ us) e = absurd (let apart : false ≡ true = sym (suc_not_zero (length us)) ∙ e in cc)
+
 pub zip_more : {A B : Type 0} (R : A → B → Type 0) (us : List A) (ys : List B) (k : ℕ) (u : A) (y : B) → k < length us → u ≡ get_or us k u → AllZip R (take k us) ys → R u y → AllZip R (take (k + 1) us) (ys ++ y ∷ [])
 zip_more R us ys k u y within is h r = subst (λ z. AllZip R z (ys ++ y ∷ [])) (ap (λ z. take k us ++ z ∷ []) is ∙ sym (take_more us k u within)) (all_zip_last R (take k us) ys h r)
 

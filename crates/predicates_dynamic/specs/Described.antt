@@ -1,29 +1,29 @@
 -- What a check tells of its parts, from what its leaves tell.
-use Rattle.std.specs.Prelude.{List, [], codes}
+use Rattle.std.specs.Prelude.{ℕ, List, [], codes}
 use Rattle.predicates_core.specs.Label.{Entry, Product}
 use Rattle.predicates_core.specs.Parts.{Part, part, two_parts}
 use Rattle.predicates_core.specs.Tree.{Forest, empty, branch}
 use Rattle.predicates_dynamic.specs.declared.check.Check.{Check}
 use Rattle.predicates_dynamic.specs.Trees.{Tree, Trees, Asks, Denies, Names, Pairs, Rows, Counts}
 use Rattle.predicates_dynamic.specs.Trees.{Odds, Quantifies, CountsMembers}
-use Rattle.predicates_dynamic.specs.Trees.{nothing, also, tree_of}
+use Rattle.predicates_dynamic.specs.Trees.{Words, nothing, also, tree_of}
 use Rattle.predicates_dynamic.specs.Formulas.{tree_text}
 
 module _ {L V : Type 0} (parameters : L → List Product) where
   -- only a leaf has parameters
   abbrev pub tree_parameters : Tree L V → List Product
   tree_parameters (Asks l) = parameters l
-  tree_parameters (Denies t) = []
+  tree_parameters (Denies w t) = []
   tree_parameters (Names name t) = []
-  tree_parameters (Pairs op a b) = []
-  tree_parameters (Rows decides ts) = []
-  tree_parameters (Counts least ts) = []
-  tree_parameters (Odds ts) = []
-  tree_parameters (Quantifies decides view t) = []
-  tree_parameters (CountsMembers least view t) = []
+  tree_parameters (Pairs w op a b) = []
+  tree_parameters (Rows w decides ts) = []
+  tree_parameters (Counts w least ts) = []
+  tree_parameters (Odds w ts) = []
+  tree_parameters (Quantifies w decides view t) = []
+  tree_parameters (CountsMembers w least view t) = []
 
-  abbrev pub check_parameters : Check L V → List Product
-  check_parameters c = tree_parameters (tree_of c)
+  abbrev pub check_parameters : {S : Type 0} → (S → Words) → Check L V S → List Product
+  check_parameters words c = tree_parameters (tree_of words c)
 
 module _ {L V : Type 0} (text : L → Entry) (view_text : V → Entry) (parameters : L → List Product)
     (below : L → Forest Part) where
@@ -31,26 +31,27 @@ module _ {L V : Type 0} (text : L → Entry) (view_text : V → Entry) (paramete
     -- a leaf has its own parts
     pub tree_parts : Tree L V → Forest Part
     tree_parts (Asks l) = below l
-    tree_parts (Denies t) = part (codes "predicate") (tree_text text view_text t)
+    tree_parts (Denies w t) = part (codes "predicate") (tree_text text view_text t)
         (tree_parameters parameters t) (tree_parts t)
     tree_parts (Names name t) = part name (tree_text text view_text t)
         (tree_parameters parameters t) (tree_parts t)
-    tree_parts (Pairs op a b) = two_parts
+    tree_parts (Pairs w op a b) = two_parts
         (codes "left") (tree_text text view_text a) (tree_parameters parameters a) (tree_parts a)
         (codes "right") (tree_text text view_text b) (tree_parameters parameters b) (tree_parts b)
-    tree_parts (Rows decides ts) = row_parts ts
-    tree_parts (Counts least ts) = row_parts ts
-    tree_parts (Odds ts) = row_parts ts
-    tree_parts (Quantifies decides view t) = part (codes "item") (tree_text text view_text t)
+    tree_parts (Rows w decides ts) = row_parts w.part ts
+    tree_parts (Counts w least ts) = row_parts w.part ts
+    tree_parts (Odds w ts) = row_parts w.part ts
+    tree_parts (Quantifies w decides view t) = part (codes "item") (tree_text text view_text t)
         (tree_parameters parameters t) (tree_parts t)
-    tree_parts (CountsMembers least view t) = part (codes "item") (tree_text text view_text t)
+    tree_parts (CountsMembers w least view t) = part (codes "item") (tree_text text view_text t)
         (tree_parameters parameters t) (tree_parts t)
 
-    pub row_parts : Trees L V → Forest Part
-    row_parts nothing = empty
-    row_parts (also t ts) = branch (codes "rule")
+    -- those of a row, under the name
+    pub row_parts : List ℕ → Trees L V → Forest Part
+    row_parts name nothing = empty
+    row_parts name (also t ts) = branch name
         (record { text = tree_text text view_text t; parameters = tree_parameters parameters t })
-        (tree_parts t) (row_parts ts)
+        (tree_parts t) (row_parts name ts)
 
-  abbrev pub check_parts : Check L V → Forest Part
-  check_parts c = tree_parts (tree_of c)
+  abbrev pub check_parts : {S : Type 0} → (S → Words) → Check L V S → Forest Part
+  check_parts words c = tree_parts (tree_of words c)

@@ -1,23 +1,23 @@
 -- What a check prints, and its formulas, from those of its leaves.
 use Rattle.std.specs.Prelude.{◌≡◌, ℕ, suc, ◌≤◌, List, [], ◌∷◌, Bool, true, false, not, Option}
-use Rattle.std.specs.Prelude.{Some, codes}
+use Rattle.std.specs.Prelude.{Some, None, codes}
 use Rattle.std.specs.Fmt.{decimal, ◌++?◌}
 use Rattle.predicates_core.specs.declared.custom.join.Operator.TheVariants.{Xor}
-use Rattle.predicates_core.specs.Label.{Entry, plain}
+use Rattle.predicates_core.specs.Label.{Entry, Product, plain}
 use Rattle.predicates_core.specs.Formula.{Formula, Join, Not, Named, AtLeast, Formulas, one, more}
 use Rattle.predicates_core.specs.Formula.{pair}
 use Rattle.predicates_core.specs.Leaves.{IsExactly}
 use Rattle.predicates_core.specs.Combined.{infix_text, not_text, sign, IsPair, IsNot, IsNamed}
-use Rattle.predicates_core.specs.Present.{IsOfPresent, present_formula}
 use Rattle.predicates_core.specs.Several.{decided_by, numbered, no_members, listed_text}
 use Rattle.predicates_core.specs.Several.{IsOfMembers, members_formula}
 use Rattle.predicates_core.specs.Thresholds.{IsSettled, settled, counted_text, threshold_formula}
 use Rattle.predicates_core.specs.Thresholds.{IsOfThreshold}
 use Rattle.predicates_dynamic.specs.declared.check.Check.{Check}
 use Rattle.predicates_dynamic.specs.OddRows.{IsOddRowOf}
+use Rattle.predicates_dynamic.specs.Viewed.{IsViewed, viewed_formula}
 use Rattle.predicates_dynamic.specs.Trees.{Tree, Trees, Asks, Denies, Names, Pairs, Rows, Counts}
 use Rattle.predicates_dynamic.specs.Trees.{Odds, Quantifies, CountsMembers, nothing, also}
-use Rattle.predicates_dynamic.specs.Trees.{tree_of}
+use Rattle.predicates_dynamic.specs.Trees.{Words, node_words, tree_of}
 
 -- there are no trees
 abbrev pub IsNothing : {L V : Type 0} → Trees L V → Type 0
@@ -71,114 +71,127 @@ abbrev pub members_text : ℕ → Entry → Entry → Entry
 members_text least view inner = Some (codes "at_least ") ++? Some (decimal least)
     ++? Some (codes " ") ++? viewed_text view inner
 
+-- a text that is kept, or else the one that is computed
+abbrev pub kept_or : Option (List ℕ) → Entry → Entry
+kept_or None own = own
+kept_or (Some text) own = Some text
+
+-- what the node on top prints, from the text that is computed for it
+abbrev pub worded : {L V : Type 0} → Tree L V → Entry → Entry
+worded t own = kept_or (node_words t).text own
+
 module _ {L V : Type 0} (text : L → Entry) (view_text : V → Entry) where
   abbrev mutual
-    -- the printed text
-    pub tree_text : Tree L V → Entry
-    tree_text (Asks l) = text l
-    tree_text (Denies t) = not_text (tree_text t)
-    tree_text (Names name t) = Some name
-    tree_text (Pairs op a b) = infix_text (sign op) (tree_text a) (tree_text b)
-    tree_text (Rows decides ts) = listed_text (word decides) (tree_texts ts)
-    tree_text (Counts least ts) = counted_text (codes "at_least") least (tree_texts ts)
-    tree_text (Odds ts) = listed_text (codes "odd_of") (tree_texts ts)
-    tree_text (Quantifies decides view t) =
-        quantified_text decides (view_text view) (tree_text t)
-    tree_text (CountsMembers least view t) = members_text least (view_text view) (tree_text t)
+    -- the text that is computed from those of the parts
+    pub own_text : Tree L V → Entry
+    own_text (Asks l) = text l
+    own_text (Denies w t) = not_text (worded t (own_text t))
+    own_text (Names name t) = Some name
+    own_text (Pairs w op a b) =
+        infix_text (sign op) (worded a (own_text a)) (worded b (own_text b))
+    own_text (Rows w decides ts) = listed_text (word decides) (tree_texts ts)
+    own_text (Counts w least ts) = counted_text (codes "at_least") least (tree_texts ts)
+    own_text (Odds w ts) = listed_text (codes "odd_of") (tree_texts ts)
+    own_text (Quantifies w decides view t) =
+        quantified_text decides (view_text view) (worded t (own_text t))
+    own_text (CountsMembers w least view t) =
+        members_text least (view_text view) (worded t (own_text t))
 
     pub tree_texts : Trees L V → List Entry
     tree_texts nothing = []
-    tree_texts (also t ts) = tree_text t ∷ tree_texts ts
+    tree_texts (also t ts) = worded t (own_text t) ∷ tree_texts ts
 
-  abbrev pub check_text : Check L V → Entry
-  check_text c = tree_text (tree_of c)
+  -- the printed text
+  abbrev pub tree_text : Tree L V → Entry
+  tree_text t = worded t (own_text t)
+
+  abbrev pub check_text : {S : Type 0} → (S → Words) → Check L V S → Entry
+  check_text words c = tree_text (tree_of words c)
 
   module _ {Item : Type 0} (has : L → Item → Formula → Type 0)
-      (members : V → Item → Option (List Item)) (reason : V → Item → List ℕ) where
+      (gives : V → Item → Option (List Item) → Type 0) (absence : V → Item → List Product) where
     abbrev mutual
       -- f is a formula of the tree on the item, by those of its leaves
       pub HasFormula : Item → Tree L V → Formula → Type 0
       HasFormula v (Asks l) f = has l v f
-      HasFormula v (Denies t) f = IsNot (not_text (tree_text t)) (HasFormula v t) f
+      HasFormula v (Denies w t) f = IsNot (tree_text (Denies w t)) (HasFormula v t) f
       HasFormula v (Names name t) f = IsNamed name (HasFormula v t) f
-      HasFormula v (Pairs op a b) f = IsPair op
-          (infix_text (sign op) (tree_text a) (tree_text b)) (HasFormula v a) (HasFormula v b) f
-      HasFormula v (Rows decides nothing) f = IsExactly
-          (no_members (tree_text (Rows decides nothing)) (not decides)) f
-      HasFormula v (Rows decides (also t ts)) f = IsRowOf decides
-          (tree_text (Rows decides (also t ts))) (AreFormulas v (also t ts)) f
-      HasFormula v (Counts least ts) f = IsThresholdOf least (number_of ts)
-          (counted_text (codes "at_least") least (tree_texts ts)) (AreFormulas v ts) f
-      HasFormula v (Odds nothing) f = IsExactly (no_members (tree_text (Odds nothing)) false) f
-      HasFormula v (Odds (also t ts)) f = IsOddRowOf (tree_text (Odds (also t ts)))
-          (AreFormulas v (also t ts)) f
-      HasFormula v (Quantifies decides view t) f = IsOfPresent
-          (quantified_text decides (view_text view) (tree_text t)) (reason view v)
-          (IsOfMembers decides (quantified_text decides (view_text view) (tree_text t))
-          (codes "item") (λ member. HasFormula member t)) (members view v) f
-      HasFormula v (CountsMembers least view t) f = IsOfPresent
-          (members_text least (view_text view) (tree_text t)) (reason view v)
-          (IsOfThreshold least (members_text least (view_text view) (tree_text t))
-          (codes "item") (λ member. HasFormula member t)) (members view v) f
+      HasFormula v (Pairs w op a b) f =
+          IsPair op (tree_text (Pairs w op a b)) (HasFormula v a) (HasFormula v b) f
+      HasFormula v (Rows w decides nothing) f = IsExactly
+          (no_members (tree_text (Rows w decides nothing)) (not decides)) f
+      HasFormula v (Rows w decides (also t ts)) f = IsRowOf decides
+          (tree_text (Rows w decides (also t ts))) (AreFormulas w.part v (also t ts)) f
+      HasFormula v (Counts w least ts) f = IsThresholdOf least (number_of ts)
+          (tree_text (Counts w least ts)) (AreFormulas w.part v ts) f
+      HasFormula v (Odds w nothing) f =
+          IsExactly (no_members (tree_text (Odds w nothing)) false) f
+      HasFormula v (Odds w (also t ts)) f = IsOddRowOf (tree_text (Odds w (also t ts)))
+          (AreFormulas w.part v (also t ts)) f
+      HasFormula v (Quantifies w decides view t) f = IsViewed
+          (tree_text (Quantifies w decides view t)) (absence view v)
+          (IsOfMembers decides (tree_text (Quantifies w decides view t))
+          (codes "item") (λ member. HasFormula member t)) (gives view v) f
+      HasFormula v (CountsMembers w least view t) f = IsViewed
+          (tree_text (CountsMembers w least view t)) (absence view v)
+          (IsOfThreshold least (tree_text (CountsMembers w least view t))
+          (codes "item") (λ member. HasFormula member t)) (gives view v) f
 
-      -- each tree has one of the formulas, in order and under `rule`
-      pub AreFormulas : Item → Trees L V → Formulas → Type 0
-      AreFormulas v nothing fs = ⊥
-      AreFormulas v (also t ts) (one n f) =
-          (n ≡ codes "rule") × HasFormula v t f × IsNothing ts
-      AreFormulas v (also t ts) (more n f fs) =
-          (n ≡ codes "rule") × HasFormula v t f × AreFormulas v ts fs
+      -- each tree has one of the formulas, in order and under the name
+      pub AreFormulas : List ℕ → Item → Trees L V → Formulas → Type 0
+      AreFormulas name v nothing fs = ⊥
+      AreFormulas name v (also t ts) (one n f) =
+          (n ≡ name) × HasFormula v t f × IsNothing ts
+      AreFormulas name v (also t ts) (more n f fs) =
+          (n ≡ name) × HasFormula v t f × AreFormulas name v ts fs
 
-    abbrev pub Has : Item → Check L V → Formula → Type 0
-    Has v c = HasFormula v (tree_of c)
+    abbrev pub Has : {S : Type 0} → (S → Words) → Item → Check L V S → Formula → Type 0
+    Has words v c = HasFormula v (tree_of words c)
 
     -- the same of a check, on one item after the other
-    abbrev pub HasOn : Check L V → Item → Formula → Type 0
-    HasOn c v = HasFormula v (tree_of c)
+    abbrev pub HasOn : {S : Type 0} → (S → Words) → Check L V S → Item → Formula → Type 0
+    HasOn words c v = HasFormula v (tree_of words c)
 
 -- the one formula, where each leaf has one
 module _ {L V Item : Type 0} (text : L → Entry) (view_text : V → Entry)
     (formula_of : L → Item → Formula) (members : V → Item → Option (List Item))
-    (reason : V → Item → List ℕ) where
+    (absence : V → Item → List Product) where
   abbrev mutual
     pub tree_formula : Item → Tree L V → Formula
     tree_formula v (Asks l) = formula_of l v
-    tree_formula v (Denies t) = Not (plain (not_text (tree_text text view_text t)))
-        (tree_formula v t)
+    tree_formula v (Denies w t) =
+        Not (plain (tree_text text view_text (Denies w t))) (tree_formula v t)
     tree_formula v (Names name t) = Named (plain (Some name)) name (tree_formula v t)
-    tree_formula v (Pairs op a b) = pair op (plain
-        (infix_text (sign op) (tree_text text view_text a) (tree_text text view_text b)))
+    tree_formula v (Pairs w op a b) = pair op (plain (tree_text text view_text (Pairs w op a b)))
         (tree_formula v a) (tree_formula v b)
-    tree_formula v (Rows decides nothing) =
-        no_members (tree_text text view_text (Rows decides nothing)) (not decides)
-    tree_formula v (Rows decides (also t ts)) = Join (decided_by decides)
-        (numbered (tree_text text view_text (Rows decides (also t ts))) decides
-        (part_formulas v (tree_formula v t) ts))
-        (part_formulas v (tree_formula v t) ts)
-    tree_formula v (Counts least ts) = threshold_formula least
-        (counted_text (codes "at_least") least (tree_texts text view_text ts)) (codes "rule")
-        (λ f. f) (tree_formulas v ts)
-    tree_formula v (Odds nothing) = no_members (tree_text text view_text (Odds nothing)) false
-    tree_formula v (Odds (also t ts)) =
-        Join Xor (plain (tree_text text view_text (Odds (also t ts))))
-        (part_formulas v (tree_formula v t) ts)
-    tree_formula v (Quantifies decides view t) = present_formula
-        (quantified_text decides (view_text view) (tree_text text view_text t)) (reason view v)
-        (members_formula decides
-        (quantified_text decides (view_text view) (tree_text text view_text t))
+    tree_formula v (Rows w decides nothing) =
+        no_members (tree_text text view_text (Rows w decides nothing)) (not decides)
+    tree_formula v (Rows w decides (also t ts)) = Join (decided_by decides)
+        (numbered (tree_text text view_text (Rows w decides (also t ts))) decides
+        (part_formulas w.part v (tree_formula v t) ts))
+        (part_formulas w.part v (tree_formula v t) ts)
+    tree_formula v (Counts w least ts) = threshold_formula least
+        (tree_text text view_text (Counts w least ts)) w.part (λ f. f) (tree_formulas v ts)
+    tree_formula v (Odds w nothing) =
+        no_members (tree_text text view_text (Odds w nothing)) false
+    tree_formula v (Odds w (also t ts)) =
+        Join Xor (plain (tree_text text view_text (Odds w (also t ts))))
+        (part_formulas w.part v (tree_formula v t) ts)
+    tree_formula v (Quantifies w decides view t) = viewed_formula
+        (tree_text text view_text (Quantifies w decides view t)) (absence view v)
+        (members_formula decides (tree_text text view_text (Quantifies w decides view t))
         (codes "item") (λ member. tree_formula member t)) (members view v)
-    tree_formula v (CountsMembers least view t) = present_formula
-        (members_text least (view_text view) (tree_text text view_text t)) (reason view v)
-        (threshold_formula least
-        (members_text least (view_text view) (tree_text text view_text t))
+    tree_formula v (CountsMembers w least view t) = viewed_formula
+        (tree_text text view_text (CountsMembers w least view t)) (absence view v)
+        (threshold_formula least (tree_text text view_text (CountsMembers w least view t))
         (codes "item") (λ member. tree_formula member t)) (members view v)
 
     pub tree_formulas : Item → Trees L V → List Formula
     tree_formulas v nothing = []
     tree_formulas v (also t ts) = tree_formula v t ∷ tree_formulas v ts
 
-    -- a first formula, and those of the others, under `rule`
-    pub part_formulas : Item → Formula → Trees L V → Formulas
-    part_formulas v f nothing = one (codes "rule") f
-    part_formulas v f (also t ts) =
-        more (codes "rule") f (part_formulas v (tree_formula v t) ts)
+    -- a first formula, and those of the others, under the name
+    pub part_formulas : List ℕ → Item → Formula → Trees L V → Formulas
+    part_formulas name v f nothing = one name f
+    part_formulas name v f (also t ts) =
+        more name f (part_formulas name v (tree_formula v t) ts)

@@ -4,12 +4,10 @@ use Rattle.std.specs.Prelude.{Bool, ◌&&◌, cond, nat_le, Option, Some, None, 
 use Rattle.std.specs.List.{AllByRecursion}
 use Rattle.std.proofs.Common.{sym, ap, ◌∙◌, subst}
 use Rattle.std.proofs.lemmas.List.{length-map, map-id}
-use Rattle.predicates_core.specs.Label.{Entry, FitsEntry}
+use Rattle.predicates_core.specs.Label.{Entry, FitsEntry, Product}
 use Rattle.predicates_core.specs.Formula.{Formula, Formulas, one, more, Join, AtLeast, text_of}
 use Rattle.predicates_core.specs.Label.{plain}
 use Rattle.predicates_core.specs.declared.custom.join.Operator.TheVariants.{Xor}
-use Rattle.predicates_core.specs.Present.{IsOfPresent, present_formula, present_text_fits}
-use Rattle.predicates_core.specs.Present.{one_present, has_present}
 use Rattle.predicates_core.specs.LeafLaws.{exactly_text_fits, one_exactly, fits_itself}
 use Rattle.predicates_core.specs.Several.{AreOfEach, decided_by, numbered, IsOfMembers}
 use Rattle.predicates_core.specs.Several.{members_formula, formulas_of}
@@ -23,9 +21,10 @@ use Rattle.predicates_core.proofs.ThresholdCases.{threshold_text_fits, one_by_th
 use Rattle.predicates_core.proofs.ThresholdCases.{has_threshold}
 use Rattle.predicates_dynamic.specs.Trees.{Tree, Trees, Asks, Denies, Names, Pairs, Rows, Counts}
 use Rattle.predicates_dynamic.specs.Trees.{Odds, Quantifies, CountsMembers}
-use Rattle.predicates_dynamic.specs.Trees.{nothing, also, AllLeaves, AllOfTrees}
+use Rattle.predicates_dynamic.specs.Trees.{Words, nothing, also, AllLeaves, AllOfTrees}
+use Rattle.predicates_dynamic.specs.Viewed.{IsViewed, viewed_formula, viewed_text_fits}
+use Rattle.predicates_dynamic.specs.Viewed.{one_viewed, has_viewed}
 use Rattle.predicates_dynamic.specs.Formulas.{tree_text, HasFormula, AreFormulas}
-use Rattle.predicates_dynamic.specs.Formulas.{quantified_text, members_text}
 use Rattle.predicates_dynamic.specs.Formulas.{IsNothing, IsThresholdOf, number_of}
 use Rattle.predicates_dynamic.specs.Formulas.{tree_formula, tree_formulas, part_formulas}
 
@@ -68,139 +67,142 @@ threshold_read least text name read g (u ∷ us) =
     (AtLeast least (plain text) (sym (formulas_read name read g u us) i))
     (settled text least (suc (sym number i))))
 
-has_present_read : {U K : Type 0} (text : Entry) (reason : List ℕ)
-    (have : List U → Formula → Type 0) {read : U → K} (form : List K → Formula)
-    (held : Option (List U))
-    → ((us : List U) → have us (form (map read us))) → IsOfPresent text reason have held
-    (present_formula text reason form (option_map (map read) held))
-has_present_read text reason have {read} form None each =
-    has_present text reason have (λ us. form (map read us)) None each
-has_present_read text reason have {read} form (Some us) each =
-    has_present text reason have (λ ws. form (map read ws)) (Some us) each
-
 unread : {Item : Type 0} (held : Option (List Item)) → option_map (map (λ u. u)) held ≡ held
 unread None = refl
 unread (Some us) = ap Some (map-id us)
 
--- where an item is read as it is
+-- where a view gives nothing
+pub none_read : {U K : Type 0} (read : U → K) {o : Option (List U)} → None ≡ o
+    → option_map (map read) o ≡ None
+none_read read is = ap (option_map (map read)) (sym is)
+
+-- where an item is read as it is, and a view gives one list
 pub members_as_they_are : {V Item : Type 0} (members : V → Item → Option (List Item)) (view : V)
-    (v : Item) → option_map (map (λ u. u)) (members view v) ≡ members view v
-members_as_they_are members view v = unread (members view v)
+    (v : Item) (o : Option (List Item)) → members view v ≡ o
+    → option_map (map (λ u. u)) o ≡ members view v
+members_as_they_are members view v o is = unread o ∙ sym is
 
 module _ {L V Item : Type 0} (text : L → Entry) (view_text : V → Entry)
-    (has : L → Item → Formula → Type 0) (members : V → Item → Option (List Item))
-    (reason : V → Item → List ℕ) where
-  are_of_each : (v : Item) (ts : Trees L V) (fs : Formulas)
-      → AreFormulas text view_text has members reason v ts fs
-      → AreOfEach (codes "rule") (HasFormula text view_text has members reason v) (listed ts) fs
-  are_of_each v nothing fs h = h
-  are_of_each v (also t ts) (one n f) h = (h.0, h.1, no_trees ts h.2)
-  are_of_each v (also t ts) (more n f fs) h = (h.0, h.1, are_of_each v ts fs h.2)
+    (has : L → Item → Formula → Type 0) (gives : V → Item → Option (List Item) → Type 0)
+    (absence : V → Item → List Product) where
+  are_of_each : (name : List ℕ) (v : Item) (ts : Trees L V) (fs : Formulas)
+      → AreFormulas text view_text has gives absence name v ts fs
+      → AreOfEach name (HasFormula text view_text has gives absence v) (listed ts) fs
+  are_of_each name v nothing fs h = h
+  are_of_each name v (also t ts) (one n f) h = (h.0, h.1, no_trees ts h.2)
+  are_of_each name v (also t ts) (more n f fs) h = (h.0, h.1, are_of_each name v ts fs h.2)
 
-  of_listed : (v : Item) (least : ℕ) (ts : Trees L V) (f : Formula)
-      → HasFormula text view_text has members reason v (Counts least ts) f
-      → IsOfThreshold least (tree_text text view_text (Counts least ts)) (codes "rule")
-      (HasFormula text view_text has members reason v) (listed ts) f
-  of_listed v least ts f h =
-      let x = subst (λ n. IsThresholdOf least n (tree_text text view_text (Counts least ts))
-      (AreFormulas text view_text has members reason v ts) f) (number_listed ts) h in
+  of_listed : (v : Item) (w : Words) (least : ℕ) (ts : Trees L V) (f : Formula)
+      → HasFormula text view_text has gives absence v (Counts w least ts) f
+      → IsOfThreshold least (tree_text text view_text (Counts w least ts)) w.part
+      (HasFormula text view_text has gives absence v) (listed ts) f
+  of_listed v w least ts f h =
+      let x = subst (λ n. IsThresholdOf least n (tree_text text view_text (Counts w least ts))
+      (AreFormulas text view_text has gives absence w.part v ts) f) (number_listed ts) h in
       record {
         of_settled = x.of_settled;
         of_counted = λ some within.
             let c = x.of_counted some within in
             record {
               formulas = c.formulas;
-              of_each = are_of_each v ts c.formulas c.of_each;
+              of_each = are_of_each w.part v ts c.formulas c.of_each;
               is = c.is;
             };
       }
 
   module _ (fits : (l : L) (v : Item) (f : Formula) → has l v f → FitsEntry (text_of f) (text l))
-    where
-      pub tree_text_fits : (v : Item) (t : Tree L V) (f : Formula)
-          → HasFormula text view_text has members reason v t f
-          → FitsEntry (text_of f) (tree_text text view_text t)
-      tree_text_fits v (Asks l) f h = fits l v f h
-      tree_text_fits v (Denies t) f h = not_text_fits h
-      tree_text_fits v (Names name t) f h = named_text_fits h
-      tree_text_fits v (Pairs op a b) f h = pair_text_fits h
-      tree_text_fits v (Rows decides nothing) f h = exactly_text_fits h
-      tree_text_fits v (Rows decides (also t ts)) f h =
-          let own = tree_text text view_text (Rows decides (also t ts)) in
-          subst (λ entry. FitsEntry entry own) (sym (ap text_of h.is)) (fits_itself own)
-      tree_text_fits v (Counts least ts) f h =
-          threshold_text_fits least (listed ts) (of_listed v least ts f h)
-      tree_text_fits v (Odds nothing) f h = exactly_text_fits h
-      tree_text_fits v (Odds (also t ts)) f h =
-          let own = tree_text text view_text (Odds (also t ts)) in
-          subst (λ entry. FitsEntry entry own) (sym (ap text_of h.is)) (fits_itself own)
-      tree_text_fits v (Quantifies decides view t) f h =
-          present_text_fits (members view v) (λ us g x. members_text_fits us x) h
-      tree_text_fits v (CountsMembers least view t) f h =
-          present_text_fits (members view v) (λ us g x. threshold_text_fits least us x) h
+      (given : (view : V) (v : Item) → (o : Option (List Item)) × gives view v o) where
+    pub tree_text_fits : (v : Item) (t : Tree L V) (f : Formula)
+        → HasFormula text view_text has gives absence v t f
+        → FitsEntry (text_of f) (tree_text text view_text t)
+    tree_text_fits v (Asks l) f h = fits l v f h
+    tree_text_fits v (Denies w t) f h = not_text_fits h
+    tree_text_fits v (Names name t) f h = named_text_fits h
+    tree_text_fits v (Pairs w op a b) f h = pair_text_fits h
+    tree_text_fits v (Rows w decides nothing) f h = exactly_text_fits h
+    tree_text_fits v (Rows w decides (also t ts)) f h =
+        let own = tree_text text view_text (Rows w decides (also t ts)) in
+        subst (λ entry. FitsEntry entry own) (sym (ap text_of h.is)) (fits_itself own)
+    tree_text_fits v (Counts w least ts) f h =
+        threshold_text_fits least (listed ts) (of_listed v w least ts f h)
+    tree_text_fits v (Odds w nothing) f h = exactly_text_fits h
+    tree_text_fits v (Odds w (also t ts)) f h =
+        let own = tree_text text view_text (Odds w (also t ts)) in
+        subst (λ entry. FitsEntry entry own) (sym (ap text_of h.is)) (fits_itself own)
+    tree_text_fits v (Quantifies w decides view t) f h =
+        viewed_text_fits (given view v).0 (given view v).1 (λ us g x. members_text_fits us x) h
+    tree_text_fits v (CountsMembers w least view t) f h =
+        viewed_text_fits (given view v).0 (given view v).1 (λ us g x. threshold_text_fits least us x) h
 
   module _ (lawful : L → Type 0)
       (one_of : (l : L) (v : Item) (f g : Formula) → lawful l → has l v f → has l v g → f ≡ g)
-    where
-      mutual
-        pub one_tree : (v : Item) (t : Tree L V) (f g : Formula) → AllLeaves lawful t
-            → HasFormula text view_text has members reason v t f
-            → HasFormula text view_text has members reason v t g → f ≡ g
-        one_tree v (Asks l) f g all h k = one_of l v f g all h k
-        one_tree v (Denies t) f g all h k = one_not (λ x y. one_tree v t x y all) h k
-        one_tree v (Names name t) f g all h k = one_named (λ x y. one_tree v t x y all) h k
-        one_tree v (Pairs op a b) f g all h k =
-            one_pair (λ x y. one_tree v a x y all.0) (λ x y. one_tree v b x y all.1) h k
-        one_tree v (Rows decides nothing) f g all h k = one_exactly h k
-        one_tree v (Rows decides (also t ts)) f g all h k =
-            let own = tree_text text view_text (Rows decides (also t ts)) in
-            h.is ∙ ap (λ fs. Join (decided_by decides) (numbered own decides fs) fs)
-            (one_of_trees v (also t ts) h.formulas k.formulas all h.of_each k.of_each) ∙ sym k.is
-        one_tree v (Counts least ts) f g all h k =
-            one_by_threshold least (listed ts) (each_one v ts all)
-            (of_listed v least ts f h) (of_listed v least ts g k)
-        one_tree v (Odds nothing) f g all h k = one_exactly h k
-        one_tree v (Odds (also t ts)) f g all h k =
-            h.is ∙ ap (Join Xor (plain (tree_text text view_text (Odds (also t ts)))))
-            (one_of_trees v (also t ts) h.formulas k.formulas all h.of_each k.of_each) ∙ sym k.is
-        one_tree v (Quantifies decides view t) f g all h k = one_present (members view v)
-            (λ us x y. one_members us (λ u z w. one_tree u t z w all)) h k
-        one_tree v (CountsMembers least view t) f g all h k = one_present (members view v)
-            (λ us x y. one_by_threshold least us
-            (each_holds us (λ u z w. one_tree u t z w all))) h k
+      (given : (view : V) (v : Item) → (o : Option (List Item)) × gives view v o) where
+    mutual
+      pub one_tree : (v : Item) (t : Tree L V) (f g : Formula) → AllLeaves lawful t
+          → HasFormula text view_text has gives absence v t f
+          → HasFormula text view_text has gives absence v t g → f ≡ g
+      one_tree v (Asks l) f g all h k = one_of l v f g all h k
+      one_tree v (Denies w t) f g all h k = one_not (λ x y. one_tree v t x y all) h k
+      one_tree v (Names name t) f g all h k = one_named (λ x y. one_tree v t x y all) h k
+      one_tree v (Pairs w op a b) f g all h k =
+          one_pair (λ x y. one_tree v a x y all.0) (λ x y. one_tree v b x y all.1) h k
+      one_tree v (Rows w decides nothing) f g all h k = one_exactly h k
+      one_tree v (Rows w decides (also t ts)) f g all h k =
+          let own = tree_text text view_text (Rows w decides (also t ts)) in
+          h.is ∙ ap (λ fs. Join (decided_by decides) (numbered own decides fs) fs)
+          (one_of_trees w.part v (also t ts) h.formulas k.formulas all h.of_each k.of_each) ∙ sym k.is
+      one_tree v (Counts w least ts) f g all h k =
+          one_by_threshold least (listed ts) (each_one w.part v ts all)
+          (of_listed v w least ts f h) (of_listed v w least ts g k)
+      one_tree v (Odds w nothing) f g all h k = one_exactly h k
+      one_tree v (Odds w (also t ts)) f g all h k =
+          h.is ∙ ap (Join Xor (plain (tree_text text view_text (Odds w (also t ts)))))
+          (one_of_trees w.part v (also t ts) h.formulas k.formulas all h.of_each k.of_each) ∙ sym k.is
+      one_tree v (Quantifies w decides view t) f g all h k = one_viewed (given view v).0 (given view v).1
+          (λ us x y. one_members us (λ u z w. one_tree u t z w all)) h k
+      one_tree v (CountsMembers w least view t) f g all h k = one_viewed (given view v).0 (given view v).1
+          (λ us x y. one_by_threshold least us
+          (each_holds us (λ u z w. one_tree u t z w all))) h k
 
-        each_one : (v : Item) (ts : Trees L V) → AllOfTrees lawful ts → AllByRecursion
-            (HasOne (codes "rule") (HasFormula text view_text has members reason v)) (listed ts)
-        each_one v nothing all = tt
-        each_one v (also t ts) all = (λ x y. one_tree v t x y all.0, each_one v ts all.1)
+      each_one : (name : List ℕ) (v : Item) (ts : Trees L V) → AllOfTrees lawful ts
+          → AllByRecursion
+          (HasOne name (HasFormula text view_text has gives absence v)) (listed ts)
+      each_one name v nothing all = tt
+      each_one name v (also t ts) all =
+          (λ x y. one_tree v t x y all.0, each_one name v ts all.1)
 
-        one_of_trees : (v : Item) (ts : Trees L V) (fs gs : Formulas) → AllOfTrees lawful ts
-            → AreFormulas text view_text has members reason v ts fs
-            → AreFormulas text view_text has members reason v ts gs → fs ≡ gs
-        one_of_trees v nothing fs gs all h k = absurd h
-        one_of_trees v (also t ts) (one n f) (one m g) all h k =
-            λ i. one ((h.0 ∙ sym k.0) i) (one_tree v t f g all.0 h.1 k.1 i)
-        one_of_trees v (also t nothing) (one n f) (more m g gs) all h k = absurd k.2
-        one_of_trees v (also t (also u us)) (one n f) (more m g gs) all h k = absurd h.2
-        one_of_trees v (also t nothing) (more n f fs) (one m g) all h k = absurd h.2
-        one_of_trees v (also t (also u us)) (more n f fs) (one m g) all h k = absurd k.2
-        one_of_trees v (also t ts) (more n f fs) (more m g gs) all h k =
-            λ i. more ((h.0 ∙ sym k.0) i) (one_tree v t f g all.0 h.1 k.1 i)
-            (one_of_trees v ts fs gs all.1 h.2 k.2 i)
+      one_of_trees : (name : List ℕ) (v : Item) (ts : Trees L V) (fs gs : Formulas)
+          → AllOfTrees lawful ts
+          → AreFormulas text view_text has gives absence name v ts fs
+          → AreFormulas text view_text has gives absence name v ts gs → fs ≡ gs
+      one_of_trees name v nothing fs gs all h k = absurd h
+      one_of_trees name v (also t ts) (one n f) (one m g) all h k =
+          λ i. one ((h.0 ∙ sym k.0) i) (one_tree v t f g all.0 h.1 k.1 i)
+      one_of_trees name v (also t nothing) (one n f) (more m g gs) all h k = absurd k.2
+      one_of_trees name v (also t (also u us)) (one n f) (more m g gs) all h k = absurd h.2
+      one_of_trees name v (also t nothing) (more n f fs) (one m g) all h k = absurd h.2
+      one_of_trees name v (also t (also u us)) (more n f fs) (one m g) all h k = absurd k.2
+      one_of_trees name v (also t ts) (more n f fs) (more m g gs) all h k =
+          λ i. more ((h.0 ∙ sym k.0) i) (one_tree v t f g all.0 h.1 k.1 i)
+          (one_of_trees name v ts fs gs all.1 h.2 k.2 i)
 
   -- the one formula is that of what is read of the item, where its members are those of the item
   module _ {K : Type 0} (read : Item → K) (formula_of : L → K → Formula)
-      (read_members : V → K → Option (List K)) (read_reason : V → K → List ℕ)
+      (read_members : V → K → Option (List K)) (read_absence : V → K → List Product)
       (had : (l : L) (v : Item) → has l v (formula_of l (read v)))
-      (same_members : (view : V) (v : Item)
-      → option_map (map read) (members view v) ≡ read_members view (read v))
-      (same_reason : (view : V) (v : Item) → reason view v ≡ read_reason view (read v)) where
+      (same_members : (view : V) (v : Item) (o : Option (List Item)) → gives view v o
+      → option_map (map read) o ≡ read_members view (read v))
+      (same_absence : (view : V) (v : Item) → absence view v ≡ read_absence view (read v)) where
     abbrev formula_at : Item → Tree L V → Formula
-    formula_at v t = tree_formula text view_text formula_of read_members read_reason (read v) t
+    formula_at v t = tree_formula text view_text formula_of read_members read_absence (read v) t
 
     abbrev formulas_at : Item → Trees L V → List Formula
     formulas_at v ts =
-        tree_formulas text view_text formula_of read_members read_reason (read v) ts
+        tree_formulas text view_text formula_of read_members read_absence (read v) ts
+
+    abbrev parts_at : List ℕ → Item → Formula → Trees L V → Formulas
+    parts_at name v f ts =
+        part_formulas text view_text formula_of read_members read_absence name (read v) f ts
 
     number_formed : (v : Item) (ts : Trees L V) → length (formulas_at v ts) ≡ number_of ts
     number_formed v nothing = refl
@@ -210,117 +212,109 @@ module _ {L V Item : Type 0} (text : L → Entry) (view_text : V → Entry)
     none_formed v nothing h = tt
     none_formed v (also t ts) h = absurd (cc)
 
-    -- a formula of the members, or the leaf where there are none
-    has_viewed : (own : Entry) (view : V) (v : Item) (have : List Item → Formula → Type 0)
+    -- a formula of the members, or the leaf where there is no list
+    has_of_view : (own : Entry) (view : V) (v : Item) (have : List Item → Formula → Type 0)
         (form : List K → Formula) → ((us : List Item) → have us (form (map read us)))
-        → IsOfPresent own (reason view v) have (members view v)
-        (present_formula own (read_reason view (read v)) form (read_members view (read v)))
-    has_viewed own view v have form each =
-        subst (λ held. IsOfPresent own (reason view v) have (members view v)
-        (present_formula own (read_reason view (read v)) form held)) (same_members view v)
-        (subst (λ words. IsOfPresent own (reason view v) have (members view v)
-        (present_formula own words form (option_map (map read) (members view v))))
-        (same_reason view v) (has_present_read own (reason view v) have form (members view v) each))
+        → IsViewed own (absence view v) have (gives view v)
+        (viewed_formula own (read_absence view (read v)) form (read_members view (read v)))
+    has_of_view own view v have form each =
+        subst (λ products. IsViewed own (absence view v) have (gives view v)
+        (viewed_formula own products form (read_members view (read v)))) (same_absence view v)
+        (has_viewed own (absence view v) have (gives view v) (map read) form
+        (read_members view (read v)) (same_members view v) each)
 
     mutual
       pub has_tree : (v : Item) (t : Tree L V)
-          → HasFormula text view_text has members reason v t (formula_at v t)
+          → HasFormula text view_text has gives absence v t (formula_at v t)
       has_tree v (Asks l) = had l v
-      has_tree v (Denies t) = has_not (has_tree v t)
+      has_tree v (Denies w t) = has_not (has_tree v t)
       has_tree v (Names name t) = has_named (has_tree v t)
-      has_tree v (Pairs op a b) = has_pair (has_tree v a) (has_tree v b)
-      has_tree v (Rows decides nothing) = record { is = refl }
-      has_tree v (Rows decides (also t ts)) = record {
-        formulas = part_formulas text view_text formula_of read_members read_reason (read v)
-            (formula_at v t) ts;
-        of_each = have_trees v t (formula_at v t) (has_tree v t) ts;
+      has_tree v (Pairs w op a b) = has_pair (has_tree v a) (has_tree v b)
+      has_tree v (Rows w decides nothing) = record { is = refl }
+      has_tree v (Rows w decides (also t ts)) = record {
+        formulas = parts_at w.part v (formula_at v t) ts;
+        of_each = have_trees w.part v t (formula_at v t) (has_tree v t) ts;
         is = refl;
       }
-      has_tree v (Counts least ts) =
-          let h = has_threshold {name = codes "rule"} {has = λ u f. u ≡ f} least (λ f. f)
+      has_tree v (Counts w least ts) =
+          let h = has_threshold {name = w.part} {has = λ u f. u ≡ f} least (λ f. f)
           (formulas_at v ts) (λ u. refl) in
-          subst (λ n. IsThresholdOf least n (tree_text text view_text (Counts least ts))
-          (AreFormulas text view_text has members reason v ts) (formula_at v (Counts least ts)))
+          subst (λ n. IsThresholdOf least n (tree_text text view_text (Counts w least ts))
+          (AreFormulas text view_text has gives absence w.part v ts)
+          (formula_at v (Counts w least ts)))
           (number_formed v ts) (record {
             of_settled = h.of_settled;
             of_counted = λ some within.
                 let c = h.of_counted some within in
                 record {
                   formulas = c.formulas;
-                  of_each = are_formed v ts c.formulas c.of_each;
+                  of_each = are_formed w.part v ts c.formulas c.of_each;
                   is = c.is;
                 };
           })
-      has_tree v (Odds nothing) = record { is = refl }
-      has_tree v (Odds (also t ts)) = record {
-        formulas = part_formulas text view_text formula_of read_members read_reason (read v)
-            (formula_at v t) ts;
-        of_each = have_trees v t (formula_at v t) (has_tree v t) ts;
+      has_tree v (Odds w nothing) = record { is = refl }
+      has_tree v (Odds w (also t ts)) = record {
+        formulas = parts_at w.part v (formula_at v t) ts;
+        of_each = have_trees w.part v t (formula_at v t) (has_tree v t) ts;
         is = refl;
       }
-      has_tree v (Quantifies decides view t) =
-          has_viewed (quantified_text decides (view_text view) (tree_text text view_text t)) view v
-          (IsOfMembers decides
-          (quantified_text decides (view_text view) (tree_text text view_text t)) (codes "item")
-          (λ u. HasFormula text view_text has members reason u t))
-          (members_formula decides
-          (quantified_text decides (view_text view) (tree_text text view_text t)) (codes "item")
-          (λ k. tree_formula text view_text formula_of read_members read_reason k t))
-          (λ us. subst (IsOfMembers decides
-          (quantified_text decides (view_text view) (tree_text text view_text t)) (codes "item")
-          (λ u. HasFormula text view_text has members reason u t) us)
+      has_tree v (Quantifies w decides view t) =
+          let own = tree_text text view_text (Quantifies w decides view t) in
+          has_of_view own view v (IsOfMembers decides own (codes "item")
+          (λ u. HasFormula text view_text has gives absence u t))
+          (members_formula decides own (codes "item")
+          (λ k. tree_formula text view_text formula_of read_members read_absence k t))
+          (λ us. subst (IsOfMembers decides own (codes "item")
+          (λ u. HasFormula text view_text has gives absence u t) us)
           (members_read decides _ (codes "item") read _ us)
           (has_members (λ u. formula_at u t) us (λ u. has_tree u t)))
-      has_tree v (CountsMembers least view t) =
-          has_viewed (members_text least (view_text view) (tree_text text view_text t)) view v
-          (IsOfThreshold least
-          (members_text least (view_text view) (tree_text text view_text t)) (codes "item")
-          (λ u. HasFormula text view_text has members reason u t))
-          (threshold_formula least
-          (members_text least (view_text view) (tree_text text view_text t)) (codes "item")
-          (λ k. tree_formula text view_text formula_of read_members read_reason k t))
-          (λ us. subst (IsOfThreshold least
-          (members_text least (view_text view) (tree_text text view_text t)) (codes "item")
-          (λ u. HasFormula text view_text has members reason u t) us)
+      has_tree v (CountsMembers w least view t) =
+          let own = tree_text text view_text (CountsMembers w least view t) in
+          has_of_view own view v (IsOfThreshold least own (codes "item")
+          (λ u. HasFormula text view_text has gives absence u t))
+          (threshold_formula least own (codes "item")
+          (λ k. tree_formula text view_text formula_of read_members read_absence k t))
+          (λ us. subst (IsOfThreshold least own (codes "item")
+          (λ u. HasFormula text view_text has gives absence u t) us)
           (threshold_read least _ (codes "item") read _ us)
           (has_threshold least (λ u. formula_at u t) us (λ u. has_tree u t)))
 
-      are_formed : (v : Item) (ts : Trees L V) (fs : Formulas)
-          → AreOfEach (codes "rule") (λ u f. u ≡ f) (formulas_at v ts) fs
-          → AreFormulas text view_text has members reason v ts fs
-      are_formed v nothing fs h = h
-      are_formed v (also t ts) (one n f) h = (
+      are_formed : (name : List ℕ) (v : Item) (ts : Trees L V) (fs : Formulas)
+          → AreOfEach name (λ u f. u ≡ f) (formulas_at v ts) fs
+          → AreFormulas text view_text has gives absence name v ts fs
+      are_formed name v nothing fs h = h
+      are_formed name v (also t ts) (one n f) h = (
         h.0,
-        subst (HasFormula text view_text has members reason v t) h.1 (has_tree v t),
+        subst (HasFormula text view_text has gives absence v t) h.1 (has_tree v t),
         none_formed v ts h.2,
       )
-      are_formed v (also t ts) (more n f fs) h = (
+      are_formed name v (also t ts) (more n f fs) h = (
         h.0,
-        subst (HasFormula text view_text has members reason v t) h.1 (has_tree v t),
-        are_formed v ts fs h.2,
+        subst (HasFormula text view_text has gives absence v t) h.1 (has_tree v t),
+        are_formed name v ts fs h.2,
       )
 
-      have_trees : (v : Item) (t : Tree L V) (f : Formula)
-          → HasFormula text view_text has members reason v t f → (ts : Trees L V)
-          → AreFormulas text view_text has members reason v (also t ts)
-          (part_formulas text view_text formula_of read_members read_reason (read v) f ts)
-      have_trees v t f h nothing = (refl, h, tt)
-      have_trees v t f h (also u us) =
-          (refl, h, have_trees v u (formula_at v u) (has_tree v u) us)
+      have_trees : (name : List ℕ) (v : Item) (t : Tree L V) (f : Formula)
+          → HasFormula text view_text has gives absence v t f → (ts : Trees L V)
+          → AreFormulas text view_text has gives absence name v (also t ts)
+          (parts_at name v f ts)
+      have_trees name v t f h nothing = (refl, h, tt)
+      have_trees name v t f h (also u us) =
+          (refl, h, have_trees name v u (formula_at v u) (has_tree v u) us)
 
 -- what holds of all leaves holds of those of a tree
 module _ {L V : Type 0} (fact : L → Type 0) (all : (l : L) → fact l) where
   mutual
     pub all_leaves : (t : Tree L V) → AllLeaves fact t
     all_leaves (Asks l) = all l
-    all_leaves (Denies t) = all_leaves t
+    all_leaves (Denies w t) = all_leaves t
     all_leaves (Names name t) = all_leaves t
-    all_leaves (Pairs op a b) = (all_leaves a, all_leaves b)
-    all_leaves (Rows decides ts) = all_trees ts
-    all_leaves (Counts least ts) = all_trees ts
-    all_leaves (Odds ts) = all_trees ts
-    all_leaves (Quantifies decides view t) = all_leaves t
-    all_leaves (CountsMembers least view t) = all_leaves t
+    all_leaves (Pairs w op a b) = (all_leaves a, all_leaves b)
+    all_leaves (Rows w decides ts) = all_trees ts
+    all_leaves (Counts w least ts) = all_trees ts
+    all_leaves (Odds w ts) = all_trees ts
+    all_leaves (Quantifies w decides view t) = all_leaves t
+    all_leaves (CountsMembers w least view t) = all_leaves t
 
     pub all_trees : (ts : Trees L V) → AllOfTrees fact ts
     all_trees nothing = tt

@@ -1,5 +1,6 @@
 pub mod Trees
 pub mod OddRows
+pub mod Viewed
 pub mod Formulas
 pub mod Listed
 pub mod Described

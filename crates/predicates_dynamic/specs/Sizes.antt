@@ -3,33 +3,34 @@ use Rattle.std.specs.Prelude.{ℕ, zero, suc, ◌+◌, List, Option, Some, None,
 use Rattle.predicates_dynamic.specs.declared.check.Check.{Check}
 use Rattle.predicates_dynamic.specs.Trees.{Tree, Trees, Asks, Denies, Names, Pairs, Rows, Counts}
 use Rattle.predicates_dynamic.specs.Trees.{Odds, Quantifies, CountsMembers}
-use Rattle.predicates_dynamic.specs.Trees.{nothing, also, tree_of, trees_of}
+use Rattle.predicates_dynamic.specs.Trees.{nothing, also, computed_tree, trees_of}
 
 module _ {L V : Type 0} where
   abbrev mutual
     -- how many checks it is made of, with itself
     pub tree_size : Tree L V → ℕ
     tree_size (Asks l) = 1
-    tree_size (Denies t) = suc (tree_size t)
+    tree_size (Denies w t) = suc (tree_size t)
     tree_size (Names name t) = suc (tree_size t)
-    tree_size (Pairs op a b) = suc (tree_size a + tree_size b)
-    tree_size (Rows decides ts) = suc (tree_sizes ts)
-    tree_size (Counts least ts) = suc (tree_sizes ts)
-    tree_size (Odds ts) = suc (tree_sizes ts)
-    tree_size (Quantifies decides view t) = suc (tree_size t)
-    tree_size (CountsMembers least view t) = suc (tree_size t)
+    tree_size (Pairs w op a b) = suc (tree_size a + tree_size b)
+    tree_size (Rows w decides ts) = suc (tree_sizes ts)
+    tree_size (Counts w least ts) = suc (tree_sizes ts)
+    tree_size (Odds w ts) = suc (tree_sizes ts)
+    tree_size (Quantifies w decides view t) = suc (tree_size t)
+    tree_size (CountsMembers w least view t) = suc (tree_size t)
 
     pub tree_sizes : Trees L V → ℕ
     tree_sizes nothing = 0
     tree_sizes (also t ts) = tree_size t + tree_sizes ts
 
-  abbrev pub size_of : Check L V → ℕ
-  size_of c = tree_size (tree_of c)
+module _ {L V S : Type 0} where
+  abbrev pub size_of : Check L V S → ℕ
+  size_of c = tree_size (computed_tree c)
 
-  abbrev pub sizes_of : List (Check L V) → ℕ
-  sizes_of cs = tree_sizes (trees_of (map tree_of cs))
+  abbrev pub sizes_of : List (Check L V S) → ℕ
+  sizes_of cs = tree_sizes (trees_of (map computed_tree cs))
 
-  abbrev pub size_left : Option (Check L V) → ℕ
+  abbrev pub size_left : Option (Check L V S) → ℕ
   size_left None = 0
   size_left (Some c) = size_of c
 
@@ -39,8 +40,8 @@ steps zero = 0
 steps (suc n) = steps n + suc (suc n)
 
 -- what is left, first by how many checks that are, and then by the size of the first
-abbrev pub left_of : {L V : Type 0} → ℕ → Option (Check L V) → ℕ
+abbrev pub left_of : {L V S : Type 0} → ℕ → Option (Check L V S) → ℕ
 left_of size waiting = steps (size + size_left waiting) + size
 
-abbrev pub left_over : {L V : Type 0} → Check L V → Option (Check L V) → ℕ
+abbrev pub left_over : {L V S : Type 0} → Check L V S → Option (Check L V S) → ℕ
 left_over c waiting = left_of (size_of c) waiting

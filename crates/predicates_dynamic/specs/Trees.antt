@@ -1,23 +1,33 @@
 -- What a check is, apart from where it lies in memory.
-use Rattle.std.specs.Prelude.{ℕ, List, [], ◌∷◌, Bool, Option, IfSome, box_value}
+use Rattle.std.specs.Prelude.{ℕ, List, [], ◌∷◌, Bool, Option, None, Some, box_value, codes}
 use Rattle.std.specs.List.{AllByRecursion}
 use Rattle.predicates_core.specs.declared.custom.join.Operator.{Operator}
 use Rattle.predicates_dynamic.specs.declared.check.Check.{Check, fold-Check}
 use Rattle.predicates_dynamic.specs.declared.check.Check.TheOpen.{Check-F}
 
+-- The words of a node: the text that it prints, where that is kept and not computed from its parts,
+-- and the name under which the parts of a row stand.
+pub record Words : Type 0 where
+  pub text : Option (List ℕ)
+  pub part : List ℕ
+
+-- the text is computed, and a part is a rule
+abbrev pub computed : Words
+computed = record { text = None; part = codes "rule" }
+
 mutual
   pub data Tree (L V : Type 0) : Type 0 where
     Asks : L → Tree L V
-    Denies : Tree L V → Tree L V
+    Denies : Words → Tree L V → Tree L V
     Names : List ℕ → Tree L V → Tree L V
-    Pairs : Operator → Tree L V → Tree L V → Tree L V
-    Rows : Bool → Trees L V → Tree L V
-    Counts : ℕ → Trees L V → Tree L V
+    Pairs : Words → Operator → Tree L V → Tree L V → Tree L V
+    Rows : Words → Bool → Trees L V → Tree L V
+    Counts : Words → ℕ → Trees L V → Tree L V
     -- an odd number of them hold
-    Odds : Trees L V → Tree L V
+    Odds : Words → Trees L V → Tree L V
     -- over members: with true, one of them suffices
-    Quantifies : Bool → V → Tree L V → Tree L V
-    CountsMembers : ℕ → V → Tree L V → Tree L V
+    Quantifies : Words → Bool → V → Tree L V → Tree L V
+    CountsMembers : Words → ℕ → V → Tree L V → Tree L V
 
   pub data Trees (L V : Type 0) : Type 0 where
     nothing : Trees L V
@@ -28,63 +38,86 @@ module _ {L V : Type 0} where
   trees_of [] = nothing
   trees_of (t ∷ ts) = also t (trees_of ts)
 
-  -- one level, with each part already seen as its tree
-  abbrev pub tree_step : Check-F L V (Tree L V) → Tree L V
-  tree_step (Check-F.Leaf l) = Asks l
-  tree_step (Check-F.Not t) = Denies (box_value t)
-  tree_step (Check-F.Named name t) = Names name (box_value t)
-  tree_step (Check-F.Pair op a b) = Pairs op (box_value a) (box_value b)
-  tree_step (Check-F.Row decides ts) = Rows decides (trees_of ts.items)
-  tree_step (Check-F.AtLeast least ts) = Counts least (trees_of ts.items)
-  tree_step (Check-F.Odd ts) = Odds (trees_of ts.items)
-  tree_step (Check-F.Quantified decides view t) = Quantifies decides view (box_value t)
-  tree_step (Check-F.MembersAtLeast least view t) = CountsMembers least view (box_value t)
+  -- the words of the node on top; a leaf and a name have none of their own
+  abbrev pub node_words : Tree L V → Words
+  node_words (Asks l) = computed
+  node_words (Denies w t) = w
+  node_words (Names name t) = computed
+  node_words (Pairs w op a b) = w
+  node_words (Rows w decides ts) = w
+  node_words (Counts w least ts) = w
+  node_words (Odds w ts) = w
+  node_words (Quantifies w decides view t) = w
+  node_words (CountsMembers w least view t) = w
 
-  abbrev pub tree_of : Check L V → Tree L V
-  tree_of = fold-Check L V (Tree L V) tree_step
+  module _ {S : Type 0} (words : S → Words) where
+    -- one level, with each part already seen as its tree
+    abbrev pub tree_step : Check-F L V S (Tree L V) → Tree L V
+    tree_step (Check-F.Leaf l) = Asks l
+    tree_step (Check-F.Not s t) = Denies (words s) (box_value t)
+    tree_step (Check-F.Named name t) = Names name (box_value t)
+    tree_step (Check-F.Pair s op a b) = Pairs (words s) op (box_value a) (box_value b)
+    tree_step (Check-F.Row s decides ts) = Rows (words s) decides (trees_of ts.items)
+    tree_step (Check-F.AtLeast s least ts) = Counts (words s) least (trees_of ts.items)
+    tree_step (Check-F.Odd s ts) = Odds (words s) (trees_of ts.items)
+    tree_step (Check-F.Quantified s decides view t) =
+        Quantifies (words s) decides view (box_value t)
+    tree_step (Check-F.MembersAtLeast s least view t) =
+        CountsMembers (words s) least view (box_value t)
+
+    abbrev pub tree_of : Check L V S → Tree L V
+    tree_of = fold-Check L V S (Tree L V) tree_step
+
+    -- the words of the check's node on top
+    abbrev pub words_of : Check L V S → Words
+    words_of c = node_words (tree_of c)
+
+  -- the tree of a check whose texts are all computed
+  abbrev pub computed_tree : {S : Type 0} → Check L V S → Tree L V
+  computed_tree c = tree_of (λ _. computed) c
 
   -- a fact of each leaf
   abbrev mutual
     pub AllLeaves : (L → Type 0) → Tree L V → Type 0
     AllLeaves fact (Asks l) = fact l
-    AllLeaves fact (Denies t) = AllLeaves fact t
+    AllLeaves fact (Denies w t) = AllLeaves fact t
     AllLeaves fact (Names name t) = AllLeaves fact t
-    AllLeaves fact (Pairs op a b) = AllLeaves fact a × AllLeaves fact b
-    AllLeaves fact (Rows decides ts) = AllOfTrees fact ts
-    AllLeaves fact (Counts least ts) = AllOfTrees fact ts
-    AllLeaves fact (Odds ts) = AllOfTrees fact ts
-    AllLeaves fact (Quantifies decides view t) = AllLeaves fact t
-    AllLeaves fact (CountsMembers least view t) = AllLeaves fact t
+    AllLeaves fact (Pairs w op a b) = AllLeaves fact a × AllLeaves fact b
+    AllLeaves fact (Rows w decides ts) = AllOfTrees fact ts
+    AllLeaves fact (Counts w least ts) = AllOfTrees fact ts
+    AllLeaves fact (Odds w ts) = AllOfTrees fact ts
+    AllLeaves fact (Quantifies w decides view t) = AllLeaves fact t
+    AllLeaves fact (CountsMembers w least view t) = AllLeaves fact t
 
     pub AllOfTrees : (L → Type 0) → Trees L V → Type 0
     AllOfTrees fact nothing = Unit {0}
     AllOfTrees fact (also t ts) = AllLeaves fact t × AllOfTrees fact ts
 
   -- a fact of each leaf of the check
-  abbrev pub AllOf : (L → Type 0) → Check L V → Type 0
-  AllOf fact c = AllLeaves fact (tree_of c)
+  abbrev pub AllOf : {S : Type 0} → (L → Type 0) → (S → Words) → Check L V S → Type 0
+  AllOf fact words c = AllLeaves fact (tree_of words c)
 
--- a fact of each leaf on each item that it is asked about
-module _ {L V Item : Type 0} (fact : L → Item → Type 0) (members : V → Item → Option (List Item))
-  where
-    abbrev mutual
-      pub AllAsked : Item → Tree L V → Type 0
-      AllAsked v (Asks l) = fact l v
-      AllAsked v (Denies t) = AllAsked v t
-      AllAsked v (Names name t) = AllAsked v t
-      AllAsked v (Pairs op a b) = AllAsked v a × AllAsked v b
-      AllAsked v (Rows decides ts) = AllAskedOfTrees v ts
-      AllAsked v (Counts least ts) = AllAskedOfTrees v ts
-      AllAsked v (Odds ts) = AllAskedOfTrees v ts
-      AllAsked v (Quantifies decides view t) =
-          IfSome (members view v) (AllByRecursion (λ member. AllAsked member t))
-      AllAsked v (CountsMembers least view t) =
-          IfSome (members view v) (AllByRecursion (λ member. AllAsked member t))
+-- a fact of each leaf on each item that it is asked about, and of each view on its item
+module _ {L V Item : Type 0} (fact : L → Item → Type 0) (lends : V → Item → Type 0)
+    (gives : V → Item → Option (List Item) → Type 0) where
+  abbrev mutual
+    pub AllAsked : Item → Tree L V → Type 0
+    AllAsked v (Asks l) = fact l v
+    AllAsked v (Denies w t) = AllAsked v t
+    AllAsked v (Names name t) = AllAsked v t
+    AllAsked v (Pairs w op a b) = AllAsked v a × AllAsked v b
+    AllAsked v (Rows w decides ts) = AllAskedOfTrees v ts
+    AllAsked v (Counts w least ts) = AllAskedOfTrees v ts
+    AllAsked v (Odds w ts) = AllAskedOfTrees v ts
+    AllAsked v (Quantifies w decides view t) = lends view v × ((us : List Item)
+        → gives view v (Some us) → AllByRecursion (λ member. AllAsked member t) us)
+    AllAsked v (CountsMembers w least view t) = lends view v × ((us : List Item)
+        → gives view v (Some us) → AllByRecursion (λ member. AllAsked member t) us)
 
-      pub AllAskedOfTrees : Item → Trees L V → Type 0
-      AllAskedOfTrees v nothing = Unit {0}
-      AllAskedOfTrees v (also t ts) = AllAsked v t × AllAskedOfTrees v ts
+    pub AllAskedOfTrees : Item → Trees L V → Type 0
+    AllAskedOfTrees v nothing = Unit {0}
+    AllAskedOfTrees v (also t ts) = AllAsked v t × AllAskedOfTrees v ts
 
-    -- the same of the check
-    abbrev pub AsksAll : Item → Check L V → Type 0
-    AsksAll v c = AllAsked v (tree_of c)
+  -- the same of the check
+  abbrev pub AsksAll : {S : Type 0} → (S → Words) → Item → Check L V S → Type 0
+  AsksAll words v c = AllAsked v (tree_of words c)

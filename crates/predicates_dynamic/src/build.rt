@@ -1,10 +1,19 @@
 //! How checks are made.
 ghost use Rattle.std.specs.Prelude.{◌≡◌, true, false, IfOk, map};
 ghost use Rattle.predicates_core.specs.declared.custom.join.Operator.TheVariants.{And, Or, Xor};
-ghost use Rattle.predicates_dynamic.specs.Trees.{tree_of, trees_of, Asks, Denies, Names, Pairs};
+ghost use Rattle.predicates_dynamic.specs.Trees.{
+  computed,
+  computed_tree,
+  trees_of,
+  Asks,
+  Denies,
+  Names,
+  Pairs,
+};
 ghost use Rattle.predicates_dynamic.specs.Trees.{Rows, Counts, Odds, Quantifies, CountsMembers};
 
 use crate::check::Check;
+use crate::wording::Computed;
 use predicates_core::custom::Operator;
 use predicates_core::static_text::StaticText;
 use std::alloc::{AllocError, Global};
@@ -18,7 +27,7 @@ impl<L: Drop> Check<L> {
     /// assert!(rt; !grown.eval(alloc, &3)?);
     /// ```
     pub fn leaf(leaf: L) -> Check<L>
-        ensures { tree_of result ≡ Asks leaf }
+        ensures { computed_tree result ≡ Asks leaf }
     {
         Check::Leaf(leaf)
     }
@@ -34,7 +43,7 @@ impl<L: Drop, V: Drop> Check<L, V> {
     /// assert!(rt; large.eval(alloc, &folder)?);
     /// ```
     pub fn leaf_beside_members(leaf: L) -> Check<L, V>
-        ensures { tree_of result ≡ Asks leaf }
+        ensures { computed_tree result ≡ Asks leaf }
     {
         Check::Leaf(leaf)
     }
@@ -47,9 +56,9 @@ impl<L: Drop, V: Drop> Check<L, V> {
     /// assert!(rt; !small.eval(alloc, &7)?);
     /// ```
     pub fn not(self, alloc: Global) -> Result<Check<L, V>, AllocError>
-        ensures { IfOk result (λ made. tree_of made ≡ Denies (tree_of self)) }
+        ensures { IfOk result (λ made. computed_tree made ≡ Denies computed (computed_tree self)) }
     {
-        Ok(Check::Not(Box::new(alloc, self)?))
+        Ok(Check::Not(Computed, Box::new(alloc, self)?))
     }
 
     /// The check under a name, which is printed in its place.
@@ -59,7 +68,8 @@ impl<L: Drop, V: Drop> Check<L, V> {
     /// assert!(rt; adult.to_string(alloc)?.as_str() == "adult");
     /// ```
     pub fn name(self, alloc: Global, name: &'static str) -> Result<Check<L, V>, AllocError>
-        ensures { IfOk result (λ made. tree_of made ≡ Names name.entry.now (tree_of self)) }
+        ensures { IfOk result (λ made. computed_tree made ≡ Names name.entry.now
+            (computed_tree self)) }
     {
         Ok(Check::Named(StaticText::new(name), Box::new(alloc, self)?))
     }
@@ -72,9 +82,11 @@ impl<L: Drop, V: Drop> Check<L, V> {
     /// assert!(rt; !between.eval(alloc, &11)?);
     /// ```
     pub fn and(self, alloc: Global, other: Check<L, V>) -> Result<Check<L, V>, AllocError>
-        ensures { IfOk result (λ made. tree_of made ≡ Pairs And (tree_of self) (tree_of other)) }
+        ensures { IfOk result (λ made. computed_tree made ≡ Pairs computed And (computed_tree self)
+            (computed_tree other)) }
     {
         Ok(Check::Pair(
+            Computed,
             Operator::And,
             Box::new(alloc, self)?,
             Box::new(alloc, other)?,
@@ -89,9 +101,11 @@ impl<L: Drop, V: Drop> Check<L, V> {
     /// assert!(rt; !outside.eval(alloc, &7)?);
     /// ```
     pub fn or(self, alloc: Global, other: Check<L, V>) -> Result<Check<L, V>, AllocError>
-        ensures { IfOk result (λ made. tree_of made ≡ Pairs Or (tree_of self) (tree_of other)) }
+        ensures { IfOk result (λ made. computed_tree made ≡ Pairs computed Or (computed_tree self)
+            (computed_tree other)) }
     {
         Ok(Check::Pair(
+            Computed,
             Operator::Or,
             Box::new(alloc, self)?,
             Box::new(alloc, other)?,
@@ -106,9 +120,11 @@ impl<L: Drop, V: Drop> Check<L, V> {
     /// assert!(rt; !one.eval(alloc, &11)?);
     /// ```
     pub fn xor(self, alloc: Global, other: Check<L, V>) -> Result<Check<L, V>, AllocError>
-        ensures { IfOk result (λ made. tree_of made ≡ Pairs Xor (tree_of self) (tree_of other)) }
+        ensures { IfOk result (λ made. computed_tree made ≡ Pairs computed Xor (computed_tree self)
+            (computed_tree other)) }
     {
         Ok(Check::Pair(
+            Computed,
             Operator::Xor,
             Box::new(alloc, self)?,
             Box::new(alloc, other)?,
@@ -125,9 +141,10 @@ impl<L: Drop, V: Drop> Check<L, V> {
     /// assert!(rt; !all.eval(alloc, &7)?);
     /// ```
     pub fn all(parts: Vec<Check<L, V>>) -> Check<L, V>
-        ensures { tree_of result ≡ Rows false (trees_of (map tree_of parts.items)) }
+        ensures { computed_tree result ≡ Rows computed false (trees_of
+            (map computed_tree parts.items)) }
     {
-        Check::Row(false, parts)
+        Check::Row(Computed, false, parts)
     }
 
     /// Holds where one of the parts does, as `any_of`. It takes no memory.
@@ -140,9 +157,10 @@ impl<L: Drop, V: Drop> Check<L, V> {
     /// assert!(rt; !any.eval(alloc, &7)?);
     /// ```
     pub fn any(parts: Vec<Check<L, V>>) -> Check<L, V>
-        ensures { tree_of result ≡ Rows true (trees_of (map tree_of parts.items)) }
+        ensures { computed_tree result ≡ Rows computed true (trees_of
+            (map computed_tree parts.items)) }
     {
-        Check::Row(true, parts)
+        Check::Row(Computed, true, parts)
     }
 
     /// Holds where at least so many of the parts do, as `at_least`. It takes no memory.
@@ -155,9 +173,10 @@ impl<L: Drop, V: Drop> Check<L, V> {
     /// assert!(rt; !two.eval(alloc, &11)?);
     /// ```
     pub fn at_least(least: usize, parts: Vec<Check<L, V>>) -> Check<L, V>
-        ensures { tree_of result ≡ Counts least (trees_of (map tree_of parts.items)) }
+        ensures { computed_tree result ≡ Counts computed least (trees_of
+            (map computed_tree parts.items)) }
     {
-        Check::AtLeast(least, parts)
+        Check::AtLeast(Computed, least, parts)
     }
 
     /// Holds where an odd number of the parts do, as `xor` of two. It takes no memory.
@@ -171,9 +190,9 @@ impl<L: Drop, V: Drop> Check<L, V> {
     /// assert!(rt; !odd.eval(alloc, &11)?);
     /// ```
     pub fn odd(parts: Vec<Check<L, V>>) -> Check<L, V>
-        ensures { tree_of result ≡ Odds (trees_of (map tree_of parts.items)) }
+        ensures { computed_tree result ≡ Odds computed (trees_of (map computed_tree parts.items)) }
     {
-        Check::Odd(parts)
+        Check::Odd(Computed, parts)
     }
 
     /// Holds of an item where the check does of each of its members, as `of_each`; and not where
@@ -184,9 +203,10 @@ impl<L: Drop, V: Drop> Check<L, V> {
     /// assert!(rt; !all_large.eval(alloc, &folder)?);
     /// ```
     pub fn of_each(self, alloc: Global, view: V) -> Result<Check<L, V>, AllocError>
-        ensures { IfOk result (λ made. tree_of made ≡ Quantifies false view (tree_of self)) }
+        ensures { IfOk result (λ made. computed_tree made ≡ Quantifies computed false view
+            (computed_tree self)) }
     {
-        Ok(Check::Quantified(false, view, Box::new(alloc, self)?))
+        Ok(Check::Quantified(Computed, false, view, Box::new(alloc, self)?))
     }
 
     /// Holds of an item where the check does of one of its members, as `of_any`; and not where the
@@ -197,9 +217,10 @@ impl<L: Drop, V: Drop> Check<L, V> {
     /// assert!(rt; some_large.eval(alloc, &folder)?);
     /// ```
     pub fn of_any(self, alloc: Global, view: V) -> Result<Check<L, V>, AllocError>
-        ensures { IfOk result (λ made. tree_of made ≡ Quantifies true view (tree_of self)) }
+        ensures { IfOk result (λ made. computed_tree made ≡ Quantifies computed true view
+            (computed_tree self)) }
     {
-        Ok(Check::Quantified(true, view, Box::new(alloc, self)?))
+        Ok(Check::Quantified(Computed, true, view, Box::new(alloc, self)?))
     }
 
     /// Holds of an item where the check does of at least so many of its members, as `of_at_least`;
@@ -215,8 +236,9 @@ impl<L: Drop, V: Drop> Check<L, V> {
         least: usize,
         view: V,
     ) -> Result<Check<L, V>, AllocError>
-        ensures { IfOk result (λ made. tree_of made ≡ CountsMembers least view (tree_of self)) }
+        ensures { IfOk result (λ made. computed_tree made ≡ CountsMembers computed least view
+            (computed_tree self)) }
     {
-        Ok(Check::MembersAtLeast(least, view, Box::new(alloc, self)?))
+        Ok(Check::MembersAtLeast(Computed, least, view, Box::new(alloc, self)?))
     }
 }

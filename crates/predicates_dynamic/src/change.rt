@@ -6,7 +6,7 @@ ghost use Rattle.predicates_core.specs.Change.{IsFoundChange};
 ghost use Rattle.predicates_core.specs.Several.{IsOfMembers};
 ghost use Rattle.predicates_core.specs.Thresholds.{IsOfThreshold};
 ghost use Rattle.predicates_core.specs.Turning.{IsRightChange};
-ghost use Rattle.predicates_dynamic.specs.Trees.{AllOf, AllLeaves, tree_of, trees_of, Denies};
+ghost use Rattle.predicates_dynamic.specs.Trees.{words_of, AllOf, tree_of, trees_of, Denies};
 ghost use Rattle.predicates_dynamic.specs.Trees.{Names, Pairs, Rows, Counts};
 ghost use Rattle.predicates_dynamic.specs.Formulas.{check_text, Has};
 
@@ -17,8 +17,9 @@ use self::members::{members_threshold_changed, quantified_changed};
 use self::odd::odd_changed;
 use crate::asked::Asked;
 use crate::check::Check;
-use crate::hold::{Left, are_lawful, holds};
-use crate::members::Members;
+use crate::hold::{Left, verdict};
+use crate::view::View;
+use crate::wording::Wording;
 use predicates_core::PredicateChange;
 use predicates_core::custom::{
     Counting, Deciding, Operator, asked_at, enough_of, first_alone, is_first_passed, is_other,
@@ -31,15 +32,17 @@ use std::alloc::{AllocError, Global};
 
 // The `find_change` of the check.
 #[cycle(change)]
-pub(crate) fn changed<L: PredicateChange<Item>, V: Members<Item>, Item>(
+#[tactic(auto, using(crate::proofs::Rows::lawful_parts))]
+pub(crate) fn changed<L: PredicateChange<Item>, V: View<Item>, S: Wording, Item>(
     alloc: Global,
-    check: &Check<L, V>,
+    check: &Check<L, V, S>,
     wanted: Option<bool>,
     item: &Item,
 ) -> Result<Option<Case>, AllocError>
-    requires { AllOf L.lawful check.now }
+    requires { AllOf L.lawful S.words check.now }
     ensures { IfOk result
-        (IsFoundChange (Has L.output V.output L.formula V.members_of V.reason_of item.now check.now)
+        (IsFoundChange (Has L.output V.output L.formula V.gives V.absence_of S.words item.now
+        check.now)
         wanted) }
 {
     let asked = Asked {
@@ -49,11 +52,11 @@ pub(crate) fn changed<L: PredicateChange<Item>, V: Members<Item>, Item>(
     };
     match check {
         Check::Leaf(leaf) => leaf.find_change(alloc, wanted, item),
-        Check::Not(inner) => not_changed(alloc, inner, asked),
+        Check::Not(_, inner) => not_changed(alloc, inner, asked),
         Check::Named(name, inner) => named_changed(alloc, inner, name.as_str(), asked),
-        Check::Pair(operator, part, right_part) => {
+        Check::Pair(_, operator, part, right_part) => {
             let operator = *operator;
-            let part: &Check<L, V> = part;
+            let part: &Check<L, V, S> = part;
             let found = changed(alloc, part, operator.left_wanted(wanted), item)?;
             let left = Left {
                 operator,
@@ -62,13 +65,13 @@ pub(crate) fn changed<L: PredicateChange<Item>, V: Members<Item>, Item>(
             };
             pair_changed(alloc, right_part, left, asked)
         }
-        Check::Row(decides, parts) => row_changed(alloc, parts, *decides, asked),
-        Check::AtLeast(least, parts) => threshold_changed(alloc, parts, *least, asked),
-        Check::Odd(parts) => odd_changed(alloc, parts, asked),
-        Check::Quantified(decides, view, inner) => {
+        Check::Row(_, decides, parts) => row_changed(alloc, parts, *decides, asked),
+        Check::AtLeast(_, least, parts) => threshold_changed(alloc, parts, *least, asked),
+        Check::Odd(_, parts) => odd_changed(alloc, parts, asked),
+        Check::Quantified(_, decides, view, inner) => {
             quantified_changed(alloc, inner, view, *decides, asked)
         }
-        Check::MembersAtLeast(least, view, inner) => {
+        Check::MembersAtLeast(_, least, view, inner) => {
             members_threshold_changed(alloc, inner, view, *least, asked)
         }
     }
@@ -76,15 +79,16 @@ pub(crate) fn changed<L: PredicateChange<Item>, V: Members<Item>, Item>(
 
 // The same of a check that is denied, from the part and the whole.
 #[cycle(change)]
-fn not_changed<L: PredicateChange<Item>, V: Members<Item>, Item>(
+fn not_changed<L: PredicateChange<Item>, V: View<Item>, S: Wording, Item>(
     alloc: Global,
-    inner: &Check<L, V>,
-    asked: Asked<'_, L, V, Item>,
+    inner: &Check<L, V, S>,
+    asked: Asked<'_, L, V, S, Item>,
 ) -> Result<Option<Case>, AllocError>
-    requires lawful { AllOf L.lawful inner.now }
-    requires whole { tree_of asked.whole.now ≡ Denies (tree_of inner.now) }
+    requires lawful { AllOf L.lawful S.words inner.now }
+    requires whole { tree_of S.words asked.whole.now ≡ Denies (words_of S.words asked.whole.now)
+        (tree_of S.words inner.now) }
     ensures { IfOk result (IsFoundChange
-        (Has L.output V.output L.formula V.members_of V.reason_of asked.entry.item.now
+        (Has L.output V.output L.formula V.gives V.absence_of S.words asked.entry.item.now
         asked.entry.whole.now) asked.entry.wanted) }
 {
     let Some(part) = changed(alloc, inner, opposite_of(asked.wanted), asked.item)? else {
@@ -98,16 +102,16 @@ fn not_changed<L: PredicateChange<Item>, V: Members<Item>, Item>(
 
 // The same of a check under a name.
 #[cycle(change)]
-fn named_changed<L: PredicateChange<Item>, V: Members<Item>, Item>(
+fn named_changed<L: PredicateChange<Item>, V: View<Item>, S: Wording, Item>(
     alloc: Global,
-    inner: &Check<L, V>,
+    inner: &Check<L, V, S>,
     name: &'static str,
-    asked: Asked<'_, L, V, Item>,
+    asked: Asked<'_, L, V, S, Item>,
 ) -> Result<Option<Case>, AllocError>
-    requires lawful { AllOf L.lawful inner.now }
-    requires whole { tree_of asked.whole.now ≡ Names name.now (tree_of inner.now) }
+    requires lawful { AllOf L.lawful S.words inner.now }
+    requires whole { tree_of S.words asked.whole.now ≡ Names name.now (tree_of S.words inner.now) }
     ensures { IfOk result (IsFoundChange
-        (Has L.output V.output L.formula V.members_of V.reason_of asked.entry.item.now
+        (Has L.output V.output L.formula V.gives V.absence_of S.words asked.entry.item.now
         asked.entry.whole.now) asked.entry.wanted) }
 {
     let Some(part) = changed(alloc, inner, asked.wanted, asked.item)? else {
@@ -128,15 +132,15 @@ struct PartChange {
 
 // The right part's verdict, and its change where that belongs to the whole's.
 #[cycle(change)]
-fn right_changed<L: PredicateChange<Item>, V: Members<Item>, Item>(
+fn right_changed<L: PredicateChange<Item>, V: View<Item>, S: Wording, Item>(
     alloc: Global,
-    part: &Check<L, V>,
+    part: &Check<L, V, S>,
     operator: Operator,
     item: &Item,
 ) -> Result<PartChange, AllocError>
-    requires { AllOf L.lawful part.now }
+    requires { AllOf L.lawful S.words part.now }
     ensures { IfOk result (λ right. IsRightChange operator
-        (Has L.output V.output L.formula V.members_of V.reason_of item.now part.now)
+        (Has L.output V.output L.formula V.gives V.absence_of S.words item.now part.now)
         right.holds right.change) }
 {
     match operator {
@@ -151,7 +155,7 @@ fn right_changed<L: PredicateChange<Item>, V: Members<Item>, Item>(
             Ok(PartChange { holds, change })
         }
         Operator::Xor => {
-            let holds = holds(alloc, part, item)?;
+            let holds = verdict(alloc, part, item)?;
             let change = None;
             Ok(PartChange { holds, change })
         }
@@ -160,20 +164,21 @@ fn right_changed<L: PredicateChange<Item>, V: Members<Item>, Item>(
 
 // The same of two checks that an operator joins, where this was found of the left one.
 #[cycle(change)]
-fn pair_changed<L: PredicateChange<Item>, V: Members<Item>, Item>(
+fn pair_changed<L: PredicateChange<Item>, V: View<Item>, S: Wording, Item>(
     alloc: Global,
-    right_part: &Check<L, V>,
-    left: Left<'_, L, V, Option<Case>>,
-    asked: Asked<'_, L, V, Item>,
+    right_part: &Check<L, V, S>,
+    left: Left<'_, L, V, S, Option<Case>>,
+    asked: Asked<'_, L, V, S, Item>,
 ) -> Result<Option<Case>, AllocError>
-    requires lawful { AllOf L.lawful right_part.now }
+    requires lawful { AllOf L.lawful S.words right_part.now }
     requires left { IsFoundChange
-        (Has L.output V.output L.formula V.members_of V.reason_of asked.item.now left.part.now)
+        (Has L.output V.output L.formula V.gives V.absence_of S.words asked.item.now left.part.now)
         (left_wanted left.operator asked.wanted) left.found }
-    requires whole { tree_of asked.whole.now ≡ Pairs left.operator (tree_of left.part.now)
-        (tree_of right_part.now) }
+    requires whole { tree_of S.words asked.whole.now ≡ Pairs
+        (words_of S.words asked.whole.now) left.operator (tree_of S.words left.part.now)
+        (tree_of S.words right_part.now) }
     ensures { IfOk result (IsFoundChange
-        (Has L.output V.output L.formula V.members_of V.reason_of asked.entry.item.now
+        (Has L.output V.output L.formula V.gives V.absence_of S.words asked.entry.item.now
         asked.entry.whole.now) asked.entry.wanted) }
 {
     let operator = left.operator;
@@ -192,22 +197,22 @@ fn pair_changed<L: PredicateChange<Item>, V: Members<Item>, Item>(
 
 // The same of a row of checks.
 #[cycle(change)]
-fn row_changed<L: PredicateChange<Item>, V: Members<Item>, Item>(
+fn row_changed<L: PredicateChange<Item>, V: View<Item>, S: Wording, Item>(
     alloc: Global,
-    parts: &[Check<L, V>],
+    parts: &[Check<L, V, S>],
     decides: bool,
-    asked: Asked<'_, L, V, Item>,
+    asked: Asked<'_, L, V, S, Item>,
 ) -> Result<Option<Case>, AllocError>
-    requires lawful { AllLeaves L.lawful (Rows decides (trees_of (map tree_of parts.now))) }
-    requires whole { tree_of asked.whole.now ≡ Rows decides (trees_of (map tree_of parts.now)) }
+    requires lawful { AllByRecursion (AllOf L.lawful S.words) parts.now }
+    requires whole { tree_of S.words asked.whole.now ≡ Rows (words_of S.words asked.whole.now)
+        decides (trees_of (map (tree_of S.words) parts.now)) }
     ensures { IfOk result (IsFoundChange
-        (Has L.output V.output L.formula V.members_of V.reason_of asked.entry.item.now
+        (Has L.output V.output L.formula V.gives V.absence_of S.words asked.entry.item.now
         asked.entry.whole.now) asked.entry.wanted) }
 {
-    are_lawful::<L, V, Item>(parts);
     let list = Deciding {
         whole: asked.whole,
-        name: "rule",
+        name: asked.whole.part(),
         decides,
     };
     let found = parts_changed(alloc, parts, list, asked.wanted, asked.item)?;
@@ -216,17 +221,17 @@ fn row_changed<L: PredicateChange<Item>, V: Members<Item>, Item>(
 
 // The same, as `custom::parts_change`.
 #[cycle(change)]
-fn parts_changed<L: PredicateChange<Item>, V: Members<Item>, Item>(
+fn parts_changed<L: PredicateChange<Item>, V: View<Item>, S: Wording, Item>(
     alloc: Global,
-    parts: &[Check<L, V>],
-    list: Deciding<'_, Check<L, V>>,
+    parts: &[Check<L, V, S>],
+    list: Deciding<'_, Check<L, V, S>>,
     wanted: Option<bool>,
     item: &Item,
 ) -> Result<Option<Case>, AllocError>
-    requires { AllByRecursion (AllOf L.lawful) parts.now }
+    requires { AllByRecursion (AllOf L.lawful S.words) parts.now }
     ensures { IfOk result (IsFoundChange (IsOfMembers list.entry.decides
-        (check_text L.output V.output list.entry.whole.now) list.entry.name.now
-        (Has L.output V.output L.formula V.members_of V.reason_of item.now) parts.now)
+        (check_text L.output V.output S.words list.entry.whole.now) list.entry.name.now
+        (Has L.output V.output L.formula V.gives V.absence_of S.words item.now) parts.now)
         wanted) }
 {
     match wanted {
@@ -243,16 +248,16 @@ fn parts_changed<L: PredicateChange<Item>, V: Members<Item>, Item>(
 
 // What would turn all the parts that decide, where one does.
 #[cycle(change)]
-fn deciding_parts<L: PredicateChange<Item>, V: Members<Item>, Item>(
+fn deciding_parts<L: PredicateChange<Item>, V: View<Item>, S: Wording, Item>(
     alloc: Global,
-    parts: &[Check<L, V>],
-    list: Deciding<'_, Check<L, V>>,
+    parts: &[Check<L, V, S>],
+    list: Deciding<'_, Check<L, V, S>>,
     item: &Item,
 ) -> Result<Option<Case>, AllocError>
-    requires { AllByRecursion (AllOf L.lawful) parts.now }
+    requires { AllByRecursion (AllOf L.lawful S.words) parts.now }
     ensures { IfOk result (IsFoundChange (IsOfMembers list.entry.decides
-        (check_text L.output V.output list.entry.whole.now) list.entry.name.now
-        (Has L.output V.output L.formula V.members_of V.reason_of item.now) parts.now)
+        (check_text L.output V.output S.words list.entry.whole.now) list.entry.name.now
+        (Has L.output V.output L.formula V.gives V.absence_of S.words item.now) parts.now)
         (Some list.entry.decides)) }
 {
     let mut found: Option<Case> = None;
@@ -268,16 +273,16 @@ fn deciding_parts<L: PredicateChange<Item>, V: Members<Item>, Item>(
 
 // What would turn the first part, where none decides.
 #[cycle(change)]
-fn passing_parts<L: PredicateChange<Item>, V: Members<Item>, Item>(
+fn passing_parts<L: PredicateChange<Item>, V: View<Item>, S: Wording, Item>(
     alloc: Global,
-    parts: &[Check<L, V>],
-    list: Deciding<'_, Check<L, V>>,
+    parts: &[Check<L, V, S>],
+    list: Deciding<'_, Check<L, V, S>>,
     item: &Item,
 ) -> Result<Option<Case>, AllocError>
-    requires { AllByRecursion (AllOf L.lawful) parts.now }
+    requires { AllByRecursion (AllOf L.lawful S.words) parts.now }
     ensures { IfOk result (IsFoundChange (IsOfMembers list.entry.decides
-        (check_text L.output V.output list.entry.whole.now) list.entry.name.now
-        (Has L.output V.output L.formula V.members_of V.reason_of item.now) parts.now)
+        (check_text L.output V.output S.words list.entry.whole.now) list.entry.name.now
+        (Has L.output V.output L.formula V.gives V.absence_of S.words item.now) parts.now)
         (Some (not list.entry.decides))) }
 {
     let Some((first, rest)) = parts.split_first() else {
@@ -287,7 +292,7 @@ fn passing_parts<L: PredicateChange<Item>, V: Members<Item>, Item>(
         return Ok(None);
     };
     for part in rest {
-        if holds(alloc, part, item)? == list.decides {
+        if verdict(alloc, part, item)? == list.decides {
             return Ok(None);
         }
     }
@@ -297,16 +302,16 @@ fn passing_parts<L: PredicateChange<Item>, V: Members<Item>, Item>(
 // What would turn the whole, whichever its verdict. The first part is asked for its change, and
 // each other only for that of a part that decides.
 #[cycle(change)]
-fn whichever_parts<L: PredicateChange<Item>, V: Members<Item>, Item>(
+fn whichever_parts<L: PredicateChange<Item>, V: View<Item>, S: Wording, Item>(
     alloc: Global,
-    parts: &[Check<L, V>],
-    list: Deciding<'_, Check<L, V>>,
+    parts: &[Check<L, V, S>],
+    list: Deciding<'_, Check<L, V, S>>,
     item: &Item,
 ) -> Result<Option<Case>, AllocError>
-    requires { AllByRecursion (AllOf L.lawful) parts.now }
+    requires { AllByRecursion (AllOf L.lawful S.words) parts.now }
     ensures { IfOk result (IsFoundChange (IsOfMembers list.entry.decides
-        (check_text L.output V.output list.entry.whole.now) list.entry.name.now
-        (Has L.output V.output L.formula V.members_of V.reason_of item.now) parts.now)
+        (check_text L.output V.output S.words list.entry.whole.now) list.entry.name.now
+        (Has L.output V.output L.formula V.gives V.absence_of S.words item.now) parts.now)
         None) }
 {
     if parts.is_empty() {
@@ -334,22 +339,22 @@ fn whichever_parts<L: PredicateChange<Item>, V: Members<Item>, Item>(
 
 // The same of checks of which at least so many have to hold.
 #[cycle(change)]
-fn threshold_changed<L: PredicateChange<Item>, V: Members<Item>, Item>(
+fn threshold_changed<L: PredicateChange<Item>, V: View<Item>, S: Wording, Item>(
     alloc: Global,
-    parts: &[Check<L, V>],
+    parts: &[Check<L, V, S>],
     least: usize,
-    asked: Asked<'_, L, V, Item>,
+    asked: Asked<'_, L, V, S, Item>,
 ) -> Result<Option<Case>, AllocError>
-    requires lawful { AllLeaves L.lawful (Counts least (trees_of (map tree_of parts.now))) }
-    requires whole { tree_of asked.whole.now ≡ Counts least (trees_of (map tree_of parts.now)) }
+    requires lawful { AllByRecursion (AllOf L.lawful S.words) parts.now }
+    requires whole { tree_of S.words asked.whole.now ≡ Counts
+        (words_of S.words asked.whole.now) least (trees_of (map (tree_of S.words) parts.now)) }
     ensures { IfOk result (IsFoundChange
-        (Has L.output V.output L.formula V.members_of V.reason_of asked.entry.item.now
+        (Has L.output V.output L.formula V.gives V.absence_of S.words asked.entry.item.now
         asked.entry.whole.now) asked.entry.wanted) }
 {
-    are_lawful::<L, V, Item>(parts);
     let list = Counting {
         whole: asked.whole,
-        name: "rule",
+        name: asked.whole.part(),
         least,
     };
     let found = counted_changed(alloc, parts, list, asked.wanted, asked.item)?;
@@ -358,17 +363,17 @@ fn threshold_changed<L: PredicateChange<Item>, V: Members<Item>, Item>(
 
 // The same, as `custom::threshold_change`.
 #[cycle(change)]
-fn counted_changed<L: PredicateChange<Item>, V: Members<Item>, Item>(
+fn counted_changed<L: PredicateChange<Item>, V: View<Item>, S: Wording, Item>(
     alloc: Global,
-    parts: &[Check<L, V>],
-    list: Counting<'_, Check<L, V>>,
+    parts: &[Check<L, V, S>],
+    list: Counting<'_, Check<L, V, S>>,
     wanted: Option<bool>,
     item: &Item,
 ) -> Result<Option<Case>, AllocError>
-    requires { AllByRecursion (AllOf L.lawful) parts.now }
+    requires { AllByRecursion (AllOf L.lawful S.words) parts.now }
     ensures { IfOk result (IsFoundChange (IsOfThreshold list.entry.least
-        (check_text L.output V.output list.entry.whole.now) list.entry.name.now
-        (Has L.output V.output L.formula V.members_of V.reason_of item.now) parts.now)
+        (check_text L.output V.output S.words list.entry.whole.now) list.entry.name.now
+        (Has L.output V.output L.formula V.gives V.absence_of S.words item.now) parts.now)
         wanted) }
 {
     if is_settled(list.least, parts.len()) {
@@ -382,19 +387,19 @@ fn counted_changed<L: PredicateChange<Item>, V: Members<Item>, Item>(
 
 // The change of a whole that is wanted to have the verdict.
 #[cycle(change)]
-fn turned_wanted<L: PredicateChange<Item>, V: Members<Item>, Item>(
+fn turned_wanted<L: PredicateChange<Item>, V: View<Item>, S: Wording, Item>(
     alloc: Global,
-    parts: &[Check<L, V>],
-    list: Counting<'_, Check<L, V>>,
+    parts: &[Check<L, V, S>],
+    list: Counting<'_, Check<L, V, S>>,
     expected: bool,
     item: &Item,
 ) -> Result<Option<Case>, AllocError>
-    requires lawful { AllByRecursion (AllOf L.lawful) parts.now }
+    requires lawful { AllByRecursion (AllOf L.lawful S.words) parts.now }
     requires some { 1 ≤ list.least }
     requires within { list.least ≤ length parts.now }
     ensures { IfOk result (IsFoundChange (IsOfThreshold list.entry.least
-        (check_text L.output V.output list.entry.whole.now) list.entry.name.now
-        (Has L.output V.output L.formula V.members_of V.reason_of item.now) parts.now)
+        (check_text L.output V.output S.words list.entry.whole.now) list.entry.name.now
+        (Has L.output V.output L.formula V.gives V.absence_of S.words item.now) parts.now)
         (Some expected)) }
 {
     let enough = enough_of(expected, list.least, parts.len());
@@ -420,18 +425,18 @@ fn turned_wanted<L: PredicateChange<Item>, V: Members<Item>, Item>(
 
 // The change of a whole, whichever its verdict. Each part is asked once.
 #[cycle(change)]
-fn turned_either<L: PredicateChange<Item>, V: Members<Item>, Item>(
+fn turned_either<L: PredicateChange<Item>, V: View<Item>, S: Wording, Item>(
     alloc: Global,
-    parts: &[Check<L, V>],
-    list: Counting<'_, Check<L, V>>,
+    parts: &[Check<L, V, S>],
+    list: Counting<'_, Check<L, V, S>>,
     item: &Item,
 ) -> Result<Option<Case>, AllocError>
-    requires lawful { AllByRecursion (AllOf L.lawful) parts.now }
+    requires lawful { AllByRecursion (AllOf L.lawful S.words) parts.now }
     requires some { 1 ≤ list.least }
     requires within { list.least ≤ length parts.now }
     ensures { IfOk result (IsFoundChange (IsOfThreshold list.entry.least
-        (check_text L.output V.output list.entry.whole.now) list.entry.name.now
-        (Has L.output V.output L.formula V.members_of V.reason_of item.now) parts.now)
+        (check_text L.output V.output S.words list.entry.whole.now) list.entry.name.now
+        (Has L.output V.output L.formula V.gives V.absence_of S.words item.now) parts.now)
         None) }
 {
     let mut held: Vec<Case> = Vec::new(alloc);

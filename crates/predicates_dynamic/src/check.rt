@@ -1,25 +1,30 @@
 //! A check whose shape comes at run time.
-ghost use Rattle.std.specs.Prelude.{◌≡◌, ◌<◌, refl, codes, map, None, Some, IfSome};
+ghost use Rattle.std.specs.Prelude.{◌≡◌, ◌<◌, refl, codes, map, option_map};
+ghost use Rattle.std.specs.Prelude.{None, Some, IfOk, IfSome, IsOk};
 ghost use Rattle.std.specs.Fmt.{DisplaysOnOk};
-ghost use Rattle.predicates_core.specs.Several.{further_texts};
+ghost use Rattle.predicates_core.specs.Several.{further_texts, listed_text};
 ghost use Rattle.predicates_core.specs.Thresholds.{counted_text};
-ghost use Rattle.predicates_dynamic.specs.Trees.{tree_of, trees_of, AllOf, AsksAll, Rows};
-ghost use Rattle.predicates_dynamic.specs.Trees.{Counts, Odds};
-ghost use Rattle.predicates_dynamic.specs.Formulas.{check_text, tree_text, Has, tree_formula, word};
+ghost use Rattle.predicates_core.specs.Formula.{HasTruth};
+ghost use Rattle.predicates_core.specs.Label.{value_of};
+ghost use Rattle.predicates_dynamic.specs.Trees.{tree_of, words_of, AllOf, AsksAll};
+ghost use Rattle.predicates_dynamic.specs.Formulas.{check_text, own_text, Has, tree_formula, word};
 ghost use Rattle.predicates_dynamic.specs.Formulas.{member_word, quantified_text, members_text};
 ghost use Rattle.predicates_dynamic.specs.Formulas.{viewed_text};
 ghost use Rattle.predicates_dynamic.specs.Described.{check_parameters, check_parts};
 ghost use Rattle.predicates_dynamic.specs.Listed.{joined_texts, row_text, text_at};
 ghost use Rattle.predicates_dynamic.specs.Sizes.{left_over};
 ghost use Rattle.predicates_dynamic.specs.Laws.{tree_text_fits, one_tree, has_tree, all_leaves};
-ghost use Rattle.predicates_dynamic.specs.Laws.{members_as_they_are};
+ghost use Rattle.predicates_dynamic.specs.Laws.{members_as_they_are, none_read};
 
 use crate::change::changed;
 use crate::describe::parts_of;
+use crate::evaluate::EvaluateWith;
 use crate::explain::{explained, found};
-use crate::hold::holds;
+use crate::hold::{holds, verdict};
 use crate::members::{Members, NoMembers};
 use crate::take_apart::{left_first, parts_apart, resumed};
+use crate::view::View;
+use crate::wording::{Computed, Wording};
 use predicates_core::custom::Operator;
 use predicates_core::reflection::{Case, Child, Parameter, PredicateReflection};
 use predicates_core::static_text::StaticText;
@@ -38,32 +43,35 @@ use std::fmt;
 ///
 /// A call takes up to five stack frames a level, as to print a row; making and dropping a check
 /// takes no more for a deep one.
-pub enum Check<L, V = NoMembers> {
+pub enum Check<L, V = NoMembers, S = Computed> {
     /// The leaf holds. It prints and shows what the leaf does.
     Leaf(L),
     /// The part does not hold.
-    Not(Box<Check<L, V>>),
+    Not(S, Box<Check<L, V, S>>),
     /// The part holds; the name is printed in its place.
-    Named(StaticText, Box<Check<L, V>>),
+    Named(StaticText, Box<Check<L, V, S>>),
     /// Two parts that an operator joins.
-    Pair(Operator, Box<Check<L, V>>, Box<Check<L, V>>),
+    Pair(S, Operator, Box<Check<L, V, S>>, Box<Check<L, V, S>>),
     /// A row that one part with the verdict decides: with `true` one has to hold, else each.
-    Row(bool, Vec<Check<L, V>>),
+    Row(S, bool, Vec<Check<L, V, S>>),
     /// At least so many of the parts hold.
-    AtLeast(usize, Vec<Check<L, V>>),
+    AtLeast(S, usize, Vec<Check<L, V, S>>),
     /// An odd number of the parts hold.
-    Odd(Vec<Check<L, V>>),
+    Odd(S, Vec<Check<L, V, S>>),
     /// The part holds of the members that the view gives: with `true` of one of them, else of each.
-    Quantified(bool, V, Box<Check<L, V>>),
+    Quantified(S, bool, V, Box<Check<L, V, S>>),
     /// The part holds of at least so many of the members that the view gives.
-    MembersAtLeast(usize, V, Box<Check<L, V>>),
+    MembersAtLeast(S, usize, V, Box<Check<L, V, S>>),
 }
 
-impl<L: Drop, V: Drop> Check<L, V> {
+impl<L: Drop, V: Drop, S: Drop> Check<L, V, S> {
     // What is left of a check that is being dropped, beside what waits: the check to go on with,
     // and what then waits. None where nothing is left. It takes no memory: what waits is put into
     // boxes and into places of rows that get free.
-    fn take_apart(self, waiting: Option<Check<L, V>>) -> Option<(Check<L, V>, Option<Check<L, V>>)>
+    fn take_apart(
+        self,
+        waiting: Option<Check<L, V, S>>,
+    ) -> Option<(Check<L, V, S>, Option<Check<L, V, S>>)>
         ensures { IfSome result (λ next. left_over next.0 next.1 < left_over self waiting) }
     {
         match self {
@@ -71,28 +79,24 @@ impl<L: Drop, V: Drop> Check<L, V> {
                 drop(leaf);
                 resumed(waiting)
             }
-            Check::Not(inner) => Some((Box::into_inner(inner), waiting)),
+            Check::Not(_, inner) => Some((Box::into_inner(inner), waiting)),
             Check::Named(_, inner) => Some((Box::into_inner(inner), waiting)),
-            Check::Pair(operator, left, right) => Some(left_first(operator, left, right, waiting)),
-            Check::Row(_, parts) => parts_apart(parts, waiting),
-            Check::AtLeast(_, parts) => parts_apart(parts, waiting),
-            Check::Odd(parts) => parts_apart(parts, waiting),
-            Check::Quantified(_, view, inner) => {
-                drop(view);
-                Some((Box::into_inner(inner), waiting))
+            Check::Pair(wording, operator, left, right) => {
+                Some(left_first(wording, operator, left, right, waiting))
             }
-            Check::MembersAtLeast(_, view, inner) => {
-                drop(view);
-                Some((Box::into_inner(inner), waiting))
-            }
+            Check::Row(wording, _, parts) => parts_apart(wording, parts, waiting),
+            Check::AtLeast(wording, _, parts) => parts_apart(wording, parts, waiting),
+            Check::Odd(wording, parts) => parts_apart(wording, parts, waiting),
+            Check::Quantified(_, _, _, inner) => Some((Box::into_inner(inner), waiting)),
+            Check::MembersAtLeast(_, _, _, inner) => Some((Box::into_inner(inner), waiting)),
         }
     }
 }
 
 // A loop, so that a deep check does not run out of stack. It takes no memory.
-impl<L: Drop, V: Drop> Drop for Check<L, V> {
+impl<L: Drop, V: Drop, S: Drop> Drop for Check<L, V, S> {
     fn drop(mut self) {
-        let mut waiting: Option<Check<L, V>> = None;
+        let mut waiting: Option<Check<L, V, S>> = None;
         loop {
             match self.take_apart(waiting) {
                 Some((next, rest)) => {
@@ -119,54 +123,91 @@ fn member_word_of(decides: bool) -> &'static str
     if decides { "any " } else { "each " }
 }
 
-impl<L: fmt::Display, V: fmt::Display> Check<L, V> {
+impl<L, V, S: Wording> Check<L, V, S> {
+    // The text that is kept for the check, if one is.
+    fn kept_text(&self) -> Option<&str>
+        ensures { option_map (λ text. text.now) result ≡ (words_of S.words self.now).text }
+    {
+        match self {
+            Check::Leaf(_) | Check::Named(_, _) => None,
+            Check::Not(wording, _)
+            | Check::Pair(wording, _, _, _)
+            | Check::Row(wording, _, _)
+            | Check::AtLeast(wording, _, _)
+            | Check::Odd(wording, _)
+            | Check::Quantified(wording, _, _, _)
+            | Check::MembersAtLeast(wording, _, _, _) => wording.text(),
+        }
+    }
+
+    // What each part is called where they are several.
+    pub(crate) fn part(&self) -> &'static str
+        ensures { result.now ≡ (words_of S.words self.now).part }
+    {
+        match self {
+            Check::Leaf(_) | Check::Named(_, _) => "rule",
+            Check::Not(wording, _)
+            | Check::Pair(wording, _, _, _)
+            | Check::Row(wording, _, _)
+            | Check::AtLeast(wording, _, _)
+            | Check::Odd(wording, _)
+            | Check::Quantified(wording, _, _, _)
+            | Check::MembersAtLeast(wording, _, _, _) => wording.part(),
+        }
+    }
+}
+
+impl<L: fmt::Display, V: fmt::Display, S: Wording> Check<L, V, S> {
     // A row.
     #[cycle(text)]
     fn fmt_row<W: fmt::Write>(
-        parts: &[Check<L, V>],
+        parts: &[Check<L, V, S>],
         decides: bool,
         f: &mut fmt::Formatter<W>,
     ) -> fmt::Result
         ensures { DisplaysOnOk W.write_str_gives f.old result
-            (tree_text L.output V.output (Rows decides (trees_of (map tree_of parts.now)))) f.new }
+            (listed_text (word decides) (map (check_text L.output V.output S.words) parts.now))
+            f.new }
     {
-        Check::<L, V>::fmt_listed(parts, word_of(decides), f)
+        Check::<L, V, S>::fmt_listed(parts, word_of(decides), f)
     }
 
     // A row of which an odd number has to hold.
     #[cycle(text)]
-    fn fmt_odd<W: fmt::Write>(parts: &[Check<L, V>], f: &mut fmt::Formatter<W>) -> fmt::Result
+    fn fmt_odd<W: fmt::Write>(parts: &[Check<L, V, S>], f: &mut fmt::Formatter<W>) -> fmt::Result
         ensures { DisplaysOnOk W.write_str_gives f.old result
-            (tree_text L.output V.output (Odds (trees_of (map tree_of parts.now)))) f.new }
+            (listed_text (codes "odd_of") (map (check_text L.output V.output S.words) parts.now))
+            f.new }
     {
-        Check::<L, V>::fmt_listed(parts, "odd_of", f)
+        Check::<L, V, S>::fmt_listed(parts, "odd_of", f)
     }
 
     // The parts of a row in parentheses, behind the word.
     #[cycle(text)]
     fn fmt_listed<W: fmt::Write>(
-        parts: &[Check<L, V>],
+        parts: &[Check<L, V, S>],
         word: &str,
         f: &mut fmt::Formatter<W>,
     ) -> fmt::Result
         ensures { DisplaysOnOk W.write_str_gives f.old result
-            (row_text word.now (joined_texts (map (check_text L.output V.output) parts.now)))
+            (row_text word.now (joined_texts (map (check_text L.output V.output S.words)
+            parts.now)))
             f.new }
     {
         f.write_str(word)?;
         write!(f, "(")?;
-        Check::<L, V>::fmt_parts(parts, f)?;
+        Check::<L, V, S>::fmt_parts(parts, f)?;
         write!(f, ")")
     }
 
     // The parts of a row.
     #[cycle(text)]
-    fn fmt_parts<W: fmt::Write>(parts: &[Check<L, V>], f: &mut fmt::Formatter<W>) -> fmt::Result
+    fn fmt_parts<W: fmt::Write>(parts: &[Check<L, V, S>], f: &mut fmt::Formatter<W>) -> fmt::Result
         ensures { DisplaysOnOk W.write_str_gives f.old result
-            (joined_texts (map (check_text L.output V.output) parts.now)) f.new }
+            (joined_texts (map (check_text L.output V.output S.words) parts.now)) f.new }
     {
         for (index, part) in parts.iter().enumerate() {
-            Check::<L, V>::fmt_part(part, index, f)?;
+            Check::<L, V, S>::fmt_part(part, index, f)?;
         }
         Ok(())
     }
@@ -174,12 +215,12 @@ impl<L: fmt::Display, V: fmt::Display> Check<L, V> {
     // A part of a row, behind a comma where it is not the first.
     #[cycle(text)]
     fn fmt_part<W: fmt::Write>(
-        part: &Check<L, V>,
+        part: &Check<L, V, S>,
         index: usize,
         f: &mut fmt::Formatter<W>,
     ) -> fmt::Result
         ensures { DisplaysOnOk W.write_str_gives f.old result
-            (text_at index (check_text L.output V.output part.now)) f.new }
+            (text_at index (check_text L.output V.output S.words part.now)) f.new }
     {
         if index == 0 {
             return fmt::Display::fmt(part, f);
@@ -188,87 +229,77 @@ impl<L: fmt::Display, V: fmt::Display> Check<L, V> {
         fmt::Display::fmt(part, f)
     }
 
-    // Parts of which at least so many have to hold.
-    #[cycle(text)]
-    fn fmt_counted<W: fmt::Write>(
-        parts: &[Check<L, V>],
-        least: usize,
-        f: &mut fmt::Formatter<W>,
-    ) -> fmt::Result
-        ensures { DisplaysOnOk W.write_str_gives f.old result
-            (tree_text L.output V.output (Counts least (trees_of (map tree_of parts.now)))) f.new }
-    {
-        Check::<L, V>::fmt_threshold(parts, least, f)
-    }
-
-    // The number and the parts in parentheses.
+    // Parts of which at least so many have to hold: the number and the parts in parentheses.
     #[cycle(text)]
     fn fmt_threshold<W: fmt::Write>(
-        parts: &[Check<L, V>],
+        parts: &[Check<L, V, S>],
         least: usize,
         f: &mut fmt::Formatter<W>,
     ) -> fmt::Result
         ensures { DisplaysOnOk W.write_str_gives f.old result (counted_text (codes "at_least") least
-            (map (check_text L.output V.output) parts.now)) f.new }
+            (map (check_text L.output V.output S.words) parts.now)) f.new }
     {
         write!(f, "at_least({least}")?;
-        Check::<L, V>::fmt_further(parts, f)?;
+        Check::<L, V, S>::fmt_further(parts, f)?;
         write!(f, ")")
     }
 
     // The parts, each behind a comma.
     #[cycle(text)]
-    fn fmt_further<W: fmt::Write>(parts: &[Check<L, V>], f: &mut fmt::Formatter<W>) -> fmt::Result
+    fn fmt_further<W: fmt::Write>(
+        parts: &[Check<L, V, S>],
+        f: &mut fmt::Formatter<W>,
+    ) -> fmt::Result
         ensures { DisplaysOnOk W.write_str_gives f.old result
-            (further_texts (map (check_text L.output V.output) parts.now)) f.new }
+            (further_texts (map (check_text L.output V.output S.words) parts.now)) f.new }
     {
         for part in parts {
-            Check::<L, V>::fmt_part(part, 1, f)?;
+            Check::<L, V, S>::fmt_part(part, 1, f)?;
         }
         Ok(())
     }
 }
 
-impl<L: fmt::Display, V: fmt::Display> Check<L, V> {
+impl<L: fmt::Display, V: fmt::Display, S: Wording> Check<L, V, S> {
     // A check of members.
     #[cycle(text)]
     fn fmt_quantified<W: fmt::Write>(
-        inner: &Check<L, V>,
+        inner: &Check<L, V, S>,
         view: &V,
         decides: bool,
         f: &mut fmt::Formatter<W>,
     ) -> fmt::Result
         ensures { DisplaysOnOk W.write_str_gives f.old result (quantified_text decides
-            (V.output view.now) (check_text L.output V.output inner.now)) f.new }
+            (V.output view.now) (check_text L.output V.output S.words inner.now)) f.new }
     {
         f.write_str(member_word_of(decides))?;
-        Check::<L, V>::fmt_viewed(inner, view, f)
+        Check::<L, V, S>::fmt_viewed(inner, view, f)
     }
 
     // A check of which at least so many members have to hold.
     #[cycle(text)]
     fn fmt_members<W: fmt::Write>(
-        inner: &Check<L, V>,
+        inner: &Check<L, V, S>,
         view: &V,
         least: usize,
         f: &mut fmt::Formatter<W>,
     ) -> fmt::Result
         ensures { DisplaysOnOk W.write_str_gives f.old result (members_text least
-            (V.output view.now) (check_text L.output V.output inner.now)) f.new }
+            (V.output view.now) (check_text L.output V.output S.words inner.now)) f.new }
     {
         write!(f, "at_least {least} ")?;
-        Check::<L, V>::fmt_viewed(inner, view, f)
+        Check::<L, V, S>::fmt_viewed(inner, view, f)
     }
 
     // The view of the members, and the check of a member in parentheses.
     #[cycle(text)]
     fn fmt_viewed<W: fmt::Write>(
-        inner: &Check<L, V>,
+        inner: &Check<L, V, S>,
         view: &V,
         f: &mut fmt::Formatter<W>,
     ) -> fmt::Result
         ensures { DisplaysOnOk W.write_str_gives f.old result (viewed_text
-            (V.output view.now) (check_text L.output V.output inner.now)) f.new }
+            (V.output view.now) (check_text L.output V.output S.words inner.now)) f.new }
     {
         fmt::Display::fmt(view, f)?;
         write!(f, "(")?;
@@ -277,43 +308,57 @@ impl<L: fmt::Display, V: fmt::Display> Check<L, V> {
     }
 }
 
-impl<L: fmt::Display, V: fmt::Display> fmt::Display for Check<L, V> {
-    ghost output = { λ c. check_text L.output V.output c };
-
+impl<L: fmt::Display, V: fmt::Display, S: Wording> Check<L, V, S> {
+    // The text that is made of those of the parts.
     #[cycle(text)]
-    fn fmt<W: fmt::Write>(&self, f: &mut fmt::Formatter<W>) -> fmt::Result {
+    fn fmt_computed<W: fmt::Write>(&self, f: &mut fmt::Formatter<W>) -> fmt::Result
+        ensures { DisplaysOnOk W.write_str_gives f.old result
+            (own_text L.output V.output (tree_of S.words self.now)) f.new }
+    {
         match self {
-            Check::Leaf(leaf) => leaf.fmt(f),
-            Check::Not(inner) => {
+            Check::Leaf(leaf) => fmt::Display::fmt(leaf, f),
+            Check::Not(_, inner) => {
                 write!(f, "(! ")?;
-                (**inner).fmt(f)?;
+                fmt::Display::fmt(&**inner, f)?;
                 write!(f, ")")
             }
             Check::Named(name, _) => f.write_str(name.as_str()),
-            Check::Pair(operator, left, right) => {
+            Check::Pair(_, operator, left, right) => {
                 write!(f, "(")?;
-                (**left).fmt(f)?;
+                fmt::Display::fmt(&**left, f)?;
                 f.write_str(operator.sign())?;
-                (**right).fmt(f)?;
+                fmt::Display::fmt(&**right, f)?;
                 write!(f, ")")
             }
-            Check::Row(decides, parts) => Check::<L, V>::fmt_row(parts, *decides, f),
-            Check::AtLeast(least, parts) => Check::<L, V>::fmt_counted(parts, *least, f),
-            Check::Odd(parts) => Check::<L, V>::fmt_odd(parts, f),
-            Check::Quantified(decides, view, inner) => {
-                Check::<L, V>::fmt_quantified(inner, view, *decides, f)
+            Check::Row(_, decides, parts) => Check::<L, V, S>::fmt_row(parts, *decides, f),
+            Check::AtLeast(_, least, parts) => Check::<L, V, S>::fmt_threshold(parts, *least, f),
+            Check::Odd(_, parts) => Check::<L, V, S>::fmt_odd(parts, f),
+            Check::Quantified(_, decides, view, inner) => {
+                Check::<L, V, S>::fmt_quantified(inner, view, *decides, f)
             }
-            Check::MembersAtLeast(least, view, inner) => {
-                Check::<L, V>::fmt_members(inner, view, *least, f)
+            Check::MembersAtLeast(_, least, view, inner) => {
+                Check::<L, V, S>::fmt_members(inner, view, *least, f)
             }
         }
     }
 }
 
-impl<L: PredicateReflection, V: fmt::Display> PredicateReflection for Check<L, V> {
-    ghost parameters_of = { λ c. check_parameters L.parameters_of c };
+impl<L: fmt::Display, V: fmt::Display, S: Wording> fmt::Display for Check<L, V, S> {
+    ghost output = { λ c. check_text L.output V.output S.words c };
 
-    ghost children_of = { λ c. check_parts L.output V.output L.parameters_of L.children_of c };
+    #[cycle(text)]
+    fn fmt<W: fmt::Write>(&self, f: &mut fmt::Formatter<W>) -> fmt::Result {
+        match self.kept_text() {
+            Some(text) => f.write_str(text),
+            None => self.fmt_computed(f),
+        }
+    }
+}
+
+impl<L: PredicateReflection, V: fmt::Display, S: Wording> PredicateReflection for Check<L, V, S> {
+    ghost parameters_of = { λ c. check_parameters L.parameters_of S.words c };
+
+    ghost children_of = { λ c. check_parts L.output V.output L.parameters_of L.children_of S.words c };
 
     fn parameters(&self, alloc: Global) -> Result<Vec<Parameter>, AllocError> {
         match self {
@@ -327,21 +372,21 @@ impl<L: PredicateReflection, V: fmt::Display> PredicateReflection for Check<L, V
     }
 }
 
-impl<L: Predicate<Item>, V: Members<Item>, Item> Predicate<Item> for Check<L, V> {
-    ghost lawful = { λ c. AllOf L.lawful c };
+impl<L: Predicate<Item>, V: View<Item>, S: Wording, Item> Predicate<Item> for Check<L, V, S> {
+    ghost lawful = { λ c. AllOf L.lawful S.words c };
 
-    ghost formula = { λ c v. Has L.output V.output L.formula V.members_of V.reason_of v c };
+    ghost formula = { λ c v. Has L.output V.output L.formula V.gives V.absence_of S.words v c };
 
-    ghost infallible = { λ c v. AsksAll L.infallible V.members_of v c };
+    ghost infallible = { λ c v. AsksAll L.infallible V.lends V.gives S.words v c };
 
-    ghost text_fits = { λ c v f. tree_text_fits L.output V.output L.formula V.members_of
-        V.reason_of L.text_fits v (tree_of c) f };
+    ghost text_fits = { λ c v f. tree_text_fits L.output V.output L.formula V.gives V.absence_of
+        L.text_fits V.given v (tree_of S.words c) f };
 
-    ghost one_formula = { λ c v f g. one_tree L.output V.output L.formula V.members_of
-        V.reason_of L.lawful L.one_formula v (tree_of c) f g };
+    ghost one_formula = { λ c v f g. one_tree L.output V.output L.formula V.gives V.absence_of
+        L.lawful L.one_formula V.given v (tree_of S.words c) f g };
 
     fn eval(&self, alloc: Global, item: &Item) -> Result<bool, AllocError> {
-        holds(alloc, self, item)
+        verdict(alloc, self, item)
     }
 
     fn find_case(
@@ -366,7 +411,34 @@ impl<L: Predicate<Item>, V: Members<Item>, Item> Predicate<Item> for Check<L, V>
     }
 }
 
-impl<L: PredicateChange<Item>, V: Members<Item>, Item> PredicateChange<Item> for Check<L, V> {
+impl<L, V, S: Wording> Check<L, V, S> {
+    /// As `eval`, by what a run over many items keeps for the leaves.
+    ///
+    /// ```
+    /// let mut searches = Searches::new(alloc);
+    /// assert!(rt; check.eval_with(alloc, &mut searches, &line)?);
+    /// ```
+    pub fn eval_with<Item, C>(
+        &self,
+        alloc: Global,
+        context: &mut C,
+        item: &Item,
+    ) -> Result<bool, AllocError>
+    where
+        L: EvaluateWith<Item, C>,
+        V: View<Item>,
+        requires { AllOf L.lawful S.words self.now }
+        ensures truth { IfOk result (HasTruth
+            (Has L.output V.output L.formula V.gives V.absence_of S.words item.now self.now)) }
+        ensures infallible { AsksAll L.infallible V.lends V.gives S.words item.now self.now
+            → IsOk result }
+    {
+        holds(alloc, self, context, item)
+    }
+}
+
+impl<L: PredicateChange<Item>, V: View<Item>, S: Wording, Item> PredicateChange<Item>
+    for Check<L, V, S> {
     fn find_change(
         &self,
         alloc: Global,
@@ -377,25 +449,33 @@ impl<L: PredicateChange<Item>, V: Members<Item>, Item> PredicateChange<Item> for
     }
 }
 
-impl<L: Total<Item>, V: Members<Item>, Item> Total<Item> for Check<L, V> {
+impl<L: Total<Item>, V: Members<Item>, S: Wording, Item> Total<Item> for Check<L, V, S> {
     ghost formula_of = { λ c v. tree_formula L.output V.output L.formula_of V.members_of
-        V.reason_of v (tree_of c) };
+        (λ view item. value_of (codes "error") (Some (V.reason_of view item))) v
+        (tree_of S.words c) };
 
-    ghost always_lawful = { λ c. all_leaves L.lawful L.always_lawful (tree_of c) };
+    ghost always_lawful = { λ c. all_leaves L.lawful L.always_lawful (tree_of S.words c) };
 
-    ghost has_formula = { λ c v. has_tree L.output V.output L.formula V.members_of V.reason_of
-        (λ item. item) L.formula_of V.members_of V.reason_of L.has_formula
-        (members_as_they_are V.members_of) (λ view item. refl) v (tree_of c) };
+    ghost has_formula = { λ c v. has_tree L.output V.output L.formula
+        (λ view item o. V.members_of view item ≡ o)
+        (λ view item. value_of (codes "error") (Some (V.reason_of view item)))
+        (λ item. item) L.formula_of V.members_of
+        (λ view item. value_of (codes "error") (Some (V.reason_of view item))) L.has_formula
+        (members_as_they_are V.members_of) (λ view item. refl) v (tree_of S.words c) };
 }
 
 // A view reads the item, so this is for checks that ask no members.
-impl<L: ReadsContent<Item>, Item: Content> ReadsContent<Item> for Check<L> {
+impl<L: ReadsContent<Item>, S: Wording, Item: Content> ReadsContent<Item>
+    for Check<L, NoMembers, S> {
     ghost content_formula = { λ c bytes. tree_formula L.output (λ _. Some (codes ""))
-        L.content_formula (λ _ _. None) (λ _ _. codes "") bytes (tree_of c) };
+        L.content_formula (λ _ _. None) (λ _ _. value_of (codes "error") (Some (codes ""))) bytes
+        (tree_of S.words c) };
 
-    ghost always_lawful = { λ c. all_leaves L.lawful L.always_lawful (tree_of c) };
+    ghost always_lawful = { λ c. all_leaves L.lawful L.always_lawful (tree_of S.words c) };
 
-    ghost has_formula = { λ c v. has_tree L.output (λ _. Some (codes "")) L.formula (λ _ _. None)
-        (λ _ _. codes "") Item.content L.content_formula (λ _ _. None) (λ _ _. codes "")
-        L.has_formula (λ view item. refl) (λ view item. refl) v (tree_of c) };
+    ghost has_formula = { λ c v. has_tree L.output (λ _. Some (codes "")) L.formula
+        (λ _ _ o. None ≡ o) (λ _ _. value_of (codes "error") (Some (codes ""))) Item.content
+        L.content_formula (λ _ _. None) (λ _ _. value_of (codes "error") (Some (codes "")))
+        L.has_formula (λ view item o is. none_read _ is) (λ view item. refl) v
+        (tree_of S.words c) };
 }

@@ -4,9 +4,10 @@ ghost use Rattle.predicates_core.specs.Parts.{FitsParts, IsPart, part, part_of_e
 ghost use Rattle.predicates_core.specs.Tree.{empty, forest};
 ghost use Rattle.predicates_dynamic.specs.Formulas.{check_text};
 ghost use Rattle.predicates_dynamic.specs.Described.{check_parameters, check_parts, row_parts};
-ghost use Rattle.predicates_dynamic.specs.Trees.{tree_of, trees_of};
+ghost use Rattle.predicates_dynamic.specs.Trees.{words_of, tree_of, trees_of};
 
 use crate::check::Check;
+use crate::wording::Wording;
 use predicates_core::node::printed;
 use predicates_core::reflection::{Child, PredicateReflection};
 use std::alloc::{AllocError, Global};
@@ -14,43 +15,44 @@ use std::fmt;
 
 // The `children` of the check.
 #[cycle(describe)]
-pub(crate) fn parts_of<L: PredicateReflection, V: fmt::Display>(
+pub(crate) fn parts_of<L: PredicateReflection, V: fmt::Display, S: Wording>(
     alloc: Global,
-    check: &Check<L, V>,
+    check: &Check<L, V, S>,
 ) -> Result<Vec<Child>, AllocError>
     ensures fits { IfOk result (λ children. FitsParts
-        (check_parts L.output V.output L.parameters_of L.children_of check.now)
+        (check_parts L.output V.output L.parameters_of L.children_of S.words check.now)
         (forest children.items)) }
-    ensures none { check_parts L.output V.output L.parameters_of L.children_of check.now ≡ empty
+    ensures none { check_parts L.output V.output L.parameters_of L.children_of S.words check.now
+        ≡ empty
         → IsOk result }
 {
     match check {
         Check::Leaf(leaf) => leaf.children(alloc),
-        Check::Not(inner) => one_part(alloc, inner, "predicate"),
+        Check::Not(_, inner) => one_part(alloc, inner, "predicate"),
         Check::Named(name, inner) => one_part(alloc, inner, name.as_str()),
-        Check::Pair(_, left_part, right_part) => {
-            let left_part: &Check<L, V> = left_part;
+        Check::Pair(_, _, left_part, right_part) => {
+            let left_part: &Check<L, V, S> = left_part;
             let left = described(alloc, left_part, "left")?;
             two_parts_of(alloc, right_part, left_part, left)
         }
-        Check::Row(_, parts) => parts_children(alloc, parts, check),
-        Check::AtLeast(_, parts) => parts_children(alloc, parts, check),
-        Check::Odd(parts) => parts_children(alloc, parts, check),
-        Check::Quantified(_, _, inner) => one_part(alloc, inner, "item"),
-        Check::MembersAtLeast(_, _, inner) => one_part(alloc, inner, "item"),
+        Check::Row(_, _, parts) => parts_children(alloc, parts, check),
+        Check::AtLeast(_, _, parts) => parts_children(alloc, parts, check),
+        Check::Odd(_, parts) => parts_children(alloc, parts, check),
+        Check::Quantified(_, _, _, inner) => one_part(alloc, inner, "item"),
+        Check::MembersAtLeast(_, _, _, inner) => one_part(alloc, inner, "item"),
     }
 }
 
 // The description of a part under the name.
 #[cycle(describe)]
-fn described<L: PredicateReflection, V: fmt::Display>(
+fn described<L: PredicateReflection, V: fmt::Display, S: Wording>(
     alloc: Global,
-    part: &Check<L, V>,
+    part: &Check<L, V, S>,
     name: &'static str,
 ) -> Result<Child, AllocError>
-    ensures { IfOk result (IsPart name.now (check_text L.output V.output part.now)
-        (check_parameters L.parameters_of part.now)
-        (check_parts L.output V.output L.parameters_of L.children_of part.now)) }
+    ensures { IfOk result (IsPart name.now (check_text L.output V.output S.words part.now)
+        (check_parameters L.parameters_of S.words part.now)
+        (check_parts L.output V.output L.parameters_of L.children_of S.words part.now)) }
 {
     let text = printed(alloc, part)?;
     let parameters = part.parameters(alloc)?;
@@ -60,15 +62,15 @@ fn described<L: PredicateReflection, V: fmt::Display>(
 
 // The description of the one part of a check.
 #[cycle(describe)]
-fn one_part<L: PredicateReflection, V: fmt::Display>(
+fn one_part<L: PredicateReflection, V: fmt::Display, S: Wording>(
     alloc: Global,
-    inner: &Check<L, V>,
+    inner: &Check<L, V, S>,
     name: &'static str,
 ) -> Result<Vec<Child>, AllocError>
     ensures { IfOk result (λ children. FitsParts
-        (part name.now (check_text L.output V.output inner.now)
-        (check_parameters L.parameters_of inner.now)
-        (check_parts L.output V.output L.parameters_of L.children_of inner.now))
+        (part name.now (check_text L.output V.output S.words inner.now)
+        (check_parameters L.parameters_of S.words inner.now)
+        (check_parts L.output V.output L.parameters_of L.children_of S.words inner.now))
         (forest children.items)) }
 {
     let mut children = Vec::new(alloc);
@@ -78,22 +80,22 @@ fn one_part<L: PredicateReflection, V: fmt::Display>(
 
 // The descriptions of two parts, of which the left one has its.
 #[cycle(describe)]
-fn two_parts_of<L: PredicateReflection, V: fmt::Display>(
+fn two_parts_of<L: PredicateReflection, V: fmt::Display, S: Wording>(
     alloc: Global,
-    right_part: &Check<L, V>,
-    left_part: &Check<L, V>,
+    right_part: &Check<L, V, S>,
+    left_part: &Check<L, V, S>,
     left: Child,
 ) -> Result<Vec<Child>, AllocError>
-    requires { IsPart (codes "left") (check_text L.output V.output left_part.now)
-        (check_parameters L.parameters_of left_part.now)
-        (check_parts L.output V.output L.parameters_of L.children_of left_part.now) left }
+    requires { IsPart (codes "left") (check_text L.output V.output S.words left_part.now)
+        (check_parameters L.parameters_of S.words left_part.now)
+        (check_parts L.output V.output L.parameters_of L.children_of S.words left_part.now) left }
     ensures { IfOk result (λ children. FitsParts (two_parts
-        (codes "left") (check_text L.output V.output left_part.now)
-        (check_parameters L.parameters_of left_part.now)
-        (check_parts L.output V.output L.parameters_of L.children_of left_part.now)
-        (codes "right") (check_text L.output V.output right_part.now)
-        (check_parameters L.parameters_of right_part.now)
-        (check_parts L.output V.output L.parameters_of L.children_of right_part.now))
+        (codes "left") (check_text L.output V.output S.words left_part.now)
+        (check_parameters L.parameters_of S.words left_part.now)
+        (check_parts L.output V.output L.parameters_of L.children_of S.words left_part.now)
+        (codes "right") (check_text L.output V.output S.words right_part.now)
+        (check_parameters L.parameters_of S.words right_part.now)
+        (check_parts L.output V.output L.parameters_of L.children_of S.words right_part.now))
         (forest children.items)) }
 {
     let mut children = Vec::new(alloc);
@@ -104,38 +106,40 @@ fn two_parts_of<L: PredicateReflection, V: fmt::Display>(
 
 // The descriptions of several parts.
 #[cycle(describe)]
-fn parts_children<L: PredicateReflection, V: fmt::Display>(
+fn parts_children<L: PredicateReflection, V: fmt::Display, S: Wording>(
     alloc: Global,
-    parts: &[Check<L, V>],
-    whole: &Check<L, V>,
+    parts: &[Check<L, V, S>],
+    whole: &Check<L, V, S>,
 ) -> Result<Vec<Child>, AllocError>
-    requires { check_parts L.output V.output L.parameters_of L.children_of whole.now
+    requires { check_parts L.output V.output L.parameters_of L.children_of S.words whole.now
         ≡ row_parts L.output V.output L.parameters_of L.children_of
-        (trees_of (map tree_of parts.now)) }
+        (words_of S.words whole.now).part (trees_of (map (tree_of S.words) parts.now)) }
     ensures fits { IfOk result (λ children. FitsParts
-        (check_parts L.output V.output L.parameters_of L.children_of whole.now)
+        (check_parts L.output V.output L.parameters_of L.children_of S.words whole.now)
         (forest children.items)) }
-    ensures none { check_parts L.output V.output L.parameters_of L.children_of whole.now ≡ empty
+    ensures none { check_parts L.output V.output L.parameters_of L.children_of S.words whole.now
+        ≡ empty
         → IsOk result }
 {
-    each_part(alloc, parts)
+    each_part(alloc, parts, whole.part())
 }
 
 // The same, as `custom::each_child`.
 #[cycle(describe)]
-fn each_part<L: PredicateReflection, V: fmt::Display>(
+fn each_part<L: PredicateReflection, V: fmt::Display, S: Wording>(
     alloc: Global,
-    parts: &[Check<L, V>],
+    parts: &[Check<L, V, S>],
+    name: &'static str,
 ) -> Result<Vec<Child>, AllocError>
-    ensures fits { IfOk result (λ children. FitsParts (part_of_each (codes "rule")
-        (check_text L.output V.output) (check_parameters L.parameters_of)
-        (check_parts L.output V.output L.parameters_of L.children_of) parts.now)
+    ensures fits { IfOk result (λ children. FitsParts (part_of_each name.now
+        (check_text L.output V.output S.words) (check_parameters L.parameters_of S.words)
+        (check_parts L.output V.output L.parameters_of L.children_of S.words) parts.now)
         (forest children.items)) }
     ensures none { parts.now ≡ [] → IsOk result }
 {
     let mut children = Vec::new(alloc);
     for part in parts {
-        children.push(described(alloc, part, "rule")?)?;
+        children.push(described(alloc, part, name)?)?;
     }
     Ok(children)
 }

@@ -5,7 +5,7 @@ ghost use Rattle.predicates_core.specs.Asked.{IsFoundIf, left_wanted};
 ghost use Rattle.predicates_core.specs.Several.{IsOfMembers};
 ghost use Rattle.predicates_core.specs.Shows.{IsAnswer, IsFound};
 ghost use Rattle.predicates_core.specs.Thresholds.{IsOfThreshold};
-ghost use Rattle.predicates_dynamic.specs.Trees.{AllOf, AllLeaves, tree_of, trees_of, Denies};
+ghost use Rattle.predicates_dynamic.specs.Trees.{words_of, AllOf, tree_of, trees_of, Denies};
 ghost use Rattle.predicates_dynamic.specs.Trees.{Names, Pairs, Rows, Counts};
 ghost use Rattle.predicates_dynamic.specs.Formulas.{check_text, Has};
 
@@ -17,8 +17,9 @@ pub(crate) use self::odd::no_part_found;
 use self::odd::odd_explained;
 use crate::asked::Asked;
 use crate::check::Check;
-use crate::hold::{Left, are_lawful, holds};
-use crate::members::Members;
+use crate::hold::{Left, verdict};
+use crate::view::View;
+use crate::wording::Wording;
 use predicates_core::Predicate;
 use predicates_core::custom::{
     Counting, Deciding, Operator, deciding_case, enough_of, is_deciding, is_other, is_settled,
@@ -29,17 +30,17 @@ use predicates_core::reflection::Case;
 use std::alloc::{AllocError, Global};
 
 // The `find_case` of a check that is no leaf.
-pub(crate) fn found<L: Predicate<Item>, V: Members<Item>, Item>(
+pub(crate) fn found<L: Predicate<Item>, V: View<Item>, S: Wording, Item>(
     alloc: Global,
-    check: &Check<L, V>,
+    check: &Check<L, V, S>,
     expected: bool,
     item: &Item,
 ) -> Result<Option<Case>, AllocError>
-    requires { AllOf L.lawful check.now }
+    requires { AllOf L.lawful S.words check.now }
     ensures { IfOk result (IsAnswer
-        (Has L.output V.output L.formula V.members_of V.reason_of item.now check.now) expected) }
+        (Has L.output V.output L.formula V.gives V.absence_of S.words item.now check.now) expected) }
 {
-    if holds(alloc, check, item)? != expected {
+    if verdict(alloc, check, item)? != expected {
         return Ok(None);
     }
     explained(alloc, check, Some(expected), item)
@@ -47,15 +48,16 @@ pub(crate) fn found<L: Predicate<Item>, V: Members<Item>, Item>(
 
 // The `explain` of the check.
 #[cycle(explain)]
-pub(crate) fn explained<L: Predicate<Item>, V: Members<Item>, Item>(
+#[tactic(auto, using(crate::proofs::Rows::lawful_parts))]
+pub(crate) fn explained<L: Predicate<Item>, V: View<Item>, S: Wording, Item>(
     alloc: Global,
-    check: &Check<L, V>,
+    check: &Check<L, V, S>,
     wanted: Option<bool>,
     item: &Item,
 ) -> Result<Option<Case>, AllocError>
-    requires { AllOf L.lawful check.now }
+    requires { AllOf L.lawful S.words check.now }
     ensures { IfOk result (IsFound
-        (Has L.output V.output L.formula V.members_of V.reason_of item.now check.now) wanted) }
+        (Has L.output V.output L.formula V.gives V.absence_of S.words item.now check.now) wanted) }
 {
     let asked = Asked {
         whole: check,
@@ -64,11 +66,11 @@ pub(crate) fn explained<L: Predicate<Item>, V: Members<Item>, Item>(
     };
     match check {
         Check::Leaf(leaf) => leaf.explain(alloc, wanted, item),
-        Check::Not(inner) => not_explained(alloc, inner, asked),
+        Check::Not(_, inner) => not_explained(alloc, inner, asked),
         Check::Named(name, inner) => named_explained(alloc, inner, name.as_str(), asked),
-        Check::Pair(operator, part, right_part) => {
+        Check::Pair(_, operator, part, right_part) => {
             let operator = *operator;
-            let part: &Check<L, V> = part;
+            let part: &Check<L, V, S> = part;
             let found = explained(alloc, part, operator.left_wanted(wanted), item)?;
             let left = Left {
                 operator,
@@ -77,13 +79,13 @@ pub(crate) fn explained<L: Predicate<Item>, V: Members<Item>, Item>(
             };
             pair_explained(alloc, right_part, left, asked)
         }
-        Check::Row(decides, parts) => row_explained(alloc, parts, *decides, asked),
-        Check::AtLeast(least, parts) => threshold_explained(alloc, parts, *least, asked),
-        Check::Odd(parts) => odd_explained(alloc, parts, asked),
-        Check::Quantified(decides, view, inner) => {
+        Check::Row(_, decides, parts) => row_explained(alloc, parts, *decides, asked),
+        Check::AtLeast(_, least, parts) => threshold_explained(alloc, parts, *least, asked),
+        Check::Odd(_, parts) => odd_explained(alloc, parts, asked),
+        Check::Quantified(_, decides, view, inner) => {
             quantified_explained(alloc, inner, view, *decides, asked)
         }
-        Check::MembersAtLeast(least, view, inner) => {
+        Check::MembersAtLeast(_, least, view, inner) => {
             members_threshold_explained(alloc, inner, view, *least, asked)
         }
     }
@@ -91,15 +93,16 @@ pub(crate) fn explained<L: Predicate<Item>, V: Members<Item>, Item>(
 
 // The same of a check that is denied, from the part and the whole.
 #[cycle(explain)]
-fn not_explained<L: Predicate<Item>, V: Members<Item>, Item>(
+fn not_explained<L: Predicate<Item>, V: View<Item>, S: Wording, Item>(
     alloc: Global,
-    inner: &Check<L, V>,
-    asked: Asked<'_, L, V, Item>,
+    inner: &Check<L, V, S>,
+    asked: Asked<'_, L, V, S, Item>,
 ) -> Result<Option<Case>, AllocError>
-    requires lawful { AllOf L.lawful inner.now }
-    requires whole { tree_of asked.whole.now ≡ Denies (tree_of inner.now) }
+    requires lawful { AllOf L.lawful S.words inner.now }
+    requires whole { tree_of S.words asked.whole.now ≡ Denies (words_of S.words asked.whole.now)
+        (tree_of S.words inner.now) }
     ensures { IfOk result (IsFound
-        (Has L.output V.output L.formula V.members_of V.reason_of asked.entry.item.now
+        (Has L.output V.output L.formula V.gives V.absence_of S.words asked.entry.item.now
         asked.entry.whole.now) asked.entry.wanted) }
 {
     let Some(part) = explained(alloc, inner, opposite_of(asked.wanted), asked.item)? else {
@@ -113,16 +116,16 @@ fn not_explained<L: Predicate<Item>, V: Members<Item>, Item>(
 
 // The same of a check under a name.
 #[cycle(explain)]
-fn named_explained<L: Predicate<Item>, V: Members<Item>, Item>(
+fn named_explained<L: Predicate<Item>, V: View<Item>, S: Wording, Item>(
     alloc: Global,
-    inner: &Check<L, V>,
+    inner: &Check<L, V, S>,
     name: &'static str,
-    asked: Asked<'_, L, V, Item>,
+    asked: Asked<'_, L, V, S, Item>,
 ) -> Result<Option<Case>, AllocError>
-    requires lawful { AllOf L.lawful inner.now }
-    requires whole { tree_of asked.whole.now ≡ Names name.now (tree_of inner.now) }
+    requires lawful { AllOf L.lawful S.words inner.now }
+    requires whole { tree_of S.words asked.whole.now ≡ Names name.now (tree_of S.words inner.now) }
     ensures { IfOk result (IsFound
-        (Has L.output V.output L.formula V.members_of V.reason_of asked.entry.item.now
+        (Has L.output V.output L.formula V.gives V.absence_of S.words asked.entry.item.now
         asked.entry.whole.now) asked.entry.wanted) }
 {
     let Some(part) = explained(alloc, inner, asked.wanted, asked.item)? else {
@@ -136,20 +139,21 @@ fn named_explained<L: Predicate<Item>, V: Members<Item>, Item>(
 
 // The same of two checks that an operator joins, where this was found of the left one.
 #[cycle(explain)]
-fn pair_explained<L: Predicate<Item>, V: Members<Item>, Item>(
+fn pair_explained<L: Predicate<Item>, V: View<Item>, S: Wording, Item>(
     alloc: Global,
-    right_part: &Check<L, V>,
-    left: Left<'_, L, V, Option<Case>>,
-    asked: Asked<'_, L, V, Item>,
+    right_part: &Check<L, V, S>,
+    left: Left<'_, L, V, S, Option<Case>>,
+    asked: Asked<'_, L, V, S, Item>,
 ) -> Result<Option<Case>, AllocError>
-    requires lawful { AllOf L.lawful right_part.now }
+    requires lawful { AllOf L.lawful S.words right_part.now }
     requires left { IsFound
-        (Has L.output V.output L.formula V.members_of V.reason_of asked.item.now left.part.now)
+        (Has L.output V.output L.formula V.gives V.absence_of S.words asked.item.now left.part.now)
         (left_wanted left.operator asked.wanted) left.found }
-    requires whole { tree_of asked.whole.now ≡ Pairs left.operator (tree_of left.part.now)
-        (tree_of right_part.now) }
+    requires whole { tree_of S.words asked.whole.now ≡ Pairs
+        (words_of S.words asked.whole.now) left.operator (tree_of S.words left.part.now)
+        (tree_of S.words right_part.now) }
     ensures { IfOk result (IsFound
-        (Has L.output V.output L.formula V.members_of V.reason_of asked.entry.item.now
+        (Has L.output V.output L.formula V.gives V.absence_of S.words asked.entry.item.now
         asked.entry.whole.now) asked.entry.wanted) }
 {
     let operator = left.operator;
@@ -171,17 +175,17 @@ fn pair_explained<L: Predicate<Item>, V: Members<Item>, Item>(
 
 // What is found of the part if it is `asked`.
 #[cycle(explain)]
-fn explained_if<L: Predicate<Item>, V: Members<Item>, Item>(
+fn explained_if<L: Predicate<Item>, V: View<Item>, S: Wording, Item>(
     alloc: Global,
-    part: &Check<L, V>,
+    part: &Check<L, V, S>,
     asked: bool,
     wanted: Option<bool>,
     item: &Item,
 ) -> Result<Option<Case>, AllocError>
-    requires { AllOf L.lawful part.now }
+    requires { AllOf L.lawful S.words part.now }
     ensures { IfOk result
         (IsFoundIf asked
-        (Has L.output V.output L.formula V.members_of V.reason_of item.now part.now) wanted) }
+        (Has L.output V.output L.formula V.gives V.absence_of S.words item.now part.now) wanted) }
 {
     if asked {
         let found = explained(alloc, part, wanted, item)?;
@@ -193,22 +197,22 @@ fn explained_if<L: Predicate<Item>, V: Members<Item>, Item>(
 
 // The same of a row of checks.
 #[cycle(explain)]
-fn row_explained<L: Predicate<Item>, V: Members<Item>, Item>(
+fn row_explained<L: Predicate<Item>, V: View<Item>, S: Wording, Item>(
     alloc: Global,
-    parts: &[Check<L, V>],
+    parts: &[Check<L, V, S>],
     decides: bool,
-    asked: Asked<'_, L, V, Item>,
+    asked: Asked<'_, L, V, S, Item>,
 ) -> Result<Option<Case>, AllocError>
-    requires lawful { AllLeaves L.lawful (Rows decides (trees_of (map tree_of parts.now))) }
-    requires whole { tree_of asked.whole.now ≡ Rows decides (trees_of (map tree_of parts.now)) }
+    requires lawful { AllByRecursion (AllOf L.lawful S.words) parts.now }
+    requires whole { tree_of S.words asked.whole.now ≡ Rows (words_of S.words asked.whole.now)
+        decides (trees_of (map (tree_of S.words) parts.now)) }
     ensures { IfOk result (IsFound
-        (Has L.output V.output L.formula V.members_of V.reason_of asked.entry.item.now
+        (Has L.output V.output L.formula V.gives V.absence_of S.words asked.entry.item.now
         asked.entry.whole.now) asked.entry.wanted) }
 {
-    are_lawful::<L, V, Item>(parts);
     let list = Deciding {
         whole: asked.whole,
-        name: "rule",
+        name: asked.whole.part(),
         decides,
     };
     let found = parts_explained(alloc, parts, list, asked.wanted, asked.item)?;
@@ -217,17 +221,17 @@ fn row_explained<L: Predicate<Item>, V: Members<Item>, Item>(
 
 // The same, as `custom::parts_explained`.
 #[cycle(explain)]
-fn parts_explained<L: Predicate<Item>, V: Members<Item>, Item>(
+fn parts_explained<L: Predicate<Item>, V: View<Item>, S: Wording, Item>(
     alloc: Global,
-    parts: &[Check<L, V>],
-    list: Deciding<'_, Check<L, V>>,
+    parts: &[Check<L, V, S>],
+    list: Deciding<'_, Check<L, V, S>>,
     wanted: Option<bool>,
     item: &Item,
 ) -> Result<Option<Case>, AllocError>
-    requires { AllByRecursion (AllOf L.lawful) parts.now }
+    requires { AllByRecursion (AllOf L.lawful S.words) parts.now }
     ensures { IfOk result (IsFound (IsOfMembers list.entry.decides
-        (check_text L.output V.output list.entry.whole.now) list.entry.name.now
-        (Has L.output V.output L.formula V.members_of V.reason_of item.now) parts.now)
+        (check_text L.output V.output S.words list.entry.whole.now) list.entry.name.now
+        (Has L.output V.output L.formula V.gives V.absence_of S.words item.now) parts.now)
         wanted) }
 {
     if is_wanted(wanted, list.decides) {
@@ -243,16 +247,16 @@ fn parts_explained<L: Predicate<Item>, V: Members<Item>, Item>(
 
 // The case of the first part that decides.
 #[cycle(explain)]
-fn first_part<L: Predicate<Item>, V: Members<Item>, Item>(
+fn first_part<L: Predicate<Item>, V: View<Item>, S: Wording, Item>(
     alloc: Global,
-    parts: &[Check<L, V>],
-    list: Deciding<'_, Check<L, V>>,
+    parts: &[Check<L, V, S>],
+    list: Deciding<'_, Check<L, V, S>>,
     item: &Item,
 ) -> Result<Option<Case>, AllocError>
-    requires { AllByRecursion (AllOf L.lawful) parts.now }
+    requires { AllByRecursion (AllOf L.lawful S.words) parts.now }
     ensures { IfOk result (IsAnswer (IsOfMembers list.entry.decides
-        (check_text L.output V.output list.entry.whole.now) list.entry.name.now
-        (Has L.output V.output L.formula V.members_of V.reason_of item.now) parts.now)
+        (check_text L.output V.output S.words list.entry.whole.now) list.entry.name.now
+        (Has L.output V.output L.formula V.gives V.absence_of S.words item.now) parts.now)
         list.entry.decides) }
 {
     for (index, part) in parts.iter().enumerate() {
@@ -266,19 +270,19 @@ fn first_part<L: Predicate<Item>, V: Members<Item>, Item>(
 
 // The case of all parts, or of the first that decides, where it is not wanted that none does.
 #[cycle(explain)]
-fn every_part<L: Predicate<Item>, V: Members<Item>, Item>(
+fn every_part<L: Predicate<Item>, V: View<Item>, S: Wording, Item>(
     alloc: Global,
-    parts: &[Check<L, V>],
-    list: Deciding<'_, Check<L, V>>,
+    parts: &[Check<L, V, S>],
+    list: Deciding<'_, Check<L, V, S>>,
     wanted: Option<bool>,
     item: &Item,
 ) -> Result<Option<Case>, AllocError>
-    requires lawful { AllByRecursion (AllOf L.lawful) parts.now }
+    requires lawful { AllByRecursion (AllOf L.lawful S.words) parts.now }
     requires some { parts.now ≢ [] }
     requires other { wanted ≢ Some list.decides }
     ensures { IfOk result (IsFound (IsOfMembers list.entry.decides
-        (check_text L.output V.output list.entry.whole.now) list.entry.name.now
-        (Has L.output V.output L.formula V.members_of V.reason_of item.now) parts.now)
+        (check_text L.output V.output S.words list.entry.whole.now) list.entry.name.now
+        (Has L.output V.output L.formula V.gives V.absence_of S.words item.now) parts.now)
         wanted) }
 {
     let mut node = leaf_node(alloc, printed(alloc, list.whole)?, !list.decides);
@@ -296,22 +300,22 @@ fn every_part<L: Predicate<Item>, V: Members<Item>, Item>(
 
 // The same of checks of which at least so many have to hold.
 #[cycle(explain)]
-fn threshold_explained<L: Predicate<Item>, V: Members<Item>, Item>(
+fn threshold_explained<L: Predicate<Item>, V: View<Item>, S: Wording, Item>(
     alloc: Global,
-    parts: &[Check<L, V>],
+    parts: &[Check<L, V, S>],
     least: usize,
-    asked: Asked<'_, L, V, Item>,
+    asked: Asked<'_, L, V, S, Item>,
 ) -> Result<Option<Case>, AllocError>
-    requires lawful { AllLeaves L.lawful (Counts least (trees_of (map tree_of parts.now))) }
-    requires whole { tree_of asked.whole.now ≡ Counts least (trees_of (map tree_of parts.now)) }
+    requires lawful { AllByRecursion (AllOf L.lawful S.words) parts.now }
+    requires whole { tree_of S.words asked.whole.now ≡ Counts
+        (words_of S.words asked.whole.now) least (trees_of (map (tree_of S.words) parts.now)) }
     ensures { IfOk result (IsFound
-        (Has L.output V.output L.formula V.members_of V.reason_of asked.entry.item.now
+        (Has L.output V.output L.formula V.gives V.absence_of S.words asked.entry.item.now
         asked.entry.whole.now) asked.entry.wanted) }
 {
-    are_lawful::<L, V, Item>(parts);
     let list = Counting {
         whole: asked.whole,
-        name: "rule",
+        name: asked.whole.part(),
         least,
     };
     let found = counted_explained(alloc, parts, list, asked.wanted, asked.item)?;
@@ -320,17 +324,17 @@ fn threshold_explained<L: Predicate<Item>, V: Members<Item>, Item>(
 
 // The same, as `custom::threshold_explained`.
 #[cycle(explain)]
-fn counted_explained<L: Predicate<Item>, V: Members<Item>, Item>(
+fn counted_explained<L: Predicate<Item>, V: View<Item>, S: Wording, Item>(
     alloc: Global,
-    parts: &[Check<L, V>],
-    list: Counting<'_, Check<L, V>>,
+    parts: &[Check<L, V, S>],
+    list: Counting<'_, Check<L, V, S>>,
     wanted: Option<bool>,
     item: &Item,
 ) -> Result<Option<Case>, AllocError>
-    requires { AllByRecursion (AllOf L.lawful) parts.now }
+    requires { AllByRecursion (AllOf L.lawful S.words) parts.now }
     ensures { IfOk result (IsFound (IsOfThreshold list.entry.least
-        (check_text L.output V.output list.entry.whole.now) list.entry.name.now
-        (Has L.output V.output L.formula V.members_of V.reason_of item.now) parts.now)
+        (check_text L.output V.output S.words list.entry.whole.now) list.entry.name.now
+        (Has L.output V.output L.formula V.gives V.absence_of S.words item.now) parts.now)
         wanted) }
 {
     match wanted {
@@ -341,16 +345,16 @@ fn counted_explained<L: Predicate<Item>, V: Members<Item>, Item>(
 
 // The case of whichever verdict the whole has. Each part is asked once.
 #[cycle(explain)]
-fn counted_either<L: Predicate<Item>, V: Members<Item>, Item>(
+fn counted_either<L: Predicate<Item>, V: View<Item>, S: Wording, Item>(
     alloc: Global,
-    parts: &[Check<L, V>],
-    list: Counting<'_, Check<L, V>>,
+    parts: &[Check<L, V, S>],
+    list: Counting<'_, Check<L, V, S>>,
     item: &Item,
 ) -> Result<Option<Case>, AllocError>
-    requires { AllByRecursion (AllOf L.lawful) parts.now }
+    requires { AllByRecursion (AllOf L.lawful S.words) parts.now }
     ensures { IfOk result (IsFound (IsOfThreshold list.entry.least
-        (check_text L.output V.output list.entry.whole.now) list.entry.name.now
-        (Has L.output V.output L.formula V.members_of V.reason_of item.now) parts.now)
+        (check_text L.output V.output S.words list.entry.whole.now) list.entry.name.now
+        (Has L.output V.output L.formula V.gives V.absence_of S.words item.now) parts.now)
         None) }
 {
     if is_settled(list.least, parts.len()) {
@@ -386,17 +390,17 @@ fn counted_either<L: Predicate<Item>, V: Members<Item>, Item>(
 
 // The case of a whole that is wanted to have the verdict.
 #[cycle(explain)]
-fn counted_wanted<L: Predicate<Item>, V: Members<Item>, Item>(
+fn counted_wanted<L: Predicate<Item>, V: View<Item>, S: Wording, Item>(
     alloc: Global,
-    parts: &[Check<L, V>],
-    list: Counting<'_, Check<L, V>>,
+    parts: &[Check<L, V, S>],
+    list: Counting<'_, Check<L, V, S>>,
     expected: bool,
     item: &Item,
 ) -> Result<Option<Case>, AllocError>
-    requires { AllByRecursion (AllOf L.lawful) parts.now }
+    requires { AllByRecursion (AllOf L.lawful S.words) parts.now }
     ensures { IfOk result (IsAnswer (IsOfThreshold list.entry.least
-        (check_text L.output V.output list.entry.whole.now) list.entry.name.now
-        (Has L.output V.output L.formula V.members_of V.reason_of item.now) parts.now)
+        (check_text L.output V.output S.words list.entry.whole.now) list.entry.name.now
+        (Has L.output V.output L.formula V.gives V.absence_of S.words item.now) parts.now)
         expected) }
 {
     if is_settled(list.least, parts.len()) {

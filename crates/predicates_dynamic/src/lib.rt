@@ -12,11 +12,17 @@ mod build;
 mod change;
 mod check;
 mod describe;
+mod evaluate;
 mod explain;
 mod hold;
 mod members;
 pub mod semantics;
 mod take_apart;
+mod view;
+mod wording;
 
 pub use check::Check;
+pub use evaluate::{EvaluateWith, NoContext};
 pub use members::{Members, NoMembers};
+pub use view::{Items, Listed, NoItems, View};
+pub use wording::{Computed, Wording};

@@ -1,17 +1,10 @@
-//! Views of the members of an item.
+//! Views of members that lie in an item.
 ghost use Rattle.std.specs.Prelude.{◌≡◌, ℕ, List, Option, Some, None, codes, option_copied};
-ghost use Rattle.std.specs.Prelude.{IfOk};
-ghost use Rattle.predicates_core.specs.Leaves.{IsExactly};
-ghost use Rattle.predicates_core.specs.Present.{absent_leaf};
-ghost use Rattle.predicates_core.specs.Shows.{IsFound};
 
-use predicates_core::custom::{absent_case, is_other};
-use predicates_core::reflection::Case;
-use std::alloc::{AllocError, Global};
 use std::fmt;
 
-/// Gives the members that an item has in one place, which are items of the same type. Its text is
-/// printed before the check of a member.
+/// Gives the members that an item has in one place, which are items of the same type and lie in it
+/// as a slice. Its text is printed before the check of a member.
 pub trait Members<Item>: fmt::Display {
     // The members, if the item has a list in that place.
     ghost members_of: { Self → Item → Option (List Item) };
@@ -27,23 +20,6 @@ pub trait Members<Item>: fmt::Display {
     /// What a case says, as the product `error`, of an item that has no list in that place.
     fn reason(&self, item: &Item) -> &str
         ensures { result.now ≡ reason_of self.now item.now };
-}
-
-// What is found of an item that has no list, where the whole is printed.
-pub(crate) fn absent_found<W: fmt::Display, V: Members<Item>, Item>(
-    alloc: Global,
-    whole: &W,
-    view: &V,
-    wanted: Option<bool>,
-    item: &Item,
-) -> Result<Option<Case>, AllocError>
-    ensures { IfOk result (IsFound
-        (IsExactly (absent_leaf (W.output whole.now) (V.reason_of view.now item.now))) wanted) }
-{
-    if is_other(wanted, false) {
-        return Ok(None);
-    }
-    Ok(Some(absent_case(alloc, whole, view.reason(item))?))
 }
 
 /// The view of a check that asks no members: no item has any.

@@ -1,6 +1,6 @@
 //! Rules over folders and what lies in them, read from words at run time.
 ghost use Rattle.std.specs.Prelude.{None, Some, codes, map, nat_lt, not, option_map};
-ghost use Rattle.predicates_dynamic.specs.Trees.{AllOf};
+ghost use Rattle.predicates_dynamic.specs.Trees.{AllOf, computed};
 ghost use Rattle.predicates_dynamic_tests.specs.declared.folders.Entry.{out-Entry};
 
 use predicates::custom::{Test, TestPredicate, leaf};
@@ -246,7 +246,7 @@ fn rules_over_members_describe_their_parts(rt: HostRuntime) -> Result<(), Fail> 
 
 // It takes at least 25 bytes.
 fn large() -> Rule
-    ensures { AllOf (λ _. Unit {0}) result }
+    ensures { AllOf (λ _. Unit {0}) (λ _. computed) result }
 {
     Check::leaf_beside_members(leaf(Size { least: 25 }))
 }

@@ -2,6 +2,8 @@
 #![tactic(auto)]
 
 #[cfg(test)]
+mod contexts;
+#[cfg(test)]
 mod examples;
 #[cfg(test)]
 mod folders;

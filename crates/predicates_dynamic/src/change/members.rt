@@ -3,14 +3,21 @@ ghost use Rattle.std.specs.Prelude.{◌≡◌, ◌≤◌, None, Some, not, codes
 ghost use Rattle.predicates_core.specs.Change.{IsFoundChange};
 ghost use Rattle.predicates_core.specs.Several.{IsOfMembers};
 ghost use Rattle.predicates_core.specs.Thresholds.{IsOfThreshold};
-ghost use Rattle.predicates_dynamic.specs.Trees.{AllOf, tree_of, Quantifies, CountsMembers};
+ghost use Rattle.predicates_dynamic.specs.Trees.{
+  words_of,
+  AllOf,
+  tree_of,
+  Quantifies,
+  CountsMembers,
+};
 ghost use Rattle.predicates_dynamic.specs.Formulas.{check_text, Has, HasOn};
 
 use crate::asked::Asked;
 use crate::change::changed;
 use crate::check::Check;
-use crate::hold::holds;
-use crate::members::{Members, absent_found};
+use crate::hold::verdict;
+use crate::view::{View, absent_found};
+use crate::wording::Wording;
 use predicates_core::PredicateChange;
 use predicates_core::custom::{
     Counting, Deciding, asked_at, enough_of, first_alone, is_first_passed, is_settled, next_change,
@@ -21,27 +28,30 @@ use std::alloc::{AllocError, Global};
 
 // The same of a check of the members that a view gives.
 #[cycle(change)]
-pub(super) fn quantified_changed<L: PredicateChange<Item>, V: Members<Item>, Item>(
+pub(super) fn quantified_changed<L: PredicateChange<Item>, V: View<Item>, S: Wording, Item>(
     alloc: Global,
-    inner: &Check<L, V>,
+    inner: &Check<L, V, S>,
     view: &V,
     decides: bool,
-    asked: Asked<'_, L, V, Item>,
+    asked: Asked<'_, L, V, S, Item>,
 ) -> Result<Option<Case>, AllocError>
-    requires lawful { AllOf L.lawful inner.now }
-    requires whole { tree_of asked.whole.now ≡ Quantifies decides view.now (tree_of inner.now) }
+    requires lawful { AllOf L.lawful S.words inner.now }
+    requires whole { tree_of S.words asked.whole.now ≡ Quantifies
+        (words_of S.words asked.whole.now) decides view.now (tree_of S.words inner.now) }
     ensures { IfOk result (IsFoundChange
-        (Has L.output V.output L.formula V.members_of V.reason_of asked.entry.item.now
+        (Has L.output V.output L.formula V.gives V.absence_of S.words asked.entry.item.now
         asked.entry.whole.now) asked.entry.wanted) }
 {
-    match view.members(asked.item) {
+    match view.list(alloc, asked.item)? {
         Some(members) => {
             let list = Deciding {
                 whole: asked.whole,
                 name: "item",
                 decides,
             };
-            members_changed(alloc, inner, list, asked.wanted, members)
+            let members = members.as_slice();
+            let found = members_changed(alloc, inner, list, asked.wanted, members)?;
+            Ok(found)
         }
         None => absent_found(alloc, asked.whole, view, asked.wanted, asked.item),
     }
@@ -49,17 +59,17 @@ pub(super) fn quantified_changed<L: PredicateChange<Item>, V: Members<Item>, Ite
 
 // The same, as `custom::members_change`.
 #[cycle(change)]
-fn members_changed<L: PredicateChange<Item>, V: Members<Item>, Item>(
+fn members_changed<L: PredicateChange<Item>, V: View<Item>, S: Wording, Item>(
     alloc: Global,
-    inner: &Check<L, V>,
-    list: Deciding<'_, Check<L, V>>,
+    inner: &Check<L, V, S>,
+    list: Deciding<'_, Check<L, V, S>>,
     wanted: Option<bool>,
     members: &[Item],
 ) -> Result<Option<Case>, AllocError>
-    requires { AllOf L.lawful inner.now }
+    requires { AllOf L.lawful S.words inner.now }
     ensures { IfOk result (IsFoundChange (IsOfMembers list.entry.decides
-        (check_text L.output V.output list.entry.whole.now) list.entry.name.now
-        (HasOn L.output V.output L.formula V.members_of V.reason_of inner.now) members.now)
+        (check_text L.output V.output S.words list.entry.whole.now) list.entry.name.now
+        (HasOn L.output V.output L.formula V.gives V.absence_of S.words inner.now) members.now)
         wanted) }
 {
     match wanted {
@@ -76,16 +86,16 @@ fn members_changed<L: PredicateChange<Item>, V: Members<Item>, Item>(
 
 // What would turn all the members that decide, where one does.
 #[cycle(change)]
-fn deciding_members<L: PredicateChange<Item>, V: Members<Item>, Item>(
+fn deciding_members<L: PredicateChange<Item>, V: View<Item>, S: Wording, Item>(
     alloc: Global,
-    inner: &Check<L, V>,
-    list: Deciding<'_, Check<L, V>>,
+    inner: &Check<L, V, S>,
+    list: Deciding<'_, Check<L, V, S>>,
     members: &[Item],
 ) -> Result<Option<Case>, AllocError>
-    requires { AllOf L.lawful inner.now }
+    requires { AllOf L.lawful S.words inner.now }
     ensures { IfOk result (IsFoundChange (IsOfMembers list.entry.decides
-        (check_text L.output V.output list.entry.whole.now) list.entry.name.now
-        (HasOn L.output V.output L.formula V.members_of V.reason_of inner.now) members.now)
+        (check_text L.output V.output S.words list.entry.whole.now) list.entry.name.now
+        (HasOn L.output V.output L.formula V.gives V.absence_of S.words inner.now) members.now)
         (Some list.entry.decides)) }
 {
     let mut found: Option<Case> = None;
@@ -101,16 +111,16 @@ fn deciding_members<L: PredicateChange<Item>, V: Members<Item>, Item>(
 
 // What would turn the first member, where none decides.
 #[cycle(change)]
-fn passing_members<L: PredicateChange<Item>, V: Members<Item>, Item>(
+fn passing_members<L: PredicateChange<Item>, V: View<Item>, S: Wording, Item>(
     alloc: Global,
-    inner: &Check<L, V>,
-    list: Deciding<'_, Check<L, V>>,
+    inner: &Check<L, V, S>,
+    list: Deciding<'_, Check<L, V, S>>,
     members: &[Item],
 ) -> Result<Option<Case>, AllocError>
-    requires { AllOf L.lawful inner.now }
+    requires { AllOf L.lawful S.words inner.now }
     ensures { IfOk result (IsFoundChange (IsOfMembers list.entry.decides
-        (check_text L.output V.output list.entry.whole.now) list.entry.name.now
-        (HasOn L.output V.output L.formula V.members_of V.reason_of inner.now) members.now)
+        (check_text L.output V.output S.words list.entry.whole.now) list.entry.name.now
+        (HasOn L.output V.output L.formula V.gives V.absence_of S.words inner.now) members.now)
         (Some (not list.entry.decides))) }
 {
     let Some((first, rest)) = members.split_first() else {
@@ -120,7 +130,7 @@ fn passing_members<L: PredicateChange<Item>, V: Members<Item>, Item>(
         return Ok(None);
     };
     for member in rest {
-        if holds(alloc, inner, member)? == list.decides {
+        if verdict(alloc, inner, member)? == list.decides {
             return Ok(None);
         }
     }
@@ -130,16 +140,16 @@ fn passing_members<L: PredicateChange<Item>, V: Members<Item>, Item>(
 // What would turn the whole, whichever its verdict. The first member is asked for its change, and
 // each other only for that of a member that decides.
 #[cycle(change)]
-fn whichever_members<L: PredicateChange<Item>, V: Members<Item>, Item>(
+fn whichever_members<L: PredicateChange<Item>, V: View<Item>, S: Wording, Item>(
     alloc: Global,
-    inner: &Check<L, V>,
-    list: Deciding<'_, Check<L, V>>,
+    inner: &Check<L, V, S>,
+    list: Deciding<'_, Check<L, V, S>>,
     members: &[Item],
 ) -> Result<Option<Case>, AllocError>
-    requires { AllOf L.lawful inner.now }
+    requires { AllOf L.lawful S.words inner.now }
     ensures { IfOk result (IsFoundChange (IsOfMembers list.entry.decides
-        (check_text L.output V.output list.entry.whole.now) list.entry.name.now
-        (HasOn L.output V.output L.formula V.members_of V.reason_of inner.now) members.now)
+        (check_text L.output V.output S.words list.entry.whole.now) list.entry.name.now
+        (HasOn L.output V.output L.formula V.gives V.absence_of S.words inner.now) members.now)
         None) }
 {
     if members.is_empty() {
@@ -167,27 +177,30 @@ fn whichever_members<L: PredicateChange<Item>, V: Members<Item>, Item>(
 
 // The same of the members of which at least so many have to hold.
 #[cycle(change)]
-pub(super) fn members_threshold_changed<L: PredicateChange<Item>, V: Members<Item>, Item>(
+pub(super) fn members_threshold_changed<L: PredicateChange<Item>, V: View<Item>, S: Wording, Item>(
     alloc: Global,
-    inner: &Check<L, V>,
+    inner: &Check<L, V, S>,
     view: &V,
     least: usize,
-    asked: Asked<'_, L, V, Item>,
+    asked: Asked<'_, L, V, S, Item>,
 ) -> Result<Option<Case>, AllocError>
-    requires lawful { AllOf L.lawful inner.now }
-    requires whole { tree_of asked.whole.now ≡ CountsMembers least view.now (tree_of inner.now) }
+    requires lawful { AllOf L.lawful S.words inner.now }
+    requires whole { tree_of S.words asked.whole.now ≡ CountsMembers
+        (words_of S.words asked.whole.now) least view.now (tree_of S.words inner.now) }
     ensures { IfOk result (IsFoundChange
-        (Has L.output V.output L.formula V.members_of V.reason_of asked.entry.item.now
+        (Has L.output V.output L.formula V.gives V.absence_of S.words asked.entry.item.now
         asked.entry.whole.now) asked.entry.wanted) }
 {
-    match view.members(asked.item) {
+    match view.list(alloc, asked.item)? {
         Some(members) => {
             let list = Counting {
                 whole: asked.whole,
                 name: "item",
                 least,
             };
-            counted_members_changed(alloc, inner, list, asked.wanted, members)
+            let members = members.as_slice();
+            let found = counted_members_changed(alloc, inner, list, asked.wanted, members)?;
+            Ok(found)
         }
         None => absent_found(alloc, asked.whole, view, asked.wanted, asked.item),
     }
@@ -195,17 +208,17 @@ pub(super) fn members_threshold_changed<L: PredicateChange<Item>, V: Members<Ite
 
 // The same, as `custom::members_threshold_change`.
 #[cycle(change)]
-fn counted_members_changed<L: PredicateChange<Item>, V: Members<Item>, Item>(
+fn counted_members_changed<L: PredicateChange<Item>, V: View<Item>, S: Wording, Item>(
     alloc: Global,
-    inner: &Check<L, V>,
-    list: Counting<'_, Check<L, V>>,
+    inner: &Check<L, V, S>,
+    list: Counting<'_, Check<L, V, S>>,
     wanted: Option<bool>,
     members: &[Item],
 ) -> Result<Option<Case>, AllocError>
-    requires { AllOf L.lawful inner.now }
+    requires { AllOf L.lawful S.words inner.now }
     ensures { IfOk result (IsFoundChange (IsOfThreshold list.entry.least
-        (check_text L.output V.output list.entry.whole.now) list.entry.name.now
-        (HasOn L.output V.output L.formula V.members_of V.reason_of inner.now) members.now)
+        (check_text L.output V.output S.words list.entry.whole.now) list.entry.name.now
+        (HasOn L.output V.output L.formula V.gives V.absence_of S.words inner.now) members.now)
         wanted) }
 {
     if is_settled(list.least, members.len()) {
@@ -219,19 +232,19 @@ fn counted_members_changed<L: PredicateChange<Item>, V: Members<Item>, Item>(
 
 // The change of a whole that is wanted to have the verdict.
 #[cycle(change)]
-fn turned_members<L: PredicateChange<Item>, V: Members<Item>, Item>(
+fn turned_members<L: PredicateChange<Item>, V: View<Item>, S: Wording, Item>(
     alloc: Global,
-    inner: &Check<L, V>,
-    list: Counting<'_, Check<L, V>>,
+    inner: &Check<L, V, S>,
+    list: Counting<'_, Check<L, V, S>>,
     expected: bool,
     members: &[Item],
 ) -> Result<Option<Case>, AllocError>
-    requires lawful { AllOf L.lawful inner.now }
+    requires lawful { AllOf L.lawful S.words inner.now }
     requires some { 1 ≤ list.least }
     requires within { list.least ≤ length members.now }
     ensures { IfOk result (IsFoundChange (IsOfThreshold list.entry.least
-        (check_text L.output V.output list.entry.whole.now) list.entry.name.now
-        (HasOn L.output V.output L.formula V.members_of V.reason_of inner.now) members.now)
+        (check_text L.output V.output S.words list.entry.whole.now) list.entry.name.now
+        (HasOn L.output V.output L.formula V.gives V.absence_of S.words inner.now) members.now)
         (Some expected)) }
 {
     let enough = enough_of(expected, list.least, members.len());
@@ -257,18 +270,18 @@ fn turned_members<L: PredicateChange<Item>, V: Members<Item>, Item>(
 
 // The change of a whole, whichever its verdict. Each member is asked once.
 #[cycle(change)]
-fn turned_members_either<L: PredicateChange<Item>, V: Members<Item>, Item>(
+fn turned_members_either<L: PredicateChange<Item>, V: View<Item>, S: Wording, Item>(
     alloc: Global,
-    inner: &Check<L, V>,
-    list: Counting<'_, Check<L, V>>,
+    inner: &Check<L, V, S>,
+    list: Counting<'_, Check<L, V, S>>,
     members: &[Item],
 ) -> Result<Option<Case>, AllocError>
-    requires lawful { AllOf L.lawful inner.now }
+    requires lawful { AllOf L.lawful S.words inner.now }
     requires some { 1 ≤ list.least }
     requires within { list.least ≤ length members.now }
     ensures { IfOk result (IsFoundChange (IsOfThreshold list.entry.least
-        (check_text L.output V.output list.entry.whole.now) list.entry.name.now
-        (HasOn L.output V.output L.formula V.members_of V.reason_of inner.now) members.now)
+        (check_text L.output V.output S.words list.entry.whole.now) list.entry.name.now
+        (HasOn L.output V.output L.formula V.gives V.absence_of S.words inner.now) members.now)
         None) }
 {
     let mut held: Vec<Case> = Vec::new(alloc);

@@ -3,13 +3,20 @@ ghost use Rattle.std.specs.Prelude.{◌≡◌, ◌≢◌, [], None, Some, codes,
 ghost use Rattle.predicates_core.specs.Several.{IsOfMembers};
 ghost use Rattle.predicates_core.specs.Shows.{IsAnswer, IsFound};
 ghost use Rattle.predicates_core.specs.Thresholds.{IsOfThreshold};
-ghost use Rattle.predicates_dynamic.specs.Trees.{AllOf, tree_of, Quantifies, CountsMembers};
+ghost use Rattle.predicates_dynamic.specs.Trees.{
+  words_of,
+  AllOf,
+  tree_of,
+  Quantifies,
+  CountsMembers,
+};
 ghost use Rattle.predicates_dynamic.specs.Formulas.{check_text, Has, HasOn};
 
 use crate::asked::Asked;
 use crate::check::Check;
 use crate::explain::explained;
-use crate::members::{Members, absent_found};
+use crate::view::{View, absent_found};
+use crate::wording::Wording;
 use predicates_core::Predicate;
 use predicates_core::custom::{
     Counting, Deciding, deciding_case, enough_of, is_deciding, is_settled, is_wanted, no_member,
@@ -21,27 +28,30 @@ use std::alloc::{AllocError, Global};
 
 // The same of a check of the members that a view gives.
 #[cycle(explain)]
-pub(super) fn quantified_explained<L: Predicate<Item>, V: Members<Item>, Item>(
+pub(super) fn quantified_explained<L: Predicate<Item>, V: View<Item>, S: Wording, Item>(
     alloc: Global,
-    inner: &Check<L, V>,
+    inner: &Check<L, V, S>,
     view: &V,
     decides: bool,
-    asked: Asked<'_, L, V, Item>,
+    asked: Asked<'_, L, V, S, Item>,
 ) -> Result<Option<Case>, AllocError>
-    requires lawful { AllOf L.lawful inner.now }
-    requires whole { tree_of asked.whole.now ≡ Quantifies decides view.now (tree_of inner.now) }
+    requires lawful { AllOf L.lawful S.words inner.now }
+    requires whole { tree_of S.words asked.whole.now ≡ Quantifies
+        (words_of S.words asked.whole.now) decides view.now (tree_of S.words inner.now) }
     ensures { IfOk result (IsFound
-        (Has L.output V.output L.formula V.members_of V.reason_of asked.entry.item.now
+        (Has L.output V.output L.formula V.gives V.absence_of S.words asked.entry.item.now
         asked.entry.whole.now) asked.entry.wanted) }
 {
-    match view.members(asked.item) {
+    match view.list(alloc, asked.item)? {
         Some(members) => {
             let list = Deciding {
                 whole: asked.whole,
                 name: "item",
                 decides,
             };
-            members_explained(alloc, inner, list, asked.wanted, members)
+            let members = members.as_slice();
+            let found = members_explained(alloc, inner, list, asked.wanted, members)?;
+            Ok(found)
         }
         None => absent_found(alloc, asked.whole, view, asked.wanted, asked.item),
     }
@@ -49,17 +59,17 @@ pub(super) fn quantified_explained<L: Predicate<Item>, V: Members<Item>, Item>(
 
 // The same, as `custom::members_explained`.
 #[cycle(explain)]
-fn members_explained<L: Predicate<Item>, V: Members<Item>, Item>(
+fn members_explained<L: Predicate<Item>, V: View<Item>, S: Wording, Item>(
     alloc: Global,
-    inner: &Check<L, V>,
-    list: Deciding<'_, Check<L, V>>,
+    inner: &Check<L, V, S>,
+    list: Deciding<'_, Check<L, V, S>>,
     wanted: Option<bool>,
     members: &[Item],
 ) -> Result<Option<Case>, AllocError>
-    requires { AllOf L.lawful inner.now }
+    requires { AllOf L.lawful S.words inner.now }
     ensures { IfOk result (IsFound (IsOfMembers list.entry.decides
-        (check_text L.output V.output list.entry.whole.now) list.entry.name.now
-        (HasOn L.output V.output L.formula V.members_of V.reason_of inner.now) members.now)
+        (check_text L.output V.output S.words list.entry.whole.now) list.entry.name.now
+        (HasOn L.output V.output L.formula V.gives V.absence_of S.words inner.now) members.now)
         wanted) }
 {
     if is_wanted(wanted, list.decides) {
@@ -75,16 +85,16 @@ fn members_explained<L: Predicate<Item>, V: Members<Item>, Item>(
 
 // The case of the first member that decides.
 #[cycle(explain)]
-fn first_member<L: Predicate<Item>, V: Members<Item>, Item>(
+fn first_member<L: Predicate<Item>, V: View<Item>, S: Wording, Item>(
     alloc: Global,
-    inner: &Check<L, V>,
-    list: Deciding<'_, Check<L, V>>,
+    inner: &Check<L, V, S>,
+    list: Deciding<'_, Check<L, V, S>>,
     members: &[Item],
 ) -> Result<Option<Case>, AllocError>
-    requires { AllOf L.lawful inner.now }
+    requires { AllOf L.lawful S.words inner.now }
     ensures { IfOk result (IsAnswer (IsOfMembers list.entry.decides
-        (check_text L.output V.output list.entry.whole.now) list.entry.name.now
-        (HasOn L.output V.output L.formula V.members_of V.reason_of inner.now) members.now)
+        (check_text L.output V.output S.words list.entry.whole.now) list.entry.name.now
+        (HasOn L.output V.output L.formula V.gives V.absence_of S.words inner.now) members.now)
         list.entry.decides) }
 {
     for (index, member) in members.iter().enumerate() {
@@ -98,19 +108,19 @@ fn first_member<L: Predicate<Item>, V: Members<Item>, Item>(
 
 // The case of all members, or of the first that decides, where it is not wanted that none does.
 #[cycle(explain)]
-fn every_member<L: Predicate<Item>, V: Members<Item>, Item>(
+fn every_member<L: Predicate<Item>, V: View<Item>, S: Wording, Item>(
     alloc: Global,
-    inner: &Check<L, V>,
-    list: Deciding<'_, Check<L, V>>,
+    inner: &Check<L, V, S>,
+    list: Deciding<'_, Check<L, V, S>>,
     wanted: Option<bool>,
     members: &[Item],
 ) -> Result<Option<Case>, AllocError>
-    requires lawful { AllOf L.lawful inner.now }
+    requires lawful { AllOf L.lawful S.words inner.now }
     requires some { members.now ≢ [] }
     requires other { wanted ≢ Some list.decides }
     ensures { IfOk result (IsFound (IsOfMembers list.entry.decides
-        (check_text L.output V.output list.entry.whole.now) list.entry.name.now
-        (HasOn L.output V.output L.formula V.members_of V.reason_of inner.now) members.now)
+        (check_text L.output V.output S.words list.entry.whole.now) list.entry.name.now
+        (HasOn L.output V.output L.formula V.gives V.absence_of S.words inner.now) members.now)
         wanted) }
 {
     let mut node = leaf_node(alloc, printed(alloc, list.whole)?, !list.decides);
@@ -128,27 +138,30 @@ fn every_member<L: Predicate<Item>, V: Members<Item>, Item>(
 
 // The same of the members of which at least so many have to hold.
 #[cycle(explain)]
-pub(super) fn members_threshold_explained<L: Predicate<Item>, V: Members<Item>, Item>(
+pub(super) fn members_threshold_explained<L: Predicate<Item>, V: View<Item>, S: Wording, Item>(
     alloc: Global,
-    inner: &Check<L, V>,
+    inner: &Check<L, V, S>,
     view: &V,
     least: usize,
-    asked: Asked<'_, L, V, Item>,
+    asked: Asked<'_, L, V, S, Item>,
 ) -> Result<Option<Case>, AllocError>
-    requires lawful { AllOf L.lawful inner.now }
-    requires whole { tree_of asked.whole.now ≡ CountsMembers least view.now (tree_of inner.now) }
+    requires lawful { AllOf L.lawful S.words inner.now }
+    requires whole { tree_of S.words asked.whole.now ≡ CountsMembers
+        (words_of S.words asked.whole.now) least view.now (tree_of S.words inner.now) }
     ensures { IfOk result (IsFound
-        (Has L.output V.output L.formula V.members_of V.reason_of asked.entry.item.now
+        (Has L.output V.output L.formula V.gives V.absence_of S.words asked.entry.item.now
         asked.entry.whole.now) asked.entry.wanted) }
 {
-    match view.members(asked.item) {
+    match view.list(alloc, asked.item)? {
         Some(members) => {
             let list = Counting {
                 whole: asked.whole,
                 name: "item",
                 least,
             };
-            counted_members_explained(alloc, inner, list, asked.wanted, members)
+            let members = members.as_slice();
+            let found = counted_members_explained(alloc, inner, list, asked.wanted, members)?;
+            Ok(found)
         }
         None => absent_found(alloc, asked.whole, view, asked.wanted, asked.item),
     }
@@ -156,17 +169,17 @@ pub(super) fn members_threshold_explained<L: Predicate<Item>, V: Members<Item>, 
 
 // The same, as `custom::members_threshold_explained`.
 #[cycle(explain)]
-fn counted_members_explained<L: Predicate<Item>, V: Members<Item>, Item>(
+fn counted_members_explained<L: Predicate<Item>, V: View<Item>, S: Wording, Item>(
     alloc: Global,
-    inner: &Check<L, V>,
-    list: Counting<'_, Check<L, V>>,
+    inner: &Check<L, V, S>,
+    list: Counting<'_, Check<L, V, S>>,
     wanted: Option<bool>,
     members: &[Item],
 ) -> Result<Option<Case>, AllocError>
-    requires { AllOf L.lawful inner.now }
+    requires { AllOf L.lawful S.words inner.now }
     ensures { IfOk result (IsFound (IsOfThreshold list.entry.least
-        (check_text L.output V.output list.entry.whole.now) list.entry.name.now
-        (HasOn L.output V.output L.formula V.members_of V.reason_of inner.now) members.now)
+        (check_text L.output V.output S.words list.entry.whole.now) list.entry.name.now
+        (HasOn L.output V.output L.formula V.gives V.absence_of S.words inner.now) members.now)
         wanted) }
 {
     match wanted {
@@ -177,16 +190,16 @@ fn counted_members_explained<L: Predicate<Item>, V: Members<Item>, Item>(
 
 // The case of whichever verdict the whole has. Each member is asked once.
 #[cycle(explain)]
-fn members_either<L: Predicate<Item>, V: Members<Item>, Item>(
+fn members_either<L: Predicate<Item>, V: View<Item>, S: Wording, Item>(
     alloc: Global,
-    inner: &Check<L, V>,
-    list: Counting<'_, Check<L, V>>,
+    inner: &Check<L, V, S>,
+    list: Counting<'_, Check<L, V, S>>,
     members: &[Item],
 ) -> Result<Option<Case>, AllocError>
-    requires { AllOf L.lawful inner.now }
+    requires { AllOf L.lawful S.words inner.now }
     ensures { IfOk result (IsFound (IsOfThreshold list.entry.least
-        (check_text L.output V.output list.entry.whole.now) list.entry.name.now
-        (HasOn L.output V.output L.formula V.members_of V.reason_of inner.now) members.now)
+        (check_text L.output V.output S.words list.entry.whole.now) list.entry.name.now
+        (HasOn L.output V.output L.formula V.gives V.absence_of S.words inner.now) members.now)
         None) }
 {
     if is_settled(list.least, members.len()) {
@@ -222,17 +235,17 @@ fn members_either<L: Predicate<Item>, V: Members<Item>, Item>(
 
 // The case of a whole that is wanted to have the verdict.
 #[cycle(explain)]
-fn members_wanted<L: Predicate<Item>, V: Members<Item>, Item>(
+fn members_wanted<L: Predicate<Item>, V: View<Item>, S: Wording, Item>(
     alloc: Global,
-    inner: &Check<L, V>,
-    list: Counting<'_, Check<L, V>>,
+    inner: &Check<L, V, S>,
+    list: Counting<'_, Check<L, V, S>>,
     expected: bool,
     members: &[Item],
 ) -> Result<Option<Case>, AllocError>
-    requires { AllOf L.lawful inner.now }
+    requires { AllOf L.lawful S.words inner.now }
     ensures { IfOk result (IsAnswer (IsOfThreshold list.entry.least
-        (check_text L.output V.output list.entry.whole.now) list.entry.name.now
-        (HasOn L.output V.output L.formula V.members_of V.reason_of inner.now) members.now)
+        (check_text L.output V.output S.words list.entry.whole.now) list.entry.name.now
+        (HasOn L.output V.output L.formula V.gives V.absence_of S.words inner.now) members.now)
         expected) }
 {
     if is_settled(list.least, members.len()) {

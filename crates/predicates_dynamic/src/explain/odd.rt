@@ -4,15 +4,15 @@ ghost use Rattle.std.specs.List.{AllByRecursion};
 ghost use Rattle.predicates_core.specs.Leaves.{IsExactly};
 ghost use Rattle.predicates_core.specs.Several.{no_members};
 ghost use Rattle.predicates_core.specs.Shows.{IsFound};
-ghost use Rattle.predicates_dynamic.specs.Trees.{AllOf, AllLeaves, Odds, tree_of, trees_of};
+ghost use Rattle.predicates_dynamic.specs.Trees.{words_of, AllOf, Odds, tree_of, trees_of};
 ghost use Rattle.predicates_dynamic.specs.Formulas.{check_text, Has};
 ghost use Rattle.predicates_dynamic.specs.OddRows.{IsOfOddRow};
 
 use crate::asked::Asked;
 use crate::check::Check;
 use crate::explain::explained;
-use crate::hold::are_lawful;
-use crate::members::Members;
+use crate::view::View;
+use crate::wording::Wording;
 use predicates_core::Predicate;
 use predicates_core::custom::{Deciding, is_other, no_member, node_of_first};
 use predicates_core::reflection::Case;
@@ -21,57 +21,56 @@ use std::fmt;
 
 // The same of a row of checks of which an odd number has to hold.
 #[cycle(explain)]
-pub(super) fn odd_explained<L: Predicate<Item>, V: Members<Item>, Item>(
+pub(super) fn odd_explained<L: Predicate<Item>, V: View<Item>, S: Wording, Item>(
     alloc: Global,
-    parts: &[Check<L, V>],
-    asked: Asked<'_, L, V, Item>,
+    parts: &[Check<L, V, S>],
+    asked: Asked<'_, L, V, S, Item>,
 ) -> Result<Option<Case>, AllocError>
-    requires lawful { AllLeaves L.lawful (Odds (trees_of (map tree_of parts.now))) }
-    requires whole { tree_of asked.whole.now ≡ Odds (trees_of (map tree_of parts.now)) }
+    requires lawful { AllByRecursion (AllOf L.lawful S.words) parts.now }
+    requires whole { tree_of S.words asked.whole.now ≡ Odds (words_of S.words asked.whole.now)
+        (trees_of (map (tree_of S.words) parts.now)) }
     ensures { IfOk result (IsFound
-        (Has L.output V.output L.formula V.members_of V.reason_of asked.entry.item.now
+        (Has L.output V.output L.formula V.gives V.absence_of S.words asked.entry.item.now
         asked.entry.whole.now) asked.entry.wanted) }
 {
-    are_lawful::<L, V, Item>(parts);
-    let found = odd_parts_explained(alloc, parts, asked.whole, asked.wanted, asked.item)?;
+    let found = odd_parts_explained(alloc, parts, asked.whole.part(), asked)?;
     Ok(found)
 }
 
 // The cases of all parts, whichever their verdicts.
 #[cycle(explain)]
-fn odd_parts_explained<L: Predicate<Item>, V: Members<Item>, Item>(
+fn odd_parts_explained<L: Predicate<Item>, V: View<Item>, S: Wording, Item>(
     alloc: Global,
-    parts: &[Check<L, V>],
-    whole: &Check<L, V>,
-    wanted: Option<bool>,
-    item: &Item,
+    parts: &[Check<L, V, S>],
+    name: &'static str,
+    asked: Asked<'_, L, V, S, Item>,
 ) -> Result<Option<Case>, AllocError>
-    requires { AllByRecursion (AllOf L.lawful) parts.now }
+    requires { AllByRecursion (AllOf L.lawful S.words) parts.now }
     ensures { IfOk result (IsFound (IsOfOddRow
-        (check_text L.output V.output whole.now) (codes "rule")
-        (Has L.output V.output L.formula V.members_of V.reason_of item.now) parts.now)
-        wanted) }
+        (check_text L.output V.output S.words asked.entry.whole.now) name.now
+        (Has L.output V.output L.formula V.gives V.absence_of S.words asked.entry.item.now)
+        parts.now) asked.entry.wanted) }
 {
     if parts.is_empty() {
-        return no_part_found(alloc, whole, wanted);
+        return no_part_found(alloc, asked.whole, asked.wanted);
     }
     let mut odd = false;
     let mut cases: Vec<Case> = Vec::new(alloc);
     for part in parts {
-        let Some(case) = explained(alloc, part, None, item)? else {
+        let Some(case) = explained(alloc, part, None, asked.item)? else {
             return Ok(None);
         };
         let held = case.root().result();
         odd = odd != held;
         cases.push(case)?;
     }
-    if is_other(wanted, odd) {
+    if is_other(asked.wanted, odd) {
         return Ok(None);
     }
     let number = cases.len();
     let list = Deciding {
-        whole,
-        name: "rule",
+        whole: asked.whole,
+        name,
         decides: odd,
     };
     Ok(Some(node_of_first(alloc, list, cases, number)?))
