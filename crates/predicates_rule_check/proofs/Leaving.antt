@@ -1,8 +1,8 @@
 -- Leaves that show what was found.
 use Rattle.std.proofs.Common.{◌≡◌, ℕ, List, Bool, true, false, Option, Some, None, refl, sym, ◌∙◌, subst}
-use Rattle.std.specs.Prelude.{IfSome, cond}
+use Rattle.std.specs.Prelude.{IfSome, cond, codes, [], ◌∷◌}
 use Rattle.predicates_core.specs.Formula.{Leaf, HasTruth, with_product}
-use Rattle.predicates_core.specs.Label.{Label, Product, plain, with_last}
+use Rattle.predicates_core.specs.Label.{Label, Product, plain, showing, with_last}
 use Rattle.predicates_core.specs.Leaves.{IsExactly}
 use Rattle.predicates_core.specs.Shows.{IsFound, IsCaseOf}
 use Rattle.predicates_core.proofs.Leaves.{HasTruth-exactly, own_truth}
@@ -91,6 +91,11 @@ one_more label {own} p s h =
       truth = HasTruth-exactly (own_truth h.truth);
       explains = λ f x. more.explains f (record { inner = Leaf label own; of_part = record { is = refl }; is = x.is });
     }
+
+-- a leaf that shows a value, and an error behind it
+pub one_more_of : (text : Entry) (name : List ℕ) (value : Entry) (error : List ℕ) {own b : Bool} {c t : Tree CaseNode} → IsShowing (codes "error") (Some error) c t → IsCaseOf (IsExactly (Leaf (showing text name value) own)) b c
+    → IsCaseOf (IsExactly (Leaf (record { text = text; products = record { name = name; value = value } ∷ record { name = codes "error"; value = Some error } ∷ [] }) own)) b t
+one_more_of text name value error s h = one_more (showing text name value) (record { name = codes "error"; value = Some error }) s h
 
 -- with what is shown beside the value
 pub case_beside : (text : List ℕ) (d : Data) (beside : Option Product) {own b : Bool} {c t : Tree CaseNode} → ShowsBeside beside c t → IsCaseOf (IsExactly (found_leaf text d None own)) b c → IsCaseOf (IsExactly (found_leaf text d beside own)) b t

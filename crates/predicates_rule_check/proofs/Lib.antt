@@ -1,13 +1,11 @@
 mod Alike
 mod Changes
-mod Differing
-mod Finding
 mod Leaving
 mod Listing
-mod Members
 mod Numbers
 mod OtherKeys
 mod Places
+mod Planning
 mod Refusing
 mod Rows
 mod Ruling

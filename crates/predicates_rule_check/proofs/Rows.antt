@@ -17,7 +17,8 @@ use Rattle.predicates_text.specs.Expressions.{IsReadFrom}
 use Rattle.predicates_rules.specs.declared.condition.Relation.{Relation}
 use Rattle.predicates_rules.specs.declared.condition.Relation.TheVariants as relations
 use Rattle.predicates_rule_check.specs.Queries as queries
-use Rattle.predicates_rule_check.specs.Plans.{Plan, plans_of}
+use Rattle.predicates_dynamic.specs.Trees.{trees_of as dynamic_trees}
+use Rattle.predicates_rule_check.specs.Plans.{Plan}
 use Rattle.predicates_rule_check.specs.Planned.{IsPlan, ArePlans, IsRelation}
 
 or_assoc : (a b c : Bool) → ((a || b) || c) ≡ (a || (b || c))
@@ -81,14 +82,14 @@ members_counted (m ∷ ms) = ap suc (members_counted ms)
 
 -- ---- the checks of expressions
 
-pub plans_more : {X Y : Type 0} (f : X → Tree) (g : Y → Plan) (es : List X) (ps : List Y) (e : X) (p : Y) → ArePlans (trees_of (map f es)) (plans_of (map g ps)) → IsPlan (f e) (g p) → ArePlans (trees_of (map f (es ++ e ∷ []))) (plans_of (map g (ps ++ p ∷ [])))
+pub plans_more : {X Y : Type 0} (f : X → Tree) (g : Y → Plan) (es : List X) (ps : List Y) (e : X) (p : Y) → ArePlans (trees_of (map f es)) (dynamic_trees (map g ps)) → IsPlan (f e) (g p) → ArePlans (trees_of (map f (es ++ e ∷ []))) (dynamic_trees (map g (ps ++ p ∷ [])))
 plans_more f g [] [] e p h k = (k, tt)
 plans_more f g [] (q ∷ ps) e p h k = absurd h
 plans_more f g (d ∷ es) [] e p h k = absurd h
 plans_more f g (d ∷ es) (q ∷ ps) e p h k = (h.0, plans_more f g es ps e p h.1 k)
 
-pub plans_all : {X Y : Type 0} (f : X → Tree) (g : Y → Plan) (all es rest : List X) (ps : List Y) → all ≡ es ++ rest → length rest ≡ 0 → ArePlans (trees_of (map f es)) (plans_of (map g ps)) → ArePlans (trees_of (map f all)) (plans_of (map g ps))
-plans_all f g all es [] ps e none h = subst (λ z. ArePlans (trees_of (map f z)) (plans_of (map g ps))) (sym (e ∙ append-nil es)) h
+pub plans_all : {X Y : Type 0} (f : X → Tree) (g : Y → Plan) (all es rest : List X) (ps : List Y) → all ≡ es ++ rest → length rest ≡ 0 → ArePlans (trees_of (map f es)) (dynamic_trees (map g ps)) → ArePlans (trees_of (map f all)) (dynamic_trees (map g ps))
+plans_all f g all es [] ps e none h = subst (λ z. ArePlans (trees_of (map f z)) (dynamic_trees (map g ps))) (sym (e ∙ append-nil es)) h
 plans_all f g all es (d ∷ rest) ps e none h = absurd (omega (arith, none))
 
 -- ---- patterns

@@ -7,9 +7,9 @@ pub mod Queries
 pub mod Lists
 pub mod Plans
 pub mod PlanLaws
-pub mod Tests
+pub mod ViewLaws
+pub mod Nodes
 pub mod Checks
-pub mod Differ
 pub mod Planned
 pub mod RuleChecks
 pub mod Refusals

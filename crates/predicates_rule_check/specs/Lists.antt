@@ -1,11 +1,8 @@
 -- What an array or an object holds.
-use Rattle.std.specs.Prelude.{List, Option, Some, None}
+use Rattle.std.specs.Prelude.{ℕ, List, [], ◌∷◌, Option, Some, None, option_map, option_and_then}
 use Rattle.serde_json.specs.Data.{Data, null, boolean, number, string, array, object, Items}
 use Rattle.serde_json.specs.Data.{no_items, item, Members, no_members, member}
-use Rattle.serde_json.specs.View.{items_view}
-use Rattle.serde_json.specs.declared.value.Value.{Value}
-use Rattle.predicates_rule_check.specs.declared.values.Values.{Values}
-use Rattle.predicates_rule_check.specs.declared.values.Values.TheVariants.{Borrowed, Owned}
+use Rattle.predicates_rule_check.specs.Scopes.{Place, stands, within}
 
 -- the values of an object, in the order of its keys
 abbrev pub values_of : Members → Items
@@ -21,10 +18,15 @@ values_in (string s) = None
 values_in (array ds) = Some ds
 values_in (object ms) = Some (values_of ms)
 
--- what stands in the code's slice
-abbrev pub shown_in : Values → List Value
-shown_in (Borrowed s) = s.now
-shown_in (Owned v) = v.items
+-- each as an item of the record
+abbrev pub places_of : Data → Items → List Place
+places_of whole no_items = []
+places_of whole (item d ds) = within whole d ∷ places_of whole ds
 
-abbrev pub values_view : Values → Items
-values_view v = items_view (shown_in v)
+-- what stands there holds, where it is an array or an object
+abbrev pub places_in : Data → Option Data → Option (List Place)
+places_in whole found = option_map (places_of whole) (option_and_then values_in found)
+
+-- the same of what stands at the path
+abbrev pub places_at : List ℕ → Place → Option (List Place)
+places_at path p = places_in p.whole (stands path p)

@@ -1,44 +1,52 @@
 -- What a check is, apart from where it lies in memory, and its formula on an item of a record.
-use Rattle.std.specs.Prelude.{◌≡◌, ℕ, List, [], ◌∷◌, Bool, true, false, not, Option, Some, None}
+use Rattle.std.specs.Prelude.{◌≡◌, ℕ, List, [], ◌∷◌, Bool, true, false, Option, Some, None}
 use Rattle.std.specs.Prelude.{option_map, option_and_then, cond, codes, decimal}
-use Rattle.serde_json.specs.Data.{Data, string, Items, no_items, item}
+use Rattle.serde_json.specs.Data.{Data, string}
 use Rattle.serde_json.specs.Find.{as_object}
 use Rattle.serde_json.specs.Written.{has_float, compact_text}
 use Rattle.predicates_core.specs.Label.{Entry, Product, Label, plain, showing, value_of, with_last}
-use Rattle.predicates_core.specs.declared.custom.join.Operator.TheVariants as operators
-use Rattle.predicates_core.specs.Formula.{Formula, Leaf, Join, Not, Formulas, one, more}
+use Rattle.predicates_core.specs.Formula.{Formula, Leaf}
 use Rattle.predicates_core.specs.Leaves.{IsShowing}
-use Rattle.predicates_core.specs.Tree.{Tree}
+use Rattle.predicates_core.specs.Tree as cases
 use Rattle.predicates_core.specs.Describe.{CaseNode}
-use Rattle.predicates_core.specs.Several.{decided_by, numbered, no_members}
-use Rattle.predicates_core.specs.Thresholds.{threshold_formula}
+use Rattle.predicates_dynamic.specs.declared.check.Check.{Check}
+use Rattle.predicates_dynamic.specs.Formulas.{tree_formula, tree_text}
+use Rattle.predicates_dynamic.specs.Trees.{Tree, Trees, Words, tree_of, Rows, Odds, Quantifies}
+use Rattle.predicates_dynamic.specs.Trees.{CountsMembers}
 use Rattle.predicates_rules.specs.declared.expression.Connective.{Connective}
 use Rattle.predicates_rules.specs.declared.expression.Connective.TheVariants.{Or, Xor, And}
 use Rattle.predicates_rules.specs.declared.expression.Quantifier.{Quantifier}
 use Rattle.predicates_rules.specs.declared.expression.Quantifier.TheVariants.{Each, Any, AtLeast}
-use Rattle.predicates_rule_check.specs.Scopes.{Place, within, stands}
+use Rattle.predicates_rule_check.specs.declared.elements.Elements.{Elements}
+use Rattle.predicates_rule_check.specs.declared.path_test.PathTest.{PathTest}
+use Rattle.predicates_rule_check.specs.declared.written.Written.{Written}
 use Rattle.predicates_rule_check.specs.Keys.{other_key}
-use Rattle.predicates_rule_check.specs.Lists.{values_in}
+use Rattle.predicates_rule_check.specs.Lists.{places_at}
+use Rattle.predicates_rule_check.specs.Nodes.{text_of_test, path_of_test, query_of_test}
+use Rattle.predicates_rule_check.specs.Nodes.{path_of_view, words_of_node}
 use Rattle.predicates_rule_check.specs.Queries.{Query, ComparesWith, HasLength, HasKeysAmong}
 use Rattle.predicates_rule_check.specs.Queries.{verdict, length_of, nothing_verdict, is_of_presence}
 use Rattle.predicates_rule_check.specs.Queries.{nothing_text, misfit_text}
+use Rattle.predicates_rule_check.specs.Scopes.{Place, stands}
 
-mutual
-  -- each with the text that it prints
-  pub data Plan : Type 0 where
-    Asks : (text path : List ℕ) → (q : Query) → Plan
-    Denies : (text : List ℕ) → (e : Plan) → Plan
-    Joins : (text : List ℕ) → (c : Connective) → (es : Plans) → Plan
-    Counts : (text : List ℕ) → (k : ℕ) → (es : Plans) → Plan
-    Ranges : (text path : List ℕ) → (q : Quantifier) → (e : Plan) → Plan
+-- the tree of a check, whose leaves are tests of what stands at paths
+abbrev pub Plan : Type 0
+Plan = Tree PathTest Elements
 
-  pub data Plans : Type 0 where
-    nothing : Plans
-    also : (e : Plan) → (es : Plans) → Plans
+abbrev pub plan_of_tree : Check PathTest Elements Written → Plan
+plan_of_tree c = tree_of words_of_node c
 
-abbrev pub plans_of : List Plan → Plans
-plans_of [] = nothing
-plans_of (e ∷ es) = also e (plans_of es)
+-- what a connective joins
+abbrev pub joins : Connective → Words → Trees PathTest Elements → Plan
+joins Or w es = Rows w true es
+joins Xor w es = Odds w es
+joins And w es = Rows w false es
+
+-- what a quantifier is over
+abbrev pub ranges : Quantifier → Words → Elements → Plan → Plan
+ranges Each w v e = Quantifies w false v e
+ranges Any w v e = Quantifies w true v e
+ranges (AtLeast k) w v e = CountsMembers w k v e
 
 -- ---- leaves
 
@@ -87,7 +95,7 @@ shown_beside (HasKeysAmong texts) p d =
 shown_beside q p d = None
 
 -- t is c that shows it too, where there is one
-abbrev pub ShowsBeside : Option Product → (c t : Tree CaseNode) → Type 0
+abbrev pub ShowsBeside : Option Product → (c t : cases.Tree CaseNode) → Type 0
 ShowsBeside None c t = t ≡ c
 ShowsBeside (Some beside) c t = IsShowing beside.name beside.value c t
 
@@ -104,82 +112,31 @@ abbrev pub asked_formula : List ℕ → List ℕ → Query → Place → Option 
 asked_formula text path q p None = absent_formula text path q
 asked_formula text path q p (Some d) = leaf_of_verdict text q p d (verdict q p d)
 
--- ---- what is over several
+-- the formula of a test on an item of a record
+abbrev pub test_formula : PathTest → Place → Formula
+test_formula t p = asked_formula (text_of_test t) (path_of_test t) (query_of_test t) p
+    (stands (path_of_test t) p)
 
--- a formula of each item, under `item`
-abbrev pub item_formulas : (Data → Formula) → Data → Items → Formulas
-item_formulas g d no_items = one (codes "item") (g d)
-item_formulas g d (item e ds) = more (codes "item") (g d) (item_formulas g e ds)
-
--- of items of which one with the truth decides
-abbrev pub deciding_items : List ℕ → Bool → (Data → Formula) → Items → Formula
-deciding_items text decides g no_items = no_members (Some text) (not decides)
-deciding_items text decides g (item d ds) =
-    Join (decided_by decides) (numbered (Some text) decides (item_formulas g d ds))
-    (item_formulas g d ds)
-
-abbrev pub listed : Items → List Data
-listed no_items = []
-listed (item d ds) = d ∷ listed ds
-
--- as many items meet it as the quantifier wants
-abbrev pub over_items : List ℕ → Quantifier → (Data → Formula) → Items → Formula
-over_items text Each g ds = deciding_items text false g ds
-over_items text Any g ds = deciding_items text true g ds
-over_items text (AtLeast k) g ds = threshold_formula k (Some text) (codes "item") g (listed ds)
+-- ---- what is over members
 
 abbrev pub no_list_text : List ℕ
 no_list_text = codes "not an array or an object"
 
-abbrev pub over_list : List ℕ → Data → Quantifier → (Data → Formula) → Option Items → Formula
-over_list text d q g None = misfit_leaf text no_list_text d None
-over_list text d q g (Some ds) = over_items text q g ds
+-- what is shown where nothing stands at the path, or a value that has no members
+abbrev pub absence_of_data : List ℕ → Option Data → List Product
+absence_of_data path None = value_of (codes "error") (Some (nothing_text path))
+absence_of_data path (Some d) = record { name = codes "found"; value = found_text d }
+    ∷ record { name = codes "error"; value = Some no_list_text } ∷ []
 
-abbrev pub range_formula : List ℕ → List ℕ → Quantifier → (Data → Formula) → Option Data → Formula
-range_formula text path q g None = nothing_leaf text path
-range_formula text path q g (Some d) = over_list text d q g (values_in d)
+abbrev pub absence_at : List ℕ → Place → List Product
+absence_at path p = absence_of_data path (stands path p)
 
--- formulas that a connective joins
-abbrev pub joined_formula : List ℕ → Connective → Formulas → Formula
-joined_formula text Or fs = Join operators.Or (numbered (Some text) true fs) fs
-joined_formula text Xor fs = Join operators.Xor (plain (Some text)) fs
-joined_formula text And fs = Join operators.And (numbered (Some text) false fs) fs
+-- ---- checks
 
--- the truth of a row without parts
-abbrev pub empty_truth : Connective → Bool
-empty_truth Or = false
-empty_truth Xor = false
-empty_truth And = true
+-- the formula of a check on an item of a record
+abbrev pub plan_formula : Plan → Place → Formula
+plan_formula e p = tree_formula (λ t. Some (text_of_test t)) (λ v. Some (path_of_view v))
+    test_formula (λ v. places_at (path_of_view v)) (λ v. absence_at (path_of_view v)) p e
 
-abbrev mutual
-  -- the formula of a check on an item of a record
-  pub plan_formula : Plan → Place → Formula
-  plan_formula (Asks text path q) p = asked_formula text path q p (stands path p)
-  plan_formula (Denies text e) p = Not (plain (Some text)) (plan_formula e p)
-  plan_formula (Joins text c nothing) p = no_members (Some text) (empty_truth c)
-  plan_formula (Joins text c (also e es)) p =
-      joined_formula text c (part_formulas (plan_formula e p) es p)
-  plan_formula (Counts text k es) p = threshold_formula k (Some text) (codes "part") (λ f. f)
-      (plan_formulas es p)
-  plan_formula (Ranges text path q e) p =
-      range_formula text path q (λ d. plan_formula e (within p.whole d)) (stands path p)
-
-  -- a first formula, and those of the others, under `part`
-  pub part_formulas : Formula → Plans → Place → Formulas
-  part_formulas f nothing p = one (codes "part") f
-  part_formulas f (also e es) p = more (codes "part") f (part_formulas (plan_formula e p) es p)
-
-  pub plan_formulas : Plans → Place → List Formula
-  plan_formulas nothing p = []
-  plan_formulas (also e es) p = plan_formula e p ∷ plan_formulas es p
-
--- the formula of a check on each item of a record
-abbrev pub formula_within : Data → Plan → Data → Formula
-formula_within whole e d = plan_formula e (within whole d)
-
-abbrev pub plan_text : Plan → List ℕ
-plan_text (Asks text path q) = text
-plan_text (Denies text e) = text
-plan_text (Joins text c es) = text
-plan_text (Counts text k es) = text
-plan_text (Ranges text path q e) = text
+abbrev pub plan_text : Plan → Entry
+plan_text e = tree_text (λ t. Some (text_of_test t)) (λ v. Some (path_of_view v)) e

@@ -5,54 +5,43 @@ ghost use Rattle.predicates_core.specs.Formula.{HasTruth};
 ghost use Rattle.predicates_core.specs.Leaves.{IsExactly};
 ghost use Rattle.predicates_core.specs.LeafLaws.{one_exactly};
 ghost use Rattle.serde_json.specs.View.{view};
-ghost use Rattle.predicates_rule_check.specs.Plans.{plan_formula, plan_text};
+ghost use Rattle.predicates_rule_check.specs.Plans.{plan_formula, plan_text, plan_of_tree};
 ghost use Rattle.predicates_rule_check.specs.PlanLaws.{plan_text_fits};
 ghost use Rattle.predicates_rule_check.specs.Checks.{plan_of};
-ghost use Rattle.predicates_rule_check.specs.Scopes.{alone, place_of};
+ghost use Rattle.predicates_rule_check.specs.Scopes.{alone};
 
-mod change;
-mod counted;
-mod explain;
-mod hold;
-mod steps;
-
+use crate::elements::Elements;
 use crate::matchers::Matchers;
 use crate::path_test::PathTest;
 use crate::scope::Scope;
-use change::changed;
-use counted::threshold_hold;
-use explain::explained;
-use hold::{joined_hold, not_hold, range_hold};
+use crate::written::Written;
 use predicates_core::reflection::{Case, Child, Parameter, PredicateReflection};
 use predicates_core::{Predicate, PredicateChange, Total};
-use predicates_rules::expression::{Connective, Quantifier};
 use serde_json::Value;
 use std::alloc::{AllocError, Global};
 use std::fmt;
 
-/// A check of a JSON value, with a variant for each form of a rule's expression. It has no
-/// parameters and no children, and what is over a path or over parts has its printed text with it.
-/// `find_case` and `explain` ask each test once of an item, at most, however deep it stands.
+// The tree of a rule: tests of what stands at paths, over items of a record, each node with its
+// printed text.
+pub(crate) type Tree = predicates_dynamic::Check<PathTest, Elements, Written>;
+
+/// A check of a JSON value, in the form of a rule's expression. It has no parameters and no
+/// children, and what is over a path or over parts has its printed text with it. `find_case` and
+/// `explain` ask each test once of an item, at most, however deep it stands.
+///
+/// Of many parts as many have to hold as the rule says: a row without parts holds under `and` alone.
+/// At least so many of the parts is a leaf where that is so whatever they answer, or is not, which
+/// says how many there are. What is asked of each, of any or of so many items is asked of those of
+/// the array at the path, or of the object's values in the order of its keys. What is neither is a
+/// false leaf that says so. A path that begins with `^` leads from the record on, and not from the
+/// item. A call lists the items: the error is memory that was refused.
 #[derive(Drop)]
-pub enum Check {
-    /// A test of the value at a path.
-    Test(PathTest),
-    /// The check does not hold.
-    Not(String, Box<Check>),
-    /// As many parts hold as the connective wants. A row without parts holds under `And` alone.
-    Joined(String, Connective, Vec<Check>),
-    /// At least so many of the parts hold. Where that is so whatever they answer, or is not, it is
-    /// a leaf that says how many there are.
-    AtLeast(String, usize, Vec<Check>),
-    /// The check holds of each item of the array at the path, or value of the object, in the order
-    /// of its keys, of one, or of at least so many. What is neither is a false leaf that says so. A
-    /// path that begins with `^` leads from the record on, and not from the item. A call copies the
-    /// values of an object: the error is memory that was refused.
-    Quantified(String, Quantifier, String, Box<Check>),
+pub struct Check {
+    pub(crate) tree: Tree,
 }
 
 impl fmt::Display for Check {
-    ghost output = { λ c. Some (plan_text (plan_of c)) };
+    ghost output = { λ c. plan_text (plan_of c) };
 
     fn fmt<W: fmt::Write>(&self, f: &mut fmt::Formatter<W>) -> fmt::Result {
         f.write_str(self.text())
@@ -73,18 +62,29 @@ impl PredicateReflection for Check {
     }
 }
 
+// The text that the tree's node on top keeps.
+fn text_of(tree: &Tree) -> &str
+    ensures { Some result.now ≡ plan_text (plan_of_tree tree.now) }
+{
+    match tree {
+        Tree::Leaf(test) => &test.text,
+        Tree::Named(name, _) => name.as_str(),
+        Tree::Not(written, _)
+        | Tree::Pair(written, _, _, _)
+        | Tree::Row(written, _, _)
+        | Tree::AtLeast(written, _, _)
+        | Tree::Odd(written, _)
+        | Tree::Quantified(written, _, _, _)
+        | Tree::MembersAtLeast(written, _, _, _) => &written.text,
+    }
+}
+
 impl Check {
     /// What the check prints. It takes no memory.
     pub fn text(&self) -> &str
-        ensures { result.now ≡ plan_text (plan_of self.now) }
+        ensures { Some result.now ≡ plan_text (plan_of self.now) }
     {
-        match self {
-            Check::Test(test) => &test.text,
-            Check::Not(text, _) => text,
-            Check::Joined(text, _, _) => text,
-            Check::AtLeast(text, _, _) => text,
-            Check::Quantified(text, _, _, _) => text,
-        }
+        text_of(&self.tree)
     }
 
     /// Whether it holds of the value, as `eval` says, by the matchers of a run.
@@ -93,44 +93,18 @@ impl Check {
     /// let record = Value::from_str(alloc, "{\"age\": 18}")?;
     /// assert!(rt; rule.check.holds(alloc, &mut matchers, &record)?);
     /// ```
-    pub fn holds<'r>(
-        &'r self,
+    pub fn holds(
+        &self,
         alloc: Global,
-        matchers: &mut Matchers<'r>,
+        matchers: &mut Matchers<'_>,
         item: &Value,
     ) -> Result<bool, AllocError>
         ensures { IfOk result (HasTruth (IsExactly
             (plan_formula (plan_of self.now) (alone (view item.now))))) }
     {
         let scope = Scope { whole: item, item };
-        let held = self.holds_in(alloc, matchers, scope)?;
+        let held = self.tree.eval_with(alloc, matchers, &scope)?;
         Ok(held)
-    }
-
-    // The same of an item of a record.
-    #[cycle(hold)]
-    pub(crate) fn holds_in<'r>(
-        &'r self,
-        alloc: Global,
-        matchers: &mut Matchers<'r>,
-        scope: Scope<'_>,
-    ) -> Result<bool, AllocError>
-        ensures { IfOk result (HasTruth (IsExactly
-            (plan_formula (plan_of self.now) (place_of scope.entry)))) }
-    {
-        match self {
-            Check::Test(test) => test.holds_in(alloc, matchers, scope),
-            Check::Not(_, inner) => not_hold(alloc, matchers, inner, scope),
-            Check::Joined(_, connective, parts) => {
-                joined_hold(alloc, matchers, *connective, parts, scope)
-            }
-            Check::AtLeast(_, least, parts) => {
-                threshold_hold(alloc, matchers, *least, parts, scope)
-            }
-            Check::Quantified(_, quantifier, path, inner) => {
-                range_hold(alloc, matchers, *quantifier, path, inner, scope)
-            }
-        }
     }
 }
 
@@ -144,7 +118,7 @@ impl Predicate<Value> for Check {
     ghost one_formula = { λ c v f g lawful. one_exactly };
 
     fn eval(&self, alloc: Global, item: &Value) -> Result<bool, AllocError> {
-        let mut matchers = Matchers::new(alloc);
+        let mut matchers = Matchers::new(alloc, &[]);
         let held = self.holds(alloc, &mut matchers, item)?;
         Ok(held)
     }
@@ -155,7 +129,7 @@ impl Predicate<Value> for Check {
         expected: bool,
         item: &Value,
     ) -> Result<Option<Case>, AllocError> {
-        explained(alloc, self, Some(expected), Scope { whole: item, item })
+        self.explain(alloc, Some(expected), item)
     }
 
     fn explain(
@@ -164,7 +138,9 @@ impl Predicate<Value> for Check {
         wanted: Option<bool>,
         item: &Value,
     ) -> Result<Option<Case>, AllocError> {
-        explained(alloc, self, wanted, Scope { whole: item, item })
+        let scope = Scope { whole: item, item };
+        let found = self.tree.explain(alloc, wanted, &scope)?;
+        Ok(found)
     }
 }
 
@@ -175,7 +151,9 @@ impl PredicateChange<Value> for Check {
         wanted: Option<bool>,
         item: &Value,
     ) -> Result<Option<Case>, AllocError> {
-        changed(alloc, self, wanted, Scope { whole: item, item })
+        let scope = Scope { whole: item, item };
+        let found = self.tree.find_change(alloc, wanted, &scope)?;
+        Ok(found)
     }
 }
 

@@ -1,22 +1,26 @@
 //! The check of a rule's expression.
-ghost use Rattle.std.specs.Prelude.{◌≡◌, IfOk, IfErr, map, string_bytes};
-ghost use Rattle.predicates_rules.specs.Trees.{test_of, tree_of, trees_of, Relates};
+ghost use Rattle.std.specs.Prelude.{◌≡◌, IfOk, IfErr, map, string_bytes, true};
+ghost use Rattle.predicates_dynamic.specs.Trees.{trees_of, Rows, Denies, nothing, also};
+ghost use Rattle.predicates_rules.specs.Trees.{test_of, Relates};
+ghost use Rattle.predicates_rules.specs.Trees.{tree_of as read_tree, trees_of as read_trees};
 ghost use Rattle.predicates_rule_check.specs.Refusals.{IsFailure, IsPatternOf, IsPatternIn};
 ghost use Rattle.predicates_rule_check.specs.Refusals.{IsPatternAmong};
 ghost use Rattle.predicates_rule_check.specs.Queries.{query_of};
 ghost use Rattle.predicates_rule_check.specs.Checks.{plan_of};
-ghost use Rattle.predicates_rule_check.specs.Plans.{plans_of, Denies, Joins, nothing, also};
-ghost use Rattle.predicates_rules.specs.declared.expression.Connective.TheVariants.{Or};
+ghost use Rattle.predicates_rule_check.specs.Nodes.{words_of_node};
+ghost use Rattle.predicates_rule_check.specs.Plans.{plan_of_tree, joins, ranges};
 ghost use Rattle.predicates_rule_check.specs.Planned.{IsPlan, ArePlans, IsQuery, IsRelation};
 
-use crate::check::Check;
+use crate::check::{Check, Tree};
 use crate::check_error::CheckError;
+use crate::elements::Elements;
 use crate::path_test::PathTest;
 use crate::pattern::Pattern;
 use crate::question::Question;
+use crate::written::Written;
 use predicates_rules::condition::{Condition, Relation};
 use predicates_rules::denied::Denied;
-use predicates_rules::expression::{Connective, Expression};
+use predicates_rules::expression::{Connective, Expression, Quantifier};
 use std::alloc::{AllocError, Global};
 
 // What a relation to a text asks, with its pattern read.
@@ -61,20 +65,113 @@ fn question_of(alloc: Global, condition: Condition) -> Result<Question, CheckErr
 // The check that the one does not hold, or that the other does.
 fn implication(
     alloc: Global,
-    text: String,
-    denial: String,
-    premise: Check,
-    conclusion: Check,
-) -> Result<Check, AllocError>
-    ensures { IfOk result (λ check. plan_of check ≡ Joins (string_bytes text) Or
-        (also (Denies (string_bytes denial) (plan_of premise))
-        (also (plan_of conclusion) nothing))) }
+    written: Written,
+    denial: Written,
+    premise: Tree,
+    conclusion: Tree,
+) -> Result<Tree, AllocError>
+    ensures { IfOk result (λ tree. plan_of_tree tree ≡ Rows (words_of_node written) true
+        (also (Denies (words_of_node denial) (plan_of_tree premise))
+        (also (plan_of_tree conclusion) nothing))) }
 {
-    let denied = Check::Not(denial, Box::new(alloc, premise)?);
+    let denied = Tree::Not(denial, Box::new(alloc, premise)?);
     let mut parts = Vec::with_capacity(alloc, 2)?;
     parts.push(denied)?;
     parts.push(conclusion)?;
-    Ok(Check::Joined(text, Connective::Or, parts))
+    Ok(Tree::Row(written, true, parts))
+}
+
+// The parts that a connective joins.
+fn joined(written: Written, connective: Connective, parts: Vec<Tree>) -> Tree
+    ensures { plan_of_tree result ≡ joins connective (words_of_node written)
+        (trees_of (map plan_of_tree parts.items)) }
+{
+    match connective {
+        Connective::Or => Tree::Row(written, true, parts),
+        Connective::Xor => Tree::Odd(written, parts),
+        Connective::And => Tree::Row(written, false, parts),
+    }
+}
+
+// The check of as many elements as the quantifier wants.
+fn over_elements(
+    written: Written,
+    quantifier: Quantifier,
+    elements: Elements,
+    inner: Box<Tree>,
+) -> Tree
+    ensures { plan_of_tree result ≡ ranges quantifier (words_of_node written) elements
+        (plan_of_tree inner.value) }
+{
+    match quantifier {
+        Quantifier::Each => Tree::Quantified(written, false, elements, inner),
+        Quantifier::Any => Tree::Quantified(written, true, elements, inner),
+        Quantifier::AtLeast(least) => {
+            Tree::MembersAtLeast(written, least as usize, elements, inner)
+        }
+    }
+}
+
+// The tree of a rule's expression.
+#[cycle(compile)]
+fn tree_of(alloc: Global, expression: Expression) -> Result<Tree, CheckError>
+    ensures planned { IfOk result (λ tree. IsPlan (read_tree expression) (plan_of_tree tree)) }
+    ensures refused { IfErr result (IsFailure (λ pattern.
+        IsPatternIn pattern (read_tree expression))) }
+{
+    let text = format!(in alloc; "{expression}")?;
+    let written = Written { text };
+    match expression {
+        Expression::Test(path, condition) => {
+            let question = question_of(alloc, condition)?;
+            let Written { text } = written;
+            Ok(Tree::Leaf(PathTest {
+                text,
+                path,
+                question,
+            }))
+        }
+        Expression::Not(inner) => {
+            let inner = tree_of(alloc, Box::into_inner(inner))?;
+            Ok(Tree::Not(written, Box::new(alloc, inner)?))
+        }
+        Expression::Implies(premise, conclusion) => {
+            let premise = Box::into_inner(premise);
+            let text = format!(in alloc; "{}", Denied(&premise))?;
+            let premise = tree_of(alloc, premise)?;
+            let conclusion = tree_of(alloc, Box::into_inner(conclusion))?;
+            let tree = implication(alloc, written, Written { text }, premise, conclusion)?;
+            Ok(tree)
+        }
+        Expression::Quantified(quantifier, path, inner) => {
+            let inner = tree_of(alloc, Box::into_inner(inner))?;
+            let inner = Box::new(alloc, inner)?;
+            Ok(over_elements(written, quantifier, Elements { path }, inner))
+        }
+        Expression::Joined(connective, parts) => {
+            let parts = trees_of(alloc, parts)?;
+            Ok(joined(written, connective, parts))
+        }
+        Expression::AtLeast(least, parts) => {
+            let parts = trees_of(alloc, parts)?;
+            Ok(Tree::AtLeast(written, least as usize, parts))
+        }
+    }
+}
+
+#[cycle(compile)]
+fn trees_of(alloc: Global, expressions: Vec<Expression>) -> Result<Vec<Tree>, CheckError>
+    ensures planned { IfOk result (λ trees. ArePlans
+        (read_trees (map read_tree expressions.items))
+        (trees_of (map plan_of_tree trees.items))) }
+    ensures refused { IfErr result (IsFailure (λ pattern.
+        IsPatternAmong pattern (read_trees (map read_tree expressions.items)))) }
+{
+    let mut trees = Vec::with_capacity(alloc, expressions.len())?;
+    for expression in expressions {
+        trees.push(tree_of(alloc, expression)?)?;
+    }
+    Ok(trees)
 }
 
 /// The check of a rule's expression. It prints the expression, and each part of it prints its own,
@@ -88,61 +185,12 @@ fn implication(
 /// let check = check_of(alloc, expression)?;
 /// assert!(rt; check.text() == "/age >= 18");
 /// ```
-#[cycle(compile)]
 pub fn check_of(alloc: Global, expression: Expression) -> Result<Check, CheckError>
-    ensures planned { IfOk result (λ check. IsPlan (tree_of expression) (plan_of check)) }
+    ensures planned { IfOk result (λ check. IsPlan (read_tree expression) (plan_of check)) }
     // It is refused where memory is, or a pattern that stands in it.
     ensures refused { IfErr result (IsFailure (λ pattern.
-        IsPatternIn pattern (tree_of expression))) }
+        IsPatternIn pattern (read_tree expression))) }
 {
-    let text = format!(in alloc; "{expression}")?;
-    match expression {
-        Expression::Test(path, condition) => {
-            let question = question_of(alloc, condition)?;
-            Ok(Check::Test(PathTest {
-                text,
-                path,
-                question,
-            }))
-        }
-        Expression::Not(inner) => {
-            let inner = check_of(alloc, Box::into_inner(inner))?;
-            Ok(Check::Not(text, Box::new(alloc, inner)?))
-        }
-        Expression::Implies(premise, conclusion) => {
-            let premise = Box::into_inner(premise);
-            let denial = format!(in alloc; "{}", Denied(&premise))?;
-            let premise = check_of(alloc, premise)?;
-            let conclusion = check_of(alloc, Box::into_inner(conclusion))?;
-            let check = implication(alloc, text, denial, premise, conclusion)?;
-            Ok(check)
-        }
-        Expression::Quantified(quantifier, path, inner) => {
-            let inner = check_of(alloc, Box::into_inner(inner))?;
-            let inner = Box::new(alloc, inner)?;
-            Ok(Check::Quantified(text, quantifier, path, inner))
-        }
-        Expression::Joined(connective, parts) => {
-            let parts = checks_of(alloc, parts)?;
-            Ok(Check::Joined(text, connective, parts))
-        }
-        Expression::AtLeast(least, parts) => {
-            let parts = checks_of(alloc, parts)?;
-            Ok(Check::AtLeast(text, least as usize, parts))
-        }
-    }
-}
-
-#[cycle(compile)]
-fn checks_of(alloc: Global, expressions: Vec<Expression>) -> Result<Vec<Check>, CheckError>
-    ensures planned { IfOk result (λ checks. ArePlans (trees_of (map tree_of expressions.items))
-        (plans_of (map plan_of checks.items))) }
-    ensures refused { IfErr result (IsFailure (λ pattern.
-        IsPatternAmong pattern (trees_of (map tree_of expressions.items)))) }
-{
-    let mut checks = Vec::with_capacity(alloc, expressions.len())?;
-    for expression in expressions {
-        checks.push(check_of(alloc, expression)?)?;
-    }
-    Ok(checks)
+    let tree = tree_of(alloc, expression)?;
+    Ok(Check { tree })
 }

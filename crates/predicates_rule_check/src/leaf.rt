@@ -1,33 +1,35 @@
 //! The cases of leaves that show what was found, or say what is wrong.
 ghost use Rattle.std.specs.Prelude.{false, []};
 ghost use Rattle.predicates_core.specs.Shows.{IsNode};
-ghost use Rattle.std.specs.Prelude.{◌≡◌, IfOk, IfSome, None, Some, map, option_map};
+ghost use Rattle.std.specs.Prelude.{◌≡◌, ℕ, List, IfOk, IfSome, None, Some, map, option_map};
 ghost use Rattle.std.specs.Prelude.{option_and_then, string_bytes};
 ghost use Rattle.predicates_core.specs.Formula.{Leaf};
 ghost use Rattle.predicates_core.specs.Label.{plain};
 ghost use Rattle.predicates_core.specs.Leaves.{IsExactly};
-ghost use Rattle.predicates_core.specs.Shows.{IsCaseOf, IsFound};
+ghost use Rattle.predicates_core.specs.Shows.{IsCaseOf};
 ghost use Rattle.serde_json.specs.Data.{string};
 ghost use Rattle.serde_json.specs.Find.{as_object};
 ghost use Rattle.serde_json.specs.View.{view};
 ghost use Rattle.serde_json.specs.Written.{compact_text};
 ghost use Rattle.predicates_rules.specs.Printing.{path_text};
 ghost use Rattle.predicates_rule_check.specs.Scopes.{place_of, stands};
-ghost use Rattle.predicates_rule_check.specs.Plans.{found_text, nothing_leaf, misfit_leaf};
-ghost use Rattle.predicates_rule_check.specs.Plans.{found_leaf};
+ghost use Rattle.predicates_dynamic.specs.Viewed.{no_list};
+ghost use Rattle.predicates_rule_check.specs.Plans.{found_text, nothing_leaf, found_leaf};
+ghost use Rattle.predicates_rule_check.specs.Plans.{absence_of_data};
 ghost use Rattle.predicates_rule_check.specs.Keys.{other_key};
 ghost use Rattle.predicates_rule_check.specs.Plans.{ShowsBeside, other_product, length_product};
 ghost use Rattle.predicates_rule_check.specs.Plans.{key_product};
-ghost use Rattle.predicates_rule_check.specs.Queries.{apart_text, length_of};
+ghost use Rattle.predicates_rule_check.specs.Queries.{apart_text, length_of, nothing_text};
 
 use crate::contents::length;
 use crate::keys::other_key;
 use crate::scope::Scope;
-use predicates_core::custom::is_other;
-use predicates_core::node::{leaf_node, showing, showing_text};
+use predicates_core::custom::absent_case;
+use predicates_core::node::{leaf_node, printed, showing, showing_text};
 use predicates_core::reflection::Case;
 use serde_json::Value;
 use std::alloc::{AllocError, Global};
+use std::fmt;
 
 /// The path as a rule writes it.
 pub(crate) fn path_shown(path: &str) -> &str
@@ -48,14 +50,14 @@ fn found(alloc: Global, value: &Value) -> Result<String, AllocError>
     value.to_string(alloc)
 }
 
-pub(crate) fn copied(alloc: Global, text: &str) -> Result<String, AllocError>
+fn copied(alloc: Global, text: &str) -> Result<String, AllocError>
     ensures { IfOk result (λ copy. string_bytes copy ≡ text.now) }
 {
     String::from_str(alloc, text)
 }
 
-/// A node alone, without products.
-pub(crate) fn bare_node(alloc: Global, text: &str, holds: bool) -> Result<Case, AllocError>
+// A node alone, without products.
+fn bare_node(alloc: Global, text: &str, holds: bool) -> Result<Case, AllocError>
     ensures { IfOk result (IsNode (Some text.now) holds []) }
 {
     Ok(leaf_node(alloc, copied(alloc, text)?, holds))
@@ -69,13 +71,20 @@ pub(crate) fn bare_leaf(alloc: Global, text: &str, holds: bool) -> Result<Case, 
     Ok(node)
 }
 
+// What is said where nothing stands at the path.
+fn nowhere(alloc: Global, path: &str) -> Result<String, AllocError>
+    ensures { IfOk result (λ text. string_bytes text ≡ nothing_text path.now) }
+{
+    let shown = path_shown(path);
+    format!(in alloc; "nothing at {shown}")
+}
+
 /// A false leaf that says that nothing stands at the path.
 pub(crate) fn nothing_at(alloc: Global, text: &str, path: &str) -> Result<Case, AllocError>
     ensures { IfOk result (IsCaseOf (IsExactly (nothing_leaf text.now path.now)) false) }
 {
     let node = bare_node(alloc, text, false)?;
-    let shown = path_shown(path);
-    let error = format!(in alloc; "nothing at {shown}")?;
+    let error = nowhere(alloc, path)?;
     Ok(showing(node, "error", error)?)
 }
 
@@ -94,18 +103,32 @@ pub(crate) fn found_at(
     Ok(showing(node, "found", found)?)
 }
 
-/// A false leaf that shows the value, and says why it can't answer.
-pub(crate) fn misfit_at(
+/// The case of a check of the members of what stands at the path, where nothing does.
+pub(crate) fn nowhere_case<W: fmt::Display>(
     alloc: Global,
-    text: &str,
-    value: &Value,
-    error: &str,
+    whole: &W,
+    path: &str,
 ) -> Result<Case, AllocError>
-    ensures { IfOk result
-        (IsCaseOf (IsExactly (misfit_leaf text.now error.now (view value.now) None)) false) }
+    ensures { IfOk result (IsCaseOf (IsExactly
+        (no_list (W.output whole.now) (absence_of_data path.now None))) false) }
 {
-    let case = found_at(alloc, text, value, false)?;
-    Ok(showing_text(alloc, case, "error", error)?)
+    let error = nowhere(alloc, path)?;
+    absent_case(alloc, whole, &error)
+}
+
+/// The same where a value does that has no members.
+pub(crate) fn misfit_case<W: fmt::Display>(
+    alloc: Global,
+    whole: &W,
+    value: &Value,
+) -> Result<Case, AllocError>
+    ensures { (path : List ℕ) → IfOk result (IsCaseOf (IsExactly (no_list (W.output whole.now)
+        (absence_of_data path (Some (view value.now))))) false) }
+{
+    let node = leaf_node(alloc, printed(alloc, whole)?, false);
+    let found = found(alloc, value)?;
+    let shown = showing(node, "found", found)?;
+    Ok(showing_text(alloc, shown, "error", "not an array or an object")?)
 }
 
 /// The case with the value that stands at another path, if one does.
@@ -168,27 +191,11 @@ pub(crate) fn apart(alloc: Global, scope: Scope<'_>, path: &str) -> Result<Strin
     ensures { IfOk result (λ text.
         string_bytes text ≡ apart_text path.now (stands path.now (place_of scope.entry))) }
 {
-    let shown = path_shown(path);
     match scope.at(path) {
-        Some(_) => format!(in alloc; "not comparable with {shown}"),
-        None => format!(in alloc; "nothing at {shown}"),
+        Some(_) => {
+            let shown = path_shown(path);
+            format!(in alloc; "not comparable with {shown}")
+        }
+        None => nowhere(alloc, path),
     }
-}
-
-/// What is found of a false leaf that shows the value, and says why it can't answer.
-pub(crate) fn misfit_found(
-    alloc: Global,
-    text: &str,
-    error: &str,
-    value: &Value,
-    wanted: Option<bool>,
-) -> Result<Option<Case>, AllocError>
-    ensures { IfOk result
-        (IsFound (IsExactly (misfit_leaf text.now error.now (view value.now) None)) wanted) }
-{
-    if is_other(wanted, false) {
-        return Ok(None);
-    }
-    let case = misfit_at(alloc, text, value, error)?;
-    Ok(Some(case))
 }

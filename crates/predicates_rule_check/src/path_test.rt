@@ -1,29 +1,32 @@
 //! A test of the value at a path.
-ghost use Rattle.std.specs.Prelude.{◌≡◌, refl, [], Some, string_bytes};
+ghost use Rattle.std.specs.Prelude.{◌≡◌, refl, [], Some, IfOk, IfSome, false};
 ghost use Rattle.predicates_core.specs.Tree.{empty};
 ghost use Rattle.predicates_core.specs.Formula.{HasTruth};
 ghost use Rattle.predicates_core.specs.Leaves.{IsExactly};
 ghost use Rattle.predicates_core.specs.LeafLaws.{one_exactly};
 ghost use Rattle.serde_json.specs.View.{view};
-ghost use Rattle.std.specs.Prelude.{IfOk, false};
+ghost use Rattle.regex.specs.Strings.{regex_source};
 ghost use Rattle.predicates_core.specs.Shows.{IsCaseOf, IsFound};
 ghost use Rattle.predicates_core.specs.Change.{IsFoundChange};
-ghost use Rattle.predicates_rule_check.specs.Scopes.{alone, place_of, stands};
+ghost use Rattle.predicates_rule_check.specs.Patterns.{regex_of};
+ghost use Rattle.predicates_rule_check.specs.Scopes.{place_of};
 ghost use Rattle.predicates_rule_check.specs.Queries.{verdict};
-ghost use Rattle.predicates_rule_check.specs.PlanLaws.{asked_text_fits};
-ghost use Rattle.predicates_rule_check.specs.Plans.{asked_formula, absent_formula, leaf_of_verdict};
+ghost use Rattle.predicates_rule_check.specs.PlanLaws.{test_text_fits};
+ghost use Rattle.predicates_rule_check.specs.Plans.{test_formula, absent_formula, leaf_of_verdict};
 ghost use Rattle.predicates_rule_check.specs.Plans.{found_leaf, misfit_leaf, shown_beside};
 ghost use Rattle.predicates_rule_check.specs.Queries.{nothing_verdict, misfit_text};
-ghost use Rattle.predicates_rule_check.specs.Tests.{text_of_test, path_of_test, query_of_test};
+ghost use Rattle.predicates_rule_check.specs.Nodes.{text_of_test, path_of_test, query_of_test};
 
 use crate::leaf::{bare_leaf, found_at, nothing_at};
 use crate::matchers::Matchers;
+use crate::pattern::Pattern;
 use crate::question::Question;
 use crate::scope::Scope;
 use predicates_core::custom::is_other;
 use predicates_core::node::showing;
 use predicates_core::reflection::{Case, Child, Parameter, PredicateReflection};
 use predicates_core::{Predicate, PredicateChange, Total};
+use predicates_dynamic::EvaluateWith;
 use serde_json::Value;
 use std::alloc::{AllocError, Global};
 use std::fmt;
@@ -62,15 +65,14 @@ impl PredicateReflection for PathTest {
 impl PathTest {
     // Whether it holds of an item of a record, by the matchers of a run.
     #[tactic(auto, using(crate::proofs::Leaving::leavings))]
-    pub(crate) fn holds_in<'r>(
-        &'r self,
+    fn holds_in(
+        &self,
         alloc: Global,
-        matchers: &mut Matchers<'r>,
+        matchers: &mut Matchers<'_>,
         scope: Scope<'_>,
     ) -> Result<bool, AllocError>
-        ensures { IfOk result (HasTruth (IsExactly (asked_formula (text_of_test self.now)
-            (path_of_test self.now) (query_of_test self.now) (place_of scope.entry)
-            (stands (path_of_test self.now) (place_of scope.entry))))) }
+        ensures { IfOk result (HasTruth (IsExactly
+            (test_formula self.now (place_of scope.entry)))) }
     {
         let Some(value) = scope.at(&self.path) else {
             return Ok(self.question.holds_of_nothing());
@@ -83,15 +85,14 @@ impl PathTest {
 
     // What is found of an item of a record.
     #[tactic(auto, using(crate::proofs::Leaving::leavings))]
-    pub(crate) fn explain_in(
+    fn explain_in(
         &self,
         alloc: Global,
         wanted: Option<bool>,
         scope: Scope<'_>,
     ) -> Result<Option<Case>, AllocError>
-        ensures { IfOk result (IsFound (IsExactly (asked_formula (text_of_test self.now)
-            (path_of_test self.now) (query_of_test self.now) (place_of scope.entry)
-            (stands (path_of_test self.now) (place_of scope.entry)))) wanted) }
+        ensures { IfOk result (IsFound (IsExactly
+            (test_formula self.now (place_of scope.entry))) wanted) }
     {
         match scope.at(&self.path) {
             Some(value) => {
@@ -106,18 +107,24 @@ impl PathTest {
     }
 
     // What would turn it for an item of a record: its own answer.
-    pub(crate) fn find_change_in(
+    fn find_change_in(
         &self,
         alloc: Global,
         wanted: Option<bool>,
         scope: Scope<'_>,
     ) -> Result<Option<Case>, AllocError>
-        ensures { IfOk result (IsFoundChange (IsExactly (asked_formula (text_of_test self.now)
-            (path_of_test self.now) (query_of_test self.now) (place_of scope.entry)
-            (stands (path_of_test self.now) (place_of scope.entry)))) wanted) }
+        ensures { IfOk result (IsFoundChange (IsExactly
+            (test_formula self.now (place_of scope.entry))) wanted) }
     {
         let found = self.explain_in(alloc, wanted, scope)?;
         Ok(found)
+    }
+
+    // Its pattern, if it has one that was read from the source.
+    pub(crate) fn pattern_of(&self, source: &str) -> Option<&Pattern>
+        ensures { IfSome result (λ p. regex_source (regex_of p.now) ≡ source.now) }
+    {
+        self.question.pattern_of(source)
     }
 
     // What is found of a value that stands at the path.
@@ -133,7 +140,7 @@ impl PathTest {
             (query_of_test self.now) (place_of scope.entry) (view value.now)
             (verdict (query_of_test self.now) (place_of scope.entry) (view value.now)))) wanted) }
     {
-        let mut matchers = Matchers::new(alloc);
+        let mut matchers = Matchers::new(alloc, &[]);
         match self.question.verdict(alloc, &mut matchers, scope, value)? {
             Some(holds) => {
                 let found = self.answer_found(alloc, scope, value, holds, wanted)?;
@@ -251,20 +258,18 @@ impl PathTest {
     }
 }
 
-impl Predicate<Value> for PathTest {
-    ghost formula = { λ t v. IsExactly (asked_formula (text_of_test t) (path_of_test t)
-        (query_of_test t) (alone (view v)) (stands (path_of_test t) (alone (view v)))) };
+impl<'v> Predicate<Scope<'v>> for PathTest {
+    ghost formula = { λ t s. IsExactly (test_formula t (place_of s)) };
 
     ghost infallible = { λ _ _. ⊥ };
 
-    ghost text_fits = { λ t v f. asked_text_fits (text_of_test t) (path_of_test t)
-        (query_of_test t) (alone (view v)) (stands (path_of_test t) (alone (view v))) };
+    ghost text_fits = { λ t s f. test_text_fits t (place_of s) };
 
-    ghost one_formula = { λ t v f g lawful. one_exactly };
+    ghost one_formula = { λ t s f g lawful. one_exactly };
 
-    fn eval(&self, alloc: Global, item: &Value) -> Result<bool, AllocError> {
-        let mut matchers = Matchers::new(alloc);
-        let held = self.holds_in(alloc, &mut matchers, Scope { whole: item, item })?;
+    fn eval(&self, alloc: Global, item: &Scope<'v>) -> Result<bool, AllocError> {
+        let mut matchers = Matchers::new(alloc, &[]);
+        let held = self.holds_in(alloc, &mut matchers, *item)?;
         Ok(held)
     }
 
@@ -272,37 +277,48 @@ impl Predicate<Value> for PathTest {
         &self,
         alloc: Global,
         expected: bool,
-        item: &Value,
+        item: &Scope<'v>,
     ) -> Result<Option<Case>, AllocError> {
-        self.explain_in(alloc, Some(expected), Scope { whole: item, item })
+        self.explain_in(alloc, Some(expected), *item)
     }
 
     fn explain(
         &self,
         alloc: Global,
         wanted: Option<bool>,
-        item: &Value,
+        item: &Scope<'v>,
     ) -> Result<Option<Case>, AllocError> {
-        self.explain_in(alloc, wanted, Scope { whole: item, item })
+        self.explain_in(alloc, wanted, *item)
     }
 }
 
-impl PredicateChange<Value> for PathTest {
+impl<'v> PredicateChange<Scope<'v>> for PathTest {
     fn find_change(
         &self,
         alloc: Global,
         wanted: Option<bool>,
-        item: &Value,
+        item: &Scope<'v>,
     ) -> Result<Option<Case>, AllocError> {
-        self.find_change_in(alloc, wanted, Scope { whole: item, item })
+        self.find_change_in(alloc, wanted, *item)
     }
 }
 
-impl Total<Value> for PathTest {
-    ghost formula_of = { λ t v. asked_formula (text_of_test t) (path_of_test t)
-        (query_of_test t) (alone (view v)) (stands (path_of_test t) (alone (view v))) };
+impl<'v> Total<Scope<'v>> for PathTest {
+    ghost formula_of = { λ t s. test_formula t (place_of s) };
 
     ghost always_lawful = { λ _. tt };
 
-    ghost has_formula = { λ t v. record { is = refl } };
+    ghost has_formula = { λ t s. record { is = refl } };
+}
+
+impl<'r, 'v> EvaluateWith<Scope<'v>, Matchers<'r>> for PathTest {
+    fn eval_with(
+        &self,
+        alloc: Global,
+        context: &mut Matchers<'r>,
+        item: &Scope<'v>,
+    ) -> Result<bool, AllocError> {
+        let held = self.holds_in(alloc, context, *item)?;
+        Ok(held)
+    }
 }

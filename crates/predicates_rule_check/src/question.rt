@@ -1,7 +1,9 @@
 //! What a test asks of the value at its path.
-ghost use Rattle.std.specs.Prelude.{◌≡◌, IfOk, option_map, string_bytes};
+ghost use Rattle.std.specs.Prelude.{◌≡◌, IfOk, IfSome, option_map, string_bytes};
 ghost use Rattle.std.specs.Ordering.{nat_cmp};
 ghost use Rattle.serde_json.specs.View.{view};
+ghost use Rattle.regex.specs.Strings.{regex_source};
+ghost use Rattle.predicates_rule_check.specs.Patterns.{regex_of};
 ghost use Rattle.predicates_rule_check.specs.Scopes.{place_of};
 ghost use Rattle.predicates_rule_check.specs.Plans.{ShowsBeside, shown_beside};
 ghost use Rattle.predicates_rule_check.specs.Queries.{query_of, verdict, text_fits, length_of};
@@ -60,10 +62,10 @@ fn compares_in_length(value: &Value, comparison: Comparison, number: u64) -> Opt
 impl Question {
     // Whether the value, which stands at the test's path, answers it, or none where it can't. It takes
     // memory for a regular expression alone.
-    pub(crate) fn verdict<'r>(
-        &'r self,
+    pub(crate) fn verdict(
+        &self,
         alloc: Global,
-        matchers: &mut Matchers<'r>,
+        matchers: &mut Matchers<'_>,
         scope: Scope<'_>,
         value: &Value,
     ) -> Result<Option<bool>, AllocError>
@@ -95,10 +97,10 @@ impl Question {
     }
 
     // Whether the text is as it asks.
-    fn fits<'r>(
-        &'r self,
+    fn fits(
+        &self,
         alloc: Global,
-        matchers: &mut Matchers<'r>,
+        matchers: &mut Matchers<'_>,
         text: &str,
     ) -> Result<bool, AllocError>
         ensures { IfOk result (λ found. found ≡ text_fits (query_of self.now) text.now) }
@@ -109,6 +111,16 @@ impl Question {
             Question::Contains(pattern) => Ok(search::contains(text, pattern)),
             Question::Matches(pattern) => matchers.has_match(alloc, pattern, text),
             _ => Ok(false),
+        }
+    }
+
+    // Its pattern, if it has one that was read from the source.
+    pub(crate) fn pattern_of(&self, source: &str) -> Option<&Pattern>
+        ensures { IfSome result (λ p. regex_source (regex_of p.now) ≡ source.now) }
+    {
+        match self {
+            Question::Matches(pattern) if pattern.source() == source => Some(pattern),
+            _ => None,
         }
     }
 

@@ -61,13 +61,13 @@ impl RuleCheck {
     /// Whether it holds of the value, as `eval` says, by the matchers of a run.
     ///
     /// ```
-    /// let mut matchers = Matchers::new(alloc);
+    /// let mut matchers = Matchers::new(alloc, &rules);
     /// assert!(rt; !rule.holds(alloc, &mut matchers, &record)?);
     /// ```
-    pub fn holds<'r>(
-        &'r self,
+    pub fn holds(
+        &self,
         alloc: Global,
-        matchers: &mut Matchers<'r>,
+        matchers: &mut Matchers<'_>,
         item: &Value,
     ) -> Result<bool, AllocError>
         ensures { IfOk result (HasTruth (IsExactly
@@ -98,7 +98,7 @@ impl Predicate<Value> for RuleCheck {
     ghost one_formula = { λ r v f g lawful. one_exactly };
 
     fn eval(&self, alloc: Global, item: &Value) -> Result<bool, AllocError> {
-        let mut matchers = Matchers::new(alloc);
+        let mut matchers = Matchers::new(alloc, &[]);
         let held = self.holds(alloc, &mut matchers, item)?;
         Ok(held)
     }

@@ -8,7 +8,7 @@ use serde_json::Value;
 
 /// An item of a record. A record that is asked itself is both.
 #[derive(Clone, Copy)]
-pub(crate) struct Scope<'v> {
+pub struct Scope<'v> {
     pub(crate) whole: &'v Value,
     pub(crate) item: &'v Value,
 }

@@ -319,7 +319,7 @@ pub fn run_records<R: BufRead, W: Write, M: Write>(
 {
     let mut bytes = Vec::new(alloc);
     let mut position = Position::Outside;
-    let mut workspace = Workspace::new(alloc);
+    let mut workspace = Workspace::new(alloc, job.rules);
     for taken in 0..u64::MAX {
         let found = next_piece(input, job.format, &mut position, &mut bytes, job.max_line)?;
         let number = taken + 1;

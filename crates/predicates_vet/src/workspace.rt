@@ -1,5 +1,5 @@
 //! What a run keeps from one line to the next.
-use predicates_rule_check::Matchers;
+use predicates_rule_check::{Matchers, RuleCheck};
 use std::alloc::Global;
 
 /// The memory that a run works with: where it takes it, and a text and matchers that take it once
@@ -12,11 +12,11 @@ pub(crate) struct Workspace<'r> {
 }
 
 impl<'r> Workspace<'r> {
-    pub(crate) fn new(alloc: Global) -> Workspace<'r> {
+    pub(crate) fn new(alloc: Global, rules: &'r [RuleCheck]) -> Workspace<'r> {
         Workspace {
             alloc,
             text: String::new(alloc),
-            matchers: Matchers::new(alloc),
+            matchers: Matchers::new(alloc, rules),
         }
     }
 }

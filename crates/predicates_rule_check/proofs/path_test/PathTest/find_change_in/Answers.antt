@@ -1,5 +1,5 @@
 use Rattle.predicates_rule_check.specs.Scopes.{place_of}
-use Rattle.predicates_rule_check.specs.Tests.{text_of_test, path_of_test, query_of_test}
+use Rattle.predicates_rule_check.specs.Nodes.{text_of_test, path_of_test, query_of_test}
 use Rattle.predicates_rule_check.proofs.Changes.{test_changed}
 use Rattle.predicates_rule_check.proofs.path_test.PathTest.find_change_in.Goals as goal
 

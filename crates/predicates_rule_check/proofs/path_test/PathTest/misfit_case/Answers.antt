@@ -4,7 +4,7 @@ use Rattle.serde_json.specs.View.{view}
 use Rattle.predicates_rule_check.specs.Scopes.{place_of}
 use Rattle.predicates_rule_check.specs.Plans.{found_label, shown_beside}
 use Rattle.predicates_rule_check.specs.Queries.{misfit_text}
-use Rattle.predicates_rule_check.specs.Tests.{text_of_test, query_of_test}
+use Rattle.predicates_rule_check.specs.Nodes.{text_of_test, query_of_test}
 use Rattle.predicates_rule_check.proofs.Leaving.{one_more}
 use Rattle.predicates_rule_check.proofs.path_test.PathTest.misfit_case.Goals as goal
 

@@ -1,5 +1,5 @@
 use Rattle.predicates_core.proofs.Found.{none_wanted, case_wanted}
-use Rattle.predicates_rule_check.specs.Tests.{text_of_test, path_of_test, query_of_test}
+use Rattle.predicates_rule_check.specs.Nodes.{text_of_test, path_of_test, query_of_test}
 use Rattle.predicates_rule_check.proofs.Leaving.{HasTruth-absent}
 use Rattle.predicates_rule_check.proofs.path_test.PathTest.nothing_found.Goals as goal
 
