@@ -1,12 +1,10 @@
 //! Checks whose shape comes at run time.
-ghost use Rattle.std.specs.Prelude.{◌≡◌, refl, Some, [], ◌∷◌, codes};
+ghost use Rattle.std.specs.Prelude.{Some, [], ◌∷◌, codes};
 
 use super::makers_without_memory::holds;
-use predicates::custom::absent_case;
 use predicates::ord::{OrdPredicate, ge, le, lt};
-use predicates::reflection::Case;
 use predicates::{PredicateChange, Total};
-use predicates_dynamic::{Check, Listed, Members, NoContext, View};
+use predicates_dynamic::{Check, Members};
 use predicates_sweep::Memory::Taken;
 use predicates_sweep::{
     Answer, Call, Rendered, Row, Without, leaf, over, refusing, sweep, sweep_calls,
@@ -118,72 +116,6 @@ impl Call for Joining {
     }
 }
 
-// The one member of each item, in a list that is made for a call.
-#[derive(Clone, Copy)]
-struct Listing;
-
-impl fmt::Display for Listing {
-    ghost output = { λ _. Some (codes "listed ") };
-
-    fn fmt<W: fmt::Write>(&self, f: &mut fmt::Formatter<W>) -> fmt::Result {
-        f.write_str("listed ")
-    }
-}
-
-impl View<u32> for Listing {
-    type Kept = Vec<u32>;
-
-    ghost gives = { λ _ _ o. o ≡ Some (7 ∷ []) };
-
-    ghost given = { λ _ _. (Some (7 ∷ []), refl) };
-
-    ghost lends = { λ _ _. ⊥ };
-
-    ghost absence_of = { λ _ _. [] };
-
-    fn list<'i>(
-        &self,
-        alloc: Global,
-        _item: &'i u32,
-    ) -> Result<Option<Listed<'i, u32, Vec<u32>>>, AllocError> {
-        let members = vec![in alloc; 7]?;
-        Ok(Some(Listed::Kept(members)))
-    }
-
-    fn absent_case<W: fmt::Display>(
-        &self,
-        alloc: Global,
-        whole: &W,
-        _item: &u32,
-    ) -> Result<Case, AllocError> {
-        absent_case(alloc, whole, "")
-    }
-}
-
-// The verdict on 7 of a check of members that are listed.
-#[derive(Clone, Copy)]
-struct Evaluated;
-
-impl Call for Evaluated {
-    type Operand = Check<OrdPredicate<u32>, Listing>;
-
-    type Answer = Answer;
-
-    fn operand(&self, alloc: Global) -> Result<Check<OrdPredicate<u32>, Listing>, AllocError> {
-        Check::leaf_beside_members(ge(5)).of_each(alloc, Listing)
-    }
-
-    #[tactic(auto, using(predicates_dynamic::specs::Laws::all_leaves))]
-    fn call(
-        &self,
-        alloc: Global,
-        check: Check<OrdPredicate<u32>, Listing>,
-    ) -> Result<Answer, AllocError> {
-        let holds = check.eval_with(alloc, &mut NoContext, &7)?;
-        Ok(Answer::Verdict(holds))
-    }
-}
-
 const OVER: [(&str, Over, &str); 5] = [
     ("Check::not", Over::Not, "(! var >= 5)"),
     ("Check::name", Over::Name, "large"),
@@ -210,7 +142,7 @@ fn checks_over_parts(rt: HostRuntime) -> Result<(), Fail> {
     for (name, call, expected) in JOINING {
         sweep(&rt, name, &call, expected, Taken)?;
     }
-    sweep(&rt, "Check::eval_with", &Evaluated, "true", Taken)
+    Ok(())
 }
 
 // What was made without memory holds of the item. A check that is `Total` may be asked about it.
