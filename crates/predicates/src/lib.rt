@@ -57,11 +57,11 @@ pub mod prelude;
 pub mod semantics;
 
 pub use boxed::{BoxPredicate, TextPredicate};
-pub use predicates_boolean::{boolean, name, rules, threshold};
+pub use predicates_boolean::{boolean, rules, threshold};
 pub use predicates_check as check;
 pub use predicates_core::{
     Content, Predicate, PredicateChange, ReadsContent, Total, as_static_str, custom,
-    default_find_case, node, reflection, static_text,
+    default_find_case, name, node, reflection, static_text,
 };
 pub use predicates_item::{constant, function, iter, ord};
 pub use predicates_part as part;

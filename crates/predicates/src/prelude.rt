@@ -10,11 +10,11 @@
 
 pub use crate::{BoxPredicate, laws};
 pub use predicates_boolean::boolean::PredicateBooleanExt;
-pub use predicates_boolean::name::PredicateNameExt;
 pub use predicates_check::{
     add_failure, check_all, expect, failures, require, require_all, require_as, required_change,
     sift,
 };
+pub use predicates_core::name::PredicateNameExt;
 pub use predicates_core::reflection::render;
 pub use predicates_core::static_text::StaticText;
 pub use predicates_core::{Predicate, PredicateChange};

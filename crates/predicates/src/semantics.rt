@@ -14,8 +14,9 @@ ghost use Rattle.predicates.specs.Boxed.{inner_of, kept_text};
 ghost use Rattle.predicates.specs.Printed.{IsPrintedAs};
 
 use crate::boxed::{BoxPredicate, TextPredicate};
-pub use predicates_boolean::semantics::{at_least, join, named, not, rules};
+pub use predicates_boolean::semantics::{at_least, join, not, rules};
 use predicates_core::reflection::PredicateReflection;
+pub use predicates_core::semantics::named;
 use predicates_core::{Predicate, PredicateChange, ReadsContent};
 pub use predicates_item::semantics::{
     constant, equality, equality_reflection, hashed, listed, order, order_reflection, same_members,
@@ -59,7 +60,8 @@ pub fn boxed_predicate(boxed: &BoxPredicate, item: &String)
         f }
     ensures lawful { ⟦<BoxPredicate as Predicate<String>>⟧.lawful boxed.now }
     ensures infallible { ⟦<BoxPredicate as Predicate<String>>⟧.infallible boxed.now item.now
-        ↔ (TextPredicate-box (inner_of boxed.now)).text_infallible (inner_of boxed.now).value item.now }
+        ↔ (TextPredicate-box (inner_of boxed.now)).text_infallible (inner_of boxed.now).value
+        item.now }
     ensures values { ⟦<BoxPredicate as PredicateReflection>⟧.parameters_of boxed.now
         ≡ (TextPredicate-box (inner_of boxed.now)).text_parameters_of (inner_of boxed.now).value }
     ensures parts { ⟦<BoxPredicate as PredicateReflection>⟧.children_of boxed.now

@@ -1,7 +1,7 @@
-//! Predicates over other predicates: and, or, xor, not, names and lists of rules.
+//! Predicates over other predicates: and, or, xor, not and lists of rules.
 //!
 //! ```
-//! let outside = predicate::ge(5).and(predicate::le(10)).not().name("outside");
+//! let outside = predicate::ge(5).and(predicate::le(10)).not();
 //! assert!(rt; outside.eval(alloc, &11)?);
 //! ```
 //!
@@ -10,7 +10,6 @@
 #![tactic(auto)]
 
 pub mod boolean;
-pub mod name;
 pub mod rules;
 pub mod semantics;
 pub mod threshold;

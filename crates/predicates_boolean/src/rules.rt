@@ -210,6 +210,6 @@ impl<Q: Quantifier, P: ReadsContent<Item>, Item: Content> ReadsContent<Item>
 
     ghost always_lawful = { λ p. each_holds (rules_of p) P.always_lawful };
 
-    ghost has_formula = { λ p v. has_members (λ q. P.content_formula q (Item.content v)) (rules_of p)
-        (λ q. P.has_formula q v) };
+    ghost has_formula = { λ p v. has_members (λ q. P.content_formula q (Item.content v))
+        (rules_of p) (λ q. P.has_formula q v) };
 }

@@ -1,4 +1,4 @@
-//! What combinators and names mean, as contracts of calls that do nothing.
+//! What combinators mean, as contracts of calls that do nothing.
 //!
 //! ```
 //! // From here on a proof knows the formulas of `both` on `item`, and when it takes no memory.
@@ -11,23 +11,19 @@
 ghost use Rattle.std.specs.Prelude.{◌≡◌, ◌↔◌, [], codes, map};
 ghost use Rattle.std.specs.List.{AllByRecursion};
 ghost use Rattle.predicates_core.specs.Combined.{infix_text, not_text, sign, IsPair, IsNot};
-ghost use Rattle.predicates_core.specs.Combined.{IsNamed};
 ghost use Rattle.predicates_core.specs.Formula.{Formula};
 ghost use Rattle.predicates_core.specs.Parts.{part, part_of_each, two_parts};
 ghost use Rattle.predicates_core.specs.Several.{IsOfMembers, listed_text};
 ghost use Rattle.predicates_boolean.specs.Join.{left_of, right_of};
-ghost use Rattle.predicates_boolean.specs.Name as Name;
 ghost use Rattle.predicates_boolean.specs.Not as Not;
 ghost use Rattle.predicates_boolean.specs.Rules.{rules_of, word};
 ghost use Rattle.predicates_boolean.specs.Threshold.{counted_of, least_of};
 ghost use Rattle.predicates_core.specs.Thresholds.{IsOfThreshold, counted_text};
 
 use crate::boolean::{JoinOperator, JoinPredicate, NotPredicate};
-use crate::name::NamePredicate;
 use crate::rules::RulesPredicate;
 use crate::threshold::AtLeastPredicate;
 use predicates_core::Predicate;
-use predicates_core::as_static_str::AsStaticStr;
 use predicates_core::custom::Quantifier;
 use predicates_core::reflection::PredicateReflection;
 
@@ -75,8 +71,8 @@ pub fn rules<Q: Quantifier, P: Predicate<Item>, Item>(rules: &RulesPredicate<Q, 
         ≡ part_of_each (codes "rule") P.output P.parameters_of P.children_of (rules_of rules.now) }
 {}
 
-/// Its formulas are `AtLeast` over a formula of each rule, in order, under the name `rule`; where the
-/// number alone settles it, it is one leaf.
+/// Its formulas are `AtLeast` over a formula of each rule, in order, under the name `rule`; where
+/// the number alone settles it, it is one leaf.
 pub fn at_least<P: Predicate<Item>, Item>(threshold: &AtLeastPredicate<P>, item: &Item)
     ensures formula { (f : Formula)
         → ⟦<AtLeastPredicate<P> as Predicate<Item>>⟧.formula threshold.now item.now f
@@ -104,7 +100,8 @@ pub fn not<M: Predicate<Item>, Item>(opposite: &NotPredicate<M, Item>, item: &It
         (M.formula (Not.inner_of opposite.now) item.now) f }
     ensures lawful { ⟦<NotPredicate<M, Item> as Predicate<Item>>⟧.lawful opposite.now
         ↔ M.lawful (Not.inner_of opposite.now) }
-    ensures infallible { ⟦<NotPredicate<M, Item> as Predicate<Item>>⟧.infallible opposite.now item.now
+    ensures infallible { ⟦<NotPredicate<M, Item> as Predicate<Item>>⟧.infallible
+        opposite.now item.now
         ↔ M.infallible (Not.inner_of opposite.now) item.now }
     ensures values { ⟦<NotPredicate<M, Item> as PredicateReflection>⟧.parameters_of opposite.now
         ≡ [] }
@@ -112,25 +109,4 @@ pub fn not<M: Predicate<Item>, Item>(opposite: &NotPredicate<M, Item>, item: &It
         ≡ part (codes "predicate") (M.output (Not.inner_of opposite.now))
         (M.parameters_of (Not.inner_of opposite.now))
         (M.children_of (Not.inner_of opposite.now)) }
-{}
-
-/// Its formulas are `Named` over a formula of its part, which stands under the name.
-pub fn named<M: Predicate<Item>, Item, N: AsStaticStr>(
-    named: &NamePredicate<M, Item, N>,
-    item: &Item,
-)
-    ensures formula { (f : Formula)
-        → ⟦<NamePredicate<M, Item, N> as Predicate<Item>>⟧.formula named.now item.now f
-        ↔ IsNamed (N.bytes (Name.name_of named.now))
-        (M.formula (Name.inner_of named.now) item.now) f }
-    ensures lawful { ⟦<NamePredicate<M, Item, N> as Predicate<Item>>⟧.lawful named.now
-        ↔ M.lawful (Name.inner_of named.now) }
-    ensures infallible { ⟦<NamePredicate<M, Item, N> as Predicate<Item>>⟧.infallible named.now item.now
-        ↔ M.infallible (Name.inner_of named.now) item.now }
-    ensures values { ⟦<NamePredicate<M, Item, N> as PredicateReflection>⟧.parameters_of named.now
-        ≡ [] }
-    ensures parts { ⟦<NamePredicate<M, Item, N> as PredicateReflection>⟧.children_of named.now
-        ≡ part (N.bytes (Name.name_of named.now)) (M.output (Name.inner_of named.now))
-        (M.parameters_of (Name.inner_of named.now))
-        (M.children_of (Name.inner_of named.now)) }
 {}

@@ -79,8 +79,8 @@ pub fn at_most<P, Item>(most: usize, rules: Vec<P>) -> AtMostPredicate<P, Item>
 }
 
 /// Holds where so many of the rules do, and no more: `at_least` of the number, and `at_most` of it
-/// over a copy of the rules. So each rule is asked for either, and a true one needs every rule for its
-/// reason. It takes memory for the copy.
+/// over a copy of the rules. So each rule is asked for either, and a true one needs every rule for
+/// its reason. It takes memory for the copy.
 ///
 /// ```
 /// let grades = vec![in alloc; predicate::ge(5), predicate::le(10), predicate::lt(3)]?;

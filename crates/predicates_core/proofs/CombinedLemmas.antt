@@ -10,6 +10,7 @@ use Rattle.predicates_core.specs.Describe.{CaseNode, NamedCase}
 use Rattle.predicates_core.specs.Shows.{FitsNode, ShowsPart, ShowsParts, Shows, Explains, IsCaseOf, IsNode}
 use Rattle.predicates_core.specs.Combined.{IsPair, IsNot, IsNamed}
 use Rattle.predicates_core.specs.LeafLaws.{fits_itself}
+pub use Rattle.predicates_core.specs.NameLaws.{named_text_fits, one_named, has_named}
 use Rattle.predicates_core.proofs.Values.{truth-pair, truth-Not, truth-Named}
 pub use Rattle.predicates_core.proofs.Values.{not-not}
 use Rattle.predicates_core.proofs.Joins.{pair_joins}
@@ -24,18 +25,12 @@ pair_text_fits {text} h = subst (λ g. FitsEntry (text_of g) text) (sym h.is) (f
 pub not_text_fits : {text : Option (List ℕ)} {part : Formula → Type 0} {f : Formula} → IsNot text part f → FitsEntry (text_of f) text
 not_text_fits {text} h = subst (λ g. FitsEntry (text_of g) text) (sym h.is) (fits_itself text)
 
-pub named_text_fits : {name : List ℕ} {part : Formula → Type 0} {f : Formula} → IsNamed name part f → FitsEntry (text_of f) (Some name)
-named_text_fits {name} h = subst (λ g. FitsEntry (text_of g) (Some name)) (sym h.is) (fits_itself (Some name))
-
 pub one_pair : {op : Operator} {text : Option (List ℕ)} {left right : Formula → Type 0} {f g : Formula} → ((x y : Formula) → left x → left y → x ≡ y) → ((x y : Formula) → right x → right y → x ≡ y) → IsPair op text left right f → IsPair op text left right g → f ≡ g
 one_pair {op} {text} of_left of_right h k = h.is ∙ (λ i. pair op (plain text) (of_left h.left_formula k.left_formula h.of_left k.of_left i) (of_right h.right_formula k.right_formula h.of_right k.of_right i)) ∙ sym k.is
 
 module _ {part : Formula → Type 0} {f g : Formula} where
   pub one_not : {text : Option (List ℕ)} → ((x y : Formula) → part x → part y → x ≡ y) → IsNot text part f → IsNot text part g → f ≡ g
   one_not {text} same h k = h.is ∙ ap (Not (plain text)) (same h.inner k.inner h.of_part k.of_part) ∙ sym k.is
-
-  pub one_named : {name : List ℕ} → ((x y : Formula) → part x → part y → x ≡ y) → IsNamed name part f → IsNamed name part g → f ≡ g
-  one_named {name} same h k = h.is ∙ ap (Named (plain (Some name)) name) (same h.inner k.inner h.of_part k.of_part) ∙ sym k.is
 
 -- where the parts have a formula, the whole has one
 pub has_pair : {op : Operator} {text : Option (List ℕ)} {left right : Formula → Type 0} {f g : Formula} → left f → right g → IsPair op text left right (pair op (plain text) f g)
@@ -44,9 +39,6 @@ has_pair {f = f} {g = g} of_left of_right = record { left_formula = f; right_for
 module _ {part : Formula → Type 0} {f : Formula} where
   pub has_not : {text : Option (List ℕ)} → part f → IsNot text part (Not (plain text) f)
   has_not of_part = record { inner = f; of_part = of_part; is = refl }
-
-  pub has_named : {name : List ℕ} → part f → IsNamed name part (Named (plain (Some name)) name f)
-  has_named of_part = record { inner = f; of_part = of_part; is = refl }
 
 -- ---- truth
 

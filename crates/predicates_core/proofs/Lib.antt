@@ -25,6 +25,7 @@ pub mod OneChild
 pub mod Asked
 pub mod Fewer
 pub mod Several
+pub mod Listing
 pub mod EachPart
 pub mod ThresholdCases
 pub mod Turned

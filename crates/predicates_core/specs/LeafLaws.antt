@@ -13,5 +13,7 @@ pub one_exactly : {f g h : Formula} → IsExactly h f → IsExactly h g → f �
 one_exactly x y = x.is ∙ sym y.is
 
 module _ {label : Label} {own : Bool} where
-  pub exactly_text_fits : {f : Formula} → IsExactly (Leaf label own) f → FitsEntry (text_of f) label.text
-  exactly_text_fits h = subst (λ g. FitsEntry (text_of g) label.text) (sym h.is) (fits_itself label.text)
+  pub exactly_text_fits : {f : Formula} → IsExactly (Leaf label own) f
+      → FitsEntry (text_of f) label.text
+  exactly_text_fits h =
+      subst (λ g. FitsEntry (text_of g) label.text) (sym h.is) (fits_itself label.text)

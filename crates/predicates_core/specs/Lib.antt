@@ -26,3 +26,5 @@ pub mod Laws
 pub mod Added
 pub mod Text
 pub mod Custom
+pub mod Name
+pub mod NameLaws

@@ -76,7 +76,9 @@ formulas_of name g u (v ∷ us) = more name (g u) (formulas_of name g v us)
 abbrev pub members_formula : {U : Type 0} → Bool → Entry → List ℕ → (U → Formula) → List U → Formula
 members_formula decides text name g [] = no_members text (not decides)
 members_formula decides text name g (u ∷ us) =
-    Join (decided_by decides) (numbered text decides (formulas_of name g u us)) (formulas_of name g u us)
+    Join (decided_by decides)
+    (numbered text decides (formulas_of name g u us))
+    (formulas_of name g u us)
 
 -- the texts behind the first, each after a comma
 abbrev pub further_texts : List (Option (List ℕ)) → Option (List ℕ)
@@ -86,4 +88,5 @@ further_texts (t ∷ ts) = Some (codes ", ") ++? t ++? further_texts ts
 -- the texts behind a word, in parentheses
 abbrev pub listed_text : List ℕ → List (Option (List ℕ)) → Option (List ℕ)
 listed_text word [] = Some word ++? Some (codes "()")
-listed_text word (t ∷ ts) = Some word ++? Some (codes "(") ++? t ++? further_texts ts ++? Some (codes ")")
+listed_text word (t ∷ ts) =
+    Some word ++? Some (codes "(") ++? t ++? further_texts ts ++? Some (codes ")")

@@ -20,8 +20,8 @@ pub fn one_child()
     ensures { OneChild }
 {}
 
-/// The case of a threshold of `k` of `n` parts has `k` children where it holds, and `n - k + 1` where
-/// it fails: the first parts that decide.
+/// The case of a threshold of `k` of `n` parts has `k` children where it holds, and `n - k + 1`
+/// where it fails: the first parts that decide.
 pub fn enough_children()
     ensures { EnoughChildren }
 {}

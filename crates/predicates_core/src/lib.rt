@@ -1,4 +1,4 @@
-//! Predicates, the cases that explain their verdicts, and the descriptions of predicates.
+//! Predicates, their names, the cases that explain their verdicts, and descriptions of predicates.
 //!
 //! A user of predicates names the crate `predicates`, which re-exports all of this. A custom
 //! predicate implements `Predicate` and makes its cases by the calls of `custom` and `node`:
@@ -15,8 +15,10 @@
 mod change;
 pub mod custom;
 pub mod laws;
+pub mod name;
 pub mod node;
 mod predicate;
+pub mod semantics;
 
 pub use change::PredicateChange;
 pub use predicate::{Content, Predicate, ReadsContent, Total, default_find_case};

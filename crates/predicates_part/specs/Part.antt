@@ -4,8 +4,8 @@ use Rattle.std.specs.Fn.{Shared, FnReturnsAt}
 use Rattle.std.proofs.Common.{subst}
 use denote.Ref.{Bor}
 use Rattle.predicates_core.specs.Formula.{Formula}
-use Rattle.predicates_boolean.specs.Name as Name
-use Rattle.predicates_boolean.specs.declared.name.NamePredicate.{NamePredicate}
+use Rattle.predicates_core.specs.Name as Name
+use Rattle.predicates_core.specs.declared.name.NamePredicate.{NamePredicate}
 use Rattle.predicates_part.specs.declared.part.PartPredicate.{PartPredicate}
 
 -- the part that a function gives by value, and the one behind a reference that it gives

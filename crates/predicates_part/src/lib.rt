@@ -38,10 +38,10 @@ pub use members_at_least::{
 };
 pub use part::{ByField, ByOption, ByReference, ByValue, Field, FieldPredicate, PartPredicate};
 use predicates_boolean::boolean::{AndPredicate, NotPredicate};
-use predicates_boolean::name::NamePredicate;
 use predicates_boolean::threshold::one_more;
 use predicates_core::Predicate;
 use predicates_core::as_static_str::AsStaticStr;
+use predicates_core::name::NamePredicate;
 use std::alloc::AllocError;
 pub use variant::{
     ErrPredicate, ErrVariant, OkPredicate, OkVariant, SomePredicate, SomeVariant, Variant,
@@ -226,9 +226,9 @@ pub trait PredicatePartExt<U>: Predicate<U> {
         ensures least { MembersAtLeast.least_of result ≡ least }
         ensures inner { MembersAtLeast.inner_of result ≡ self };
 
-    /// The predicate of a list that holds where this one holds of at most so many members: it is not
-    /// that one more of them hold, and prints `(! at_least(3, ..))` for two. It takes no memory of
-    /// its own.
+    /// The predicate of a list that holds where this one holds of at most so many members: it is
+    /// not that one more of them hold, and prints `(! at_least(3, ..))` for two. It takes no memory
+    /// of its own.
     ///
     /// ```
     /// let one_child = predicate::lt(18).of_at_most(1);

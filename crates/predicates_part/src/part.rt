@@ -12,8 +12,8 @@ ghost use Rattle.predicates_part.specs.Part.{HasOnePart, IsOfPart, IsInfallibleO
 ghost use Rattle.predicates_part.specs.Part.{one_of_part, owned, borrowed};
 ghost use Rattle.predicates_part.specs.Part.{part_inner_of, part_function_of};
 
-use predicates_boolean::name::NamePredicate;
 use predicates_core::custom::{present_case, present_change, present_explained, present_holds};
+use predicates_core::name::NamePredicate;
 use predicates_core::reflection::{Case, Child, Parameter, PredicateReflection};
 use predicates_core::{Predicate, PredicateChange, Total};
 use std::alloc::{AllocError, Global};
@@ -159,7 +159,8 @@ impl<P: Predicate<U>, F: Fn(&T) -> &U, T, U> Predicate<T> for PartPredicate<P, F
 
     ghost formula = { λ p v. IsOfPart F.Fn borrowed p.function (P.formula p.inner) v };
 
-    ghost infallible = { λ p v. IsInfallibleOnPart F.Fn borrowed p.function (P.infallible p.inner) v };
+    ghost infallible = { λ p v.
+        IsInfallibleOnPart F.Fn borrowed p.function (P.infallible p.inner) v };
 
     ghost text_fits = { λ p v f h. P.text_fits p.inner (borrowed h.given) f h.of_part };
 

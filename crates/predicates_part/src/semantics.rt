@@ -53,7 +53,8 @@ pub fn of_ref<P: Predicate<U>, F: Fn(&T) -> &U, T, U, N: AsStaticStr>(
     item: &T,
 )
     ensures formula { (f : Formula)
-        → ⟦<FieldPredicate<P, F, T, U, N, ByReference> as Predicate<T>>⟧.formula field.now item.now f
+        → ⟦<FieldPredicate<P, F, T, U, N, ByReference> as Predicate<T>>⟧.formula
+        field.now item.now f
         ↔ IsNamed (N.bytes (name_of field.now)) (IsOfPart F.Fn borrowed (function_of field.now)
         (P.formula (inner_of field.now)) item.now) f }
     ensures lawful { ⟦<FieldPredicate<P, F, T, U, N, ByReference> as Predicate<T>>⟧.lawful field.now
@@ -124,7 +125,8 @@ pub fn variant<V: Variant<T>, P: Predicate<V::Value>, T>(
         (P.formula (Optional.inner_of predicate.now)) (V.value_of item.now) f }
     ensures lawful { ⟦<VariantPredicate<V, P> as Predicate<T>>⟧.lawful predicate.now
         ↔ P.lawful (Optional.inner_of predicate.now) }
-    ensures infallible { ⟦<VariantPredicate<V, P> as Predicate<T>>⟧.infallible predicate.now item.now
+    ensures infallible { ⟦<VariantPredicate<V, P> as Predicate<T>>⟧.infallible
+        predicate.now item.now
         ↔ IfSome (V.value_of item.now) (P.infallible (Optional.inner_of predicate.now)) }
     ensures values { ⟦<VariantPredicate<V, P> as PredicateReflection>⟧.parameters_of predicate.now
         ≡ [] }
@@ -155,8 +157,8 @@ pub fn members<Q: Quantifier, P: Predicate<U>, U>(members: &MembersPredicate<Q, 
         (P.children_of (Members.inner_of members.now)) }
 {}
 
-/// Its formulas are `AtLeast` over a formula of each member, in order, under the name `item`; where the
-/// number alone settles it, it is one leaf.
+/// Its formulas are `AtLeast` over a formula of each member, in order, under the name `item`; where
+/// the number alone settles it, it is one leaf.
 pub fn members_at_least<P: Predicate<U>, U>(members: &MembersAtLeastPredicate<P>, item: &Vec<U>)
     ensures formula { (f : Formula)
         → ⟦<MembersAtLeastPredicate<P> as Predicate<Vec<U>>>⟧.formula members.now item.now f

@@ -4,6 +4,8 @@ use Rattle.predicates_core.specs.Label.{FitsEntry}
 use Rattle.predicates_core.specs.Formula.{Formula, text_of}
 use Rattle.predicates_core.specs.declared.custom.join.Operator.{Operator}
 use Rattle.predicates_core.specs.declared.custom.join.Operator.TheVariants.{And, Or, Xor}
+use Rattle.predicates_core.specs.declared.name.NamePredicate.{NamePredicate}
+use Rattle.predicates_core.specs.Name as Name
 use Rattle.predicates_core.specs.Combined.{infix_text, not_text, sign, IsPair, IsNot, IsNamed}
 use Rattle.predicates_core.proofs.CombinedLemmas.{pair_text_fits, not_text_fits, named_text_fits}
 use Rattle.predicates_core.proofs.CombinedLemmas.{one_pair, one_not, one_named}
@@ -12,10 +14,8 @@ use Rattle.predicates_boolean.specs.declared.boolean.join.AndOperator.{AndOperat
 use Rattle.predicates_boolean.specs.declared.boolean.join.OrOperator.{OrOperator}
 use Rattle.predicates_boolean.specs.declared.boolean.join.XorOperator.{XorOperator}
 use Rattle.predicates_boolean.specs.declared.boolean.not.NotPredicate.{NotPredicate}
-use Rattle.predicates_boolean.specs.declared.name.NamePredicate.{NamePredicate}
 use Rattle.predicates_boolean.specs.Join.{left_of, right_of}
 use Rattle.predicates_boolean.specs.Not as Not
-use Rattle.predicates_boolean.specs.Name as Name
 use Rattle.predicates_testing.specs.declared.one_of.OneOf.{OneOf}
 use Rattle.predicates_testing.specs.OneOf.{by_type, fact_by_type, text_fits_by_type}
 use Rattle.predicates_testing.specs.OneOf.{lawful_by_type, one_by_type}

@@ -93,7 +93,8 @@ impl<P: fmt::Display, Item> fmt::Display for Level<P, Item> {
 }
 
 impl<P: PredicateReflection, Item> PredicateReflection for Level<P, Item> {
-    ghost parameters_of = { λ p. ⟦<OneOf<P, Combined<P, Item>> as PredicateReflection>⟧.parameters_of p.node };
+    ghost parameters_of = { λ p.
+        ⟦<OneOf<P, Combined<P, Item>> as PredicateReflection>⟧.parameters_of p.node };
 
     ghost children_of = { λ p. ⟦<OneOf<P, Combined<P, Item>> as PredicateReflection>⟧.children_of
         p.node };
@@ -112,7 +113,8 @@ impl<P: Predicate<Item>, Item> Predicate<Item> for Level<P, Item> {
 
     ghost formula = { λ p. ⟦<OneOf<P, Combined<P, Item>> as Predicate<Item>>⟧.formula p.node };
 
-    ghost infallible = { λ p. ⟦<OneOf<P, Combined<P, Item>> as Predicate<Item>>⟧.infallible p.node };
+    ghost infallible = { λ p. ⟦<OneOf<P, Combined<P, Item>> as Predicate<Item>>⟧.infallible
+        p.node };
 
     ghost text_fits = { λ p v f. level_text_fits P.output (λ q. P.formula q v)
         (λ q. P.text_fits q v) p.node f };

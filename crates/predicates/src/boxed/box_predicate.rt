@@ -63,7 +63,8 @@ impl PredicateReflection for BoxPredicate {
     ghost parameters_of = { λ p. (TextPredicate-box (inner_of p)).text_parameters_of
         (inner_of p).value };
 
-    ghost children_of = { λ p. (TextPredicate-box (inner_of p)).text_children_of (inner_of p).value };
+    ghost children_of = { λ p. (TextPredicate-box (inner_of p)).text_children_of
+        (inner_of p).value };
 
     fn parameters(&self, alloc: Global) -> Result<Vec<Parameter>, AllocError> {
         self.inner.text_parameters(alloc)
@@ -131,7 +132,8 @@ impl Predicate<String> for BoxPredicate {
         (kept_text p)
         ((TextPredicate-box (inner_of p)).text_formula (inner_of p).value (string_bytes v)) };
 
-    ghost infallible = { λ p v. (TextPredicate-box (inner_of p)).text_infallible (inner_of p).value v };
+    ghost infallible = { λ p v. (TextPredicate-box (inner_of p)).text_infallible
+        (inner_of p).value v };
 
     ghost text_fits = { λ p v f. printed_text_fits };
 

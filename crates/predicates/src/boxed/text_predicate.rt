@@ -88,7 +88,8 @@ pub trait TextPredicate: Drop {
     /// The printed text, in memory of its own.
     fn text_printed(&self, alloc: Global) -> Result<String, AllocError>
         ensures fits { IfOk result (λ text. Fits (text_output self.now) (string_bytes text)) }
-        ensures root { IfOk result (λ text. FitsRoots (text_formula self.now) (string_bytes text)) };
+        ensures root { IfOk result (λ text.
+            FitsRoots (text_formula self.now) (string_bytes text)) };
 }
 
 impl<P: ReadsContent<String> + PredicateChange<String> + Drop> TextPredicate for P {

@@ -65,14 +65,14 @@ pub fn same_function<P: Predicate<Item>, Q: Predicate<Item>, Item>(
 /// laws::de_morgan(&predicate::ge(5), &predicate::le(10), &7);
 /// ```
 pub fn de_morgan<P: Predicate<Item>, Q: Predicate<Item>, Item>(left: &P, right: &Q, item: &Item)
-    ensures not_both { (f g : Formula) → P.formula left.now item.now f → Q.formula right.now item.now g
-        → AreAlike
+    ensures not_both { (f g : Formula) → P.formula left.now item.now f
+        → Q.formula right.now item.now g → AreAlike
         (opposite (infix_text (sign And) (P.output left.now) (Q.output right.now))
         (joined And (P.output left.now) (Q.output right.now) f g))
         (joined Or (not_text (P.output left.now)) (not_text (Q.output right.now))
         (opposite (P.output left.now) f) (opposite (Q.output right.now) g)) }
-    ensures not_either { (f g : Formula) → P.formula left.now item.now f → Q.formula right.now item.now g
-        → AreAlike
+    ensures not_either { (f g : Formula) → P.formula left.now item.now f
+        → Q.formula right.now item.now g → AreAlike
         (opposite (infix_text (sign Or) (P.output left.now) (Q.output right.now))
         (joined Or (P.output left.now) (Q.output right.now) f g))
         (joined And (not_text (P.output left.now)) (not_text (Q.output right.now))

@@ -105,7 +105,8 @@ impl<M: PredicateChange<Item>, Item> PredicateChange<Item> for NotPredicate<M, I
 }
 
 impl<M: Total<Item>, Item> Total<Item> for NotPredicate<M, Item> {
-    ghost formula_of = { λ p v. Not (plain (not_text (M.output p.inner))) (M.formula_of p.inner v) };
+    ghost formula_of = { λ p v.
+        Not (plain (not_text (M.output p.inner))) (M.formula_of p.inner v) };
 
     ghost always_lawful = { λ p. M.always_lawful p.inner };
 

@@ -1,5 +1,5 @@
-//! What would turn the verdict of a list whose members are each asked, of which one with the verdict
-//! `decides` decides.
+//! What would turn the verdict of a list whose members are each asked, of which one with the
+//! verdict `decides` decides.
 //!
 //! Where members decide the verdict, each of them has to turn; where none does, the first may. The
 //! case of each member that has to turn tells its number, as its last product `index`.
@@ -90,8 +90,8 @@ fn passing_members<W: fmt::Display, A: AskChange<Common, Member>, Common, Member
     first_alone(alloc, list, Some(case))
 }
 
-// What would turn the whole, whichever its verdict. The first member is asked for its change, and each
-// other only for that of a member that decides.
+// What would turn the whole, whichever its verdict. The first member is asked for its change, and
+// each other only for that of a member that decides.
 fn whichever_members<W: fmt::Display, A: AskChange<Common, Member>, Common, Member>(
     alloc: Global,
     list: Deciding<'_, W>,

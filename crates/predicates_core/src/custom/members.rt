@@ -110,8 +110,8 @@ pub fn members_threshold_holds<P: Predicate<Item>, Item>(
     counted_hold::<ByPredicate, P, Item>(alloc, least, part, members)
 }
 
-/// The `find_case` of such a predicate. The node has the cases of the first members that decide, each
-/// under the name.
+/// The `find_case` of such a predicate. The node has the cases of the first members that decide,
+/// each under the name.
 pub fn members_threshold_case<W: fmt::Display, P: Predicate<Item>, Item>(
     alloc: Global,
     list: Counting<'_, W>,
@@ -144,8 +144,8 @@ pub fn members_threshold_explained<W: fmt::Display, P: Predicate<Item>, Item>(
 }
 
 /// The `find_change` of such a predicate. Of the members with the whole's verdict, as many as turn
-/// it are shown, the first ones. Where their number alone decides, no member is asked; otherwise each
-/// is asked once, and memory is taken for every change that is found.
+/// it are shown, the first ones. Where their number alone decides, no member is asked; otherwise
+/// each is asked once, and memory is taken for every change that is found.
 pub fn members_threshold_change<W: fmt::Display, P: PredicateChange<Item>, Item>(
     alloc: Global,
     list: Counting<'_, W>,

@@ -1,5 +1,5 @@
-//! Verdicts and cases of a predicate of a value that may be absent: the inner predicate's where there
-//! is one, and a false leaf that says why where there is none.
+//! Verdicts and cases of a predicate of a value that may be absent: the inner predicate's where
+//! there is one, and a false leaf that says why where there is none.
 ghost use Rattle.std.specs.Prelude.{ℕ, List, IfOk, IfSome, IsOk, option_copied};
 ghost use Rattle.predicates_core.specs.Change.{IsFoundChange};
 ghost use Rattle.predicates_core.specs.Formula.{HasTruth};
@@ -26,7 +26,8 @@ pub fn present_holds<P: Predicate<U>, U>(
 ) -> Result<bool, AllocError>
     requires { P.lawful inner.now }
     ensures truth { IfOk result (λ holds. (text : Entry) (reason : List ℕ)
-        → HasTruth (IsOfPresent text reason (P.formula inner.now) (option_copied held.entry)) holds) }
+        → HasTruth (IsOfPresent text reason (P.formula inner.now) (option_copied held.entry))
+        holds) }
     ensures infallible { IfSome (option_copied held.entry) (P.infallible inner.now) → IsOk result }
 {
     match held {

@@ -1,5 +1,5 @@
-//! Verdicts and cases of a list whose members are each asked, of which one with the verdict `decides`
-//! decides.
+//! Verdicts and cases of a list whose members are each asked, of which one with the verdict
+//! `decides` decides.
 ghost use Rattle.std.specs.Fmt.{decimal};
 ghost use Rattle.std.specs.List.{AllByRecursion};
 ghost use Rattle.std.specs.Prelude.{◌≡◌, ◌≢◌, ℕ, [], List, Some, true, false, not, codes};
@@ -160,8 +160,8 @@ pub fn is_deciding(wanted: Option<bool>, decides: bool, case: &Case) -> bool
     }
 }
 
-/// The case of a whole that a part decides, from the part's number and case. It takes memory for the
-/// node, its text and its product `index`.
+/// The case of a whole that a part decides, from the part's number and case. It takes memory for
+/// the node, its text and its product `index`.
 ///
 /// ```
 /// let part = leaf_node(alloc, "a".to_owned(alloc)?, false);
@@ -214,8 +214,8 @@ pub fn no_member<W: fmt::Display>(
     Ok(showing_text(alloc, node, "len", "0")?)
 }
 
-// The case of the first member that decides. Where each is evaluated first, no other one is asked for
-// its case.
+// The case of the first member that decides. Where each is evaluated first, no other one is asked
+// for its case.
 fn first_member<W: fmt::Display, A: Ask<Common, Member>, Common, Member>(
     alloc: Global,
     list: Deciding<'_, W>,

@@ -1,4 +1,5 @@
-//! Verdicts and cases of a list whose members are each asked, of which at least so many have to hold.
+//! Verdicts and cases of a list whose members are each asked, of which at least so many have to
+//! hold.
 ghost use Rattle.std.specs.Prelude.{◌≡◌, ◌≤◌, ℕ, List, None, Some, true, false, codes, IfOk, IsOk};
 ghost use Rattle.std.specs.Prelude.{⊤};
 ghost use Rattle.std.specs.Fmt.{decimal};
@@ -40,8 +41,8 @@ impl<'a, W> Clone for Counting<'a, W> {
     }
 }
 
-/// Whether so many of the number hold, or fail to, whatever they answer: none is needed, or more than
-/// there are.
+/// Whether so many of the number hold, or fail to, whatever they answer: none is needed, or more
+/// than there are.
 ///
 /// ```
 /// assert!(rt; is_settled(0, 3) && is_settled(4, 3) && !is_settled(2, 3));
@@ -102,8 +103,8 @@ pub(super) fn counted_hold<A: Ask<Common, Member>, Common, Member>(
     Ok(false)
 }
 
-// The `find_case` of such a predicate. The node has the cases of the first members that decide, each
-// under the name.
+// The `find_case` of such a predicate. The node has the cases of the first members that decide,
+// each under the name.
 pub(super) fn counted_case<W: fmt::Display, A: Ask<Common, Member>, Common, Member>(
     alloc: Global,
     list: Counting<'_, W>,

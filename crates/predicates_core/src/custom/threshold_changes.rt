@@ -1,5 +1,5 @@
-//! What would turn the verdict of a list whose members are each asked, of which at least so many have
-//! to hold: as many of the members with that verdict as are too many for the other.
+//! What would turn the verdict of a list whose members are each asked, of which at least so many
+//! have to hold: as many of the members with that verdict as are too many for the other.
 ghost use Rattle.std.specs.Prelude.{◌≡◌, ◌≤◌, None, Some, length, map, take, IfOk};
 ghost use Rattle.std.specs.List.{AllByRecursion};
 ghost use Rattle.predicates_core.specs.Change.{IsFoundChange};

@@ -1,7 +1,7 @@
 use Rattle.std.proofs.Common.{◌≡◌, true, Some, codes, rules, ap, ◌∙◌}
 use Rattle.std.proofs.lemmas.Result.{IfOk-weaker}
 use Rattle.predicates_boolean.specs.Join as Join
-use Rattle.predicates_boolean.specs.Name as Name
+use Rattle.predicates_core.specs.Name as Name
 use Rattle.predicates_path.specs.Content as Content
 use Rattle.predicates_path.specs.Kind.{tested_kind, follows, kind_predicate_text}
 use Rattle.predicates_path.specs.declared.file_type.FileType.TheVariants.{File}

@@ -8,13 +8,13 @@ ghost use Rattle.predicates_core.specs.Label.{plain};
 ghost use Rattle.predicates_core.specs.Formula.{Named};
 ghost use Rattle.predicates_core.specs.Parts.{part};
 ghost use Rattle.predicates_core.specs.Combined.{IsNamed};
-ghost use Rattle.predicates_core.proofs.CombinedLemmas.{named_text_fits, one_named, has_named};
-ghost use Rattle.predicates_boolean.specs.Name.{inner_of, name_of};
+ghost use Rattle.predicates_core.specs.Name.{inner_of, name_of};
+ghost use Rattle.predicates_core.specs.NameLaws.{named_text_fits, one_named, has_named};
 
-use predicates_core::as_static_str::AsStaticStr;
-use predicates_core::custom::{named_case, named_change, named_explained, one_child};
-use predicates_core::reflection::{Case, Child, Parameter, PredicateReflection};
-use predicates_core::{Content, Predicate, PredicateChange, ReadsContent, Total};
+use crate::as_static_str::AsStaticStr;
+use crate::custom::{named_case, named_change, named_explained, one_child};
+use crate::reflection::{Case, Child, Parameter, PredicateReflection};
+use crate::{Content, Predicate, PredicateChange, ReadsContent, Total};
 use std::alloc::{AllocError, Global};
 use std::fmt;
 use std::marker::PhantomData;
@@ -78,7 +78,7 @@ impl<M: Predicate<Item>, Item, N: AsStaticStr> Predicate<Item> for NamePredicate
 
     ghost one_formula = { λ p v f g lawful. one_named (λ x y. M.one_formula p.inner v x y lawful) };
 
-    #[tactic(auto, using(predicates_core::proofs::CombinedLemmas::combined))]
+    #[tactic(auto, using(crate::proofs::CombinedLemmas::combined))]
     fn eval(&self, alloc: Global, item: &Item) -> Result<bool, AllocError> {
         self.inner.eval(alloc, item)
     }

@@ -1,5 +1,5 @@
 -- A predicate under a name.
-use Rattle.predicates_boolean.specs.declared.name.NamePredicate.{NamePredicate}
+use Rattle.predicates_core.specs.declared.name.NamePredicate.{NamePredicate}
 
 module _ {M Item N : Type 0} where
   abbrev pub inner_of : NamePredicate M Item N → M

@@ -1,4 +1,0 @@
-use Rattle.predicates_boolean.proofs.name.NamePredicatePredicate.find_case.Goals as goal
-
-pub returns : goal.returns
-returns g c = rw c.text.ensures at c.named_case.ensures

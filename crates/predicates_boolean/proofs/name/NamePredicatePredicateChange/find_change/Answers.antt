@@ -1,4 +1,0 @@
-use Rattle.predicates_boolean.proofs.name.NamePredicatePredicateChange.find_change.Goals as goal
-
-pub returns : goal.returns
-returns g c = rw c.text.ensures at c.named_change.ensures
