@@ -10,15 +10,15 @@ use Rattle.std.proofs.lemmas.Str.Ascii.{IsAscii-nil, IsAscii-cons}
 use Rattle.predicates_core.specs.Text.{Text}
 use Rattle.predicates_explain.specs.Exits.{IsTokenFault, HasTokensFault}
 use Rattle.predicates_explain.specs.Number.{Reads}
-use Rattle.predicates_explain.specs.Tokens.{token_of}
+use Rattle.predicates_words.specs.Tokens.{token_of}
 use Rattle.predicates_explain.specs.CommandLine.{typed, AreNumbers, token as wrong_token}
-use Rattle.predicates_explain.specs.Postfix.{Makes}
-use Rattle.predicates_explain.proofs.Postfix.{mapped-more, mapped-around}
-use Rattle.predicates_explain.specs.declared.check.TextCheck.{TextCheck}
+use Rattle.predicates_words.specs.Postfix.{Makes}
+use Rattle.predicates_words.proofs.Postfix.{mapped-more, mapped-around}
+use Rattle.predicates_words.specs.declared.check.TextCheck.{TextCheck}
 use Rattle.predicates_explain.specs.declared.program.exit.Exit.{Exit}
 use Rattle.predicates_explain.specs.declared.program.exit.Exit.TheVariants.{Usage, PatternRefused, TooDeep, NoMemory}
-use Rattle.predicates_explain.specs.declared.word.Word.{Word}
-use Rattle.predicates_explain.specs.declared.word.Word.TheVariants.{Equals, Starts, Ends, Contains, Matches}
+use Rattle.predicates_words.specs.declared.word.Word.{Word}
+use Rattle.predicates_words.specs.declared.word.Word.TheVariants.{Equals, Starts, Ends, Contains, Matches}
 
 -- each byte is below 128
 abbrev low : List ℕ → Bool

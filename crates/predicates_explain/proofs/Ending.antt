@@ -5,12 +5,12 @@ use Rattle.std.specs.Prelude.{Vec}
 use Rattle.std.specs.Str.{IsUtf8}
 use Rattle.std.proofs.lemmas.List.{take_all}
 use Rattle.predicates_explain.specs.Answers.{between_formula, IsNumber, IsNumberAnswer}
-use Rattle.predicates_explain.specs.Checks.{HasFormula}
+use Rattle.predicates_words.specs.Checks.{HasFormula}
 use Rattle.predicates_explain.specs.Exits.{exit_of_ran, EndsBy, HasTokensFault}
 use Rattle.predicates_explain.specs.Runs.{HasRun}
 use Rattle.predicates_explain.specs.TextAnswers.{IsTextAnswer}
 use Rattle.predicates_explain.specs.CommandLine.{typed, AreBounds, AreCheck, AreRightWords, HasRunOf, between_run, text_run, between_words, text_words, wrong_text}
-use Rattle.predicates_explain.specs.declared.check.TextCheck.{TextCheck}
+use Rattle.predicates_words.specs.declared.check.TextCheck.{TextCheck}
 use Rattle.predicates_lines.specs.declared.run_fault.RunFault.{RunFault}
 use Rattle.predicates_lines.specs.declared.run_fault.RunFault.TheVariants.{NoMemory as RunNoMemory, Input, Output}
 use Rattle.predicates_explain.specs.declared.program.exit.Exit.{Exit}

@@ -1,11 +1,6 @@
 pub mod BlockLemmas
 pub mod CommandLine
-pub mod Depths
 pub mod Ending
 pub mod Filtering
-pub mod Joined
-pub mod LeafChecks
 pub mod Numerals
-pub mod PartsOfChecks
-pub mod Postfix
 pub mod Progress

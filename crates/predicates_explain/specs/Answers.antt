@@ -26,7 +26,8 @@ no_number number = codes "line " ++ (decimal number ++ codes ": not a number\n")
 -- the label, or that it is none
 pub data IsNumberAnswer (formula_of : ℤ → Formula) (number : ℕ) (line written : List ℕ) : Type 0
   where
-    item : (n : ℤ) → Reads (without_return line) n → IsBlock (signed_decimal n) (formula_of n) written
+    item : (n : ℤ) → Reads (without_return line) n
+        → IsBlock (signed_decimal n) (formula_of n) written
         → IsNumberAnswer formula_of number line written
     no_item : ((n : ℤ) → ¬ (Reads (without_return line) n)) → written ≡ no_number number
         → IsNumberAnswer formula_of number line written
@@ -43,6 +44,7 @@ comparison symbol constant n holds =
 -- the formula of `ge(lo).and(le(hi))` on n
 abbrev pub between_formula : ℤ → ℤ → ℤ → Formula
 between_formula lo hi n =
-    pair And (plain (infix_text (sign And) (number_text (codes ">=") lo) (number_text (codes "<=") hi)))
+    pair And
+    (plain (infix_text (sign And) (number_text (codes ">=") lo) (number_text (codes "<=") hi)))
     (comparison (codes ">=") lo n (is_ge (int_cmp n lo)))
     (comparison (codes "<=") hi n (is_le (int_cmp n hi)))

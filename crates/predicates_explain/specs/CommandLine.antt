@@ -5,16 +5,16 @@ use Rattle.std.specs.Str.{IsUtf8}
 use Rattle.std.specs.declared.alloc.Global.{Global}
 use Rattle.std.specs.declared.vec.Vec.{Vec}
 use Rattle.predicates_explain.specs.Answers.{between_formula, IsNumber, IsNumberAnswer}
-use Rattle.predicates_explain.specs.Checks.{HasFormula}
+use Rattle.predicates_words.specs.Checks.{HasFormula}
 use Rattle.predicates_explain.specs.Number.{Reads}
-use Rattle.predicates_explain.specs.Postfix.{Makes, FailsFirst, IsFirstProblem, LeaveNotOne, depth}
+use Rattle.predicates_words.specs.Postfix.{Makes, FailsFirst, IsFirstProblem, LeaveNotOne, depth}
 use Rattle.predicates_explain.specs.Runs.{HasRun}
 use Rattle.predicates_explain.specs.TextAnswers.{IsTextAnswer}
-use Rattle.predicates_explain.specs.declared.check.TextCheck.{TextCheck}
-use Rattle.predicates_explain.specs.declared.from_words.TheConstants.{MAX_DEPTH}
-use Rattle.predicates_explain.specs.declared.word_problem.WordProblem.{WordProblem}
-use Rattle.predicates_explain.specs.declared.word_problem.WordProblem.TheVariants.{NoSuchWord}
-use Rattle.predicates_explain.specs.declared.word_problem.WordProblem.TheVariants.{TooFewChecks}
+use Rattle.predicates_words.specs.declared.check.TextCheck.{TextCheck}
+use Rattle.predicates_words.specs.declared.from_words.TheConstants.{MAX_DEPTH}
+use Rattle.predicates_words.specs.declared.word_problem.WordProblem.{WordProblem}
+use Rattle.predicates_words.specs.declared.word_problem.WordProblem.TheVariants.{NoSuchWord}
+use Rattle.predicates_words.specs.declared.word_problem.WordProblem.TheVariants.{TooFewChecks}
 
 -- the bytes of each word
 abbrev pub typed : List (Vec ℕ Global) → List (List ℕ)

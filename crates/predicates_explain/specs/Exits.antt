@@ -3,17 +3,20 @@ use Rattle.std.specs.Prelude.{ℕ, Bool, true, false, List, [], Option, Result, 
 use Rattle.predicates_explain.specs.CommandLine.{IsWrongToken, AreWrongTokens}
 use Rattle.predicates_explain.specs.CommandLine.{AreWrongWords, AreRightWords, HasProblem}
 use Rattle.predicates_explain.specs.CommandLine.{HasRunOf}
-use Rattle.predicates_explain.specs.Postfix.{FailsFirst, IsFirstProblem}
-use Rattle.predicates_explain.specs.declared.check.TextCheck.{TextCheck}
+use Rattle.predicates_words.specs.Postfix.{FailsFirst, IsFirstProblem}
+use Rattle.predicates_words.specs.declared.check.TextCheck.{TextCheck}
 use Rattle.predicates_lines.specs.declared.run_fault.RunFault.{RunFault}
 use Rattle.predicates_lines.specs.declared.run_fault.RunFault.TheVariants.{NoMemory as RunNoMemory}
 use Rattle.predicates_lines.specs.declared.run_fault.RunFault.TheVariants.{Input, Output}
 use Rattle.predicates_explain.specs.declared.program.exit.Exit.{Exit}
 use Rattle.predicates_explain.specs.declared.program.exit.Exit.TheVariants.{AllItems, NotAllItems}
-use Rattle.predicates_explain.specs.declared.program.exit.Exit.TheVariants.{Usage, PatternRefused, TooDeep}
+use Rattle.predicates_explain.specs.declared.program.exit.Exit.TheVariants.{Usage, PatternRefused}
+use Rattle.predicates_explain.specs.declared.program.exit.Exit.TheVariants.{TooDeep}
 use Rattle.predicates_explain.specs.declared.program.exit.Exit.TheVariants.{NoMemory, InputOrOutput}
-use Rattle.predicates_explain.specs.declared.word_problem.WordProblem.TheVariants.{BadExpression}
-use Rattle.predicates_explain.specs.declared.word_problem.WordProblem.TheVariants.{TooDeep as NestedTooDeep}
+use Rattle.predicates_words.specs.declared.word_problem.WordProblem.TheVariants.{BadExpression}
+use Rattle.predicates_words.specs.declared.word_problem.WordProblem.TheVariants.{
+  TooDeep as NestedTooDeep,
+}
 
 abbrev pub status_of : Exit → ℕ
 status_of AllItems = 0

@@ -57,7 +57,8 @@ pub data IsReason (has : Text → Formula → Type 0) (wanted : Bool) (number : 
         → IsTextAnswer has number (strip_last 10 line.0) told
         → IsReason has wanted number line told
 
--- the lines are judged, and what is told is what may be told of each line in order, and nothing else
+-- the lines are judged, and what is told is what may be told of each line in order, and nothing
+-- else
 pub record HasJudgedTelling (Has : List ℕ → Option Bool → Type 0) (kept : Option Bool → Bool)
     (IsTold : ℕ → Judged → List ℕ → Type 0)
     (reader_before reader_after writer_before writer_after : Option (List ℕ))

@@ -16,6 +16,7 @@ no_text number = codes "line " ++ (decimal number ++ codes ": not UTF-8\n")
 -- its bytes, or that it is no text
 pub data IsTextAnswer (has : Text → Formula → Type 0) (number : ℕ) (line written : List ℕ) : Type 0
   where
-    text : (item : Text) → string_bytes item ≡ line → HasBlocks (has item) (line_label number) written
+    text : (item : Text) → string_bytes item ≡ line
+        → HasBlocks (has item) (line_label number) written
         → IsTextAnswer has number line written
     other : ¬ (IsUtf8 line) → written ≡ no_text number → IsTextAnswer has number line written

@@ -102,8 +102,8 @@ pub fn run_between<R: BufRead, W: Write>(
     ensures formula { (both : JoinPredicate AndOperator
         (ShowingPredicate (OrdPredicate ℤ)) (ShowingPredicate (OrdPredicate ℤ)) ℤ) (n : ℤ)
         → left_of both ≡ at_least lo → right_of both ≡ at_most hi
-        → ⟦<AndPredicate<OrdPredicate<i64>, OrdPredicate<i64>, i64> as Total<i64>>⟧.formula_of both n
-        ≡ between_formula lo hi n }
+        → ⟦<AndPredicate<OrdPredicate<i64>, OrdPredicate<i64>, i64> as Total<i64>>⟧.formula_of
+        both n ≡ between_formula lo hi n }
 {
     let between = ge(lo).and(le(hi));
     let judge = Numbers {

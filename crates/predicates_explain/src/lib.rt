@@ -14,36 +14,25 @@
 //!     - var: 11
 //! ```
 //!
-//! A check that is made of words at run time is a `TextCheck`.
+//! A check that is made of words at run time is a `TextCheck`, of `predicates_words`.
 #![tactic(auto)]
 
-mod apply;
 mod between;
 mod block;
-mod check;
 mod filter;
-mod from_words;
 mod parse_number;
 mod program;
 mod run;
-pub mod semantics;
 mod text;
-mod word;
-mod word_fault;
-mod word_problem;
-mod words_error;
 
-pub use apply::apply_word;
 pub use between::run_between;
 pub use block::{explain_one, explain_total};
-pub use check::TextCheck;
 pub use filter::{Filtered, filter_lines, filter_with_reasons};
-pub use from_words::MAX_DEPTH;
 pub use parse_number::number;
 pub use predicates_lines::RunFault;
+pub use predicates_words::{
+    MAX_DEPTH, TextCheck, Word, WordFault, WordProblem, WordsError, apply_word, read_word,
+    semantics,
+};
 pub use program::{Exit, run_command_line, run_program};
 pub use text::run_text;
-pub use word::{Word, read_word};
-pub use word_fault::WordFault;
-pub use word_problem::WordProblem;
-pub use words_error::WordsError;

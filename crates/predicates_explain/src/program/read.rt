@@ -1,18 +1,16 @@
 //! What the words of a command line ask for.
 ghost use Rattle.std.specs.Prelude.{◌≡◌, ◌≤◌, ◌↔◌, ℤ, [], ◌∷◌, IfOk, IfErr, IsTrue, OnOk};
 ghost use Rattle.std.specs.Prelude.{MatchOption};
-ghost use Rattle.predicates_explain.specs.Depths.{AreTracked};
-ghost use Rattle.predicates_explain.specs.declared.from_words.TheConstants.{MAX_DEPTH};
+ghost use Rattle.predicates_words.specs.Depths.{AreTracked};
+ghost use Rattle.predicates_words.specs.declared.from_words.TheConstants.{MAX_DEPTH};
 ghost use Rattle.predicates_explain.specs.Number.{Reads};
 ghost use Rattle.predicates_explain.specs.Exits.{IsTokenFault, HasTokensFault};
 ghost use Rattle.predicates_explain.specs.CommandLine.{typed, AreNumbers};
-ghost use Rattle.predicates_explain.specs.Postfix.{Makes, AreWithin, depth};
+ghost use Rattle.predicates_words.specs.Postfix.{Makes, AreWithin, depth};
 
 use super::exit::Exit;
-use crate::check::TextCheck;
-use crate::from_words::take_word;
 use crate::parse_number::number;
-use crate::word_problem::WordProblem;
+use predicates_words::{TextCheck, WordProblem, take_word};
 use std::alloc::Global;
 use std::str;
 

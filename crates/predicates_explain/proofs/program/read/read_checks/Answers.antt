@@ -1,6 +1,6 @@
 use Rattle.std.proofs.Common.{rules, arith, ◌+◌, drop, take}
 use Rattle.predicates_explain.specs.CommandLine.{typed}
-use Rattle.predicates_explain.proofs.Postfix.{Makes-more}
+use Rattle.predicates_words.proofs.Postfix.{Makes-more}
 use Rattle.predicates_explain.proofs.CommandLine.{first_fault, typed-more, typed-around}
 use Rattle.predicates_explain.proofs.program.read.read_checks.Goals as goal
 

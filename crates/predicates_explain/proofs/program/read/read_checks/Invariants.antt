@@ -1,7 +1,7 @@
 use Rattle.std.proofs.Common.{[], take}
 use Rattle.predicates_explain.specs.CommandLine.{typed}
-use Rattle.predicates_explain.specs.Depths.{AreTracked}
-use Rattle.predicates_explain.specs.Postfix.{Makes}
+use Rattle.predicates_words.specs.Depths.{AreTracked}
+use Rattle.predicates_words.specs.Postfix.{Makes}
 use Rattle.predicates_explain.proofs.program.read.read_checks.Given as goal
 
 abbrev pub invariant-loop-token : goal.invariant-loop-token

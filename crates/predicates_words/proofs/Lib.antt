@@ -1,0 +1,5 @@
+pub mod Depths
+pub mod Joined
+pub mod LeafChecks
+pub mod PartsOfChecks
+pub mod Postfix

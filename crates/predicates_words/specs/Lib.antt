@@ -1,0 +1,10 @@
+pub mod Applied
+pub mod CheckLaws
+pub mod Checks
+pub mod Depths
+pub mod Meaning
+pub mod Postfix
+pub mod Tokens
+pub mod Weight
+pub mod WordFault
+pub mod WordsError

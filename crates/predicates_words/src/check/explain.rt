@@ -1,0 +1,212 @@
+//! The case of a check over others, as the predicates of the library make it of their parts.
+//!
+//! A case is written to a place that is handed down, since an answer that holds one is large, and
+//! each level would copy it.
+ghost use Rattle.std.specs.Prelude.{◌≡◌, None, OnOk, string_bytes};
+ghost use Rattle.predicates_core.specs.Combined.{IsNot, IsPair};
+ghost use Rattle.predicates_core.specs.Asked.{IsFoundIf};
+ghost use Rattle.predicates_core.specs.Shows.{IsFound, found_parts};
+ghost use Rattle.predicates_words.specs.Checks.{check_text, operator_of, HasFormula, IsNodeOf};
+ghost use Rattle.predicates_words.specs.Weight.{IsLeafCheck};
+
+use crate::check::TextCheck;
+use predicates_core::Predicate;
+use predicates_core::custom::{is_other, kept_if, opposite_of, shown_verdict};
+use predicates_core::node::{binary_node_of, printed, unary_node};
+use predicates_core::reflection::Case;
+use predicates_text::{lines_even_view, trimmed_view};
+use std::alloc::{AllocError, Global};
+
+// What is asked: about which item, and the case of which verdict, if only one is wanted.
+#[derive(Clone, Copy)]
+pub(crate) struct Question<'a> {
+    pub(crate) wanted: Option<bool>,
+    pub(crate) item: &'a String,
+}
+
+// The parts of a check that joins two.
+#[derive(Clone, Copy)]
+pub(crate) struct Parts<'a> {
+    pub(crate) left: &'a TextCheck,
+    pub(crate) right: &'a TextCheck,
+}
+
+// What was found of each of them.
+#[derive(Drop)]
+pub(crate) struct PartCases {
+    pub(crate) left: Option<Case>,
+    pub(crate) right: Option<Case>,
+}
+
+impl TextCheck {
+    // The `explain` of the check. The place for the case holds none before.
+    #[cycle(explain)]
+    pub(crate) fn explain_into(
+        &self,
+        alloc: Global,
+        question: Question<'_>,
+        found: &mut Option<Case>,
+    ) -> Result<(), AllocError>
+        requires { found.old ≡ None }
+        ensures { OnOk result
+            (IsFound (HasFormula self.now (string_bytes question.entry.item.now))
+            question.entry.wanted found.new) }
+    {
+        match self {
+            TextCheck::Trim(inner) => {
+                let mut copy = String::new(alloc);
+                let item = trimmed_view(alloc, question.item, &mut copy)?;
+                inner.explain_into(alloc, Question { item, ..question }, found)
+            }
+            TextCheck::Normalize(inner) => {
+                let mut copy = String::new(alloc);
+                let item = lines_even_view(alloc, question.item, &mut copy)?;
+                inner.explain_into(alloc, Question { item, ..question }, found)
+            }
+            TextCheck::Not(inner) => self.explain_not(alloc, inner, question, found),
+            TextCheck::And(left, right)
+            | TextCheck::Or(left, right)
+            | TextCheck::Xor(left, right) => {
+                self.explain_join(alloc, Parts { left, right }, question, found)
+            }
+            _ => self.explain_leaf(alloc, question, found),
+        }
+    }
+
+    // The same of a check without parts.
+    #[inline(never)]
+    pub(crate) fn explain_leaf(
+        &self,
+        alloc: Global,
+        question: Question<'_>,
+        found: &mut Option<Case>,
+    ) -> Result<(), AllocError>
+        requires { IsLeafCheck self.now }
+        ensures { OnOk result
+            (IsFound (HasFormula self.now (string_bytes question.entry.item.now))
+            question.entry.wanted found.new) }
+    {
+        let answer = match self {
+            TextCheck::Empty(leaf) => leaf.explain(alloc, question.wanted, question.item),
+            TextCheck::Equals(leaf) => leaf.explain(alloc, question.wanted, question.item),
+            TextCheck::Starts(leaf) => leaf.explain(alloc, question.wanted, question.item),
+            TextCheck::Ends(leaf) => leaf.explain(alloc, question.wanted, question.item),
+            TextCheck::Contains(leaf) => leaf.explain(alloc, question.wanted, question.item),
+            TextCheck::Matches(leaf) => leaf.explain(alloc, question.wanted, question.item),
+            _ => unreachable!(),
+        };
+        *found = answer?;
+        Ok(())
+    }
+
+    // As `not_explained`.
+    #[inline(never)]
+    #[cycle(explain)]
+    fn explain_not(
+        &self,
+        alloc: Global,
+        inner: &TextCheck,
+        question: Question<'_>,
+        found: &mut Option<Case>,
+    ) -> Result<(), AllocError>
+        requires { found.old ≡ None }
+        ensures { OnOk result (IsFound (IsNot (check_text self.now)
+            (HasFormula inner.now (string_bytes question.entry.item.now)))
+            question.entry.wanted found.new) }
+    {
+        let mut part = None;
+        let wanted = opposite_of(question.wanted);
+        inner.explain_into(alloc, Question { wanted, ..question }, &mut part)?;
+        let Some(part) = part else {
+            return Ok(());
+        };
+        let text = printed(alloc, self)?;
+        let outcome = !part.root().result();
+        *found = Some(unary_node(alloc, text, outcome, "predicate", part)?);
+        Ok(())
+    }
+
+    // What is found of the check, where it is asked.
+    #[cycle(explain)]
+    fn explain_if(
+        &self,
+        alloc: Global,
+        asked: bool,
+        question: Question<'_>,
+        found: &mut Option<Case>,
+    ) -> Result<(), AllocError>
+        requires { found.old ≡ None }
+        ensures { OnOk result
+            (IsFoundIf asked (HasFormula self.now (string_bytes question.entry.item.now))
+            question.entry.wanted found.new) }
+    {
+        if asked {
+            self.explain_into(alloc, question, found)
+        } else {
+            Ok(())
+        }
+    }
+
+    // As `join_explained`.
+    #[inline(never)]
+    #[cycle(explain)]
+    fn explain_join(
+        &self,
+        alloc: Global,
+        parts: Parts<'_>,
+        question: Question<'_>,
+        found: &mut Option<Case>,
+    ) -> Result<(), AllocError>
+        requires { found.old ≡ None }
+        ensures { OnOk result (IsFound (IsPair (operator_of self.now) (check_text self.now)
+            (HasFormula parts.entry.left.now (string_bytes question.entry.item.now))
+            (HasFormula parts.entry.right.now (string_bytes question.entry.item.now)))
+            question.entry.wanted found.new) }
+    {
+        let operator = self.operator();
+        let left_wanted = operator.left_wanted(question.wanted);
+        let left_question = Question {
+            wanted: left_wanted,
+            ..question
+        };
+        let mut left = None;
+        parts.left.explain_into(alloc, left_question, &mut left)?;
+        let left_holds = shown_verdict(left_wanted, &left);
+        let asks = operator.asks(left_holds);
+        let right_wanted = operator.right_wanted(question.wanted, left_holds);
+        let right_question = Question {
+            wanted: right_wanted,
+            ..question
+        };
+        let mut right = None;
+        parts
+            .right
+            .explain_if(alloc, asks, right_question, &mut right)?;
+        let right_holds = shown_verdict(right_wanted, &right);
+        let holds = operator.apply(left_holds, right_holds);
+        if is_other(question.wanted, holds) {
+            return Ok(());
+        }
+        let kept = kept_if(operator.keeps(left_holds, right_holds), left);
+        self.write_node(alloc, holds, PartCases { left: kept, right }, found)?;
+        Ok(())
+    }
+
+    // Writes the node over the cases of the parts. It is not inlined, so that a level without a
+    // case has a small frame.
+    #[inline(never)]
+    pub(crate) fn write_node(
+        &self,
+        alloc: Global,
+        holds: bool,
+        cases: PartCases,
+        found: &mut Option<Case>,
+    ) -> Result<(), AllocError>
+        ensures { OnOk result
+            (IsNodeOf self.now holds (found_parts cases.left cases.right) found.new) }
+    {
+        let text = printed(alloc, self)?;
+        *found = Some(binary_node_of(alloc, text, holds, cases.left, cases.right)?);
+        Ok(())
+    }
+}
