@@ -23,7 +23,7 @@ use Rattle.predicates_dynamic.specs.declared.check.Check.TheVariants as forms
 use Rattle.predicates_dynamic.proofs.Unrolled.{row_tree, counted_tree, odd_tree}
 use Rattle.predicates_dynamic.specs.OddRows.{IsOfOddRow}
 use Rattle.predicates_dynamic.specs.Viewed.{IsViewed, no_list}
-use Rattle.predicates_dynamic.specs.Trees.{Words, Rows, Counts, Odds, Quantifies, CountsMembers, trees_of, tree_of, AllLeaves, AllOfTrees, AllOf, AllAskedOfTrees, AsksAll}
+use Rattle.predicates_dynamic.specs.Trees.{Words, Row, AtLeast, Odd, Quantified, MembersAtLeast, trees_of, tree_of, AllLeaves, AllOfTrees, AllOf, AllAskedOfTrees, AsksAll}
 use Rattle.predicates_dynamic.specs.Formulas.{tree_text, HasFormula, AreFormulas, IsNothing, IsThresholdOf, number_of, Has, HasOn}
 
 -- what holds with any words holds with these
@@ -64,32 +64,32 @@ module _ {L V S : Type 0} where
     are_of_each w (c ∷ cs) (more n f fs) h = (h.0, h.1, are_of_each w cs fs h.2)
 
     abbrev row_text : Words → Bool → List (Check L V S) → Entry
-    row_text w decides cs = tree_text text view_text (Rows w decides (trees_of (map (tree_of words) cs)))
+    row_text w decides cs = tree_text text view_text (Row w decides (trees_of (map (tree_of words) cs)))
 
-    pub of_parts : (w : Words) (decides : Bool) (cs : List (Check L V S)) (f : Formula) → HasFormula text view_text has gives absence v (Rows w decides (trees_of (map (tree_of words) cs))) f → IsOfMembers decides (row_text w decides cs) w.part (Has text view_text has gives absence words v) cs f
+    pub of_parts : (w : Words) (decides : Bool) (cs : List (Check L V S)) (f : Formula) → HasFormula text view_text has gives absence v (Row w decides (trees_of (map (tree_of words) cs))) f → IsOfMembers decides (row_text w decides cs) w.part (Has text view_text has gives absence words v) cs f
     of_parts w decides [] f h = record { of_none = λ e. h; of_some = λ some. absurd (some refl) }
     of_parts w decides (c ∷ cs) f h = record {
       of_none = λ e. absurd (cc);
       of_some = λ some. record { formulas = h.formulas; of_each = are_of_each w (c ∷ cs) h.formulas h.of_each; is = h.is };
     }
 
-    truth_of_row : (w : Words) (decides : Bool) (cs : List (Check L V S)) {b : Bool} → HasTruth (IsOfMembers decides (row_text w decides cs) w.part (Has text view_text has gives absence words v) cs) b → HasTruth (HasFormula text view_text has gives absence v (Rows w decides (trees_of (map (tree_of words) cs)))) b
+    truth_of_row : (w : Words) (decides : Bool) (cs : List (Check L V S)) {b : Bool} → HasTruth (IsOfMembers decides (row_text w decides cs) w.part (Has text view_text has gives absence words v) cs) b → HasTruth (HasFormula text view_text has gives absence v (Row w decides (trees_of (map (tree_of words) cs)))) b
     truth_of_row w decides cs h = truth_of_fewer (of_parts w decides cs) h
 
-    pub found_of_row : (w : Words) (decides : Bool) (cs : List (Check L V S)) (wanted : Option Bool) (found : Option (Tree CaseNode)) → IsFound (IsOfMembers decides (row_text w decides cs) w.part (Has text view_text has gives absence words v) cs) wanted found → IsFound (HasFormula text view_text has gives absence v (Rows w decides (trees_of (map (tree_of words) cs)))) wanted found
+    pub found_of_row : (w : Words) (decides : Bool) (cs : List (Check L V S)) (wanted : Option Bool) (found : Option (Tree CaseNode)) → IsFound (IsOfMembers decides (row_text w decides cs) w.part (Has text view_text has gives absence words v) cs) wanted found → IsFound (HasFormula text view_text has gives absence v (Row w decides (trees_of (map (tree_of words) cs)))) wanted found
     found_of_row w decides cs wanted found h = found_fewer wanted found (of_parts w decides cs) h
 
-    pub change_of_row : (w : Words) (decides : Bool) (cs : List (Check L V S)) (wanted : Option Bool) (found : Option (Tree CaseNode)) → IsFoundChange (IsOfMembers decides (row_text w decides cs) w.part (Has text view_text has gives absence words v) cs) wanted found → IsFoundChange (HasFormula text view_text has gives absence v (Rows w decides (trees_of (map (tree_of words) cs)))) wanted found
+    pub change_of_row : (w : Words) (decides : Bool) (cs : List (Check L V S)) (wanted : Option Bool) (found : Option (Tree CaseNode)) → IsFoundChange (IsOfMembers decides (row_text w decides cs) w.part (Has text view_text has gives absence words v) cs) wanted found → IsFoundChange (HasFormula text view_text has gives absence v (Row w decides (trees_of (map (tree_of words) cs)))) wanted found
     change_of_row w decides cs wanted found h = found_change_fewer wanted found (of_parts w decides cs) h
 
-    pub verdict_of_row : {E : Type 0} (decides : Bool) (cs : List (Check L V S)) (r : Result Bool E) → IfOk r (λ held. (own : Entry) (name : List ℕ) → HasTruth (IsOfMembers decides own name (Has text view_text has gives absence words v) cs) held) → IfOk r (λ held. (w : Words) → HasTruth (HasFormula text view_text has gives absence v (Rows w decides (trees_of (map (tree_of words) cs)))) held)
+    pub verdict_of_row : {E : Type 0} (decides : Bool) (cs : List (Check L V S)) (r : Result Bool E) → IfOk r (λ held. (own : Entry) (name : List ℕ) → HasTruth (IsOfMembers decides own name (Has text view_text has gives absence words v) cs) held) → IfOk r (λ held. (w : Words) → HasTruth (HasFormula text view_text has gives absence v (Row w decides (trees_of (map (tree_of words) cs)))) held)
     verdict_of_row decides cs (Ok held) h = λ w. truth_of_row w decides cs (h (row_text w decides cs) w.part)
     verdict_of_row decides cs (Err e) h = tt
 
     abbrev counted_text : Words → ℕ → List (Check L V S) → Entry
-    counted_text w least cs = tree_text text view_text (Counts w least (trees_of (map (tree_of words) cs)))
+    counted_text w least cs = tree_text text view_text (AtLeast w least (trees_of (map (tree_of words) cs)))
 
-    of_counted_parts : (w : Words) (least : ℕ) (cs : List (Check L V S)) (f : Formula) → HasFormula text view_text has gives absence v (Counts w least (trees_of (map (tree_of words) cs))) f → IsOfThreshold least (counted_text w least cs) w.part (Has text view_text has gives absence words v) cs f
+    of_counted_parts : (w : Words) (least : ℕ) (cs : List (Check L V S)) (f : Formula) → HasFormula text view_text has gives absence v (AtLeast w least (trees_of (map (tree_of words) cs))) f → IsOfThreshold least (counted_text w least cs) w.part (Has text view_text has gives absence words v) cs f
     of_counted_parts w least cs f h =
         let x = subst (λ n. IsThresholdOf least n (counted_text w least cs) (AreFormulas text view_text has gives absence w.part v (trees_of (map (tree_of words) cs))) f) (number_of_parts words cs) h in
         record {
@@ -97,33 +97,33 @@ module _ {L V S : Type 0} where
           of_counted = λ some within. let c = x.of_counted some within in record { formulas = c.formulas; of_each = are_of_each w cs c.formulas c.of_each; is = c.is };
         }
 
-    pub found_of_counted : (w : Words) (least : ℕ) (cs : List (Check L V S)) (wanted : Option Bool) (found : Option (Tree CaseNode)) → IsFound (IsOfThreshold least (counted_text w least cs) w.part (Has text view_text has gives absence words v) cs) wanted found → IsFound (HasFormula text view_text has gives absence v (Counts w least (trees_of (map (tree_of words) cs)))) wanted found
+    pub found_of_counted : (w : Words) (least : ℕ) (cs : List (Check L V S)) (wanted : Option Bool) (found : Option (Tree CaseNode)) → IsFound (IsOfThreshold least (counted_text w least cs) w.part (Has text view_text has gives absence words v) cs) wanted found → IsFound (HasFormula text view_text has gives absence v (AtLeast w least (trees_of (map (tree_of words) cs)))) wanted found
     found_of_counted w least cs wanted found h = found_fewer wanted found (of_counted_parts w least cs) h
 
-    pub change_of_counted : (w : Words) (least : ℕ) (cs : List (Check L V S)) (wanted : Option Bool) (found : Option (Tree CaseNode)) → IsFoundChange (IsOfThreshold least (counted_text w least cs) w.part (Has text view_text has gives absence words v) cs) wanted found → IsFoundChange (HasFormula text view_text has gives absence v (Counts w least (trees_of (map (tree_of words) cs)))) wanted found
+    pub change_of_counted : (w : Words) (least : ℕ) (cs : List (Check L V S)) (wanted : Option Bool) (found : Option (Tree CaseNode)) → IsFoundChange (IsOfThreshold least (counted_text w least cs) w.part (Has text view_text has gives absence words v) cs) wanted found → IsFoundChange (HasFormula text view_text has gives absence v (AtLeast w least (trees_of (map (tree_of words) cs)))) wanted found
     change_of_counted w least cs wanted found h = found_change_fewer wanted found (of_counted_parts w least cs) h
 
-    pub verdict_of_counted : {E : Type 0} (least : ℕ) (cs : List (Check L V S)) (r : Result Bool E) → IfOk r (λ held. (own : Entry) (name : List ℕ) → HasTruth (IsOfThreshold least own name (Has text view_text has gives absence words v) cs) held) → IfOk r (λ held. (w : Words) → HasTruth (HasFormula text view_text has gives absence v (Counts w least (trees_of (map (tree_of words) cs)))) held)
+    pub verdict_of_counted : {E : Type 0} (least : ℕ) (cs : List (Check L V S)) (r : Result Bool E) → IfOk r (λ held. (own : Entry) (name : List ℕ) → HasTruth (IsOfThreshold least own name (Has text view_text has gives absence words v) cs) held) → IfOk r (λ held. (w : Words) → HasTruth (HasFormula text view_text has gives absence v (AtLeast w least (trees_of (map (tree_of words) cs)))) held)
     verdict_of_counted least cs (Ok held) h = λ w. truth_of_fewer (of_counted_parts w least cs) (h (counted_text w least cs) w.part)
     verdict_of_counted least cs (Err e) h = tt
 
     abbrev odd_text : Words → List (Check L V S) → Entry
-    odd_text w cs = tree_text text view_text (Odds w (trees_of (map (tree_of words) cs)))
+    odd_text w cs = tree_text text view_text (Odd w (trees_of (map (tree_of words) cs)))
 
-    of_odd_parts : (w : Words) (cs : List (Check L V S)) (f : Formula) → HasFormula text view_text has gives absence v (Odds w (trees_of (map (tree_of words) cs))) f → IsOfOddRow (odd_text w cs) w.part (Has text view_text has gives absence words v) cs f
+    of_odd_parts : (w : Words) (cs : List (Check L V S)) (f : Formula) → HasFormula text view_text has gives absence v (Odd w (trees_of (map (tree_of words) cs))) f → IsOfOddRow (odd_text w cs) w.part (Has text view_text has gives absence words v) cs f
     of_odd_parts w [] f h = record { of_none = λ e. h; of_some = λ some. absurd (some refl) }
     of_odd_parts w (c ∷ cs) f h = record {
       of_none = λ e. absurd (cc);
       of_some = λ some. record { formulas = h.formulas; of_each = are_of_each w (c ∷ cs) h.formulas h.of_each; is = h.is };
     }
 
-    pub found_of_odd : (w : Words) (cs : List (Check L V S)) (wanted : Option Bool) (found : Option (Tree CaseNode)) → IsFound (IsOfOddRow (odd_text w cs) w.part (Has text view_text has gives absence words v) cs) wanted found → IsFound (HasFormula text view_text has gives absence v (Odds w (trees_of (map (tree_of words) cs)))) wanted found
+    pub found_of_odd : (w : Words) (cs : List (Check L V S)) (wanted : Option Bool) (found : Option (Tree CaseNode)) → IsFound (IsOfOddRow (odd_text w cs) w.part (Has text view_text has gives absence words v) cs) wanted found → IsFound (HasFormula text view_text has gives absence v (Odd w (trees_of (map (tree_of words) cs)))) wanted found
     found_of_odd w cs wanted found h = found_fewer wanted found (of_odd_parts w cs) h
 
-    pub change_of_odd : (w : Words) (cs : List (Check L V S)) (wanted : Option Bool) (found : Option (Tree CaseNode)) → IsFoundChange (IsOfOddRow (odd_text w cs) w.part (Has text view_text has gives absence words v) cs) wanted found → IsFoundChange (HasFormula text view_text has gives absence v (Odds w (trees_of (map (tree_of words) cs)))) wanted found
+    pub change_of_odd : (w : Words) (cs : List (Check L V S)) (wanted : Option Bool) (found : Option (Tree CaseNode)) → IsFoundChange (IsOfOddRow (odd_text w cs) w.part (Has text view_text has gives absence words v) cs) wanted found → IsFoundChange (HasFormula text view_text has gives absence v (Odd w (trees_of (map (tree_of words) cs)))) wanted found
     change_of_odd w cs wanted found h = found_change_fewer wanted found (of_odd_parts w cs) h
 
-    pub verdict_of_odd : {E : Type 0} (cs : List (Check L V S)) (r : Result Bool E) → IfOk r (λ odd. (own : Entry) (name : List ℕ) → HasTruth (IsOfOddRow own name (Has text view_text has gives absence words v) cs) odd) → IfOk r (λ held. (w : Words) → HasTruth (HasFormula text view_text has gives absence v (Odds w (trees_of (map (tree_of words) cs)))) held)
+    pub verdict_of_odd : {E : Type 0} (cs : List (Check L V S)) (r : Result Bool E) → IfOk r (λ odd. (own : Entry) (name : List ℕ) → HasTruth (IsOfOddRow own name (Has text view_text has gives absence words v) cs) odd) → IfOk r (λ held. (w : Words) → HasTruth (HasFormula text view_text has gives absence v (Odd w (trees_of (map (tree_of words) cs)))) held)
     verdict_of_odd cs (Ok odd) h = λ w. truth_of_fewer (of_odd_parts w cs) (h (odd_text w cs) w.part)
     verdict_of_odd cs (Err e) h = tt
 
@@ -164,5 +164,3 @@ settled Xor a y ends = absurd (cc)
 
 pub truth_of_first : (op : Operator) (a : Bool) {left right : Formula → Type 0} {text : Option (List ℕ)} {h : Bool} → asks op a ≡ false → HasTruth left a → h ≡ apply op a false → HasTruth (IsPair op text left right) h
 truth_of_first op a {left} {right} {text} ends l is = subst (HasTruth (IsPair op text left right)) (sym is) (HasTruth-left op l refl (λ y. settled op a y ends))
-
-pub ruleset lawful_parts = (row_lawful, counted_lawful, odd_lawful)

@@ -4,8 +4,8 @@ use Rattle.std.specs.Prelude.{Some, None, codes}
 use Rattle.std.specs.Fmt.{decimal, ◌++?◌}
 use Rattle.predicates_core.specs.declared.custom.join.Operator.TheVariants.{Xor}
 use Rattle.predicates_core.specs.Label.{Entry, Product, plain}
-use Rattle.predicates_core.specs.Formula.{Formula, Join, Not, Named, AtLeast, Formulas, one, more}
-use Rattle.predicates_core.specs.Formula.{pair}
+use Rattle.predicates_core.specs.Formula as formula
+use Rattle.predicates_core.specs.Formula.{Formula, Join, Formulas, one, more, pair}
 use Rattle.predicates_core.specs.Leaves.{IsExactly}
 use Rattle.predicates_core.specs.Combined.{infix_text, not_text, sign, IsPair, IsNot, IsNamed}
 use Rattle.predicates_core.specs.Several.{decided_by, numbered, no_members, listed_text}
@@ -15,8 +15,8 @@ use Rattle.predicates_core.specs.Thresholds.{IsOfThreshold}
 use Rattle.predicates_dynamic.specs.declared.check.Check.{Check}
 use Rattle.predicates_dynamic.specs.OddRows.{IsOddRowOf}
 use Rattle.predicates_dynamic.specs.Viewed.{IsViewed, viewed_formula}
-use Rattle.predicates_dynamic.specs.Trees.{Tree, Trees, Asks, Denies, Names, Pairs, Rows, Counts}
-use Rattle.predicates_dynamic.specs.Trees.{Odds, Quantifies, CountsMembers, nothing, also}
+use Rattle.predicates_dynamic.specs.Trees.{Tree, Trees, Leaf, Not, Named, Pair, Row, AtLeast}
+use Rattle.predicates_dynamic.specs.Trees.{Odd, Quantified, MembersAtLeast, nothing, also}
 use Rattle.predicates_dynamic.specs.Trees.{Words, node_words, tree_of}
 
 -- there are no trees
@@ -41,7 +41,7 @@ pub record IsCountOf (least : ℕ) (text : Entry) (are : Formulas → Type 0) (f
     : Type 0 where
   pub formulas : Formulas
   pub of_each : are formulas
-  pub is : f ≡ AtLeast least (plain text) formulas
+  pub is : f ≡ formula.AtLeast least (plain text) formulas
 
 -- f is a threshold over the formulas of so many parts, or the leaf where the number settles it
 pub record IsThresholdOf (least number : ℕ) (text : Entry) (are : Formulas → Type 0) (f : Formula)
@@ -84,17 +84,17 @@ module _ {L V : Type 0} (text : L → Entry) (view_text : V → Entry) where
   abbrev mutual
     -- the text that is computed from those of the parts
     pub own_text : Tree L V → Entry
-    own_text (Asks l) = text l
-    own_text (Denies w t) = not_text (worded t (own_text t))
-    own_text (Names name t) = Some name
-    own_text (Pairs w op a b) =
+    own_text (Leaf l) = text l
+    own_text (Not w t) = not_text (worded t (own_text t))
+    own_text (Named name t) = Some name
+    own_text (Pair w op a b) =
         infix_text (sign op) (worded a (own_text a)) (worded b (own_text b))
-    own_text (Rows w decides ts) = listed_text (word decides) (tree_texts ts)
-    own_text (Counts w least ts) = counted_text (codes "at_least") least (tree_texts ts)
-    own_text (Odds w ts) = listed_text (codes "odd_of") (tree_texts ts)
-    own_text (Quantifies w decides view t) =
+    own_text (Row w decides ts) = listed_text (word decides) (tree_texts ts)
+    own_text (AtLeast w least ts) = counted_text (codes "at_least") least (tree_texts ts)
+    own_text (Odd w ts) = listed_text (codes "odd_of") (tree_texts ts)
+    own_text (Quantified w decides view t) =
         quantified_text decides (view_text view) (worded t (own_text t))
-    own_text (CountsMembers w least view t) =
+    own_text (MembersAtLeast w least view t) =
         members_text least (view_text view) (worded t (own_text t))
 
     pub tree_texts : Trees L V → List Entry
@@ -113,28 +113,28 @@ module _ {L V : Type 0} (text : L → Entry) (view_text : V → Entry) where
     abbrev mutual
       -- f is a formula of the tree on the item, by those of its leaves
       pub HasFormula : Item → Tree L V → Formula → Type 0
-      HasFormula v (Asks l) f = has l v f
-      HasFormula v (Denies w t) f = IsNot (tree_text (Denies w t)) (HasFormula v t) f
-      HasFormula v (Names name t) f = IsNamed name (HasFormula v t) f
-      HasFormula v (Pairs w op a b) f =
-          IsPair op (tree_text (Pairs w op a b)) (HasFormula v a) (HasFormula v b) f
-      HasFormula v (Rows w decides nothing) f = IsExactly
-          (no_members (tree_text (Rows w decides nothing)) (not decides)) f
-      HasFormula v (Rows w decides (also t ts)) f = IsRowOf decides
-          (tree_text (Rows w decides (also t ts))) (AreFormulas w.part v (also t ts)) f
-      HasFormula v (Counts w least ts) f = IsThresholdOf least (number_of ts)
-          (tree_text (Counts w least ts)) (AreFormulas w.part v ts) f
-      HasFormula v (Odds w nothing) f =
-          IsExactly (no_members (tree_text (Odds w nothing)) false) f
-      HasFormula v (Odds w (also t ts)) f = IsOddRowOf (tree_text (Odds w (also t ts)))
+      HasFormula v (Leaf l) f = has l v f
+      HasFormula v (Not w t) f = IsNot (tree_text (Not w t)) (HasFormula v t) f
+      HasFormula v (Named name t) f = IsNamed name (HasFormula v t) f
+      HasFormula v (Pair w op a b) f =
+          IsPair op (tree_text (Pair w op a b)) (HasFormula v a) (HasFormula v b) f
+      HasFormula v (Row w decides nothing) f = IsExactly
+          (no_members (tree_text (Row w decides nothing)) (not decides)) f
+      HasFormula v (Row w decides (also t ts)) f = IsRowOf decides
+          (tree_text (Row w decides (also t ts))) (AreFormulas w.part v (also t ts)) f
+      HasFormula v (AtLeast w least ts) f = IsThresholdOf least (number_of ts)
+          (tree_text (AtLeast w least ts)) (AreFormulas w.part v ts) f
+      HasFormula v (Odd w nothing) f =
+          IsExactly (no_members (tree_text (Odd w nothing)) false) f
+      HasFormula v (Odd w (also t ts)) f = IsOddRowOf (tree_text (Odd w (also t ts)))
           (AreFormulas w.part v (also t ts)) f
-      HasFormula v (Quantifies w decides view t) f = IsViewed
-          (tree_text (Quantifies w decides view t)) (absence view v)
-          (IsOfMembers decides (tree_text (Quantifies w decides view t))
+      HasFormula v (Quantified w decides view t) f = IsViewed
+          (tree_text (Quantified w decides view t)) (absence view v)
+          (IsOfMembers decides (tree_text (Quantified w decides view t))
           (codes "item") (λ member. HasFormula member t)) (gives view v) f
-      HasFormula v (CountsMembers w least view t) f = IsViewed
-          (tree_text (CountsMembers w least view t)) (absence view v)
-          (IsOfThreshold least (tree_text (CountsMembers w least view t))
+      HasFormula v (MembersAtLeast w least view t) f = IsViewed
+          (tree_text (MembersAtLeast w least view t)) (absence view v)
+          (IsOfThreshold least (tree_text (MembersAtLeast w least view t))
           (codes "item") (λ member. HasFormula member t)) (gives view v) f
 
       -- each tree has one of the formulas, in order and under the name
@@ -158,32 +158,32 @@ module _ {L V Item : Type 0} (text : L → Entry) (view_text : V → Entry)
     (absence : V → Item → List Product) where
   abbrev mutual
     pub tree_formula : Item → Tree L V → Formula
-    tree_formula v (Asks l) = formula_of l v
-    tree_formula v (Denies w t) =
-        Not (plain (tree_text text view_text (Denies w t))) (tree_formula v t)
-    tree_formula v (Names name t) = Named (plain (Some name)) name (tree_formula v t)
-    tree_formula v (Pairs w op a b) = pair op (plain (tree_text text view_text (Pairs w op a b)))
+    tree_formula v (Leaf l) = formula_of l v
+    tree_formula v (Not w t) =
+        formula.Not (plain (tree_text text view_text (Not w t))) (tree_formula v t)
+    tree_formula v (Named name t) = formula.Named (plain (Some name)) name (tree_formula v t)
+    tree_formula v (Pair w op a b) = pair op (plain (tree_text text view_text (Pair w op a b)))
         (tree_formula v a) (tree_formula v b)
-    tree_formula v (Rows w decides nothing) =
-        no_members (tree_text text view_text (Rows w decides nothing)) (not decides)
-    tree_formula v (Rows w decides (also t ts)) = Join (decided_by decides)
-        (numbered (tree_text text view_text (Rows w decides (also t ts))) decides
+    tree_formula v (Row w decides nothing) =
+        no_members (tree_text text view_text (Row w decides nothing)) (not decides)
+    tree_formula v (Row w decides (also t ts)) = Join (decided_by decides)
+        (numbered (tree_text text view_text (Row w decides (also t ts))) decides
         (part_formulas w.part v (tree_formula v t) ts))
         (part_formulas w.part v (tree_formula v t) ts)
-    tree_formula v (Counts w least ts) = threshold_formula least
-        (tree_text text view_text (Counts w least ts)) w.part (λ f. f) (tree_formulas v ts)
-    tree_formula v (Odds w nothing) =
-        no_members (tree_text text view_text (Odds w nothing)) false
-    tree_formula v (Odds w (also t ts)) =
-        Join Xor (plain (tree_text text view_text (Odds w (also t ts))))
+    tree_formula v (AtLeast w least ts) = threshold_formula least
+        (tree_text text view_text (AtLeast w least ts)) w.part (λ f. f) (tree_formulas v ts)
+    tree_formula v (Odd w nothing) =
+        no_members (tree_text text view_text (Odd w nothing)) false
+    tree_formula v (Odd w (also t ts)) =
+        Join Xor (plain (tree_text text view_text (Odd w (also t ts))))
         (part_formulas w.part v (tree_formula v t) ts)
-    tree_formula v (Quantifies w decides view t) = viewed_formula
-        (tree_text text view_text (Quantifies w decides view t)) (absence view v)
-        (members_formula decides (tree_text text view_text (Quantifies w decides view t))
+    tree_formula v (Quantified w decides view t) = viewed_formula
+        (tree_text text view_text (Quantified w decides view t)) (absence view v)
+        (members_formula decides (tree_text text view_text (Quantified w decides view t))
         (codes "item") (λ member. tree_formula member t)) (members view v)
-    tree_formula v (CountsMembers w least view t) = viewed_formula
-        (tree_text text view_text (CountsMembers w least view t)) (absence view v)
-        (threshold_formula least (tree_text text view_text (CountsMembers w least view t))
+    tree_formula v (MembersAtLeast w least view t) = viewed_formula
+        (tree_text text view_text (MembersAtLeast w least view t)) (absence view v)
+        (threshold_formula least (tree_text text view_text (MembersAtLeast w least view t))
         (codes "item") (λ member. tree_formula member t)) (members view v)
 
     pub tree_formulas : Item → Trees L V → List Formula

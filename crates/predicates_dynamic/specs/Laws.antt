@@ -5,7 +5,8 @@ use Rattle.std.specs.List.{AllByRecursion}
 use Rattle.std.proofs.Common.{sym, ap, ◌∙◌, subst}
 use Rattle.std.proofs.lemmas.List.{length-map, map-id}
 use Rattle.predicates_core.specs.Label.{Entry, FitsEntry, Product}
-use Rattle.predicates_core.specs.Formula.{Formula, Formulas, one, more, Join, AtLeast, text_of}
+use Rattle.predicates_core.specs.Formula as formula
+use Rattle.predicates_core.specs.Formula.{Formula, Formulas, one, more, Join, text_of}
 use Rattle.predicates_core.specs.Label.{plain}
 use Rattle.predicates_core.specs.declared.custom.join.Operator.TheVariants.{Xor}
 use Rattle.predicates_core.specs.LeafLaws.{exactly_text_fits, one_exactly, fits_itself}
@@ -19,8 +20,8 @@ use Rattle.predicates_core.proofs.Several.{HasOne, each_holds, members_text_fits
 use Rattle.predicates_core.proofs.Several.{has_members}
 use Rattle.predicates_core.proofs.ThresholdCases.{threshold_text_fits, one_by_threshold}
 use Rattle.predicates_core.proofs.ThresholdCases.{has_threshold}
-use Rattle.predicates_dynamic.specs.Trees.{Tree, Trees, Asks, Denies, Names, Pairs, Rows, Counts}
-use Rattle.predicates_dynamic.specs.Trees.{Odds, Quantifies, CountsMembers}
+use Rattle.predicates_dynamic.specs.Trees.{Tree, Trees, Leaf, Not, Named, Pair, Row, AtLeast}
+use Rattle.predicates_dynamic.specs.Trees.{Odd, Quantified, MembersAtLeast}
 use Rattle.predicates_dynamic.specs.Trees.{Words, nothing, also, AllLeaves, AllOfTrees}
 use Rattle.predicates_dynamic.specs.Viewed.{IsViewed, viewed_formula, viewed_text_fits}
 use Rattle.predicates_dynamic.specs.Viewed.{one_viewed, has_viewed}
@@ -64,7 +65,7 @@ threshold_read least text name read g [] = refl
 threshold_read least text name read g (u ∷ us) =
     let number : length (map read us) ≡ length us = length-map us read in
     (λ i. cond (nat_le 1 least && nat_le least (suc (sym number i)))
-    (AtLeast least (plain text) (sym (formulas_read name read g u us) i))
+    (formula.AtLeast least (plain text) (sym (formulas_read name read g u us) i))
     (settled text least (suc (sym number i))))
 
 unread : {Item : Type 0} (held : Option (List Item)) → option_map (map (λ u. u)) held ≡ held
@@ -93,11 +94,11 @@ module _ {L V Item : Type 0} (text : L → Entry) (view_text : V → Entry)
   are_of_each name v (also t ts) (more n f fs) h = (h.0, h.1, are_of_each name v ts fs h.2)
 
   of_listed : (v : Item) (w : Words) (least : ℕ) (ts : Trees L V) (f : Formula)
-      → HasFormula text view_text has gives absence v (Counts w least ts) f
-      → IsOfThreshold least (tree_text text view_text (Counts w least ts)) w.part
+      → HasFormula text view_text has gives absence v (AtLeast w least ts) f
+      → IsOfThreshold least (tree_text text view_text (AtLeast w least ts)) w.part
       (HasFormula text view_text has gives absence v) (listed ts) f
   of_listed v w least ts f h =
-      let x = subst (λ n. IsThresholdOf least n (tree_text text view_text (Counts w least ts))
+      let x = subst (λ n. IsThresholdOf least n (tree_text text view_text (AtLeast w least ts))
       (AreFormulas text view_text has gives absence w.part v ts) f) (number_listed ts) h in
       record {
         of_settled = x.of_settled;
@@ -115,24 +116,25 @@ module _ {L V Item : Type 0} (text : L → Entry) (view_text : V → Entry)
     pub tree_text_fits : (v : Item) (t : Tree L V) (f : Formula)
         → HasFormula text view_text has gives absence v t f
         → FitsEntry (text_of f) (tree_text text view_text t)
-    tree_text_fits v (Asks l) f h = fits l v f h
-    tree_text_fits v (Denies w t) f h = not_text_fits h
-    tree_text_fits v (Names name t) f h = named_text_fits h
-    tree_text_fits v (Pairs w op a b) f h = pair_text_fits h
-    tree_text_fits v (Rows w decides nothing) f h = exactly_text_fits h
-    tree_text_fits v (Rows w decides (also t ts)) f h =
-        let own = tree_text text view_text (Rows w decides (also t ts)) in
+    tree_text_fits v (Leaf l) f h = fits l v f h
+    tree_text_fits v (Not w t) f h = not_text_fits h
+    tree_text_fits v (Named name t) f h = named_text_fits h
+    tree_text_fits v (Pair w op a b) f h = pair_text_fits h
+    tree_text_fits v (Row w decides nothing) f h = exactly_text_fits h
+    tree_text_fits v (Row w decides (also t ts)) f h =
+        let own = tree_text text view_text (Row w decides (also t ts)) in
         subst (λ entry. FitsEntry entry own) (sym (ap text_of h.is)) (fits_itself own)
-    tree_text_fits v (Counts w least ts) f h =
+    tree_text_fits v (AtLeast w least ts) f h =
         threshold_text_fits least (listed ts) (of_listed v w least ts f h)
-    tree_text_fits v (Odds w nothing) f h = exactly_text_fits h
-    tree_text_fits v (Odds w (also t ts)) f h =
-        let own = tree_text text view_text (Odds w (also t ts)) in
+    tree_text_fits v (Odd w nothing) f h = exactly_text_fits h
+    tree_text_fits v (Odd w (also t ts)) f h =
+        let own = tree_text text view_text (Odd w (also t ts)) in
         subst (λ entry. FitsEntry entry own) (sym (ap text_of h.is)) (fits_itself own)
-    tree_text_fits v (Quantifies w decides view t) f h =
+    tree_text_fits v (Quantified w decides view t) f h =
         viewed_text_fits (given view v).0 (given view v).1 (λ us g x. members_text_fits us x) h
-    tree_text_fits v (CountsMembers w least view t) f h =
-        viewed_text_fits (given view v).0 (given view v).1 (λ us g x. threshold_text_fits least us x) h
+    tree_text_fits v (MembersAtLeast w least view t) f h =
+        viewed_text_fits (given view v).0 (given view v).1
+        (λ us g x. threshold_text_fits least us x) h
 
   module _ (lawful : L → Type 0)
       (one_of : (l : L) (v : Item) (f g : Formula) → lawful l → has l v f → has l v g → f ≡ g)
@@ -141,26 +143,30 @@ module _ {L V Item : Type 0} (text : L → Entry) (view_text : V → Entry)
       pub one_tree : (v : Item) (t : Tree L V) (f g : Formula) → AllLeaves lawful t
           → HasFormula text view_text has gives absence v t f
           → HasFormula text view_text has gives absence v t g → f ≡ g
-      one_tree v (Asks l) f g all h k = one_of l v f g all h k
-      one_tree v (Denies w t) f g all h k = one_not (λ x y. one_tree v t x y all) h k
-      one_tree v (Names name t) f g all h k = one_named (λ x y. one_tree v t x y all) h k
-      one_tree v (Pairs w op a b) f g all h k =
+      one_tree v (Leaf l) f g all h k = one_of l v f g all h k
+      one_tree v (Not w t) f g all h k = one_not (λ x y. one_tree v t x y all) h k
+      one_tree v (Named name t) f g all h k = one_named (λ x y. one_tree v t x y all) h k
+      one_tree v (Pair w op a b) f g all h k =
           one_pair (λ x y. one_tree v a x y all.0) (λ x y. one_tree v b x y all.1) h k
-      one_tree v (Rows w decides nothing) f g all h k = one_exactly h k
-      one_tree v (Rows w decides (also t ts)) f g all h k =
-          let own = tree_text text view_text (Rows w decides (also t ts)) in
+      one_tree v (Row w decides nothing) f g all h k = one_exactly h k
+      one_tree v (Row w decides (also t ts)) f g all h k =
+          let own = tree_text text view_text (Row w decides (also t ts)) in
           h.is ∙ ap (λ fs. Join (decided_by decides) (numbered own decides fs) fs)
-          (one_of_trees w.part v (also t ts) h.formulas k.formulas all h.of_each k.of_each) ∙ sym k.is
-      one_tree v (Counts w least ts) f g all h k =
+          (one_of_trees w.part v (also t ts) h.formulas k.formulas all h.of_each k.of_each)
+          ∙ sym k.is
+      one_tree v (AtLeast w least ts) f g all h k =
           one_by_threshold least (listed ts) (each_one w.part v ts all)
           (of_listed v w least ts f h) (of_listed v w least ts g k)
-      one_tree v (Odds w nothing) f g all h k = one_exactly h k
-      one_tree v (Odds w (also t ts)) f g all h k =
-          h.is ∙ ap (Join Xor (plain (tree_text text view_text (Odds w (also t ts)))))
-          (one_of_trees w.part v (also t ts) h.formulas k.formulas all h.of_each k.of_each) ∙ sym k.is
-      one_tree v (Quantifies w decides view t) f g all h k = one_viewed (given view v).0 (given view v).1
+      one_tree v (Odd w nothing) f g all h k = one_exactly h k
+      one_tree v (Odd w (also t ts)) f g all h k =
+          h.is ∙ ap (Join Xor (plain (tree_text text view_text (Odd w (also t ts)))))
+          (one_of_trees w.part v (also t ts) h.formulas k.formulas all h.of_each k.of_each)
+          ∙ sym k.is
+      one_tree v (Quantified w decides view t) f g all h k =
+          one_viewed (given view v).0 (given view v).1
           (λ us x y. one_members us (λ u z w. one_tree u t z w all)) h k
-      one_tree v (CountsMembers w least view t) f g all h k = one_viewed (given view v).0 (given view v).1
+      one_tree v (MembersAtLeast w least view t) f g all h k =
+          one_viewed (given view v).0 (given view v).1
           (λ us x y. one_by_threshold least us
           (each_holds us (λ u z w. one_tree u t z w all))) h k
 
@@ -226,22 +232,22 @@ module _ {L V Item : Type 0} (text : L → Entry) (view_text : V → Entry)
     mutual
       pub has_tree : (v : Item) (t : Tree L V)
           → HasFormula text view_text has gives absence v t (formula_at v t)
-      has_tree v (Asks l) = had l v
-      has_tree v (Denies w t) = has_not (has_tree v t)
-      has_tree v (Names name t) = has_named (has_tree v t)
-      has_tree v (Pairs w op a b) = has_pair (has_tree v a) (has_tree v b)
-      has_tree v (Rows w decides nothing) = record { is = refl }
-      has_tree v (Rows w decides (also t ts)) = record {
+      has_tree v (Leaf l) = had l v
+      has_tree v (Not w t) = has_not (has_tree v t)
+      has_tree v (Named name t) = has_named (has_tree v t)
+      has_tree v (Pair w op a b) = has_pair (has_tree v a) (has_tree v b)
+      has_tree v (Row w decides nothing) = record { is = refl }
+      has_tree v (Row w decides (also t ts)) = record {
         formulas = parts_at w.part v (formula_at v t) ts;
         of_each = have_trees w.part v t (formula_at v t) (has_tree v t) ts;
         is = refl;
       }
-      has_tree v (Counts w least ts) =
+      has_tree v (AtLeast w least ts) =
           let h = has_threshold {name = w.part} {has = λ u f. u ≡ f} least (λ f. f)
           (formulas_at v ts) (λ u. refl) in
-          subst (λ n. IsThresholdOf least n (tree_text text view_text (Counts w least ts))
+          subst (λ n. IsThresholdOf least n (tree_text text view_text (AtLeast w least ts))
           (AreFormulas text view_text has gives absence w.part v ts)
-          (formula_at v (Counts w least ts)))
+          (formula_at v (AtLeast w least ts)))
           (number_formed v ts) (record {
             of_settled = h.of_settled;
             of_counted = λ some within.
@@ -252,14 +258,14 @@ module _ {L V Item : Type 0} (text : L → Entry) (view_text : V → Entry)
                   is = c.is;
                 };
           })
-      has_tree v (Odds w nothing) = record { is = refl }
-      has_tree v (Odds w (also t ts)) = record {
+      has_tree v (Odd w nothing) = record { is = refl }
+      has_tree v (Odd w (also t ts)) = record {
         formulas = parts_at w.part v (formula_at v t) ts;
         of_each = have_trees w.part v t (formula_at v t) (has_tree v t) ts;
         is = refl;
       }
-      has_tree v (Quantifies w decides view t) =
-          let own = tree_text text view_text (Quantifies w decides view t) in
+      has_tree v (Quantified w decides view t) =
+          let own = tree_text text view_text (Quantified w decides view t) in
           has_of_view own view v (IsOfMembers decides own (codes "item")
           (λ u. HasFormula text view_text has gives absence u t))
           (members_formula decides own (codes "item")
@@ -268,8 +274,8 @@ module _ {L V Item : Type 0} (text : L → Entry) (view_text : V → Entry)
           (λ u. HasFormula text view_text has gives absence u t) us)
           (members_read decides _ (codes "item") read _ us)
           (has_members (λ u. formula_at u t) us (λ u. has_tree u t)))
-      has_tree v (CountsMembers w least view t) =
-          let own = tree_text text view_text (CountsMembers w least view t) in
+      has_tree v (MembersAtLeast w least view t) =
+          let own = tree_text text view_text (MembersAtLeast w least view t) in
           has_of_view own view v (IsOfThreshold least own (codes "item")
           (λ u. HasFormula text view_text has gives absence u t))
           (threshold_formula least own (codes "item")
@@ -306,15 +312,15 @@ module _ {L V Item : Type 0} (text : L → Entry) (view_text : V → Entry)
 module _ {L V : Type 0} (fact : L → Type 0) (all : (l : L) → fact l) where
   mutual
     pub all_leaves : (t : Tree L V) → AllLeaves fact t
-    all_leaves (Asks l) = all l
-    all_leaves (Denies w t) = all_leaves t
-    all_leaves (Names name t) = all_leaves t
-    all_leaves (Pairs w op a b) = (all_leaves a, all_leaves b)
-    all_leaves (Rows w decides ts) = all_trees ts
-    all_leaves (Counts w least ts) = all_trees ts
-    all_leaves (Odds w ts) = all_trees ts
-    all_leaves (Quantifies w decides view t) = all_leaves t
-    all_leaves (CountsMembers w least view t) = all_leaves t
+    all_leaves (Leaf l) = all l
+    all_leaves (Not w t) = all_leaves t
+    all_leaves (Named name t) = all_leaves t
+    all_leaves (Pair w op a b) = (all_leaves a, all_leaves b)
+    all_leaves (Row w decides ts) = all_trees ts
+    all_leaves (AtLeast w least ts) = all_trees ts
+    all_leaves (Odd w ts) = all_trees ts
+    all_leaves (Quantified w decides view t) = all_leaves t
+    all_leaves (MembersAtLeast w least view t) = all_leaves t
 
     pub all_trees : (ts : Trees L V) → AllOfTrees fact ts
     all_trees nothing = tt

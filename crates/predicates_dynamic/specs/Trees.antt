@@ -17,17 +17,17 @@ computed = record { text = None; part = codes "rule" }
 
 mutual
   pub data Tree (L V : Type 0) : Type 0 where
-    Asks : L → Tree L V
-    Denies : Words → Tree L V → Tree L V
-    Names : List ℕ → Tree L V → Tree L V
-    Pairs : Words → Operator → Tree L V → Tree L V → Tree L V
-    Rows : Words → Bool → Trees L V → Tree L V
-    Counts : Words → ℕ → Trees L V → Tree L V
+    Leaf : L → Tree L V
+    Not : Words → Tree L V → Tree L V
+    Named : List ℕ → Tree L V → Tree L V
+    Pair : Words → Operator → Tree L V → Tree L V → Tree L V
+    Row : Words → Bool → Trees L V → Tree L V
+    AtLeast : Words → ℕ → Trees L V → Tree L V
     -- an odd number of them hold
-    Odds : Words → Trees L V → Tree L V
+    Odd : Words → Trees L V → Tree L V
     -- over members: with true, one of them suffices
-    Quantifies : Words → Bool → V → Tree L V → Tree L V
-    CountsMembers : Words → ℕ → V → Tree L V → Tree L V
+    Quantified : Words → Bool → V → Tree L V → Tree L V
+    MembersAtLeast : Words → ℕ → V → Tree L V → Tree L V
 
   pub data Trees (L V : Type 0) : Type 0 where
     nothing : Trees L V
@@ -40,30 +40,30 @@ module _ {L V : Type 0} where
 
   -- the words of the node on top; a leaf and a name have none of their own
   abbrev pub node_words : Tree L V → Words
-  node_words (Asks l) = computed
-  node_words (Denies w t) = w
-  node_words (Names name t) = computed
-  node_words (Pairs w op a b) = w
-  node_words (Rows w decides ts) = w
-  node_words (Counts w least ts) = w
-  node_words (Odds w ts) = w
-  node_words (Quantifies w decides view t) = w
-  node_words (CountsMembers w least view t) = w
+  node_words (Leaf l) = computed
+  node_words (Not w t) = w
+  node_words (Named name t) = computed
+  node_words (Pair w op a b) = w
+  node_words (Row w decides ts) = w
+  node_words (AtLeast w least ts) = w
+  node_words (Odd w ts) = w
+  node_words (Quantified w decides view t) = w
+  node_words (MembersAtLeast w least view t) = w
 
   module _ {S : Type 0} (words : S → Words) where
     -- one level, with each part already seen as its tree
     abbrev pub tree_step : Check-F L V S (Tree L V) → Tree L V
-    tree_step (Check-F.Leaf l) = Asks l
-    tree_step (Check-F.Not s t) = Denies (words s) (box_value t)
-    tree_step (Check-F.Named name t) = Names name (box_value t)
-    tree_step (Check-F.Pair s op a b) = Pairs (words s) op (box_value a) (box_value b)
-    tree_step (Check-F.Row s decides ts) = Rows (words s) decides (trees_of ts.items)
-    tree_step (Check-F.AtLeast s least ts) = Counts (words s) least (trees_of ts.items)
-    tree_step (Check-F.Odd s ts) = Odds (words s) (trees_of ts.items)
+    tree_step (Check-F.Leaf l) = Leaf l
+    tree_step (Check-F.Not s t) = Not (words s) (box_value t)
+    tree_step (Check-F.Named name t) = Named name (box_value t)
+    tree_step (Check-F.Pair s op a b) = Pair (words s) op (box_value a) (box_value b)
+    tree_step (Check-F.Row s decides ts) = Row (words s) decides (trees_of ts.items)
+    tree_step (Check-F.AtLeast s least ts) = AtLeast (words s) least (trees_of ts.items)
+    tree_step (Check-F.Odd s ts) = Odd (words s) (trees_of ts.items)
     tree_step (Check-F.Quantified s decides view t) =
-        Quantifies (words s) decides view (box_value t)
+        Quantified (words s) decides view (box_value t)
     tree_step (Check-F.MembersAtLeast s least view t) =
-        CountsMembers (words s) least view (box_value t)
+        MembersAtLeast (words s) least view (box_value t)
 
     abbrev pub tree_of : Check L V S → Tree L V
     tree_of = fold-Check L V S (Tree L V) tree_step
@@ -79,15 +79,15 @@ module _ {L V : Type 0} where
   -- a fact of each leaf
   abbrev mutual
     pub AllLeaves : (L → Type 0) → Tree L V → Type 0
-    AllLeaves fact (Asks l) = fact l
-    AllLeaves fact (Denies w t) = AllLeaves fact t
-    AllLeaves fact (Names name t) = AllLeaves fact t
-    AllLeaves fact (Pairs w op a b) = AllLeaves fact a × AllLeaves fact b
-    AllLeaves fact (Rows w decides ts) = AllOfTrees fact ts
-    AllLeaves fact (Counts w least ts) = AllOfTrees fact ts
-    AllLeaves fact (Odds w ts) = AllOfTrees fact ts
-    AllLeaves fact (Quantifies w decides view t) = AllLeaves fact t
-    AllLeaves fact (CountsMembers w least view t) = AllLeaves fact t
+    AllLeaves fact (Leaf l) = fact l
+    AllLeaves fact (Not w t) = AllLeaves fact t
+    AllLeaves fact (Named name t) = AllLeaves fact t
+    AllLeaves fact (Pair w op a b) = AllLeaves fact a × AllLeaves fact b
+    AllLeaves fact (Row w decides ts) = AllOfTrees fact ts
+    AllLeaves fact (AtLeast w least ts) = AllOfTrees fact ts
+    AllLeaves fact (Odd w ts) = AllOfTrees fact ts
+    AllLeaves fact (Quantified w decides view t) = AllLeaves fact t
+    AllLeaves fact (MembersAtLeast w least view t) = AllLeaves fact t
 
     pub AllOfTrees : (L → Type 0) → Trees L V → Type 0
     AllOfTrees fact nothing = Unit {0}
@@ -102,16 +102,16 @@ module _ {L V Item : Type 0} (fact : L → Item → Type 0) (lends : V → Item 
     (gives : V → Item → Option (List Item) → Type 0) where
   abbrev mutual
     pub AllAsked : Item → Tree L V → Type 0
-    AllAsked v (Asks l) = fact l v
-    AllAsked v (Denies w t) = AllAsked v t
-    AllAsked v (Names name t) = AllAsked v t
-    AllAsked v (Pairs w op a b) = AllAsked v a × AllAsked v b
-    AllAsked v (Rows w decides ts) = AllAskedOfTrees v ts
-    AllAsked v (Counts w least ts) = AllAskedOfTrees v ts
-    AllAsked v (Odds w ts) = AllAskedOfTrees v ts
-    AllAsked v (Quantifies w decides view t) = lends view v × ((us : List Item)
+    AllAsked v (Leaf l) = fact l v
+    AllAsked v (Not w t) = AllAsked v t
+    AllAsked v (Named name t) = AllAsked v t
+    AllAsked v (Pair w op a b) = AllAsked v a × AllAsked v b
+    AllAsked v (Row w decides ts) = AllAskedOfTrees v ts
+    AllAsked v (AtLeast w least ts) = AllAskedOfTrees v ts
+    AllAsked v (Odd w ts) = AllAskedOfTrees v ts
+    AllAsked v (Quantified w decides view t) = lends view v × ((us : List Item)
         → gives view v (Some us) → AllByRecursion (λ member. AllAsked member t) us)
-    AllAsked v (CountsMembers w least view t) = lends view v × ((us : List Item)
+    AllAsked v (MembersAtLeast w least view t) = lends view v × ((us : List Item)
         → gives view v (Some us) → AllByRecursion (λ member. AllAsked member t) us)
 
     pub AllAskedOfTrees : Item → Trees L V → Type 0

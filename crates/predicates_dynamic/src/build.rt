@@ -5,12 +5,12 @@ ghost use Rattle.predicates_dynamic.specs.Trees.{
   computed,
   computed_tree,
   trees_of,
-  Asks,
-  Denies,
-  Names,
-  Pairs,
+  Leaf,
+  Not,
+  Named,
+  Pair,
 };
-ghost use Rattle.predicates_dynamic.specs.Trees.{Rows, Counts, Odds, Quantifies, CountsMembers};
+ghost use Rattle.predicates_dynamic.specs.Trees.{Row, AtLeast, Odd, Quantified, MembersAtLeast};
 
 use crate::check::Check;
 use crate::wording::Computed;
@@ -27,7 +27,7 @@ impl<L: Drop> Check<L> {
     /// assert!(rt; !grown.eval(alloc, &3)?);
     /// ```
     pub fn leaf(leaf: L) -> Check<L>
-        ensures { computed_tree result ≡ Asks leaf }
+        ensures { computed_tree result ≡ Leaf leaf }
     {
         Check::Leaf(leaf)
     }
@@ -43,7 +43,7 @@ impl<L: Drop, V: Drop> Check<L, V> {
     /// assert!(rt; large.eval(alloc, &folder)?);
     /// ```
     pub fn leaf_beside_members(leaf: L) -> Check<L, V>
-        ensures { computed_tree result ≡ Asks leaf }
+        ensures { computed_tree result ≡ Leaf leaf }
     {
         Check::Leaf(leaf)
     }
@@ -56,7 +56,7 @@ impl<L: Drop, V: Drop> Check<L, V> {
     /// assert!(rt; !small.eval(alloc, &7)?);
     /// ```
     pub fn not(self, alloc: Global) -> Result<Check<L, V>, AllocError>
-        ensures { IfOk result (λ made. computed_tree made ≡ Denies computed (computed_tree self)) }
+        ensures { IfOk result (λ made. computed_tree made ≡ Not computed (computed_tree self)) }
     {
         Ok(Check::Not(Computed, Box::new(alloc, self)?))
     }
@@ -68,7 +68,7 @@ impl<L: Drop, V: Drop> Check<L, V> {
     /// assert!(rt; adult.to_string(alloc)?.as_str() == "adult");
     /// ```
     pub fn name(self, alloc: Global, name: &'static str) -> Result<Check<L, V>, AllocError>
-        ensures { IfOk result (λ made. computed_tree made ≡ Names name.entry.now
+        ensures { IfOk result (λ made. computed_tree made ≡ Named name.entry.now
             (computed_tree self)) }
     {
         Ok(Check::Named(StaticText::new(name), Box::new(alloc, self)?))
@@ -82,7 +82,7 @@ impl<L: Drop, V: Drop> Check<L, V> {
     /// assert!(rt; !between.eval(alloc, &11)?);
     /// ```
     pub fn and(self, alloc: Global, other: Check<L, V>) -> Result<Check<L, V>, AllocError>
-        ensures { IfOk result (λ made. computed_tree made ≡ Pairs computed And (computed_tree self)
+        ensures { IfOk result (λ made. computed_tree made ≡ Pair computed And (computed_tree self)
             (computed_tree other)) }
     {
         Ok(Check::Pair(
@@ -101,7 +101,7 @@ impl<L: Drop, V: Drop> Check<L, V> {
     /// assert!(rt; !outside.eval(alloc, &7)?);
     /// ```
     pub fn or(self, alloc: Global, other: Check<L, V>) -> Result<Check<L, V>, AllocError>
-        ensures { IfOk result (λ made. computed_tree made ≡ Pairs computed Or (computed_tree self)
+        ensures { IfOk result (λ made. computed_tree made ≡ Pair computed Or (computed_tree self)
             (computed_tree other)) }
     {
         Ok(Check::Pair(
@@ -120,7 +120,7 @@ impl<L: Drop, V: Drop> Check<L, V> {
     /// assert!(rt; !one.eval(alloc, &11)?);
     /// ```
     pub fn xor(self, alloc: Global, other: Check<L, V>) -> Result<Check<L, V>, AllocError>
-        ensures { IfOk result (λ made. computed_tree made ≡ Pairs computed Xor (computed_tree self)
+        ensures { IfOk result (λ made. computed_tree made ≡ Pair computed Xor (computed_tree self)
             (computed_tree other)) }
     {
         Ok(Check::Pair(
@@ -141,7 +141,7 @@ impl<L: Drop, V: Drop> Check<L, V> {
     /// assert!(rt; !all.eval(alloc, &7)?);
     /// ```
     pub fn all(parts: Vec<Check<L, V>>) -> Check<L, V>
-        ensures { computed_tree result ≡ Rows computed false (trees_of
+        ensures { computed_tree result ≡ Row computed false (trees_of
             (map computed_tree parts.items)) }
     {
         Check::Row(Computed, false, parts)
@@ -157,7 +157,7 @@ impl<L: Drop, V: Drop> Check<L, V> {
     /// assert!(rt; !any.eval(alloc, &7)?);
     /// ```
     pub fn any(parts: Vec<Check<L, V>>) -> Check<L, V>
-        ensures { computed_tree result ≡ Rows computed true (trees_of
+        ensures { computed_tree result ≡ Row computed true (trees_of
             (map computed_tree parts.items)) }
     {
         Check::Row(Computed, true, parts)
@@ -173,7 +173,7 @@ impl<L: Drop, V: Drop> Check<L, V> {
     /// assert!(rt; !two.eval(alloc, &11)?);
     /// ```
     pub fn at_least(least: usize, parts: Vec<Check<L, V>>) -> Check<L, V>
-        ensures { computed_tree result ≡ Counts computed least (trees_of
+        ensures { computed_tree result ≡ AtLeast computed least (trees_of
             (map computed_tree parts.items)) }
     {
         Check::AtLeast(Computed, least, parts)
@@ -190,7 +190,7 @@ impl<L: Drop, V: Drop> Check<L, V> {
     /// assert!(rt; !odd.eval(alloc, &11)?);
     /// ```
     pub fn odd(parts: Vec<Check<L, V>>) -> Check<L, V>
-        ensures { computed_tree result ≡ Odds computed (trees_of (map computed_tree parts.items)) }
+        ensures { computed_tree result ≡ Odd computed (trees_of (map computed_tree parts.items)) }
     {
         Check::Odd(Computed, parts)
     }
@@ -203,7 +203,7 @@ impl<L: Drop, V: Drop> Check<L, V> {
     /// assert!(rt; !all_large.eval(alloc, &folder)?);
     /// ```
     pub fn of_each(self, alloc: Global, view: V) -> Result<Check<L, V>, AllocError>
-        ensures { IfOk result (λ made. computed_tree made ≡ Quantifies computed false view
+        ensures { IfOk result (λ made. computed_tree made ≡ Quantified computed false view
             (computed_tree self)) }
     {
         Ok(Check::Quantified(Computed, false, view, Box::new(alloc, self)?))
@@ -217,7 +217,7 @@ impl<L: Drop, V: Drop> Check<L, V> {
     /// assert!(rt; some_large.eval(alloc, &folder)?);
     /// ```
     pub fn of_any(self, alloc: Global, view: V) -> Result<Check<L, V>, AllocError>
-        ensures { IfOk result (λ made. computed_tree made ≡ Quantifies computed true view
+        ensures { IfOk result (λ made. computed_tree made ≡ Quantified computed true view
             (computed_tree self)) }
     {
         Ok(Check::Quantified(Computed, true, view, Box::new(alloc, self)?))
@@ -236,7 +236,7 @@ impl<L: Drop, V: Drop> Check<L, V> {
         least: usize,
         view: V,
     ) -> Result<Check<L, V>, AllocError>
-        ensures { IfOk result (λ made. computed_tree made ≡ CountsMembers computed least view
+        ensures { IfOk result (λ made. computed_tree made ≡ MembersAtLeast computed least view
             (computed_tree self)) }
     {
         Ok(Check::MembersAtLeast(Computed, least, view, Box::new(alloc, self)?))

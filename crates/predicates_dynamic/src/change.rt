@@ -6,8 +6,8 @@ ghost use Rattle.predicates_core.specs.Change.{IsFoundChange};
 ghost use Rattle.predicates_core.specs.Several.{IsOfMembers};
 ghost use Rattle.predicates_core.specs.Thresholds.{IsOfThreshold};
 ghost use Rattle.predicates_core.specs.Turning.{IsRightChange};
-ghost use Rattle.predicates_dynamic.specs.Trees.{words_of, AllOf, tree_of, trees_of, Denies};
-ghost use Rattle.predicates_dynamic.specs.Trees.{Names, Pairs, Rows, Counts};
+ghost use Rattle.predicates_dynamic.specs.Trees.{words_of, AllOf, tree_of, trees_of, Not};
+ghost use Rattle.predicates_dynamic.specs.Trees.{Named, Pair, Row, AtLeast};
 ghost use Rattle.predicates_dynamic.specs.Formulas.{check_text, Has};
 
 mod members;
@@ -32,7 +32,6 @@ use std::alloc::{AllocError, Global};
 
 // The `find_change` of the check.
 #[cycle(change)]
-#[tactic(auto, using(crate::proofs::Rows::lawful_parts))]
 pub(crate) fn changed<L: PredicateChange<Item>, V: View<Item>, S: Wording, Item>(
     alloc: Global,
     check: &Check<L, V, S>,
@@ -85,7 +84,7 @@ fn not_changed<L: PredicateChange<Item>, V: View<Item>, S: Wording, Item>(
     asked: Asked<'_, L, V, S, Item>,
 ) -> Result<Option<Case>, AllocError>
     requires lawful { AllOf L.lawful S.words inner.now }
-    requires whole { tree_of S.words asked.whole.now ≡ Denies (words_of S.words asked.whole.now)
+    requires whole { tree_of S.words asked.whole.now ≡ Not (words_of S.words asked.whole.now)
         (tree_of S.words inner.now) }
     ensures { IfOk result (IsFoundChange
         (Has L.output V.output L.formula V.gives V.absence_of S.words asked.entry.item.now
@@ -109,7 +108,7 @@ fn named_changed<L: PredicateChange<Item>, V: View<Item>, S: Wording, Item>(
     asked: Asked<'_, L, V, S, Item>,
 ) -> Result<Option<Case>, AllocError>
     requires lawful { AllOf L.lawful S.words inner.now }
-    requires whole { tree_of S.words asked.whole.now ≡ Names name.now (tree_of S.words inner.now) }
+    requires whole { tree_of S.words asked.whole.now ≡ Named name.now (tree_of S.words inner.now) }
     ensures { IfOk result (IsFoundChange
         (Has L.output V.output L.formula V.gives V.absence_of S.words asked.entry.item.now
         asked.entry.whole.now) asked.entry.wanted) }
@@ -174,7 +173,7 @@ fn pair_changed<L: PredicateChange<Item>, V: View<Item>, S: Wording, Item>(
     requires left { IsFoundChange
         (Has L.output V.output L.formula V.gives V.absence_of S.words asked.item.now left.part.now)
         (left_wanted left.operator asked.wanted) left.found }
-    requires whole { tree_of S.words asked.whole.now ≡ Pairs
+    requires whole { tree_of S.words asked.whole.now ≡ Pair
         (words_of S.words asked.whole.now) left.operator (tree_of S.words left.part.now)
         (tree_of S.words right_part.now) }
     ensures { IfOk result (IsFoundChange
@@ -204,7 +203,7 @@ fn row_changed<L: PredicateChange<Item>, V: View<Item>, S: Wording, Item>(
     asked: Asked<'_, L, V, S, Item>,
 ) -> Result<Option<Case>, AllocError>
     requires lawful { AllByRecursion (AllOf L.lawful S.words) parts.now }
-    requires whole { tree_of S.words asked.whole.now ≡ Rows (words_of S.words asked.whole.now)
+    requires whole { tree_of S.words asked.whole.now ≡ Row (words_of S.words asked.whole.now)
         decides (trees_of (map (tree_of S.words) parts.now)) }
     ensures { IfOk result (IsFoundChange
         (Has L.output V.output L.formula V.gives V.absence_of S.words asked.entry.item.now
@@ -346,7 +345,7 @@ fn threshold_changed<L: PredicateChange<Item>, V: View<Item>, S: Wording, Item>(
     asked: Asked<'_, L, V, S, Item>,
 ) -> Result<Option<Case>, AllocError>
     requires lawful { AllByRecursion (AllOf L.lawful S.words) parts.now }
-    requires whole { tree_of S.words asked.whole.now ≡ Counts
+    requires whole { tree_of S.words asked.whole.now ≡ AtLeast
         (words_of S.words asked.whole.now) least (trees_of (map (tree_of S.words) parts.now)) }
     ensures { IfOk result (IsFoundChange
         (Has L.output V.output L.formula V.gives V.absence_of S.words asked.entry.item.now

@@ -33,7 +33,7 @@ use std::alloc::{AllocError, Global};
 use std::fmt;
 
 /// A check of items whose shape comes at run time: a tree over leaves of one type `L`, which may be
-/// any predicate.
+/// any predicate. `S` says what each node keeps of its words; `Computed`, the default, keeps none.
 ///
 /// It means, prints and explains what the library's own combinators do over the same parts: `not`,
 /// `name`, `and`, `or`, `xor`, for several parts `all_of`, `any_of` and `at_least`, and over the
@@ -358,7 +358,8 @@ impl<L: fmt::Display, V: fmt::Display, S: Wording> fmt::Display for Check<L, V, 
 impl<L: PredicateReflection, V: fmt::Display, S: Wording> PredicateReflection for Check<L, V, S> {
     ghost parameters_of = { λ c. check_parameters L.parameters_of S.words c };
 
-    ghost children_of = { λ c. check_parts L.output V.output L.parameters_of L.children_of S.words c };
+    ghost children_of = { λ c.
+        check_parts L.output V.output L.parameters_of L.children_of S.words c };
 
     fn parameters(&self, alloc: Global) -> Result<Vec<Parameter>, AllocError> {
         match self {

@@ -5,8 +5,8 @@ ghost use Rattle.predicates_core.specs.Asked.{IsFoundIf, left_wanted};
 ghost use Rattle.predicates_core.specs.Several.{IsOfMembers};
 ghost use Rattle.predicates_core.specs.Shows.{IsAnswer, IsFound};
 ghost use Rattle.predicates_core.specs.Thresholds.{IsOfThreshold};
-ghost use Rattle.predicates_dynamic.specs.Trees.{words_of, AllOf, tree_of, trees_of, Denies};
-ghost use Rattle.predicates_dynamic.specs.Trees.{Names, Pairs, Rows, Counts};
+ghost use Rattle.predicates_dynamic.specs.Trees.{words_of, AllOf, tree_of, trees_of, Not};
+ghost use Rattle.predicates_dynamic.specs.Trees.{Named, Pair, Row, AtLeast};
 ghost use Rattle.predicates_dynamic.specs.Formulas.{check_text, Has};
 
 mod members;
@@ -38,7 +38,8 @@ pub(crate) fn found<L: Predicate<Item>, V: View<Item>, S: Wording, Item>(
 ) -> Result<Option<Case>, AllocError>
     requires { AllOf L.lawful S.words check.now }
     ensures { IfOk result (IsAnswer
-        (Has L.output V.output L.formula V.gives V.absence_of S.words item.now check.now) expected) }
+        (Has L.output V.output L.formula V.gives V.absence_of S.words item.now check.now)
+        expected) }
 {
     if verdict(alloc, check, item)? != expected {
         return Ok(None);
@@ -48,7 +49,6 @@ pub(crate) fn found<L: Predicate<Item>, V: View<Item>, S: Wording, Item>(
 
 // The `explain` of the check.
 #[cycle(explain)]
-#[tactic(auto, using(crate::proofs::Rows::lawful_parts))]
 pub(crate) fn explained<L: Predicate<Item>, V: View<Item>, S: Wording, Item>(
     alloc: Global,
     check: &Check<L, V, S>,
@@ -99,7 +99,7 @@ fn not_explained<L: Predicate<Item>, V: View<Item>, S: Wording, Item>(
     asked: Asked<'_, L, V, S, Item>,
 ) -> Result<Option<Case>, AllocError>
     requires lawful { AllOf L.lawful S.words inner.now }
-    requires whole { tree_of S.words asked.whole.now ≡ Denies (words_of S.words asked.whole.now)
+    requires whole { tree_of S.words asked.whole.now ≡ Not (words_of S.words asked.whole.now)
         (tree_of S.words inner.now) }
     ensures { IfOk result (IsFound
         (Has L.output V.output L.formula V.gives V.absence_of S.words asked.entry.item.now
@@ -123,7 +123,7 @@ fn named_explained<L: Predicate<Item>, V: View<Item>, S: Wording, Item>(
     asked: Asked<'_, L, V, S, Item>,
 ) -> Result<Option<Case>, AllocError>
     requires lawful { AllOf L.lawful S.words inner.now }
-    requires whole { tree_of S.words asked.whole.now ≡ Names name.now (tree_of S.words inner.now) }
+    requires whole { tree_of S.words asked.whole.now ≡ Named name.now (tree_of S.words inner.now) }
     ensures { IfOk result (IsFound
         (Has L.output V.output L.formula V.gives V.absence_of S.words asked.entry.item.now
         asked.entry.whole.now) asked.entry.wanted) }
@@ -149,7 +149,7 @@ fn pair_explained<L: Predicate<Item>, V: View<Item>, S: Wording, Item>(
     requires left { IsFound
         (Has L.output V.output L.formula V.gives V.absence_of S.words asked.item.now left.part.now)
         (left_wanted left.operator asked.wanted) left.found }
-    requires whole { tree_of S.words asked.whole.now ≡ Pairs
+    requires whole { tree_of S.words asked.whole.now ≡ Pair
         (words_of S.words asked.whole.now) left.operator (tree_of S.words left.part.now)
         (tree_of S.words right_part.now) }
     ensures { IfOk result (IsFound
@@ -204,7 +204,7 @@ fn row_explained<L: Predicate<Item>, V: View<Item>, S: Wording, Item>(
     asked: Asked<'_, L, V, S, Item>,
 ) -> Result<Option<Case>, AllocError>
     requires lawful { AllByRecursion (AllOf L.lawful S.words) parts.now }
-    requires whole { tree_of S.words asked.whole.now ≡ Rows (words_of S.words asked.whole.now)
+    requires whole { tree_of S.words asked.whole.now ≡ Row (words_of S.words asked.whole.now)
         decides (trees_of (map (tree_of S.words) parts.now)) }
     ensures { IfOk result (IsFound
         (Has L.output V.output L.formula V.gives V.absence_of S.words asked.entry.item.now
@@ -307,7 +307,7 @@ fn threshold_explained<L: Predicate<Item>, V: View<Item>, S: Wording, Item>(
     asked: Asked<'_, L, V, S, Item>,
 ) -> Result<Option<Case>, AllocError>
     requires lawful { AllByRecursion (AllOf L.lawful S.words) parts.now }
-    requires whole { tree_of S.words asked.whole.now ≡ Counts
+    requires whole { tree_of S.words asked.whole.now ≡ AtLeast
         (words_of S.words asked.whole.now) least (trees_of (map (tree_of S.words) parts.now)) }
     ensures { IfOk result (IsFound
         (Has L.output V.output L.formula V.gives V.absence_of S.words asked.entry.item.now

@@ -6,7 +6,7 @@ ghost use Rattle.predicates_core.specs.Label.{Entry};
 ghost use Rattle.predicates_core.specs.Several.{IsOfMembers};
 ghost use Rattle.predicates_core.specs.Thresholds.{IsOfThreshold};
 ghost use Rattle.predicates_dynamic.specs.Trees.{AllOf, tree_of, Words};
-ghost use Rattle.predicates_dynamic.specs.Trees.{AsksAll, Denies, Names, Pairs};
+ghost use Rattle.predicates_dynamic.specs.Trees.{AsksAll, Not, Named, Pair};
 ghost use Rattle.predicates_dynamic.specs.Formulas.{Has, HasFormula};
 
 mod members;
@@ -89,7 +89,7 @@ fn not_holds<L: EvaluateWith<Item, C>, V: View<Item>, S: Wording, Item, C>(
     requires { AllOf L.lawful S.words inner.now }
     ensures truth { IfOk result (λ held. (w : Words) → HasTruth
         (HasFormula L.output V.output L.formula V.gives V.absence_of item.now
-        (Denies w (tree_of S.words inner.now))) held) }
+        (Not w (tree_of S.words inner.now))) held) }
     ensures infallible { AsksAll L.infallible V.lends V.gives S.words item.now inner.now
         → IsOk result }
 {
@@ -108,7 +108,7 @@ fn named_holds<L: EvaluateWith<Item, C>, V: View<Item>, S: Wording, Item, C>(
     requires { AllOf L.lawful S.words inner.now }
     ensures truth { IfOk result (λ held. (name : List ℕ) → HasTruth
         (HasFormula L.output V.output L.formula V.gives V.absence_of item.now
-        (Names name (tree_of S.words inner.now))) held) }
+        (Named name (tree_of S.words inner.now))) held) }
     ensures infallible { AsksAll L.infallible V.lends V.gives S.words item.now inner.now
         → IsOk result }
 {
@@ -140,7 +140,7 @@ fn pair_holds<L: EvaluateWith<Item, C>, V: View<Item>, S: Wording, Item, C>(
         left.found }
     ensures truth { IfOk result (λ held. (w : Words) → HasTruth
         (HasFormula L.output V.output L.formula V.gives V.absence_of item.now
-        (Pairs w left.entry.operator (tree_of S.words left.entry.part.now)
+        (Pair w left.entry.operator (tree_of S.words left.entry.part.now)
         (tree_of S.words right_part.now))) held) }
     ensures infallible { AsksAll L.infallible V.lends V.gives S.words item.now right_part.now
         → IsOk result }

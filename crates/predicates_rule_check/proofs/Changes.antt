@@ -1,5 +1,5 @@
 -- What would turn a test, and a rule over its check.
-use Rattle.std.proofs.Common.{◌≡◌, ℕ, Bool, true, false, List, [], ◌∷◌, Option, Some, None, codes, refl, sym, subst, Ok}
+use Rattle.std.proofs.Common.{ℕ, Bool, true, false, List, [], ◌∷◌, Option, Some, None, codes, refl, sym, subst, Ok}
 use Rattle.std.specs.Prelude.{cond}
 use Rattle.predicates_core.specs.Formula.{Formula, Leaf, HasTruth}
 use Rattle.predicates_core.specs.Label.{Label, plain}
@@ -12,7 +12,7 @@ use Rattle.predicates_core.proofs.ChangeCases.{named_change, exact_leaf, leaf_fo
 use Rattle.serde_json.specs.Data.{Data}
 use Rattle.predicates_rule_check.specs.Scopes.{Place}
 use Rattle.predicates_rule_check.specs.Queries.{Query, verdict, nothing_verdict, is_of_presence}
-use Rattle.predicates_rule_check.specs.Plans.{nothing_leaf, asked_formula, leaf_of_verdict}
+use Rattle.predicates_rule_check.specs.CheckTrees.{nothing_leaf, asked_formula, leaf_of_verdict}
 use Rattle.predicates_rule_check.proofs.Ruling.{under_rule, HasTruth-rule}
 
 -- the case of a leaf is its change

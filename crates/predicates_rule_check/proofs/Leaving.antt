@@ -10,8 +10,8 @@ use Rattle.predicates_core.proofs.Added.{IsCaseOf-with_product}
 use Rattle.serde_json.specs.Data.{Data}
 use Rattle.predicates_rules.specs.declared.condition.State.TheVariants as states
 use Rattle.predicates_rule_check.specs.Scopes.{Place}
-use Rattle.predicates_rule_check.specs.Queries.{Query, Stands, Compares, ComparesWith, HasLength, IsOfKind, Begins, Finishes, Holds, Matches, IsAmong, HasKeysAmong, verdict, nothing_verdict, is_of_presence, misfit_text}
-use Rattle.predicates_rule_check.specs.Plans.{asked_formula, absent_formula, leaf_of_verdict, found_label, found_leaf, misfit_leaf, nothing_leaf, shown_beside, ShowsBeside}
+use Rattle.predicates_rule_check.specs.Queries.{Query, Is, Compare, CompareWith, Length, IsOf, StartsWith, EndsWith, Contains, Matches, In, KeysIn, verdict, nothing_verdict, is_of_presence, misfit_text}
+use Rattle.predicates_rule_check.specs.CheckTrees.{asked_formula, absent_formula, leaf_of_verdict, found_label, found_leaf, misfit_leaf, nothing_leaf, shown_beside, ShowsBeside}
 use Rattle.predicates_core.specs.Label.{Entry}
 use Rattle.predicates_core.specs.Tree.{Tree}
 use Rattle.predicates_core.specs.Describe.{CaseNode}
@@ -27,19 +27,19 @@ showing_entry {name} {bytes} entry h s = record { bytes = s.bytes; fits = fits_o
 
 -- what is about presence alone holds of nothing, or does not
 no_presence : (q : Query) → is_of_presence q ≡ false → nothing_verdict q ≡ false
-no_presence (Stands states.Exists) e = refl
-no_presence (Stands states.Missing) e = absurd (cc)
-no_presence (Stands states.IsEmpty) e = refl
-no_presence (Compares c v) e = refl
-no_presence (ComparesWith o path) e = refl
-no_presence (HasLength o n) e = refl
-no_presence (IsOfKind k) e = refl
-no_presence (Begins s) e = refl
-no_presence (Finishes s) e = refl
-no_presence (Holds s) e = refl
+no_presence (Is states.Exists) e = refl
+no_presence (Is states.Missing) e = absurd (cc)
+no_presence (Is states.IsEmpty) e = refl
+no_presence (Compare c v) e = refl
+no_presence (CompareWith o path) e = refl
+no_presence (Length o n) e = refl
+no_presence (IsOf k) e = refl
+no_presence (StartsWith s) e = refl
+no_presence (EndsWith s) e = refl
+no_presence (Contains s) e = refl
 no_presence (Matches re) e = refl
-no_presence (IsAmong vs) e = refl
-no_presence (HasKeysAmong texts) e = refl
+no_presence (In vs) e = refl
+no_presence (KeysIn texts) e = refl
 
 of_presence : (text path : List ℕ) (presence own : Bool) → (presence ≡ false → own ≡ false) → HasTruth (IsExactly (cond presence (Leaf (plain (Some text)) own) (nothing_leaf text path))) own
 of_presence text path true own h = HasTruth-exactly refl

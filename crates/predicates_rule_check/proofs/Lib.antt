@@ -5,7 +5,7 @@ mod Listing
 mod Numbers
 mod OtherKeys
 mod Places
-mod Planning
+mod CheckFormulas
 mod Refusing
 mod Rows
 mod Ruling

@@ -9,7 +9,8 @@ use Rattle.serde_json.specs.Data.{Data}
 use Rattle.serde_json.specs.declared.value.Value.{Value as JsonValue}
 use Rattle.serde_json.specs.View.{items_view, members_view}
 use Rattle.predicates_rules.specs.Lexemes.{data_of}
-use Rattle.predicates_rules.specs.Trees.{Value, Tree, trees_of}
+use Rattle.predicates_rules.specs.Literals.{Literal}
+use Rattle.predicates_rules.specs.Trees.{Tree, trees_of}
 use Rattle.predicates_rule_check.specs.Queries.{is_among, is_equal, order, no_item_there, no_member_there, number_of_items, number_of_members}
 use Rattle.regex.specs.Strings.{regex_pattern}
 use Rattle.regex.specs.declared.string.regex.Regex.{Regex}
@@ -18,8 +19,8 @@ use Rattle.predicates_rules.specs.declared.condition.Relation.{Relation}
 use Rattle.predicates_rules.specs.declared.condition.Relation.TheVariants as relations
 use Rattle.predicates_rule_check.specs.Queries as queries
 use Rattle.predicates_dynamic.specs.Trees.{trees_of as dynamic_trees}
-use Rattle.predicates_rule_check.specs.Plans.{Plan}
-use Rattle.predicates_rule_check.specs.Planned.{IsPlan, ArePlans, IsRelation}
+use Rattle.predicates_rule_check.specs.CheckTrees.{CheckTree}
+use Rattle.predicates_rule_check.specs.Compiled.{IsTreeOf, AreTreesOf, IsRelation}
 
 or_assoc : (a b c : Bool) → ((a || b) || c) ≡ (a || (b || c))
 or_assoc true b c = refl
@@ -33,7 +34,7 @@ or_true : (a : Bool) → (a || true) ≡ true
 or_true true = refl
 or_true false = refl
 
-among_append : (xs ys : List Value) (d : Data) → is_among (xs ++ ys) d ≡ (is_among xs d || is_among ys d)
+among_append : (xs ys : List Literal) (d : Data) → is_among (xs ++ ys) d ≡ (is_among xs d || is_among ys d)
 among_append [] ys d = refl
 among_append (x ∷ xs) ys d = ap (λ z. is_equal (order d (data_of x)) || z) (among_append xs ys d) ∙ sym (or_assoc (is_equal (order d (data_of x))) (is_among xs d) (is_among ys d))
 
@@ -41,7 +42,7 @@ map_append : {X Y : Type 0} (f : X → Y) (xs ys : List X) → map f (xs ++ ys) 
 map_append f [] ys = refl
 map_append f (x ∷ xs) ys = ap (λ z. f x ∷ z) (map_append f xs ys)
 
-module _ {X : Type 0} (f : X → Value) (d : Data) where
+module _ {X : Type 0} (f : X → Literal) (d : Data) where
   split_among : (xs ys : List X) → is_among (map f (xs ++ ys)) d ≡ (is_among (map f xs) d || is_among (map f ys) d)
   split_among xs ys = ap (λ z. is_among z d) (map_append f xs ys) ∙ among_append (map f xs) (map f ys) d
 
@@ -82,15 +83,15 @@ members_counted (m ∷ ms) = ap suc (members_counted ms)
 
 -- ---- the checks of expressions
 
-pub plans_more : {X Y : Type 0} (f : X → Tree) (g : Y → Plan) (es : List X) (ps : List Y) (e : X) (p : Y) → ArePlans (trees_of (map f es)) (dynamic_trees (map g ps)) → IsPlan (f e) (g p) → ArePlans (trees_of (map f (es ++ e ∷ []))) (dynamic_trees (map g (ps ++ p ∷ [])))
-plans_more f g [] [] e p h k = (k, tt)
-plans_more f g [] (q ∷ ps) e p h k = absurd h
-plans_more f g (d ∷ es) [] e p h k = absurd h
-plans_more f g (d ∷ es) (q ∷ ps) e p h k = (h.0, plans_more f g es ps e p h.1 k)
+pub trees_more : {X Y : Type 0} (f : X → Tree) (g : Y → CheckTree) (es : List X) (ps : List Y) (e : X) (p : Y) → AreTreesOf (trees_of (map f es)) (dynamic_trees (map g ps)) → IsTreeOf (f e) (g p) → AreTreesOf (trees_of (map f (es ++ e ∷ []))) (dynamic_trees (map g (ps ++ p ∷ [])))
+trees_more f g [] [] e p h k = (k, tt)
+trees_more f g [] (q ∷ ps) e p h k = absurd h
+trees_more f g (d ∷ es) [] e p h k = absurd h
+trees_more f g (d ∷ es) (q ∷ ps) e p h k = (h.0, trees_more f g es ps e p h.1 k)
 
-pub plans_all : {X Y : Type 0} (f : X → Tree) (g : Y → Plan) (all es rest : List X) (ps : List Y) → all ≡ es ++ rest → length rest ≡ 0 → ArePlans (trees_of (map f es)) (dynamic_trees (map g ps)) → ArePlans (trees_of (map f all)) (dynamic_trees (map g ps))
-plans_all f g all es [] ps e none h = subst (λ z. ArePlans (trees_of (map f z)) (dynamic_trees (map g ps))) (sym (e ∙ append-nil es)) h
-plans_all f g all es (d ∷ rest) ps e none h = absurd (omega (arith, none))
+pub trees_all : {X Y : Type 0} (f : X → Tree) (g : Y → CheckTree) (all es rest : List X) (ps : List Y) → all ≡ es ++ rest → length rest ≡ 0 → AreTreesOf (trees_of (map f es)) (dynamic_trees (map g ps)) → AreTreesOf (trees_of (map f all)) (dynamic_trees (map g ps))
+trees_all f g all es [] ps e none h = subst (λ z. AreTreesOf (trees_of (map f z)) (dynamic_trees (map g ps))) (sym (e ∙ append-nil es)) h
+trees_all f g all es (d ∷ rest) ps e none h = absurd (omega (arith, none))
 
 -- ---- patterns
 

@@ -1,6 +1,6 @@
--- What a check of the code is, as a plan.
+-- What a check of the code is, as a tree.
 use Rattle.predicates_rule_check.specs.declared.check.Check.{Check}
-use Rattle.predicates_rule_check.specs.Plans.{Plan, plan_of_tree}
+use Rattle.predicates_rule_check.specs.CheckTrees.{CheckTree, check_tree}
 
-abbrev pub plan_of : Check → Plan
-plan_of c = plan_of_tree c.tree
+abbrev pub tree_of_check : Check → CheckTree
+tree_of_check c = check_tree c.tree

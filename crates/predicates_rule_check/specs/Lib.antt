@@ -5,11 +5,11 @@ pub mod Scopes
 pub mod Keys
 pub mod Queries
 pub mod Lists
-pub mod Plans
-pub mod PlanLaws
+pub mod CheckTrees
+pub mod CheckLaws
 pub mod ViewLaws
 pub mod Nodes
 pub mod Checks
-pub mod Planned
+pub mod Compiled
 pub mod RuleChecks
 pub mod Refusals

@@ -22,7 +22,8 @@ use Rattle.predicates_rules.specs.declared.condition.ValueKind.{ValueKind}
 use Rattle.predicates_rules.specs.declared.condition.ValueKind.TheVariants as kinds
 use Rattle.predicates_rules.specs.Lexemes.{data_of}
 use Rattle.predicates_rules.specs.Printing.{path_text}
-use Rattle.predicates_rules.specs.Trees.{Value, Natural, Negative, Decimal, Boolean, value_of}
+use Rattle.predicates_rules.specs.Literals.{Literal, Natural, Negative, Decimal, Boolean}
+use Rattle.predicates_rules.specs.Literals.{literal_of}
 use Rattle.predicates_rule_check.specs.Keys.{are_keys_among}
 use Rattle.predicates_rule_check.specs.Numbers.{number_cmp}
 use Rattle.predicates_rule_check.specs.Patterns.{regex_of}
@@ -31,31 +32,31 @@ use Rattle.predicates_rule_check.specs.declared.question.Question.{Question}
 use Rattle.predicates_rule_check.specs.declared.question.Question.TheVariants as questions
 
 pub data Query : Type 0 where
-  Stands : (s : State) → Query
-  Compares : (o : Comparison) → (v : Value) → Query
+  Is : (s : State) → Query
+  Compare : (o : Comparison) → (v : Literal) → Query
   -- with what stands at another path
-  ComparesWith : (o : Comparison) → (path : List ℕ) → Query
-  HasLength : (o : Comparison) → (n : ℕ) → Query
-  IsOfKind : (k : ValueKind) → Query
-  Begins : (pattern : List ℕ) → Query
-  Finishes : (pattern : List ℕ) → Query
-  Holds : (pattern : List ℕ) → Query
+  CompareWith : (o : Comparison) → (path : List ℕ) → Query
+  Length : (o : Comparison) → (n : ℕ) → Query
+  IsOf : (k : ValueKind) → Query
+  StartsWith : (pattern : List ℕ) → Query
+  EndsWith : (pattern : List ℕ) → Query
+  Contains : (pattern : List ℕ) → Query
   Matches : (re : Re) → Query
-  IsAmong : (vs : List Value) → Query
-  HasKeysAmong : (texts : List (List ℕ)) → Query
+  In : (vs : List Literal) → Query
+  KeysIn : (texts : List (List ℕ)) → Query
 
 abbrev pub query_of : Question → Query
-query_of (questions.Is s) = Stands s
-query_of (questions.Compare o v) = Compares o (value_of v)
-query_of (questions.CompareWith o path) = ComparesWith o (string_bytes path)
-query_of (questions.Length o n) = HasLength o n
-query_of (questions.IsOf k) = IsOfKind k
-query_of (questions.StartsWith s) = Begins (string_bytes s)
-query_of (questions.EndsWith s) = Finishes (string_bytes s)
-query_of (questions.Contains s) = Holds (string_bytes s)
+query_of (questions.Is s) = Is s
+query_of (questions.Compare o v) = Compare o (literal_of v)
+query_of (questions.CompareWith o path) = CompareWith o (string_bytes path)
+query_of (questions.Length o n) = Length o n
+query_of (questions.IsOf k) = IsOf k
+query_of (questions.StartsWith s) = StartsWith (string_bytes s)
+query_of (questions.EndsWith s) = EndsWith (string_bytes s)
+query_of (questions.Contains s) = Contains (string_bytes s)
 query_of (questions.Matches p) = Matches (regex_pattern (regex_of p))
-query_of (questions.In vs) = IsAmong (map value_of vs.items)
-query_of (questions.KeysIn texts) = HasKeysAmong (map string_bytes texts.items)
+query_of (questions.In vs) = In (map literal_of vs.items)
+query_of (questions.KeysIn texts) = KeysIn (map string_bytes texts.items)
 
 -- how a value stands to another, where both are of one kind; every value but null is above null
 abbrev pub order : Data → Data → Option Ordering
@@ -78,7 +79,7 @@ abbrev pub is_equal : Option Ordering → Bool
 is_equal None = false
 is_equal (Some o) = is_eq o
 
-abbrev pub is_among : List Value → Data → Bool
+abbrev pub is_among : List Literal → Data → Bool
 is_among [] d = false
 is_among (v ∷ vs) d = is_equal (order d (data_of v)) || is_among vs d
 
@@ -128,34 +129,34 @@ is_of_kind kinds.Null d = is_some (as_null d)
 
 -- whether a text is as it asks
 abbrev pub text_fits : Query → List ℕ → Bool
-text_fits (Begins pattern) s = is_front (chars pattern) (chars s)
-text_fits (Finishes pattern) s = is_back (chars pattern) (chars s)
-text_fits (Holds pattern) s = is_part (chars pattern) (chars s)
+text_fits (StartsWith pattern) s = is_front (chars pattern) (chars s)
+text_fits (EndsWith pattern) s = is_back (chars pattern) (chars s)
+text_fits (Contains pattern) s = is_part (chars pattern) (chars s)
 text_fits (Matches re) s = is_some (find_str re s 0)
 text_fits q s = false
 
 -- whether d, which stands at the test's path, answers it, or none where it can't
 abbrev pub verdict : Query → Place → (d : Data) → Option Bool
-verdict (Stands states.Exists) p d = Some true
-verdict (Stands states.Missing) p d = Some false
-verdict (Stands states.IsEmpty) p d = empty_verdict d
-verdict (Compares o v) p d = option_map (holds_in o) (order d (data_of v))
-verdict (ComparesWith o path) p d =
+verdict (Is states.Exists) p d = Some true
+verdict (Is states.Missing) p d = Some false
+verdict (Is states.IsEmpty) p d = empty_verdict d
+verdict (Compare o v) p d = option_map (holds_in o) (order d (data_of v))
+verdict (CompareWith o path) p d =
     option_map (holds_in o) (option_and_then (order d) (stands path p))
-verdict (HasLength o n) p d = option_map (λ k. holds_in o (nat_cmp k n)) (length_of d)
-verdict (IsOfKind k) p d = Some (is_of_kind k d)
-verdict (IsAmong vs) p d = Some (is_among vs d)
-verdict (HasKeysAmong texts) p d = option_map (are_keys_among texts) (as_object d)
+verdict (Length o n) p d = option_map (λ k. holds_in o (nat_cmp k n)) (length_of d)
+verdict (IsOf k) p d = Some (is_of_kind k d)
+verdict (In vs) p d = Some (is_among vs d)
+verdict (KeysIn texts) p d = option_map (are_keys_among texts) (as_object d)
 verdict q p d = option_map (text_fits q) (as_str d)
 
 -- whether it holds where nothing stands
 abbrev pub nothing_verdict : Query → Bool
-nothing_verdict (Stands states.Missing) = true
+nothing_verdict (Is states.Missing) = true
 nothing_verdict q = false
 
 abbrev pub is_of_presence : Query → Bool
-is_of_presence (Stands states.Missing) = true
-is_of_presence (Stands states.Exists) = true
+is_of_presence (Is states.Missing) = true
+is_of_presence (Is states.Exists) = true
 is_of_presence q = false
 
 abbrev pub nothing_text : List ℕ → List ℕ
@@ -168,12 +169,12 @@ apart_text path (Some d) = codes "not comparable with " ++ path_text path
 
 -- what is said of a value that can't answer
 abbrev pub misfit_text : Query → Place → List ℕ
-misfit_text (Compares o (Natural n)) p = codes "not a number"
-misfit_text (Compares o (Negative n)) p = codes "not a number"
-misfit_text (Compares o (Decimal text x)) p = codes "not a number"
-misfit_text (Compares o (Boolean b)) p = codes "not true or false"
-misfit_text (ComparesWith o path) p = apart_text path (stands path p)
-misfit_text (HasKeysAmong texts) p = codes "not an object"
-misfit_text (HasLength o n) p = codes "not a string, an array or an object"
-misfit_text (Stands s) p = codes "not a string, an array or an object"
+misfit_text (Compare o (Natural n)) p = codes "not a number"
+misfit_text (Compare o (Negative n)) p = codes "not a number"
+misfit_text (Compare o (Decimal text x)) p = codes "not a number"
+misfit_text (Compare o (Boolean b)) p = codes "not true or false"
+misfit_text (CompareWith o path) p = apart_text path (stands path p)
+misfit_text (KeysIn texts) p = codes "not an object"
+misfit_text (Length o n) p = codes "not a string, an array or an object"
+misfit_text (Is s) p = codes "not a string, an array or an object"
 misfit_text q p = codes "not a string"

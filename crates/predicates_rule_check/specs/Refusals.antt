@@ -12,8 +12,9 @@ use Rattle.regex.specs.declared.error.Error.TheVariants.{Syntax, CompiledTooBig,
 use Rattle.regex.specs.declared.error.Error.TheVariants.{OutOfMemory}
 use Rattle.predicates_rules.specs.declared.condition.Relation.TheVariants.{Matches}
 use Rattle.predicates_rules.specs.Quoting.{quoted_text}
-use Rattle.predicates_rules.specs.Trees.{Test, Relates, Tree, At, Denied, Implies, Quantified}
-use Rattle.predicates_rules.specs.Trees.{Joined, AtLeast, Trees, none, more}
+use Rattle.predicates_rules.specs.Conditions.{Condition, Relate}
+use Rattle.predicates_rules.specs.Trees.{Tree, Test, Not, Implies, Quantified, Joined, AtLeast}
+use Rattle.predicates_rules.specs.Trees.{Trees, none, more}
 use Rattle.predicates_rule_check.specs.declared.check_error.CheckError.{CheckError}
 use Rattle.predicates_rule_check.specs.declared.check_error.CheckError.TheVariants.{NoMemory}
 use Rattle.predicates_rule_check.specs.declared.check_error.CheckError.TheVariants.{Pattern}
@@ -51,15 +52,15 @@ pub record IsRefused (fault : PatternFault) : Type 0 where
   pub no_internal : error ≢ Internal
   pub column : fault.column ≡ column_of (string_bytes fault.pattern) error
 
-abbrev pub IsPatternOf : List ℕ → Test → Type 0
-IsPatternOf pattern (Relates r text) = (r ≡ Matches) × (pattern ≡ text)
+abbrev pub IsPatternOf : List ℕ → Condition → Type 0
+IsPatternOf pattern (Relate r text) = (r ≡ Matches) × (pattern ≡ text)
 IsPatternOf pattern t = ⊥
 
 abbrev mutual
   -- the pattern stands in the expression
   pub IsPatternIn : List ℕ → Tree → Type 0
-  IsPatternIn pattern (At path t) = IsPatternOf pattern t
-  IsPatternIn pattern (Denied e) = IsPatternIn pattern e
+  IsPatternIn pattern (Test path t) = IsPatternOf pattern t
+  IsPatternIn pattern (Not e) = IsPatternIn pattern e
   IsPatternIn pattern (Implies a b) = IsPatternIn pattern a ⊎ IsPatternIn pattern b
   IsPatternIn pattern (Quantified q path e) = IsPatternIn pattern e
   IsPatternIn pattern (Joined c es) = IsPatternAmong pattern es

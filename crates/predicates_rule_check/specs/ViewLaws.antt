@@ -15,7 +15,7 @@ use Rattle.predicates_rule_check.specs.declared.elements.Elements.{Elements}
 use Rattle.predicates_rule_check.specs.declared.scope.Scope.{Scope}
 use Rattle.predicates_rule_check.specs.Lists.{places_at, places_in, places_of, values_in, values_of}
 use Rattle.predicates_rule_check.specs.Nodes.{path_of_view}
-use Rattle.predicates_rule_check.specs.Scopes.{Place, place_of, stands}
+use Rattle.predicates_rule_check.specs.Scopes.{place_of, stands}
 
 -- the scope of another value of the record
 abbrev scope_at : Scope → Value → Scope

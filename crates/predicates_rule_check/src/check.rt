@@ -5,9 +5,9 @@ ghost use Rattle.predicates_core.specs.Formula.{HasTruth};
 ghost use Rattle.predicates_core.specs.Leaves.{IsExactly};
 ghost use Rattle.predicates_core.specs.LeafLaws.{one_exactly};
 ghost use Rattle.serde_json.specs.View.{view};
-ghost use Rattle.predicates_rule_check.specs.Plans.{plan_formula, plan_text, plan_of_tree};
-ghost use Rattle.predicates_rule_check.specs.PlanLaws.{plan_text_fits};
-ghost use Rattle.predicates_rule_check.specs.Checks.{plan_of};
+ghost use Rattle.predicates_rule_check.specs.CheckTrees.{check_formula, check_text, check_tree};
+ghost use Rattle.predicates_rule_check.specs.CheckLaws.{check_text_fits};
+ghost use Rattle.predicates_rule_check.specs.Checks.{tree_of_check};
 ghost use Rattle.predicates_rule_check.specs.Scopes.{alone};
 
 use crate::elements::Elements;
@@ -29,19 +29,19 @@ pub(crate) type Tree = predicates_dynamic::Check<PathTest, Elements, Written>;
 /// children, and what is over a path or over parts has its printed text with it. `find_case` and
 /// `explain` ask each test once of an item, at most, however deep it stands.
 ///
-/// Of many parts as many have to hold as the rule says: a row without parts holds under `and` alone.
-/// At least so many of the parts is a leaf where that is so whatever they answer, or is not, which
-/// says how many there are. What is asked of each, of any or of so many items is asked of those of
-/// the array at the path, or of the object's values in the order of its keys. What is neither is a
-/// false leaf that says so. A path that begins with `^` leads from the record on, and not from the
-/// item. A call lists the items: the error is memory that was refused.
+/// Of many parts as many have to hold as the rule says: a row without parts holds under `and`
+/// alone. At least so many of the parts is a leaf where that is so whatever they answer, or is not,
+/// which says how many there are. What is asked of each, of any or of so many items is asked of
+/// those of the array at the path, or of the object's values in the order of its keys. What is
+/// neither is a false leaf that says so. A path that begins with `^` leads from the record on, and
+/// not from the item. A call lists the items: the error is memory that was refused.
 #[derive(Drop)]
 pub struct Check {
     pub(crate) tree: Tree,
 }
 
 impl fmt::Display for Check {
-    ghost output = { λ c. plan_text (plan_of c) };
+    ghost output = { λ c. check_text (tree_of_check c) };
 
     fn fmt<W: fmt::Write>(&self, f: &mut fmt::Formatter<W>) -> fmt::Result {
         f.write_str(self.text())
@@ -64,7 +64,7 @@ impl PredicateReflection for Check {
 
 // The text that the tree's node on top keeps.
 fn text_of(tree: &Tree) -> &str
-    ensures { Some result.now ≡ plan_text (plan_of_tree tree.now) }
+    ensures { Some result.now ≡ check_text (check_tree tree.now) }
 {
     match tree {
         Tree::Leaf(test) => &test.text,
@@ -82,7 +82,7 @@ fn text_of(tree: &Tree) -> &str
 impl Check {
     /// What the check prints. It takes no memory.
     pub fn text(&self) -> &str
-        ensures { Some result.now ≡ plan_text (plan_of self.now) }
+        ensures { Some result.now ≡ check_text (tree_of_check self.now) }
     {
         text_of(&self.tree)
     }
@@ -100,7 +100,7 @@ impl Check {
         item: &Value,
     ) -> Result<bool, AllocError>
         ensures { IfOk result (HasTruth (IsExactly
-            (plan_formula (plan_of self.now) (alone (view item.now))))) }
+            (check_formula (tree_of_check self.now) (alone (view item.now))))) }
     {
         let scope = Scope { whole: item, item };
         let held = self.tree.eval_with(alloc, matchers, &scope)?;
@@ -109,11 +109,11 @@ impl Check {
 }
 
 impl Predicate<Value> for Check {
-    ghost formula = { λ c v. IsExactly (plan_formula (plan_of c) (alone (view v))) };
+    ghost formula = { λ c v. IsExactly (check_formula (tree_of_check c) (alone (view v))) };
 
     ghost infallible = { λ _ _. ⊥ };
 
-    ghost text_fits = { λ c v f. plan_text_fits (plan_of c) (alone (view v)) };
+    ghost text_fits = { λ c v f. check_text_fits (tree_of_check c) (alone (view v)) };
 
     ghost one_formula = { λ c v f g lawful. one_exactly };
 
@@ -158,7 +158,7 @@ impl PredicateChange<Value> for Check {
 }
 
 impl Total<Value> for Check {
-    ghost formula_of = { λ c v. plan_formula (plan_of c) (alone (view v)) };
+    ghost formula_of = { λ c v. check_formula (tree_of_check c) (alone (view v)) };
 
     ghost always_lawful = { λ _. tt };
 

@@ -1,15 +1,15 @@
 //! The check of a rule's expression.
 ghost use Rattle.std.specs.Prelude.{◌≡◌, IfOk, IfErr, map, string_bytes, true};
-ghost use Rattle.predicates_dynamic.specs.Trees.{trees_of, Rows, Denies, nothing, also};
-ghost use Rattle.predicates_rules.specs.Trees.{test_of, Relates};
+ghost use Rattle.predicates_dynamic.specs.Trees.{trees_of, Row, Not, nothing, also};
+ghost use Rattle.predicates_rules.specs.Conditions.{condition_of, Relate};
 ghost use Rattle.predicates_rules.specs.Trees.{tree_of as read_tree, trees_of as read_trees};
 ghost use Rattle.predicates_rule_check.specs.Refusals.{IsFailure, IsPatternOf, IsPatternIn};
 ghost use Rattle.predicates_rule_check.specs.Refusals.{IsPatternAmong};
 ghost use Rattle.predicates_rule_check.specs.Queries.{query_of};
-ghost use Rattle.predicates_rule_check.specs.Checks.{plan_of};
+ghost use Rattle.predicates_rule_check.specs.Checks.{tree_of_check};
 ghost use Rattle.predicates_rule_check.specs.Nodes.{words_of_node};
-ghost use Rattle.predicates_rule_check.specs.Plans.{plan_of_tree, joins, ranges};
-ghost use Rattle.predicates_rule_check.specs.Planned.{IsPlan, ArePlans, IsQuery, IsRelation};
+ghost use Rattle.predicates_rule_check.specs.CheckTrees.{check_tree, joins, ranges};
+ghost use Rattle.predicates_rule_check.specs.Compiled.{IsTreeOf, AreTreesOf, IsQuery, IsRelation};
 
 use crate::check::{Check, Tree};
 use crate::check_error::CheckError;
@@ -20,7 +20,7 @@ use crate::question::Question;
 use crate::written::Written;
 use predicates_rules::condition::{Condition, Relation};
 use predicates_rules::denied::Denied;
-use predicates_rules::expression::{Connective, Expression, Quantifier};
+use predicates_rules::expression::{Connective, Expression, HowMany};
 use std::alloc::{AllocError, Global};
 
 // What a relation to a text asks, with its pattern read.
@@ -28,7 +28,7 @@ fn related(alloc: Global, relation: Relation, text: String) -> Result<Question, 
     ensures asked { IfOk result (λ question.
         IsRelation relation (string_bytes text) (query_of question)) }
     ensures refused { IfErr result (IsFailure (λ pattern.
-        IsPatternOf pattern (Relates relation (string_bytes text)))) }
+        IsPatternOf pattern (Relate relation (string_bytes text)))) }
 {
     match relation {
         Relation::StartsWith => Ok(Question::StartsWith(text)),
@@ -43,9 +43,9 @@ fn related(alloc: Global, relation: Relation, text: String) -> Result<Question, 
 
 // What a condition asks.
 fn question_of(alloc: Global, condition: Condition) -> Result<Question, CheckError>
-    ensures asked { IfOk result (λ question. IsQuery (test_of condition) (query_of question)) }
+    ensures asked { IfOk result (λ question. IsQuery (condition_of condition) (query_of question)) }
     ensures refused { IfErr result (IsFailure (λ pattern.
-        IsPatternOf pattern (test_of condition))) }
+        IsPatternOf pattern (condition_of condition))) }
 {
     match condition {
         Condition::Is(state) => Ok(Question::Is(state)),
@@ -70,9 +70,9 @@ fn implication(
     premise: Tree,
     conclusion: Tree,
 ) -> Result<Tree, AllocError>
-    ensures { IfOk result (λ tree. plan_of_tree tree ≡ Rows (words_of_node written) true
-        (also (Denies (words_of_node denial) (plan_of_tree premise))
-        (also (plan_of_tree conclusion) nothing))) }
+    ensures { IfOk result (λ tree. check_tree tree ≡ Row (words_of_node written) true
+        (also (Not (words_of_node denial) (check_tree premise))
+        (also (check_tree conclusion) nothing))) }
 {
     let denied = Tree::Not(denial, Box::new(alloc, premise)?);
     let mut parts = Vec::with_capacity(alloc, 2)?;
@@ -83,8 +83,8 @@ fn implication(
 
 // The parts that a connective joins.
 fn joined(written: Written, connective: Connective, parts: Vec<Tree>) -> Tree
-    ensures { plan_of_tree result ≡ joins connective (words_of_node written)
-        (trees_of (map plan_of_tree parts.items)) }
+    ensures { check_tree result ≡ joins connective (words_of_node written)
+        (trees_of (map check_tree parts.items)) }
 {
     match connective {
         Connective::Or => Tree::Row(written, true, parts),
@@ -93,20 +93,20 @@ fn joined(written: Written, connective: Connective, parts: Vec<Tree>) -> Tree
     }
 }
 
-// The check of as many elements as the quantifier wants.
+// The check of as many elements as are wanted.
 fn over_elements(
     written: Written,
-    quantifier: Quantifier,
+    quantifier: HowMany,
     elements: Elements,
     inner: Box<Tree>,
 ) -> Tree
-    ensures { plan_of_tree result ≡ ranges quantifier (words_of_node written) elements
-        (plan_of_tree inner.value) }
+    ensures { check_tree result ≡ ranges quantifier (words_of_node written) elements
+        (check_tree inner.value) }
 {
     match quantifier {
-        Quantifier::Each => Tree::Quantified(written, false, elements, inner),
-        Quantifier::Any => Tree::Quantified(written, true, elements, inner),
-        Quantifier::AtLeast(least) => {
+        HowMany::Each => Tree::Quantified(written, false, elements, inner),
+        HowMany::Any => Tree::Quantified(written, true, elements, inner),
+        HowMany::AtLeast(least) => {
             Tree::MembersAtLeast(written, least as usize, elements, inner)
         }
     }
@@ -115,7 +115,7 @@ fn over_elements(
 // The tree of a rule's expression.
 #[cycle(compile)]
 fn tree_of(alloc: Global, expression: Expression) -> Result<Tree, CheckError>
-    ensures planned { IfOk result (λ tree. IsPlan (read_tree expression) (plan_of_tree tree)) }
+    ensures compiled { IfOk result (λ tree. IsTreeOf (read_tree expression) (check_tree tree)) }
     ensures refused { IfErr result (IsFailure (λ pattern.
         IsPatternIn pattern (read_tree expression))) }
 {
@@ -161,9 +161,9 @@ fn tree_of(alloc: Global, expression: Expression) -> Result<Tree, CheckError>
 
 #[cycle(compile)]
 fn trees_of(alloc: Global, expressions: Vec<Expression>) -> Result<Vec<Tree>, CheckError>
-    ensures planned { IfOk result (λ trees. ArePlans
+    ensures compiled { IfOk result (λ trees. AreTreesOf
         (read_trees (map read_tree expressions.items))
-        (trees_of (map plan_of_tree trees.items))) }
+        (trees_of (map check_tree trees.items))) }
     ensures refused { IfErr result (IsFailure (λ pattern.
         IsPatternAmong pattern (read_trees (map read_tree expressions.items)))) }
 {
@@ -186,7 +186,8 @@ fn trees_of(alloc: Global, expressions: Vec<Expression>) -> Result<Vec<Tree>, Ch
 /// assert!(rt; check.text() == "/age >= 18");
 /// ```
 pub fn check_of(alloc: Global, expression: Expression) -> Result<Check, CheckError>
-    ensures planned { IfOk result (λ check. IsPlan (read_tree expression) (plan_of check)) }
+    ensures compiled { IfOk result (λ check.
+        IsTreeOf (read_tree expression) (tree_of_check check)) }
     // It is refused where memory is, or a pattern that stands in it.
     ensures refused { IfErr result (IsFailure (λ pattern.
         IsPatternIn pattern (read_tree expression))) }

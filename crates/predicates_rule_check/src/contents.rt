@@ -4,9 +4,8 @@ ghost use Rattle.std.specs.Str.{chars};
 ghost use Rattle.serde_json.specs.Find.{as_integer, as_number};
 ghost use Rattle.serde_json.specs.View.{view, items_view, members_view};
 ghost use Rattle.predicates_rule_check.specs.Queries.{no_item_there, no_member_there};
-ghost use Rattle.predicates_rule_check.specs.Queries.{empty_verdict};
-ghost use Rattle.predicates_rule_check.specs.Queries.{number_of_items, number_of_members};
-ghost use Rattle.predicates_rule_check.specs.Queries.{length_of, is_of_kind};
+ghost use Rattle.predicates_rule_check.specs.Queries.{empty_verdict, number_of_items};
+ghost use Rattle.predicates_rule_check.specs.Queries.{number_of_members, length_of, is_of_kind};
 
 use predicates_rules::condition::ValueKind;
 use serde_json::{Map, Value};

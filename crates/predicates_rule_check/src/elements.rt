@@ -1,12 +1,9 @@
 //! The members of what stands at a path.
-ghost use Rattle.std.specs.Prelude.{◌≡◌, ◌∷◌, [], None, Some, IfOk, false, map, option_map};
-ghost use Rattle.predicates_core.specs.Leaves.{IsExactly};
-ghost use Rattle.predicates_core.specs.Shows.{IsCaseOf};
-ghost use Rattle.predicates_dynamic.specs.Viewed.{no_list};
+ghost use Rattle.std.specs.Prelude.{◌≡◌, Some, IfOk, map, option_map};
 ghost use Rattle.serde_json.specs.View.{view, items_view, members_view};
 ghost use Rattle.predicates_rule_check.specs.Lists.{places_at, places_of, values_of};
 ghost use Rattle.predicates_rule_check.specs.Nodes.{path_of_view};
-ghost use Rattle.predicates_rule_check.specs.Plans.{absence_at, absence_of_data};
+ghost use Rattle.predicates_rule_check.specs.CheckTrees.{absence_at};
 ghost use Rattle.predicates_rule_check.specs.Scopes.{place_of};
 ghost use Rattle.predicates_rule_check.specs.ViewLaws.{elements_given};
 
@@ -37,7 +34,8 @@ impl fmt::Display for Elements {
 impl<'v> View<Scope<'v>> for Elements {
     type Kept = Vec<Scope<'v>>;
 
-    ghost gives = { λ e s o. option_map (map place_of) o ≡ places_at (path_of_view e) (place_of s) };
+    ghost gives = { λ e s o. option_map (map place_of) o
+        ≡ places_at (path_of_view e) (place_of s) };
 
     ghost given = { λ e s. elements_given e s };
 

@@ -14,11 +14,11 @@ ghost use Rattle.serde_json.specs.Written.{compact_text};
 ghost use Rattle.predicates_rules.specs.Printing.{path_text};
 ghost use Rattle.predicates_rule_check.specs.Scopes.{place_of, stands};
 ghost use Rattle.predicates_dynamic.specs.Viewed.{no_list};
-ghost use Rattle.predicates_rule_check.specs.Plans.{found_text, nothing_leaf, found_leaf};
-ghost use Rattle.predicates_rule_check.specs.Plans.{absence_of_data};
+ghost use Rattle.predicates_rule_check.specs.CheckTrees.{found_text, nothing_leaf, found_leaf};
+ghost use Rattle.predicates_rule_check.specs.CheckTrees.{absence_of_data};
 ghost use Rattle.predicates_rule_check.specs.Keys.{other_key};
-ghost use Rattle.predicates_rule_check.specs.Plans.{ShowsBeside, other_product, length_product};
-ghost use Rattle.predicates_rule_check.specs.Plans.{key_product};
+ghost use Rattle.predicates_rule_check.specs.CheckTrees.{ShowsBeside, other_product};
+ghost use Rattle.predicates_rule_check.specs.CheckTrees.{length_product, key_product};
 ghost use Rattle.predicates_rule_check.specs.Queries.{apart_text, length_of, nothing_text};
 
 use crate::contents::length;

@@ -13,8 +13,8 @@ use crate::rule_check::RuleCheck;
 use std::alloc::{AllocError, Global};
 
 /// The matchers of a run over rules: one for each of their patterns that it has asked about so far.
-/// Patterns of one source share theirs. A pattern of another rule is asked by a matcher that is made
-/// for that call.
+/// Patterns of one source share theirs. A pattern of another rule is asked by a matcher that is
+/// made for that call.
 #[derive(Drop)]
 pub struct Matchers<'r> {
     rules: &'r [RuleCheck],

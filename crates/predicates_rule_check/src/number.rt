@@ -1,12 +1,12 @@
 //! The order of JSON's numbers by their values.
 ghost use Rattle.std.specs.Prelude.{◌≡◌, Some, false, pos, refl};
-ghost use Rattle.std.specs.Cmp.{eq_by_cmp_equiv};
-ghost use Rattle.std.specs.Cmp.{partial_equiv_from_equiv, partial_order_from_total};
+ghost use Rattle.std.specs.Cmp.{eq_by_cmp_equiv, partial_equiv_from_equiv};
+ghost use Rattle.std.specs.Cmp.{partial_order_from_total};
 ghost use Rattle.std.specs.Float.{fin};
 ghost use Rattle.std.specs.Ordering.{int_cmp, is_eq, nan_last_cmp};
 ghost use Rattle.serde_json.specs.View.{number_view};
-ghost use Rattle.predicates_rule_check.specs.Numbers.{exact_cmp, exact_cmp_total};
-ghost use Rattle.predicates_rule_check.specs.Numbers.{num_of_exact, number_cmp, whole};
+ghost use Rattle.predicates_rule_check.specs.Numbers.{exact_cmp, exact_cmp_total, num_of_exact};
+ghost use Rattle.predicates_rule_check.specs.Numbers.{number_cmp, whole};
 
 use serde_json::Number;
 use std::cmp::{OrderedFloat, Ordering};

@@ -3,7 +3,7 @@ ghost use Rattle.std.specs.Prelude.{◌≡◌, ◌∷◌, [], Some, map, option_
 ghost use Rattle.serde_json.specs.Data.{null, number};
 ghost use Rattle.serde_json.specs.View.{view};
 ghost use Rattle.predicates_rules.specs.Lexemes.{data_of};
-ghost use Rattle.predicates_rules.specs.Trees.{value_of};
+ghost use Rattle.predicates_rules.specs.Literals.{literal_of};
 ghost use Rattle.predicates_rule_check.specs.Numbers.{num_of_exact};
 ghost use Rattle.predicates_rule_check.specs.Scopes.{place_of, stands};
 ghost use Rattle.predicates_rule_check.specs.Queries.{order, holds_in, is_among};
@@ -34,7 +34,7 @@ fn order_to_null(value: &Value) -> Ordering
 
 /// How the value stands to the literal, where it is of its kind.
 pub(crate) fn order_to_literal(value: &Value, literal: &Literal) -> Option<Ordering>
-    ensures { result ≡ order (view value.now) (data_of (value_of literal.now)) }
+    ensures { result ≡ order (view value.now) (data_of (literal_of literal.now)) }
 {
     match literal {
         Literal::Natural(n) => order_to_number(value, Exact::Natural(*n)),
@@ -83,14 +83,14 @@ pub(crate) fn is_in(comparison: Comparison, order: Ordering) -> bool
 }
 
 fn equals(value: &Value, literal: &Literal) -> bool
-    ensures { result ≡ is_among (value_of literal.now ∷ []) (view value.now) }
+    ensures { result ≡ is_among (literal_of literal.now ∷ []) (view value.now) }
 {
     order_to_literal(value, literal) == Some(Ordering::Equal)
 }
 
 /// Whether it equals one of the literals.
 pub(crate) fn is_one_of(value: &Value, literals: &[Literal]) -> bool
-    ensures { result ≡ is_among (map value_of literals.now) (view value.now) }
+    ensures { result ≡ is_among (map literal_of literals.now) (view value.now) }
 {
     for literal in literals {
         if equals(value, literal) {

@@ -11,9 +11,10 @@ ghost use Rattle.predicates_core.specs.Change.{IsFoundChange};
 ghost use Rattle.predicates_rule_check.specs.Patterns.{regex_of};
 ghost use Rattle.predicates_rule_check.specs.Scopes.{place_of};
 ghost use Rattle.predicates_rule_check.specs.Queries.{verdict};
-ghost use Rattle.predicates_rule_check.specs.PlanLaws.{test_text_fits};
-ghost use Rattle.predicates_rule_check.specs.Plans.{test_formula, absent_formula, leaf_of_verdict};
-ghost use Rattle.predicates_rule_check.specs.Plans.{found_leaf, misfit_leaf, shown_beside};
+ghost use Rattle.predicates_rule_check.specs.CheckLaws.{test_text_fits};
+ghost use Rattle.predicates_rule_check.specs.CheckTrees.{test_formula, absent_formula};
+ghost use Rattle.predicates_rule_check.specs.CheckTrees.{leaf_of_verdict, found_leaf, misfit_leaf};
+ghost use Rattle.predicates_rule_check.specs.CheckTrees.{shown_beside};
 ghost use Rattle.predicates_rule_check.specs.Queries.{nothing_verdict, misfit_text};
 ghost use Rattle.predicates_rule_check.specs.Nodes.{text_of_test, path_of_test, query_of_test};
 

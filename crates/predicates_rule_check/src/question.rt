@@ -5,10 +5,10 @@ ghost use Rattle.serde_json.specs.View.{view};
 ghost use Rattle.regex.specs.Strings.{regex_source};
 ghost use Rattle.predicates_rule_check.specs.Patterns.{regex_of};
 ghost use Rattle.predicates_rule_check.specs.Scopes.{place_of};
-ghost use Rattle.predicates_rule_check.specs.Plans.{ShowsBeside, shown_beside};
+ghost use Rattle.predicates_rule_check.specs.CheckTrees.{ShowsBeside, shown_beside};
 ghost use Rattle.predicates_rule_check.specs.Queries.{query_of, verdict, text_fits, length_of};
-ghost use Rattle.predicates_rule_check.specs.Queries.{holds_in};
-ghost use Rattle.predicates_rule_check.specs.Queries.{nothing_verdict, is_of_presence, misfit_text};
+ghost use Rattle.predicates_rule_check.specs.Queries.{holds_in, nothing_verdict, is_of_presence};
+ghost use Rattle.predicates_rule_check.specs.Queries.{misfit_text};
 
 use crate::contents::{emptiness, is_of, length};
 use crate::keys::has_only;
@@ -60,8 +60,8 @@ fn compares_in_length(value: &Value, comparison: Comparison, number: u64) -> Opt
 }
 
 impl Question {
-    // Whether the value, which stands at the test's path, answers it, or none where it can't. It takes
-    // memory for a regular expression alone.
+    // Whether the value, which stands at the test's path, answers it, or none where it can't. It
+    // takes memory for a regular expression alone.
     pub(crate) fn verdict(
         &self,
         alloc: Global,

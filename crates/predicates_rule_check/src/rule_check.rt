@@ -1,14 +1,14 @@
 //! A rule that a record keeps or breaks.
-ghost use Rattle.std.specs.Prelude.{◌≡◌, ◌∷◌, refl, [], Some, IfOk, codes};
+ghost use Rattle.std.specs.Prelude.{◌∷◌, refl, [], Some, IfOk, codes};
 ghost use Rattle.predicates_core.specs.Tree.{empty};
 ghost use Rattle.predicates_core.specs.Formula.{HasTruth};
 ghost use Rattle.predicates_core.specs.Leaves.{IsExactly};
 ghost use Rattle.predicates_core.specs.LeafLaws.{one_exactly};
 ghost use Rattle.predicates_core.specs.Shows.{IsNode};
 ghost use Rattle.serde_json.specs.View.{view};
-ghost use Rattle.predicates_rule_check.specs.RuleChecks.{rule_formula, name_of, plan_of_rule};
+ghost use Rattle.predicates_rule_check.specs.RuleChecks.{rule_formula, name_of, tree_of_rule};
 ghost use Rattle.predicates_rule_check.specs.Scopes.{alone};
-ghost use Rattle.predicates_rule_check.specs.PlanLaws.{rule_text_fits};
+ghost use Rattle.predicates_rule_check.specs.CheckLaws.{rule_text_fits};
 
 use crate::check::Check;
 use crate::matchers::Matchers;
@@ -71,7 +71,7 @@ impl RuleCheck {
         item: &Value,
     ) -> Result<bool, AllocError>
         ensures { IfOk result (HasTruth (IsExactly
-            (rule_formula (name_of self.now) (plan_of_rule self.now) (alone (view item.now))))) }
+            (rule_formula (name_of self.now) (tree_of_rule self.now) (alone (view item.now))))) }
     {
         let holds = self.check.holds(alloc, matchers, item)?;
         Ok(holds)
@@ -89,11 +89,12 @@ impl RuleCheck {
 }
 
 impl Predicate<Value> for RuleCheck {
-    ghost formula = { λ r v. IsExactly (rule_formula (name_of r) (plan_of_rule r) (alone (view v))) };
+    ghost formula = { λ r v.
+        IsExactly (rule_formula (name_of r) (tree_of_rule r) (alone (view v))) };
 
     ghost infallible = { λ _ _. ⊥ };
 
-    ghost text_fits = { λ r v f. rule_text_fits (name_of r) (plan_of_rule r) (alone (view v)) };
+    ghost text_fits = { λ r v f. rule_text_fits (name_of r) (tree_of_rule r) (alone (view v)) };
 
     ghost one_formula = { λ r v f g lawful. one_exactly };
 
@@ -142,7 +143,7 @@ impl PredicateChange<Value> for RuleCheck {
 }
 
 impl Total<Value> for RuleCheck {
-    ghost formula_of = { λ r v. rule_formula (name_of r) (plan_of_rule r) (alone (view v)) };
+    ghost formula_of = { λ r v. rule_formula (name_of r) (tree_of_rule r) (alone (view v)) };
 
     ghost always_lawful = { λ _. tt };
 

@@ -3,36 +3,40 @@ use Rattle.std.proofs.Common.{◌≡◌, ℕ, zero, suc, ◌≤◌, List, [], �
 use Rattle.predicates_rules.specs.declared.expression.Connective.{Connective}
 use Rattle.predicates_rules.specs.declared.parser.Separator.{Separator}
 use Rattle.predicates_rules.specs.declared.parser.Separator.TheVariants as separators
-use Rattle.predicates_rules.specs.Trees.{Value, Text, Sign, Then, Close, Path, Test, IsAmong, HasKeysAmong, Tree, At, Implies, AtLeast, Trees, none, more}
-use Rattle.predicates_rules.specs.Grammar.{Level, Whole, Premise, tighter, separator_sign, part_level, Items, last, another, IsTest, word, compare, compare_with, has_length, of_kind, of_null, relate, among_none, among, each, any, at_least_items, Spells, test, keys, denied, group, quantified, at_least, alone, joined, no_if, implied, premise, Follow, no_more, and_more, IsSpelled}
-use Rattle.predicates_rules.specs.Reading.{Answer, items_at, list_at, after_bracket, text_at, compared_at, comparison_at, length_at, kind_at, test_at, after_in, texts_at, text_list_at, keys_at, path_at, after_open, after_close, after_then, after_least, count_at, after_separator, with_next, parts_at, join, chain, listed, counted, threshold, single, implication, whole, at_level, below, ended, all_of}
+use Rattle.predicates_rules.specs.Literals.{Literal, Text}
+use Rattle.predicates_rules.specs.Signs as signs
+use Rattle.predicates_rules.specs.Signs.{Sign}
+use Rattle.predicates_rules.specs.Conditions.{Condition, In, KeysIn}
+use Rattle.predicates_rules.specs.Trees.{Tree, Test, Implies, AtLeast, Trees, none, more}
+use Rattle.predicates_rules.specs.Grammar.{Level, Whole, Premise, tighter, separator_sign, part_level, Items, last, another, IsCondition, word, compare, compare_with, has_length, of_kind, of_null, relate, among_none, among, each, any, at_least_items, Spells, test, keys, denied, group, quantified, at_least, alone, joined, no_if, implied, premise, Follow, no_more, and_more, IsSpelled}
+use Rattle.predicates_rules.specs.Reading.{Answer, items_at, list_at, after_bracket, text_at, compared_at, comparison_at, length_at, kind_at, condition_at, after_in, texts_at, text_list_at, keys_at, path_at, after_open, after_close, after_then, after_least, count_at, after_separator, parts_at, join, chain, listed, counted, threshold, single, implication, whole, at_level, below, ended, all_of}
 use Rattle.predicates_rules.specs.Reading as reading
 use Rattle.predicates_rules.proofs.Lengths.{spells_shortens}
 use Rattle.predicates_rules.proofs.Steps.{level_step, whole_step, join_begins, Stops, stops_at_close, stops_at_then, stops_at_end, Ends, ends_here, ends_inside, stops_at_separator, row_ends_at_close, separator_found}
 
-items_again : {ts : List Sign} {vs : List Value} {rest : List Sign} → Items ts vs rest → items_at ts ≡ Ok (vs, rest)
+items_again : {ts : List Sign} {vs : List Literal} {rest : List Sign} → Items ts vs rest → items_at ts ≡ Ok (vs, rest)
 unfolding items_at
 items_again last = refl
 items_again (another i) = rw (items_again i) refl
 
-list_again : {ts : List Sign} {vs : List Value} {rest : List Sign} → Items ts vs rest → list_at ts ≡ Ok (vs, rest)
+list_again : {ts : List Sign} {vs : List Literal} {rest : List Sign} → Items ts vs rest → list_at ts ≡ Ok (vs, rest)
 unfolding list_at
 list_again last = items_again last
 list_again (another i) = items_again (another i)
 
-test_again : {ts : List Sign} {t : Test} {rest : List Sign} → IsTest ts t rest → test_at ts ≡ Ok (t, rest)
-unfolding test_at compared_at comparison_at count_at length_at kind_at text_at after_bracket list_at
-test_again word = refl
-test_again compare = refl
-test_again compare_with = refl
-test_again has_length = refl
-test_again of_kind = refl
-test_again of_null = refl
-test_again relate = refl
-test_again among_none = refl
-test_again (among i) = rw (list_again i) refl
+condition_again : {ts : List Sign} {t : Condition} {rest : List Sign} → IsCondition ts t rest → condition_at ts ≡ Ok (t, rest)
+unfolding condition_at compared_at comparison_at count_at length_at kind_at text_at after_bracket list_at
+condition_again word = refl
+condition_again compare = refl
+condition_again compare_with = refl
+condition_again has_length = refl
+condition_again of_kind = refl
+condition_again of_null = refl
+condition_again relate = refl
+condition_again among_none = refl
+condition_again (among i) = rw (list_again i) refl
 
-some_items : {ts : List Sign} {vs : List Value} {rest : List Sign} → Items ts vs rest → vs ≡ [] → ⊥
+some_items : {ts : List Sign} {vs : List Literal} {rest : List Sign} → Items ts vs rest → vs ≡ [] → ⊥
 some_items last e = cc
 some_items (another i) e = cc
 
@@ -53,7 +57,7 @@ text_list_again (text ∷ []) last = texts_again (text ∷ []) last
 text_list_again (text ∷ []) (another i) = no_items i
 text_list_again (text ∷ other ∷ texts) (another i) = texts_again (text ∷ other ∷ texts) (another i)
 
-keys_again : (path : List ℕ) {ts : List Sign} (texts : List (List ℕ)) {rest : List Sign} → IsTest ts (IsAmong (map Text texts)) rest → keys_at (Path path ∷ ts) ≡ Ok (At path (HasKeysAmong texts), rest)
+keys_again : (path : List ℕ) {ts : List Sign} (texts : List (List ℕ)) {rest : List Sign} → IsCondition ts (In (map Text texts)) rest → keys_at (signs.Path path ∷ ts) ≡ Ok (Test path (KeysIn texts), rest)
 unfolding keys_at path_at after_in after_bracket text_list_at
 keys_again path [] among_none = refl
 keys_again path [] (among i) = no_items i
@@ -64,12 +68,12 @@ parts_join : (c : Connective) (part : List Sign → Answer) (ts us rest : List S
 unfolding chain
 parts_join c part ts us rest e es p q = rw (p, q) refl
 
-parts_listed : (deeper : Level → List Sign → Answer) (k : ℕ) (ts us rest : List Sign) (e : Tree) (es : Trees) → deeper Whole ts ≡ Ok (e, us) → parts_at (length us) separators.Comma (deeper Whole) us ≡ Ok (es, Close ∷ rest)
+parts_listed : (deeper : Level → List Sign → Answer) (k : ℕ) (ts us rest : List Sign) (e : Tree) (es : Trees) → deeper Whole ts ≡ Ok (e, us) → parts_at (length us) separators.Comma (deeper Whole) us ≡ Ok (es, signs.Close ∷ rest)
     → listed deeper k ts ≡ Ok (AtLeast k (more e es), rest)
 unfolding listed after_close
 parts_listed deeper k ts us rest e es p q = rw (p, q) refl
 
-implied_again : (deeper : Level → List Sign → Answer) (ts us rest : List Sign) (a b : Tree) → deeper Premise ts ≡ Ok (a, Then ∷ us) → deeper Whole us ≡ Ok (b, rest) → implication deeper ts ≡ Ok (Implies a b, rest)
+implied_again : (deeper : Level → List Sign → Answer) (ts us rest : List Sign) (a b : Tree) → deeper Premise ts ≡ Ok (a, signs.Then ∷ us) → deeper Whole us ≡ Ok (b, rest) → implication deeper ts ≡ Ok (Implies a b, rest)
 unfolding implication after_then
 implied_again deeper ts us rest a b p q = rw (p, q) refl
 
@@ -91,7 +95,7 @@ mutual
   unfolding at_level whole single threshold counted count_at after_least reading.group reading.quantified path_at after_open after_close below
 
   pub spells_again : {n : ℕ} {l : Level} {ts : List Sign} {e : Tree} {rest : List Sign} → Spells n l ts e rest → Stops l rest → at_level (below n) l ts ≡ Ok (e, rest)
-  spells_again (test t) s = rw (test_again t) refl
+  spells_again (test t) s = rw (condition_again t) refl
   spells_again (keys {path = path} {texts = texts} t) s = keys_again path texts t
   spells_again (denied d) s = rw (spells_again d tt) refl
   spells_again (group {rest = rest} d) s = rw (spells_again d (stops_at_close Whole rest)) refl

@@ -129,11 +129,11 @@ past_hex a b c d xs h u = past_ascii d xs (digit_small d h.fourth) (past_ascii c
 
 by_unit : (a b c d : ℕ) (made : ℕ → Option (List ℕ)) → (AreHex a b c d → (u : ℕ) → u < 65536 → IsText (made u)) → IsText (option_and_then made (code_unit a b c d))
 unfolding code_unit
-by_unit a b c d made k = by_test (is_digit a 16 && is_digit b 16 && is_digit c 16 && is_digit d 16) refl
+by_unit a b c d made k = by_condition (is_digit a 16 && is_digit b 16 && is_digit c 16 && is_digit d 16) refl
   where
-    by_test : (t : Bool) → (is_digit a 16 && is_digit b 16 && is_digit c 16 && is_digit d 16) ≡ t → IsText (option_and_then made (cond t (Some (digit_value a * 4096 + digit_value b * 256 + digit_value c * 16 + digit_value d)) None))
-    by_test true e = let h = are_hex a b c d e in k h (digit_value a * 4096 + digit_value b * 256 + digit_value c * 16 + digit_value d) (hex_fits a b c d h)
-    by_test false e = tt
+    by_condition : (t : Bool) → (is_digit a 16 && is_digit b 16 && is_digit c 16 && is_digit d 16) ≡ t → IsText (option_and_then made (cond t (Some (digit_value a * 4096 + digit_value b * 256 + digit_value c * 16 + digit_value d)) None))
+    by_condition true e = let h = are_hex a b c d e in k h (digit_value a * 4096 + digit_value b * 256 + digit_value c * 16 + digit_value d) (hex_fits a b c d h)
+    by_condition false e = tt
 
 scalar_unit : (u : ℕ) → u < 65536 → is_high_surrogate u ≡ false → is_low_surrogate u ≡ false → scalar u ≡ true
 scalar_unit u fits high low = grind (arith, nat_tests)

@@ -93,11 +93,11 @@ by_names true m o e = absurd cc
 by_names false m o e = (refl, e)
 
 first_named : (name : List ℕ) (x : Placed) (rs : List Placed) → number_named name (x ∷ rs) ≡ cond (bytes_eq x.1.0 name) (Some x.0) (number_named name rs)
-first_named name x rs = by_test (bytes_eq x.1.0 name) refl
+first_named name x rs = by_condition (bytes_eq x.1.0 name) refl
   where
-    by_test : (b : Bool) → bytes_eq x.1.0 name ≡ b → number_named name (x ∷ rs) ≡ cond b (Some x.0) (number_named name rs)
-    by_test true e = rw e refl
-    by_test false e = rw e refl
+    by_condition : (b : Bool) → bytes_eq x.1.0 name ≡ b → number_named name (x ∷ rs) ≡ cond b (Some x.0) (number_named name rs)
+    by_condition true e = rw e refl
+    by_condition false e = rw e refl
 
 none_named : (name : List ℕ) (rs : List Placed) → number_named name rs ≡ None → NoneNamed name (bare rs)
 none_named name [] e = tt
@@ -119,11 +119,11 @@ none_inside name (q ∷ rs) us r h = none_inside name rs us r h.1
 
 named_again : (rs : List Placed) (r : List ℕ × Tree) (us : List (List ℕ × Tree)) (first : ℕ) → number_named r.0 rs ≡ Some first → AreApart (bare rs ++ r ∷ us) → ⊥
 named_again [] r us first e a = cc
-named_again (x ∷ rs) r us first e a = by_test (bytes_eq x.1.0 r.0) refl (λ h. named_again rs r us first h a.1)
+named_again (x ∷ rs) r us first e a = by_condition (bytes_eq x.1.0 r.0) refl (λ h. named_again rs r us first h a.1)
   where
-    by_test : (b : Bool) → bytes_eq x.1.0 r.0 ≡ b → (number_named r.0 rs ≡ Some first → ⊥) → ⊥
-    by_test true same k = none_inside x.1.0 (bare rs) us r a.0 ((bytes_eq-Decides x.1.0 r.0).0 same)
-    by_test false other k = k (ap (λ (b : Bool). cond b (Some x.0) (number_named r.0 rs)) (sym other) ∙ sym (first_named r.0 x rs) ∙ e)
+    by_condition : (b : Bool) → bytes_eq x.1.0 r.0 ≡ b → (number_named r.0 rs ≡ Some first → ⊥) → ⊥
+    by_condition true same k = none_inside x.1.0 (bare rs) us r a.0 ((bytes_eq-Decides x.1.0 r.0).0 same)
+    by_condition false other k = k (ap (λ (b : Bool). cond b (Some x.0) (number_named r.0 rs)) (sym other) ∙ sym (first_named r.0 x rs) ∙ e)
 
 -- ---- lines up to a fault
 
@@ -278,11 +278,11 @@ module _ (number : ℕ) (line : List ℕ) (before : Findings) where
 
 pub number_found : (name : List ℕ) (rs : List Numbered) → option_map (λ (n : Numbered). n.line) (find (λ n. bytes_eq (string_bytes n.rule.name) name) rs) ≡ number_named name (map numbered_of rs)
 number_found name [] = refl
-number_found name (x ∷ rs) = by_test (bytes_eq (string_bytes x.rule.name) name) refl (number_found name rs)
+number_found name (x ∷ rs) = by_condition (bytes_eq (string_bytes x.rule.name) name) refl (number_found name rs)
   where
-    by_test : (b : Bool) → bytes_eq (string_bytes x.rule.name) name ≡ b → option_map (λ (n : Numbered). n.line) (find (λ n. bytes_eq (string_bytes n.rule.name) name) rs) ≡ number_named name (map numbered_of rs) → option_map (λ (n : Numbered). n.line) (find (λ n. bytes_eq (string_bytes n.rule.name) name) (x ∷ rs)) ≡ number_named name (map numbered_of (x ∷ rs))
-    by_test true e h = rw e refl
-    by_test false e h = rw e h
+    by_condition : (b : Bool) → bytes_eq (string_bytes x.rule.name) name ≡ b → option_map (λ (n : Numbered). n.line) (find (λ n. bytes_eq (string_bytes n.rule.name) name) rs) ≡ number_named name (map numbered_of rs) → option_map (λ (n : Numbered). n.line) (find (λ n. bytes_eq (string_bytes n.rule.name) name) (x ∷ rs)) ≡ number_named name (map numbered_of (x ∷ rs))
+    by_condition true e h = rw e refl
+    by_condition false e h = rw e h
 
 pub line_found : (name : List ℕ) (rs : List Numbered) (o : Option (Bor Numbered)) → option_map (λ (x : Bor Numbered). x.now) o ≡ find (λ n. bytes_eq (string_bytes n.rule.name) name) rs → option_map (λ (x : Bor Numbered). x.now.line) o ≡ number_named name (map numbered_of rs)
 line_found name rs None e = ap (option_map (λ (n : Numbered). n.line)) e ∙ number_found name rs

@@ -11,9 +11,10 @@ use Rattle.std.proofs.lemmas.List.Concat.{flat_map-append}
 use Rattle.predicates_rules.specs.declared.expression.Expression.{Expression}
 use Rattle.predicates_rules.specs.declared.literal.Literal.{Literal}
 use Rattle.predicates_rules.specs.declared.parser.Separator.{Separator}
-use Rattle.predicates_rules.specs.Trees.{Text, Tree, value_of, trees_of, tree_of}
+use Rattle.predicates_rules.specs.Literals.{Text, literal_of}
+use Rattle.predicates_rules.specs.Trees.{Tree, trees_of, tree_of}
 use Rattle.predicates_rules.specs.Grammar.{part_level}
-use Rattle.predicates_rules.specs.Printing.{has_parts, value_text}
+use Rattle.predicates_rules.specs.Printing.{has_parts, literal_text}
 use Rattle.predicates_rules.specs.Writing.{separator_text, tree_text, row_text, rest_text, part_text}
 
 module _ {W : Type 0} (took : W → List ℕ → W → Type 0) where
@@ -34,17 +35,17 @@ module _ {W : Type 0} (took : W → List ℕ → W → Type 0) where
 
 -- a literal behind a comma
 abbrev pub further_text : Literal → List ℕ
-further_text v = codes ", " ++ value_text (value_of v)
+further_text v = codes ", " ++ literal_text (literal_of v)
 
-pub further_is : (vs : List Literal) → flat_map (λ v. codes ", " ++ value_text v) (map value_of vs) ≡ flat_map further_text vs
+pub further_is : (vs : List Literal) → flat_map (λ v. codes ", " ++ literal_text v) (map literal_of vs) ≡ flat_map further_text vs
 further_is [] = refl
 further_is (v ∷ vs) = ap (λ (w : List ℕ). further_text v ++ w) (further_is vs)
 
 -- a text behind a comma
 abbrev pub further_string : String Global → List ℕ
-further_string s = codes ", " ++ value_text (Text (string_bytes s))
+further_string s = codes ", " ++ literal_text (Text (string_bytes s))
 
-pub further_strings : (ss : List (String Global)) → flat_map (λ v. codes ", " ++ value_text v) (map Text (map string_bytes ss)) ≡ flat_map further_string ss
+pub further_strings : (ss : List (String Global)) → flat_map (λ v. codes ", " ++ literal_text v) (map Text (map string_bytes ss)) ≡ flat_map further_string ss
 further_strings [] = refl
 further_strings (s ∷ ss) = ap (λ (w : List ℕ). further_string s ++ w) (further_strings ss)
 

@@ -4,8 +4,8 @@ use Rattle.std.proofs.Common.{◌≡◌, ℕ, zero, suc, ◌+◌, List, [], ◌�
 use Rattle.std.specs.Prelude.{IfErr}
 use Rattle.predicates_rules.specs.declared.expression.Connective.{Connective}
 use Rattle.predicates_rules.specs.declared.expression.Connective.TheVariants.{Or, Xor, And}
-use Rattle.predicates_rules.specs.declared.expression.Quantifier.{Quantifier}
-use Rattle.predicates_rules.specs.declared.expression.Quantifier.TheVariants as quantifiers
+use Rattle.predicates_rules.specs.declared.expression.HowMany.{HowMany}
+use Rattle.predicates_rules.specs.declared.expression.HowMany.TheVariants as quantifiers
 use Rattle.predicates_rules.specs.declared.parser.Separator.{Separator}
 use Rattle.predicates_rules.specs.declared.parser.Separator.TheVariants as separators
 use Rattle.predicates_rules.specs.declared.error.Expected.TheVariants as expected
@@ -14,10 +14,13 @@ use Rattle.predicates_rules.specs.declared.stop.Stop.{Stop}
 use Rattle.predicates_rules.specs.declared.stop.ReadError.{ReadError}
 use Rattle.predicates_rules.specs.declared.stop.ReadError.TheVariants as errors
 use Rattle.predicates_rules.specs.declared.expression.Expression.{Expression}
-use Rattle.predicates_rules.specs.Trees.{tree_of, Sign, Not, If, Each, Any, AtWord, Keys, Of, Open, Path, Tree, At, Denied, Implies, Quantified, AtLeast, Trees, more}
+use Rattle.predicates_rules.specs.Signs as signs
+use Rattle.predicates_rules.specs.Signs.{Sign}
+use Rattle.predicates_rules.specs.Trees.{tree_of, Tree, Test, Not, Implies, Quantified, AtLeast}
+use Rattle.predicates_rules.specs.Trees.{Trees, more}
 use Rattle.predicates_rules.specs.Grammar.{Level, By, Single, Whole, Premise, IsSpelled}
 use Rattle.predicates_rules.specs.Answers.{◌>>=◌, Gives, IsSyntax}
-use Rattle.predicates_rules.specs.Reading.{Answer, test_at, keys_at, path_at, after_open, after_close, after_then, after_least, count_at, after_separator, with_next, parts_at, join, chain, listed, counted, threshold, single, loosest, implication, whole, at_level, below, ended, all_of}
+use Rattle.predicates_rules.specs.Reading.{Answer, condition_at, keys_at, path_at, after_open, after_close, after_then, after_least, count_at, after_separator, with_next, parts_at, join, chain, listed, counted, threshold, single, loosest, implication, whole, at_level, below, ended, all_of}
 use Rattle.predicates_rules.specs.Reading as reading
 use Rattle.predicates_rules.proofs.Loop.{ok_is}
 use Rattle.predicates_rules.proofs.Complete.{spelled_again}
@@ -64,7 +67,7 @@ module _ (d e : Level → List Sign → Answer) (h : (l : Level) (ts : List Sign
   group_persists ts = persists_then (d Whole ts) (e Whole ts) (λ y. after_close expected.Close y.1 >>= λ rest. Ok (y.0, rest)) (λ y. after_close expected.Close y.1 >>= λ rest. Ok (y.0, rest)) (h Whole ts)
       (λ y. persists_same (after_close expected.Close y.1 >>= λ rest. Ok (y.0, rest)))
 
-  quantified_persists : (q : Quantifier) (ts : List Sign) → Persists (reading.quantified d q ts) (reading.quantified e q ts)
+  quantified_persists : (q : HowMany) (ts : List Sign) → Persists (reading.quantified d q ts) (reading.quantified e q ts)
   unfolding reading.quantified
   quantified_persists q ts =
       persists_then (path_at ts) (path_at ts) (λ p. after_open p.1 >>= λ us. reading.group d us >>= λ y. Ok (Quantified q p.0 y.0, y.1)) (λ p. after_open p.1 >>= λ us. reading.group e us >>= λ y. Ok (Quantified q p.0 y.0, y.1)) (persists_same (path_at ts))
@@ -77,8 +80,8 @@ module _ (d e : Level → List Sign → Answer) (h : (l : Level) (ts : List Sign
 
   counted_persists : (k : ℕ) (ts : List Sign) → Persists (counted d k ts) (counted e k ts)
   unfolding counted
-  counted_persists k (Of ∷ ts) = persists_then (after_open ts) (after_open ts) (listed d k) (listed e k) (persists_same (after_open ts)) (listed_persists k)
-  counted_persists k (Path path ∷ ts) = quantified_persists (quantifiers.AtLeast k) (Path path ∷ ts)
+  counted_persists k (signs.Of ∷ ts) = persists_then (after_open ts) (after_open ts) (listed d k) (listed e k) (persists_same (after_open ts)) (listed_persists k)
+  counted_persists k (signs.Path path ∷ ts) = quantified_persists (quantifiers.AtLeast k) (signs.Path path ∷ ts)
   counted_persists k [] = inr refl
   counted_persists k (t ∷ ts) = inr refl
 
@@ -90,13 +93,13 @@ module _ (d e : Level → List Sign → Answer) (h : (l : Level) (ts : List Sign
 
   single_persists : (ts : List Sign) → Persists (single d ts) (single e ts)
   unfolding single
-  single_persists (Not ∷ ts) = persists_then (d Single ts) (e Single ts) (λ y. Ok (Denied y.0, y.1)) (λ y. Ok (Denied y.0, y.1)) (h Single ts) (λ y. refl)
-  single_persists (Open ∷ ts) = group_persists ts
-  single_persists (Each ∷ ts) = quantified_persists quantifiers.Each ts
-  single_persists (Any ∷ ts) = quantified_persists quantifiers.Any ts
-  single_persists (AtWord ∷ ts) = threshold_persists ts
-  single_persists (Keys ∷ ts) = persists_same (keys_at ts)
-  single_persists (Path path ∷ ts) = persists_same (test_at ts >>= λ x. Ok (At path x.0, x.1))
+  single_persists (signs.Not ∷ ts) = persists_then (d Single ts) (e Single ts) (λ y. Ok (Not y.0, y.1)) (λ y. Ok (Not y.0, y.1)) (h Single ts) (λ y. refl)
+  single_persists (signs.Open ∷ ts) = group_persists ts
+  single_persists (signs.Each ∷ ts) = quantified_persists quantifiers.Each ts
+  single_persists (signs.Any ∷ ts) = quantified_persists quantifiers.Any ts
+  single_persists (signs.At ∷ ts) = threshold_persists ts
+  single_persists (signs.Keys ∷ ts) = persists_same (keys_at ts)
+  single_persists (signs.Path path ∷ ts) = persists_same (condition_at ts >>= λ x. Ok (Test path x.0, x.1))
   single_persists [] = inr refl
   single_persists (t ∷ ts) = inr refl
 
@@ -112,14 +115,14 @@ module _ (d e : Level → List Sign → Answer) (h : (l : Level) (ts : List Sign
 
   whole_persists : (ts : List Sign) → Persists (whole d ts) (whole e ts)
   unfolding whole
-  whole_persists (If ∷ ts) = implication_persists ts
-  whole_persists (Path path ∷ ts) = loosest_persists (Path path ∷ ts)
-  whole_persists (Not ∷ ts) = loosest_persists (Not ∷ ts)
-  whole_persists (Open ∷ ts) = loosest_persists (Open ∷ ts)
-  whole_persists (Each ∷ ts) = loosest_persists (Each ∷ ts)
-  whole_persists (Any ∷ ts) = loosest_persists (Any ∷ ts)
-  whole_persists (AtWord ∷ ts) = loosest_persists (AtWord ∷ ts)
-  whole_persists (Keys ∷ ts) = loosest_persists (Keys ∷ ts)
+  whole_persists (signs.If ∷ ts) = implication_persists ts
+  whole_persists (signs.Path path ∷ ts) = loosest_persists (signs.Path path ∷ ts)
+  whole_persists (signs.Not ∷ ts) = loosest_persists (signs.Not ∷ ts)
+  whole_persists (signs.Open ∷ ts) = loosest_persists (signs.Open ∷ ts)
+  whole_persists (signs.Each ∷ ts) = loosest_persists (signs.Each ∷ ts)
+  whole_persists (signs.Any ∷ ts) = loosest_persists (signs.Any ∷ ts)
+  whole_persists (signs.At ∷ ts) = loosest_persists (signs.At ∷ ts)
+  whole_persists (signs.Keys ∷ ts) = loosest_persists (signs.Keys ∷ ts)
   whole_persists [] = inr refl
   whole_persists (t ∷ ts) = inr refl
 

@@ -7,7 +7,8 @@ use Rattle.predicates_rules.specs.declared.stop.Stop.{Stop}
 use Rattle.predicates_rules.specs.declared.stop.ReadError.{ReadError}
 use Rattle.predicates_rules.specs.declared.stop.ReadError.TheVariants as errors
 use Rattle.predicates_rules.specs.Answers.{Fails, IsStop}
-use Rattle.predicates_rules.specs.Trees.{Sign, End}
+use Rattle.predicates_rules.specs.Signs as signs
+use Rattle.predicates_rules.specs.Signs.{Sign}
 use Rattle.predicates_rules.specs.Lexemes.{is_space, is_over, class_of, IsLexed, over, space, token}
 use Rattle.predicates_rules.specs.Scanning.{token_at, after_space}
 use Rattle.predicates_rules.specs.Faults.{NoToken, no_token_here, behind_space_fault, past_token_fault}
@@ -63,7 +64,7 @@ with_token text us t rest h d =
     let f = token_found text t rest h in
     token f.1 f.2 d
 
-nothing_left : (text : List ℕ) (ts : List (Sign × ℕ)) → is_over text ≡ true → IsLexed text ts → ts ≡ (End, length text) ∷ []
+nothing_left : (text : List ℕ) (ts : List (Sign × ℕ)) → is_over text ≡ true → IsLexed text ts → ts ≡ (signs.End, length text) ∷ []
 nothing_left text ts e (over o) = refl
 nothing_left text ts e (space {b = b} s d) = absurd (space_is_not_over b s e)
 nothing_left text ts e (token {t = t} {word = word} {rest = rest} c w d) = absurd (no_token_over text (t, rest) e (token_again text t word rest c w))
@@ -104,10 +105,10 @@ past_token text left front t rest h g =
       stops = λ s d. let f = token_found left t rest h in g.stops s (past_token_fault f.1 f.2 d);
     }
 
-pub all_found : (text left : List ℕ) (front : List (Sign × ℕ)) → is_over left ≡ true → Goes text left front → IsLexed text (front ++ (End, length left) ∷ [])
-all_found text left front e g = g.found ((End, length left) ∷ []) (over e)
+pub all_found : (text left : List ℕ) (front : List (Sign × ℕ)) → is_over left ≡ true → Goes text left front → IsLexed text (front ++ (signs.End, length left) ∷ [])
+all_found text left front e g = g.found ((signs.End, length left) ∷ []) (over e)
 
-pub only_these : (text left : List ℕ) (front ts : List (Sign × ℕ)) → is_over left ≡ true → Goes text left front → IsLexed text ts → ts ≡ front ++ (End, length left) ∷ []
+pub only_these : (text left : List ℕ) (front ts : List (Sign × ℕ)) → is_over left ≡ true → Goes text left front → IsLexed text ts → ts ≡ front ++ (signs.End, length left) ∷ []
 only_these text left front ts e g d =
     let o = g.only ts d in
     let n = nothing_left left o.0 e o.2 in

@@ -14,42 +14,45 @@ use Rattle.predicates_rules.specs.declared.lexer.Class.TheVariants.{Letter, Digi
 use Rattle.predicates_rules.specs.declared.error.Expected.{Expected}
 use Rattle.predicates_rules.specs.declared.error.Expected.TheVariants as expected
 use Rattle.predicates_rules.specs.declared.stop.Stop.{Stop}
-use Rattle.predicates_rules.specs.Trees.{Value, Natural, Negative, Decimal, Text, Boolean, Null, Sign, Path, Plain}
+use Rattle.predicates_rules.specs.Literals.{Literal, Natural, Negative, Decimal, Text, Boolean}
+use Rattle.predicates_rules.specs.Literals.{Null}
+use Rattle.predicates_rules.specs.Signs as signs
+use Rattle.predicates_rules.specs.Signs.{Sign}
 use Rattle.predicates_rules.specs.Answers.{◌>>=◌}
 use Rattle.predicates_rules.specs.Lexemes.{text_of, sign_of_fixed, all_fixed, fixed_at, class_of, continues, text_end, class_len, cut, data_of, IsTextOf, begins_literal, is_hidden, is_shown, is_path, pointer, IsWritten, fixed_text, literal, path}
-use Rattle.predicates_rules.specs.Scanning.{number_in, value_in, value_at, sign_or, value_or, path_or, front_class, sign_in, with_word, token_at}
+use Rattle.predicates_rules.specs.Scanning.{number_in, literal_in, literal_from, sign_or, literal_or, path_or, front_class, sign_in, with_word, token_at}
 use Rattle.predicates_rules.proofs.Loop.{ok_is}
 
 bytes_is : (a b : List ℕ) → bytes_eq a b ≡ true → a ≡ b
 bytes_is a b h = (bytes_eq-Decides a b).0 h
 
 pub utf8_is_false : (word : List ℕ) → (IsUtf8 word → ⊥) → is_utf8 word ≡ false
-utf8_is_false word h = by_test (is_utf8 word) refl
+utf8_is_false word h = by_condition (is_utf8 word) refl
   where
-    by_test : (b : Bool) → is_utf8 word ≡ b → b ≡ false
-    by_test true e = absurd (h (IsUtf8-from_is_utf8 word e))
-    by_test false e = refl
+    by_condition : (b : Bool) → is_utf8 word ≡ b → b ≡ false
+    by_condition true e = absurd (h (IsUtf8-from_is_utf8 word e))
+    by_condition false e = refl
 
 -- ---- literals
 
-pub value_no_text : (word : List ℕ) → (IsUtf8 word → ⊥) → value_at word ≡ None
-unfolding value_at
-value_no_text word h = rw (utf8_is_false word h) refl
+pub literal_no_text : (word : List ℕ) → (IsUtf8 word → ⊥) → literal_from word ≡ None
+unfolding literal_from
+literal_no_text word h = rw (utf8_is_false word h) refl
 
-pub value_read : (word text : List ℕ) (d : Data) (v : Option Value) → IsUtf8 word → text ≡ word → read text ≡ Some d → v ≡ value_in text d → value_at word ≡ v
-unfolding value_at
-value_read word text d v u same r e =
+pub literal_read : (word text : List ℕ) (d : Data) (v : Option Literal) → IsUtf8 word → text ≡ word → read text ≡ Some d → v ≡ literal_in text d → literal_from word ≡ v
+unfolding literal_from
+literal_read word text d v u same r e =
     let r' : read word ≡ Some d = subst (λ (w : List ℕ). read w ≡ Some d) same r in
-    let e' : v ≡ value_in word d = subst (λ (w : List ℕ). v ≡ value_in w d) same e in
+    let e' : v ≡ literal_in word d = subst (λ (w : List ℕ). v ≡ literal_in w d) same e in
     rw (is_utf8-from_IsUtf8 word u, r') (sym e')
 
-pub value_not_read : (word text : List ℕ) → IsUtf8 word → text ≡ word → read text ≡ None → value_at word ≡ None
-unfolding value_at
-value_not_read word text u same r =
+pub literal_not_read : (word text : List ℕ) → IsUtf8 word → text ≡ word → read text ≡ None → literal_from word ≡ None
+unfolding literal_from
+literal_not_read word text u same r =
     let r' : read word ≡ None = subst (λ (w : List ℕ). read w ≡ None) same r in
     rw (is_utf8-from_IsUtf8 word u, r') refl
 
-in_data : (word : List ℕ) (v : Value) → IsTextOf v word → value_in word (data_of v) ≡ Some v
+in_data : (word : List ℕ) (v : Literal) → IsTextOf v word → literal_in word (data_of v) ≡ Some v
 in_data word (Natural n) h = refl
 in_data word (Negative z) h = refl
 in_data word (Decimal text x) h = ap (λ (w : List ℕ). Some (Decimal w x)) (sym h)
@@ -61,7 +64,7 @@ pub some_is : {A : Type 0} (x y : A) → ◌≡◌ {A = Option A} (Some x) (Some
 some_is x y e = cc
 
 -- JSON has these data for a literal that may be written so
-abbrev IsReadAs : List ℕ → Data → Value → Type 0
+abbrev IsReadAs : List ℕ → Data → Literal → Type 0
 IsReadAs word d v = (d ≡ data_of v) × IsTextOf v word
 
 of_number : (word : List ℕ) (n : Num) → IsReadAs word (number n) (number_in word n)
@@ -69,7 +72,7 @@ of_number word (unsigned n) = (refl, tt)
 of_number word (negative z) = (refl, tt)
 of_number word (float x) = (refl, refl)
 
-of_data : (word : List ℕ) (d : Data) (v : Value) → value_in word d ≡ Some v → IsReadAs word d v
+of_data : (word : List ℕ) (d : Data) (v : Literal) → literal_in word d ≡ Some v → IsReadAs word d v
 of_data word null v e = subst (IsReadAs word null) (some_is Null v e) (refl, tt)
 of_data word (boolean b) v e = subst (IsReadAs word (boolean b)) (some_is (Boolean b) v e) (refl, tt)
 of_data word (number n) v e = subst (IsReadAs word (number n)) (some_is (number_in word n) v e) (of_number word n)
@@ -78,21 +81,21 @@ of_data word (array ds) v e = absurd cc
 of_data word (object ms) v e = absurd cc
 
 -- what a literal is
-value_found : (word : List ℕ) (v : Value) → is_utf8 word ≡ true → read word ≡ Some (data_of v) → IsTextOf v word → value_at word ≡ Some v
-unfolding value_at
+value_found : (word : List ℕ) (v : Literal) → is_utf8 word ≡ true → read word ≡ Some (data_of v) → IsTextOf v word → literal_from word ≡ Some v
+unfolding literal_from
 value_found word v u r t = rw (u, r) (in_data word v t)
 
-then_data : (word : List ℕ) (r : Option Data) (v : Value) → option_and_then (value_in word) r ≡ Some v → (r ≡ Some (data_of v)) × IsTextOf v word
+then_data : (word : List ℕ) (r : Option Data) (v : Literal) → option_and_then (literal_in word) r ≡ Some v → (r ≡ Some (data_of v)) × IsTextOf v word
 then_data word (Some d) v e = let q = of_data word d v e in (ap (λ (x : Data). Some x) q.0, q.1)
 then_data word None v e = absurd cc
 
-value_by : (word : List ℕ) (b : Bool) (r : Option Data) (v : Value) → cond b (option_and_then (value_in word) r) None ≡ Some v → (b ≡ true) × (r ≡ Some (data_of v)) × IsTextOf v word
-value_by word true r v e = let q = then_data word r v e in (refl, q.0, q.1)
-value_by word false r v e = absurd cc
+literal_by : (word : List ℕ) (b : Bool) (r : Option Data) (v : Literal) → cond b (option_and_then (literal_in word) r) None ≡ Some v → (b ≡ true) × (r ≡ Some (data_of v)) × IsTextOf v word
+literal_by word true r v e = let q = then_data word r v e in (refl, q.0, q.1)
+literal_by word false r v e = absurd cc
 
-value_is : (word : List ℕ) (v : Value) → value_at word ≡ Some v → (is_utf8 word ≡ true) × (read word ≡ Some (data_of v)) × IsTextOf v word
-unfolding value_at
-value_is word v e = value_by word (is_utf8 word) (read word) v e
+value_is : (word : List ℕ) (v : Literal) → literal_from word ≡ Some v → (is_utf8 word ≡ true) × (read word ≡ Some (data_of v)) × IsTextOf v word
+unfolding literal_from
+value_is word v e = literal_by word (is_utf8 word) (read word) v e
 
 -- ---- words of one token
 
@@ -149,23 +152,23 @@ fixed_again left fixed.OpenList = refl
 fixed_again left fixed.CloseList = refl
 fixed_again left fixed.Comma = refl
 
-literal_in : (c : Class) (left : ℕ) (word : List ℕ) (v : Value) → begins_literal c ≡ true → value_at word ≡ Some v → sign_in c left word ≡ Ok (Plain v)
+literal_token : (c : Class) (left : ℕ) (word : List ℕ) (v : Literal) → begins_literal c ≡ true → literal_from word ≡ Some v → sign_in c left word ≡ Ok (signs.Literal v)
 unfolding sign_in
-literal_in Digit left word v h e = rw e refl
-literal_in Quote left word v h e = rw e refl
-literal_in c left word v h e = absurd cc
+literal_token Digit left word v h e = rw e refl
+literal_token Quote left word v h e = rw e refl
+literal_token c left word v h e = absurd cc
 
-path_in : (c : Class) (left : ℕ) (word : List ℕ) → c ≡ Slash → is_path word ≡ true → is_shown word ≡ true → sign_in c left word ≡ Ok (Path (pointer word))
+path_in : (c : Class) (left : ℕ) (word : List ℕ) → c ≡ Slash → is_path word ≡ true → is_shown word ≡ true → sign_in c left word ≡ Ok (signs.Path (pointer word))
 unfolding sign_in
-path_in c left word s p u = rw s (by_tests (is_path word) (is_shown word) p u)
+path_in c left word s p u = rw s (by_conditions (is_path word) (is_shown word) p u)
   where
-    by_tests : (is shows : Bool) → is ≡ true → shows ≡ true → path_or left word is shows ≡ Ok (Path (pointer word))
-    by_tests true true i h = refl
-    by_tests is shows i h = absurd cc
+    by_conditions : (is shows : Bool) → is ≡ true → shows ≡ true → path_or left word is shows ≡ Ok (signs.Path (pointer word))
+    by_conditions true true i h = refl
+    by_conditions is shows i h = absurd cc
 
 written_again : (left : ℕ) {t : Sign} {word : List ℕ} → IsWritten t word → sign_in (front_class word) left word ≡ Ok t
 written_again left (fixed_text f) = fixed_again left f
-written_again left (literal b bytes v h u r t) = literal_in (class_of b) left (b ∷ bytes) v h (value_found (b ∷ bytes) v u r t)
+written_again left (literal b bytes v h u r t) = literal_token (class_of b) left (b ∷ bytes) v h (value_found (b ∷ bytes) v u r t)
 written_again left (path b bytes s p u) = path_in (class_of b) left (b ∷ bytes) s p u
 
 found_now : (p : Fixed → Bool) (g : Fixed) (fs : List Fixed) (f : Fixed) (t : Bool) → p g ≡ t → cond t (Some g) (find p fs) ≡ Some f → (find p fs ≡ Some f → p f ≡ true) → p f ≡ true
@@ -185,14 +188,14 @@ word_is left word t None e h = absurd cc
 word_is left word t (Some f) e h =
     subst (λ (s : Sign). IsWritten s word) (ok_is (sign_of_fixed f) t h) (subst (λ (w : List ℕ). IsWritten (sign_of_fixed f) w) (fixed_is word f e) (fixed_text f))
 
-literal_is : (x : Expected) (left b : ℕ) (bytes : List ℕ) (t : Sign) (o : Option Value) → begins_literal (class_of b) ≡ true → value_at (b ∷ bytes) ≡ o → value_or x left o ≡ Ok t → IsWritten t (b ∷ bytes)
+literal_is : (x : Expected) (left b : ℕ) (bytes : List ℕ) (t : Sign) (o : Option Literal) → begins_literal (class_of b) ≡ true → literal_from (b ∷ bytes) ≡ o → literal_or x left o ≡ Ok t → IsWritten t (b ∷ bytes)
 literal_is x left b bytes t None c e h = absurd cc
 literal_is x left b bytes t (Some v) c e h =
     let q = value_is (b ∷ bytes) v e in
-    subst (λ (s : Sign). IsWritten s (b ∷ bytes)) (ok_is (Plain v) t h) (literal b bytes v c q.0 q.1 q.2)
+    subst (λ (s : Sign). IsWritten s (b ∷ bytes)) (ok_is (signs.Literal v) t h) (literal b bytes v c q.0 q.1 q.2)
 
 path_is : (left b : ℕ) (bytes : List ℕ) (t : Sign) (p u : Bool) → class_of b ≡ Slash → is_path (b ∷ bytes) ≡ p → is_shown (b ∷ bytes) ≡ u → path_or left (b ∷ bytes) p u ≡ Ok t → IsWritten t (b ∷ bytes)
-path_is left b bytes t true true c i e h = subst (λ (s : Sign). IsWritten s (b ∷ bytes)) (ok_is (Path (pointer (b ∷ bytes))) t h) (path b bytes c i e)
+path_is left b bytes t true true c i e h = subst (λ (s : Sign). IsWritten s (b ∷ bytes)) (ok_is (signs.Path (pointer (b ∷ bytes))) t h) (path b bytes c i e)
 path_is left b bytes t true false c i e h = absurd cc
 path_is left b bytes t false u c i e h = absurd cc
 
@@ -201,8 +204,8 @@ unfolding sign_in
 written_by Letter left b bytes t c h = word_is left (b ∷ bytes) t (fixed_at (b ∷ bytes)) refl h
 written_by Symbol left b bytes t c h = word_is left (b ∷ bytes) t (fixed_at (b ∷ bytes)) refl h
 written_by Mark left b bytes t c h = word_is left (b ∷ bytes) t (fixed_at (b ∷ bytes)) refl h
-written_by Digit left b bytes t c h = literal_is expected.Number left b bytes t (value_at (b ∷ bytes)) (ap begins_literal c) refl h
-written_by Quote left b bytes t c h = literal_is expected.Escapes left b bytes t (value_at (b ∷ bytes)) (ap begins_literal c) refl h
+written_by Digit left b bytes t c h = literal_is expected.Number left b bytes t (literal_from (b ∷ bytes)) (ap begins_literal c) refl h
+written_by Quote left b bytes t c h = literal_is expected.Escapes left b bytes t (literal_from (b ∷ bytes)) (ap begins_literal c) refl h
 written_by Slash left b bytes t c h = path_is left b bytes t (is_path (b ∷ bytes)) (is_shown (b ∷ bytes)) c refl refl h
 written_by c left b bytes t d h = absurd cc
 

@@ -10,7 +10,10 @@ use Rattle.predicates_rules.specs.declared.error.Expected.TheVariants as expecte
 use Rattle.predicates_rules.specs.declared.stop.Stop.{Stop}
 use Rattle.predicates_rules.specs.declared.stop.ReadError.{ReadError}
 use Rattle.predicates_rules.specs.declared.stop.ReadError.TheVariants as errors
-use Rattle.predicates_rules.specs.Trees.{Text, Sign, Plain, Tree}
+use Rattle.predicates_rules.specs.Literals.{Text}
+use Rattle.predicates_rules.specs.Signs as signs
+use Rattle.predicates_rules.specs.Signs.{Sign}
+use Rattle.predicates_rules.specs.Trees.{Tree}
 use Rattle.predicates_rules.specs.Grammar.{IsSpelled}
 use Rattle.predicates_rules.specs.Answers.{◌>>=◌, Fails, stops}
 use Rattle.predicates_rules.specs.Lexemes.{continues, cut, is_over, is_quoted, is_shown, is_title, IsWritten}
@@ -70,9 +73,9 @@ quoted_first : (line : List ℕ) → is_quoted line ≡ true → head_at line �
 unfolding head_at
 quoted_first line q = rw q refl
 
-quoted_again : (line word name text : List ℕ) → cut line ≡ Some (word, 58 ∷ text) → IsWritten (Plain (Text name)) word → is_title name ≡ true → quoted_head line ≡ Ok (name, text)
+quoted_again : (line word name text : List ℕ) → cut line ≡ Some (word, 58 ∷ text) → IsWritten (signs.Literal (Text name)) word → is_title name ≡ true → quoted_head line ≡ Ok (name, text)
 unfolding quoted_head
-quoted_again line word name text c w t = rw (token_again line (Plain (Text name)) word (58 ∷ text) c w, t) refl
+quoted_again line word name text c w t = rw (token_again line (signs.Literal (Text name)) word (58 ∷ text) c w, t) refl
 
 pub head_again : (line name text : List ℕ) → Heads line name text → head_at (after_spaces line) ≡ Ok (name, text)
 head_again line name text (bare lt h u e) = bare_first (after_spaces line) (ap is_quoted e ∙ not_quoted name text lt h) ∙ ap bare_head e ∙ heads_again name text lt h u
@@ -80,11 +83,11 @@ head_again line name text (quoted {word = word} q c w t) = quoted_first (after_s
 
 colon_is : (rest text : List ℕ) → after_colon rest ≡ Ok text → rest ≡ 58 ∷ text
 colon_is [] text h = absurd cc
-colon_is (b ∷ rest) text h = by_test (b == 58) refl h
+colon_is (b ∷ rest) text h = by_condition (b == 58) refl h
   where
-    by_test : (t : Bool) → (b == 58) ≡ t → cond t (Ok rest) (stops expected.Colon (length (b ∷ rest))) ≡ Ok text → b ∷ rest ≡ 58 ∷ text
-    by_test true e h = ap (λ (c : ℕ). c ∷ rest) (eqb-true b 58 e) ∙ ap (λ (us : List ℕ). 58 ∷ us) (ok_is rest text h)
-    by_test false e h = absurd cc
+    by_condition : (t : Bool) → (b == 58) ≡ t → cond t (Ok rest) (stops expected.Colon (length (b ∷ rest))) ≡ Ok text → b ∷ rest ≡ 58 ∷ text
+    by_condition true e h = ap (λ (c : ℕ). c ∷ rest) (eqb-true b 58 e) ∙ ap (λ (us : List ℕ). 58 ∷ us) (ok_is rest text h)
+    by_condition false e h = absurd cc
 
 name_ok : (r : Result (List ℕ) Stop) (name : List ℕ) (x : List ℕ × List ℕ) → (r >>= λ text. Ok (name, text)) ≡ Ok x → (name ≡ x.0) × (r ≡ Ok x.1)
 name_ok (Ok text) name x h =
@@ -115,12 +118,12 @@ bare_is : (line : List ℕ) (x : List ℕ × List ℕ) → bare_head (after_spac
 unfolding bare_head
 bare_is line x h = let n = named_is (after_spaces line) (prefix_len (continues Name) (after_spaces line)) x refl h in bare n.0 n.1 n.2 n.3
 
-title_is : (left : ℕ) (t : Sign) (name : List ℕ) → title_or left t ≡ Ok name → (t ≡ Plain (Text name)) × (is_title name ≡ true)
-title_is left (Plain (Text text)) name h = by_test (is_title text) refl h
+title_is : (left : ℕ) (t : Sign) (name : List ℕ) → title_or left t ≡ Ok name → (t ≡ signs.Literal (Text name)) × (is_title name ≡ true)
+title_is left (signs.Literal (Text text)) name h = by_condition (is_title text) refl h
   where
-    by_test : (b : Bool) → is_title text ≡ b → cond b (Ok text) (stops expected.Name left) ≡ Ok name → (Plain (Text text) ≡ Plain (Text name)) × (is_title name ≡ true)
-    by_test true e h = let same = ok_is text name h in (ap (λ (w : List ℕ). Plain (Text w)) same, subst (λ (w : List ℕ). is_title w ≡ true) same e)
-    by_test false e h = absurd cc
+    by_condition : (b : Bool) → is_title text ≡ b → cond b (Ok text) (stops expected.Name left) ≡ Ok name → (signs.Literal (Text text) ≡ signs.Literal (Text name)) × (is_title name ≡ true)
+    by_condition true e h = let same = ok_is text name h in (ap (λ (w : List ℕ). signs.Literal (Text w)) same, subst (λ (w : List ℕ). is_title w ≡ true) same e)
+    by_condition false e h = absurd cc
 title_is left t name h = absurd cc
 
 quoted_is : (line : List ℕ) (x : List ℕ × List ℕ) → is_quoted (after_spaces line) ≡ true → quoted_head (after_spaces line) ≡ Ok x → Heads line x.0 x.1
@@ -133,7 +136,7 @@ quoted_is line x q h =
     let n = title_is (length front) a.0.0 b.0 b.1 in
     let f = token_found front a.0.0 a.0.1 a.1 in
     let cut_here : cut front ≡ Some (f.0, 58 ∷ x.1) = f.1 ∙ ap (λ (us : List ℕ). Some (f.0, us)) (colon_is a.0.1 x.1 c.1) in
-    let name_here : IsWritten (Plain (Text x.0)) f.0 = subst (λ (w : List ℕ). IsWritten (Plain (Text w)) f.0) c.0 (subst (λ (t : Sign). IsWritten t f.0) n.0 f.2) in
+    let name_here : IsWritten (signs.Literal (Text x.0)) f.0 = subst (λ (w : List ℕ). IsWritten (signs.Literal (Text w)) f.0) c.0 (subst (λ (t : Sign). IsWritten t f.0) n.0 f.2) in
     quoted q cut_here name_here (subst (λ (w : List ℕ). is_title w ≡ true) c.0 n.1)
 
 head_by : (line : List ℕ) (x : List ℕ × List ℕ) (b : Bool) → is_quoted (after_spaces line) ≡ b → cond b (quoted_head (after_spaces line)) (bare_head (after_spaces line)) ≡ Ok x → Heads line x.0 x.1

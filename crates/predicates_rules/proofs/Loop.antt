@@ -3,7 +3,9 @@ use Rattle.std.proofs.Common.{◌≡◌, ℕ, Bool, true, false, List, [], ◌�
 use Rattle.predicates_rules.specs.declared.stop.Stop.{Stop}
 use Rattle.predicates_rules.specs.declared.stop.ReadError.{ReadError}
 use Rattle.predicates_rules.specs.declared.stop.ReadError.TheVariants as errors
-use Rattle.predicates_rules.specs.Trees.{Value, Text, Sign, CloseList, Comma, Plain}
+use Rattle.predicates_rules.specs.Literals.{Literal, Text}
+use Rattle.predicates_rules.specs.Signs as signs
+use Rattle.predicates_rules.specs.Signs.{Sign}
 use Rattle.predicates_rules.specs.Answers.{◌>>=◌, Fails}
 use Rattle.predicates_rules.specs.Reading.{items_at, literal_at, texts_at, text_at, goes_on_at}
 
@@ -19,19 +21,19 @@ go_on items v (false, ts) = Ok (v ∷ [], ts)
 pub literals_by_steps : (ts : List Sign) → items_at ts ≡ (literal_at ts >>= λ v. goes_on_at v.1 >>= go_on items_at v.0)
 unfolding items_at literal_at goes_on_at
 literals_by_steps [] = refl
-literals_by_steps (Plain v ∷ []) = refl
-literals_by_steps (Plain v ∷ CloseList ∷ ts) = refl
-literals_by_steps (Plain v ∷ Comma ∷ ts) = refl
-literals_by_steps (Plain v ∷ t ∷ ts) = refl
+literals_by_steps (signs.Literal v ∷ []) = refl
+literals_by_steps (signs.Literal v ∷ signs.CloseList ∷ ts) = refl
+literals_by_steps (signs.Literal v ∷ signs.Comma ∷ ts) = refl
+literals_by_steps (signs.Literal v ∷ t ∷ ts) = refl
 literals_by_steps (t ∷ ts) = refl
 
 pub texts_by_steps : (ts : List Sign) → texts_at ts ≡ (text_at ts >>= λ v. goes_on_at v.1 >>= go_on texts_at v.0)
 unfolding texts_at text_at goes_on_at
 texts_by_steps [] = refl
-texts_by_steps (Plain (Text text) ∷ []) = refl
-texts_by_steps (Plain (Text text) ∷ CloseList ∷ ts) = refl
-texts_by_steps (Plain (Text text) ∷ Comma ∷ ts) = refl
-texts_by_steps (Plain (Text text) ∷ t ∷ ts) = refl
+texts_by_steps (signs.Literal (Text text) ∷ []) = refl
+texts_by_steps (signs.Literal (Text text) ∷ signs.CloseList ∷ ts) = refl
+texts_by_steps (signs.Literal (Text text) ∷ signs.Comma ∷ ts) = refl
+texts_by_steps (signs.Literal (Text text) ∷ t ∷ ts) = refl
 texts_by_steps (t ∷ ts) = refl
 
 regroup : {A : Type 0} (front : List A) (v : A) (read : Result (List A × List Sign) Stop) → with_front front (read >>= λ x. Ok (v ∷ x.0, x.1)) ≡ with_front (front ++ v ∷ []) read
@@ -64,23 +66,23 @@ module _ {A : Type 0} (items : List Sign → Result (List A × List Sign) Stop) 
 pub ok_is : {A : Type 0} (x y : A) → ◌≡◌ {A = Result A Stop} (Ok x) (Ok y) → x ≡ y
 ok_is x y e = cc
 
-literal_shorter : (ts us : List Sign) (v : Value) → literal_at ts ≡ Ok (v, us) → length us < length ts
+literal_shorter : (ts us : List Sign) (v : Literal) → literal_at ts ≡ Ok (v, us) → length us < length ts
 unfolding literal_at
-literal_shorter (Plain w ∷ ts) us v e = let same : ts ≡ us = ap (λ (p : Value × List Sign). p.1) (ok_is (w, ts) (v, us) e) in omega (arith, ap length same)
+literal_shorter (signs.Literal w ∷ ts) us v e = let same : ts ≡ us = ap (λ (p : Literal × List Sign). p.1) (ok_is (w, ts) (v, us) e) in omega (arith, ap length same)
 literal_shorter ts us v e = absurd cc
 
 text_shorter : (ts us : List Sign) (text : List ℕ) → text_at ts ≡ Ok (text, us) → length us < length ts
 unfolding text_at
-text_shorter (Plain (Text w) ∷ ts) us text e = let same : ts ≡ us = ap (λ (p : List ℕ × List Sign). p.1) (ok_is (w, ts) (text, us) e) in omega (arith, ap length same)
+text_shorter (signs.Literal (Text w) ∷ ts) us text e = let same : ts ≡ us = ap (λ (p : List ℕ × List Sign). p.1) (ok_is (w, ts) (text, us) e) in omega (arith, ap length same)
 text_shorter ts us text e = absurd cc
 
 end_shorter : (ts us : List Sign) (more : Bool) → goes_on_at ts ≡ Ok (more, us) → length us < length ts
 unfolding goes_on_at
-end_shorter (Comma ∷ ts) us more e = let same : ts ≡ us = ap (λ (p : Bool × List Sign). p.1) (ok_is (true, ts) (more, us) e) in omega (arith, ap length same)
-end_shorter (CloseList ∷ ts) us more e = let same : ts ≡ us = ap (λ (p : Bool × List Sign). p.1) (ok_is (false, ts) (more, us) e) in omega (arith, ap length same)
+end_shorter (signs.Comma ∷ ts) us more e = let same : ts ≡ us = ap (λ (p : Bool × List Sign). p.1) (ok_is (true, ts) (more, us) e) in omega (arith, ap length same)
+end_shorter (signs.CloseList ∷ ts) us more e = let same : ts ≡ us = ap (λ (p : Bool × List Sign). p.1) (ok_is (false, ts) (more, us) e) in omega (arith, ap length same)
 end_shorter ts us more e = absurd cc
 
-pub literal_shortens : (ts us rest : List Sign) (v : Value) (more : Bool) → literal_at ts ≡ Ok (v, us) → goes_on_at us ≡ Ok (more, rest) → length rest < length ts
+pub literal_shortens : (ts us rest : List Sign) (v : Literal) (more : Bool) → literal_at ts ≡ Ok (v, us) → goes_on_at us ≡ Ok (more, rest) → length rest < length ts
 literal_shortens ts us rest v more p q = omega (arith, literal_shorter ts us v p, end_shorter us rest more q)
 
 pub text_shortens : (ts us rest : List Sign) (text : List ℕ) (more : Bool) → text_at ts ≡ Ok (text, us) → goes_on_at us ≡ Ok (more, rest) → length rest < length ts

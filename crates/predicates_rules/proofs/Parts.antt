@@ -4,7 +4,8 @@ use Rattle.predicates_rules.specs.declared.parser.Separator.{Separator}
 use Rattle.predicates_rules.specs.declared.stop.Stop.{Stop}
 use Rattle.predicates_rules.specs.declared.stop.ReadError.{ReadError}
 use Rattle.predicates_rules.specs.declared.stop.ReadError.TheVariants as errors
-use Rattle.predicates_rules.specs.Trees.{Sign, Tree, Trees, none, more, trees_of}
+use Rattle.predicates_rules.specs.Signs.{Sign}
+use Rattle.predicates_rules.specs.Trees.{Tree, Trees, none, more, trees_of}
 use Rattle.predicates_rules.specs.Answers.{◌>>=◌, Fails}
 use Rattle.predicates_rules.specs.Reading.{Answer, after_separator, parts_at}
 use Rattle.predicates_rules.proofs.Steps.{separator_is}

@@ -20,9 +20,12 @@ use Rattle.predicates_rules.specs.declared.lexer.Class.{Class}
 use Rattle.predicates_rules.specs.declared.lexer.Class.TheVariants.{Letter, Digit, Symbol, Mark, Slash, Quote, Other}
 use Rattle.predicates_rules.specs.declared.fixed.Fixed.{Fixed}
 use Rattle.predicates_rules.specs.declared.fixed.Fixed.TheVariants as fixed
-use Rattle.predicates_rules.specs.Trees.{Value, Natural, Negative, Decimal, Text, Boolean, Null, Sign, Path, Plain}
+use Rattle.predicates_rules.specs.Literals.{Literal, Natural, Negative, Decimal, Text, Boolean}
+use Rattle.predicates_rules.specs.Literals.{Null}
+use Rattle.predicates_rules.specs.Signs as signs
+use Rattle.predicates_rules.specs.Signs.{Sign}
 use Rattle.predicates_rules.specs.Lexemes.{sign_of_fixed, is_letter, is_digit, is_symbol, is_mark, class_of, continues, class_len, cut, is_shown, is_path, data_of, IsTextOf, begins_literal, pointer, IsWritten, fixed_text, literal, path, IsLexed, over, space, token}
-use Rattle.predicates_rules.specs.Printing.{IsPath, IsDecimal, IsValue}
+use Rattle.predicates_rules.specs.Printing.{IsPath, IsDecimal, IsLiteral}
 use Rattle.predicates_rules.proofs.Lexed.{some_is}
 use Rattle.predicates_rules.proofs.Contents.{content_text, past_ascii}
 use Rattle.predicates_rules.proofs.Spaced.{is_run, run_len, or_parted}
@@ -223,9 +226,9 @@ literal_class Digit h = inl refl
 literal_class Quote h = inr refl
 literal_class c h = absurd cc
 
-text_value : (b : ℕ) (bytes s : List ℕ) → (class_of b ≡ Digit) ⊎ (class_of b ≡ Quote) → is_utf8 (b ∷ bytes) ≡ true → read (b ∷ bytes) ≡ Some (string s) → IsUtf8 s
-text_value b bytes s (inl digit) u e = absurd (read_digits b bytes s digit e)
-text_value b bytes s (inr quote) u e =
+text_literal : (b : ℕ) (bytes s : List ℕ) → (class_of b ≡ Digit) ⊎ (class_of b ≡ Quote) → is_utf8 (b ∷ bytes) ≡ true → read (b ∷ bytes) ≡ Some (string s) → IsUtf8 s
+text_literal b bytes s (inl digit) u e = absurd (read_digits b bytes s digit e)
+text_literal b bytes s (inr quote) u e =
     let is : b ≡ 34 = quote_byte b quote in
     let q = read_quoted bytes (string s) (subst (λ (x : ℕ). read (x ∷ bytes) ≡ Some (string s)) is e) in
     let same : string s ≡ string q.0 = q.2 in
@@ -280,8 +283,8 @@ cut_bytes c (x ∷ xs) b bytes rest r is e =
     run_bytes c b xs bytes rest r (subst (λ (k : Class). cut_with (b ∷ xs) (class_len k xs) ≡ Some (b ∷ bytes, rest)) is (subst (λ (y : ℕ). cut_with (y ∷ xs) (class_len (class_of y) xs) ≡ Some (b ∷ bytes, rest)) first e))
 
 abbrev pub IsPlainSign : Sign → Type 0
-IsPlainSign (Path p) = IsPath p
-IsPlainSign (Plain v) = IsValue v
+IsPlainSign (signs.Path p) = IsPath p
+IsPlainSign (signs.Literal v) = IsLiteral v
 IsPlainSign t = Unit {0}
 
 fixed_plain : (f : Fixed) → IsPlainSign (sign_of_fixed f)
@@ -341,20 +344,20 @@ path_plain b [] h all shown = tt
 path_plain b (c ∷ []) h all shown = short_path b c (b == 94 && c == 47) refl h all shown
 path_plain b (c ∷ d ∷ bytes) h all shown = (begins_by b c h, all, shown)
 
-value_plain : (v : Value) (b : ℕ) (bytes : List ℕ) → (class_of b ≡ Digit) ⊎ (class_of b ≡ Quote) → (class_of b ≡ Digit → list_all (continues Digit) bytes ≡ true) → is_utf8 (b ∷ bytes) ≡ true → read (b ∷ bytes) ≡ Some (data_of v) → IsTextOf v (b ∷ bytes) → IsValue v
-value_plain (Natural n) b bytes c all u r same = read_number (b ∷ bytes) (unsigned n) r
-value_plain (Negative (pos n)) b bytes c all u r same = read_number (b ∷ bytes) (negative (pos n)) r
-value_plain (Negative (negsuc n)) b bytes c all u r same = read_number (b ∷ bytes) (negative (negsuc n)) r
-value_plain (Decimal text x) b bytes c all u r same =
+literal_plain : (v : Literal) (b : ℕ) (bytes : List ℕ) → (class_of b ≡ Digit) ⊎ (class_of b ≡ Quote) → (class_of b ≡ Digit → list_all (continues Digit) bytes ≡ true) → is_utf8 (b ∷ bytes) ≡ true → read (b ∷ bytes) ≡ Some (data_of v) → IsTextOf v (b ∷ bytes) → IsLiteral v
+literal_plain (Natural n) b bytes c all u r same = read_number (b ∷ bytes) (unsigned n) r
+literal_plain (Negative (pos n)) b bytes c all u r same = read_number (b ∷ bytes) (negative (pos n)) r
+literal_plain (Negative (negsuc n)) b bytes c all u r same = read_number (b ∷ bytes) (negative (negsuc n)) r
+literal_plain (Decimal text x) b bytes c all u r same =
     let digit = no_decimal b bytes x c r in
     subst (λ (w : List ℕ). IsDecimal w x) (sym same) (digit, all digit, u, r)
-value_plain (Text s) b bytes c all u r same = text_value b bytes s c u r
-value_plain (Boolean t) b bytes c all u r same = tt
-value_plain Null b bytes c all u r same = tt
+literal_plain (Text s) b bytes c all u r same = text_literal b bytes s c u r
+literal_plain (Boolean t) b bytes c all u r same = tt
+literal_plain Null b bytes c all u r same = tt
 
 word_plain : (text rest : List ℕ) {t : Sign} {w : List ℕ} → cut text ≡ Some (w, rest) → IsWritten t w → IsPlainSign t
 word_plain text rest c (fixed_text f) = fixed_plain f
-word_plain text rest c (literal b bytes v h u r same) = value_plain v b bytes (literal_class (class_of b) h) (λ digit. cut_bytes Digit text b bytes rest refl digit c) u r same
+word_plain text rest c (literal b bytes v h u r same) = literal_plain v b bytes (literal_class (class_of b) h) (λ digit. cut_bytes Digit text b bytes rest refl digit c) u r same
 word_plain text rest c (path b bytes h is shown) = path_plain b bytes is (cut_bytes Slash text b bytes rest refl h c) shown
 
 abbrev pub ArePlainSigns : List Sign → Type 0

@@ -6,7 +6,8 @@ use Rattle.predicates_rules.specs.declared.stop.Stop.{Stop}
 use Rattle.predicates_rules.specs.declared.stop.ReadError.{ReadError}
 use Rattle.predicates_rules.specs.declared.stop.ReadError.TheVariants as errors
 use Rattle.predicates_rules.specs.declared.expression.Expression.{Expression}
-use Rattle.predicates_rules.specs.Trees.{Sign, Tree, signs, tree_of}
+use Rattle.predicates_rules.specs.Signs.{Sign, signs}
+use Rattle.predicates_rules.specs.Trees.{Tree, tree_of}
 use Rattle.predicates_rules.specs.Grammar.{IsSpelled, max_depth}
 use Rattle.predicates_rules.specs.Answers.{Gives, Fails, IsStop, IsSyntax}
 use Rattle.predicates_rules.specs.Reading.{all_of}

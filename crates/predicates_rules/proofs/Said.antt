@@ -3,13 +3,17 @@ use Rattle.std.specs.Prelude.{◌&&◌, max}
 use Rattle.std.proofs.Common.{◌≡◌, ℕ, suc, ◌≤◌, Bool, true, false, cond, List, refl, arith}
 use Rattle.predicates_rules.specs.declared.expression.Connective.{Connective}
 use Rattle.predicates_rules.specs.declared.expression.Connective.TheVariants.{Or, Xor, And}
-use Rattle.predicates_rules.specs.declared.expression.Quantifier.{Quantifier}
+use Rattle.predicates_rules.specs.declared.expression.HowMany.{HowMany}
 use Rattle.predicates_rules.specs.declared.parser.Separator.{Separator}
 use Rattle.predicates_rules.specs.declared.parser.Separator.TheVariants as separators
-use Rattle.predicates_rules.specs.Trees.{Value, Sign, Test, Tree, At, Denied, Implies, Quantified, Joined, AtLeast, Trees, more}
-use Rattle.predicates_rules.specs.Grammar.{Level, By, Single, Whole, Premise, tighter, Items, last, another, IsTest, word, compare, compare_with, has_length, of_kind, of_null, relate, among_none, among, IsQuantifier, each, any, at_least_items, Spells, test, keys, denied, group, quantified, at_least, alone, joined, no_if, implied, premise, Follow, no_more, and_more}
+use Rattle.predicates_rules.specs.Literals.{Literal}
+use Rattle.predicates_rules.specs.Signs.{Sign}
+use Rattle.predicates_rules.specs.Conditions.{Condition}
+use Rattle.predicates_rules.specs.Trees.{Tree, Test, Not, Implies, Quantified, Joined, AtLeast}
+use Rattle.predicates_rules.specs.Trees.{Trees, more}
+use Rattle.predicates_rules.specs.Grammar.{Level, By, Single, Whole, Premise, tighter, Items, last, another, IsCondition, word, compare, compare_with, has_length, of_kind, of_null, relate, among_none, among, IsQuantifier, each, any, at_least_items, Spells, test, keys, denied, group, quantified, at_least, alone, joined, no_if, implied, premise, Follow, no_more, and_more}
 use Rattle.predicates_rules.specs.Rules.{Says}
-use Rattle.predicates_rules.specs.Printing.{fits, takes_if, has_parts, stands_at, nesting_at, parts_nesting, IsProper, AreProper, AreValues, IsPlainTest, IsPlainQuantifier, IsPlain, ArePlain, printed}
+use Rattle.predicates_rules.specs.Printing.{fits, takes_if, has_parts, stands_at, nesting_at, parts_nesting, IsProper, AreProper, AreLiterals, IsPlainCondition, IsPlainQuantifier, IsPlain, ArePlain, printed}
 use Rattle.predicates_rules.proofs.Readable.{ArePlainSigns, lexed_plain}
 use Rattle.predicates_rules.proofs.Spaced.{printed_says}
 
@@ -21,8 +25,8 @@ by_fits false false k = omega arith
 
 -- parentheses make one more
 in_parentheses : (l : Level) (e : Tree) → nesting_at l e ≤ suc (nesting_at Whole e)
-in_parentheses l (At path t) = omega arith
-in_parentheses l (Denied e) = omega arith
+in_parentheses l (Test path t) = omega arith
+in_parentheses l (Not e) = omega arith
 in_parentheses l (Implies a b) = by_fits (takes_if l) true (suc (max (suc (nesting_at Whole a)) (nesting_at Whole b)))
 in_parentheses l (Quantified q path e) = omega arith
 in_parentheses l (Joined c es) = by_fits (stands_at l c es) (stands_at Whole c es) (parts_nesting (separators.Connective c) es)
@@ -48,8 +52,8 @@ fits_looser And And h = refl
 
 -- where less binds, no more parentheses are needed
 looser : (c : Connective) (e : Tree) → nesting_at (By c) e ≤ nesting_at (tighter c) e
-looser c (At path t) = omega arith
-looser c (Denied e) = omega arith
+looser c (Test path t) = omega arith
+looser c (Not e) = omega arith
 looser Or (Implies a b) = omega arith
 looser Xor (Implies a b) = omega arith
 looser And (Implies a b) = omega arith
@@ -59,8 +63,8 @@ looser c (AtLeast k es) = omega arith
 
 -- where an implication may stand too, no more parentheses are needed
 loosest : (e : Tree) → nesting_at Whole e ≤ nesting_at (By Or) e
-loosest (At path t) = omega arith
-loosest (Denied e) = omega arith
+loosest (Test path t) = omega arith
+loosest (Not e) = omega arith
 loosest (Implies a b) = omega arith
 loosest (Quantified q path e) = omega arith
 loosest (Joined c es) = omega arith
@@ -71,7 +75,7 @@ by_place true k n h = h
 by_place false k n h = omega (arith, h)
 
 -- what denies the premise nests no deeper than the implication
-pub denied_nests : (l m : Level) (a b : Tree) → nesting_at l (Denied a) ≤ nesting_at m (Implies a b)
+pub denied_nests : (l m : Level) (a b : Tree) → nesting_at l (Not a) ≤ nesting_at m (Implies a b)
 denied_nests l m a b = by_place (takes_if m) (suc (nesting_at Single a)) (suc (max (suc (nesting_at Whole a)) (nesting_at Whole b))) (omega (arith, in_parentheses Single a))
 
 fits_itself : (c : Connective) → fits (By c) c ≡ true
@@ -114,30 +118,30 @@ mutual
 
 -- ---- what is read can be written
 
-items_plain : {ts : List Sign} {vs : List Value} {rest : List Sign} → Items ts vs rest → ArePlainSigns ts → AreValues vs × ArePlainSigns rest
+items_plain : {ts : List Sign} {vs : List Literal} {rest : List Sign} → Items ts vs rest → ArePlainSigns ts → AreLiterals vs × ArePlainSigns rest
 items_plain last a = ((a.0, tt), a.1.1)
 items_plain (another i) a = let p = items_plain i a.1.1 in ((a.0, p.0), p.1)
 
-test_plain : {ts : List Sign} {t : Test} {rest : List Sign} → IsTest ts t rest → ArePlainSigns ts → IsPlainTest t × ArePlainSigns rest
-test_plain word a = (tt, a.1)
-test_plain compare a = (a.1.0, a.1.1)
-test_plain compare_with a = (a.1.0, a.1.1)
-test_plain has_length a = (a.1.1.0, a.1.1.1)
-test_plain of_kind a = (tt, a.1.1)
-test_plain of_null a = (tt, a.1.1)
-test_plain relate a = (a.1.0, a.1.1)
-test_plain among_none a = (tt, a.1.1.1)
-test_plain (among i) a = items_plain i a.1.1
+condition_plain : {ts : List Sign} {t : Condition} {rest : List Sign} → IsCondition ts t rest → ArePlainSigns ts → IsPlainCondition t × ArePlainSigns rest
+condition_plain word a = (tt, a.1)
+condition_plain compare a = (a.1.0, a.1.1)
+condition_plain compare_with a = (a.1.0, a.1.1)
+condition_plain has_length a = (a.1.1.0, a.1.1.1)
+condition_plain of_kind a = (tt, a.1.1)
+condition_plain of_null a = (tt, a.1.1)
+condition_plain relate a = (a.1.0, a.1.1)
+condition_plain among_none a = (tt, a.1.1.1)
+condition_plain (among i) a = items_plain i a.1.1
 
-quantifier_plain : {ts : List Sign} {q : Quantifier} {rest : List Sign} → IsQuantifier ts q rest → ArePlainSigns ts → IsPlainQuantifier q × ArePlainSigns rest
+quantifier_plain : {ts : List Sign} {q : HowMany} {rest : List Sign} → IsQuantifier ts q rest → ArePlainSigns ts → IsPlainQuantifier q × ArePlainSigns rest
 quantifier_plain each a = (tt, a.1)
 quantifier_plain any a = (tt, a.1)
 quantifier_plain at_least_items a = (a.1.1.0, a.1.1.1)
 
 mutual
   spells_plain : {n : ℕ} {l : Level} {ts : List Sign} {e : Tree} {rest : List Sign} → Spells n l ts e rest → ArePlainSigns ts → IsPlain e × ArePlainSigns rest
-  spells_plain (test t) a = let p = test_plain t a.1 in ((a.0, p.0), p.1)
-  spells_plain (keys t) a = let p = test_plain t a.1.1 in ((a.1.0, p.0), p.1)
+  spells_plain (test t) a = let p = condition_plain t a.1 in ((a.0, p.0), p.1)
+  spells_plain (keys t) a = let p = condition_plain t a.1.1 in ((a.1.0, p.0), p.1)
   spells_plain (denied d) a = spells_plain d a.1
   spells_plain (group d) a = let p = spells_plain d a.1 in (p.0, p.1.1)
   spells_plain (quantified q d) a =

@@ -30,8 +30,8 @@ use Rattle.predicates_rules.specs.declared.lexer.Class.{Class}
 use Rattle.predicates_rules.specs.declared.lexer.Class.TheVariants.{Letter, Digit, Symbol, Mark, Slash}
 use Rattle.predicates_rules.specs.declared.expression.Connective.{Connective}
 use Rattle.predicates_rules.specs.declared.expression.Connective.TheVariants.{Or, Xor, And}
-use Rattle.predicates_rules.specs.declared.expression.Quantifier.{Quantifier}
-use Rattle.predicates_rules.specs.declared.expression.Quantifier.TheVariants as quantifiers
+use Rattle.predicates_rules.specs.declared.expression.HowMany.{HowMany}
+use Rattle.predicates_rules.specs.declared.expression.HowMany.TheVariants as quantifiers
 use Rattle.predicates_rules.specs.declared.parser.Separator.{Separator}
 use Rattle.predicates_rules.specs.declared.parser.Separator.TheVariants as separators
 use Rattle.predicates_rules.specs.declared.condition.Comparison.{Comparison}
@@ -44,11 +44,18 @@ use Rattle.predicates_rules.specs.declared.condition.ValueKind.{ValueKind}
 use Rattle.predicates_rules.specs.declared.condition.ValueKind.TheVariants as value_kinds
 use Rattle.predicates_rules.specs.declared.fixed.Fixed.{Fixed}
 use Rattle.predicates_rules.specs.declared.fixed.Fixed.TheVariants as fixed
-use Rattle.predicates_rules.specs.Trees.{Value, Natural, Negative, Decimal, Text, Boolean, Null, Sign, Join, If, Then, Open, Close, OpenList, CloseList, Comma, Path, Compare, Relate, Is, Plain, End, Test, TheValueIs, Compares, ComparesWith, HasLength, IsOfKind, Relates, IsAmong, HasKeysAmong, Tree, At, Denied, Implies, Quantified, Joined, AtLeast, Trees, none, more}
+use Rattle.predicates_rules.specs.Literals.{Literal, Natural, Negative, Decimal, Text, Boolean}
+use Rattle.predicates_rules.specs.Literals.{Null}
+use Rattle.predicates_rules.specs.Signs as signs
+use Rattle.predicates_rules.specs.Signs.{Sign}
+use Rattle.predicates_rules.specs.Conditions.{Condition, Is, Compare, CompareWith, Length, IsOf}
+use Rattle.predicates_rules.specs.Conditions.{Relate, In, KeysIn}
+use Rattle.predicates_rules.specs.Trees.{Tree, Test, Not, Implies, Quantified, Joined, AtLeast}
+use Rattle.predicates_rules.specs.Trees.{Trees, none, more}
 use Rattle.predicates_rules.specs.Grammar.{Level, Single, Whole, separator_sign, part_level, IsSpelled}
 use Rattle.predicates_rules.specs.Lexemes.{text_of, sign_of_fixed, is_space, is_mark, class_of, continues, text_end, class_len, token_len, cut, begins_literal, is_shown, is_path, pointer, IsWritten, fixed_text, literal, path, IsLexed, over, space, token}
 use Rattle.predicates_rules.specs.Rules.{Says}
-use Rattle.predicates_rules.specs.Printing.{items_signs, kind_sign, among_signs, lead_signs, test_signs, quantifier_signs, in_parentheses, stands_at, takes_if, signs_at, part_signs, follow_signs, nesting_at, IsProper, path_text, word_of, opens, closes, gap, laid_behind, laid, printed, IsDecimal, IsPath, IsValue, AreValues, IsPlainTest, IsPlainQuantifier, IsPlain, ArePlain}
+use Rattle.predicates_rules.specs.Printing.{items_signs, kind_sign, among_signs, lead_signs, condition_signs, quantifier_signs, in_parentheses, stands_at, takes_if, signs_at, part_signs, follow_signs, nesting_at, IsProper, path_text, word_of, opens, closes, gap, laid_behind, laid, printed, IsDecimal, IsPath, IsLiteral, AreLiterals, IsPlainCondition, IsPlainQuantifier, IsPlain, ArePlain}
 use Rattle.predicates_rules.proofs.Printed.{printed as printed_spelled}
 use Rattle.predicates_rules.proofs.Lines.{run_is}
 
@@ -162,7 +169,7 @@ IsWord t word = IsWritten t word × ((rest : List ℕ) → (opens t || is_apart 
 run_of : (c : Class) (b : ℕ) (word : List ℕ) → class_of b ≡ c → is_run c ≡ true → list_all (continues c) word ≡ true → IsRun (b ∷ word)
 run_of c b word d r h = subst (λ (k : Class). (is_run k ≡ true) × (list_all (continues k) word ≡ true)) (sym d) (r, h)
 
-natural_word : (word : List ℕ) (n : ℕ) → n < 2 ^ 64 → word ≡ decimal n → IsNumeral 10 word → IsWord (Plain (Natural n)) word
+natural_word : (word : List ℕ) (n : ℕ) → n < 2 ^ 64 → word ≡ decimal n → IsNumeral 10 word → IsWord (signs.Literal (Natural n)) word
 natural_word [] n lt e h = absurd (omega (arith, h.0))
 natural_word (b ∷ word) n lt e h =
     let c : class_of b ≡ Digit = digit_class b (digit_from_value b h.1.0) in
@@ -173,13 +180,13 @@ natural_word (b ∷ word) n lt e h =
 minus_is_digit : class_of 45 ≡ Digit
 minus_is_digit = refl
 
-negative_word : (n : ℕ) → n < 2 ^ 63 → IsWord (Plain (Negative (negsuc n))) (signed_decimal (negsuc n))
+negative_word : (n : ℕ) → n < 2 ^ 63 → IsWord (signs.Literal (Negative (negsuc n))) (signed_decimal (negsuc n))
 negative_word n lt =
     let u : is_utf8 (signed_decimal (negsuc n)) ≡ true = is_utf8-from_IsUtf8 (signed_decimal (negsuc n)) (IsUtf8-from_ascii (signed_decimal (negsuc n)) (IsAscii-signed (negsuc n) lt)) in
     let h = (decimal_is_IsNumeral (suc n) (omega arith)).0 in
     (literal 45 (decimal (suc n)) (Negative (negsuc n)) refl u (read_negative n lt) tt, λ rest. cut_run (45 ∷ decimal (suc n)) rest (run_of Digit 45 (decimal (suc n)) minus_is_digit refl (digits_go_on (decimal (suc n)) h.1)))
 
-decimal_word : (word : List ℕ) (x : Float) → IsDecimal word x → IsWord (Plain (Decimal word x)) word
+decimal_word : (word : List ℕ) (x : Float) → IsDecimal word x → IsWord (signs.Literal (Decimal word x)) word
 decimal_word [] x h = absurd h
 decimal_word (b ∷ word) x h = (literal b word (Decimal (b ∷ word) x) (ap begins_literal h.0) h.2 h.3 refl, λ rest. cut_run (b ∷ word) rest (run_of Digit b word h.0 refl h.1))
 
@@ -233,18 +240,18 @@ backslash_has_letter : (x : ℕ) → x ≡ 92 → nat_lt 0 (escape_letter x) ≡
 backslash_has_letter x e = rw e refl
 
 no_quote : (x : ℕ) → nat_lt 0 (escape_letter x) ≡ false → (x == 34) ≡ false
-no_quote x h = by_test (x == 34) refl
+no_quote x h = by_condition (x == 34) refl
   where
-    by_test : (b : Bool) → (x == 34) ≡ b → b ≡ false
-    by_test true e = absurd (true≢false (sym (quote_has_letter x (eqb-true x 34 e)) ∙ h))
-    by_test false e = refl
+    by_condition : (b : Bool) → (x == 34) ≡ b → b ≡ false
+    by_condition true e = absurd (true≢false (sym (quote_has_letter x (eqb-true x 34 e)) ∙ h))
+    by_condition false e = refl
 
 no_backslash : (x : ℕ) → nat_lt 0 (escape_letter x) ≡ false → (x == 92) ≡ false
-no_backslash x h = by_test (x == 92) refl
+no_backslash x h = by_condition (x == 92) refl
   where
-    by_test : (b : Bool) → (x == 92) ≡ b → b ≡ false
-    by_test true e = absurd (true≢false (sym (backslash_has_letter x (eqb-true x 92 e)) ∙ h))
-    by_test false e = refl
+    by_condition : (b : Bool) → (x == 92) ≡ b → b ≡ false
+    by_condition true e = absurd (true≢false (sym (backslash_has_letter x (eqb-true x 92 e)) ∙ h))
+    by_condition false e = refl
 
 byte_by : (x : ℕ) (text : List ℕ) (a b : Bool) → nat_lt 0 (escape_letter x) ≡ a → nat_lt x 32 ≡ b
     → text_end false (cond a (92 ∷ escape_letter x ∷ []) (cond b (92 ∷ 117 ∷ 48 ∷ 48 ∷ digit_char (x / 16) ∷ digit_char (x % 16) ∷ []) (x ∷ [])) ++ text)
@@ -263,7 +270,7 @@ text_len (x ∷ s) rest =
     let long = length-append (escape_byte x) (escape s) in
     ap (text_end false) (append_assoc (escape_byte x) (escape s) (34 ∷ rest)) ∙ byte_len x (escape s ++ 34 ∷ rest) ∙ ap (add (length (escape_byte x))) (text_len s rest) ∙ ap (λ (m : ℕ). Some m) (omega (arith, long))
 
-text_word : (s : List ℕ) → IsUtf8 s → IsWord (Plain (Text s)) (quoted s)
+text_word : (s : List ℕ) → IsUtf8 s → IsWord (signs.Literal (Text s)) (quoted s)
 text_word s u =
     let body = escape s ++ 34 ∷ [] in
     let long : length body ≡ suc (length (escape s)) = omega (arith, length-append (escape s) (34 ∷ [])) in (
@@ -325,10 +332,10 @@ mark_stops : (text : List ℕ) → prefix_len (continues Mark) text ≡ 0
 mark_stops [] = refl
 mark_stops (b ∷ text) = refl
 
-open_word : IsWord Open (text_of fixed.Open)
+open_word : IsWord signs.Open (text_of fixed.Open)
 open_word = (fixed_text fixed.Open, λ rest h. cut_at 40 [] rest (ap (λ (k : ℕ). Some (suc k)) (mark_stops rest)))
 
-open_list_word : IsWord OpenList (text_of fixed.OpenList)
+open_list_word : IsWord signs.OpenList (text_of fixed.OpenList)
 open_list_word = (fixed_text fixed.OpenList, λ rest h. cut_at 91 [] rest (ap (λ (k : ℕ). Some (suc k)) (mark_stops rest)))
 
 slash_shows : is_shown (47 ∷ []) ≡ true
@@ -349,32 +356,32 @@ caret_shows =
 caret_class : class_of 94 ≡ Slash
 caret_class = refl
 
-record_word : IsWord (Path (94 ∷ [])) (94 ∷ 47 ∷ [])
+record_word : IsWord (signs.Path (94 ∷ [])) (94 ∷ 47 ∷ [])
 record_word = (path 94 (47 ∷ []) caret_class refl caret_shows, λ rest. cut_run (94 ∷ 47 ∷ []) rest (refl, refl))
 
 -- a path of more bytes, which is its own pointer
-long_word : (b : ℕ) (bytes : List ℕ) → class_of b ≡ Slash → is_path (b ∷ bytes) ≡ true → pointer (b ∷ bytes) ≡ b ∷ bytes → list_all (continues Slash) bytes ≡ true → is_shown (b ∷ bytes) ≡ true → IsWord (Path (b ∷ bytes)) (b ∷ bytes)
+long_word : (b : ℕ) (bytes : List ℕ) → class_of b ≡ Slash → is_path (b ∷ bytes) ≡ true → pointer (b ∷ bytes) ≡ b ∷ bytes → list_all (continues Slash) bytes ≡ true → is_shown (b ∷ bytes) ≡ true → IsWord (signs.Path (b ∷ bytes)) (b ∷ bytes)
 long_word b bytes c is p all shown =
-    (subst (λ (w : List ℕ). IsWritten (Path w) (b ∷ bytes)) p (path b bytes c is shown), λ rest. cut_run (b ∷ bytes) rest (run_of Slash b bytes c refl all))
+    (subst (λ (w : List ℕ). IsWritten (signs.Path w) (b ∷ bytes)) p (path b bytes c is shown), λ rest. cut_run (b ∷ bytes) rest (run_of Slash b bytes c refl all))
 
-path_word : (p : List ℕ) → IsPath p → IsWord (Path p) (path_text p)
+path_word : (p : List ℕ) → IsPath p → IsWord (signs.Path p) (path_text p)
 path_word [] h = (path 47 [] slash_class refl slash_shows, λ rest. cut_run (47 ∷ []) rest (refl, refl))
-path_word (b ∷ []) h = subst (λ (x : ℕ). IsWord (Path (x ∷ [])) (path_text (x ∷ []))) (sym h) record_word
+path_word (b ∷ []) h = subst (λ (x : ℕ). IsWord (signs.Path (x ∷ [])) (path_text (x ∷ []))) (sym h) record_word
 path_word (b ∷ c ∷ []) (h, all, shown) = long_word b (c ∷ []) (ap class_of h ∙ slash_class) (rw h refl) (rw h refl) all shown
 path_word (b ∷ c ∷ d ∷ bytes) (inl h, all, shown) = long_word b (c ∷ d ∷ bytes) (ap class_of h ∙ slash_class) (rw h refl) refl all shown
 path_word (b ∷ c ∷ d ∷ bytes) (inr (h, k), all, shown) = long_word b (c ∷ d ∷ bytes) (ap class_of h ∙ caret_class) (rw (h, k) refl) refl all shown
 
-value_word : (v : Value) → IsValue v → IsWord (Plain v) (word_of (Plain v))
-value_word (Natural n) h = natural_word (decimal n) n h refl (decimal_is_IsNumeral n h).0
-value_word (Negative (pos n)) h = absurd h
-value_word (Negative (negsuc n)) h = negative_word n h
-value_word (Decimal text x) h = decimal_word text x h
-value_word (Text s) h = text_word s h
-value_word (Boolean true) h = fixed_word fixed.True refl
-value_word (Boolean false) h = fixed_word fixed.False refl
-value_word Null h = fixed_word fixed.Null refl
+literal_word : (v : Literal) → IsLiteral v → IsWord (signs.Literal v) (word_of (signs.Literal v))
+literal_word (Natural n) h = natural_word (decimal n) n h refl (decimal_is_IsNumeral n h).0
+literal_word (Negative (pos n)) h = absurd h
+literal_word (Negative (negsuc n)) h = negative_word n h
+literal_word (Decimal text x) h = decimal_word text x h
+literal_word (Text s) h = text_word s h
+literal_word (Boolean true) h = fixed_word fixed.True refl
+literal_word (Boolean false) h = fixed_word fixed.False refl
+literal_word Null h = fixed_word fixed.Null refl
 
-join_word : (c : Connective) → IsWord (Join c) (word_of (Join c))
+join_word : (c : Connective) → IsWord (signs.Join c) (word_of (signs.Join c))
 join_word Or = fixed_word fixed.Or refl
 join_word Xor = fixed_word fixed.Xor refl
 join_word And = fixed_word fixed.And refl
@@ -383,7 +390,7 @@ separator_word : (s : Separator) → IsWord (separator_sign s) (word_of (separat
 separator_word (separators.Connective c) = join_word c
 separator_word separators.Comma = fixed_word fixed.Comma refl
 
-comparison_word : (o : Comparison) → IsWord (Compare o) (word_of (Compare o))
+comparison_word : (o : Comparison) → IsWord (signs.Comparison o) (word_of (signs.Comparison o))
 comparison_word comparisons.Equal = fixed_word fixed.Equal refl
 comparison_word comparisons.Unequal = fixed_word fixed.Unequal refl
 comparison_word comparisons.Below = fixed_word fixed.Below refl
@@ -391,13 +398,13 @@ comparison_word comparisons.AtMost = fixed_word fixed.AtMost refl
 comparison_word comparisons.Above = fixed_word fixed.Above refl
 comparison_word comparisons.AtLeast = fixed_word fixed.AtLeast refl
 
-relation_word : (r : Relation) → IsWord (Relate r) (word_of (Relate r))
+relation_word : (r : Relation) → IsWord (signs.Relation r) (word_of (signs.Relation r))
 relation_word relations.StartsWith = fixed_word fixed.StartsWith refl
 relation_word relations.EndsWith = fixed_word fixed.EndsWith refl
 relation_word relations.Contains = fixed_word fixed.Contains refl
 relation_word relations.Matches = fixed_word fixed.Matches refl
 
-state_word : (s : State) → IsWord (Is s) (word_of (Is s))
+state_word : (s : State) → IsWord (signs.State s) (word_of (signs.State s))
 state_word states.Exists = fixed_word fixed.Exists refl
 state_word states.Missing = fixed_word fixed.Missing refl
 state_word states.IsEmpty = fixed_word fixed.IsEmpty refl
@@ -422,34 +429,34 @@ both_words [] us a b = b
 both_words (t ∷ ts) us a b = (a.0, both_words ts us a.1 b)
 
 closed_words : (ts : List Sign) → AreWords ts → AreWords (in_parentheses ts)
-closed_words ts a = (open_word, both_words ts (Close ∷ []) a (fixed_word fixed.Close refl, tt))
+closed_words ts a = (open_word, both_words ts (signs.Close ∷ []) a (fixed_word fixed.Close refl, tt))
 
-items_words : (vs : List Value) → AreValues vs → AreWords (items_signs vs)
+items_words : (vs : List Literal) → AreLiterals vs → AreWords (items_signs vs)
 items_words [] h = (fixed_word fixed.CloseList refl, tt)
-items_words (v ∷ []) h = (value_word v h.0, (fixed_word fixed.CloseList refl, tt))
-items_words (v ∷ w ∷ vs) h = (value_word v h.0, (fixed_word fixed.Comma refl, items_words (w ∷ vs) h.1))
+items_words (v ∷ []) h = (literal_word v h.0, (fixed_word fixed.CloseList refl, tt))
+items_words (v ∷ w ∷ vs) h = (literal_word v h.0, (fixed_word fixed.Comma refl, items_words (w ∷ vs) h.1))
 
-among_words : (vs : List Value) → AreValues vs → AreWords (among_signs vs)
+among_words : (vs : List Literal) → AreLiterals vs → AreWords (among_signs vs)
 among_words vs h = (fixed_word fixed.In refl, (open_list_word, items_words vs h))
 
-test_words : (t : Test) → IsPlainTest t → AreWords (test_signs t)
-test_words (TheValueIs s) h = (state_word s, tt)
-test_words (Compares o v) h = (comparison_word o, (value_word v h, tt))
-test_words (ComparesWith o other) h = (comparison_word o, (path_word other h, tt))
-test_words (HasLength o n) h = (fixed_word fixed.Length refl, (comparison_word o, (value_word (Natural n) h, tt)))
-test_words (IsOfKind k) h = (fixed_word fixed.Is refl, (kind_word k, tt))
-test_words (Relates r text) h = (relation_word r, (text_word text h, tt))
-test_words (IsAmong vs) h = among_words vs h
-test_words (HasKeysAmong texts) h = among_words (map Text texts) h
+condition_words : (t : Condition) → IsPlainCondition t → AreWords (condition_signs t)
+condition_words (Is s) h = (state_word s, tt)
+condition_words (Compare o v) h = (comparison_word o, (literal_word v h, tt))
+condition_words (CompareWith o other) h = (comparison_word o, (path_word other h, tt))
+condition_words (Length o n) h = (fixed_word fixed.Length refl, (comparison_word o, (literal_word (Natural n) h, tt)))
+condition_words (IsOf k) h = (fixed_word fixed.Is refl, (kind_word k, tt))
+condition_words (Relate r text) h = (relation_word r, (text_word text h, tt))
+condition_words (In vs) h = among_words vs h
+condition_words (KeysIn texts) h = among_words (map Text texts) h
 
-at_words : (p : List ℕ) (t : Test) → IsPath p → IsPlainTest t → AreWords (lead_signs t ++ Path p ∷ test_signs t)
-at_words p (HasKeysAmong texts) a b = (fixed_word fixed.Keys refl, (path_word p a, test_words (HasKeysAmong texts) b))
-at_words p t a b = (path_word p a, test_words t b)
+at_words : (p : List ℕ) (t : Condition) → IsPath p → IsPlainCondition t → AreWords (lead_signs t ++ signs.Path p ∷ condition_signs t)
+at_words p (KeysIn texts) a b = (fixed_word fixed.Keys refl, (path_word p a, condition_words (KeysIn texts) b))
+at_words p t a b = (path_word p a, condition_words t b)
 
-quantifier_words : (q : Quantifier) → IsPlainQuantifier q → AreWords (quantifier_signs q)
+quantifier_words : (q : HowMany) → IsPlainQuantifier q → AreWords (quantifier_signs q)
 quantifier_words quantifiers.Each h = (fixed_word fixed.Each refl, tt)
 quantifier_words quantifiers.Any h = (fixed_word fixed.Any refl, tt)
-quantifier_words (quantifiers.AtLeast k) h = (fixed_word fixed.At refl, (fixed_word fixed.Least refl, (value_word (Natural k) h, tt)))
+quantifier_words (quantifiers.AtLeast k) h = (fixed_word fixed.At refl, (fixed_word fixed.Least refl, (literal_word (Natural k) h, tt)))
 
 placed_words : (b : Bool) (ts : List Sign) → AreWords ts → AreWords (cond b ts (in_parentheses ts))
 placed_words true ts a = a
@@ -457,15 +464,15 @@ placed_words false ts a = closed_words ts a
 
 mutual
   tree_words : (e : Tree) (l : Level) → IsPlain e → AreWords (signs_at l e)
-  tree_words (At p t) l h = at_words p t h.0 h.1
-  tree_words (Denied e) l h = (fixed_word fixed.Not refl, tree_words e Single h)
+  tree_words (Test p t) l h = at_words p t h.0 h.1
+  tree_words (Not e) l h = (fixed_word fixed.Not refl, tree_words e Single h)
   tree_words (Implies a b) l h =
-      placed_words (takes_if l) (If ∷ (signs_at Whole a ++ Then ∷ signs_at Whole b)) (fixed_word fixed.If refl, both_words (signs_at Whole a) (Then ∷ signs_at Whole b) (tree_words a Whole h.0) (fixed_word fixed.Then refl, tree_words b Whole h.1))
+      placed_words (takes_if l) (signs.If ∷ (signs_at Whole a ++ signs.Then ∷ signs_at Whole b)) (fixed_word fixed.If refl, both_words (signs_at Whole a) (signs.Then ∷ signs_at Whole b) (tree_words a Whole h.0) (fixed_word fixed.Then refl, tree_words b Whole h.1))
   tree_words (Quantified q p e) l h =
-      both_words (quantifier_signs q) (Path p ∷ in_parentheses (signs_at Whole e)) (quantifier_words q h.2) (path_word p h.0, closed_words (signs_at Whole e) (tree_words e Whole h.1))
+      both_words (quantifier_signs q) (signs.Path p ∷ in_parentheses (signs_at Whole e)) (quantifier_words q h.2) (path_word p h.0, closed_words (signs_at Whole e) (tree_words e Whole h.1))
   tree_words (Joined c es) l h = placed_words (stands_at l c es) (part_signs (separators.Connective c) es) (part_words es (separators.Connective c) h)
   tree_words (AtLeast k es) l h =
-      (fixed_word fixed.At refl, (fixed_word fixed.Least refl, (value_word (Natural k) h.0, (fixed_word fixed.Of refl, closed_words (part_signs separators.Comma es) (part_words es separators.Comma h.1)))))
+      (fixed_word fixed.At refl, (fixed_word fixed.Least refl, (literal_word (Natural k) h.0, (fixed_word fixed.Of refl, closed_words (part_signs separators.Comma es) (part_words es separators.Comma h.1)))))
 
   part_words : (es : Trees) (s : Separator) → ArePlain es → AreWords (part_signs s es)
   part_words none s h = tt
@@ -479,7 +486,7 @@ mutual
 
 -- a text that is these tokens
 abbrev Reads : List ℕ → List Sign → Type 0
-Reads text ts = (us : List (Sign × ℕ)) × (map (λ u. u.0) us ≡ ts ++ End ∷ []) × IsLexed text us
+Reads text ts = (us : List (Sign × ℕ)) × (map (λ u. u.0) us ≡ ts ++ signs.End ∷ []) × IsLexed text us
 
 past_space : (b : Bool) (text : List ℕ) (ts : List Sign) → Reads text ts → Reads (cond b [] (32 ∷ []) ++ text) ts
 past_space true text ts o = o
@@ -491,9 +498,9 @@ nothing_follows false = refl
 
 -- what closes is a mark
 close_apart : (t : Sign) (text : List ℕ) → closes t ≡ true → is_apart (word_of t ++ text) ≡ true
-close_apart Close text h = refl
-close_apart CloseList text h = refl
-close_apart Comma text h = refl
+close_apart signs.Close text h = refl
+close_apart signs.CloseList text h = refl
+close_apart signs.Comma text h = refl
 close_apart t text h = absurd cc
 
 gap_apart : (opening closing : Bool) (text : List ℕ) → (closing ≡ true → is_apart text ≡ true) → (opening || is_apart (cond (opening || closing) [] (32 ∷ []) ++ text)) ≡ true
@@ -502,7 +509,7 @@ gap_apart false true text h = h refl
 gap_apart false false text h = refl
 
 lexed_from : (ts : List Sign) (t : Sign) → AreWords (t ∷ ts) → Reads (word_of t ++ laid_behind t ts) (t ∷ ts)
-lexed_from [] t a = ((t, length (word_of t ++ [])) ∷ (End, 0) ∷ [], refl, token (a.0.1 [] (nothing_follows (opens t))) a.0.0 (over refl))
+lexed_from [] t a = ((t, length (word_of t ++ [])) ∷ (signs.End, 0) ∷ [], refl, token (a.0.1 [] (nothing_follows (opens t))) a.0.0 (over refl))
 lexed_from (u ∷ ts) t a =
     let next : List ℕ = word_of u ++ laid_behind u ts in
     let o = past_space (opens t || closes u) next (u ∷ ts) (lexed_from ts u a.1) in (
@@ -512,7 +519,7 @@ lexed_from (u ∷ ts) t a =
     )
 
 lexed : (ts : List Sign) → AreWords ts → Reads (laid ts) ts
-lexed [] a = ((End, 0) ∷ [], refl, over refl)
+lexed [] a = ((signs.End, 0) ∷ [], refl, over refl)
 lexed (t ∷ ts) a = lexed_from ts t a
 
 pub printed_says : (n : ℕ) (e : Tree) → IsProper e → IsPlain e → nesting_at Whole e ≤ n → Says n (printed e) e

@@ -6,7 +6,9 @@ use Rattle.predicates_rules.specs.declared.expression.Connective.TheVariants.{Or
 use Rattle.predicates_rules.specs.declared.parser.Separator.{Separator}
 use Rattle.predicates_rules.specs.declared.parser.Separator.TheVariants as separators
 use Rattle.predicates_rules.specs.declared.stop.Stop.{Stop}
-use Rattle.predicates_rules.specs.Trees.{Sign, Join, Then, Path, Not, Open, Each, Any, AtWord, Keys, Close, Comma, End, Tree}
+use Rattle.predicates_rules.specs.Signs as signs
+use Rattle.predicates_rules.specs.Signs.{Sign}
+use Rattle.predicates_rules.specs.Trees.{Tree}
 use Rattle.predicates_rules.specs.Grammar.{Level, By, Single, Whole, Premise, tighter, separator_sign, part_level, Spells, test, keys, denied, group, quantified, at_least, alone, joined, no_if, implied, premise, each, any, at_least_items}
 use Rattle.predicates_rules.specs.Answers.{◌>>=◌}
 use Rattle.predicates_rules.specs.Reading.{Answer, same, after_join, after_comma, after_separator, begins, chain, whole, at_level}
@@ -24,13 +26,13 @@ begins_front (t ∷ ts) = begins t
 
 pub whole_step : (deeper : Level → List Sign → Answer) (ts : List Sign) → begins_front ts ≡ true → at_level deeper Whole ts ≡ at_level deeper (By Or) ts
 unfolding at_level whole
-whole_step deeper (Path path ∷ ts) h = refl
-whole_step deeper (Not ∷ ts) h = refl
-whole_step deeper (Open ∷ ts) h = refl
-whole_step deeper (Each ∷ ts) h = refl
-whole_step deeper (Any ∷ ts) h = refl
-whole_step deeper (AtWord ∷ ts) h = refl
-whole_step deeper (Keys ∷ ts) h = refl
+whole_step deeper (signs.Path path ∷ ts) h = refl
+whole_step deeper (signs.Not ∷ ts) h = refl
+whole_step deeper (signs.Open ∷ ts) h = refl
+whole_step deeper (signs.Each ∷ ts) h = refl
+whole_step deeper (signs.Any ∷ ts) h = refl
+whole_step deeper (signs.At ∷ ts) h = refl
+whole_step deeper (signs.Keys ∷ ts) h = refl
 whole_step deeper ts h = absurd cc
 
 -- no implication is of these levels
@@ -81,13 +83,13 @@ stops_inside Or ts s = (s.1, s.2)
 stops_inside Xor ts s = s.1
 stops_inside And ts s = tt
 
-stops_at_join : (c : Connective) (ts : List Sign) → Stops (tighter c) (Join c ∷ ts)
+stops_at_join : (c : Connective) (ts : List Sign) → Stops (tighter c) (signs.Join c ∷ ts)
 unfolding after_join
 stops_at_join Or ts = (refl, refl)
 stops_at_join Xor ts = refl
 stops_at_join And ts = tt
 
-pub stops_at_close : (l : Level) (ts : List Sign) → Stops l (Close ∷ ts)
+pub stops_at_close : (l : Level) (ts : List Sign) → Stops l (signs.Close ∷ ts)
 unfolding after_join
 stops_at_close Single ts = tt
 stops_at_close (By Or) ts = (refl, refl, refl)
@@ -96,11 +98,11 @@ stops_at_close (By And) ts = refl
 stops_at_close Whole ts = (refl, refl, refl)
 stops_at_close Premise ts = (refl, refl, refl)
 
-pub stops_at_then : (ts : List Sign) → Stops Premise (Then ∷ ts)
+pub stops_at_then : (ts : List Sign) → Stops Premise (signs.Then ∷ ts)
 unfolding after_join
 stops_at_then ts = (refl, refl, refl)
 
-pub stops_at_end : (l : Level) → Stops l (End ∷ [])
+pub stops_at_end : (l : Level) → Stops l (signs.End ∷ [])
 unfolding after_join
 stops_at_end Single = tt
 stops_at_end (By Or) = (refl, refl, refl)
@@ -127,11 +129,11 @@ unfolding after_join
 stops_at_separator (separators.Connective c) ts = stops_at_join c ts
 stops_at_separator separators.Comma ts = (refl, refl, refl)
 
-pub row_ends_at_close : (ts : List Sign) → Ends separators.Comma (Close ∷ ts)
+pub row_ends_at_close : (ts : List Sign) → Ends separators.Comma (signs.Close ∷ ts)
 unfolding after_comma
 row_ends_at_close ts = (refl, stops_at_close Whole ts)
 
-join_found : (c : Connective) (ts : List Sign) → after_join c (Join c ∷ ts) ≡ Some ts
+join_found : (c : Connective) (ts : List Sign) → after_join c (signs.Join c ∷ ts) ≡ Some ts
 unfolding after_join
 join_found Or ts = refl
 join_found Xor ts = refl
@@ -148,17 +150,17 @@ same_is Xor Xor e = refl
 same_is And And e = refl
 same_is c d e = absurd cc
 
-join_is : (c : Connective) (ts us : List Sign) → after_join c ts ≡ Some us → ts ≡ Join c ∷ us
+join_is : (c : Connective) (ts us : List Sign) → after_join c ts ≡ Some us → ts ≡ signs.Join c ∷ us
 unfolding after_join
-join_is c (Join d ∷ ts) us e =
+join_is c (signs.Join d ∷ ts) us e =
     let p = cond_some (same c d) ts us e in
     let q = same_is c d p.0 in
     rw (q, p.1) refl
 join_is c ts us e = absurd cc
 
-comma_is : (ts us : List Sign) → after_comma ts ≡ Some us → ts ≡ Comma ∷ us
+comma_is : (ts us : List Sign) → after_comma ts ≡ Some us → ts ≡ signs.Comma ∷ us
 unfolding after_comma
-comma_is (Comma ∷ ts) us e = let same : ts ≡ us = cc in ap (λ (vs : List Sign). Comma ∷ vs) same
+comma_is (signs.Comma ∷ ts) us e = let same : ts ≡ us = cc in ap (λ (vs : List Sign). signs.Comma ∷ vs) same
 comma_is ts us e = absurd cc
 
 pub separator_is : (s : Separator) (ts us : List Sign) → after_separator s ts ≡ Some us → ts ≡ separator_sign s ∷ us

@@ -1,5 +1,7 @@
 -- Where a text stops being rules, and why.
-use Rattle.std.specs.Prelude.{◌≡◌, ◌≢◌, ℕ, suc, ◌+◌, ◌-◌, ◌<◌, ◌≤◌, true, false, List, [], ◌∷◌, ◌++◌, map, length, take, drop, Option, Some, None, option_map, unwrap_or, Err}
+use Rattle.std.specs.Prelude.{◌≡◌, ◌≢◌, ℕ, suc, ◌+◌, ◌-◌, ◌<◌, ◌≤◌, true, false, List, [], ◌∷◌}
+use Rattle.std.specs.Prelude.{◌++◌, map, length, take, drop, Option, Some, None, option_map}
+use Rattle.std.specs.Prelude.{unwrap_or, Err}
 use Rattle.std.specs.List.{find, prefix_len}
 use Rattle.std.specs.Str.{bytes_eq}
 use Rattle.predicates_rules.specs.declared.error.Reason.TheVariants.{TooDeep, Repeated}
@@ -7,13 +9,16 @@ use Rattle.predicates_rules.specs.declared.error.RulesError.{RulesError}
 use Rattle.predicates_rules.specs.declared.error.RulesError.TheVariants.{NoMemory, Unreadable}
 use Rattle.predicates_rules.specs.declared.fault.Fault.{Fault}
 use Rattle.predicates_rules.specs.declared.lexer.Class.{Class}
-use Rattle.predicates_rules.specs.declared.lexer.Class.TheVariants.{Letter, Quote, Slash, Name, Other}
+use Rattle.predicates_rules.specs.declared.lexer.Class.TheVariants.{Letter, Quote, Slash, Name}
+use Rattle.predicates_rules.specs.declared.lexer.Class.TheVariants.{Other}
 use Rattle.predicates_rules.specs.declared.stop.Stop.{Stop}
 use Rattle.predicates_rules.specs.declared.stop.ReadError.{ReadError}
 use Rattle.predicates_rules.specs.declared.stop.ReadError.TheVariants as errors
-use Rattle.predicates_rules.specs.Trees.{Sign, Tree}
+use Rattle.predicates_rules.specs.Signs.{Sign}
+use Rattle.predicates_rules.specs.Trees.{Tree}
 use Rattle.predicates_rules.specs.Grammar.{max_depth}
-use Rattle.predicates_rules.specs.Lexemes.{class_of, continues, text_end, is_space, is_over, cut, IsWritten, IsLexed}
+use Rattle.predicates_rules.specs.Lexemes.{class_of, continues, text_end, is_space, is_over, cut}
+use Rattle.predicates_rules.specs.Lexemes.{IsWritten, IsLexed}
 use Rattle.predicates_rules.specs.Scanning.{token_at, after_space}
 use Rattle.predicates_rules.specs.Reading.{all_of}
 use Rattle.predicates_rules.specs.Heading.{head_at}
@@ -21,9 +26,12 @@ use Rattle.predicates_rules.specs.Rules.{after_spaces, Heads, IsLine}
 
 -- behind spaces and tokens no token stands, no space and no end
 pub data NoToken : List ℕ → Stop → Type 0 where
-  no_token_here : {text : List ℕ} {s : Stop} → is_over text ≡ false → after_space text ≡ None → token_at text ≡ Err s → NoToken text s
-  behind_space_fault : {b : ℕ} {text : List ℕ} {s : Stop} → is_space b ≡ true → NoToken text s → NoToken (b ∷ text) s
-  past_token_fault : {text word rest : List ℕ} {t : Sign} {s : Stop} → cut text ≡ Some (word, rest) → IsWritten t word → NoToken rest s → NoToken text s
+  no_token_here : {text : List ℕ} {s : Stop} → is_over text ≡ false → after_space text ≡ None
+      → token_at text ≡ Err s → NoToken text s
+  behind_space_fault : {b : ℕ} {text : List ℕ} {s : Stop} → is_space b ≡ true → NoToken text s
+      → NoToken (b ∷ text) s
+  past_token_fault : {text word rest : List ℕ} {t : Sign} {s : Stop} → cut text ≡ Some (word, rest)
+      → IsWritten t word → NoToken rest s → NoToken text s
 
 abbrev pub first_left : List (Sign × ℕ) → ℕ
 first_left [] = 0
@@ -43,12 +51,15 @@ error_in_bytes ts (errors.Stopped s) = errors.Stopped (in_bytes ts s)
 -- why the text of an expression says none, and how many bytes are left there
 pub data IsFault : List ℕ → Stop → Type 0 where
   no_token : {text : List ℕ} {s : Stop} → NoToken text s → IsFault text s
-  no_expression : {text : List ℕ} {t : Stop} (ts : List (Sign × ℕ)) (s : Stop) → IsLexed text ts → all_of max_depth (map (λ x. x.0) ts) ≡ Err s → t ≡ in_bytes ts s → IsFault text t
+  no_expression : {text : List ℕ} {t : Stop} (ts : List (Sign × ℕ)) (s : Stop) → IsLexed text ts
+      → all_of max_depth (map (λ x. x.0) ts) ≡ Err s → t ≡ in_bytes ts s → IsFault text t
 
 -- why a line has no rule and is not blank, and how many of its bytes are left there
 pub data IsLineFault : List ℕ → Stop → Type 0 where
-  no_head : {line : List ℕ} {s : Stop} → is_over (after_spaces line) ≡ false → head_at (after_spaces line) ≡ Err s → IsLineFault line s
-  no_rule : {line : List ℕ} {s : Stop} (name text : List ℕ) → Heads line name text → IsFault text s → IsLineFault line s
+  no_head : {line : List ℕ} {s : Stop} → is_over (after_spaces line) ≡ false
+      → head_at (after_spaces line) ≡ Err s → IsLineFault line s
+  no_rule : {line : List ℕ} {s : Stop} (name text : List ℕ) → Heads line name text → IsFault text s
+      → IsLineFault line s
 
 -- the column, from 1, where this many bytes of the line are left
 abbrev pub column_at : List ℕ → ℕ → ℕ
@@ -81,12 +92,14 @@ found_at line left = told (after_spaces (drop (length line - left) line))
 
 -- the fault where the line with this number stops
 abbrev pub IsFaultAt : ℕ → List ℕ → Stop → Fault → Type 0
-IsFaultAt number line s f = (f.line ≡ number) × (f.column ≡ column_at line s.left) × (f.reason ≡ s.reason) × (f.found.items ≡ found_at line s.left)
+IsFaultAt number line s f = (f.line ≡ number) × (f.column ≡ column_at line s.left)
+    × (f.reason ≡ s.reason) × (f.found.items ≡ found_at line s.left)
 
 -- the line with this number has no rule and is not blank
 abbrev pub IsUnread : ℕ → List ℕ → Fault → Type 0
 IsUnread number line f =
-    ((o : Option (List ℕ × Tree)) → IsLine max_depth line o → ⊥) × (f.reason ≢ TooDeep → (n : ℕ) (o : Option (List ℕ × Tree)) → IsLine n line o → ⊥)
+    ((o : Option (List ℕ × Tree)) → IsLine max_depth line o → ⊥)
+    × (f.reason ≢ TooDeep → (n : ℕ) (o : Option (List ℕ × Tree)) → IsLine n line o → ⊥)
     × ((s : Stop) × IsLineFault line s × IsFaultAt number line s f)
 
 -- ---- names that stand on more than one line
@@ -100,30 +113,40 @@ bare rs = map (λ (x : Placed). x.1) rs
 
 -- the line of the rule with this name
 abbrev pub number_named : List ℕ → List Placed → Option ℕ
-number_named name rs = option_map (λ (x : Placed). x.0) (find (λ (x : Placed). bytes_eq x.1.0 name) rs)
+number_named name rs =
+    option_map (λ (x : Placed). x.0) (find (λ (x : Placed). bytes_eq x.1.0 name) rs)
 
 -- the fault of the line with this number, whose rule has the name of the one on the first line
 abbrev pub IsRepeatAt : ℕ → ℕ → List ℕ → List ℕ → Fault → Type 0
-IsRepeatAt number first line name f = (f.line ≡ number) × (f.column ≡ column_at line (length (after_spaces line))) × (f.reason ≡ Repeated first) × (f.found.items ≡ name)
+IsRepeatAt number first line name f = (f.line ≡ number)
+    × (f.column ≡ column_at line (length (after_spaces line))) × (f.reason ≡ Repeated first)
+    × (f.found.items ≡ name)
 
 -- ---- all lines
 
 -- the rule and the fault of the line with this number, behind lines with these rules
-pub data Adds (number : ℕ) (line : List ℕ) (rs : List Placed) : List Placed → List Fault → Type 0 where
+pub data Adds (number : ℕ) (line : List ℕ) (rs : List Placed) : List Placed → List Fault
+    → Type 0 where
   nothing : IsLine max_depth line None → Adds number line rs [] []
-  a_rule : (r : List ℕ × Tree) → IsLine max_depth line (Some r) → number_named r.0 rs ≡ None → Adds number line rs ((number, r) ∷ []) []
-  a_repeat : (r : List ℕ × Tree) (first : ℕ) (f : Fault) → IsLine max_depth line (Some r) → number_named r.0 rs ≡ Some first → IsRepeatAt number first line r.0 f → Adds number line rs [] (f ∷ [])
+  a_rule : (r : List ℕ × Tree) → IsLine max_depth line (Some r) → number_named r.0 rs ≡ None
+      → Adds number line rs ((number, r) ∷ []) []
+  a_repeat : (r : List ℕ × Tree) (first : ℕ) (f : Fault) → IsLine max_depth line (Some r)
+      → number_named r.0 rs ≡ Some first → IsRepeatAt number first line r.0 f
+      → Adds number line rs [] (f ∷ [])
   no_line : (f : Fault) → IsUnread number line f → Adds number line rs [] (f ∷ [])
 
 -- the rules and the faults of the first lines, so many of them, in their order
 pub data HasRead (lines : List (List ℕ)) : ℕ → List Placed → List Fault → Type 0 where
   none_yet : HasRead lines 0 [] []
-  one_line : {i : ℕ} {rs more : List Placed} {fs others : List Fault} {line : List ℕ} {rest : List (List ℕ)} → drop i lines ≡ line ∷ rest → HasRead lines i rs fs → Adds (i + 1) line rs more others → HasRead lines (i + 1) (rs ++ more) (fs ++ others)
+  one_line : {i : ℕ} {rs more : List Placed} {fs others : List Fault} {line : List ℕ}
+      {rest : List (List ℕ)} → drop i lines ≡ line ∷ rest → HasRead lines i rs fs
+      → Adds (i + 1) line rs more others → HasRead lines (i + 1) (rs ++ more) (fs ++ others)
 
 -- the first fault of lines, unless memory ran out
 abbrev pub IsFaultOf : List (List ℕ) → RulesError → Type 0
 IsFaultOf lines NoMemory = Unit {0}
-IsFaultOf lines (Unreadable f) = (i : ℕ) × (rs : List Placed) × (fs : List Fault) × HasRead lines i rs (f ∷ fs)
+IsFaultOf lines (Unreadable f) =
+    (i : ℕ) × (rs : List Placed) × (fs : List Fault) × HasRead lines i rs (f ∷ fs)
 
 -- neither memory nor the depth was too little
 abbrev pub IsSyntaxError : RulesError → Type 0
@@ -135,4 +158,5 @@ most_faults = 20
 
 -- the faults of all lines, or so many that no more are told
 abbrev pub HasFaults : List (List ℕ) → List Fault → Type 0
-HasFaults lines fs = (i : ℕ) × (rs : List Placed) × HasRead lines i rs fs × (length fs < most_faults → length lines ≤ i)
+HasFaults lines fs = (i : ℕ) × (rs : List Placed) × HasRead lines i rs fs
+    × (length fs < most_faults → length lines ≤ i)

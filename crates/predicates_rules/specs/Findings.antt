@@ -1,5 +1,6 @@
 -- What was found in lines so far.
-use Rattle.std.specs.Prelude.{◌≡◌, ℕ, ◌<◌, ◌≤◌, List, [], ◌∷◌, ◌++◌, map, length, Vec, Result, Ok, Err}
+use Rattle.std.specs.Prelude.{◌≡◌, ℕ, ◌<◌, ◌≤◌, List, [], ◌∷◌, ◌++◌, map, length, Vec, Result, Ok}
+use Rattle.std.specs.Prelude.{Err}
 use Rattle.std.specs.declared.alloc.Global.{Global}
 use Rattle.predicates_rules.specs.declared.fault.Fault.{Fault}
 use Rattle.predicates_rules.specs.declared.findings.Numbered.{Numbered}
@@ -19,11 +20,14 @@ rules_in findings = map numbered_of findings.rules.items
 -- with what a line adds
 abbrev pub HasAdded : ℕ → List ℕ → Findings → Findings → Type 0
 HasAdded number line before after =
-    (rs : List Placed) × (fs : List Fault) × Adds number line (rules_in before) rs fs × (rules_in after ≡ rules_in before ++ rs) × (after.faults.items ≡ before.faults.items ++ fs)
+    (rs : List Placed) × (fs : List Fault) × Adds number line (rules_in before) rs fs
+    × (rules_in after ≡ rules_in before ++ rs)
+    × (after.faults.items ≡ before.faults.items ++ fs)
 
 -- what lines have up to the last fault of so many
 abbrev pub HasFound : ℕ → List (List ℕ) → Findings → Type 0
-HasFound most lines findings = (i : ℕ) × HasRead lines i (rules_in findings) findings.faults.items × (length findings.faults.items < most → length lines ≤ i)
+HasFound most lines findings = (i : ℕ) × HasRead lines i (rules_in findings) findings.faults.items
+    × (length findings.faults.items < most → length lines ≤ i)
 
 -- the rules where there are no faults, and else the first fault, unless memory ran out
 abbrev pub IsOutcome : List Placed → List Fault → Result (Vec Rule Global) RulesError → Type 0

@@ -2,8 +2,8 @@
 use Rattle.std.specs.Prelude.{ℕ, suc, List, [], ◌∷◌, map}
 use Rattle.predicates_rules.specs.declared.expression.Connective.{Connective}
 use Rattle.predicates_rules.specs.declared.expression.Connective.TheVariants.{Or, Xor, And}
-use Rattle.predicates_rules.specs.declared.expression.Quantifier.{Quantifier}
-use Rattle.predicates_rules.specs.declared.expression.Quantifier.TheVariants as quantifiers
+use Rattle.predicates_rules.specs.declared.expression.HowMany.{HowMany}
+use Rattle.predicates_rules.specs.declared.expression.HowMany.TheVariants as quantifiers
 use Rattle.predicates_rules.specs.declared.parser.Separator.{Separator}
 use Rattle.predicates_rules.specs.declared.parser.Separator.TheVariants as separators
 use Rattle.predicates_rules.specs.declared.condition.Comparison.{Comparison}
@@ -11,7 +11,13 @@ use Rattle.predicates_rules.specs.declared.condition.Relation.{Relation}
 use Rattle.predicates_rules.specs.declared.condition.State.{State}
 use Rattle.predicates_rules.specs.declared.condition.ValueKind.{ValueKind}
 use Rattle.predicates_rules.specs.declared.condition.ValueKind.TheVariants as value_kinds
-use Rattle.predicates_rules.specs.Trees.{Value, Natural, Text, Null, Sign, Join, Not, If, Then, Each, Any, AtWord, Keys, Least, Of, Open, Close, OpenList, CloseList, Comma, Path, Compare, Relate, In, Is, Length, IsKind, KindName, Plain, End, Test, TheValueIs, Compares, ComparesWith, HasLength, IsOfKind, Relates, IsAmong, HasKeysAmong, Tree, At, Denied, Implies, Quantified, Joined, AtLeast, Trees, none, more}
+use Rattle.predicates_rules.specs.Literals.{Literal, Natural, Text, Null}
+use Rattle.predicates_rules.specs.Signs as signs
+use Rattle.predicates_rules.specs.Signs.{Sign}
+use Rattle.predicates_rules.specs.Conditions.{Condition, Is, Compare, CompareWith, Length, IsOf}
+use Rattle.predicates_rules.specs.Conditions.{Relate, In, KeysIn}
+use Rattle.predicates_rules.specs.Trees.{Tree, Test, Not, Implies, Quantified, Joined, AtLeast}
+use Rattle.predicates_rules.specs.Trees.{Trees, none, more}
 
 -- How tightly an expression holds together: one joined by c or by what binds tighter, or a single
 -- one. A whole one may be an implication too. So may a premise, what stands behind an `if`, which
@@ -31,8 +37,8 @@ tighter And = Single
 -- What parts the expressions of a row: the connective that joins them, or a comma. Behind a comma
 -- stands any expression.
 abbrev pub separator_sign : Separator → Sign
-separator_sign (separators.Connective c) = Join c
-separator_sign separators.Comma = Comma
+separator_sign (separators.Connective c) = signs.Join c
+separator_sign separators.Comma = signs.Comma
 
 abbrev pub part_level : Separator → Level
 part_level (separators.Connective c) = tighter c
@@ -42,39 +48,52 @@ part_level separators.Comma = Whole
 -- phrase.
 
 -- v , .. , v ]
-pub data Items : List Sign → List Value → List Sign → Type 0 where
-  last : {v : Value} {rest : List Sign} → Items (Plain v ∷ CloseList ∷ rest) (v ∷ []) rest
-  another : {v : Value} {ts rest : List Sign} {vs : List Value} → Items ts vs rest → Items (Plain v ∷ Comma ∷ ts) (v ∷ vs) rest
+pub data Items : List Sign → List Literal → List Sign → Type 0 where
+  last : {v : Literal} {rest : List Sign}
+      → Items (signs.Literal v ∷ signs.CloseList ∷ rest) (v ∷ []) rest
+  another : {v : Literal} {ts rest : List Sign} {vs : List Literal} → Items ts vs rest
+      → Items (signs.Literal v ∷ signs.Comma ∷ ts) (v ∷ vs) rest
 
 -- what is said of the value at a path
-pub data IsTest : List Sign → Test → List Sign → Type 0 where
+pub data IsCondition : List Sign → Condition → List Sign → Type 0 where
   -- WORD
-  word : {s : State} {rest : List Sign} → IsTest (Is s ∷ rest) (TheValueIs s) rest
+  word : {s : State} {rest : List Sign} → IsCondition (signs.State s ∷ rest) (Is s) rest
   -- OPERATOR LITERAL
-  compare : {o : Comparison} {v : Value} {rest : List Sign} → IsTest (Compare o ∷ Plain v ∷ rest) (Compares o v) rest
+  compare : {o : Comparison} {v : Literal} {rest : List Sign}
+      → IsCondition (signs.Comparison o ∷ signs.Literal v ∷ rest) (Compare o v) rest
   -- OPERATOR PATH
-  compare_with : {o : Comparison} {path : List ℕ} {rest : List Sign} → IsTest (Compare o ∷ Path path ∷ rest) (ComparesWith o path) rest
+  compare_with : {o : Comparison} {path : List ℕ} {rest : List Sign}
+      → IsCondition (signs.Comparison o ∷ signs.Path path ∷ rest) (CompareWith o path) rest
   -- length OPERATOR NUMBER
-  has_length : {o : Comparison} {n : ℕ} {rest : List Sign} → IsTest (Length ∷ Compare o ∷ Plain (Natural n) ∷ rest) (HasLength o n) rest
+  has_length : {o : Comparison} {n : ℕ} {rest : List Sign}
+      → IsCondition (signs.Length ∷ signs.Comparison o ∷ signs.Literal (Natural n) ∷ rest)
+      (Length o n) rest
   -- is KIND
-  of_kind : {k : ValueKind} {rest : List Sign} → IsTest (IsKind ∷ KindName k ∷ rest) (IsOfKind k) rest
+  of_kind : {k : ValueKind} {rest : List Sign}
+      → IsCondition (signs.Is ∷ signs.ValueKind k ∷ rest) (IsOf k) rest
   -- is null
-  of_null : {rest : List Sign} → IsTest (IsKind ∷ Plain Null ∷ rest) (IsOfKind value_kinds.Null) rest
+  of_null : {rest : List Sign}
+      → IsCondition (signs.Is ∷ signs.Literal Null ∷ rest) (IsOf value_kinds.Null) rest
   -- OPERATOR TEXT
-  relate : {r : Relation} {text : List ℕ} {rest : List Sign} → IsTest (Relate r ∷ Plain (Text text) ∷ rest) (Relates r text) rest
+  relate : {r : Relation} {text : List ℕ} {rest : List Sign}
+      → IsCondition (signs.Relation r ∷ signs.Literal (Text text) ∷ rest) (Relate r text) rest
   -- in [ ]
-  among_none : {rest : List Sign} → IsTest (In ∷ OpenList ∷ CloseList ∷ rest) (IsAmong []) rest
+  among_none : {rest : List Sign}
+      → IsCondition (signs.In ∷ signs.OpenList ∷ signs.CloseList ∷ rest) (In []) rest
   -- in [ v , .. , v ]
-  among : {ts rest : List Sign} {vs : List Value} → Items ts vs rest → IsTest (In ∷ OpenList ∷ ts) (IsAmong vs) rest
+  among : {ts rest : List Sign} {vs : List Literal} → Items ts vs rest
+      → IsCondition (signs.In ∷ signs.OpenList ∷ ts) (In vs) rest
 
 -- how many items have to meet an expression
-pub data IsQuantifier : List Sign → Quantifier → List Sign → Type 0 where
+pub data IsQuantifier : List Sign → HowMany → List Sign → Type 0 where
   -- each
-  each : {rest : List Sign} → IsQuantifier (Each ∷ rest) quantifiers.Each rest
+  each : {rest : List Sign} → IsQuantifier (signs.Each ∷ rest) quantifiers.Each rest
   -- any
-  any : {rest : List Sign} → IsQuantifier (Any ∷ rest) quantifiers.Any rest
+  any : {rest : List Sign} → IsQuantifier (signs.Any ∷ rest) quantifiers.Any rest
   -- at least K
-  at_least_items : {k : ℕ} {rest : List Sign} → IsQuantifier (AtWord ∷ Least ∷ Plain (Natural k) ∷ rest) (quantifiers.AtLeast k) rest
+  at_least_items : {k : ℕ} {rest : List Sign}
+      → IsQuantifier (signs.At ∷ signs.Least ∷ signs.Literal (Natural k) ∷ rest)
+      (quantifiers.AtLeast k) rest
 
 mutual
   -- An expression of a level, which nests at most n deep. What `not` denies, what stands in
@@ -82,35 +101,52 @@ mutual
   -- joined or listed is not.
   pub data Spells : ℕ → Level → List Sign → Tree → List Sign → Type 0 where
     -- PATH ..
-    test : {n : ℕ} {path : List ℕ} {t : Test} {ts rest : List Sign} → IsTest ts t rest → Spells n Single (Path path ∷ ts) (At path t) rest
+    test : {n : ℕ} {path : List ℕ} {t : Condition} {ts rest : List Sign} → IsCondition ts t rest
+        → Spells n Single (signs.Path path ∷ ts) (Test path t) rest
     -- keys PATH in [ T , .. , T ]
-    keys : {n : ℕ} {path : List ℕ} {texts : List (List ℕ)} {ts rest : List Sign} → IsTest ts (IsAmong (map Text texts)) rest → Spells n Single (Keys ∷ Path path ∷ ts) (At path (HasKeysAmong texts)) rest
+    keys : {n : ℕ} {path : List ℕ} {texts : List (List ℕ)} {ts rest : List Sign}
+        → IsCondition ts (In (map Text texts)) rest
+        → Spells n Single (signs.Keys ∷ signs.Path path ∷ ts) (Test path (KeysIn texts)) rest
     -- not E
-    denied : {n : ℕ} {e : Tree} {ts rest : List Sign} → Spells n Single ts e rest → Spells (suc n) Single (Not ∷ ts) (Denied e) rest
+    denied : {n : ℕ} {e : Tree} {ts rest : List Sign} → Spells n Single ts e rest
+        → Spells (suc n) Single (signs.Not ∷ ts) (Not e) rest
     -- ( E )
-    group : {n : ℕ} {e : Tree} {ts rest : List Sign} → Spells n Whole ts e (Close ∷ rest) → Spells (suc n) Single (Open ∷ ts) e rest
+    group : {n : ℕ} {e : Tree} {ts rest : List Sign} → Spells n Whole ts e (signs.Close ∷ rest)
+        → Spells (suc n) Single (signs.Open ∷ ts) e rest
     -- each PATH ( E )    any PATH ( E )    at least K PATH ( E )
-    quantified : {n : ℕ} {q : Quantifier} {path : List ℕ} {e : Tree} {ts us rest : List Sign} → IsQuantifier ts q (Path path ∷ Open ∷ us) → Spells n Whole us e (Close ∷ rest)
+    quantified : {n : ℕ} {q : HowMany} {path : List ℕ} {e : Tree} {ts us rest : List Sign}
+        → IsQuantifier ts q (signs.Path path ∷ signs.Open ∷ us)
+        → Spells n Whole us e (signs.Close ∷ rest)
         → Spells (suc n) Single ts (Quantified q path e) rest
     -- at least K of ( E , .. , E )
-    at_least : {n k : ℕ} {e : Tree} {es : Trees} {ts us rest : List Sign} → Spells n Whole ts e us → Follow n separators.Comma us es (Close ∷ rest)
-        → Spells (suc n) Single (AtWord ∷ Least ∷ Plain (Natural k) ∷ Of ∷ Open ∷ ts) (AtLeast k (more e es)) rest
+    at_least : {n k : ℕ} {e : Tree} {es : Trees} {ts us rest : List Sign} → Spells n Whole ts e us
+        → Follow n separators.Comma us es (signs.Close ∷ rest)
+        → Spells (suc n) Single
+        (signs.At ∷ signs.Least ∷ signs.Literal (Natural k) ∷ signs.Of ∷ signs.Open ∷ ts)
+        (AtLeast k (more e es)) rest
     -- what binds tighter, alone
-    alone : {n : ℕ} {c : Connective} {e : Tree} {ts rest : List Sign} → Spells n (tighter c) ts e rest → Spells n (By c) ts e rest
+    alone : {n : ℕ} {c : Connective} {e : Tree} {ts rest : List Sign}
+        → Spells n (tighter c) ts e rest → Spells n (By c) ts e rest
     -- E c E .. c E
-    joined : {n : ℕ} {c : Connective} {e f : Tree} {es : Trees} {ts us rest : List Sign} → Spells n (tighter c) ts e us → Follow n (separators.Connective c) us (more f es) rest
+    joined : {n : ℕ} {c : Connective} {e f : Tree} {es : Trees} {ts us rest : List Sign}
+        → Spells n (tighter c) ts e us → Follow n (separators.Connective c) us (more f es) rest
         → Spells n (By c) ts (Joined c (more e (more f es))) rest
     -- without `if`
-    no_if : {n : ℕ} {e : Tree} {ts rest : List Sign} → Spells n (By Or) ts e rest → Spells n Whole ts e rest
+    no_if : {n : ℕ} {e : Tree} {ts rest : List Sign} → Spells n (By Or) ts e rest
+        → Spells n Whole ts e rest
     -- if E then E
-    implied : {n : ℕ} {a b : Tree} {ts us rest : List Sign} → Spells n Premise ts a (Then ∷ us) → Spells n Whole us b rest → Spells (suc n) Whole (If ∷ ts) (Implies a b) rest
+    implied : {n : ℕ} {a b : Tree} {ts us rest : List Sign}
+        → Spells n Premise ts a (signs.Then ∷ us) → Spells n Whole us b rest
+        → Spells (suc n) Whole (signs.If ∷ ts) (Implies a b) rest
     -- what stands behind an `if`
-    premise : {n : ℕ} {e : Tree} {ts rest : List Sign} → Spells n Whole ts e rest → Spells (suc n) Premise ts e rest
+    premise : {n : ℕ} {e : Tree} {ts rest : List Sign} → Spells n Whole ts e rest
+        → Spells (suc n) Premise ts e rest
 
   -- s E .. s E, or nothing
   pub data Follow : ℕ → Separator → List Sign → Trees → List Sign → Type 0 where
     no_more : {n : ℕ} {s : Separator} {rest : List Sign} → Follow n s rest none rest
-    and_more : {n : ℕ} {s : Separator} {e : Tree} {es : Trees} {ts us rest : List Sign} → Spells n (part_level s) ts e us → Follow n s us es rest
+    and_more : {n : ℕ} {s : Separator} {e : Tree} {es : Trees} {ts us rest : List Sign}
+        → Spells n (part_level s) ts e us → Follow n s us es rest
         → Follow n s (separator_sign s ∷ ts) (more e es) rest
 
 -- how deep a rule may nest
@@ -119,4 +155,4 @@ max_depth = 100
 
 -- all of the tokens
 abbrev pub IsSpelled : ℕ → List Sign → Tree → Type 0
-IsSpelled n ts e = Spells n Whole ts e (End ∷ [])
+IsSpelled n ts e = Spells n Whole ts e (signs.End ∷ [])

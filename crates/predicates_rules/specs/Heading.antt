@@ -1,11 +1,14 @@
 -- Taking the name from the front of a line.
-use Rattle.std.specs.Prelude.{ℕ, zero, suc, ◌==◌, List, [], ◌∷◌, length, take, drop, if◌then◌else◌, Result, Ok}
+use Rattle.std.specs.Prelude.{ℕ, zero, suc, ◌==◌, List, [], ◌∷◌, length, take, drop, if◌then◌else◌}
+use Rattle.std.specs.Prelude.{Result, Ok}
 use Rattle.std.specs.List.{prefix_len}
 use Rattle.predicates_rules.specs.declared.error.Expected.TheVariants as expected
 use Rattle.predicates_rules.specs.declared.lexer.Class.TheVariants.{Name}
 use Rattle.predicates_rules.specs.declared.stop.Stop.{Stop}
 use Rattle.predicates_rules.specs.Answers.{◌>>=◌, stops}
-use Rattle.predicates_rules.specs.Trees.{Text, Sign, Plain}
+use Rattle.predicates_rules.specs.Literals.{Text}
+use Rattle.predicates_rules.specs.Signs as signs
+use Rattle.predicates_rules.specs.Signs.{Sign}
 use Rattle.predicates_rules.specs.Lexemes.{continues, is_shown, is_title, is_quoted}
 use Rattle.predicates_rules.specs.Scanning.{token_at}
 
@@ -16,14 +19,17 @@ after_colon (b ∷ text) = if b == 58 then Ok text else stops expected.Colon (le
 -- a name of k bytes, and the text behind its colon
 abbrev pub named : ℕ → List ℕ → Result (List ℕ × List ℕ) Stop
 named zero line = stops expected.Name (length line)
-named (suc k) line = if is_shown (take (suc k) line) then (after_colon (drop (suc k) line) >>= λ text. Ok (take (suc k) line, text)) else stops expected.Utf8 (length line)
+named (suc k) line = if is_shown (take (suc k) line)
+    then (after_colon (drop (suc k) line) >>= λ text. Ok (take (suc k) line, text))
+    else stops expected.Utf8 (length line)
 
 unfoldable pub bare_head : List ℕ → Result (List ℕ × List ℕ) Stop
 bare_head line = named (prefix_len (continues Name) line) line
 
 -- the name that a text in quotes is
 abbrev pub title_or : ℕ → Sign → Result (List ℕ) Stop
-title_or left (Plain (Text name)) = if is_title name then Ok name else stops expected.Name left
+title_or left (signs.Literal (Text name)) =
+    if is_title name then Ok name else stops expected.Name left
 title_or left t = stops expected.Name left
 
 unfoldable pub quoted_head : List ℕ → Result (List ℕ × List ℕ) Stop

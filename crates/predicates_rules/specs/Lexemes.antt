@@ -1,5 +1,7 @@
 -- How each token is written.
-use Rattle.std.specs.Prelude.{◌≡◌, ℕ, Bool, true, false, not, ◌&&◌, ◌||◌, ◌==◌, nat_le, nat_lt, List, [], ◌∷◌, length, codes, Option, Some, None, option_map, if◌then◌else◌, take, drop, suc}
+use Rattle.std.specs.Prelude.{◌≡◌, ℕ, Bool, true, false, not, ◌&&◌, ◌||◌, ◌==◌, nat_le, nat_lt}
+use Rattle.std.specs.Prelude.{List, [], ◌∷◌, length, codes, Option, Some, None, option_map}
+use Rattle.std.specs.Prelude.{if◌then◌else◌, take, drop, suc}
 use Rattle.std.specs.List.{find, list_any, prefix_len}
 use Rattle.std.specs.Str.{bytes_eq, chars, is_utf8}
 use Rattle.serde_json.specs.Data.{Data, null, boolean, number, string, unsigned, negative, float}
@@ -12,8 +14,13 @@ use Rattle.predicates_rules.specs.declared.condition.ValueKind.TheVariants as va
 use Rattle.predicates_rules.specs.declared.fixed.Fixed.{Fixed}
 use Rattle.predicates_rules.specs.declared.fixed.Fixed.TheVariants as fixed
 use Rattle.predicates_rules.specs.declared.lexer.Class.{Class}
-use Rattle.predicates_rules.specs.declared.lexer.Class.TheVariants.{Letter, Digit, Symbol, Mark, Slash, Quote, Space, Name, Other}
-use Rattle.predicates_rules.specs.Trees.{Value, Natural, Negative, Decimal, Text, Boolean, Null, Sign, Join, Not, If, Then, Each, Any, AtWord, Keys, Least, Of, Open, Close, OpenList, CloseList, Comma, Path, Compare, Relate, In, Is, Length, IsKind, KindName, Plain, End}
+use Rattle.predicates_rules.specs.declared.lexer.Class.TheVariants.{Letter, Digit, Symbol, Mark}
+use Rattle.predicates_rules.specs.declared.lexer.Class.TheVariants.{Slash, Quote, Space, Name}
+use Rattle.predicates_rules.specs.declared.lexer.Class.TheVariants.{Other}
+use Rattle.predicates_rules.specs.Literals.{Literal, Natural, Negative, Decimal, Text, Boolean}
+use Rattle.predicates_rules.specs.Literals.{Null}
+use Rattle.predicates_rules.specs.Signs as signs
+use Rattle.predicates_rules.specs.Signs.{Sign}
 
 -- ---- tokens with a text of their own
 
@@ -62,51 +69,57 @@ text_of fixed.CloseList = codes "]"
 text_of fixed.Comma = codes ","
 
 abbrev pub sign_of_fixed : Fixed → Sign
-sign_of_fixed fixed.Or = Join connectives.Or
-sign_of_fixed fixed.Xor = Join connectives.Xor
-sign_of_fixed fixed.And = Join connectives.And
-sign_of_fixed fixed.Not = Not
-sign_of_fixed fixed.If = If
-sign_of_fixed fixed.Then = Then
-sign_of_fixed fixed.Each = Each
-sign_of_fixed fixed.Any = Any
-sign_of_fixed fixed.At = AtWord
-sign_of_fixed fixed.Keys = Keys
-sign_of_fixed fixed.Least = Least
-sign_of_fixed fixed.Of = Of
-sign_of_fixed fixed.StartsWith = Relate relations.StartsWith
-sign_of_fixed fixed.EndsWith = Relate relations.EndsWith
-sign_of_fixed fixed.Contains = Relate relations.Contains
-sign_of_fixed fixed.Matches = Relate relations.Matches
-sign_of_fixed fixed.In = In
-sign_of_fixed fixed.Exists = Is states.Exists
-sign_of_fixed fixed.Missing = Is states.Missing
-sign_of_fixed fixed.IsEmpty = Is states.IsEmpty
-sign_of_fixed fixed.Length = Length
-sign_of_fixed fixed.Is = IsKind
-sign_of_fixed fixed.Text = KindName value_kinds.Text
-sign_of_fixed fixed.Number = KindName value_kinds.Number
-sign_of_fixed fixed.Whole = KindName value_kinds.Whole
-sign_of_fixed fixed.Bool = KindName value_kinds.Boolean
-sign_of_fixed fixed.Array = KindName value_kinds.Array
-sign_of_fixed fixed.Object = KindName value_kinds.Object
-sign_of_fixed fixed.True = Plain (Boolean true)
-sign_of_fixed fixed.False = Plain (Boolean false)
-sign_of_fixed fixed.Null = Plain Null
-sign_of_fixed fixed.Equal = Compare comparisons.Equal
-sign_of_fixed fixed.Unequal = Compare comparisons.Unequal
-sign_of_fixed fixed.Below = Compare comparisons.Below
-sign_of_fixed fixed.AtMost = Compare comparisons.AtMost
-sign_of_fixed fixed.Above = Compare comparisons.Above
-sign_of_fixed fixed.AtLeast = Compare comparisons.AtLeast
-sign_of_fixed fixed.Open = Open
-sign_of_fixed fixed.Close = Close
-sign_of_fixed fixed.OpenList = OpenList
-sign_of_fixed fixed.CloseList = CloseList
-sign_of_fixed fixed.Comma = Comma
+sign_of_fixed fixed.Or = signs.Join connectives.Or
+sign_of_fixed fixed.Xor = signs.Join connectives.Xor
+sign_of_fixed fixed.And = signs.Join connectives.And
+sign_of_fixed fixed.Not = signs.Not
+sign_of_fixed fixed.If = signs.If
+sign_of_fixed fixed.Then = signs.Then
+sign_of_fixed fixed.Each = signs.Each
+sign_of_fixed fixed.Any = signs.Any
+sign_of_fixed fixed.At = signs.At
+sign_of_fixed fixed.Keys = signs.Keys
+sign_of_fixed fixed.Least = signs.Least
+sign_of_fixed fixed.Of = signs.Of
+sign_of_fixed fixed.StartsWith = signs.Relation relations.StartsWith
+sign_of_fixed fixed.EndsWith = signs.Relation relations.EndsWith
+sign_of_fixed fixed.Contains = signs.Relation relations.Contains
+sign_of_fixed fixed.Matches = signs.Relation relations.Matches
+sign_of_fixed fixed.In = signs.In
+sign_of_fixed fixed.Exists = signs.State states.Exists
+sign_of_fixed fixed.Missing = signs.State states.Missing
+sign_of_fixed fixed.IsEmpty = signs.State states.IsEmpty
+sign_of_fixed fixed.Length = signs.Length
+sign_of_fixed fixed.Is = signs.Is
+sign_of_fixed fixed.Text = signs.ValueKind value_kinds.Text
+sign_of_fixed fixed.Number = signs.ValueKind value_kinds.Number
+sign_of_fixed fixed.Whole = signs.ValueKind value_kinds.Whole
+sign_of_fixed fixed.Bool = signs.ValueKind value_kinds.Boolean
+sign_of_fixed fixed.Array = signs.ValueKind value_kinds.Array
+sign_of_fixed fixed.Object = signs.ValueKind value_kinds.Object
+sign_of_fixed fixed.True = signs.Literal (Boolean true)
+sign_of_fixed fixed.False = signs.Literal (Boolean false)
+sign_of_fixed fixed.Null = signs.Literal Null
+sign_of_fixed fixed.Equal = signs.Comparison comparisons.Equal
+sign_of_fixed fixed.Unequal = signs.Comparison comparisons.Unequal
+sign_of_fixed fixed.Below = signs.Comparison comparisons.Below
+sign_of_fixed fixed.AtMost = signs.Comparison comparisons.AtMost
+sign_of_fixed fixed.Above = signs.Comparison comparisons.Above
+sign_of_fixed fixed.AtLeast = signs.Comparison comparisons.AtLeast
+sign_of_fixed fixed.Open = signs.Open
+sign_of_fixed fixed.Close = signs.Close
+sign_of_fixed fixed.OpenList = signs.OpenList
+sign_of_fixed fixed.CloseList = signs.CloseList
+sign_of_fixed fixed.Comma = signs.Comma
 
 abbrev pub all_fixed : List Fixed
-all_fixed = fixed.Or ∷ fixed.Xor ∷ fixed.And ∷ fixed.Not ∷ fixed.If ∷ fixed.Then ∷ fixed.Each ∷ fixed.Any ∷ fixed.At ∷ fixed.Keys ∷ fixed.Least ∷ fixed.Of ∷ fixed.StartsWith ∷ fixed.EndsWith ∷ fixed.Contains ∷ fixed.Matches ∷ fixed.In ∷ fixed.Exists ∷ fixed.Missing ∷ fixed.IsEmpty ∷ fixed.Length ∷ fixed.Is ∷ fixed.Text ∷ fixed.Number ∷ fixed.Whole ∷ fixed.Bool ∷ fixed.Array ∷ fixed.Object ∷ fixed.True ∷ fixed.False ∷ fixed.Null ∷ fixed.Equal ∷ fixed.Unequal ∷ fixed.Below ∷ fixed.AtMost ∷ fixed.Above ∷ fixed.AtLeast ∷ fixed.Open ∷ fixed.Close ∷ fixed.OpenList ∷ fixed.CloseList ∷ fixed.Comma ∷ []
+all_fixed = fixed.Or ∷ fixed.Xor ∷ fixed.And ∷ fixed.Not ∷ fixed.If ∷ fixed.Then ∷ fixed.Each
+    ∷ fixed.Any ∷ fixed.At ∷ fixed.Keys ∷ fixed.Least ∷ fixed.Of ∷ fixed.StartsWith
+    ∷ fixed.EndsWith ∷ fixed.Contains ∷ fixed.Matches ∷ fixed.In ∷ fixed.Exists ∷ fixed.Missing
+    ∷ fixed.IsEmpty ∷ fixed.Length ∷ fixed.Is ∷ fixed.Text ∷ fixed.Number ∷ fixed.Whole
+    ∷ fixed.Bool ∷ fixed.Array ∷ fixed.Object ∷ fixed.True ∷ fixed.False ∷ fixed.Null ∷ fixed.Equal
+    ∷ fixed.Unequal ∷ fixed.Below ∷ fixed.AtMost ∷ fixed.Above ∷ fixed.AtLeast ∷ fixed.Open
+    ∷ fixed.Close ∷ fixed.OpenList ∷ fixed.CloseList ∷ fixed.Comma ∷ []
 
 unfoldable pub fixed_at : List ℕ → Option Fixed
 fixed_at word = find (λ f. bytes_eq (text_of f) word) all_fixed
@@ -141,7 +154,13 @@ is_control b = nat_le b 31 || b == 127
 
 -- the token that the byte begins; a number may begin with a minus, and a path with ^
 abbrev pub class_of : ℕ → Class
-class_of b = if is_letter b then Letter else if is_digit b || b == 45 then Digit else if is_symbol b then Symbol else if is_mark b then Mark else if b == 47 || b == 94 then Slash else if b == 34 then Quote else Other
+class_of b = if is_letter b then Letter
+    else if is_digit b || b == 45 then Digit
+    else if is_symbol b then Symbol
+    else if is_mark b then Mark
+    else if b == 47 || b == 94 then Slash
+    else if b == 34 then Quote
+    else Other
 
 -- Which bytes belong together. A path ends at a space, a mark, an operator, a comment and a control
 -- character; the name of a rule has letters, digits, _ - . and bytes beyond ASCII.
@@ -158,7 +177,8 @@ continues c b = false
 -- takes the next byte with it.
 abbrev pub text_end : Bool → List ℕ → Option ℕ
 text_end escaped [] = None
-text_end escaped (b ∷ text) = if not escaped && b == 34 then Some 1 else option_map suc (text_end (not escaped && b == 92) text)
+text_end escaped (b ∷ text) = if not escaped && b == 34 then Some 1
+    else option_map suc (text_end (not escaped && b == 92) text)
 
 abbrev pub class_len : Class → List ℕ → Option ℕ
 class_len Quote text = option_map suc (text_end false text)
@@ -199,7 +219,7 @@ is_title name = nat_lt 0 (length name) && not (list_any is_masked (chars name))
 -- ---- tokens
 
 -- a literal as JSON has it
-abbrev pub data_of : Value → Data
+abbrev pub data_of : Literal → Data
 data_of (Natural n) = number (unsigned n)
 data_of (Negative z) = number (negative z)
 data_of (Decimal text x) = number (float x)
@@ -208,7 +228,7 @@ data_of (Boolean b) = boolean b
 data_of Null = null
 
 -- a literal that keeps its text is written as that
-abbrev pub IsTextOf : Value → List ℕ → Type 0
+abbrev pub IsTextOf : Literal → List ℕ → Type 0
 IsTextOf (Decimal text x) word = text ≡ word
 IsTextOf v word = Unit {0}
 
@@ -234,8 +254,11 @@ pub data IsWritten : Sign → List ℕ → Type 0 where
   -- a word, an operator or a mark
   fixed_text : (f : Fixed) → IsWritten (sign_of_fixed f) (text_of f)
   -- a number or a text in quotes: what JSON reads there
-  literal : (b : ℕ) (bytes : List ℕ) (v : Value) → begins_literal (class_of b) ≡ true → is_utf8 (b ∷ bytes) ≡ true → read (b ∷ bytes) ≡ Some (data_of v) → IsTextOf v (b ∷ bytes) → IsWritten (Plain v) (b ∷ bytes)
-  path : (b : ℕ) (bytes : List ℕ) → class_of b ≡ Slash → is_path (b ∷ bytes) ≡ true → is_shown (b ∷ bytes) ≡ true → IsWritten (Path (pointer (b ∷ bytes))) (b ∷ bytes)
+  literal : (b : ℕ) (bytes : List ℕ) (v : Literal) → begins_literal (class_of b) ≡ true
+      → is_utf8 (b ∷ bytes) ≡ true → read (b ∷ bytes) ≡ Some (data_of v) → IsTextOf v (b ∷ bytes)
+      → IsWritten (signs.Literal v) (b ∷ bytes)
+  path : (b : ℕ) (bytes : List ℕ) → class_of b ≡ Slash → is_path (b ∷ bytes) ≡ true
+      → is_shown (b ∷ bytes) ≡ true → IsWritten (signs.Path (pointer (b ∷ bytes))) (b ∷ bytes)
 
 -- the end, or a comment
 abbrev pub is_over : List ℕ → Bool
@@ -244,6 +267,9 @@ is_over (b ∷ text) = b == 35
 
 -- Spaces and tokens up to the end or a comment, each with the number of bytes from it on.
 pub data IsLexed : List ℕ → List (Sign × ℕ) → Type 0 where
-  over : {text : List ℕ} → is_over text ≡ true → IsLexed text ((End, length text) ∷ [])
-  space : {b : ℕ} {text : List ℕ} {ts : List (Sign × ℕ)} → is_space b ≡ true → IsLexed text ts → IsLexed (b ∷ text) ts
-  token : {text : List ℕ} {ts : List (Sign × ℕ)} {t : Sign} {word rest : List ℕ} → cut text ≡ Some (word, rest) → IsWritten t word → IsLexed rest ts → IsLexed text ((t, length text) ∷ ts)
+  over : {text : List ℕ} → is_over text ≡ true → IsLexed text ((signs.End, length text) ∷ [])
+  space : {b : ℕ} {text : List ℕ} {ts : List (Sign × ℕ)} → is_space b ≡ true → IsLexed text ts
+      → IsLexed (b ∷ text) ts
+  token : {text : List ℕ} {ts : List (Sign × ℕ)} {t : Sign} {word rest : List ℕ}
+      → cut text ≡ Some (word, rest) → IsWritten t word → IsLexed rest ts
+      → IsLexed text ((t, length text) ∷ ts)

@@ -1,3 +1,6 @@
+pub mod Literals
+pub mod Signs
+pub mod Conditions
 pub mod Trees
 pub mod Grammar
 pub mod Answers

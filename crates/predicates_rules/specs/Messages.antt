@@ -1,5 +1,6 @@
 -- What is told of rules that could not be read.
-use Rattle.std.specs.Prelude.{ℕ, ◌==◌, List, [], ◌∷◌, ◌++◌, Option, Some, None, codes, decimal, if◌then◌else◌}
+use Rattle.std.specs.Prelude.{ℕ, ◌==◌, List, [], ◌∷◌, ◌++◌, Option, Some, None, codes, decimal}
+use Rattle.std.specs.Prelude.{if◌then◌else◌}
 use Rattle.std.specs.Fmt.{◌++?◌}
 use Rattle.predicates_rules.specs.declared.error.Expected.{Expected}
 use Rattle.predicates_rules.specs.declared.error.Expected.TheVariants as expected
@@ -19,7 +20,8 @@ expected_text expected.Colon = codes "`:` behind the name of a rule"
 expected_text expected.Expression = codes "a path, `not`, `each`, `any`, `at`, `keys` or `(`"
 expected_text expected.Whole = codes "a path, `not`, `each`, `any`, `at`, `keys`, `if` or `(`"
 expected_text expected.Path = codes "a path"
-expected_text expected.Condition = codes "an operator, `exists`, `missing`, `is_empty`, `length` or `is`"
+expected_text expected.Condition =
+    codes "an operator, `exists`, `missing`, `is_empty`, `length` or `is`"
 expected_text expected.Literal = codes "a literal"
 expected_text expected.Operand = codes "a literal or a path"
 expected_text expected.Comparison = codes "`==`, `!=`, `<`, `<=`, `>` or `>=`"
@@ -70,7 +72,8 @@ place_text line column =
 -- why it is one, with what was found
 abbrev pub why_text : Reason → List ℕ → Option (List ℕ)
 why_text (reasons.Expected e) found =
-    Some (codes "expected ") ++? Some (expected_text e) ++? Some (codes ", found ") ++? found_text found
+    Some (codes "expected ") ++? Some (expected_text e)
+    ++? Some (codes ", found ") ++? found_text found
 why_text reasons.TooDeep found = Some (reason_text reasons.TooDeep)
 why_text (reasons.Repeated line) found =
     Some (codes "the name `") ++? quoted_text found ++? Some (codes "` stands on line ")

@@ -1,5 +1,6 @@
 -- How an expression is written, with no more parentheses than it needs.
-use Rattle.std.specs.Prelude.{◌≡◌, ◌⊎◌, ◌==◌, ℕ, suc, Some, ◌<◌, ◌^◌, max, pos, negsuc, Float, Bool, true, false, ◌&&◌, ◌||◌, List, [], ◌∷◌, ◌++◌, map, if◌then◌else◌}
+use Rattle.std.specs.Prelude.{◌≡◌, ◌⊎◌, ◌==◌, ℕ, suc, Some, ◌<◌, ◌^◌, max, pos, negsuc, Float, Bool}
+use Rattle.std.specs.Prelude.{true, false, ◌&&◌, ◌||◌, List, [], ◌∷◌, ◌++◌, map, if◌then◌else◌}
 use Rattle.std.specs.List.{list_all}
 use Rattle.std.specs.Str.{IsUtf8, is_utf8}
 use Rattle.serde_json.specs.Data.{number, float}
@@ -7,8 +8,8 @@ use Rattle.serde_json.specs.Read.{read}
 use Rattle.serde_json.specs.Written.{compact_text}
 use Rattle.predicates_rules.specs.declared.expression.Connective.{Connective}
 use Rattle.predicates_rules.specs.declared.expression.Connective.TheVariants.{Or, Xor, And}
-use Rattle.predicates_rules.specs.declared.expression.Quantifier.{Quantifier}
-use Rattle.predicates_rules.specs.declared.expression.Quantifier.TheVariants as quantifiers
+use Rattle.predicates_rules.specs.declared.expression.HowMany.{HowMany}
+use Rattle.predicates_rules.specs.declared.expression.HowMany.TheVariants as quantifiers
 use Rattle.predicates_rules.specs.declared.parser.Separator.{Separator}
 use Rattle.predicates_rules.specs.declared.parser.Separator.TheVariants as separators
 use Rattle.predicates_rules.specs.declared.condition.Comparison.TheVariants as comparisons
@@ -18,50 +19,58 @@ use Rattle.predicates_rules.specs.declared.condition.ValueKind.{ValueKind}
 use Rattle.predicates_rules.specs.declared.condition.ValueKind.TheVariants as value_kinds
 use Rattle.predicates_rules.specs.declared.fixed.Fixed.TheVariants as fixed
 use Rattle.predicates_rules.specs.declared.lexer.Class.TheVariants.{Digit, Slash}
-use Rattle.predicates_rules.specs.Trees.{Value, Natural, Negative, Decimal, Text, Boolean, Null, Sign, Join, Not, If, Then, Each, Any, AtWord, Keys, Least, Of, Open, Close, OpenList, CloseList, Comma, Path, Compare, Relate, In, Is, Length, IsKind, KindName, Plain, End, Test, TheValueIs, Compares, ComparesWith, HasLength, IsOfKind, Relates, IsAmong, HasKeysAmong, Tree, At, Denied, Implies, Quantified, Joined, AtLeast, Trees, none, more}
-use Rattle.predicates_rules.specs.Grammar.{Level, By, Single, Whole, Premise, separator_sign, part_level}
+use Rattle.predicates_rules.specs.Literals.{Literal, Natural, Negative, Decimal, Text, Boolean}
+use Rattle.predicates_rules.specs.Literals.{Null}
+use Rattle.predicates_rules.specs.Signs as signs
+use Rattle.predicates_rules.specs.Signs.{Sign}
+use Rattle.predicates_rules.specs.Conditions.{Condition, Is, Compare, CompareWith, Length, IsOf}
+use Rattle.predicates_rules.specs.Conditions.{Relate, In, KeysIn}
+use Rattle.predicates_rules.specs.Trees.{Tree, Test, Not, Implies, Quantified, Joined, AtLeast}
+use Rattle.predicates_rules.specs.Trees.{Trees, none, more}
+use Rattle.predicates_rules.specs.Grammar.{Level, By, Single, Whole, Premise, separator_sign}
+use Rattle.predicates_rules.specs.Grammar.{part_level}
 use Rattle.predicates_rules.specs.Lexemes.{class_of, continues, is_shown, text_of, data_of}
 
 -- ---- the tokens of an expression
 
 -- v , .. , v ]
-abbrev pub items_signs : List Value → List Sign
-items_signs [] = CloseList ∷ []
-items_signs (v ∷ []) = Plain v ∷ CloseList ∷ []
-items_signs (v ∷ w ∷ vs) = Plain v ∷ Comma ∷ items_signs (w ∷ vs)
+abbrev pub items_signs : List Literal → List Sign
+items_signs [] = signs.CloseList ∷ []
+items_signs (v ∷ []) = signs.Literal v ∷ signs.CloseList ∷ []
+items_signs (v ∷ w ∷ vs) = signs.Literal v ∷ signs.Comma ∷ items_signs (w ∷ vs)
 
 -- a kind of value, of which null is a literal
 abbrev pub kind_sign : ValueKind → Sign
-kind_sign value_kinds.Null = Plain Null
-kind_sign k = KindName k
+kind_sign value_kinds.Null = signs.Literal Null
+kind_sign k = signs.ValueKind k
 
 -- in [ v , .. , v ]
-abbrev pub among_signs : List Value → List Sign
-among_signs vs = In ∷ OpenList ∷ items_signs vs
+abbrev pub among_signs : List Literal → List Sign
+among_signs vs = signs.In ∷ signs.OpenList ∷ items_signs vs
 
 -- what stands before the path of a test
-abbrev pub lead_signs : Test → List Sign
-lead_signs (HasKeysAmong texts) = Keys ∷ []
+abbrev pub lead_signs : Condition → List Sign
+lead_signs (KeysIn texts) = signs.Keys ∷ []
 lead_signs t = []
 
 -- and behind it
-abbrev pub test_signs : Test → List Sign
-test_signs (TheValueIs s) = Is s ∷ []
-test_signs (Compares o v) = Compare o ∷ Plain v ∷ []
-test_signs (ComparesWith o path) = Compare o ∷ Path path ∷ []
-test_signs (HasLength o n) = Length ∷ Compare o ∷ Plain (Natural n) ∷ []
-test_signs (IsOfKind k) = IsKind ∷ kind_sign k ∷ []
-test_signs (Relates r text) = Relate r ∷ Plain (Text text) ∷ []
-test_signs (IsAmong vs) = among_signs vs
-test_signs (HasKeysAmong texts) = among_signs (map Text texts)
+abbrev pub condition_signs : Condition → List Sign
+condition_signs (Is s) = signs.State s ∷ []
+condition_signs (Compare o v) = signs.Comparison o ∷ signs.Literal v ∷ []
+condition_signs (CompareWith o path) = signs.Comparison o ∷ signs.Path path ∷ []
+condition_signs (Length o n) = signs.Length ∷ signs.Comparison o ∷ signs.Literal (Natural n) ∷ []
+condition_signs (IsOf k) = signs.Is ∷ kind_sign k ∷ []
+condition_signs (Relate r text) = signs.Relation r ∷ signs.Literal (Text text) ∷ []
+condition_signs (In vs) = among_signs vs
+condition_signs (KeysIn texts) = among_signs (map Text texts)
 
-abbrev pub quantifier_signs : Quantifier → List Sign
-quantifier_signs quantifiers.Each = Each ∷ []
-quantifier_signs quantifiers.Any = Any ∷ []
-quantifier_signs (quantifiers.AtLeast k) = AtWord ∷ Least ∷ Plain (Natural k) ∷ []
+abbrev pub quantifier_signs : HowMany → List Sign
+quantifier_signs quantifiers.Each = signs.Each ∷ []
+quantifier_signs quantifiers.Any = signs.Any ∷ []
+quantifier_signs (quantifiers.AtLeast k) = signs.At ∷ signs.Least ∷ signs.Literal (Natural k) ∷ []
 
 abbrev pub in_parentheses : List Sign → List Sign
-in_parentheses ts = Open ∷ ts ++ Close ∷ []
+in_parentheses ts = signs.Open ∷ ts ++ signs.Close ∷ []
 
 -- what c joins may stand at a level as it is
 abbrev pub fits : Level → Connective → Bool
@@ -89,12 +98,17 @@ stands_at l c es = has_parts es && fits l c
 
 abbrev mutual
   pub signs_at : Level → Tree → List Sign
-  signs_at l (At path t) = lead_signs t ++ Path path ∷ test_signs t
-  signs_at l (Denied e) = Not ∷ signs_at Single e
-  signs_at l (Implies a b) = if takes_if l then If ∷ (signs_at Whole a ++ Then ∷ signs_at Whole b) else in_parentheses (If ∷ (signs_at Whole a ++ Then ∷ signs_at Whole b))
-  signs_at l (Quantified q path e) = quantifier_signs q ++ Path path ∷ in_parentheses (signs_at Whole e)
-  signs_at l (Joined c es) = if stands_at l c es then part_signs (separators.Connective c) es else in_parentheses (part_signs (separators.Connective c) es)
-  signs_at l (AtLeast k es) = AtWord ∷ Least ∷ Plain (Natural k) ∷ Of ∷ in_parentheses (part_signs separators.Comma es)
+  signs_at l (Test path t) = lead_signs t ++ signs.Path path ∷ condition_signs t
+  signs_at l (Not e) = signs.Not ∷ signs_at Single e
+  signs_at l (Implies a b) = if takes_if l
+      then signs.If ∷ (signs_at Whole a ++ signs.Then ∷ signs_at Whole b)
+      else in_parentheses (signs.If ∷ (signs_at Whole a ++ signs.Then ∷ signs_at Whole b))
+  signs_at l (Quantified q path e) =
+      quantifier_signs q ++ signs.Path path ∷ in_parentheses (signs_at Whole e)
+  signs_at l (Joined c es) = if stands_at l c es then part_signs (separators.Connective c) es
+      else in_parentheses (part_signs (separators.Connective c) es)
+  signs_at l (AtLeast k es) = signs.At ∷ signs.Least ∷ signs.Literal (Natural k) ∷ signs.Of
+      ∷ in_parentheses (part_signs separators.Comma es)
 
   -- E s .. s E
   pub part_signs : Separator → Trees → List Sign
@@ -109,11 +123,14 @@ abbrev mutual
 -- how deep an expression nests when it is written so
 abbrev mutual
   pub nesting_at : Level → Tree → ℕ
-  nesting_at l (At path t) = 0
-  nesting_at l (Denied e) = suc (nesting_at Single e)
-  nesting_at l (Implies a b) = if takes_if l then suc (max (suc (nesting_at Whole a)) (nesting_at Whole b)) else suc (suc (max (suc (nesting_at Whole a)) (nesting_at Whole b)))
+  nesting_at l (Test path t) = 0
+  nesting_at l (Not e) = suc (nesting_at Single e)
+  nesting_at l (Implies a b) = if takes_if l
+      then suc (max (suc (nesting_at Whole a)) (nesting_at Whole b))
+      else suc (suc (max (suc (nesting_at Whole a)) (nesting_at Whole b)))
   nesting_at l (Quantified q path e) = suc (nesting_at Whole e)
-  nesting_at l (Joined c es) = if stands_at l c es then parts_nesting (separators.Connective c) es else suc (parts_nesting (separators.Connective c) es)
+  nesting_at l (Joined c es) = if stands_at l c es then parts_nesting (separators.Connective c) es
+      else suc (parts_nesting (separators.Connective c) es)
   nesting_at l (AtLeast k es) = suc (parts_nesting separators.Comma es)
 
   pub parts_nesting : Separator → Trees → ℕ
@@ -127,8 +144,8 @@ IsSome (more e es) = Unit {0}
 -- each join has two parts or more, and each threshold one or more
 abbrev mutual
   pub IsProper : Tree → Type 0
-  IsProper (At path t) = Unit {0}
-  IsProper (Denied e) = IsProper e
+  IsProper (Test path t) = Unit {0}
+  IsProper (Not e) = IsProper e
   IsProper (Implies a b) = IsProper a × IsProper b
   IsProper (Quantified q path e) = IsProper e
   IsProper (Joined c es) = AreMany es
@@ -150,66 +167,66 @@ path_text (b ∷ []) = if b == 94 then b ∷ 47 ∷ [] else b ∷ []
 path_text word = word
 
 -- a literal as JSON writes it, or as it was written
-abbrev pub value_text : Value → List ℕ
-value_text (Decimal text x) = text
-value_text v = compact_text (data_of v)
+abbrev pub literal_text : Literal → List ℕ
+literal_text (Decimal text x) = text
+literal_text v = compact_text (data_of v)
 
 abbrev pub word_of : Sign → List ℕ
-word_of (Join Or) = text_of fixed.Or
-word_of (Join Xor) = text_of fixed.Xor
-word_of (Join And) = text_of fixed.And
-word_of Not = text_of fixed.Not
-word_of If = text_of fixed.If
-word_of Then = text_of fixed.Then
-word_of Each = text_of fixed.Each
-word_of Any = text_of fixed.Any
-word_of AtWord = text_of fixed.At
-word_of Keys = text_of fixed.Keys
-word_of Least = text_of fixed.Least
-word_of Of = text_of fixed.Of
-word_of Open = text_of fixed.Open
-word_of Close = text_of fixed.Close
-word_of OpenList = text_of fixed.OpenList
-word_of CloseList = text_of fixed.CloseList
-word_of Comma = text_of fixed.Comma
-word_of (Path path) = path_text path
-word_of (Compare comparisons.Equal) = text_of fixed.Equal
-word_of (Compare comparisons.Unequal) = text_of fixed.Unequal
-word_of (Compare comparisons.Below) = text_of fixed.Below
-word_of (Compare comparisons.AtMost) = text_of fixed.AtMost
-word_of (Compare comparisons.Above) = text_of fixed.Above
-word_of (Compare comparisons.AtLeast) = text_of fixed.AtLeast
-word_of (Relate relations.StartsWith) = text_of fixed.StartsWith
-word_of (Relate relations.EndsWith) = text_of fixed.EndsWith
-word_of (Relate relations.Contains) = text_of fixed.Contains
-word_of (Relate relations.Matches) = text_of fixed.Matches
-word_of In = text_of fixed.In
-word_of (Is states.Exists) = text_of fixed.Exists
-word_of (Is states.Missing) = text_of fixed.Missing
-word_of (Is states.IsEmpty) = text_of fixed.IsEmpty
-word_of Length = text_of fixed.Length
-word_of IsKind = text_of fixed.Is
-word_of (KindName value_kinds.Text) = text_of fixed.Text
-word_of (KindName value_kinds.Number) = text_of fixed.Number
-word_of (KindName value_kinds.Whole) = text_of fixed.Whole
-word_of (KindName value_kinds.Boolean) = text_of fixed.Bool
-word_of (KindName value_kinds.Array) = text_of fixed.Array
-word_of (KindName value_kinds.Object) = text_of fixed.Object
-word_of (KindName value_kinds.Null) = text_of fixed.Null
-word_of (Plain v) = value_text v
-word_of End = []
+word_of (signs.Join Or) = text_of fixed.Or
+word_of (signs.Join Xor) = text_of fixed.Xor
+word_of (signs.Join And) = text_of fixed.And
+word_of signs.Not = text_of fixed.Not
+word_of signs.If = text_of fixed.If
+word_of signs.Then = text_of fixed.Then
+word_of signs.Each = text_of fixed.Each
+word_of signs.Any = text_of fixed.Any
+word_of signs.At = text_of fixed.At
+word_of signs.Keys = text_of fixed.Keys
+word_of signs.Least = text_of fixed.Least
+word_of signs.Of = text_of fixed.Of
+word_of signs.Open = text_of fixed.Open
+word_of signs.Close = text_of fixed.Close
+word_of signs.OpenList = text_of fixed.OpenList
+word_of signs.CloseList = text_of fixed.CloseList
+word_of signs.Comma = text_of fixed.Comma
+word_of (signs.Path path) = path_text path
+word_of (signs.Comparison comparisons.Equal) = text_of fixed.Equal
+word_of (signs.Comparison comparisons.Unequal) = text_of fixed.Unequal
+word_of (signs.Comparison comparisons.Below) = text_of fixed.Below
+word_of (signs.Comparison comparisons.AtMost) = text_of fixed.AtMost
+word_of (signs.Comparison comparisons.Above) = text_of fixed.Above
+word_of (signs.Comparison comparisons.AtLeast) = text_of fixed.AtLeast
+word_of (signs.Relation relations.StartsWith) = text_of fixed.StartsWith
+word_of (signs.Relation relations.EndsWith) = text_of fixed.EndsWith
+word_of (signs.Relation relations.Contains) = text_of fixed.Contains
+word_of (signs.Relation relations.Matches) = text_of fixed.Matches
+word_of signs.In = text_of fixed.In
+word_of (signs.State states.Exists) = text_of fixed.Exists
+word_of (signs.State states.Missing) = text_of fixed.Missing
+word_of (signs.State states.IsEmpty) = text_of fixed.IsEmpty
+word_of signs.Length = text_of fixed.Length
+word_of signs.Is = text_of fixed.Is
+word_of (signs.ValueKind value_kinds.Text) = text_of fixed.Text
+word_of (signs.ValueKind value_kinds.Number) = text_of fixed.Number
+word_of (signs.ValueKind value_kinds.Whole) = text_of fixed.Whole
+word_of (signs.ValueKind value_kinds.Boolean) = text_of fixed.Bool
+word_of (signs.ValueKind value_kinds.Array) = text_of fixed.Array
+word_of (signs.ValueKind value_kinds.Object) = text_of fixed.Object
+word_of (signs.ValueKind value_kinds.Null) = text_of fixed.Null
+word_of (signs.Literal v) = literal_text v
+word_of signs.End = []
 
 -- whether the next token follows at once
 abbrev pub opens : Sign → Bool
-opens Open = true
-opens OpenList = true
+opens signs.Open = true
+opens signs.OpenList = true
 opens t = false
 
 -- whether it follows the token before at once
 abbrev pub closes : Sign → Bool
-closes Close = true
-closes CloseList = true
-closes Comma = true
+closes signs.Close = true
+closes signs.CloseList = true
+closes signs.Comma = true
 closes t = false
 
 -- what stands between two tokens
@@ -239,52 +256,54 @@ Begins b c bytes = (b ≡ 47) ⊎ (b ≡ 94) × (c ≡ 47)
 abbrev pub IsPath : List ℕ → Type 0
 IsPath [] = Unit {0}
 IsPath (b ∷ []) = b ≡ 94
-IsPath (b ∷ c ∷ bytes) = Begins b c bytes × (list_all (continues Slash) (c ∷ bytes) ≡ true) × (is_shown (b ∷ c ∷ bytes) ≡ true)
+IsPath (b ∷ c ∷ bytes) = Begins b c bytes × (list_all (continues Slash) (c ∷ bytes) ≡ true)
+    × (is_shown (b ∷ c ∷ bytes) ≡ true)
 
 -- one word of a number that JSON reads as x
 abbrev pub IsDecimal : List ℕ → Float → Type 0
 IsDecimal [] x = ⊥
 IsDecimal (b ∷ bytes) x =
-    (class_of b ≡ Digit) × (list_all (continues Digit) bytes ≡ true) × (is_utf8 (b ∷ bytes) ≡ true) × (read (b ∷ bytes) ≡ Some (number (float x)))
+    (class_of b ≡ Digit) × (list_all (continues Digit) bytes ≡ true) × (is_utf8 (b ∷ bytes) ≡ true)
+    × (read (b ∷ bytes) ≡ Some (number (float x)))
 
 -- a literal that Rust holds
-abbrev pub IsValue : Value → Type 0
-IsValue (Natural n) = n < 2 ^ 64
-IsValue (Negative (pos n)) = ⊥
-IsValue (Negative (negsuc n)) = n < 2 ^ 63
-IsValue (Decimal text x) = IsDecimal text x
-IsValue (Text text) = IsUtf8 text
-IsValue (Boolean b) = Unit {0}
-IsValue Null = Unit {0}
+abbrev pub IsLiteral : Literal → Type 0
+IsLiteral (Natural n) = n < 2 ^ 64
+IsLiteral (Negative (pos n)) = ⊥
+IsLiteral (Negative (negsuc n)) = n < 2 ^ 63
+IsLiteral (Decimal text x) = IsDecimal text x
+IsLiteral (Text text) = IsUtf8 text
+IsLiteral (Boolean b) = Unit {0}
+IsLiteral Null = Unit {0}
 
-abbrev pub AreValues : List Value → Type 0
-AreValues [] = Unit {0}
-AreValues (v ∷ vs) = IsValue v × AreValues vs
+abbrev pub AreLiterals : List Literal → Type 0
+AreLiterals [] = Unit {0}
+AreLiterals (v ∷ vs) = IsLiteral v × AreLiterals vs
 
-abbrev pub IsPlainTest : Test → Type 0
-IsPlainTest (TheValueIs s) = Unit {0}
-IsPlainTest (Compares o v) = IsValue v
-IsPlainTest (ComparesWith o path) = IsPath path
-IsPlainTest (HasLength o n) = IsValue (Natural n)
-IsPlainTest (IsOfKind k) = Unit {0}
-IsPlainTest (Relates r text) = IsUtf8 text
-IsPlainTest (IsAmong vs) = AreValues vs
-IsPlainTest (HasKeysAmong texts) = AreValues (map Text texts)
+abbrev pub IsPlainCondition : Condition → Type 0
+IsPlainCondition (Is s) = Unit {0}
+IsPlainCondition (Compare o v) = IsLiteral v
+IsPlainCondition (CompareWith o path) = IsPath path
+IsPlainCondition (Length o n) = IsLiteral (Natural n)
+IsPlainCondition (IsOf k) = Unit {0}
+IsPlainCondition (Relate r text) = IsUtf8 text
+IsPlainCondition (In vs) = AreLiterals vs
+IsPlainCondition (KeysIn texts) = AreLiterals (map Text texts)
 
-abbrev pub IsPlainQuantifier : Quantifier → Type 0
+abbrev pub IsPlainQuantifier : HowMany → Type 0
 IsPlainQuantifier quantifiers.Each = Unit {0}
 IsPlainQuantifier quantifiers.Any = Unit {0}
-IsPlainQuantifier (quantifiers.AtLeast k) = IsValue (Natural k)
+IsPlainQuantifier (quantifiers.AtLeast k) = IsLiteral (Natural k)
 
 -- its paths, literals and numbers can be written
 abbrev mutual
   pub IsPlain : Tree → Type 0
-  IsPlain (At path t) = IsPath path × IsPlainTest t
-  IsPlain (Denied e) = IsPlain e
+  IsPlain (Test path t) = IsPath path × IsPlainCondition t
+  IsPlain (Not e) = IsPlain e
   IsPlain (Implies a b) = IsPlain a × IsPlain b
   IsPlain (Quantified q path e) = IsPath path × IsPlain e × IsPlainQuantifier q
   IsPlain (Joined c es) = ArePlain es
-  IsPlain (AtLeast k es) = IsValue (Natural k) × ArePlain es
+  IsPlain (AtLeast k es) = IsLiteral (Natural k) × ArePlain es
 
   pub ArePlain : Trees → Type 0
   ArePlain none = Unit {0}

@@ -1,5 +1,7 @@
 -- Bytes as a message quotes them.
-use Rattle.std.specs.Prelude.{◌≡◌, ℕ, zero, suc, ◌/◌, ◌%◌, ◌==◌, ◌||◌, nat_lt, Bool, false, List, [], ◌∷◌, ◌++◌, map, length, take, drop, chars, encode_utf8_all, Option, Some, None, Ok, codes, if◌then◌else◌}
+use Rattle.std.specs.Prelude.{◌≡◌, ℕ, zero, suc, ◌/◌, ◌%◌, ◌==◌, ◌||◌, nat_lt, Bool, false, List}
+use Rattle.std.specs.Prelude.{[], ◌∷◌, ◌++◌, map, length, take, drop, chars, encode_utf8_all}
+use Rattle.std.specs.Prelude.{Option, Some, None, Ok, codes, if◌then◌else◌}
 use Rattle.std.specs.Char.{encode_utf8}
 use Rattle.std.specs.Char.Escape.{escape_default}
 use Rattle.std.specs.declared.fmt.Formatter.{Formatter}
@@ -56,7 +58,8 @@ left_behind zero (text ∷ texts) = None
 left_behind (suc most) (text ∷ texts) = left_behind most texts
 
 -- at most so many of these are written, and so many more may follow
-pub record AreShown {W : Type 0} (took : W → List ℕ → W → Type 0) (f : Formatter W) (most : ℕ) (texts : List (Option (List ℕ))) (left : Option ℕ) (g : Formatter W) : Type 0 where
+pub record AreShown {W : Type 0} (took : W → List ℕ → W → Type 0) (f : Formatter W) (most : ℕ)
+    (texts : List (Option (List ℕ))) (left : Option ℕ) (g : Formatter W) : Type 0 where
   pub left_is : left ≡ left_behind most texts
   pub writes : DisplaysOnOk took f (Ok tt) (first_texts most texts) g
 

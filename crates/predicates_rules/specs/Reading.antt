@@ -1,9 +1,10 @@
 -- Reading tokens from left to right, with the first fault that is met.
-use Rattle.std.specs.Prelude.{ℕ, zero, suc, Bool, true, false, List, [], ◌∷◌, length, Option, Some, None, Result, Ok, Err, if◌then◌else◌}
+use Rattle.std.specs.Prelude.{ℕ, zero, suc, Bool, true, false, List, [], ◌∷◌, length, Option, Some}
+use Rattle.std.specs.Prelude.{None, Result, Ok, Err, if◌then◌else◌}
 use Rattle.predicates_rules.specs.declared.expression.Connective.{Connective}
 use Rattle.predicates_rules.specs.declared.expression.Connective.TheVariants.{Or, Xor, And}
-use Rattle.predicates_rules.specs.declared.expression.Quantifier.{Quantifier}
-use Rattle.predicates_rules.specs.declared.expression.Quantifier.TheVariants as quantifiers
+use Rattle.predicates_rules.specs.declared.expression.HowMany.{HowMany}
+use Rattle.predicates_rules.specs.declared.expression.HowMany.TheVariants as quantifiers
 use Rattle.predicates_rules.specs.declared.parser.Separator.{Separator}
 use Rattle.predicates_rules.specs.declared.parser.Separator.TheVariants as separators
 use Rattle.predicates_rules.specs.declared.condition.Comparison.{Comparison}
@@ -13,7 +14,13 @@ use Rattle.predicates_rules.specs.declared.error.Expected.{Expected}
 use Rattle.predicates_rules.specs.declared.error.Expected.TheVariants as expected
 use Rattle.predicates_rules.specs.declared.error.Reason.TheVariants.{TooDeep}
 use Rattle.predicates_rules.specs.declared.stop.Stop.{Stop}
-use Rattle.predicates_rules.specs.Trees.{Value, Natural, Text, Null, Sign, Join, Not, If, Then, Each, Any, AtWord, Keys, Least, Of, Open, Close, OpenList, CloseList, Comma, Path, Compare, Relate, In, Is, Length, IsKind, KindName, Plain, End, Test, TheValueIs, Compares, ComparesWith, HasLength, IsOfKind, Relates, IsAmong, HasKeysAmong, Tree, At, Denied, Implies, Quantified, Joined, AtLeast, Trees, none, more}
+use Rattle.predicates_rules.specs.Literals.{Literal, Natural, Text, Null}
+use Rattle.predicates_rules.specs.Signs as signs
+use Rattle.predicates_rules.specs.Signs.{Sign}
+use Rattle.predicates_rules.specs.Conditions.{Condition, Is, Compare, CompareWith, Length, IsOf}
+use Rattle.predicates_rules.specs.Conditions.{Relate, In, KeysIn}
+use Rattle.predicates_rules.specs.Trees.{Tree, Test, Not, Implies, Quantified, Joined, AtLeast}
+use Rattle.predicates_rules.specs.Trees.{Trees, none, more}
 use Rattle.predicates_rules.specs.Grammar.{Level, By, Single, Whole, Premise, tighter}
 use Rattle.predicates_rules.specs.Answers.{◌>>=◌, stops}
 
@@ -24,89 +31,89 @@ Answer = Result (Tree × List Sign) Stop
 abbrev pub fails : {A : Type 0} → Expected → List Sign → Result A Stop
 fails x ts = stops x (length ts)
 
-unfoldable pub items_at : List Sign → Result (List Value × List Sign) Stop
-items_at (Plain v ∷ CloseList ∷ ts) = Ok (v ∷ [], ts)
-items_at (Plain v ∷ Comma ∷ ts) = items_at ts >>= λ x. Ok (v ∷ x.0, x.1)
-items_at (Plain v ∷ ts) = fails expected.ListGoesOn ts
+unfoldable pub items_at : List Sign → Result (List Literal × List Sign) Stop
+items_at (signs.Literal v ∷ signs.CloseList ∷ ts) = Ok (v ∷ [], ts)
+items_at (signs.Literal v ∷ signs.Comma ∷ ts) = items_at ts >>= λ x. Ok (v ∷ x.0, x.1)
+items_at (signs.Literal v ∷ ts) = fails expected.ListGoesOn ts
 items_at ts = fails expected.Literal ts
 
 -- a literal
-unfoldable pub literal_at : List Sign → Result (Value × List Sign) Stop
-literal_at (Plain v ∷ ts) = Ok (v, ts)
+unfoldable pub literal_at : List Sign → Result (Literal × List Sign) Stop
+literal_at (signs.Literal v ∷ ts) = Ok (v, ts)
 literal_at ts = fails expected.Literal ts
 
 -- whether a list goes on
 unfoldable pub goes_on_at : List Sign → Result (Bool × List Sign) Stop
-goes_on_at (Comma ∷ ts) = Ok (true, ts)
-goes_on_at (CloseList ∷ ts) = Ok (false, ts)
+goes_on_at (signs.Comma ∷ ts) = Ok (true, ts)
+goes_on_at (signs.CloseList ∷ ts) = Ok (false, ts)
 goes_on_at ts = fails expected.ListGoesOn ts
 
-unfoldable pub list_at : List Sign → Result (List Value × List Sign) Stop
-list_at (CloseList ∷ ts) = Ok ([], ts)
+unfoldable pub list_at : List Sign → Result (List Literal × List Sign) Stop
+list_at (signs.CloseList ∷ ts) = Ok ([], ts)
 list_at ts = items_at ts
 
 unfoldable pub after_bracket : List Sign → Result (List Sign) Stop
-after_bracket (OpenList ∷ ts) = Ok ts
+after_bracket (signs.OpenList ∷ ts) = Ok ts
 after_bracket ts = fails expected.List ts
 
 unfoldable pub text_at : List Sign → Result (List ℕ × List Sign) Stop
-text_at (Plain (Text text) ∷ ts) = Ok (text, ts)
+text_at (signs.Literal (Text text) ∷ ts) = Ok (text, ts)
 text_at ts = fails expected.Text ts
 
 unfoldable pub count_at : List Sign → Result (ℕ × List Sign) Stop
-count_at (Plain (Natural k) ∷ ts) = Ok (k, ts)
+count_at (signs.Literal (Natural k) ∷ ts) = Ok (k, ts)
 count_at ts = fails expected.Count ts
 
 -- what a value is compared with
-unfoldable pub compared_at : Comparison → List Sign → Result (Test × List Sign) Stop
-compared_at o (Plain v ∷ ts) = Ok (Compares o v, ts)
-compared_at o (Path path ∷ ts) = Ok (ComparesWith o path, ts)
+unfoldable pub compared_at : Comparison → List Sign → Result (Condition × List Sign) Stop
+compared_at o (signs.Literal v ∷ ts) = Ok (Compare o v, ts)
+compared_at o (signs.Path path ∷ ts) = Ok (CompareWith o path, ts)
 compared_at o ts = fails expected.Operand ts
 
 unfoldable pub comparison_at : List Sign → Result (Comparison × List Sign) Stop
-comparison_at (Compare o ∷ ts) = Ok (o, ts)
+comparison_at (signs.Comparison o ∷ ts) = Ok (o, ts)
 comparison_at ts = fails expected.Comparison ts
 
 -- what a length is compared with
-unfoldable pub length_at : List Sign → Result (Test × List Sign) Stop
+unfoldable pub length_at : List Sign → Result (Condition × List Sign) Stop
 length_at ts = do
   o ← comparison_at ts
   n ← count_at o.1
-  Ok (HasLength o.0 n.0, n.1)
+  Ok (Length o.0 n.0, n.1)
 
 unfoldable pub kind_at : List Sign → Result (ValueKind × List Sign) Stop
-kind_at (KindName k ∷ ts) = Ok (k, ts)
-kind_at (Plain Null ∷ ts) = Ok (value_kinds.Null, ts)
+kind_at (signs.ValueKind k ∷ ts) = Ok (k, ts)
+kind_at (signs.Literal Null ∷ ts) = Ok (value_kinds.Null, ts)
 kind_at ts = fails expected.Kind ts
 
-unfoldable pub test_at : List Sign → Result (Test × List Sign) Stop
-test_at (Is s ∷ ts) = Ok (TheValueIs s, ts)
-test_at (Compare o ∷ ts) = compared_at o ts
-test_at (Length ∷ ts) = length_at ts
-test_at (IsKind ∷ ts) = kind_at ts >>= λ x. Ok (IsOfKind x.0, x.1)
-test_at (Relate r ∷ ts) = text_at ts >>= λ x. Ok (Relates r x.0, x.1)
-test_at (In ∷ ts) = do
+unfoldable pub condition_at : List Sign → Result (Condition × List Sign) Stop
+condition_at (signs.State s ∷ ts) = Ok (Is s, ts)
+condition_at (signs.Comparison o ∷ ts) = compared_at o ts
+condition_at (signs.Length ∷ ts) = length_at ts
+condition_at (signs.Is ∷ ts) = kind_at ts >>= λ x. Ok (IsOf x.0, x.1)
+condition_at (signs.Relation r ∷ ts) = text_at ts >>= λ x. Ok (Relate r x.0, x.1)
+condition_at (signs.In ∷ ts) = do
   us ← after_bracket ts
   x ← list_at us
-  Ok (IsAmong x.0, x.1)
-test_at ts = fails expected.Condition ts
+  Ok (In x.0, x.1)
+condition_at ts = fails expected.Condition ts
 
 unfoldable pub path_at : List Sign → Result (List ℕ × List Sign) Stop
-path_at (Path path ∷ ts) = Ok (path, ts)
+path_at (signs.Path path ∷ ts) = Ok (path, ts)
 path_at ts = fails expected.Path ts
 
 unfoldable pub after_in : List Sign → Result (List Sign) Stop
-after_in (In ∷ ts) = Ok ts
+after_in (signs.In ∷ ts) = Ok ts
 after_in ts = fails expected.In ts
 
 unfoldable pub texts_at : List Sign → Result (List (List ℕ) × List Sign) Stop
-texts_at (Plain (Text text) ∷ CloseList ∷ ts) = Ok (text ∷ [], ts)
-texts_at (Plain (Text text) ∷ Comma ∷ ts) = texts_at ts >>= λ x. Ok (text ∷ x.0, x.1)
-texts_at (Plain (Text text) ∷ ts) = fails expected.ListGoesOn ts
+texts_at (signs.Literal (Text text) ∷ signs.CloseList ∷ ts) = Ok (text ∷ [], ts)
+texts_at (signs.Literal (Text text) ∷ signs.Comma ∷ ts) = texts_at ts >>= λ x. Ok (text ∷ x.0, x.1)
+texts_at (signs.Literal (Text text) ∷ ts) = fails expected.ListGoesOn ts
 texts_at ts = fails expected.Text ts
 
 unfoldable pub text_list_at : List Sign → Result (List (List ℕ) × List Sign) Stop
-text_list_at (CloseList ∷ ts) = Ok ([], ts)
+text_list_at (signs.CloseList ∷ ts) = Ok ([], ts)
 text_list_at ts = texts_at ts
 
 -- what stands behind `keys`
@@ -116,23 +123,23 @@ keys_at ts = do
   us ← after_in path.1
   vs ← after_bracket us
   x ← text_list_at vs
-  Ok (At path.0 (HasKeysAmong x.0), x.1)
+  Ok (Test path.0 (KeysIn x.0), x.1)
 
 unfoldable pub after_open : List Sign → Result (List Sign) Stop
-after_open (Open ∷ ts) = Ok ts
+after_open (signs.Open ∷ ts) = Ok ts
 after_open ts = fails expected.Open ts
 
 -- what is said to be expected where no parenthesis closes
 unfoldable pub after_close : Expected → List Sign → Result (List Sign) Stop
-after_close x (Close ∷ ts) = Ok ts
+after_close x (signs.Close ∷ ts) = Ok ts
 after_close x ts = fails x ts
 
 unfoldable pub after_then : List Sign → Result (List Sign) Stop
-after_then (Then ∷ ts) = Ok ts
+after_then (signs.Then ∷ ts) = Ok ts
 after_then ts = fails expected.Then ts
 
 unfoldable pub after_least : List Sign → Result (List Sign) Stop
-after_least (Least ∷ ts) = Ok ts
+after_least (signs.Least ∷ ts) = Ok ts
 after_least ts = fails expected.Least ts
 
 abbrev pub same : Connective → Connective → Bool
@@ -143,11 +150,11 @@ same c d = false
 
 -- what stands behind the connective, if it is next
 unfoldable pub after_join : Connective → List Sign → Option (List Sign)
-after_join c (Join d ∷ ts) = if same c d then Some ts else None
+after_join c (signs.Join d ∷ ts) = if same c d then Some ts else None
 after_join c ts = None
 
 unfoldable pub after_comma : List Sign → Option (List Sign)
-after_comma (Comma ∷ ts) = Some ts
+after_comma (signs.Comma ∷ ts) = Some ts
 after_comma ts = None
 
 abbrev pub after_separator : Separator → List Sign → Option (List Sign)
@@ -162,7 +169,7 @@ group deeper ts = do
   rest ← after_close expected.Close e.1
   Ok (e.0, rest)
 
-unfoldable pub quantified : (Level → List Sign → Answer) → Quantifier → List Sign → Answer
+unfoldable pub quantified : (Level → List Sign → Answer) → HowMany → List Sign → Answer
 quantified deeper q ts = do
   path ← path_at ts
   us ← after_open path.1
@@ -170,12 +177,14 @@ quantified deeper q ts = do
   Ok (Quantified q path.0 e.0, e.1)
 
 -- one more part, if the separator was next
-abbrev pub with_next : (List Sign → Answer) → (List Sign → Result (Trees × List Sign) Stop) → List Sign → Option (List Sign) → Result (Trees × List Sign) Stop
+abbrev pub with_next : (List Sign → Answer) → (List Sign → Result (Trees × List Sign) Stop)
+    → List Sign → Option (List Sign) → Result (Trees × List Sign) Stop
 with_next part go ts None = Ok (none, ts)
 with_next part go ts (Some us) = part us >>= λ e. go e.1 >>= λ x. Ok (more e.0 x.0, x.1)
 
 -- The parts behind the first one, each with the separator before it; there are at most k.
-unfoldable pub parts_at : ℕ → Separator → (List Sign → Answer) → List Sign → Result (Trees × List Sign) Stop
+unfoldable pub parts_at : ℕ → Separator → (List Sign → Answer) → List Sign
+    → Result (Trees × List Sign) Stop
 parts_at zero s part ts = Ok (none, ts)
 parts_at (suc k) s part ts = with_next part (parts_at k s part) ts (after_separator s ts)
 
@@ -189,8 +198,9 @@ listed deeper k ts = do
 
 -- what is counted
 unfoldable pub counted : (Level → List Sign → Answer) → ℕ → List Sign → Answer
-counted deeper k (Of ∷ ts) = after_open ts >>= listed deeper k
-counted deeper k (Path path ∷ ts) = quantified deeper (quantifiers.AtLeast k) (Path path ∷ ts)
+counted deeper k (signs.Of ∷ ts) = after_open ts >>= listed deeper k
+counted deeper k (signs.Path path ∷ ts) =
+    quantified deeper (quantifiers.AtLeast k) (signs.Path path ∷ ts)
 counted deeper k ts = fails expected.Counted ts
 
 unfoldable pub threshold : (Level → List Sign → Answer) → List Sign → Answer
@@ -200,13 +210,13 @@ threshold deeper ts = do
   counted deeper k.0 k.1
 
 unfoldable pub single : (Level → List Sign → Answer) → List Sign → Answer
-single deeper (Path path ∷ ts) = test_at ts >>= λ x. Ok (At path x.0, x.1)
-single deeper (Not ∷ ts) = deeper Single ts >>= λ x. Ok (Denied x.0, x.1)
-single deeper (Open ∷ ts) = group deeper ts
-single deeper (Each ∷ ts) = quantified deeper quantifiers.Each ts
-single deeper (Any ∷ ts) = quantified deeper quantifiers.Any ts
-single deeper (AtWord ∷ ts) = threshold deeper ts
-single deeper (Keys ∷ ts) = keys_at ts
+single deeper (signs.Path path ∷ ts) = condition_at ts >>= λ x. Ok (Test path x.0, x.1)
+single deeper (signs.Not ∷ ts) = deeper Single ts >>= λ x. Ok (Not x.0, x.1)
+single deeper (signs.Open ∷ ts) = group deeper ts
+single deeper (signs.Each ∷ ts) = quantified deeper quantifiers.Each ts
+single deeper (signs.Any ∷ ts) = quantified deeper quantifiers.Any ts
+single deeper (signs.At ∷ ts) = threshold deeper ts
+single deeper (signs.Keys ∷ ts) = keys_at ts
 single deeper ts = fails expected.Expression ts
 
 abbrev pub join : Connective → Tree → Trees → Tree
@@ -233,18 +243,18 @@ implication deeper ts = do
 
 -- whether an expression other than an implication may begin so
 abbrev pub begins : Sign → Bool
-begins (Path path) = true
-begins Not = true
-begins Open = true
-begins Each = true
-begins Any = true
-begins AtWord = true
-begins Keys = true
+begins (signs.Path path) = true
+begins signs.Not = true
+begins signs.Open = true
+begins signs.Each = true
+begins signs.Any = true
+begins signs.At = true
+begins signs.Keys = true
 begins t = false
 
 unfoldable pub whole : (Level → List Sign → Answer) → List Sign → Answer
 whole deeper [] = fails expected.Whole []
-whole deeper (If ∷ ts) = implication deeper ts
+whole deeper (signs.If ∷ ts) = implication deeper ts
 whole deeper (t ∷ ts) = if begins t then loosest deeper (t ∷ ts) else fails expected.Whole (t ∷ ts)
 
 unfoldable pub at_level : (Level → List Sign → Answer) → Level → List Sign → Answer
@@ -266,7 +276,7 @@ below zero level ts = Err (record { reason = TooDeep; left = length ts })
 below (suc n) level ts = at_level (below n) level ts
 
 abbrev pub is_end : List Sign → Bool
-is_end (End ∷ []) = true
+is_end (signs.End ∷ []) = true
 is_end ts = false
 
 -- nothing is left

@@ -1,7 +1,9 @@
 -- Taking one token from the front of a text.
-use Rattle.std.specs.Prelude.{ℕ, List, [], ◌∷◌, length, Bool, Option, Some, None, option_and_then, if◌then◌else◌, Result, Ok}
+use Rattle.std.specs.Prelude.{ℕ, List, [], ◌∷◌, length, Bool, Option, Some, None, option_and_then}
+use Rattle.std.specs.Prelude.{if◌then◌else◌, Result, Ok}
 use Rattle.std.specs.Str.{is_utf8}
-use Rattle.serde_json.specs.Data.{Num, unsigned, negative, float, Data, null, boolean, number, string, array, object}
+use Rattle.serde_json.specs.Data.{Num, unsigned, negative, float, Data, null, boolean, number}
+use Rattle.serde_json.specs.Data.{string, array, object}
 use Rattle.serde_json.specs.Read.{read}
 use Rattle.predicates_rules.specs.declared.fixed.Fixed.{Fixed}
 use Rattle.predicates_rules.specs.declared.error.Expected.{Expected}
@@ -9,39 +11,46 @@ use Rattle.predicates_rules.specs.declared.error.Expected.TheVariants as expecte
 use Rattle.predicates_rules.specs.declared.stop.Stop.{Stop}
 use Rattle.predicates_rules.specs.declared.token.Token.{Token}
 use Rattle.predicates_rules.specs.declared.lexer.Class.{Class}
-use Rattle.predicates_rules.specs.declared.lexer.Class.TheVariants.{Letter, Digit, Symbol, Mark, Slash, Quote, Other}
-use Rattle.predicates_rules.specs.Trees.{Value, Natural, Negative, Decimal, Text, Boolean, Null, Sign, Path, Plain, sign_of}
+use Rattle.predicates_rules.specs.declared.lexer.Class.TheVariants.{Letter, Digit, Symbol, Mark}
+use Rattle.predicates_rules.specs.declared.lexer.Class.TheVariants.{Slash, Quote, Other}
+use Rattle.predicates_rules.specs.Literals.{Literal, Natural, Negative, Decimal, Text, Boolean}
+use Rattle.predicates_rules.specs.Literals.{Null}
+use Rattle.predicates_rules.specs.Signs as signs
+use Rattle.predicates_rules.specs.Signs.{Sign, sign_of}
 use Rattle.predicates_rules.specs.Answers.{◌>>=◌, stops}
-use Rattle.predicates_rules.specs.Lexemes.{class_of, is_space, fixed_at, sign_of_fixed, cut, is_shown, is_path, pointer}
+use Rattle.predicates_rules.specs.Lexemes.{class_of, is_space, fixed_at, sign_of_fixed, cut}
+use Rattle.predicates_rules.specs.Lexemes.{is_shown, is_path, pointer}
 
 -- the number that a word is
-abbrev pub number_in : List ℕ → Num → Value
+abbrev pub number_in : List ℕ → Num → Literal
 number_in word (unsigned n) = Natural n
 number_in word (negative z) = Negative z
 number_in word (float x) = Decimal word x
 
 -- the literal that JSON's data are, where they are read from a word
-abbrev pub value_in : List ℕ → Data → Option Value
-value_in word null = Some Null
-value_in word (boolean b) = Some (Boolean b)
-value_in word (number n) = Some (number_in word n)
-value_in word (string text) = Some (Text text)
-value_in word (array ds) = None
-value_in word (object ms) = None
+abbrev pub literal_in : List ℕ → Data → Option Literal
+literal_in word null = Some Null
+literal_in word (boolean b) = Some (Boolean b)
+literal_in word (number n) = Some (number_in word n)
+literal_in word (string text) = Some (Text text)
+literal_in word (array ds) = None
+literal_in word (object ms) = None
 
-unfoldable pub value_at : List ℕ → Option Value
-value_at word = if is_utf8 word then option_and_then (value_in word) (read word) else None
+unfoldable pub literal_from : List ℕ → Option Literal
+literal_from word = if is_utf8 word then option_and_then (literal_in word) (read word) else None
 
 abbrev pub sign_or : ℕ → Option Fixed → Result Sign Stop
 sign_or left None = stops expected.Token left
 sign_or left (Some f) = Ok (sign_of_fixed f)
 
-abbrev pub value_or : Expected → ℕ → Option Value → Result Sign Stop
-value_or x left None = stops x left
-value_or x left (Some v) = Ok (Plain v)
+abbrev pub literal_or : Expected → ℕ → Option Literal → Result Sign Stop
+literal_or x left None = stops x left
+literal_or x left (Some v) = Ok (signs.Literal v)
 
 abbrev pub path_or : ℕ → List ℕ → Bool → Bool → Result Sign Stop
-path_or left word is shows = if is then (if shows then Ok (Path (pointer word)) else stops expected.Utf8 left) else stops expected.Token left
+path_or left word is shows = if is
+    then (if shows then Ok (signs.Path (pointer word)) else stops expected.Utf8 left)
+    else stops expected.Token left
 
 abbrev pub front_class : List ℕ → Class
 front_class [] = Other
@@ -51,8 +60,8 @@ unfoldable pub sign_in : Class → ℕ → List ℕ → Result Sign Stop
 sign_in Letter left word = sign_or left (fixed_at word)
 sign_in Symbol left word = sign_or left (fixed_at word)
 sign_in Mark left word = sign_or left (fixed_at word)
-sign_in Digit left word = value_or expected.Number left (value_at word)
-sign_in Quote left word = value_or expected.Escapes left (value_at word)
+sign_in Digit left word = literal_or expected.Number left (literal_from word)
+sign_in Quote left word = literal_or expected.Escapes left (literal_from word)
 sign_in Slash left word = path_or left word (is_path word) (is_shown word)
 sign_in c left word = stops expected.Token left
 

@@ -1,44 +1,52 @@
 -- The text of an expression, part by part as it is written.
 use Rattle.std.specs.Prelude.{ℕ, zero, suc, List, [], ◌∷◌, ◌++◌, map, codes, decimal, if◌then◌else◌}
 use Rattle.std.specs.List.{flat_map}
-use Rattle.predicates_rules.specs.declared.expression.Quantifier.{Quantifier}
-use Rattle.predicates_rules.specs.declared.expression.Quantifier.TheVariants as quantifiers
+use Rattle.predicates_rules.specs.declared.expression.HowMany.{HowMany}
+use Rattle.predicates_rules.specs.declared.expression.HowMany.TheVariants as quantifiers
 use Rattle.predicates_rules.specs.declared.parser.Separator.{Separator}
 use Rattle.predicates_rules.specs.declared.parser.Separator.TheVariants as separators
-use Rattle.predicates_rules.specs.Trees.{Value, Text, Join, Compare, Relate, Is, Test, TheValueIs, Compares, ComparesWith, HasLength, IsOfKind, Relates, IsAmong, HasKeysAmong, Tree, At, Denied, Implies, Quantified, Joined, AtLeast, Trees, none, more}
+use Rattle.predicates_rules.specs.Literals.{Literal, Text}
+use Rattle.predicates_rules.specs.Signs as signs
+use Rattle.predicates_rules.specs.Conditions.{Condition, Is, Compare, CompareWith, Length, IsOf}
+use Rattle.predicates_rules.specs.Conditions.{Relate, In, KeysIn}
+use Rattle.predicates_rules.specs.Trees.{Tree, Test, Not, Implies, Quantified, Joined, AtLeast}
+use Rattle.predicates_rules.specs.Trees.{Trees, none, more}
 use Rattle.predicates_rules.specs.Grammar.{Level, Single, Whole, part_level}
-use Rattle.predicates_rules.specs.Printing.{kind_sign, test_signs, stands_at, takes_if, path_text, value_text, word_of, laid}
+use Rattle.predicates_rules.specs.Printing.{kind_sign, condition_signs, stands_at, takes_if}
+use Rattle.predicates_rules.specs.Printing.{path_text, literal_text, word_of, laid}
 
 -- v , .. , v
-abbrev pub items_text : List Value → List ℕ
+abbrev pub items_text : List Literal → List ℕ
 items_text [] = []
-items_text (v ∷ vs) = value_text v ++ flat_map (λ w. codes ", " ++ value_text w) vs
+items_text (v ∷ vs) = literal_text v ++ flat_map (λ w. codes ", " ++ literal_text w) vs
 
-abbrev pub among_text : List Value → List ℕ
+abbrev pub among_text : List Literal → List ℕ
 among_text vs = codes "in [" ++ (items_text vs ++ codes "]")
 
-abbrev pub test_text : Test → List ℕ
-test_text (TheValueIs s) = word_of (Is s)
-test_text (Compares o v) = word_of (Compare o) ++ (codes " " ++ value_text v)
-test_text (ComparesWith o path) = word_of (Compare o) ++ (codes " " ++ path_text path)
-test_text (HasLength o n) = codes "length " ++ (word_of (Compare o) ++ (codes " " ++ decimal n))
-test_text (IsOfKind k) = codes "is " ++ word_of (kind_sign k)
-test_text (Relates r text) = word_of (Relate r) ++ (codes " " ++ value_text (Text text))
-test_text (IsAmong vs) = among_text vs
-test_text (HasKeysAmong texts) = among_text (map Text texts)
+abbrev pub condition_text : Condition → List ℕ
+condition_text (Is s) = word_of (signs.State s)
+condition_text (Compare o v) = word_of (signs.Comparison o) ++ (codes " " ++ literal_text v)
+condition_text (CompareWith o path) = word_of (signs.Comparison o) ++ (codes " " ++ path_text path)
+condition_text (Length o n) =
+    codes "length " ++ (word_of (signs.Comparison o) ++ (codes " " ++ decimal n))
+condition_text (IsOf k) = codes "is " ++ word_of (kind_sign k)
+condition_text (Relate r text) =
+    word_of (signs.Relation r) ++ (codes " " ++ literal_text (Text text))
+condition_text (In vs) = among_text vs
+condition_text (KeysIn texts) = among_text (map Text texts)
 
 -- what stands before the path of a test
-abbrev pub lead_text : Test → List ℕ
-lead_text (HasKeysAmong texts) = codes "keys "
+abbrev pub lead_text : Condition → List ℕ
+lead_text (KeysIn texts) = codes "keys "
 lead_text t = []
 
-abbrev pub quantifier_text : Quantifier → List ℕ
+abbrev pub quantifier_text : HowMany → List ℕ
 quantifier_text quantifiers.Each = codes "each"
 quantifier_text quantifiers.Any = codes "any"
 quantifier_text (quantifiers.AtLeast k) = codes "at least " ++ decimal k
 
 abbrev pub separator_text : Separator → List ℕ
-separator_text (separators.Connective c) = codes " " ++ (word_of (Join c) ++ codes " ")
+separator_text (separators.Connective c) = codes " " ++ (word_of (signs.Join c) ++ codes " ")
 separator_text separators.Comma = codes ", "
 
 abbrev pub grouped : List ℕ → List ℕ
@@ -53,12 +61,17 @@ closing l = if takes_if l then [] else codes ")"
 
 abbrev mutual
   pub tree_text : Level → Tree → List ℕ
-  tree_text l (At path t) = lead_text t ++ (path_text path ++ (codes " " ++ laid (test_signs t)))
-  tree_text l (Denied e) = codes "not " ++ tree_text Single e
-  tree_text l (Implies a b) = opening l ++ (tree_text Whole a ++ (codes " then " ++ (tree_text Whole b ++ closing l)))
-  tree_text l (Quantified q path e) = quantifier_text q ++ (codes " " ++ (path_text path ++ (codes " " ++ grouped (tree_text Whole e))))
-  tree_text l (Joined c es) = if stands_at l c es then row_text (separators.Connective c) es else grouped (row_text (separators.Connective c) es)
-  tree_text l (AtLeast k es) = codes "at least " ++ (decimal k ++ (codes " of " ++ grouped (row_text separators.Comma es)))
+  tree_text l (Test path t) =
+      lead_text t ++ (path_text path ++ (codes " " ++ laid (condition_signs t)))
+  tree_text l (Not e) = codes "not " ++ tree_text Single e
+  tree_text l (Implies a b) =
+      opening l ++ (tree_text Whole a ++ (codes " then " ++ (tree_text Whole b ++ closing l)))
+  tree_text l (Quantified q path e) = quantifier_text q
+      ++ (codes " " ++ (path_text path ++ (codes " " ++ grouped (tree_text Whole e))))
+  tree_text l (Joined c es) = if stands_at l c es then row_text (separators.Connective c) es
+      else grouped (row_text (separators.Connective c) es)
+  tree_text l (AtLeast k es) =
+      codes "at least " ++ (decimal k ++ (codes " of " ++ grouped (row_text separators.Comma es)))
 
   -- E s .. s E
   pub row_text : Separator → Trees → List ℕ

@@ -1,7 +1,6 @@
 //! An expression that is denied, without taking it over.
 ghost use Rattle.std.specs.Prelude.{Some};
-ghost use Rattle.predicates_rules.specs.Trees.{tree_of};
-ghost use Rattle.predicates_rules.specs.Trees.{Denied as Negation};
+ghost use Rattle.predicates_rules.specs.Trees.{Not, tree_of};
 ghost use Rattle.predicates_rules.specs.Printing.{printed};
 
 use crate::display::expression::fmt_not;
@@ -20,7 +19,7 @@ pub struct Denied<'a>(pub &'a Expression);
 /// assert!(rt; text.as_str() == "not (/age >= 18 or /guest exists)");
 /// ```
 impl fmt::Display for Denied<'_> {
-    ghost output = { λ denied. Some (printed (Negation (tree_of denied.0.now))) };
+    ghost output = { λ denied. Some (printed (Not (tree_of denied.0.now))) };
 
     fn fmt<W: fmt::Write>(&self, f: &mut fmt::Formatter<W>) -> fmt::Result {
         fmt_not(self.0, f)

@@ -18,7 +18,7 @@ pub enum Connective {
 
 /// How many items of a list have to meet an expression.
 #[derive(Clone, Copy, Debug, PartialEq, Eq)]
-pub enum Quantifier {
+pub enum HowMany {
     Each,
     Any,
     /// At least so many of them, which may be 0 or more than there are.
@@ -29,8 +29,8 @@ pub enum Quantifier {
 ///
 /// A path is a JSON pointer that begins at the record, or under `Quantified` at the item. It is
 /// empty for that itself, which a rule writes as `/`. Behind `^` it begins at the record there too:
-/// `^/a`, and `^` alone for the record, which a rule writes as `^/`. Its `~0` and `~1` stand as they
-/// were written.
+/// `^/a`, and `^` alone for the record, which a rule writes as `^/`. Its `~0` and `~1` stand as
+/// they were written.
 #[derive(Debug, Drop)]
 pub enum Expression {
     /// What is said of the value at a path.
@@ -40,7 +40,7 @@ pub enum Expression {
     /// means `not A or B`.
     Implies(Box<Expression>, Box<Expression>),
     /// How many items of the list at a path meet the expression.
-    Quantified(Quantifier, String, Box<Expression>),
+    Quantified(HowMany, String, Box<Expression>),
     /// Two parts or more, in the order of the text. What one connective joins in a row is one
     /// join, so a part is itself joined by the same connective only where parentheses say so.
     Joined(Connective, Vec<Expression>),

@@ -3,7 +3,7 @@
 ghost use Rattle.std.specs.Prelude.{◌≡◌};
 ghost use Rattle.std.specs.List.{find};
 ghost use Rattle.std.specs.Str.{bytes_eq};
-ghost use Rattle.predicates_rules.specs.Trees.{sign_of};
+ghost use Rattle.predicates_rules.specs.Signs.{sign_of};
 ghost use Rattle.predicates_rules.specs.Lexemes.{text_of, sign_of_fixed, fixed_at};
 
 use crate::condition::{Comparison, Relation, State, ValueKind};

@@ -1,12 +1,19 @@
 //! Takes an expression's text apart into tokens.
 
-ghost use Rattle.std.specs.Prelude.{◌≡◌, ℕ, ◌+◌, ◌≤◌, List, map, option_map, length, IfOk, IfErr, IfSome, MatchOption, Ok, Some, None, string_bytes, take, drop, ◌∷◌, [], false, not, ◌&&◌, ◌==◌, true};
+ghost use Rattle.std.specs.Prelude.{◌≡◌, ℕ, ◌+◌, ◌≤◌, List, map, option_map, length, IfOk, IfErr};
+ghost use Rattle.std.specs.Prelude.{IfSome, MatchOption, Ok, Some, None, string_bytes, [], false};
+ghost use Rattle.std.specs.Prelude.{not, ◌&&◌, ◌==◌, true};
 ghost use Rattle.std.specs.List.{list_any, prefix_len};
 ghost use Rattle.std.specs.Str.{chars};
 ghost use Rattle.serde_json.specs.View.{view, number_view};
-ghost use Rattle.predicates_rules.specs.Trees.{Sign, sign_of, value_of};
-ghost use Rattle.predicates_rules.specs.Lexemes.{class_of, continues, is_control, is_hidden, is_masked, is_path, is_quoted, is_shown, is_title, is_space, is_over, text_end, token_len, cut, pointer, IsLexed};
-ghost use Rattle.predicates_rules.specs.Scanning.{number_in, value_in, value_at, front_class, path_or, sign_in, token_at, after_space, placed};
+ghost use Rattle.predicates_rules.specs.Literals.{literal_of};
+ghost use Rattle.predicates_rules.specs.Signs.{Sign, sign_of};
+ghost use Rattle.predicates_rules.specs.Lexemes.{class_of, continues, is_control, is_hidden};
+ghost use Rattle.predicates_rules.specs.Lexemes.{is_masked, is_path, is_quoted, is_shown, is_title};
+ghost use Rattle.predicates_rules.specs.Lexemes.{is_space, is_over, text_end, token_len, cut};
+ghost use Rattle.predicates_rules.specs.Lexemes.{pointer, IsLexed};
+ghost use Rattle.predicates_rules.specs.Scanning.{number_in, literal_in, literal_from, front_class};
+ghost use Rattle.predicates_rules.specs.Scanning.{path_or, sign_in, token_at, after_space, placed};
 ghost use Rattle.predicates_rules.specs.Heading.{title_or};
 ghost use Rattle.predicates_rules.specs.Answers.{Gives, IsStop, stop_at};
 ghost use Rattle.predicates_rules.specs.Faults.{NoToken, told_class, told_len};
@@ -172,7 +179,7 @@ fn front(text: &[u8]) -> Option<(&[u8], &[u8])>
 }
 
 fn number_of(alloc: Global, text: &str, number: Number) -> Result<Literal, AllocError>
-    ensures { IfOk result (λ v. value_of v ≡ number_in text.now (number_view number)) }
+    ensures { IfOk result (λ v. literal_of v ≡ number_in text.now (number_view number)) }
 {
     if let Some(n) = number.as_u64() {
         return Ok(Literal::Natural(n));
@@ -188,7 +195,7 @@ fn number_of(alloc: Global, text: &str, number: Number) -> Result<Literal, Alloc
 
 // The literal that a value is, which was read from this text.
 fn literal_of(alloc: Global, text: &str, value: Value) -> Result<Option<Literal>, AllocError>
-    ensures { IfOk result (λ o. option_map value_of o ≡ value_in text.now (view value)) }
+    ensures { IfOk result (λ o. option_map literal_of o ≡ literal_in text.now (view value)) }
 {
     Ok(match value {
         Value::Null => Some(Literal::Null),
@@ -201,9 +208,9 @@ fn literal_of(alloc: Global, text: &str, value: Value) -> Result<Option<Literal>
 }
 
 // The literal that JSON reads.
-#[tactic(auto, unfolding(crate::specs::Scanning::value_at))]
+#[tactic(auto, unfolding(crate::specs::Scanning::literal_from))]
 fn literal(alloc: Global, word: &[u8]) -> Result<Option<Literal>, ReadError>
-    ensures { Gives (option_map value_of) result (Ok (value_at word.now)) }
+    ensures { Gives (option_map literal_of) result (Ok (literal_from word.now)) }
 {
     let Ok(text) = from_utf8(word) else {
         return Ok(None);

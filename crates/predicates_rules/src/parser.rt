@@ -1,15 +1,28 @@
 //! Reads an expression from its tokens.
 
-ghost use Rattle.std.specs.Prelude.{◌≡◌, ℕ, List, [], map, option_map, string_bytes, IfOk, IfErr, Ok, length};
-ghost use Rattle.predicates_rules.specs.Trees.{Tree, Sign, value_of, test_of, tree_of, trees_of, signs};
-ghost use Rattle.predicates_rules.specs.Grammar.{tighter, part_level, Whole, IsSpelled};
+ghost use Rattle.std.specs.Prelude.{◌≡◌, ℕ, List, map, option_map, string_bytes, IfOk, IfErr, Ok};
+ghost use Rattle.std.specs.Prelude.{length};
+ghost use Rattle.predicates_rules.specs.Literals.{literal_of};
+ghost use Rattle.predicates_rules.specs.Signs.{Sign, signs};
+ghost use Rattle.predicates_rules.specs.Conditions.{condition_of};
+ghost use Rattle.predicates_rules.specs.Trees.{Tree, tree_of, trees_of};
+ghost use Rattle.predicates_rules.specs.Grammar.{tighter, Whole, IsSpelled};
 ghost use Rattle.predicates_rules.specs.Levels.{level_of};
 ghost use Rattle.predicates_rules.specs.Answers.{Gives, IsSyntax, stop_at};
-ghost use Rattle.predicates_rules.specs.Reading.{literal_at, goes_on_at, items_at, list_at, after_bracket, text_at, compared_at, comparison_at, length_at, kind_at, test_at, after_in, texts_at, text_list_at, keys_at, path_at, after_open, after_close, after_then, after_least, count_at, same, after_join, after_comma, after_separator, group, quantified, listed, counted, threshold, single, part_at, parts_at, join, chain, implication, whole, at_level, below, is_end, all_of};
+ghost use Rattle.predicates_rules.specs.Reading.{literal_at, goes_on_at, items_at, list_at};
+ghost use Rattle.predicates_rules.specs.Reading.{after_bracket, text_at, compared_at};
+ghost use Rattle.predicates_rules.specs.Reading.{comparison_at, length_at, kind_at, condition_at};
+ghost use Rattle.predicates_rules.specs.Reading.{after_in, texts_at, text_list_at, keys_at};
+ghost use Rattle.predicates_rules.specs.Reading.{path_at, after_open, after_close, after_then};
+ghost use Rattle.predicates_rules.specs.Reading.{after_least, count_at, same, after_join};
+ghost use Rattle.predicates_rules.specs.Reading.{after_comma, after_separator, group, quantified};
+ghost use Rattle.predicates_rules.specs.Reading.{listed, counted, threshold, single, part_at};
+ghost use Rattle.predicates_rules.specs.Reading.{parts_at, join, chain, implication, whole};
+ghost use Rattle.predicates_rules.specs.Reading.{at_level, below, is_end, all_of};
 
 use crate::condition::{Comparison, Condition, ValueKind};
 use crate::error::{Expected, Reason};
-use crate::expression::{Connective, Expression, MAX_DEPTH, Quantifier};
+use crate::expression::{Connective, Expression, HowMany, MAX_DEPTH};
 use crate::literal::Literal;
 use crate::stop::{ReadError, Stop};
 use crate::token::{Kind, Token};
@@ -26,7 +39,7 @@ fn stop(expected: Expected, tokens: &[Token]) -> ReadError
 }
 
 fn copy(literal: &Literal) -> Result<Literal, AllocError>
-    ensures { IfOk result (λ v. value_of v ≡ value_of literal.now) }
+    ensures { IfOk result (λ v. literal_of v ≡ literal_of literal.now) }
 {
     match literal {
         Literal::Natural(n) => Ok(Literal::Natural(*n)),
@@ -135,7 +148,7 @@ fn bracket(tokens: &[Token]) -> Result<&[Token], ReadError>
 
 #[tactic(auto, unfolding(crate::specs::Reading::literal_at))]
 fn literal(tokens: &[Token]) -> Result<(Literal, &[Token]), ReadError>
-    ensures { Gives (λ x. (value_of x.0, signs x.1.now)) result (literal_at (signs tokens.now)) }
+    ensures { Gives (λ x. (literal_of x.0, signs x.1.now)) result (literal_at (signs tokens.now)) }
 {
     let [first, rest @ ..] = tokens else {
         return Err(stop(Expected::Literal, tokens));
@@ -174,7 +187,7 @@ fn goes_on(tokens: &[Token]) -> Result<(bool, &[Token]), ReadError>
 }
 
 fn items(alloc: Global, tokens: &[Token]) -> Result<(Vec<Literal>, &[Token]), ReadError>
-    ensures { Gives (λ x. (map value_of x.0.items, signs x.1.now)) result
+    ensures { Gives (λ x. (map literal_of x.0.items, signs x.1.now)) result
         (items_at (signs tokens.now)) }
 {
     let mut items = Vec::new(alloc);
@@ -192,7 +205,7 @@ fn items(alloc: Global, tokens: &[Token]) -> Result<(Vec<Literal>, &[Token]), Re
 
 #[tactic(auto, unfolding(crate::specs::Reading::list_at))]
 fn list(alloc: Global, tokens: &[Token]) -> Result<(Vec<Literal>, &[Token]), ReadError>
-    ensures { Gives (λ x. (map value_of x.0.items, signs x.1.now)) result
+    ensures { Gives (λ x. (map literal_of x.0.items, signs x.1.now)) result
         (list_at (signs tokens.now)) }
 {
     let [first, rest @ ..] = tokens else {
@@ -263,7 +276,7 @@ fn keys(alloc: Global, tokens: &[Token]) -> Result<(Expression, &[Token]), ReadE
 // What a value is compared with.
 #[tactic(auto, unfolding(crate::specs::Reading::compared_at))]
 fn compared(comparison: Comparison, tokens: &[Token]) -> Result<(Condition, &[Token]), ReadError>
-    ensures { Gives (λ x. (test_of x.0, signs x.1.now)) result
+    ensures { Gives (λ x. (condition_of x.0, signs x.1.now)) result
         (compared_at comparison (signs tokens.now)) }
 {
     let [first, rest @ ..] = tokens else {
@@ -292,7 +305,7 @@ fn comparison(tokens: &[Token]) -> Result<(Comparison, &[Token]), ReadError>
 // What a length is compared with.
 #[tactic(auto, unfolding(crate::specs::Reading::length_at))]
 fn length(tokens: &[Token]) -> Result<(Condition, &[Token]), ReadError>
-    ensures { Gives (λ x. (test_of x.0, signs x.1.now)) result (length_at (signs tokens.now)) }
+    ensures { Gives (λ x. (condition_of x.0, signs x.1.now)) result (length_at (signs tokens.now)) }
 {
     let (comparison, rest) = comparison(tokens)?;
     let (count, rest) = count(rest)?;
@@ -313,9 +326,10 @@ fn value_kind(tokens: &[Token]) -> Result<(ValueKind, &[Token]), ReadError>
     }
 }
 
-#[tactic(auto, unfolding(crate::specs::Reading::test_at))]
+#[tactic(auto, unfolding(crate::specs::Reading::condition_at))]
 fn condition(alloc: Global, tokens: &[Token]) -> Result<(Condition, &[Token]), ReadError>
-    ensures { Gives (λ x. (test_of x.0, signs x.1.now)) result (test_at (signs tokens.now)) }
+    ensures { Gives (λ x. (condition_of x.0, signs x.1.now)) result
+        (condition_at (signs tokens.now)) }
 {
     let [first, rest @ ..] = tokens else {
         return Err(stop(Expected::Condition, tokens));
@@ -586,8 +600,8 @@ fn alone(alloc: Global, depth: u32, tokens: &[Token]) -> Result<(Expression, &[T
             Ok((Expression::Not(Box::new(alloc, denied)?), rest))
         }
         Kind::Open => in_parentheses(alloc, depth, rest),
-        Kind::Each => over_items(alloc, Quantifier::Each, depth, rest),
-        Kind::Any => over_items(alloc, Quantifier::Any, depth, rest),
+        Kind::Each => over_items(alloc, HowMany::Each, depth, rest),
+        Kind::Any => over_items(alloc, HowMany::Any, depth, rest),
         Kind::At => threshold(alloc, depth, rest),
         Kind::Keys => keys(alloc, rest),
         _ => Err(stop(Expected::Expression, tokens)),
@@ -613,7 +627,7 @@ fn in_parentheses(
 #[tactic(auto, unfolding(crate::specs::Reading::quantified))]
 fn over_items(
     alloc: Global,
-    quantifier: Quantifier,
+    quantifier: HowMany,
     depth: u32,
     tokens: &[Token],
 ) -> Result<(Expression, &[Token]), ReadError>
@@ -664,7 +678,7 @@ fn counted(
             let rest = open(rest)?;
             listed(alloc, count, depth, rest)
         }
-        Kind::Path(_) => over_items(alloc, Quantifier::AtLeast(count), depth, tokens),
+        Kind::Path(_) => over_items(alloc, HowMany::AtLeast(count), depth, tokens),
         _ => Err(stop(Expected::Counted, tokens)),
     }
 }

@@ -1,5 +1,5 @@
 //! Bytes of a rule as a message quotes them.
-ghost use Rattle.std.specs.Prelude.{◌++◌, IfOk, map, chars};
+ghost use Rattle.std.specs.Prelude.{IfOk, map, chars};
 ghost use Rattle.std.specs.Fmt.{DisplaysOnOk};
 ghost use Rattle.std.specs.Str.Chunks.{utf8_chunk_valid, utf8_chunk_invalid};
 ghost use Rattle.predicates_rules.specs.Quoting.{escaped_text, character_text, byte_text};

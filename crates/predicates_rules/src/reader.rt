@@ -1,14 +1,15 @@
 //! Reads the expression of a text, and the rule of a line.
 
-ghost use Rattle.std.specs.Prelude.{◌≡◌, ℕ, ◌≤◌, List, Option, length, drop, IfOk, IfErr, Ok, map, option_map, string_bytes};
+ghost use Rattle.std.specs.Prelude.{◌≡◌, ℕ, ◌≤◌, List, Option, length, drop, IfOk, IfErr, Ok, map};
+ghost use Rattle.std.specs.Prelude.{option_map, string_bytes};
 ghost use Rattle.predicates_rules.specs.Trees.{Tree, tree_of};
 ghost use Rattle.predicates_rules.specs.Grammar.{max_depth};
 ghost use Rattle.predicates_rules.specs.Answers.{Gives, IsStop, IsSyntax};
 ghost use Rattle.predicates_rules.specs.Scanning.{placed};
-ghost use Rattle.predicates_rules.specs.Lexemes.{is_over};
 ghost use Rattle.predicates_rules.specs.Heading.{after_colon, bare_head, quoted_head, head_at};
 ghost use Rattle.predicates_rules.specs.Rules.{Says, IsLine, after_spaces, rule_of};
-ghost use Rattle.predicates_rules.specs.Faults.{first_left, left_behind, error_in_bytes, IsFault, IsLineFault};
+ghost use Rattle.predicates_rules.specs.Faults.{first_left, left_behind, error_in_bytes, IsFault};
+ghost use Rattle.predicates_rules.specs.Faults.{IsLineFault};
 
 use crate::error::Expected;
 use crate::expression::Expression;

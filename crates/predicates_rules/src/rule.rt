@@ -2,10 +2,11 @@
 
 ghost use Rattle.std.specs.Prelude.{◌≡◌, ℕ, ◌≤◌, List, IfOk, IfErr, map};
 ghost use Rattle.predicates_rules.specs.declared.error.RulesError.TheVariants.{NoMemory};
-ghost use Rattle.predicates_rules.specs.Trees.{Tree, Denied, Implies};
+ghost use Rattle.predicates_rules.specs.Trees.{Tree, Not, Implies};
 ghost use Rattle.predicates_rules.specs.Grammar.{Whole, max_depth};
 ghost use Rattle.predicates_rules.specs.Printing.{IsProper, IsPlain, nesting_at, printed};
-ghost use Rattle.predicates_rules.specs.Rules.{AreRules, AreApart, AreRulesOf, AreRead, Says, lines_of, without_mark, rule_of};
+ghost use Rattle.predicates_rules.specs.Rules.{AreRules, AreApart, AreRulesOf, AreRead, Says};
+ghost use Rattle.predicates_rules.specs.Rules.{lines_of, without_mark, rule_of};
 ghost use Rattle.predicates_rules.specs.Faults.{HasFaults, IsFaultOf, IsSyntaxError};
 ghost use Rattle.predicates_rules.specs.Findings.{rules_in, IsOutcome};
 
@@ -85,12 +86,12 @@ fn rules_of(alloc: Global, lines: &[&[u8]]) -> Result<Vec<Rule>, RulesError>
 /// Reads the rules of a file, one on a line: `NAME: EXPRESSION`.
 ///
 /// `#` begins a comment, blank lines are skipped, tabs and carriage returns count as spaces. A byte
-/// order mark before the text is skipped, and no column counts it. A name
-/// has letters, digits, `_`, `-`, `.` and any characters beyond ASCII, or is a text in quotes as
-/// JSON writes it, which is not empty and has no control character and no no-break space. It stands
-/// on one line alone: the second one is refused as `Repeated`. What nests deeper than 100 is refused as
-/// `TooDeep`. Takes memory for the lines, the tokens of a line and the rules, and time that grows
-/// with the square of the number of rules.
+/// order mark before the text is skipped, and no column counts it. A name has letters, digits, `_`,
+/// `-`, `.` and any characters beyond ASCII, or is a text in quotes as JSON writes it, which is not
+/// empty and has no control character and no no-break space. It stands on one line alone: the
+/// second one is refused as `Repeated`. What nests deeper than 100 is refused as `TooDeep`. Takes
+/// memory for the lines, the tokens of a line and the rules, and time that grows with the square of
+/// the number of rules.
 ///
 /// ```
 /// let rules = read_rules(alloc, b"adult: /age >= 18 and not /name is_empty")?;
@@ -156,5 +157,5 @@ pub fn written_is_read()
     // What a text says, however many parentheses that text has.
     ensures said { (n : ℕ) (text : List ℕ) (e : Tree) → Says n text e → Says n (printed e) e }
     // What denies the premise of an implication nests no deeper than the implication.
-    ensures denied { (a b : Tree) → nesting_at Whole (Denied a) ≤ nesting_at Whole (Implies a b) }
+    ensures denied { (a b : Tree) → nesting_at Whole (Not a) ≤ nesting_at Whole (Implies a b) }
 {}

@@ -2,7 +2,7 @@
 
 use predicates_rules::condition::{Comparison, Condition, Relation, State, ValueKind};
 use predicates_rules::denied::Denied;
-use predicates_rules::expression::{Connective, Expression, Quantifier};
+use predicates_rules::expression::{Connective, Expression, HowMany};
 use predicates_rules::literal::Literal;
 use predicates_rules::rule::{Rule, read_rules, written_is_read};
 use std::alloc::{AllocError, Global};
@@ -315,8 +315,8 @@ fn prints_words(rt: HostRuntime) -> Result<(), Fail> {
     let words = format!(in rt.alloc();
         "{} {} {} {} {} {}",
         Connective::Xor,
-        Quantifier::Any,
-        Quantifier::AtLeast(3),
+        HowMany::Any,
+        HowMany::AtLeast(3),
         State::IsEmpty,
         Comparison::Unequal,
         Relation::Matches

@@ -7,8 +7,8 @@ ghost use Rattle.predicates_dynamic.specs.Trees.{
   words_of,
   AllOf,
   tree_of,
-  Quantifies,
-  CountsMembers,
+  Quantified,
+  MembersAtLeast,
 };
 ghost use Rattle.predicates_dynamic.specs.Formulas.{check_text, Has, HasOn};
 
@@ -36,7 +36,7 @@ pub(super) fn quantified_changed<L: PredicateChange<Item>, V: View<Item>, S: Wor
     asked: Asked<'_, L, V, S, Item>,
 ) -> Result<Option<Case>, AllocError>
     requires lawful { AllOf L.lawful S.words inner.now }
-    requires whole { tree_of S.words asked.whole.now ≡ Quantifies
+    requires whole { tree_of S.words asked.whole.now ≡ Quantified
         (words_of S.words asked.whole.now) decides view.now (tree_of S.words inner.now) }
     ensures { IfOk result (IsFoundChange
         (Has L.output V.output L.formula V.gives V.absence_of S.words asked.entry.item.now
@@ -185,7 +185,7 @@ pub(super) fn members_threshold_changed<L: PredicateChange<Item>, V: View<Item>,
     asked: Asked<'_, L, V, S, Item>,
 ) -> Result<Option<Case>, AllocError>
     requires lawful { AllOf L.lawful S.words inner.now }
-    requires whole { tree_of S.words asked.whole.now ≡ CountsMembers
+    requires whole { tree_of S.words asked.whole.now ≡ MembersAtLeast
         (words_of S.words asked.whole.now) least view.now (tree_of S.words inner.now) }
     ensures { IfOk result (IsFoundChange
         (Has L.output V.output L.formula V.gives V.absence_of S.words asked.entry.item.now

@@ -2,7 +2,7 @@
 ghost use Rattle.std.specs.Prelude.{◌≡◌, IfOk, codes, map};
 ghost use Rattle.std.specs.List.{AllByRecursion};
 ghost use Rattle.predicates_core.specs.Change.{IsFoundChange};
-ghost use Rattle.predicates_dynamic.specs.Trees.{words_of, AllOf, Odds, tree_of, trees_of};
+ghost use Rattle.predicates_dynamic.specs.Trees.{words_of, AllOf, Odd, tree_of, trees_of};
 ghost use Rattle.predicates_dynamic.specs.Formulas.{check_text, Has};
 ghost use Rattle.predicates_dynamic.specs.OddRows.{IsOfOddRow};
 
@@ -28,7 +28,7 @@ pub(super) fn odd_changed<L: PredicateChange<Item>, V: View<Item>, S: Wording, I
     asked: Asked<'_, L, V, S, Item>,
 ) -> Result<Option<Case>, AllocError>
     requires lawful { AllByRecursion (AllOf L.lawful S.words) parts.now }
-    requires whole { tree_of S.words asked.whole.now ≡ Odds (words_of S.words asked.whole.now)
+    requires whole { tree_of S.words asked.whole.now ≡ Odd (words_of S.words asked.whole.now)
         (trees_of (map (tree_of S.words) parts.now)) }
     ensures { IfOk result (IsFoundChange
         (Has L.output V.output L.formula V.gives V.absence_of S.words asked.entry.item.now

@@ -7,8 +7,8 @@ ghost use Rattle.predicates_dynamic.specs.Trees.{
   words_of,
   AllOf,
   tree_of,
-  Quantifies,
-  CountsMembers,
+  Quantified,
+  MembersAtLeast,
 };
 ghost use Rattle.predicates_dynamic.specs.Formulas.{check_text, Has, HasOn};
 
@@ -36,7 +36,7 @@ pub(super) fn quantified_explained<L: Predicate<Item>, V: View<Item>, S: Wording
     asked: Asked<'_, L, V, S, Item>,
 ) -> Result<Option<Case>, AllocError>
     requires lawful { AllOf L.lawful S.words inner.now }
-    requires whole { tree_of S.words asked.whole.now ≡ Quantifies
+    requires whole { tree_of S.words asked.whole.now ≡ Quantified
         (words_of S.words asked.whole.now) decides view.now (tree_of S.words inner.now) }
     ensures { IfOk result (IsFound
         (Has L.output V.output L.formula V.gives V.absence_of S.words asked.entry.item.now
@@ -146,7 +146,7 @@ pub(super) fn members_threshold_explained<L: Predicate<Item>, V: View<Item>, S: 
     asked: Asked<'_, L, V, S, Item>,
 ) -> Result<Option<Case>, AllocError>
     requires lawful { AllOf L.lawful S.words inner.now }
-    requires whole { tree_of S.words asked.whole.now ≡ CountsMembers
+    requires whole { tree_of S.words asked.whole.now ≡ MembersAtLeast
         (words_of S.words asked.whole.now) least view.now (tree_of S.words inner.now) }
     ensures { IfOk result (IsFound
         (Has L.output V.output L.formula V.gives V.absence_of S.words asked.entry.item.now

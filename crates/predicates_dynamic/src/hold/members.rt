@@ -6,7 +6,7 @@ ghost use Rattle.predicates_core.specs.Label.{Entry};
 ghost use Rattle.predicates_core.specs.Several.{IsOfMembers};
 ghost use Rattle.predicates_core.specs.Thresholds.{IsOfThreshold};
 ghost use Rattle.predicates_dynamic.specs.Trees.{AllAsked, AllOf, AsksAll, tree_of, Words};
-ghost use Rattle.predicates_dynamic.specs.Trees.{Quantifies, CountsMembers};
+ghost use Rattle.predicates_dynamic.specs.Trees.{Quantified, MembersAtLeast};
 ghost use Rattle.predicates_dynamic.specs.Formulas.{HasFormula, HasOn};
 
 use crate::check::Check;
@@ -36,10 +36,10 @@ pub(super) fn quantified_holds<L: EvaluateWith<Item, C>, V: View<Item>, S: Wordi
     requires { AllOf L.lawful S.words inner.now }
     ensures truth { IfOk result (λ held. (w : Words) → HasTruth
         (HasFormula L.output V.output L.formula V.gives V.absence_of viewed.entry.item.now
-        (Quantifies w decides viewed.entry.view.now (tree_of S.words inner.now))) held) }
+        (Quantified w decides viewed.entry.view.now (tree_of S.words inner.now))) held) }
     ensures infallible { (w : Words) → AllAsked L.infallible V.lends V.gives
         viewed.entry.item.now
-        (Quantifies w decides viewed.entry.view.now (tree_of S.words inner.now)) → IsOk result }
+        (Quantified w decides viewed.entry.view.now (tree_of S.words inner.now)) → IsOk result }
 {
     match viewed.view.list(alloc, viewed.item)? {
         Some(members) => {
@@ -87,10 +87,10 @@ pub(super) fn members_threshold_holds<L: EvaluateWith<Item, C>, V: View<Item>, S
     requires { AllOf L.lawful S.words inner.now }
     ensures truth { IfOk result (λ held. (w : Words) → HasTruth
         (HasFormula L.output V.output L.formula V.gives V.absence_of viewed.entry.item.now
-        (CountsMembers w least viewed.entry.view.now (tree_of S.words inner.now))) held) }
+        (MembersAtLeast w least viewed.entry.view.now (tree_of S.words inner.now))) held) }
     ensures infallible { (w : Words) → AllAsked L.infallible V.lends V.gives
         viewed.entry.item.now
-        (CountsMembers w least viewed.entry.view.now (tree_of S.words inner.now))
+        (MembersAtLeast w least viewed.entry.view.now (tree_of S.words inner.now))
         → IsOk result }
 {
     match viewed.view.list(alloc, viewed.item)? {

@@ -2,9 +2,10 @@
 ghost use Rattle.std.specs.Prelude.{◌≡◌, ◌++◌, Some, codes, map, string_bytes};
 ghost use Rattle.std.specs.List.{flat_map};
 ghost use Rattle.std.specs.Fmt.{DisplaysOnOk};
-ghost use Rattle.predicates_rules.specs.Trees.{Text, value_of, test_of};
-ghost use Rattle.predicates_rules.specs.Printing.{path_text, value_text, laid, test_signs};
-ghost use Rattle.predicates_rules.specs.Writing.{items_text, test_text, lead_text};
+ghost use Rattle.predicates_rules.specs.Literals.{Text, literal_of};
+ghost use Rattle.predicates_rules.specs.Conditions.{condition_of};
+ghost use Rattle.predicates_rules.specs.Printing.{path_text, literal_text, laid, condition_signs};
+ghost use Rattle.predicates_rules.specs.Writing.{items_text, condition_text, lead_text};
 
 use crate::condition::Condition;
 use crate::display::literal::fmt_text;
@@ -25,7 +26,7 @@ pub fn path_shown(path: &str) -> &str
 // The literals, each behind a comma.
 fn fmt_further<W: fmt::Write>(literals: &[Literal], f: &mut fmt::Formatter<W>) -> fmt::Result
     ensures { DisplaysOnOk W.write_str_gives f.old result
-        (Some (flat_map (λ v. codes ", " ++ value_text v) (map value_of literals.now))) f.new }
+        (Some (flat_map (λ v. codes ", " ++ literal_text v) (map literal_of literals.now))) f.new }
 {
     for literal in literals {
         write!(f, ", {literal}")?;
@@ -36,7 +37,7 @@ fn fmt_further<W: fmt::Write>(literals: &[Literal], f: &mut fmt::Formatter<W>) -
 // The literals with commas between them.
 fn fmt_items<W: fmt::Write>(literals: &[Literal], f: &mut fmt::Formatter<W>) -> fmt::Result
     ensures { DisplaysOnOk W.write_str_gives f.old result
-        (Some (items_text (map value_of literals.now))) f.new }
+        (Some (items_text (map literal_of literals.now))) f.new }
 {
     match literals {
         [] => Ok(()),
@@ -50,7 +51,7 @@ fn fmt_items<W: fmt::Write>(literals: &[Literal], f: &mut fmt::Formatter<W>) -> 
 // A text behind a comma.
 fn fmt_further_text<W: fmt::Write>(text: &str, f: &mut fmt::Formatter<W>) -> fmt::Result
     ensures { DisplaysOnOk W.write_str_gives f.old result
-        (Some (codes ", " ++ value_text (Text text.now))) f.new }
+        (Some (codes ", " ++ literal_text (Text text.now))) f.new }
 {
     f.write_str(", ")?;
     fmt_text(text, f)
@@ -59,8 +60,8 @@ fn fmt_further_text<W: fmt::Write>(text: &str, f: &mut fmt::Formatter<W>) -> fmt
 // The texts, each behind a comma.
 fn fmt_further_texts<W: fmt::Write>(texts: &[String], f: &mut fmt::Formatter<W>) -> fmt::Result
     ensures { DisplaysOnOk W.write_str_gives f.old result
-        (Some (flat_map (λ v. codes ", " ++ value_text v) (map Text (map string_bytes texts.now))))
-        f.new }
+        (Some (flat_map (λ v. codes ", " ++ literal_text v)
+        (map Text (map string_bytes texts.now)))) f.new }
 {
     for text in texts {
         fmt_further_text(text, f)?;
@@ -84,7 +85,7 @@ fn fmt_texts<W: fmt::Write>(texts: &[String], f: &mut fmt::Formatter<W>) -> fmt:
 
 /// What stands before the path.
 pub fn lead(condition: &Condition) -> &'static str
-    ensures { result.now ≡ lead_text (test_of condition.now) }
+    ensures { result.now ≡ lead_text (condition_of condition.now) }
 {
     match condition {
         Condition::KeysIn(_) => "keys ",
@@ -95,7 +96,7 @@ pub fn lead(condition: &Condition) -> &'static str
 // What is said of the value.
 fn fmt_test<W: fmt::Write>(condition: &Condition, f: &mut fmt::Formatter<W>) -> fmt::Result
     ensures { DisplaysOnOk W.write_str_gives f.old result
-        (Some (test_text (test_of condition.now))) f.new }
+        (Some (condition_text (condition_of condition.now))) f.new }
 {
     match condition {
         Condition::Is(state) => write!(f, "{state}"),
@@ -125,7 +126,7 @@ fn fmt_test<W: fmt::Write>(condition: &Condition, f: &mut fmt::Formatter<W>) -> 
 
 /// As a rule says it behind the path; `keys` stands before the path.
 impl fmt::Display for Condition {
-    ghost output = { λ condition. Some (laid (test_signs (test_of condition))) };
+    ghost output = { λ condition. Some (laid (condition_signs (condition_of condition))) };
 
     fn fmt<W: fmt::Write>(&self, f: &mut fmt::Formatter<W>) -> fmt::Result {
         fmt_test(self, f)

@@ -1,8 +1,9 @@
 //! Expressions as a rule writes them.
 ghost use Rattle.std.specs.Prelude.{◌≡◌, Some, map};
 ghost use Rattle.std.specs.Fmt.{DisplaysOnOk};
-ghost use Rattle.predicates_rules.specs.Trees.{At, Denied, Quantified, Joined, AtLeast};
-ghost use Rattle.predicates_rules.specs.Trees.{test_of, tree_of, trees_of};
+ghost use Rattle.predicates_rules.specs.Conditions.{condition_of};
+ghost use Rattle.predicates_rules.specs.Trees.{Test, Not, Quantified, Joined, AtLeast, tree_of};
+ghost use Rattle.predicates_rules.specs.Trees.{trees_of};
 ghost use Rattle.predicates_rules.specs.Grammar.{Single, part_level};
 ghost use Rattle.predicates_rules.specs.Levels.{level_of};
 ghost use Rattle.predicates_rules.specs.Printing.{fits, stands_at, printed};
@@ -11,7 +12,7 @@ ghost use Rattle.predicates_rules.specs.Writing.{tree_text, row_text, part_text}
 
 use crate::condition::Condition;
 use crate::display::condition::{lead, path_shown};
-use crate::expression::{Connective, Expression, Quantifier};
+use crate::expression::{Connective, Expression, HowMany};
 use crate::parser::{Grip, Separator, next_tighter};
 use std::fmt;
 
@@ -82,7 +83,7 @@ fn fmt_test<W: fmt::Write>(
     f: &mut fmt::Formatter<W>,
 ) -> fmt::Result
     ensures { DisplaysOnOk W.write_str_gives f.old result
-        (Some (tree_text Single (At path.now (test_of condition.now)))) f.new }
+        (Some (tree_text Single (Test path.now (condition_of condition.now)))) f.new }
 {
     f.write_str(lead(condition))?;
     f.write_str(path_shown(path))?;
@@ -121,7 +122,7 @@ fn fmt_at<W: fmt::Write>(
 #[cycle(printing)]
 pub fn fmt_not<W: fmt::Write>(inner: &Expression, f: &mut fmt::Formatter<W>) -> fmt::Result
     ensures { DisplaysOnOk W.write_str_gives f.old result
-        (Some (tree_text Single (Denied (tree_of inner.now)))) f.new }
+        (Some (tree_text Single (Not (tree_of inner.now)))) f.new }
 {
     f.write_str("not ")?;
     fmt_at(inner, Grip::Single, f)
@@ -130,7 +131,7 @@ pub fn fmt_not<W: fmt::Write>(inner: &Expression, f: &mut fmt::Formatter<W>) -> 
 #[cycle(printing)]
 fn fmt_quantified<W: fmt::Write>(
     inner: &Expression,
-    quantifier: Quantifier,
+    quantifier: HowMany,
     path: &str,
     f: &mut fmt::Formatter<W>,
 ) -> fmt::Result

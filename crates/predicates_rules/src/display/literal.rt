@@ -1,10 +1,10 @@
 //! Literals as JSON writes them.
-ghost use Rattle.std.specs.Prelude.{◌≡◌, ◌<◌, ◌/◌, ◌%◌, Some, List, [], ◌∷◌};
+ghost use Rattle.std.specs.Prelude.{◌≡◌, ◌<◌, ◌/◌, ◌%◌, Some, [], ◌∷◌};
 ghost use Rattle.std.specs.Char.{digit_char, encode_utf8};
 ghost use Rattle.std.specs.Fmt.{DisplaysOnOk};
 ghost use Rattle.json.specs.Print.{escape, quoted};
-ghost use Rattle.predicates_rules.specs.Trees.{value_of};
-ghost use Rattle.predicates_rules.specs.Printing.{value_text};
+ghost use Rattle.predicates_rules.specs.Literals.{literal_of};
+ghost use Rattle.predicates_rules.specs.Printing.{literal_text};
 
 use crate::literal::Literal;
 use std::fmt;
@@ -65,7 +65,7 @@ pub fn fmt_text<W: fmt::Write>(text: &str, f: &mut fmt::Formatter<W>) -> fmt::Re
 
 /// As JSON writes it; a `Decimal` as it was written.
 impl fmt::Display for Literal {
-    ghost output = { λ literal. Some (value_text (value_of literal)) };
+    ghost output = { λ literal. Some (literal_text (literal_of literal)) };
 
     fn fmt<W: fmt::Write>(&self, f: &mut fmt::Formatter<W>) -> fmt::Result {
         match self {

@@ -1,11 +1,11 @@
 //! The words and operators of a rule.
 ghost use Rattle.std.specs.Prelude.{Some};
-ghost use Rattle.predicates_rules.specs.Trees.{Join, Compare, Relate, Is};
+ghost use Rattle.predicates_rules.specs.Signs.{Join, Comparison, Relation, State};
 ghost use Rattle.predicates_rules.specs.Printing.{kind_sign, word_of};
 ghost use Rattle.predicates_rules.specs.Writing.{quantifier_text};
 
 use crate::condition::{Comparison, Relation, State, ValueKind};
-use crate::expression::{Connective, Quantifier};
+use crate::expression::{Connective, HowMany};
 use std::fmt;
 
 impl fmt::Display for Connective {
@@ -20,20 +20,20 @@ impl fmt::Display for Connective {
     }
 }
 
-impl fmt::Display for Quantifier {
+impl fmt::Display for HowMany {
     ghost output = { λ q. Some (quantifier_text q) };
 
     fn fmt<W: fmt::Write>(&self, f: &mut fmt::Formatter<W>) -> fmt::Result {
         match self {
-            Quantifier::Each => f.write_str("each"),
-            Quantifier::Any => f.write_str("any"),
-            Quantifier::AtLeast(least) => write!(f, "at least {least}"),
+            HowMany::Each => f.write_str("each"),
+            HowMany::Any => f.write_str("any"),
+            HowMany::AtLeast(least) => write!(f, "at least {least}"),
         }
     }
 }
 
 impl fmt::Display for State {
-    ghost output = { λ s. Some (word_of (Is s)) };
+    ghost output = { λ s. Some (word_of (State s)) };
 
     fn fmt<W: fmt::Write>(&self, f: &mut fmt::Formatter<W>) -> fmt::Result {
         match self {
@@ -45,7 +45,7 @@ impl fmt::Display for State {
 }
 
 impl fmt::Display for Comparison {
-    ghost output = { λ o. Some (word_of (Compare o)) };
+    ghost output = { λ o. Some (word_of (Comparison o)) };
 
     fn fmt<W: fmt::Write>(&self, f: &mut fmt::Formatter<W>) -> fmt::Result {
         match self {
@@ -60,7 +60,7 @@ impl fmt::Display for Comparison {
 }
 
 impl fmt::Display for Relation {
-    ghost output = { λ r. Some (word_of (Relate r)) };
+    ghost output = { λ r. Some (word_of (Relation r)) };
 
     fn fmt<W: fmt::Write>(&self, f: &mut fmt::Formatter<W>) -> fmt::Result {
         match self {

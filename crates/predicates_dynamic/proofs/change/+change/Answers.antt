@@ -14,7 +14,7 @@ use Rattle.predicates_core.proofs.Values.{other_truths}
 use Rattle.predicates_dynamic.specs.declared.check.Check.TheFolds.{the_lemmas}
 use Rattle.predicates_dynamic.specs.Viewed.{members_in}
 use Rattle.predicates_dynamic.proofs.Unrolled.{row_whole, counted_whole, odd_whole}
-use Rattle.predicates_dynamic.specs.Trees.{Names, tree_of, AllOf}
+use Rattle.predicates_dynamic.specs.Trees.{Named, tree_of, AllOf}
 use Rattle.predicates_dynamic.specs.Formulas.{tree_text, check_text, Has, HasOn}
 use Rattle.predicates_dynamic.proofs.Rows.{each_at, row_lawful, counted_lawful, odd_lawful, change_of_list, change_absent, change_of_row, change_of_counted, change_of_odd}
 use Rattle.predicates_dynamic.proofs.change.+change.Goals.{turned_either-then-holds+in_ok-push, turned_either-else-holds+in_ok-push-2, members::turned_members_either-then-holds+in_ok-push, members::turned_members_either-else-holds+in_ok-push-2}
@@ -32,12 +32,12 @@ not_changed-returns g t c =
 
 pub named_changed-returns-in_default : goal.named_changed-returns-in_default
 named_changed-returns-in_default g t c =
-    let is : tree_of g.S.Wording.words c.args.asked.whole.now ≡ Names c.args.name.now (tree_of g.S.Wording.words c.args.inner.now) = search rules in
+    let is : tree_of g.S.Wording.words c.args.asked.whole.now ≡ Named c.args.name.now (tree_of g.S.Wording.words c.args.inner.now) = search rules in
     rw is (no_change_of_named _ _ c.args.asked.wanted (rw c.in_default.is at c.in_ok-part.ensures))
 
 pub named_changed-returns : goal.named_changed-returns
 named_changed-returns g t c =
-    let is : tree_of g.S.Wording.words c.args.asked.whole.now ≡ Names c.args.name.now (tree_of g.S.Wording.words c.args.inner.now) = search rules in
+    let is : tree_of g.S.Wording.words c.args.asked.whole.now ≡ Named c.args.name.now (tree_of g.S.Wording.words c.args.inner.now) = search rules in
     rw is (change_of_named _ _ c.args.asked.wanted (rw (c.result-outcome.ensures, c.root.ensures.value) at c.in_ok-node.ensures) (search rules) (rw c.in-Some.is at c.in_ok-part.ensures))
 
 pub pair_changed-returns-then-is_other : goal.pair_changed-returns-then-is_other

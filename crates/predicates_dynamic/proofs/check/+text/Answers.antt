@@ -6,8 +6,9 @@ use Rattle.predicates_core.specs.Several.{further_texts}
 use Rattle.predicates_dynamic.specs.Formulas.{check_text}
 use Rattle.predicates_dynamic.specs.Trees.{tree_of}
 use Rattle.predicates_dynamic.proofs.Unrolled.{row_tree, counted_tree, odd_tree}
-use Rattle.predicates_dynamic.specs.Listed.{joined_texts}
-use Rattle.predicates_dynamic.proofs.Listing.{nothing_written, text_behind, joined_more, further_more, listed, each_text}
+use Rattle.predicates_dynamic.specs.Listed.{joined_texts, text_at}
+use Rattle.predicates_core.proofs.Listing.{nothing_written, one_text_more, further_last}
+use Rattle.predicates_dynamic.proofs.Listing.{text_behind, joined_last, listed, each_text}
 use Rattle.predicates_dynamic.proofs.check.+text.Goals as goal
 
 pub Check::fmt_row-returns : goal.Check::fmt_row-returns
@@ -26,7 +27,7 @@ pub Check::fmt_parts-loop-index-init : goal.Check::fmt_parts-loop-index-init
 Check::fmt_parts-loop-index-init g t c = nothing_written g.W.Write.write_str_gives c.args.f.now
 
 pub Check::fmt_parts-loop-index-preserved : goal.Check::fmt_parts-loop-index-preserved
-Check::fmt_parts-loop-index-preserved g t c = joined_more g.W.Write.write_str_gives (check_text g.L.Display.output g.V.Display.output g.S.Wording.words) c.args.parts.now c.loop-index.index c.index-parts-index.result c.args.f.now c.loop-index.f c.fmt_part.new.f
+Check::fmt_parts-loop-index-preserved g t c = one_text_more g.W.Write.write_str_gives joined_texts text_at joined_last (check_text g.L.Display.output g.V.Display.output g.S.Wording.words) c.args.parts.now c.loop-index.index c.index-parts-index.result c.args.f.now c.loop-index.f c.fmt_part.new.f
     (omega arith) c.index-parts-index.is c.loop-index.invariant c.in_ok-fmt_part.ensures
 
 pub Check::fmt_parts-returns : goal.Check::fmt_parts-returns
@@ -36,7 +37,7 @@ pub Check::fmt_further-loop-part-init : goal.Check::fmt_further-loop-part-init
 Check::fmt_further-loop-part-init g t c = nothing_written g.W.Write.write_str_gives c.args.f.now
 
 pub Check::fmt_further-loop-part-preserved : goal.Check::fmt_further-loop-part-preserved
-Check::fmt_further-loop-part-preserved g t c = further_more g.W.Write.write_str_gives (check_text g.L.Display.output g.V.Display.output g.S.Wording.words) c.args.parts.now c.loop-part.part-index c.part-item.result c.args.f.now c.loop-part.f c.fmt_part.new.f
+Check::fmt_further-loop-part-preserved g t c = one_text_more g.W.Write.write_str_gives further_texts (λ k t. text_at 1 t) further_last (check_text g.L.Display.output g.V.Display.output g.S.Wording.words) c.args.parts.now c.loop-part.part-index c.part-item.result c.args.f.now c.loop-part.f c.fmt_part.new.f
     (omega arith) c.part-item.is c.loop-part.invariant c.in_ok-fmt_part.ensures
 
 pub Check::fmt_further-returns : goal.Check::fmt_further-returns

@@ -10,7 +10,7 @@ use Rattle.predicates_core.proofs.Several.{decided_case, members_pass, passes_mo
 use Rattle.predicates_dynamic.specs.declared.check.Check.TheFolds.{the_lemmas}
 use Rattle.predicates_dynamic.specs.Viewed.{members_in}
 use Rattle.predicates_dynamic.proofs.Unrolled.{row_whole, counted_whole, odd_whole}
-use Rattle.predicates_dynamic.specs.Trees.{AllOf, Names, tree_of}
+use Rattle.predicates_dynamic.specs.Trees.{AllOf, Named, tree_of}
 use Rattle.predicates_dynamic.specs.Formulas.{tree_text, check_text, Has, HasOn}
 use Rattle.predicates_dynamic.proofs.Rows.{found_of_list, found_absent, row_lawful, counted_lawful, odd_lawful, each_at, found_of_row, found_of_counted, found_of_odd}
 use Rattle.predicates_dynamic.proofs.explain.+explain.Goals.{counted_either-then-holds+in_ok-held_node+else-held-list, counted_either-else-holds+in_ok-failed_node+else-failed-most, members::members_either-then-holds+in_ok-held_node+else-held-list, members::members_either-else-holds+in_ok-failed_node+else-failed-most}
@@ -32,12 +32,12 @@ not_explained-returns g t c =
 
 pub named_explained-returns-in_default : goal.named_explained-returns-in_default
 named_explained-returns-in_default g t c =
-    let is : tree_of g.S.Wording.words c.args.asked.whole.now ≡ Names c.args.name.now (tree_of g.S.Wording.words c.args.inner.now) = search rules in
+    let is : tree_of g.S.Wording.words c.args.asked.whole.now ≡ Named c.args.name.now (tree_of g.S.Wording.words c.args.inner.now) = search rules in
     rw is (none_of_named _ _ c.args.asked.wanted (rw c.in_default.is at c.in_ok-part.ensures))
 
 pub named_explained-returns : goal.named_explained-returns
 named_explained-returns g t c =
-    let is : tree_of g.S.Wording.words c.args.asked.whole.now ≡ Names c.args.name.now (tree_of g.S.Wording.words c.args.inner.now) = search rules in
+    let is : tree_of g.S.Wording.words c.args.asked.whole.now ≡ Named c.args.name.now (tree_of g.S.Wording.words c.args.inner.now) = search rules in
     rw is (case_of_named _ _ c.args.asked.wanted (rw (c.result-outcome.ensures, c.root.ensures.value) at c.in_ok-node.ensures) (search rules) (rw c.in-Some.is at c.in_ok-part.ensures))
 
 pub pair_explained-returns-then-is_other : goal.pair_explained-returns-then-is_other

@@ -1,9 +1,9 @@
 use Rattle.std.proofs.Common.{rules, ◌≡◌, ◌++◌, ◌∷◌, [], sym, ap, ◌∙◌, append_assoc}
 use Rattle.std.proofs.lemmas.Result.{err_from_is_err_and}
 use Rattle.predicates_rules.specs.Trees.{tree_of}
-use Rattle.predicates_rule_check.specs.Plans.{plan_of_tree}
+use Rattle.predicates_rule_check.specs.CheckTrees.{check_tree}
 use Rattle.predicates_rule_check.proofs.Refusing.{failure_among}
-use Rattle.predicates_rule_check.proofs.Rows.{plans_more, plans_all}
+use Rattle.predicates_rule_check.proofs.Rows.{trees_more, trees_all}
 use Rattle.predicates_rule_check.proofs.compile.+compile.Goals as goal
 
 pub trees_of-loop-expression-init : goal.trees_of-loop-expression-init
@@ -12,11 +12,11 @@ trees_of-loop-expression-init t c = (sym c.into_iter-expression-iterator.ensures
 pub trees_of-loop-expression-preserved : goal.trees_of-loop-expression-preserved
 trees_of-loop-expression-preserved t c = (
   c.loop-expression.invariant.0 ∙ ap (λ r. c.loop-expression.yielded ++ r) (search rules) ∙ sym (append_assoc c.loop-expression.yielded (c.in-Some.expression ∷ []) c.next.new.self.rest.items),
-  rw c.in_ok-push.ensures.items (plans_more tree_of plan_of_tree c.loop-expression.yielded c.loop-expression.trees.items c.in-Some.expression c.in_ok-tree_of.field-0 c.loop-expression.invariant.1 c.in_ok-tree_of.ensures.planned),
+  rw c.in_ok-push.ensures.items (trees_more tree_of check_tree c.loop-expression.yielded c.loop-expression.trees.items c.in-Some.expression c.in_ok-tree_of.field-0 c.loop-expression.invariant.1 c.in_ok-tree_of.ensures.compiled),
 )
 
-pub trees_of-returns-clause-planned : goal.trees_of-returns-clause-planned
-trees_of-returns-clause-planned t c = plans_all tree_of plan_of_tree c.args.expressions.items c.loop-expression.yielded c.loop-expression.expression-iterator.rest.items c.loop-expression.trees.items c.loop-expression.invariant.0 (search rules) c.loop-expression.invariant.1
+pub trees_of-returns-clause-compiled : goal.trees_of-returns-clause-compiled
+trees_of-returns-clause-compiled t c = trees_all tree_of check_tree c.args.expressions.items c.loop-expression.yielded c.loop-expression.expression-iterator.rest.items c.loop-expression.trees.items c.loop-expression.invariant.0 (search rules) c.loop-expression.invariant.1
 
 pub trees_of-returns-in_err-tree_of-clause-refused : goal.trees_of-returns-in_err-tree_of-clause-refused
 trees_of-returns-in_err-tree_of-clause-refused t c =

@@ -1,11 +1,11 @@
 use Rattle.std.proofs.Common.{◌≡◌, ◌++◌, map}
 use Rattle.predicates_dynamic.specs.Trees.{trees_of as dynamic_trees}
 use Rattle.predicates_rules.specs.Trees.{tree_of, trees_of}
-use Rattle.predicates_rule_check.specs.Plans.{plan_of_tree}
-use Rattle.predicates_rule_check.specs.Planned.{ArePlans}
+use Rattle.predicates_rule_check.specs.CheckTrees.{check_tree}
+use Rattle.predicates_rule_check.specs.Compiled.{AreTreesOf}
 use Rattle.predicates_rule_check.proofs.compile.+compile.Given as goal
 
 abbrev pub invariant-trees_of-loop-expression : goal.invariant-trees_of-loop-expression
 invariant-trees_of-loop-expression l =
     (l.fn.expressions.items ≡ l.yielded ++ l.expression-iterator.rest.items)
-    × ArePlans (trees_of (map tree_of l.yielded)) (dynamic_trees (map plan_of_tree l.trees.items))
+    × AreTreesOf (trees_of (map tree_of l.yielded)) (dynamic_trees (map check_tree l.trees.items))

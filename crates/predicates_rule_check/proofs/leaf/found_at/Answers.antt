@@ -1,7 +1,7 @@
 use Rattle.std.proofs.Common.{refl}
 use Rattle.predicates_core.proofs.Leaves.{HasTruth-exactly, IsCaseOf-showing}
 use Rattle.serde_json.specs.View.{view}
-use Rattle.predicates_rule_check.specs.Plans.{found_text}
+use Rattle.predicates_rule_check.specs.CheckTrees.{found_text}
 use Rattle.predicates_rule_check.proofs.Leaving.{showing_entry}
 use Rattle.predicates_rule_check.proofs.leaf.found_at.Goals as goal
 

@@ -1,8 +1,7 @@
-use Rattle.std.proofs.Common.{refl, Some, false, codes}
-use Rattle.std.specs.Prelude.{string_bytes}
+use Rattle.std.proofs.Common.{refl, codes}
 use Rattle.serde_json.specs.View.{view}
 use Rattle.predicates_core.proofs.Leaves.{HasTruth-exactly, IsCaseOf-showing}
-use Rattle.predicates_rule_check.specs.Plans.{found_text, no_list_text}
+use Rattle.predicates_rule_check.specs.CheckTrees.{found_text, no_list_text}
 use Rattle.predicates_rule_check.proofs.Leaving.{showing_entry, one_more_of}
 use Rattle.predicates_rule_check.proofs.leaf.misfit_case.Goals as goal
 

@@ -3,7 +3,7 @@ use Rattle.std.specs.Prelude.{string_bytes}
 use Rattle.predicates_core.specs.Leaves.{IsShowing}
 use Rattle.serde_json.specs.Data.{string}
 use Rattle.serde_json.specs.Written.{compact_text}
-use Rattle.predicates_rule_check.specs.Plans.{ShowsBeside, key_product}
+use Rattle.predicates_rule_check.specs.CheckTrees.{ShowsBeside, key_product}
 use Rattle.predicates_rule_check.proofs.leaf.showing_key.Goals as goal
 
 pub returns : goal.returns

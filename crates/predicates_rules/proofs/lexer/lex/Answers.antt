@@ -1,7 +1,7 @@
 use Rattle.std.proofs.Common.{◌≡◌, ◌++◌, ◌∷◌, [], ℕ, List, Ok, ap, map, length, sym}
 use Rattle.std.proofs.lemmas.Result.{err_from_is_err_and}
 use Rattle.std.proofs.lemmas.List.{map_push}
-use Rattle.predicates_rules.specs.Trees.{Sign, sign_of}
+use Rattle.predicates_rules.specs.Signs.{Sign, sign_of}
 use Rattle.predicates_rules.specs.declared.token.Token.{Token}
 use Rattle.predicates_rules.specs.declared.token.Kind.TheVariants.{End}
 use Rattle.predicates_rules.specs.Scanning.{placed}

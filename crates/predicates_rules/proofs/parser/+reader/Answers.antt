@@ -1,7 +1,8 @@
 use Rattle.std.proofs.Common.{◌≡◌, ◌++◌, ◌∷◌, [], map, length, ap, arith, sym}
 use Rattle.std.proofs.lemmas.Result.{err_from_is_err_and}
 use Rattle.std.proofs.lemmas.List.{map_push}
-use Rattle.predicates_rules.specs.Trees.{tree_of, signs}
+use Rattle.predicates_rules.specs.Signs.{signs}
+use Rattle.predicates_rules.specs.Trees.{tree_of}
 use Rattle.predicates_rules.specs.Levels.{level_of}
 use Rattle.predicates_rules.specs.Reading.{part_at, below, parts_at}
 use Rattle.predicates_rules.proofs.Heights.{lower, row_height}

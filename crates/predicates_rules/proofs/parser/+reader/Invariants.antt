@@ -1,5 +1,6 @@
 use Rattle.std.proofs.Common.{◌+◌, ◌*◌, map, length}
-use Rattle.predicates_rules.specs.Trees.{tree_of, signs}
+use Rattle.predicates_rules.specs.Signs.{signs}
+use Rattle.predicates_rules.specs.Trees.{tree_of}
 use Rattle.predicates_rules.specs.Levels.{level_of}
 use Rattle.predicates_rules.specs.Reading.{parts_at, part_at, below}
 use Rattle.predicates_rules.proofs.Heights.{height, level_height, row_height}

@@ -1,5 +1,6 @@
 use Rattle.std.proofs.Common.{subst}
-use Rattle.predicates_rules.specs.Trees.{tree_of, signs}
+use Rattle.predicates_rules.specs.Signs.{signs}
+use Rattle.predicates_rules.specs.Trees.{tree_of}
 use Rattle.predicates_rules.specs.Answers.{Gives}
 use Rattle.predicates_rules.proofs.Sound.{is_spelled}
 use Rattle.predicates_rules.proofs.Grow.{none_spelled}

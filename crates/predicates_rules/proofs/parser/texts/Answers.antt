@@ -1,7 +1,7 @@
 use Rattle.std.proofs.Common.{◌≡◌, ◌++◌, ◌∷◌, [], map, string_bytes, Bool, Ok, ap, ◌∙◌}
 use Rattle.std.proofs.lemmas.Result.{err_from_is_err_and}
 use Rattle.std.proofs.lemmas.List.{map_push}
-use Rattle.predicates_rules.specs.Trees.{signs}
+use Rattle.predicates_rules.specs.Signs.{signs}
 use Rattle.predicates_rules.specs.Reading.{texts_at, text_at}
 use Rattle.predicates_rules.proofs.Loop.{texts_by_steps, goes_on, is_done, no_item, no_end, text_shortens}
 use Rattle.predicates_rules.proofs.parser.texts.Goals as goal

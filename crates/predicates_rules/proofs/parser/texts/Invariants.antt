@@ -1,5 +1,5 @@
 use Rattle.std.proofs.Common.{◌≡◌, map, string_bytes, length}
-use Rattle.predicates_rules.specs.Trees.{signs}
+use Rattle.predicates_rules.specs.Signs.{signs}
 use Rattle.predicates_rules.specs.Reading.{texts_at}
 use Rattle.predicates_rules.proofs.Loop.{with_front}
 use Rattle.predicates_rules.proofs.parser.texts.Given as goal

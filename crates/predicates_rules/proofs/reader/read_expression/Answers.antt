@@ -1,7 +1,8 @@
 use Rattle.std.proofs.Common.{subst, List, ℕ, Ok}
 use Rattle.std.proofs.lemmas.Result.{err_from_is_err_and}
 use Rattle.predicates_rules.specs.declared.token.Token.{Token}
-use Rattle.predicates_rules.specs.Trees.{Tree, signs, tree_of}
+use Rattle.predicates_rules.specs.Signs.{signs}
+use Rattle.predicates_rules.specs.Trees.{Tree, tree_of}
 use Rattle.predicates_rules.specs.Grammar.{IsSpelled}
 use Rattle.predicates_rules.specs.Answers.{Gives, Fails, IsSyntax}
 use Rattle.predicates_rules.specs.Reading.{all_of}

@@ -4,7 +4,7 @@ use Rattle.predicates_core.specs.Shows.{IsCaseOf}
 use Rattle.predicates_dynamic.specs.Viewed.{no_list}
 use Rattle.serde_json.specs.View.{view}
 use Rattle.predicates_rule_check.specs.Nodes.{path_of_view}
-use Rattle.predicates_rule_check.specs.Plans.{absence_of_data}
+use Rattle.predicates_rule_check.specs.CheckTrees.{absence_of_data}
 use Rattle.predicates_rule_check.specs.Scopes.{place_of, stands}
 use Rattle.predicates_rule_check.proofs.elements.ElementsViewScope.absent_case.Goals as goal
 

@@ -2,7 +2,7 @@ use Rattle.std.proofs.Common.{Some, codes, subst, List, ℕ}
 use Rattle.predicates_core.specs.Leaves.{IsShowing}
 use Rattle.serde_json.specs.View.{view}
 use Rattle.predicates_rule_check.specs.Scopes.{place_of}
-use Rattle.predicates_rule_check.specs.Plans.{found_label, shown_beside}
+use Rattle.predicates_rule_check.specs.CheckTrees.{found_label, shown_beside}
 use Rattle.predicates_rule_check.specs.Queries.{misfit_text}
 use Rattle.predicates_rule_check.specs.Nodes.{text_of_test, query_of_test}
 use Rattle.predicates_rule_check.proofs.Leaving.{one_more}

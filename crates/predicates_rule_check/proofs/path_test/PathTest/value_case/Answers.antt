@@ -3,7 +3,7 @@ use Rattle.predicates_core.specs.Leaves.{IsExactly}
 use Rattle.predicates_core.specs.Shows.{IsCaseOf}
 use Rattle.serde_json.specs.View.{view}
 use Rattle.predicates_rule_check.specs.Scopes.{place_of}
-use Rattle.predicates_rule_check.specs.Plans.{found_leaf, shown_beside}
+use Rattle.predicates_rule_check.specs.CheckTrees.{found_leaf, shown_beside}
 use Rattle.predicates_rule_check.specs.Nodes.{text_of_test, query_of_test}
 use Rattle.predicates_rule_check.proofs.Leaving.{case_beside}
 use Rattle.predicates_rule_check.proofs.path_test.PathTest.value_case.Goals as goal

@@ -3,7 +3,7 @@ use Rattle.std.specs.Prelude.{option_and_then, string_bytes}
 use Rattle.serde_json.specs.Find.{as_object}
 use Rattle.serde_json.specs.View.{view}
 use Rattle.predicates_rule_check.specs.Keys.{other_key}
-use Rattle.predicates_rule_check.specs.Plans.{ShowsBeside, key_product, shown_beside}
+use Rattle.predicates_rule_check.specs.CheckTrees.{ShowsBeside, key_product, shown_beside}
 use Rattle.predicates_rule_check.specs.Queries.{query_of}
 use Rattle.predicates_rule_check.specs.Scopes.{place_of}
 use Rattle.predicates_rule_check.proofs.question.Question.showing_beside.Goals as goal

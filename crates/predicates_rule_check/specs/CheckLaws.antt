@@ -10,8 +10,9 @@ use Rattle.predicates_rule_check.specs.declared.path_test.PathTest.{PathTest}
 use Rattle.predicates_rule_check.specs.Lists.{places_at}
 use Rattle.predicates_rule_check.specs.Nodes.{text_of_test, path_of_test, query_of_test}
 use Rattle.predicates_rule_check.specs.Nodes.{path_of_view}
-use Rattle.predicates_rule_check.specs.Plans.{Plan, asked_formula, leaf_of_verdict, nothing_leaf}
-use Rattle.predicates_rule_check.specs.Plans.{test_formula, absence_at, plan_formula, plan_text}
+use Rattle.predicates_rule_check.specs.CheckTrees.{CheckTree, asked_formula, leaf_of_verdict}
+use Rattle.predicates_rule_check.specs.CheckTrees.{nothing_leaf, test_formula, absence_at}
+use Rattle.predicates_rule_check.specs.CheckTrees.{check_formula, check_text}
 use Rattle.predicates_rule_check.specs.Queries.{Query, verdict, is_of_presence, nothing_verdict}
 use Rattle.predicates_rule_check.specs.RuleChecks.{rule_formula}
 use Rattle.predicates_rule_check.specs.Scopes.{Place, stands}
@@ -43,19 +44,19 @@ pub test_text_fits : (t : PathTest) (p : Place) {f : Formula} → IsExactly (tes
 test_text_fits t p h = text_fits_exactly
     (asked_text (text_of_test t) (path_of_test t) (query_of_test t) p (stands (path_of_test t) p)) h
 
-pub plan_text_fits : (e : Plan) (p : Place) {f : Formula} → IsExactly (plan_formula e p) f
-    → FitsEntry (text_of f) (plan_text e)
-plan_text_fits e p h = subst (λ g. FitsEntry (text_of g) (plan_text e)) (sym h.is)
+pub check_text_fits : (e : CheckTree) (p : Place) {f : Formula} → IsExactly (check_formula e p) f
+    → FitsEntry (text_of f) (check_text e)
+check_text_fits e p h = subst (λ g. FitsEntry (text_of g) (check_text e)) (sym h.is)
     (tree_text_fits (λ t. Some (text_of_test t)) (λ v. Some (path_of_view v))
     (λ t q. IsExactly (test_formula t q)) (λ v q o. places_at (path_of_view v) q ≡ o)
     (λ v. absence_at (path_of_view v)) (λ t q g x. test_text_fits t q x)
-    (λ v q. (places_at (path_of_view v) q, refl)) p e (plan_formula e p)
+    (λ v q. (places_at (path_of_view v) q, refl)) p e (check_formula e p)
     (has_tree (λ t. Some (text_of_test t)) (λ v. Some (path_of_view v))
     (λ t q. IsExactly (test_formula t q)) (λ v q o. places_at (path_of_view v) q ≡ o)
     (λ v. absence_at (path_of_view v)) (λ q. q) test_formula (λ v. places_at (path_of_view v))
     (λ v. absence_at (path_of_view v)) (λ t q. record { is = refl })
     (members_as_they_are (λ v. places_at (path_of_view v))) (λ v q. refl) p e))
 
-pub rule_text_fits : (name : List ℕ) (e : Plan) (p : Place) {f : Formula}
+pub rule_text_fits : (name : List ℕ) (e : CheckTree) (p : Place) {f : Formula}
     → IsExactly (rule_formula name e p) f → FitsEntry (text_of f) (Some name)
 rule_text_fits name e p h = text_fits_exactly refl h

@@ -11,12 +11,12 @@ use Rattle.predicates_core.specs.Tree as cases
 use Rattle.predicates_core.specs.Describe.{CaseNode}
 use Rattle.predicates_dynamic.specs.declared.check.Check.{Check}
 use Rattle.predicates_dynamic.specs.Formulas.{tree_formula, tree_text}
-use Rattle.predicates_dynamic.specs.Trees.{Tree, Trees, Words, tree_of, Rows, Odds, Quantifies}
-use Rattle.predicates_dynamic.specs.Trees.{CountsMembers}
+use Rattle.predicates_dynamic.specs.Trees.{Tree, Trees, Words, tree_of, Row, Odd, Quantified}
+use Rattle.predicates_dynamic.specs.Trees.{MembersAtLeast}
 use Rattle.predicates_rules.specs.declared.expression.Connective.{Connective}
 use Rattle.predicates_rules.specs.declared.expression.Connective.TheVariants.{Or, Xor, And}
-use Rattle.predicates_rules.specs.declared.expression.Quantifier.{Quantifier}
-use Rattle.predicates_rules.specs.declared.expression.Quantifier.TheVariants.{Each, Any, AtLeast}
+use Rattle.predicates_rules.specs.declared.expression.HowMany.{HowMany}
+use Rattle.predicates_rules.specs.declared.expression.HowMany.TheVariants.{Each, Any, AtLeast}
 use Rattle.predicates_rule_check.specs.declared.elements.Elements.{Elements}
 use Rattle.predicates_rule_check.specs.declared.path_test.PathTest.{PathTest}
 use Rattle.predicates_rule_check.specs.declared.written.Written.{Written}
@@ -24,29 +24,29 @@ use Rattle.predicates_rule_check.specs.Keys.{other_key}
 use Rattle.predicates_rule_check.specs.Lists.{places_at}
 use Rattle.predicates_rule_check.specs.Nodes.{text_of_test, path_of_test, query_of_test}
 use Rattle.predicates_rule_check.specs.Nodes.{path_of_view, words_of_node}
-use Rattle.predicates_rule_check.specs.Queries.{Query, ComparesWith, HasLength, HasKeysAmong}
-use Rattle.predicates_rule_check.specs.Queries.{verdict, length_of, nothing_verdict, is_of_presence}
+use Rattle.predicates_rule_check.specs.Queries.{Query, CompareWith, Length, KeysIn, verdict}
+use Rattle.predicates_rule_check.specs.Queries.{length_of, nothing_verdict, is_of_presence}
 use Rattle.predicates_rule_check.specs.Queries.{nothing_text, misfit_text}
 use Rattle.predicates_rule_check.specs.Scopes.{Place, stands}
 
 -- the tree of a check, whose leaves are tests of what stands at paths
-abbrev pub Plan : Type 0
-Plan = Tree PathTest Elements
+abbrev pub CheckTree : Type 0
+CheckTree = Tree PathTest Elements
 
-abbrev pub plan_of_tree : Check PathTest Elements Written → Plan
-plan_of_tree c = tree_of words_of_node c
+abbrev pub check_tree : Check PathTest Elements Written → CheckTree
+check_tree c = tree_of words_of_node c
 
 -- what a connective joins
-abbrev pub joins : Connective → Words → Trees PathTest Elements → Plan
-joins Or w es = Rows w true es
-joins Xor w es = Odds w es
-joins And w es = Rows w false es
+abbrev pub joins : Connective → Words → Trees PathTest Elements → CheckTree
+joins Or w es = Row w true es
+joins Xor w es = Odd w es
+joins And w es = Row w false es
 
 -- what a quantifier is over
-abbrev pub ranges : Quantifier → Words → Elements → Plan → Plan
-ranges Each w v e = Quantifies w false v e
-ranges Any w v e = Quantifies w true v e
-ranges (AtLeast k) w v e = CountsMembers w k v e
+abbrev pub ranges : HowMany → Words → Elements → CheckTree → CheckTree
+ranges Each w v e = Quantified w false v e
+ranges Any w v e = Quantified w true v e
+ranges (AtLeast k) w v e = MembersAtLeast w k v e
 
 -- ---- leaves
 
@@ -88,9 +88,9 @@ key_product key = record { name = codes "other key"; value = Some (compact_text 
 
 -- what is shown beside the value
 abbrev pub shown_beside : Query → Place → (d : Data) → Option Product
-shown_beside (ComparesWith o path) p d = option_map other_product (stands path p)
-shown_beside (HasLength o n) p d = option_map length_product (length_of d)
-shown_beside (HasKeysAmong texts) p d =
+shown_beside (CompareWith o path) p d = option_map other_product (stands path p)
+shown_beside (Length o n) p d = option_map length_product (length_of d)
+shown_beside (KeysIn texts) p d =
     option_map key_product (option_and_then (other_key texts) (as_object d))
 shown_beside q p d = None
 
@@ -134,9 +134,9 @@ absence_at path p = absence_of_data path (stands path p)
 -- ---- checks
 
 -- the formula of a check on an item of a record
-abbrev pub plan_formula : Plan → Place → Formula
-plan_formula e p = tree_formula (λ t. Some (text_of_test t)) (λ v. Some (path_of_view v))
+abbrev pub check_formula : CheckTree → Place → Formula
+check_formula e p = tree_formula (λ t. Some (text_of_test t)) (λ v. Some (path_of_view v))
     test_formula (λ v. places_at (path_of_view v)) (λ v. absence_at (path_of_view v)) p e
 
-abbrev pub plan_text : Plan → Entry
-plan_text e = tree_text (λ t. Some (text_of_test t)) (λ v. Some (path_of_view v)) e
+abbrev pub check_text : CheckTree → Entry
+check_text e = tree_text (λ t. Some (text_of_test t)) (λ v. Some (path_of_view v)) e
