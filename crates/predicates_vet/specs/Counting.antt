@@ -1,5 +1,7 @@
 -- What runs count.
-use Rattle.std.specs.Prelude.{nat_lt, ◌≡◌, ◌||◌, ℕ, ◌+◌, ◌-◌, List, [], ◌∷◌, Bool, true, false, not, Option, Some, None, if◌then◌else◌, filter, length, slice_index, slice_set, is_some, option_map}
+use Rattle.std.specs.Prelude.{nat_lt, ◌≡◌, ◌||◌, ℕ, ◌+◌, ◌-◌, List, [], ◌∷◌, Bool, true, false, not}
+use Rattle.std.specs.Prelude.{Option, Some, None, if◌then◌else◌, filter, length, slice_index}
+use Rattle.std.specs.Prelude.{slice_set, is_some, option_map}
 use Rattle.serde_json.specs.Data.{Data}
 use Rattle.predicates_core.specs.Formula.{truth, HasTruth}
 use Rattle.predicates_core.specs.Leaves.{IsExactly}
@@ -33,14 +35,17 @@ abbrev pub number_of : (Option (List ℕ) → Bool) → List (Option (List ℕ))
 number_of p lines = length (filter p lines)
 
 -- the lines are counted beside those before
-pub record AreCounted (rules : List RuleCheck) (lines : List (Option (List ℕ))) (before after : Counts) : Type 0 where
+pub record AreCounted (rules : List RuleCheck) (lines : List (Option (List ℕ)))
+    (before after : Counts) : Type 0 where
   pub records : after.records ≡ before.records + number_of (λ l. is_some (record_taken l)) lines
   pub failed : after.failed ≡ before.failed + number_of (λ l. breaks rules (record_taken l)) lines
   pub unreadable : after.unreadable ≡ before.unreadable + number_of is_unreadable lines
 
 -- the status of a process after runs
 abbrev pub status_of : Counts → ℕ
-status_of counts = if nat_lt 0 counts.unreadable then 2 else (if nat_lt 0 counts.failed then 1 else 0)
+status_of counts =
+    if nat_lt 0 counts.unreadable then 2
+    else (if nat_lt 0 counts.failed then 1 else 0)
 
 -- ---- rules
 
@@ -52,7 +57,9 @@ breaks_one r (Some d) = not (truth (formula_on d r))
 -- one more is counted at the place where the record breaks the rule
 abbrev pub AddsCount : Data → RuleCheck → ℕ → List ℕ → List ℕ → Bool → Type 0
 AddsCount d r index old new true = (new ≡ old) × HasTruth (IsExactly (formula_on d r)) true
-AddsCount d r index old new false = (new ≡ slice_set old index (slice_index old index + 1)) × HasTruth (IsExactly (formula_on d r)) false
+AddsCount d r index old new false =
+    (new ≡ slice_set old index (slice_index old index + 1))
+    × HasTruth (IsExactly (formula_on d r)) false
 
 -- for each rule the number before, and one more where the record breaks it
 abbrev pub one_counted : List RuleCheck → Option Data → List ℕ → List ℕ
@@ -64,7 +71,9 @@ one_counted (r ∷ rules) o (n ∷ ns) = (n + one_if (breaks_one r o)) ∷ one_c
 abbrev pub all_counted : List RuleCheck → List (Option (List ℕ)) → List ℕ → List ℕ
 all_counted rules lines [] = []
 all_counted [] lines (n ∷ ns) = n ∷ ns
-all_counted (r ∷ rules) lines (n ∷ ns) = (n + number_of (λ l. breaks_one r (record_taken l)) lines) ∷ all_counted rules lines ns
+all_counted (r ∷ rules) lines (n ∷ ns) =
+    (n + number_of (λ l. breaks_one r (record_taken l)) lines)
+    ∷ all_counted rules lines ns
 
 -- ---- how much is written
 

@@ -1,5 +1,6 @@
 -- The lines that GitHub shows beside a file: commands of its workflows.
-use Rattle.std.specs.Prelude.{◌==◌, ◌-◌, ◌++◌, ℕ, List, [], ◌∷◌, Option, Some, None, if◌then◌else◌, codes, decimal, flat_map, length, take, unwrap_or}
+use Rattle.std.specs.Prelude.{◌==◌, ◌-◌, ◌++◌, ℕ, List, [], ◌∷◌, Option, Some, None, if◌then◌else◌}
+use Rattle.std.specs.Prelude.{codes, decimal, flat_map, length, take, unwrap_or}
 use Rattle.predicates_core.specs.Tree.{Tree}
 use Rattle.predicates_core.specs.Describe.{CaseNode}
 use Rattle.predicates_vet.specs.declared.input_format.InputFormat.{InputFormat}
@@ -40,14 +41,15 @@ line_text (Some line) = codes ",line=" ++ decimal line
 -- where a record stands, in an input with a name
 abbrev pub position_text : Option (List ℕ) → Option ℕ → List ℕ
 position_text None line = []
-position_text (Some name) line = codes "file=" ++ (property_text name ++ (line_text line ++ codes ","))
+position_text (Some name) line =
+    codes "file=" ++ (property_text name ++ (line_text line ++ codes ","))
 
 -- what the case is of: a rule's name
 abbrev pub title : Tree CaseNode → List ℕ
 title c = unwrap_or c.root.text []
 
--- what stands before a case's lines: what heads the record, but nothing where that is only the place,
--- which the position says
+-- what stands before a case's lines: what heads the record, but nothing where that is only the
+-- place, which the position says
 abbrev pub opening : Option (List ℕ) → Option ℕ → Option (List ℕ) → List ℕ → List ℕ
 opening None line id head = head ++ codes ": false\n"
 opening (Some name) None id head = head ++ codes ": false\n"

@@ -1,5 +1,7 @@
 -- What stands on a line of the input.
-use Rattle.std.specs.Prelude.{◌==◌, ◌||◌, nat_eq, nat_lt, ℕ, List, [], ◌++◌, Bool, false, not, Option, Some, None, if◌then◌else◌, is_some, length, map, codes, decimal}
+use Rattle.std.specs.Prelude.{◌==◌, ◌||◌, nat_eq, nat_lt, ℕ, List, [], ◌++◌, Bool, false, not}
+use Rattle.std.specs.Prelude.{Option, Some, None, if◌then◌else◌, is_some, length, map, codes}
+use Rattle.std.specs.Prelude.{decimal}
 use Rattle.std.specs.List.{list_all, ends_with}
 use Rattle.std.specs.Str.{is_utf8}
 use Rattle.serde_json.specs.Data.{Data}

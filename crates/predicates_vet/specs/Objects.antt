@@ -1,5 +1,6 @@
 -- The text of a record's object.
-use Rattle.std.specs.Prelude.{ℕ, List, [], ◌∷◌, ◌++◌, Bool, true, false, Option, Some, None, codes, map, is_some, if◌then◌else◌}
+use Rattle.std.specs.Prelude.{ℕ, List, [], ◌∷◌, ◌++◌, Bool, true, false, Option, Some, None, codes}
+use Rattle.std.specs.Prelude.{map, is_some, if◌then◌else◌}
 use Rattle.serde_json.specs.Data.{string}
 use Rattle.serde_json.specs.Read.{read}
 use Rattle.serde_json.specs.Written.{comma_if, compact_text}
@@ -21,7 +22,8 @@ abbrev pub value_text : List ℕ → List ℕ
 value_text value = if is_some (read value) then value else quoted value
 
 abbrev pub product_text : NamedBytes → List ℕ
-product_text p = codes "{\"name\":" ++ (quoted p.0 ++ (codes ",\"value\":" ++ (value_text p.1 ++ codes "}")))
+product_text p =
+    codes "{\"name\":" ++ (quoted p.0 ++ (codes ",\"value\":" ++ (value_text p.1 ++ codes "}")))
 
 abbrev pub predicate_text : Option (List ℕ) → List ℕ
 predicate_text (Some text) = quoted text
@@ -29,11 +31,15 @@ predicate_text None = codes "null"
 
 -- the text and the result of a node
 abbrev pub verdict_text : CaseNode → List ℕ
-verdict_text n = codes "{\"text\":" ++ (predicate_text n.text ++ (codes ",\"result\":" ++ word n.result))
+verdict_text n =
+    codes "{\"text\":" ++ (predicate_text n.text ++ (codes ",\"result\":" ++ word n.result))
 
 -- a node up to the bracket that opens its children
 abbrev pub node_text : CaseNode → List ℕ
-node_text n = verdict_text n ++ (codes ",\"products\":[" ++ (listed false (map product_text n.products) ++ codes "],\"children\":["))
+node_text n =
+    verdict_text n
+    ++ (codes ",\"products\":["
+    ++ (listed false (map product_text n.products) ++ codes "],\"children\":["))
 
 -- a child's name, up to its case
 abbrev pub name_text : List ℕ → List ℕ
@@ -42,7 +48,12 @@ name_text name = codes "{\"name\":" ++ (quoted name ++ codes ",\"case\":")
 -- children, each under its name
 abbrev pub forest_text : Bool → Forest CaseNode → List ℕ
 forest_text later empty = []
-forest_text later (branch name node below next) = comma_if later ++ ((name_text name ++ (node_text node ++ (forest_text false below ++ codes "]}}"))) ++ forest_text true next)
+forest_text later (branch name node below next) =
+    comma_if later
+    ++ ((name_text name
+    ++ (node_text node
+    ++ (forest_text false below ++ codes "]}}")))
+    ++ forest_text true next)
 
 -- a case
 abbrev pub case_text : Tree CaseNode → List ℕ
@@ -61,4 +72,11 @@ file_text (Some name) = codes "\"file\":" ++ (quoted name ++ codes ",")
 
 -- the object of a record under its name, on a line
 abbrev pub object_text : Option (List ℕ) → List ℕ → Bool → Bool → List (Tree CaseNode) → List ℕ
-object_text source name held all cases = codes "{" ++ (file_text source ++ (codes "\"record\":" ++ (name ++ (codes ",\"holds\":" ++ (word held ++ (cases_text all cases ++ codes "}\n"))))))
+object_text source name held all cases =
+    codes "{"
+    ++ (file_text source
+    ++ (codes "\"record\":"
+    ++ (name
+    ++ (codes ",\"holds\":"
+    ++ (word held
+    ++ (cases_text all cases ++ codes "}\n"))))))

@@ -1,5 +1,6 @@
 -- The pieces of an input, on each of which a record may stand.
-use Rattle.std.specs.Prelude.{◌≡◌, ℕ, nat_lt, Bool, true, false, List, [], ◌∷◌, ◌++◌, length, map, Option, Some, None, if◌then◌else◌}
+use Rattle.std.specs.Prelude.{◌≡◌, ℕ, nat_lt, Bool, true, false, List, [], ◌∷◌, ◌++◌, length, map}
+use Rattle.std.specs.Prelude.{Option, Some, None, if◌then◌else◌}
 use Rattle.std.specs.Option.{ForSome}
 use Rattle.predicates_records.specs.declared.position.Position.{Position}
 use Rattle.predicates_records.specs.Records.{records, is_closed}
@@ -7,8 +8,8 @@ use Rattle.predicates_vet.specs.declared.input_format.InputFormat.{InputFormat}
 use Rattle.predicates_vet.specs.declared.input_format.InputFormat.TheVariants.{JsonLines, Json}
 use Rattle.predicates_vet.specs.InputLines.{taken_lines}
 
--- what is taken of a record: a line feed is put behind it, and nothing is taken of one that has more
--- bytes than the limit
+-- what is taken of a record: a line feed is put behind it, and nothing is taken of one that has
+-- more bytes than the limit
 abbrev pub taken_record : ℕ → List ℕ → Option (List ℕ)
 taken_record limit value = if nat_lt limit (length value) then None else Some (value ++ 10 ∷ [])
 
@@ -20,13 +21,16 @@ unclosed false = Some (91 ∷ []) ∷ []
 -- the pieces of an input, from where reading stands
 abbrev pub pieces : InputFormat → ℕ → Position → List ℕ → List (Option (List ℕ))
 pieces JsonLines limit p bytes = taken_lines limit bytes
-pieces Json limit p bytes = map (taken_record limit) (records p bytes) ++ unclosed (is_closed p bytes)
+pieces Json limit p bytes =
+    map (taken_record limit) (records p bytes) ++ unclosed (is_closed p bytes)
 
 -- the next piece was taken
-abbrev pub TakesPiece : InputFormat → ℕ → Option (List ℕ) → Option (List ℕ) → Position → Position → Option (List ℕ) → Type 0
+abbrev pub TakesPiece : InputFormat → ℕ → Option (List ℕ) → Option (List ℕ)
+    → Position → Position → Option (List ℕ) → Type 0
 TakesPiece format limit before after from to piece = ForSome before (λ bytes. (left : List ℕ)
     × (after ≡ Some left) × (pieces format limit from bytes ≡ piece ∷ pieces format limit to left))
 
 -- no piece was left
 abbrev pub IsOver : InputFormat → ℕ → Option (List ℕ) → Option (List ℕ) → Position → Type 0
-IsOver format limit before after from = ForSome before (λ bytes. (after ≡ Some []) × (pieces format limit from bytes ≡ []))
+IsOver format limit before after from = ForSome before (λ bytes.
+    (after ≡ Some []) × (pieces format limit from bytes ≡ []))

@@ -1,8 +1,9 @@
 -- Where a record stands, and what labels it.
-use Rattle.std.specs.Prelude.{◌≡◌, ℕ, List, ◌++◌, Option, Some, None, IfSome, codes, decimal, unwrap_or}
+use Rattle.std.specs.Prelude.{◌≡◌, ℕ, List, ◌++◌, Option, Some, None, IfSome, codes, decimal}
+use Rattle.std.specs.Prelude.{unwrap_or}
 use Rattle.serde_json.specs.Data.{Data, null}
 use Rattle.serde_json.specs.Find.{pointer}
-use Rattle.predicates_rule_check.specs.Plans.{found_text}
+use Rattle.predicates_rule_check.specs.CheckTrees.{found_text}
 
 -- the line of this number, with the input's name where it has one
 abbrev pub place_text : Option (List ℕ) → ℕ → List ℕ
@@ -20,7 +21,9 @@ IsLabel path d text = IfSome (found_text (label path d)) (λ given. text ≡ giv
 -- the place, and in parentheses the label where there is a path of labels
 abbrev pub IsHead : Option (List ℕ) → List ℕ → Data → List ℕ → Type 0
 IsHead None place d text = text ≡ place
-IsHead (Some path) place d text = (given : List ℕ) × IsLabel path d given × (text ≡ place ++ (codes " (" ++ (given ++ codes ")")))
+IsHead (Some path) place d text =
+    (given : List ℕ) × IsLabel path d given
+    × (text ≡ place ++ (codes " (" ++ (given ++ codes ")")))
 
 -- what an object is labelled by: the label where there is a path of labels, else the number
 abbrev pub IsName : Option (List ℕ) → ℕ → Data → List ℕ → Type 0

@@ -1,5 +1,6 @@
 -- What is written for one record.
-use Rattle.std.specs.Prelude.{◌≡◌, ◌⊎◌, ℕ, List, [], ◌∷◌, ◌++◌, ◌==◌, Bool, true, false, ◌&&◌, Option, Some, None, cond, take, length, codes, flat_map}
+use Rattle.std.specs.Prelude.{◌≡◌, ◌⊎◌, ℕ, List, [], ◌∷◌, ◌++◌, ◌==◌, Bool, true, false, ◌&&◌}
+use Rattle.std.specs.Prelude.{Option, Some, None, cond, take, length, codes, flat_map}
 use Rattle.std.specs.List.{AllZip}
 use mathlib.Core.Bool.{beq}
 use Rattle.serde_json.specs.Data.{Data}
@@ -11,12 +12,13 @@ use Rattle.predicates_style.specs.StyledLines.{styled_lines}
 use Rattle.predicates_style.specs.declared.style.Style.{Style}
 use Rattle.predicates_core.specs.Shows.{Explains, IsCaseOf}
 use Rattle.predicates_core.specs.Change.{ExplainsChange, IsChangeOf}
-use Rattle.predicates_rule_check.specs.RuleChecks.{rule_formula, name_of, plan_of_rule}
+use Rattle.predicates_rule_check.specs.RuleChecks.{rule_formula, name_of, tree_of_rule}
 use Rattle.predicates_rule_check.specs.Scopes.{alone}
 use Rattle.predicates_rule_check.specs.declared.rule_check.RuleCheck.{RuleCheck}
 use Rattle.predicates_vet.specs.declared.job.Job.{Job}
 use Rattle.predicates_vet.specs.declared.settings.Report.{Report}
-use Rattle.predicates_vet.specs.declared.settings.Report.TheVariants.{First, All, Change, Json, Lines, GitHub, JUnit}
+use Rattle.predicates_vet.specs.declared.settings.Report.TheVariants.{First, All, Change, Json}
+use Rattle.predicates_vet.specs.declared.settings.Report.TheVariants.{Lines, GitHub, JUnit}
 use Rattle.predicates_vet.specs.GitHub.{line_of, opening, error_line, title}
 use Rattle.predicates_vet.specs.InputLines.{ended}
 use Rattle.predicates_vet.specs.Objects.{object_text}
@@ -25,7 +27,7 @@ use Rattle.predicates_vet.specs.Settings.{id_of, source_of}
 
 -- the formula of a rule on a record
 abbrev pub formula_on : Data → RuleCheck → Formula
-formula_on d r = rule_formula (name_of r) (plan_of_rule r) (alone d)
+formula_on d r = rule_formula (name_of r) (tree_of_rule r) (alone d)
 
 -- whether the record keeps every rule
 abbrev pub keeps : List RuleCheck → Data → Bool
@@ -39,12 +41,17 @@ broken (r ∷ rs) d = cond (truth (formula_on d r)) (broken rs d) (formula_on d 
 
 -- the case of a rule is added where the record breaks it
 abbrev pub AddsCase : Data → RuleCheck → List (Tree CaseNode) → List (Tree CaseNode) → Bool → Type 0
-AddsCase d r old new true = (c : Tree CaseNode) × (new ≡ old ++ c ∷ []) × IsCaseOf (IsExactly (formula_on d r)) false c
+AddsCase d r old new true =
+    (c : Tree CaseNode) × (new ≡ old ++ c ∷ [])
+    × IsCaseOf (IsExactly (formula_on d r)) false c
 AddsCase d r old new false = (new ≡ old) × HasTruth (IsExactly (formula_on d r)) true
 
 -- what would have to change in a rule is added where the record breaks it
 abbrev pub AddsChange : Data → RuleCheck → List (Tree CaseNode) → List (Tree CaseNode) → Type 0
-AddsChange d r old new = ((c : Tree CaseNode) × (new ≡ old ++ c ∷ []) × IsChangeOf (IsExactly (formula_on d r)) false c) ⊎ ((new ≡ old) × HasTruth (IsExactly (formula_on d r)) true)
+AddsChange d r old new =
+    ((c : Tree CaseNode) × (new ≡ old ++ c ∷ [])
+    × IsChangeOf (IsExactly (formula_on d r)) false c)
+    ⊎ ((new ≡ old) × HasTruth (IsExactly (formula_on d r)) true)
 
 -- all of them, or the first
 abbrev pub shown : Bool → List Formula → List Formula
@@ -74,8 +81,8 @@ pub record IsBlock (j : Job) (all : Bool) (number : ℕ) (d : Data) (written : L
   pub explain : AllZip Explains (shown all (broken j.rules.now d)) cases
   pub is : IsBlockOf j number d cases written
 
--- the block of what would have to change in each rule that a record breaks: that is the first change
--- of all rules together
+-- the block of what would have to change in each rule that a record breaks: that is the first
+-- change of all rules together
 pub record IsChangeBlock (j : Job) (number : ℕ) (d : Data) (written : List ℕ) : Type 0 where
   pub cases : List (Tree CaseNode)
   pub explain : AllZip ExplainsChange (broken j.rules.now d) cases
@@ -83,11 +90,14 @@ pub record IsChangeBlock (j : Job) (number : ℕ) (d : Data) (written : List ℕ
 
 -- the object of the cases; nothing where there is no case and the failed alone are wanted
 abbrev pub wanted_text : Bool → Option (List ℕ) → List ℕ → Bool → List (Tree CaseNode) → List ℕ
-wanted_text failed source name all cases = cond (failed && (length cases == 0)) [] (object_text source name (length cases == 0) all cases)
+wanted_text failed source name all cases =
+    cond (failed && (length cases == 0)) []
+    (object_text source name (length cases == 0) all cases)
 
 -- the object of the rules that a record breaks, of all or of the first; nothing of a record that
 -- keeps every rule where the failed alone are wanted
-pub record IsObject (j : Job) (all failed : Bool) (number : ℕ) (d : Data) (written : List ℕ) : Type 0 where
+pub record IsObject (j : Job) (all failed : Bool) (number : ℕ) (d : Data)
+    (written : List ℕ) : Type 0 where
   pub cases : List (Tree CaseNode)
   pub explain : AllZip Explains (shown all (broken j.rules.now d)) cases
   pub name : List ℕ
@@ -104,7 +114,9 @@ pub record IsErrors (j : Job) (all : Bool) (number : ℕ) (d : Data) (written : 
   pub explain : AllZip Explains (shown all (broken j.rules.now d)) cases
   pub head : List ℕ
   pub heads : HeadsRecord j number d head
-  pub is : written ≡ flat_map (error_of (source_of j) (line_of j.format number) (opening (source_of j) (line_of j.format number) (id_of j.settings.now) head)) cases
+  pub is : written ≡ flat_map (error_of (source_of j) (line_of j.format number)
+      (opening (source_of j) (line_of j.format number) (id_of j.settings.now) head))
+      cases
 
 -- what is written for the record of this number, which stands on the line
 abbrev pub IsReport : Report → Job → ℕ → List ℕ → Data → List ℕ → Type 0
@@ -114,7 +126,8 @@ IsReport Change j number line d written = IsChangeBlock j number d written
 IsReport (Json all failed) j number line d written = IsObject j all failed number d written
 IsReport (GitHub all) j number line d written = IsErrors j all number d written
 IsReport JUnit j number line d written = written ≡ []
-IsReport (Lines wanted) j number line d written = written ≡ cond (beq (keeps j.rules.now d) wanted) (ended line) []
+IsReport (Lines wanted) j number line d written =
+    written ≡ cond (beq (keeps j.rules.now d) wanted) (ended line) []
 
 -- nothing where there is no room for more
 abbrev pub IsWritten : Job → Bool → ℕ → List ℕ → Data → List ℕ → Type 0

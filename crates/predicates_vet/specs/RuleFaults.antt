@@ -1,5 +1,6 @@
 -- What is told of lines of a file that say no rule.
-use Rattle.std.specs.Prelude.{ℕ, zero, suc, List, [], ◌∷◌, map, Option, Some, codes, decimal, string_bytes}
+use Rattle.std.specs.Prelude.{ℕ, zero, suc, List, [], ◌∷◌, map, Option, Some, codes, decimal}
+use Rattle.std.specs.Prelude.{string_bytes}
 use Rattle.std.specs.Fmt.{◌++?◌}
 use Rattle.predicates_rules.specs.Messages.{fault_text}
 use Rattle.predicates_rules.specs.Quoting.{quoted_text}

@@ -1,16 +1,18 @@
 -- The check of a rule of a file, and why none is made.
 use Rattle.std.specs.Prelude.{◌≡◌, ℕ, List, map, Option, Some, codes}
 use Rattle.predicates_rules.specs.Trees.{Tree}
-use Rattle.predicates_rule_check.specs.Planned.{IsPlan}
-use Rattle.predicates_rule_check.specs.RuleChecks.{name_of, plan_of_rule}
+use Rattle.predicates_rule_check.specs.Compiled.{IsTreeOf}
+use Rattle.predicates_rule_check.specs.RuleChecks.{name_of, tree_of_rule}
 use Rattle.predicates_rule_check.specs.declared.rule_check.RuleCheck.{RuleCheck}
 use Rattle.predicates_vet.specs.declared.rules_file.ReadChecksError.{ReadChecksError}
-use Rattle.predicates_vet.specs.declared.rules_file.ReadChecksError.TheVariants.{NoMemory, Unreadable}
-use Rattle.predicates_vet.specs.RuleFaults.{rule_fault_text, joined_texts, texts_of_lines, told_line}
+use Rattle.predicates_vet.specs.declared.rules_file.ReadChecksError.TheVariants.{NoMemory}
+use Rattle.predicates_vet.specs.declared.rules_file.ReadChecksError.TheVariants.{Unreadable}
+use Rattle.predicates_vet.specs.RuleFaults.{rule_fault_text, joined_texts, texts_of_lines}
+use Rattle.predicates_vet.specs.RuleFaults.{told_line}
 
 -- it has the rule's name, and is the check of its expression
 abbrev pub IsCheckOf : List ℕ × Tree → RuleCheck → Type 0
-IsCheckOf r c = (name_of c ≡ r.0) × IsPlan r.1 (plan_of_rule c)
+IsCheckOf r c = (name_of c ≡ r.0) × IsTreeOf r.1 (tree_of_rule c)
 
 -- a line for each fault, or that memory ran out
 abbrev pub read_error_text : ReadChecksError → Option (List ℕ)

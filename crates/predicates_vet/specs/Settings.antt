@@ -3,7 +3,8 @@ use Rattle.std.specs.Prelude.{ℕ, List, Bool, false, not, ◌&&◌, Option, opt
 use mathlib.Core.Bool.{beq}
 use Rattle.predicates_vet.specs.declared.job.Job.{Job}
 use Rattle.predicates_vet.specs.declared.settings.Report.{Report}
-use Rattle.predicates_vet.specs.declared.settings.Report.TheVariants.{First, All, Change, Json, Lines, GitHub, JUnit}
+use Rattle.predicates_vet.specs.declared.settings.Report.TheVariants.{First, All, Change, Json}
+use Rattle.predicates_vet.specs.declared.settings.Report.TheVariants.{Lines, GitHub, JUnit}
 use Rattle.predicates_vet.specs.declared.settings.Settings.{Settings}
 
 -- the path that labels records

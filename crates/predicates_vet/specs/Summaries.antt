@@ -1,5 +1,6 @@
 -- How many records break each rule, as lines.
-use Rattle.std.specs.Prelude.{◌≡◌, ℕ, ◌+◌, ◌-◌, ◌^◌, ◌++◌, List, [], ◌∷◌, map, max, replicate, codes, decimal, flat_map, slice_index, IsPermutation}
+use Rattle.std.specs.Prelude.{◌≡◌, ℕ, ◌+◌, ◌-◌, ◌^◌, ◌++◌, List, [], ◌∷◌, map, max, replicate}
+use Rattle.std.specs.Prelude.{codes, decimal, flat_map, slice_index, IsPermutation}
 use Rattle.std.specs.Int.{div_ceil}
 use Rattle.std.specs.List.Sorted.{IsNonDecreasingBy, IsStableByKey}
 use Rattle.std.specs.Ordering.{nat_cmp}
@@ -29,7 +30,11 @@ unit_of [] = 1
 unit_of (r ∷ rs) = max (div_ceil r.count 40) 1
 
 abbrev pub row_text : ℕ → Named → List ℕ
-row_text unit r = decimal r.1 ++ (codes "\t" ++ (replicate (div_ceil r.1 unit) 35 ++ (codes "\t" ++ (r.0 ++ codes "\n"))))
+row_text unit r =
+    decimal r.1
+    ++ (codes "\t"
+    ++ (replicate (div_ceil r.1 unit) 35
+    ++ (codes "\t" ++ (r.0 ++ codes "\n"))))
 
 -- a line for each rule, of those that more records break first, and of the others in their order
 pub record IsSummary (rules : List RuleCheck) (broken : List ℕ) (text : List ℕ) : Type 0 where

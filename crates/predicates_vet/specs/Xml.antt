@@ -1,5 +1,6 @@
 -- Texts as XML has them.
-use Rattle.std.specs.Prelude.{◌==◌, ◌++◌, nat_lt, ℕ, List, [], ◌∷◌, Bool, not, ◌&&◌, ◌||◌, codes, if◌then◌else◌}
+use Rattle.std.specs.Prelude.{◌==◌, ◌++◌, nat_lt, ℕ, List, [], ◌∷◌, Bool, not, ◌&&◌, ◌||◌, codes}
+use Rattle.std.specs.Prelude.{if◌then◌else◌}
 
 -- a control character that XML forbids: all but tabs and the ends of lines
 abbrev pub is_forbidden : ℕ → Bool

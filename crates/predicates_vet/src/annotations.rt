@@ -1,5 +1,6 @@
 //! What GitHub shows of one record.
-ghost use Rattle.std.specs.Prelude.{◌≡◌, ◌++◌, ℕ, List, IfOk, OnOk, option_map, string_bytes, flat_map};
+ghost use Rattle.std.specs.Prelude.{◌≡◌, ◌++◌, ℕ, List, IfOk, OnOk, option_map, string_bytes};
+ghost use Rattle.std.specs.Prelude.{flat_map};
 ghost use Rattle.std.specs.Io.KnownBytes.{Appends};
 ghost use Rattle.serde_json.specs.View.{view};
 ghost use Rattle.predicates_vet.specs.GitHub.{opening};
@@ -78,8 +79,8 @@ fn push_broken<'r>(
     Ok(is_none(&cases))
 }
 
-/// Writes the lines of the rules that the record breaks, of all or of the first, and says whether it
-/// keeps every rule.
+/// Writes the lines of the rules that the record breaks, of all or of the first, and says whether
+/// it keeps every rule.
 pub(crate) fn tell_errors<'r, W: Write>(
     job: &Job<'r>,
     workspace: &mut Workspace<'r>,

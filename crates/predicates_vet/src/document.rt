@@ -162,7 +162,8 @@ fn push_files(text: &mut Vec<u8>, all_read: bool) -> Result<(), AllocError>
     }
     push_bytes(
         text,
-        b"<testcase name=\"files\" classname=\"input\"><error message=\"not all could be read\"/></testcase>\n",
+        b"<testcase name=\"files\" classname=\"input\">\
+         <error message=\"not all could be read\"/></testcase>\n",
     )
 }
 
@@ -209,11 +210,11 @@ fn push_head(
     Ok(())
 }
 
-/// The document that readers of JUnit's reports take, of runs by the rules of the file of this name:
-/// a test case for each rule, in their order, with a failure where records break it, which has the
-/// block of the first such record. Where lines are unreadable, or not all files could be read, there
-/// is a test case with an error more. The tally is one of `Tally::with_blocks`. It takes memory for
-/// the document.
+/// The document that readers of JUnit's reports take, of runs by the rules of the file of this
+/// name: a test case for each rule, in their order, with a failure where records break it, which
+/// has the block of the first such record. Where lines are unreadable, or not all files could be
+/// read, there is a test case with an error more. The tally is one of `Tally::with_blocks`. It
+/// takes memory for the document.
 ///
 /// ```
 /// let document = junit(alloc, "rules", &rules, &tally, true)?;

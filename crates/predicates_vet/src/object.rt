@@ -1,10 +1,12 @@
 //! The text of a record's object.
-ghost use Rattle.std.specs.Prelude.{◌≡◌, ◌++◌, IfOk, OnOk, string_bytes, is_some, option_map, map, false, length, ◌==◌};
+ghost use Rattle.std.specs.Prelude.{◌≡◌, ◌++◌, IfOk, OnOk, string_bytes, is_some, option_map, map};
+ghost use Rattle.std.specs.Prelude.{false, length, ◌==◌};
 ghost use Rattle.serde_json.specs.Read.{read};
 ghost use Rattle.serde_json.specs.Written.{comma_if};
 ghost use Rattle.predicates_core.specs.Leaves.{word};
 ghost use Rattle.predicates_vet.specs.Objects.{quoted, listed, value_text, product_text};
-ghost use Rattle.predicates_vet.specs.Objects.{predicate_text, verdict_text, node_text, name_text, forest_text};
+ghost use Rattle.predicates_vet.specs.Objects.{predicate_text, verdict_text, node_text, name_text};
+ghost use Rattle.predicates_vet.specs.Objects.{forest_text};
 ghost use Rattle.predicates_vet.specs.Objects.{case_text, cases_text, file_text, object_text};
 
 use predicates_core::reflection::{Case, CaseChild, CaseView, Product};

@@ -1,6 +1,7 @@
 //! The pieces of an input, on each of which a record may stand.
 ghost use Rattle.std.specs.Prelude.{◌≡◌, Some, None, Ok};
-ghost use Rattle.predicates_lines.specs.declared.taken_line.TakenLine.TheVariants.{Line, TooLong, End};
+ghost use Rattle.predicates_lines.specs.declared.taken_line.TakenLine.TheVariants.{Line, TooLong};
+ghost use Rattle.predicates_lines.specs.declared.taken_line.TakenLine.TheVariants.{End};
 ghost use Rattle.predicates_vet.specs.Pieces.{TakesPiece, IsOver};
 ghost use Rattle.predicates_vet.specs.declared.input_format.InputFormat.TheVariants.{Json};
 

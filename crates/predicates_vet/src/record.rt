@@ -8,8 +8,10 @@ ghost use Rattle.predicates_style.specs.StyledLines.{styled_lines};
 ghost use Rattle.predicates_core.specs.Shows.{Explains};
 ghost use Rattle.serde_json.specs.View.{view};
 ghost use Rattle.predicates_vet.specs.Counting.{AddsCount, one_counted};
-ghost use Rattle.predicates_vet.specs.Records.{keeps, broken, shown, block, cut, AddsCase, AddsChange};
-ghost use Rattle.predicates_vet.specs.Records.{IsBlock, IsBlockOf, IsChangeBlock, IsObject, wanted_text};
+ghost use Rattle.predicates_vet.specs.Records.{keeps, broken, shown, block, cut, AddsCase};
+ghost use Rattle.predicates_vet.specs.Records.{AddsChange};
+ghost use Rattle.predicates_vet.specs.Records.{IsBlock, IsBlockOf, IsChangeBlock, IsObject};
+ghost use Rattle.predicates_vet.specs.Records.{wanted_text};
 
 use crate::job::Job;
 use crate::line::Record;

@@ -19,7 +19,8 @@ pub enum RuleFault {
     },
 }
 
-/// One line: `line 1, column 7: ..`, or `line 1, rule a: no regular expression: unclosed group at character 1: (`.
+/// One line: `line 1, column 7: ..`, or
+/// `line 1, rule a: no regular expression: unclosed group at character 1: (`.
 impl fmt::Display for RuleFault {
     ghost output = { rule_fault_text };
 

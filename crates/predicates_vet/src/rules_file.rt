@@ -181,8 +181,8 @@ fn checks_of(alloc: Global, rules: Vec<Rule>) -> Result<Vec<RuleCheck>, CheckErr
 }
 
 /// Reads the rules of a file, as `read_rules`, and makes the check of each. It fails where the text
-/// says no rules, and where a pattern is no regular expression; then each line is read once more for
-/// its fault.
+/// says no rules, and where a pattern is no regular expression; then each line is read once more
+/// for its fault.
 ///
 /// ```
 /// let rules = read_checks(alloc, b"adult: /age>=18 and(/name exists)")?;

@@ -6,7 +6,8 @@ ghost use Rattle.std.specs.Io.KnownBytes.{Appends};
 ghost use Rattle.serde_json.specs.View.{view};
 ghost use Rattle.predicates_vet.specs.Counting.{CountsOne, has_room, left_after, one_counted};
 ghost use Rattle.predicates_vet.specs.FirstBlocks.{TakesFirsts, TakesOn, blocks_of};
-ghost use Rattle.predicates_vet.specs.InputLines.{ended, is_blank, line_end, record_on, too_long_text};
+ghost use Rattle.predicates_vet.specs.InputLines.{ended, is_blank, line_end, record_on};
+ghost use Rattle.predicates_vet.specs.InputLines.{too_long_text};
 ghost use Rattle.predicates_vet.specs.Places.{place_text};
 ghost use Rattle.predicates_vet.specs.Records.{keeps, IsReport, IsWritten};
 ghost use Rattle.predicates_vet.specs.Runs.{HasRun, HasStopped, IsLineWritten, IsMessage};
@@ -196,7 +197,8 @@ fn tell_line<'r, W: Write, M: Write>(
     ensures counts { tally.new.counts ≡ tally.old.counts }
     ensures broken { IfOk result (λ _. tally.new.broken.items
         ≡ one_counted job.now.rules.now (record_on line.now.bytes.now) tally.old.broken.items) }
-    ensures firsts { IfOk result (λ _. TakesOn job.now line.now.number (record_on line.now.bytes.now)
+    ensures firsts { IfOk result (λ _.
+        TakesOn job.now line.now.number (record_on line.now.bytes.now)
         (blocks_of tally.old) (blocks_of tally.new)) }
     ensures left { IfOk result (λ _. tally.new.left
         ≡ left_after (is_told job.now (record_on line.now.bytes.now)) tally.old.left) }
@@ -274,15 +276,15 @@ fn take_long_line<M: Write>(
 }
 
 /// Writes what is told of each record of the input, in order, and counts the lines beside those
-/// that the tally has. A line on which no record stands, as it is not JSON, nests more than 127 deep
-/// or is longer than the job allows, is told by a message, and the run goes on. A blank line is
-/// passed over. Where the tally counts for each rule, every rule is asked of every record, and where
-/// it keeps blocks too, that of the first record that breaks each rule. Once as much is written as
-/// the tally has room for, the records are only counted.
+/// that the tally has. A line on which no record stands, as it is not JSON, nests more than 127
+/// deep or is longer than the job allows, is told by a message, and the run goes on. A blank line
+/// is passed over. Where the tally counts for each rule, every rule is asked of every record, and
+/// where it keeps blocks too, that of the first record that breaks each rule. Once as much is
+/// written as the tally has room for, the records are only counted.
 ///
 /// It takes memory for the longest line, for the record on it, for what is written of it, for a
-/// matcher of each pattern of the rules and for a block of each rule where the tally keeps them, and
-/// no more however long the input is. After a fault the
+/// matcher of each pattern of the rules and for a block of each rule where the tally keeps them,
+/// and no more however long the input is. After a fault the
 /// tally has the lines before it, and nothing is said of how much was written.
 ///
 /// ```
@@ -315,7 +317,8 @@ pub fn run_records<R: BufRead, W: Write, M: Write>(
         (W.contents streams.old.output) (W.contents streams.new.output)
         (M.contents streams.old.messages) (M.contents streams.new.messages)
         tally.old tally.new) }
-    ensures stopped { OnErr result (HasStopped job.now (R.remaining input.old) tally.old tally.new) }
+    ensures stopped { OnErr result
+        (HasStopped job.now (R.remaining input.old) tally.old tally.new) }
 {
     let mut bytes = Vec::new(alloc);
     let mut position = Position::Outside;

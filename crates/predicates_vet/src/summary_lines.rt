@@ -1,5 +1,6 @@
 //! How many records break each rule, as lines.
-ghost use Rattle.std.specs.Prelude.{◌≡◌, ◌-◌, ◌<◌, ◌+◌, ◌++◌, IfOk, OnOk, map, flat_map, string_bytes};
+ghost use Rattle.std.specs.Prelude.{◌≡◌, ◌-◌, ◌<◌, ◌+◌, ◌++◌, IfOk, OnOk, map, flat_map};
+ghost use Rattle.std.specs.Prelude.{string_bytes};
 ghost use Rattle.std.specs.Prelude.{replicate, slice_index, IsPermutation};
 ghost use Rattle.std.specs.List.Sorted.{IsNonDecreasingBy, IsStableByKey};
 ghost use Rattle.std.specs.Ordering.{nat_cmp};
@@ -111,8 +112,8 @@ fn push_rows(
 
 /// A line for each rule: how many records break it, a bar and its name, with tabs between them.
 /// Rules that more records break stand before others, and those that as many break in the order of
-/// the file. A bar has a `#` for each record, or where a rule is broken by more than 40, for as many
-/// as it takes for none to be longer. It takes memory for the lines and a row for each rule.
+/// the file. A bar has a `#` for each record, or where a rule is broken by more than 40, for as
+/// many as it takes for none to be longer. It takes memory for the lines and a row for each rule.
 ///
 /// ```
 /// let lines = summary(alloc, &rules, &[1, 3])?;

@@ -1,5 +1,6 @@
 //! What runs count.
-ghost use Rattle.std.specs.Prelude.{◌≡◌, IfOk, OnOk, OnErr, replicate, length, map, string_bytes, []};
+ghost use Rattle.std.specs.Prelude.{◌≡◌, IfOk, OnOk, OnErr, replicate, length, map, string_bytes};
+ghost use Rattle.std.specs.Prelude.{[]};
 ghost use Rattle.predicates_vet.specs.Counting.{CountsOne, has_room, left_after};
 
 use crate::counts::Counts;
@@ -55,7 +56,8 @@ impl Tally {
         most: Option<u64>,
     ) -> Result<Tally, AllocError>
         ensures counts { IfOk result (λ tally. tally.counts ≡ Counts.NONE) }
-        ensures broken { IfOk result (λ tally. tally.broken.items ≡ replicate (length rules.now) 0) }
+        ensures broken { IfOk result (λ tally.
+            tally.broken.items ≡ replicate (length rules.now) 0) }
         ensures firsts { IfOk result (λ tally. tally.firsts.items ≡ []) }
         ensures left { IfOk result (λ tally. tally.left ≡ most) }
     {
@@ -67,8 +69,8 @@ impl Tally {
         })
     }
 
-    /// The same, and it keeps the block of the first record that breaks each rule, for which it takes
-    /// memory.
+    /// The same, and it keeps the block of the first record that breaks each rule, for which it
+    /// takes memory.
     ///
     /// ```
     /// let tally = Tally::with_blocks(alloc, &rules, None)?;
@@ -80,7 +82,8 @@ impl Tally {
         most: Option<u64>,
     ) -> Result<Tally, AllocError>
         ensures counts { IfOk result (λ tally. tally.counts ≡ Counts.NONE) }
-        ensures broken { IfOk result (λ tally. tally.broken.items ≡ replicate (length rules.now) 0) }
+        ensures broken { IfOk result (λ tally.
+            tally.broken.items ≡ replicate (length rules.now) 0) }
         ensures firsts { IfOk result (λ tally.
             map string_bytes tally.firsts.items ≡ replicate (length rules.now) []) }
         ensures left { IfOk result (λ tally. tally.left ≡ most) }

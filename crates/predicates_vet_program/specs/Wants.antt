@@ -2,7 +2,8 @@
 use Rattle.std.specs.Prelude.{◌≡◌, false, codes}
 use Rattle.clap.specs.declared.parser.matches.Found.{Found}
 use Rattle.predicates_vet.specs.Settings.{id_of}
-use Rattle.predicates_vet_program.specs.Words.{IsFlag, IsNumber, clashes, format_of, report_by, label_of, input_of}
+use Rattle.predicates_vet_program.specs.Words.{IsFlag, IsNumber, clashes, format_of, report_by}
+use Rattle.predicates_vet_program.specs.Words.{label_of, input_of}
 use Rattle.predicates_vet_program.specs.declared.flags.Flags.{Flags}
 use Rattle.predicates_vet_program.specs.declared.wanted.Wanted.{Wanted}
 

@@ -1,12 +1,14 @@
 -- What the words of the command line say.
-use Rattle.std.specs.Prelude.{◌≡◌, ℕ, ◌<◌, ◌^◌, List, [], Bool, true, false, not, ◌&&◌, ◌||◌, Option, Some, None, SomeIff, codes}
+use Rattle.std.specs.Prelude.{◌≡◌, ℕ, ◌<◌, ◌^◌, List, [], Bool, true, false, not, ◌&&◌, ◌||◌}
+use Rattle.std.specs.Prelude.{Option, Some, None, SomeIff, codes}
 use Rattle.std.specs.Prelude.{if◌then◌else◌, option_map, is_some}
 use Rattle.std.specs.Str.{bytes_eq}
 use Rattle.std.specs.Str.Parse.{IsNumeral, digits_value, without_leading_plus}
 use Rattle.clap.specs.Matches.{one_text, first_value}
 use Rattle.clap.specs.declared.parser.matches.Found.{Found}
 use Rattle.predicates_vet.specs.declared.settings.Report.{Report}
-use Rattle.predicates_vet.specs.declared.settings.Report.TheVariants.{First, All, Change, Json, Lines, GitHub, JUnit}
+use Rattle.predicates_vet.specs.declared.settings.Report.TheVariants.{First, All, Change, Json}
+use Rattle.predicates_vet.specs.declared.settings.Report.TheVariants.{Lines, GitHub, JUnit}
 use Rattle.predicates_vet.specs.declared.input_format.InputFormat.{InputFormat}
 use Rattle.predicates_vet.specs.declared.input_format.InputFormat.TheVariants.{JsonLines}
 use Rattle.predicates_vet.specs.declared.input_format.InputFormat.TheVariants as input
@@ -24,7 +26,8 @@ pub record IsFlag (found : Found) (name : List ℕ) (is_set : Bool) : Type 0 whe
 abbrev pub ReadsNumber : List ℕ → Option ℕ → Type 0
 ReadsNumber text number =
     let digits = without_leading_plus text in
-    SomeIff number (IsNumeral 10 digits × (digits_value 10 digits < 2 ^ 64)) (digits_value 10 digits)
+    SomeIff number (IsNumeral 10 digits × (digits_value 10 digits < 2 ^ 64))
+    (digits_value 10 digits)
 
 -- the number that stands behind the name, if one does
 pub record IsNumber (found : Found) (name : List ℕ) (number : Option ℕ) : Type 0 where
@@ -43,8 +46,8 @@ abbrev pub format_of : Found → Option Format
 format_of found = format_named (first_value found (codes "format"))
 
 -- some of the flags can't stand together: lines as they stand go with no other report and with one
--- of both verdicts, but `--failed` may choose the objects of `--json`; changes go with no other; what
--- another program reads may show all rules, and goes with no other
+-- of both verdicts, but `--failed` may choose the objects of `--json`; changes go with no other;
+-- what another program reads may show all rules, and goes with no other
 abbrev pub clashes : Flags → Bool
 clashes flags =
     (flags.failed && (flags.passed || (flags.change || (flags.all && not flags.json))))

@@ -1,7 +1,8 @@
 //! The flags that choose a report.
 ghost use Rattle.std.specs.Prelude.{◌≡◌, codes};
 ghost use Rattle.clap.specs.Matches.{found_of};
-ghost use Rattle.predicates_vet_program.specs.Words.{IsFlag, clashes, format_of, plain_report, report_by};
+ghost use Rattle.predicates_vet_program.specs.Words.{IsFlag, clashes, format_of, plain_report};
+ghost use Rattle.predicates_vet_program.specs.Words.{report_by};
 
 use crate::format::Format;
 use clap::ArgMatches;

@@ -111,8 +111,8 @@ fn run_named<E: Files + Input + Print + Eprint + Clock + AllocGlobal>(
     }
 }
 
-// What an input of this name is called: nothing where it is the only one. GitHub is told the name of
-// each file, and none of standard input.
+// What an input of this name is called: nothing where it is the only one. GitHub is told the name
+// of each file, and none of standard input.
 fn source<'r>(report: Report, is_only: bool, name: &'r str) -> Option<&'r str> {
     let is_called = match report {
         Report::GitHub { .. } => name != "-",

@@ -3,7 +3,8 @@ use predicates_vet::RunFault;
 use std::io::ErrorKind;
 use std::{fmt, io};
 
-// An error of the system. That memory ran out is told as everywhere, and any other in its own words.
+// An error of the system. That memory ran out is told as everywhere, and any other in its own
+// words.
 #[derive(Drop)]
 pub(crate) struct IoFault<'a>(pub(crate) &'a io::Error);
 

@@ -1,7 +1,8 @@
 //! The program over what its process is given.
 ghost use Rattle.std.specs.Prelude.{◌≡◌, ◌≢◌, ◌≤◌, IfOk};
 ghost use Rattle.clap.specs.Values.{kind_of};
-ghost use Rattle.predicates_vet_program.specs.declared.end.End.TheVariants.{Helped, Refused, Stopped, Ran};
+ghost use Rattle.predicates_vet_program.specs.declared.end.End.TheVariants.{Helped, Refused};
+ghost use Rattle.predicates_vet_program.specs.declared.end.End.TheVariants.{Stopped, Ran};
 
 use crate::command::command;
 use crate::document::write_document;
@@ -245,9 +246,9 @@ fn try_run<E: Env + Files + Input + Print + Eprint + Clock + AllocGlobal>(
 /// its status: 0 where every record keeps every rule, 1 where one breaks a rule, and 2 for wrong
 /// words, rules that can't be read, lines that are not JSON, faults of reading and writing, and out
 /// of memory, each told in a line on standard error. Where nothing reads standard output any more,
-/// it ends without a line, with the status of the records before. Whether standard error is a terminal
-/// is told by the caller: elsewhere `--progress` writes nothing. It takes memory as `run_records`
-/// does, and for the words and the rules.
+/// it ends without a line, with the status of the records before. Whether standard error is a
+/// terminal is told by the caller: elsewhere `--progress` writes nothing. It takes memory as
+/// `run_records` does, and for the words and the rules.
 ///
 /// ```
 /// fn main(rt: HostRuntime) -> ExitCode {

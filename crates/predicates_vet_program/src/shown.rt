@@ -6,8 +6,8 @@ use crate::progress::Progress;
 use crate::tell::noun;
 use std::fmt;
 
-/// How many lines are read, how many percent that is of the inputs, where their length is known, and
-/// how many lines a second.
+/// How many lines are read, how many percent that is of the inputs, where their length is known,
+/// and how many lines a second.
 #[derive(Clone, Copy)]
 pub(crate) struct Shown {
     lines: u64,

@@ -18,8 +18,8 @@ pub(crate) struct Watched<'a, E> {
 }
 
 impl<'a, E> Watched<'a, E> {
-    /// The process before a run over the files of these names, or over standard input where there is
-    /// none, and whether the line is wanted. Without a clock there is no line.
+    /// The process before a run over the files of these names, or over standard input where there
+    /// is none, and whether the line is wanted. Without a clock there is no line.
     pub(crate) fn start(rt: &'a E, is_wanted: bool, names: Option<&[&str]>) -> Watched<'a, E>
     where
         E: Files + Clock,
