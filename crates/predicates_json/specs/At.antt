@@ -14,7 +14,8 @@ step_open part (Value-F.Bool b) = None
 step_open part (Value-F.Number x) = None
 step_open part (Value-F.String s) = None
 step_open part (Value-F.Array v) = option_and_then (slice_get v.items) (index_of part)
-step_open part (Value-F.Object m) = lookup (λ k. bytes_eq (unescape part) (string_bytes k)) m.entries
+step_open part (Value-F.Object m) =
+    lookup (λ k. bytes_eq (unescape part) (string_bytes k)) m.entries
 
 abbrev pub step : List ℕ → Value → Option Value
 step part v = step_open part (out-Value v)

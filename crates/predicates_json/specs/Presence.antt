@@ -4,7 +4,9 @@ use Rattle.predicates_core.specs.Label.{plain}
 use Rattle.predicates_core.specs.Formula.{Formula, Leaf}
 use Rattle.serde_json.specs.declared.value.Value.{Value}
 use Rattle.predicates_json.specs.At.{at_pointer}
-use Rattle.predicates_json.specs.declared.presence.PointerPresencePredicate.{PointerPresencePredicate}
+use Rattle.predicates_json.specs.declared.presence.PointerPresencePredicate.{
+  PointerPresencePredicate,
+}
 
 abbrev pub presence_text : Bool → List ℕ → List ℕ
 presence_text present pointer = cond present

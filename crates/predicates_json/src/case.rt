@@ -1,7 +1,8 @@
 //! Cases as JSON.
 ghost use Rattle.std.specs.Prelude.{◌≡◌, IfOk};
 ghost use Rattle.serde_json.specs.View.{view, items_view};
-ghost use Rattle.predicates_json.specs.CaseData.{product_data, products_data, child_data, node_data};
+ghost use Rattle.predicates_json.specs.CaseData.{product_data, products_data, child_data};
+ghost use Rattle.predicates_json.specs.CaseData.{node_data};
 ghost use Rattle.predicates_json.specs.CaseData.{case_data};
 
 use predicates_core::reflection::{CaseChild, CaseView, Product};

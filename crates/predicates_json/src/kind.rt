@@ -9,7 +9,8 @@ ghost use Rattle.serde_json.specs.View.{view};
 ghost use Rattle.serde_json.specs.declared.value.Value.{Value as JsonValue};
 ghost use Rattle.predicates_json.specs.Kinds.{kind_text, held_bool, held_string, held_array};
 ghost use Rattle.predicates_json.specs.Kinds.{held_object};
-ghost use Rattle.predicates_core.specs.Present.{IsOfPresent, present_text_fits, one_present, present_formula};
+ghost use Rattle.predicates_core.specs.Present.{IsOfPresent, present_text_fits, one_present};
+ghost use Rattle.predicates_core.specs.Present.{present_formula};
 ghost use Rattle.predicates_core.specs.Present.{has_present};
 ghost use Rattle.predicates_json.specs.KindParts.{inner_of};
 
@@ -145,7 +146,8 @@ impl<P: Predicate<U>, U: JsonKind> Predicate<Value> for KindPredicate<P, U> {
 
     ghost infallible = { λ p v. IfSome (U.held_by v) (P.infallible (inner_of p)) };
 
-    ghost text_fits = { λ p v f. present_text_fits (U.held_by v) (λ u. P.text_fits (inner_of p) u) };
+    ghost text_fits = { λ p v f. present_text_fits (U.held_by v)
+        (λ u. P.text_fits (inner_of p) u) };
 
     ghost one_formula = { λ p v f g lawful. one_present (U.held_by v)
         (λ u x y. P.one_formula (inner_of p) u x y lawful) };

@@ -112,7 +112,8 @@ pub trait PredicateJsonExt: Sized {
     where
         Self: Predicate<Map<String, Value>>,
         ensures inner { Kind.inner_of result ≡ self }
-        ensures kind { (v : JsonValue) → ⟦<Map<String, Value> as JsonKind>⟧.held_by v ≡ held_object v };
+        ensures kind { (v : JsonValue) → ⟦<Map<String, Value> as JsonKind>⟧.held_by v
+            ≡ held_object v };
 
     /// The same of a JSON number, read as an `i64`, a `u64` or an `f64`. A number that the type
     /// cannot represent is of another kind: for the first two a float, even `5.0`, or one that is

@@ -10,7 +10,8 @@ ghost use Rattle.serde_json.specs.Find.{as_i64, as_u64, as_number, to_float};
 ghost use Rattle.serde_json.specs.View.{view, number_view};
 ghost use Rattle.predicates_json.specs.Kinds.{no_i64_text, no_u64_text, no_f64_text};
 ghost use Rattle.predicates_json.specs.Kinds.{no_number_text};
-ghost use Rattle.predicates_core.specs.Present.{IsOfPresent, present_text_fits, one_present, present_formula};
+ghost use Rattle.predicates_core.specs.Present.{IsOfPresent, present_text_fits, one_present};
+ghost use Rattle.predicates_core.specs.Present.{present_formula};
 ghost use Rattle.predicates_core.specs.Present.{has_present};
 ghost use Rattle.predicates_json.specs.NumberParts.{inner_of};
 
@@ -162,7 +163,8 @@ impl<P: PredicateReflection, N> PredicateReflection for NumberPredicate<P, N> {
 impl<P: Predicate<N>, N: JsonNumber> Predicate<Value> for NumberPredicate<P, N> {
     ghost lawful = { λ p. P.lawful (inner_of p) };
 
-    ghost formula = { λ p v. IsOfPresent (P.output (inner_of p)) (no_number_text N.misfit_text (view v))
+    ghost formula = { λ p v. IsOfPresent (P.output (inner_of p))
+        (no_number_text N.misfit_text (view v))
         (P.formula (inner_of p)) (option_and_then N.number_as (as_number (view v))) };
 
     ghost infallible = { λ p v. IfSome (option_and_then N.number_as (as_number (view v)))

@@ -6,11 +6,13 @@
 ghost use Rattle.std.specs.Prelude.{◌≡◌, ℕ, List, [], codes, false, Some, IfSome, string_bytes};
 ghost use Rattle.predicates_core.specs.Parts.{part};
 ghost use Rattle.predicates_json.specs.At.{at_pointer};
-ghost use Rattle.predicates_core.specs.Present.{IsOfPresent, present_text_fits, one_present, present_formula};
+ghost use Rattle.predicates_core.specs.Present.{IsOfPresent, present_text_fits, one_present};
+ghost use Rattle.predicates_core.specs.Present.{present_formula};
 ghost use Rattle.predicates_core.specs.Present.{has_present};
 ghost use Rattle.predicates_json.specs.Pointer.{IsAt, at_formula, no_value_text};
 ghost use Rattle.predicates_json.specs.Pointer.{inner_of, pointer_of};
-ghost use Rattle.predicates_json.specs.PointerText.{is_pointer_text, has_whole_escapes as whole_escapes};
+ghost use Rattle.predicates_json.specs.PointerText.{is_pointer_text};
+ghost use Rattle.predicates_json.specs.PointerText.{has_whole_escapes as whole_escapes};
 ghost use Rattle.predicates_json.specs.PointerLaws.{at_text_fits, one_at, has_at};
 
 use crate::at::value_at;

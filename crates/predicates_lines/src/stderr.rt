@@ -2,8 +2,8 @@
 use std::io::{Error, ErrorKind, Write};
 use std::{io, str};
 
-/// Standard error of the process, to which bytes are written that are UTF-8; others are refused with
-/// `InvalidData`. It takes no memory.
+/// Standard error of the process, to which bytes are written that are UTF-8; others are refused
+/// with `InvalidData`. It takes no memory.
 #[derive(Drop)]
 pub struct Stderr<'a, E> {
     pub rt: &'a E,

@@ -5,7 +5,8 @@ ghost use Rattle.std.specs.Option.{ForSome};
 ghost use Rattle.predicates_lines.specs.Lines.{ended_lines};
 ghost use Rattle.predicates_lines.specs.Steps.{IsInside, TakesPart, TakesFront, PassesRest};
 ghost use Rattle.predicates_lines.specs.declared.run_fault.RunFault.TheVariants.{Output};
-ghost use Rattle.predicates_lines.specs.declared.taken_line.TakenLine.TheVariants.{Line, TooLong, End};
+ghost use Rattle.predicates_lines.specs.declared.taken_line.TakenLine.TheVariants.{Line, TooLong};
+ghost use Rattle.predicates_lines.specs.declared.taken_line.TakenLine.TheVariants.{End};
 
 use crate::run_fault::{RunFault, classify_error};
 use crate::taken_line::TakenLine;

@@ -72,8 +72,8 @@ impl<P: PredicateReflection> PredicateReflection for FileContentPredicate<P> {
 impl<P: Predicate<Vec<u8>>> Predicate<Snapshot> for FileContentPredicate<P> {
     ghost lawful = { λ p. P.lawful (inner_of p) };
 
-    ghost formula = { λ p s. IsOfContent (P.output (inner_of p)) (P.formula (inner_of p)) (path_of s)
-        (held_of s) };
+    ghost formula = { λ p s. IsOfContent (P.output (inner_of p))
+        (P.formula (inner_of p)) (path_of s) (held_of s) };
 
     ghost infallible = { λ p s. IfOk (held_of s) (P.infallible (inner_of p)) };
 

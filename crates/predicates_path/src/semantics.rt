@@ -38,7 +38,8 @@ pub fn existence(test: &ExistencePredicate, item: &Snapshot)
         → ⟦<ExistencePredicate as Predicate<Snapshot>>⟧.formula test.now item.now f
         ↔ IsExactly (existence_formula test.now item.now) f }
     ensures lawful { ⟦<ExistencePredicate as Predicate<Snapshot>>⟧.lawful test.now }
-    ensures infallible { ⟦<ExistencePredicate as Predicate<Snapshot>>⟧.infallible test.now item.now }
+    ensures infallible { ⟦<ExistencePredicate as Predicate<Snapshot>>⟧.infallible
+        test.now item.now }
     ensures values { ⟦<ExistencePredicate as PredicateReflection>⟧.parameters_of test.now ≡ [] }
     ensures parts { ⟦<ExistencePredicate as PredicateReflection>⟧.children_of test.now ≡ empty }
 {}

@@ -2,7 +2,8 @@
 use Rattle.std.specs.Prelude.{ℕ, Bool, true, false, not, List, [], ◌∷◌, if◌then◌else◌}
 use Rattle.predicates_lines.specs.Lines.{onto_first}
 use Rattle.predicates_records.specs.declared.position.Position.{Position}
-use Rattle.predicates_records.specs.declared.position.Position.TheVariants.{Outside, First, Member, Value, Text, Escape}
+use Rattle.predicates_records.specs.declared.position.Position.TheVariants.{Outside, First, Member}
+use Rattle.predicates_records.specs.declared.position.Position.TheVariants.{Value, Text, Escape}
 use Rattle.predicates_records.specs.declared.step.Step.{Step}
 use Rattle.predicates_records.specs.Steps.{step_of}
 

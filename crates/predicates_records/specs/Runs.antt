@@ -1,5 +1,6 @@
 -- What was taken of an input.
-use Rattle.std.specs.Prelude.{◌≡◌, ℕ, ◌<◌, ◌≤◌, Bool, true, false, List, [], ◌∷◌, ◌++◌, take, Option, Some, Result, Ok, Err, OnSome}
+use Rattle.std.specs.Prelude.{◌≡◌, ℕ, ◌<◌, ◌≤◌, Bool, true, false, List, [], ◌∷◌, ◌++◌, take}
+use Rattle.std.specs.Prelude.{Option, Some, Result, Ok, Err, OnSome}
 use Rattle.std.specs.Option.{ForSome}
 use Rattle.std.specs.Io.KnownBytes.{Consumes, IsAtEnd}
 use Rattle.predicates_lines.specs.Lines.{onto_first}
@@ -8,7 +9,8 @@ use Rattle.predicates_records.specs.declared.position.Position.TheVariants.{Outs
 use Rattle.predicates_records.specs.declared.part.Part.{Part}
 use Rattle.predicates_records.specs.declared.part.Part.TheVariants.{More, Ended, AtEnd}
 use Rattle.predicates_records.specs.declared.taken_record.TakenRecord.{TakenRecord}
-use Rattle.predicates_records.specs.declared.taken_record.TakenRecord.TheVariants.{Record, TooLong, Unclosed, End}
+use Rattle.predicates_records.specs.declared.taken_record.TakenRecord.TheVariants.{Record, TooLong}
+use Rattle.predicates_records.specs.declared.taken_record.TakenRecord.TheVariants.{Unclosed, End}
 use Rattle.predicates_records.specs.Records.{records, is_closed, is_outside, cut_short}
 
 -- ---- bytes that move the reading
@@ -25,8 +27,10 @@ ending false others = others
 
 -- some bytes move the reading, and of them these are of the record, which they end or not, whatever
 -- stands behind them
-pub record Moves (from : Position) (bytes : List ℕ) (is_end : Bool) (to : Position) (kept : List ℕ) : Type 0 where
-  pub split : (rest : List ℕ) → records from (bytes ++ rest) ≡ onto_front kept (ending is_end (records to rest))
+pub record Moves (from : Position) (bytes : List ℕ) (is_end : Bool) (to : Position)
+    (kept : List ℕ) : Type 0 where
+  pub split : (rest : List ℕ) → records from (bytes ++ rest)
+      ≡ onto_front kept (ending is_end (records to rest))
   pub closed : (rest : List ℕ) → is_closed from (bytes ++ rest) ≡ is_closed to rest
   pub gap : is_end ≡ false → cut_short to ≡ [] → (cut_short from ≡ []) × (kept ≡ [])
 
@@ -35,7 +39,8 @@ abbrev pub Grows : ℕ → List ℕ → List ℕ → List ℕ → Type 0
 Grows most old new more = (front : List ℕ) → old ≡ take most front → new ≡ take most (front ++ more)
 
 -- some bytes moved the reading, and those of the record were put behind it where there was room
-pub record Takes (from : Position) (bytes : List ℕ) (is_end : Bool) (to : Position) (old new : List ℕ) (most : ℕ) : Type 0 where
+pub record Takes (from : Position) (bytes : List ℕ) (is_end : Bool) (to : Position)
+    (old new : List ℕ) (most : ℕ) : Type 0 where
   pub kept : List ℕ
   pub moves : Moves from bytes is_end to kept
   pub grows : Grows most old new kept
@@ -60,7 +65,8 @@ is_ended (Ok AtEnd) = false
 is_ended (Err e) = false
 
 -- a part of the input was taken
-pub record TakesPart {E : Type 0} (before after : Option (List ℕ)) (from to : Position) (old new : List ℕ) (most : ℕ) (result : Result Part E) : Type 0 where
+pub record TakesPart {E : Type 0} (before after : Option (List ℕ))
+    (from to : Position) (old new : List ℕ) (most : ℕ) (result : Result Part E) : Type 0 where
   pub bytes : List ℕ
   pub consumed : Consumes before after bytes
   pub takes : Takes from bytes (is_ended result) to old new most
@@ -68,25 +74,33 @@ pub record TakesPart {E : Type 0} (before after : Option (List ℕ)) (from to : 
 
 -- the end of the input ended a record
 abbrev pub IsCutShort : Position → Position → Type 0
-IsCutShort from to = (cut_short from ≡ [] ∷ []) × (cut_short to ≡ []) × (is_outside to ≡ is_outside from)
+IsCutShort from to =
+    (cut_short from ≡ [] ∷ []) × (cut_short to ≡ []) × (is_outside to ≡ is_outside from)
 
 -- at the end of the input a record ends, or an array does not, or nothing was left
 pub record EndsInput (from to : Position) (size limit : ℕ) (result : TakenRecord) : Type 0 where
   pub whole : result ≡ Record → IsCutShort from to × (size ≤ limit)
   pub long : result ≡ TooLong → IsCutShort from to × (limit < size)
-  pub unclosed : result ≡ Unclosed → (cut_short from ≡ []) × (is_outside from ≡ false) × (to ≡ Outside)
+  pub unclosed : result ≡ Unclosed
+      → (cut_short from ≡ []) × (is_outside from ≡ false) × (to ≡ Outside)
   pub none : result ≡ End → (cut_short from ≡ []) × (is_outside from ≡ true) × (to ≡ Outside)
 
 -- ---- what a reader of records answers
 
 -- the next record was taken
 abbrev pub IsNext : Option (List ℕ) → Option (List ℕ) → Position → Position → List ℕ → Type 0
-IsNext before after from to next = ForSome before (λ bytes. (left : List ℕ) × (after ≡ Some left) × (records from bytes ≡ next ∷ records to left) × (is_closed from bytes ≡ is_closed to left))
+IsNext before after from to next = ForSome before (λ bytes.
+    (left : List ℕ) × (after ≡ Some left)
+    × (records from bytes ≡ next ∷ records to left)
+    × (is_closed from bytes ≡ is_closed to left))
 
 -- no record was left, and the input ended in no array, or in one
 abbrev pub IsOver : Option (List ℕ) → Option (List ℕ) → Position → Bool → Type 0
-IsOver before after from closed = ForSome before (λ bytes. (after ≡ Some []) × (records from bytes ≡ []) × (is_closed from bytes ≡ closed))
+IsOver before after from closed = ForSome before (λ bytes.
+    (after ≡ Some []) × (records from bytes ≡ []) × (is_closed from bytes ≡ closed))
 
 -- some bytes were taken that end no record
 abbrev pub IsInside : Option (List ℕ) → Option (List ℕ) → Position → Position → Type 0
-IsInside before after from to = (taken : List ℕ) × (kept : List ℕ) × Consumes before after taken × Moves from taken false to kept
+IsInside before after from to =
+    (taken : List ℕ) × (kept : List ℕ)
+    × Consumes before after taken × Moves from taken false to kept

@@ -1,7 +1,9 @@
 -- What a byte of an input does, by where the reading stands.
-use Rattle.std.specs.Prelude.{ℕ, ◌+◌, ◌-◌, ◌^◌, min, nat_lt, Bool, true, false, not, ◌&&◌, ◌||◌, ◌==◌, if◌then◌else◌}
+use Rattle.std.specs.Prelude.{ℕ, ◌+◌, ◌-◌, ◌^◌, min, nat_lt, Bool, true, false, not, ◌&&◌, ◌||◌}
+use Rattle.std.specs.Prelude.{◌==◌, if◌then◌else◌}
 use Rattle.predicates_records.specs.declared.position.Position.{Position}
-use Rattle.predicates_records.specs.declared.position.Position.TheVariants.{Outside, First, Member, Value, Text, Escape}
+use Rattle.predicates_records.specs.declared.position.Position.TheVariants.{Outside, First, Member}
+use Rattle.predicates_records.specs.declared.position.Position.TheVariants.{Value, Text, Escape}
 use Rattle.predicates_records.specs.declared.step.Step.{Step}
 
 -- ---- bytes
@@ -55,7 +57,8 @@ abbrev pub in_record : ℕ → ℕ → Step
 in_record depth byte =
     if byte == 34 then within (Text false depth)
     else (if is_opening byte then within (Value false (deeper depth))
-    else (if is_closing byte then (if nat_lt 1 depth then within (Value false (depth - 1)) else last Outside)
+    else (if is_closing byte
+    then (if nat_lt 1 depth then within (Value false (depth - 1)) else last Outside)
     else (if is_white byte && depth == 0 then behind Outside
     else within (Value false depth))))
 
@@ -67,7 +70,8 @@ in_value is_member depth byte = if is_member then in_member depth byte else in_r
 abbrev pub in_text : Bool → ℕ → ℕ → Step
 in_text is_member depth byte =
     if byte == 92 then within (Escape is_member depth)
-    else (if byte == 34 then (if not is_member && depth == 0 then last Outside else within (Value is_member depth))
+    else (if byte == 34
+    then (if not is_member && depth == 0 then last Outside else within (Value is_member depth))
     else within (Text is_member depth))
 
 -- behind the `[` of an array

@@ -11,7 +11,8 @@ pub enum Position {
     First,
     /// In an array, behind a `,`, or behind a record that the end of the input ended.
     Member,
-    /// In a record, outside its texts: a member of an array or not, and under so many open brackets.
+    /// In a record, outside its texts: a member of an array or not, and under so many open
+    /// brackets.
     Value { is_member: bool, depth: u64 },
     /// In a text of a record.
     Text { is_member: bool, depth: u64 },

@@ -1,11 +1,15 @@
 //! The records of an input, one after another.
-ghost use Rattle.std.specs.Prelude.{◌≡◌, ◌≢◌, ◌<◌, ◌≤◌, ℕ, List, [], ◌∷◌, Ok, Err, OnErr, OnOk, true, false, length, take};
+ghost use Rattle.std.specs.Prelude.{◌≡◌, ◌≢◌, ◌<◌, ◌≤◌, ℕ, List, [], ◌∷◌, Ok, Err, OnErr, OnOk};
+ghost use Rattle.std.specs.Prelude.{true, false, length, take};
 ghost use Rattle.predicates_lines.specs.declared.run_fault.RunFault.TheVariants.{Output};
 ghost use Rattle.predicates_records.specs.Runs.{Grows, Takes, TakesPart, EndsInput, IsNext, IsOver};
 ghost use Rattle.predicates_records.specs.Runs.{IsInside, has_ended, if_taken};
 ghost use Rattle.predicates_records.specs.declared.part.Part.TheVariants.{More};
 ghost use Rattle.predicates_records.specs.declared.position.Position.TheVariants.{Outside};
-ghost use Rattle.predicates_records.specs.declared.taken_record.TakenRecord.TheVariants.{Record, TooLong, Unclosed, End};
+ghost use Rattle.predicates_records.specs.declared.taken_record.TakenRecord.TheVariants.{Record};
+ghost use Rattle.predicates_records.specs.declared.taken_record.TakenRecord.TheVariants.{TooLong};
+ghost use Rattle.predicates_records.specs.declared.taken_record.TakenRecord.TheVariants.{Unclosed};
+ghost use Rattle.predicates_records.specs.declared.taken_record.TakenRecord.TheVariants.{End};
 
 use crate::part::Part;
 use crate::position::Position;

@@ -19,7 +19,8 @@ const ROOM: usize = 64;
 /// assert!(rt; text.as_str() == "var >= 5");
 /// ```
 pub fn printed<T: fmt::Display>(alloc: Global, value: &T) -> Result<String, AllocError>
-    ensures { IfOk result (λ text. IfSome (T.output value.now) (λ bytes. string_bytes text ≡ bytes)) }
+    ensures { IfOk result (λ text.
+        IfSome (T.output value.now) (λ bytes. string_bytes text ≡ bytes)) }
 {
     let mut text = String::with_capacity(alloc, ROOM)?;
     text.write(value)?;

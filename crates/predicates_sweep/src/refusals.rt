@@ -151,7 +151,8 @@ fn report<R: AllocGlobal + Print>(
         went_on,
     } = counts;
     println!(rt;
-        "{name}: {requests} requests, {refusals} refusals, {went_on} times it went on, 0 blocks left"
+        "{name}: {requests} requests, {refusals} refusals, {went_on} times it went on, \
+         0 blocks left"
     )?;
     let errors = refusals.saturating_sub(went_on);
     let is_met = errors > 0 || memory == Memory::Perhaps || memory == Memory::Never;

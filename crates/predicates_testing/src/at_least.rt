@@ -42,7 +42,8 @@ impl PredicateReflection for AtLeast {
 }
 
 impl Predicate<i64> for AtLeast {
-    ghost formula = { λ p v. IsExactly (Leaf (plain (Some (codes "fn(var)"))) (int_le p.constant v)) };
+    ghost formula = { λ p v. IsExactly (Leaf (plain (Some (codes "fn(var)")))
+        (int_le p.constant v)) };
 
     ghost infallible = { λ p v. Unit {0} };
 

@@ -21,8 +21,9 @@ impl Word for NumberWord {
     }
 }
 
-// What the predicate of the words answers, of at most two combinators over a predicate that is read.
-// A type of many levels is made in steps, since a call at all of them at once is dear to check.
+// What the predicate of the words answers, of at most two combinators over a predicate that is
+// read. A type of many levels is made in steps, since a call at all of them at once is dear to
+// check.
 fn answer_two<P: FromWords<NumberWord, i64>>(
     alloc: Global,
     words: Vec<NumberWord>,

@@ -40,8 +40,8 @@ pub fn names_member(name: &str) -> bool {
     name == "item" || name == "rule"
 }
 
-// Whether the next children are the members of a list cut down to the set, each with its number; the
-// first of these members has the number `number`.
+// Whether the next children are the members of a list cut down to the set, each with its number;
+// the first of these members has the number `number`.
 #[cycle(shows)]
 fn shows_members(
     set: &[usize],

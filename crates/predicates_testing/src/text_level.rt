@@ -58,9 +58,11 @@ impl<P: fmt::Display> fmt::Display for TextLevel<P> {
 }
 
 impl<P: PredicateReflection> PredicateReflection for TextLevel<P> {
-    ghost parameters_of = { λ p. ⟦<OneOf<Level<P, String>, Viewed<P>> as PredicateReflection>⟧.parameters_of p.node };
+    ghost parameters_of = { λ p.
+        ⟦<OneOf<Level<P, String>, Viewed<P>> as PredicateReflection>⟧.parameters_of p.node };
 
-    ghost children_of = { λ p. ⟦<OneOf<Level<P, String>, Viewed<P>> as PredicateReflection>⟧.children_of p.node };
+    ghost children_of = { λ p.
+        ⟦<OneOf<Level<P, String>, Viewed<P>> as PredicateReflection>⟧.children_of p.node };
 
     fn parameters(&self, alloc: Global) -> Result<Vec<Parameter>, AllocError> {
         self.node.parameters(alloc)
@@ -72,12 +74,14 @@ impl<P: PredicateReflection> PredicateReflection for TextLevel<P> {
 }
 
 impl<P: Predicate<String>> Predicate<String> for TextLevel<P> {
-    ghost lawful = { λ p. ⟦<OneOf<Level<P, String>, Viewed<P>> as Predicate<String>>⟧.lawful p.node };
+    ghost lawful = { λ p. ⟦<OneOf<Level<P, String>, Viewed<P>> as Predicate<String>>⟧.lawful
+        p.node };
 
     ghost formula = { λ p. ⟦<OneOf<Level<P, String>, Viewed<P>> as Predicate<String>>⟧.formula
         p.node };
 
-    ghost infallible = { λ p. ⟦<OneOf<Level<P, String>, Viewed<P>> as Predicate<String>>⟧.infallible p.node };
+    ghost infallible = { λ p. ⟦<OneOf<Level<P, String>, Viewed<P>> as Predicate<String>>⟧.infallible
+        p.node };
 
     ghost text_fits = { λ p v f. text_fits_by_type
         (λ q. ⟦<Level<P, String> as Predicate<String>>⟧.formula q v)

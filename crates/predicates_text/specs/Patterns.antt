@@ -1,10 +1,14 @@
 -- What the tests of texts were made with.
 use Rattle.std.specs.Prelude.{ℕ, List, string_bytes}
 use Rattle.predicates_text.specs.declared.text_test.TextTestPredicate.{TextTestPredicate}
-use Rattle.predicates_text.specs.declared.basics.starts_with.StartsWithPredicate.{StartsWithPredicate}
+use Rattle.predicates_text.specs.declared.basics.starts_with.StartsWithPredicate.{
+  StartsWithPredicate,
+}
 use Rattle.predicates_text.specs.declared.basics.ends_with.EndsWithPredicate.{EndsWithPredicate}
 use Rattle.predicates_text.specs.declared.basics.contains.ContainsPredicate.{ContainsPredicate}
-use Rattle.predicates_text.specs.declared.basics.eq_ignore_case.EqIgnoreCasePredicate.{EqIgnoreCasePredicate}
+use Rattle.predicates_text.specs.declared.basics.eq_ignore_case.EqIgnoreCasePredicate.{
+  EqIgnoreCasePredicate,
+}
 use Rattle.predicates_text.specs.declared.text_count.TextCountPredicate.{TextCountPredicate}
 
 -- the pattern that is looked for

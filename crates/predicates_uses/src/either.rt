@@ -240,8 +240,8 @@ impl<P: Total<Item>, Q: Total<Item>, Item> Total<Item> for Either<P, Q> {
         (Q.has_formula (right_of p) v) };
 }
 
-/// What `Either` means: its formulas are `Or` over a formula of each part. It may be evaluated where
-/// its parts may, and takes no memory where they take none.
+/// What `Either` means: its formulas are `Or` over a formula of each part. It may be evaluated
+/// where its parts may, and takes no memory where they take none.
 pub fn alternatives<P: Predicate<Item>, Q: Predicate<Item>, Item>(
     either: &Either<P, Q>,
     item: &Item,

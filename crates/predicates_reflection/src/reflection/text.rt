@@ -1,7 +1,8 @@
 //! The text of a case.
 ghost use Rattle.std.specs.Prelude.{◌≡◌, ◌+◌, ◌++◌, ◌<◌, ◌^◌, OnOk, IfOk, codes, string_bytes};
 ghost use Rattle.predicates_reflection.specs.Tree.{node_count};
-ghost use Rattle.predicates_reflection.specs.Lines.{indented, verdict, product_line, tree_lines, lines};
+ghost use Rattle.predicates_reflection.specs.Lines.{indented, verdict, product_line, tree_lines};
+ghost use Rattle.predicates_reflection.specs.Lines.{lines};
 
 use crate::reflection::{Case, CaseChild, CaseView, Product};
 use std::alloc::{AllocError, Global};

@@ -64,7 +64,8 @@ impl<P: Predicate<String>> Predicate<Vec<u8>> for ViewPredicate<Utf8View, P> {
 
     ghost infallible = { λ p v. ¬ (IsUtf8 v.items) };
 
-    ghost text_fits = { λ p v f h. decoded_text_fits (text_or_other v) (P.text_fits (inner_of p)) h };
+    ghost text_fits = { λ p v f h. decoded_text_fits (text_or_other v)
+        (P.text_fits (inner_of p)) h };
 
     ghost one_formula = { λ p v f g lawful h k. one_decoded (text_or_other v)
         (λ t x y. P.one_formula (inner_of p) t x y lawful) h k };
