@@ -1,5 +1,5 @@
-//! Tests of what no clause of `predicates_vet_program` says: what the program writes, and with which
-//! status it ends.
+//! Tests of what no clause of `predicates_vet_program` says: what the program writes, and with
+//! which status it ends.
 #![tactic(auto)]
 
 #[cfg(test)]

@@ -54,26 +54,57 @@ fn settings_of(alloc: Global, report: Report, id: Option<&str>) -> Result<Settin
     Ok(Settings { report, id })
 }
 
-// Whether a run over the records writes this, with these counts.
-fn writes(
-    alloc: Global,
+// Rules and records, what a run over them writes, and how many records it reads, finds broken and
+// can't read.
+#[derive(Clone, Copy, Drop)]
+struct Expected<'a> {
     report: Report,
-    id: Option<&str>,
-    rules: &str,
-    records: &[u8],
-    expected: &[u8],
-    (records_read, failed, unreadable): (u64, u64, u64),
-) -> Result<bool, AllocError> {
+    id: Option<&'a str>,
+    rules: &'a str,
+    records: &'a [u8],
+    output: &'a [u8],
+    counts: (u64, u64, u64),
+}
+
+// Whether the run does so.
+fn writes(alloc: Global, expected: Expected<'_>) -> Result<bool, AllocError> {
+    let (records, failed, unreadable) = expected.counts;
     let counts = Counts {
-        records: records_read,
+        records,
         failed,
         unreadable,
     };
-    let settings = settings_of(alloc, report, id)?;
-    match run_of(alloc, &settings, rules.as_bytes(), records) {
-        Ok((output, _, ended)) => Ok(ended == Ok(counts) && output.as_slice() == expected),
+    let settings = settings_of(alloc, expected.report, expected.id)?;
+    match run_of(
+        alloc,
+        &settings,
+        expected.rules.as_bytes(),
+        expected.records,
+    ) {
+        Ok((output, _, ended)) => Ok(ended == Ok(counts) && output.as_slice() == expected.output),
         Err(_) => Ok(false),
     }
+}
+
+// Whether a run over the one record writes the block, which is empty where the record keeps the
+// rules.
+fn writes_block(
+    alloc: Global,
+    report: Report,
+    rules: &str,
+    records: &[u8],
+    output: &[u8],
+) -> Result<bool, AllocError> {
+    let failed = if output.is_empty() { 0 } else { 1 };
+    let expected = Expected {
+        report,
+        id: None,
+        rules,
+        records,
+        output,
+        counts: (1, failed, 0),
+    };
+    writes(alloc, expected)
 }
 
 // A rule, a record, and the lines below the label of its block, or nothing where the record keeps
@@ -99,7 +130,13 @@ const BLOCKS: [(&str, &[u8], &[u8]); 24] = [
     (
         "a: /x < 3",
         b"{\"x\": true}",
-        b"record 1: false\na = false\n  rule: /x < 3 = false\n    - found: true\n    - error: not a number\n",
+        b"\
+record 1: false
+a = false
+  rule: /x < 3 = false
+    - found: true
+    - error: not a number
+",
     ),
     (
         "a: /x != null",
@@ -109,7 +146,13 @@ const BLOCKS: [(&str, &[u8], &[u8]); 24] = [
     (
         "a: /x == true",
         b"{\"x\": \"y\"}",
-        b"record 1: false\na = false\n  rule: /x == true = false\n    - found: \"y\"\n    - error: not true or false\n",
+        b"\
+record 1: false
+a = false
+  rule: /x == true = false
+    - found: \"y\"
+    - error: not true or false
+",
     ),
     ("a: / contains \"\\\"\"", b"\"q\\\"\"", b""),
     (
@@ -121,7 +164,13 @@ const BLOCKS: [(&str, &[u8], &[u8]); 24] = [
     (
         "a: / is_empty",
         b"4",
-        b"record 1: false\na = false\n  rule: / is_empty = false\n    - found: 4\n    - error: not a string, an array or an object\n",
+        b"\
+record 1: false
+a = false
+  rule: / is_empty = false
+    - found: 4
+    - error: not a string, an array or an object
+",
     ),
     (
         "a: / in [1, \"b\", null]",
@@ -131,12 +180,25 @@ const BLOCKS: [(&str, &[u8], &[u8]); 24] = [
     (
         "a: not /x missing",
         b"{}",
-        b"record 1: false\na = false\n  rule: not /x missing = false\n    predicate: /x missing = true\n",
+        b"\
+record 1: false
+a = false
+  rule: not /x missing = false
+    predicate: /x missing = true
+",
     ),
     (
         "a: / < 3 xor / > 1",
         b"2",
-        b"record 1: false\na = false\n  rule: / < 3 xor / > 1 = false\n    part: / < 3 = true\n      - found: 2\n    part: / > 1 = true\n      - found: 2\n",
+        b"\
+record 1: false
+a = false
+  rule: / < 3 xor / > 1 = false
+    part: / < 3 = true
+      - found: 2
+    part: / > 1 = true
+      - found: 2
+",
     ),
     (
         "a: any / (/ == 1)",
@@ -146,12 +208,27 @@ const BLOCKS: [(&str, &[u8], &[u8]); 24] = [
     (
         "a: each / (/ < 3)",
         b"{\"b\": 4, \"a\": 1, \"c\": 5}",
-        b"record 1: false\na = false\n  rule: each / (/ < 3) = false\n    - index: 1\n    item: / < 3 = false\n      - found: 4\n",
+        b"\
+record 1: false
+a = false
+  rule: each / (/ < 3) = false
+    - index: 1
+    item: / < 3 = false
+      - found: 4
+",
     ),
     (
         "a: any / (/ == 1)",
         b"{\"b\": 3, \"a\": 2}",
-        b"record 1: false\na = false\n  rule: any / (/ == 1) = false\n    item: / == 1 = false\n      - found: 2\n    item: / == 1 = false\n      - found: 3\n",
+        b"\
+record 1: false
+a = false
+  rule: any / (/ == 1) = false
+    item: / == 1 = false
+      - found: 2
+    item: / == 1 = false
+      - found: 3
+",
     ),
     (
         "a: any /l (/x == 1)",
@@ -167,36 +244,50 @@ const BLOCKS: [(&str, &[u8], &[u8]); 24] = [
     (
         "a: each /l (any / (/ == 1))",
         b"{\"l\": {\"b\": [1], \"c\": {\"y\": 3, \"x\": 2}, \"a\": {\"x\": 1}}}",
-        b"record 1: false\na = false\n  rule: each /l (any / (/ == 1)) = false\n    - index: 2\n    item: any / (/ == 1) = false\n      item: / == 1 = false\n        - found: 2\n      item: / == 1 = false\n        - found: 3\n",
+        b"\
+record 1: false
+a = false
+  rule: each /l (any / (/ == 1)) = false
+    - index: 2
+    item: any / (/ == 1) = false
+      item: / == 1 = false
+        - found: 2
+      item: / == 1 = false
+        - found: 3
+",
     ),
     (
         "a: each / (each / (/ < 3))",
         b"[{\"b\": 4, \"a\": 1}]",
-        b"record 1: false\na = false\n  rule: each / (each / (/ < 3)) = false\n    - index: 0\n    item: each / (/ < 3) = false\n      - index: 1\n      item: / < 3 = false\n        - found: 4\n",
+        b"\
+record 1: false
+a = false
+  rule: each / (each / (/ < 3)) = false
+    - index: 0
+    item: each / (/ < 3) = false
+      - index: 1
+      item: / < 3 = false
+        - found: 4
+",
     ),
     (
         "a: each / (/ == 1)",
         b"1",
-        b"record 1: false\na = false\n  rule: each / (/ == 1) = false\n    - found: 1\n    - error: not an array or an object\n",
+        b"\
+record 1: false
+a = false
+  rule: each / (/ == 1) = false
+    - found: 1
+    - error: not an array or an object
+",
     ),
 ];
 
 #[test]
 fn blocks_of_records(rt: HostRuntime) -> Result<(), Fail> {
     for (rule, record, block) in BLOCKS {
-        let failed = if block.is_empty() { 0 } else { 1 };
-        assert!(rt;
-            writes(
-                rt.alloc(),
-                Report::First,
-                None,
-                rule,
-                record,
-                block,
-                (1, failed, 0)
-            )?,
-            "{rule}"
-        );
+        let told = writes_block(rt.alloc(), Report::First, rule, record, block)?;
+        assert!(rt; told, "{rule}");
     }
     Ok(())
 }
@@ -207,37 +298,100 @@ const CHANGES: [(&str, &[u8], &[u8]); 13] = [
     (
         "a: /x == 1 and /y == 2 and /z == 3",
         b"{\"x\": 0, \"y\": 2, \"z\": 0}",
-        b"record 1: false\na = false\n  rule: /x == 1 and /y == 2 and /z == 3 = false\n    - index: 0\n    part: /x == 1 = false\n      - found: 0\n      - index: 0\n    part: /z == 3 = false\n      - found: 0\n      - index: 2\n",
+        b"\
+record 1: false
+a = false
+  rule: /x == 1 and /y == 2 and /z == 3 = false
+    - index: 0
+    part: /x == 1 = false
+      - found: 0
+      - index: 0
+    part: /z == 3 = false
+      - found: 0
+      - index: 2
+",
     ),
     (
         "a: / == 1 or / == 2",
         b"3",
-        b"record 1: false\na = false\n  rule: / == 1 or / == 2 = false\n    part: / == 1 = false\n      - found: 3\n      - index: 0\n",
+        b"\
+record 1: false
+a = false
+  rule: / == 1 or / == 2 = false
+    part: / == 1 = false
+      - found: 3
+      - index: 0
+",
     ),
     (
         "a: / < 3 xor / > 1",
         b"2",
-        b"record 1: false\na = false\n  rule: / < 3 xor / > 1 = false\n    part: / < 3 = true\n      - found: 2\n      - index: 0\n",
+        b"\
+record 1: false
+a = false
+  rule: / < 3 xor / > 1 = false
+    part: / < 3 = true
+      - found: 2
+      - index: 0
+",
     ),
     (
         "a: not (/x == 1 and /y == 2)",
         b"{\"x\": 1, \"y\": 2}",
-        b"record 1: false\na = false\n  rule: not (/x == 1 and /y == 2) = false\n    predicate: /x == 1 and /y == 2 = true\n      part: /x == 1 = true\n        - found: 1\n        - index: 0\n",
+        b"\
+record 1: false
+a = false
+  rule: not (/x == 1 and /y == 2) = false
+    predicate: /x == 1 and /y == 2 = true
+      part: /x == 1 = true
+        - found: 1
+        - index: 0
+",
     ),
     (
         "a: not (/x == 1 or /y == 2 or /x == 3)",
         b"{\"x\": 1, \"y\": 2}",
-        b"record 1: false\na = false\n  rule: not (/x == 1 or /y == 2 or /x == 3) = false\n    predicate: /x == 1 or /y == 2 or /x == 3 = true\n      - index: 0\n      part: /x == 1 = true\n        - found: 1\n        - index: 0\n      part: /y == 2 = true\n        - found: 2\n        - index: 1\n",
+        b"\
+record 1: false
+a = false
+  rule: not (/x == 1 or /y == 2 or /x == 3) = false
+    predicate: /x == 1 or /y == 2 or /x == 3 = true
+      - index: 0
+      part: /x == 1 = true
+        - found: 1
+        - index: 0
+      part: /y == 2 = true
+        - found: 2
+        - index: 1
+",
     ),
     (
         "a: each / (/ < 3)",
         b"[1, 4, 5]",
-        b"record 1: false\na = false\n  rule: each / (/ < 3) = false\n    - index: 1\n    item: / < 3 = false\n      - found: 4\n      - index: 1\n    item: / < 3 = false\n      - found: 5\n      - index: 2\n",
+        b"\
+record 1: false
+a = false
+  rule: each / (/ < 3) = false
+    - index: 1
+    item: / < 3 = false
+      - found: 4
+      - index: 1
+    item: / < 3 = false
+      - found: 5
+      - index: 2
+",
     ),
     (
         "a: any / (/ == 1)",
         b"[2, 3]",
-        b"record 1: false\na = false\n  rule: any / (/ == 1) = false\n    item: / == 1 = false\n      - found: 2\n      - index: 0\n",
+        b"\
+record 1: false
+a = false
+  rule: any / (/ == 1) = false
+    item: / == 1 = false
+      - found: 2
+      - index: 0
+",
     ),
     (
         "a: any / (/ == 1)",
@@ -247,39 +401,58 @@ const CHANGES: [(&str, &[u8], &[u8]); 13] = [
     (
         "a: each /l (/ < 3)",
         b"{}",
-        b"record 1: false\na = false\n  rule: each /l (/ < 3) = false\n    - error: nothing at /l\n",
+        b"\
+record 1: false
+a = false
+  rule: each /l (/ < 3) = false
+    - error: nothing at /l
+",
     ),
     (
         "a: each / (/ < 3)",
         b"{\"c\": 5, \"b\": 4, \"a\": 1}",
-        b"record 1: false\na = false\n  rule: each / (/ < 3) = false\n    - index: 1\n    item: / < 3 = false\n      - found: 4\n      - index: 1\n    item: / < 3 = false\n      - found: 5\n      - index: 2\n",
+        b"\
+record 1: false
+a = false
+  rule: each / (/ < 3) = false
+    - index: 1
+    item: / < 3 = false
+      - found: 4
+      - index: 1
+    item: / < 3 = false
+      - found: 5
+      - index: 2
+",
     ),
     (
         "a: any / (/ == 1)",
         b"{\"b\": 3, \"a\": 2}",
-        b"record 1: false\na = false\n  rule: any / (/ == 1) = false\n    item: / == 1 = false\n      - found: 2\n      - index: 0\n",
+        b"\
+record 1: false
+a = false
+  rule: any / (/ == 1) = false
+    item: / == 1 = false
+      - found: 2
+      - index: 0
+",
     ),
     (
         "a: each /l (/ < 3)",
         b"{\"l\": 4}",
-        b"record 1: false\na = false\n  rule: each /l (/ < 3) = false\n    - found: 4\n    - error: not an array or an object\n",
+        b"\
+record 1: false
+a = false
+  rule: each /l (/ < 3) = false
+    - found: 4
+    - error: not an array or an object
+",
     ),
 ];
 
 #[test]
 fn changes_of_records(rt: HostRuntime) -> Result<(), Fail> {
     for (rule, record, block) in CHANGES {
-        let failed = if block.is_empty() { 0 } else { 1 };
-        let counts = (1, failed, 0);
-        let told = writes(
-            rt.alloc(),
-            Report::Change,
-            None,
-            rule,
-            record,
-            block,
-            counts,
-        )?;
+        let told = writes_block(rt.alloc(), Report::Change, rule, record, block)?;
         assert!(rt; told, "{rule}");
     }
     Ok(())
@@ -298,26 +471,20 @@ const LINES: [(&[u8], &[u8], &[u8], (u64, u64, u64)); 5] = [
 #[test]
 fn lines_by_their_rule(rt: HostRuntime) -> Result<(), Fail> {
     for (records, failed, passed, counts) in LINES {
-        let broken = writes(
-            rt.alloc(),
-            Report::Lines(false),
-            None,
-            "a: / == 1",
-            records,
-            failed,
-            counts,
-        )?;
-        assert!(rt; broken, "{records:?}");
-        let kept = writes(
-            rt.alloc(),
-            Report::Lines(true),
-            None,
-            "a: / == 1",
-            records,
-            passed,
-            counts,
-        )?;
-        assert!(rt; kept, "{records:?}");
+        for (report, output) in [
+            (Report::Lines(false), failed),
+            (Report::Lines(true), passed),
+        ] {
+            let expected = Expected {
+                report,
+                id: None,
+                rules: "a: / == 1",
+                records,
+                output,
+                counts,
+            };
+            assert!(rt; writes(rt.alloc(), expected)?, "{records:?}");
+        }
     }
     Ok(())
 }
@@ -325,25 +492,46 @@ fn lines_by_their_rule(rt: HostRuntime) -> Result<(), Fail> {
 const PATTERNS: &str =
     "a: /x matches \"^[A-Z]+$\"\nb: /y matches \"^[0-9]+$\"\nc: /z matches \"^[A-Z]+$\"";
 
-const MATCHED: &[u8] =
-    b"{\"x\": \"A\", \"y\": \"1\", \"z\": \"B\"}\n{\"x\": \"1\", \"y\": \"A\", \"z\": \"1\"}\n{\"x\": \"A\", \"y\": \"A\", \"z\": \"B\"}\n{\"x\": \"A\", \"y\": \"1\", \"z\": \"1\"}\n";
+const MATCHED: &[u8] = b"\
+{\"x\": \"A\", \"y\": \"1\", \"z\": \"B\"}
+{\"x\": \"1\", \"y\": \"A\", \"z\": \"1\"}
+{\"x\": \"A\", \"y\": \"A\", \"z\": \"B\"}
+{\"x\": \"A\", \"y\": \"1\", \"z\": \"1\"}
+";
 
-const UNMATCHED: &[u8] =
-    b"record 2: false\na = false\n  rule: /x matches \"^[A-Z]+$\" = false\n    - found: \"1\"\nb = false\n  rule: /y matches \"^[0-9]+$\" = false\n    - found: \"A\"\nc = false\n  rule: /z matches \"^[A-Z]+$\" = false\n    - found: \"1\"\nrecord 3: false\nb = false\n  rule: /y matches \"^[0-9]+$\" = false\n    - found: \"A\"\nrecord 4: false\nc = false\n  rule: /z matches \"^[A-Z]+$\" = false\n    - found: \"1\"\n";
+const UNMATCHED: &[u8] = b"\
+record 2: false
+a = false
+  rule: /x matches \"^[A-Z]+$\" = false
+    - found: \"1\"
+b = false
+  rule: /y matches \"^[0-9]+$\" = false
+    - found: \"A\"
+c = false
+  rule: /z matches \"^[A-Z]+$\" = false
+    - found: \"1\"
+record 3: false
+b = false
+  rule: /y matches \"^[0-9]+$\" = false
+    - found: \"A\"
+record 4: false
+c = false
+  rule: /z matches \"^[A-Z]+$\" = false
+    - found: \"1\"
+";
 
 // Each pattern of a run answers for itself, on each record.
 #[test]
 fn patterns_of_one_run(rt: HostRuntime) -> Result<(), Fail> {
-    let told = writes(
-        rt.alloc(),
-        Report::All,
-        None,
-        PATTERNS,
-        MATCHED,
-        UNMATCHED,
-        (4, 3, 0),
-    )?;
-    assert!(rt; told);
+    let expected = Expected {
+        report: Report::All,
+        id: None,
+        rules: PATTERNS,
+        records: MATCHED,
+        output: UNMATCHED,
+        counts: (4, 3, 0),
+    };
+    assert!(rt; writes(rt.alloc(), expected)?);
     Ok(())
 }
 
@@ -356,12 +544,28 @@ const REPORTS: [(Report, Option<&str>, &[u8]); 4] = [
     (
         Report::Change,
         Some("/id"),
-        b"record 1 (\"r\"): false\na = false\n  rule: /x == 1 = false\n    - found: 3\nb = false\n  rule: /y == 2 = false\n    - found: 4\n",
+        b"\
+record 1 (\"r\"): false
+a = false
+  rule: /x == 1 = false
+    - found: 3
+b = false
+  rule: /y == 2 = false
+    - found: 4
+",
     ),
     (
         Report::All,
         None,
-        b"record 1: false\na = false\n  rule: /x == 1 = false\n    - found: 3\nb = false\n  rule: /y == 2 = false\n    - found: 4\n",
+        b"\
+record 1: false
+a = false
+  rule: /x == 1 = false
+    - found: 3
+b = false
+  rule: /y == 2 = false
+    - found: 4
+",
     ),
     (
         Report::First,
@@ -377,11 +581,16 @@ const REPORTS: [(Report, Option<&str>, &[u8]); 4] = [
 
 #[test]
 fn reports_on_records(rt: HostRuntime) -> Result<(), Fail> {
-    for (report, id, expected) in REPORTS {
-        assert!(rt;
-            writes(rt.alloc(), report, id, RULES, RECORDS, expected, (2, 1, 0))?,
-            "{report:?}"
-        );
+    for (report, id, output) in REPORTS {
+        let expected = Expected {
+            report,
+            id,
+            rules: RULES,
+            records: RECORDS,
+            output,
+            counts: (2, 1, 0),
+        };
+        assert!(rt; writes(rt.alloc(), expected)?, "{report:?}");
     }
     Ok(())
 }
@@ -417,7 +626,8 @@ const REFUSED: [(&str, &str); 8] = [
     ),
     (
         "a: / exists or not / matches \"b{2,1}\"",
-        "line 1, rule a: no regular expression: invalid repetition count range, the start must be <= the end at character 2: b{2,1}",
+        "line 1, rule a: no regular expression: invalid repetition count range, the start must be \
+         <= the end at character 2: b{2,1}",
     ),
     (
         "a: / matches \"(?:a{1000}){1000}\"",

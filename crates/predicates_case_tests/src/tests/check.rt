@@ -175,7 +175,11 @@ fn expectations(rt: HostRuntime) -> Result<(), Fail> {
     let failures = failures_of_names(rt.alloc())?;
     assert_eq!(rt;
         failures.as_str(),
-        "second: var.starts_with(\"A\") = false\n  - var: Bob\nthird: var.starts_with(\"A\") = false\n  - var: \n"
+        "\
+second: var.starts_with(\"A\") = false
+  - var: Bob
+third: var.starts_with(\"A\") = false
+  - var: \n"
     );
     Ok(())
 }

@@ -90,7 +90,14 @@ const MARKED: [(bool, &[u8], &[u8], &str); 6] = [
         false,
         b"a#\nb\n#",
         b"b\n",
-        "line 1: true\nvar.contains(#) = true\n  - var: a#\nline 3: true\nvar.contains(#) = true\n  - var: #\n",
+        "\
+line 1: true
+var.contains(#) = true
+  - var: a#
+line 3: true
+var.contains(#) = true
+  - var: #
+",
     ),
     (
         false,

@@ -11,8 +11,14 @@ use std::io::ErrorKind;
 use std::test::Fail;
 
 /// The block of 7 between 5 and 10.
-pub const SEVEN: &str =
-    "7: true\n(var >= 5 && var <= 10) = true\n  left: var >= 5 = true\n    - var: 7\n  right: var <= 10 = true\n    - var: 7\n";
+pub const SEVEN: &str = "\
+7: true
+(var >= 5 && var <= 10) = true
+  left: var >= 5 = true
+    - var: 7
+  right: var <= 10 = true
+    - var: 7
+";
 
 const ELEVEN: &str =
     "11: false\n(var >= 5 && var <= 10) = false\n  right: var <= 10 = false\n    - var: 11\n";
@@ -21,11 +27,25 @@ const ZERO: &str =
     "0: false\n(var >= 5 && var <= 10) = false\n  left: var >= 5 = false\n    - var: 0\n";
 
 // Two lines, the second of them cut short.
-const CUT: &str =
-    "7: true\n(var >= 5 && var <= 10) = true\n  left: var >= 5 = true\n    - var: 7\n  right: var <= 10 = true\n    - var: 7\n1: false\n(var >= 5 && var <= 10) = false\n  left: var >= 5 = false\n    - var: 1\n";
+const CUT: &str = "\
+7: true
+(var >= 5 && var <= 10) = true
+  left: var >= 5 = true
+    - var: 7
+  right: var <= 10 = true
+    - var: 7
+1: false
+(var >= 5 && var <= 10) = false
+  left: var >= 5 = false
+    - var: 1
+";
 
-const LEAST: &str =
-    "-9223372036854775808: false\n(var >= 5 && var <= 10) = false\n  left: var >= 5 = false\n    - var: -9223372036854775808\n";
+const LEAST: &str = "\
+-9223372036854775808: false
+(var >= 5 && var <= 10) = false
+  left: var >= 5 = false
+    - var: -9223372036854775808
+";
 
 // Inputs, what is written for them between 5 and 10, and whether every line is an item.
 const ROWS: [(&str, &str, bool); 14] = [
@@ -95,8 +115,19 @@ fn one_byte_at_a_time(rt: HostRuntime) {
 // A line of bytes that are no text, between two numbers, the second of them cut short.
 #[test]
 fn a_line_that_is_no_text(rt: HostRuntime) {
-    let expected =
-        "7: false\n(var >= 1 && var <= 1) = false\n  right: var <= 1 = false\n    - var: 7\nline 2: not a number\n1: true\n(var >= 1 && var <= 1) = true\n  left: var >= 1 = true\n    - var: 1\n  right: var <= 1 = true\n    - var: 1\n";
+    let expected = "\
+7: false
+(var >= 1 && var <= 1) = false
+  right: var <= 1 = false
+    - var: 7
+line 2: not a number
+1: true
+(var >= 1 && var <= 1) = true
+  left: var >= 1 = true
+    - var: 1
+  right: var <= 1 = true
+    - var: 1
+";
     assert!(rt; answers(rt.alloc(), (1, 1), b"7\n\xff7\n1", false, expected));
 }
 
@@ -120,11 +151,23 @@ fn flags_change_no_fault(rt: HostRuntime) -> Result<(), Fail> {
     Ok(())
 }
 
-const LEAST_OF_ALL: &str =
-    "-9223372036854775808: true\n(var >= -9223372036854775808 && var <= 9223372036854775807) = true\n  left: var >= -9223372036854775808 = true\n    - var: -9223372036854775808\n  right: var <= 9223372036854775807 = true\n    - var: -9223372036854775808\n";
+const LEAST_OF_ALL: &str = "\
+-9223372036854775808: true
+(var >= -9223372036854775808 && var <= 9223372036854775807) = true
+  left: var >= -9223372036854775808 = true
+    - var: -9223372036854775808
+  right: var <= 9223372036854775807 = true
+    - var: -9223372036854775808
+";
 
-const GREATEST_OF_ALL: &str =
-    "9223372036854775807: true\n(var >= -9223372036854775808 && var <= 9223372036854775807) = true\n  left: var >= -9223372036854775808 = true\n    - var: 9223372036854775807\n  right: var <= 9223372036854775807 = true\n    - var: 9223372036854775807\n";
+const GREATEST_OF_ALL: &str = "\
+9223372036854775807: true
+(var >= -9223372036854775808 && var <= 9223372036854775807) = true
+  left: var >= -9223372036854775808 = true
+    - var: 9223372036854775807
+  right: var <= 9223372036854775807 = true
+    - var: 9223372036854775807
+";
 
 // Bounds, inputs, and what is written for them: no number lies between, one, and all.
 const BOUNDS: [(i64, i64, &str, &str); 5] = [
@@ -144,7 +187,14 @@ const BOUNDS: [(i64, i64, &str, &str); 5] = [
         7,
         7,
         "7",
-        "7: true\n(var >= 7 && var <= 7) = true\n  left: var >= 7 = true\n    - var: 7\n  right: var <= 7 = true\n    - var: 7\n",
+        "\
+7: true
+(var >= 7 && var <= 7) = true
+  left: var >= 7 = true
+    - var: 7
+  right: var <= 7 = true
+    - var: 7
+",
     ),
     (i64::MIN, i64::MAX, "-9223372036854775808", LEAST_OF_ALL),
     (i64::MIN, i64::MAX, "9223372036854775807", GREATEST_OF_ALL),

@@ -13,8 +13,11 @@ const REFUSED: &str = "explain: pattern refused\n";
 
 const DEEP: &str = "explain: check nested too deep\n";
 
-const BLANK: &str =
-    "line 1: true\n(var.is_empty() || var.contains(a)) = true\n  left: var.is_empty() = true\n    - var: \n";
+const BLANK: &str = "\
+line 1: true
+(var.is_empty() || var.contains(a)) = true
+  left: var.is_empty() = true
+    - var: \n";
 
 // The words, parted by `|`.
 fn split_words(alloc: Global, line: &[u8]) -> Result<Vec<Vec<u8>>, AllocError> {

@@ -131,8 +131,8 @@ fn is_found(alloc: Global, stack: &[TextCheck], text: &str, verdict: bool) -> Re
 }
 
 // What the check of all these words prints.
-const ALL: &str =
-    "(var == \"Hello\" || (var.starts_with(\"He\") || (! (var.ends_with(\"lo\") && (var.contains(ll) && var.is_match(^H))))))";
+const ALL: &str = "(var == \"Hello\" || (var.starts_with(\"He\") || (! (var.ends_with(\"lo\") && \
+    (var.contains(ll) && var.is_match(^H))))))";
 
 // The stack of the words.
 fn stack_of_each(alloc: Global) -> Result<Vec<TextCheck>, WordFault> {

@@ -1,4 +1,5 @@
-//! How often leaves are evaluated where what would turn a verdict is sought, which no contract says.
+//! How often leaves are evaluated where what would turn a verdict is sought, which no contract
+//! says.
 use predicates::constant::{BooleanPredicate, always, never};
 use predicates::prelude::*;
 use predicates_testing::Counting;

@@ -19,8 +19,9 @@ fn four_nodes(alloc: Global) -> Result<Case, AllocError> {
 
 const FOUR_NODES: &str = "{\"children\":[\
 {\"case\":{\"children\":[],\"products\":[],\"result\":true,\"text\":\"l\"},\"name\":\"left\"},\
-{\"case\":{\"children\":[{\"case\":{\"children\":[],\"products\":[],\"result\":true,\"text\":\"r\"},\
-\"name\":\"predicate\"}],\"products\":[],\"result\":false,\"text\":\"(! r)\"},\"name\":\"right\"}],\
+{\"case\":{\"children\":[{\"case\":{\"children\":[],\"products\":[],\"result\":true,\
+\"text\":\"r\"},\"name\":\"predicate\"}],\"products\":[],\"result\":false,\"text\":\"(! r)\"},\
+\"name\":\"right\"}],\
 \"products\":[{\"name\":\"a\",\"value\":\"\\\"\"},{\"name\":\"b\",\"value\":\"\"}],\
 \"result\":true,\"text\":null}";
 

@@ -1,11 +1,14 @@
 //! Checks whose shape comes at run time.
-ghost use Rattle.std.specs.Prelude.{Some, [], ◌∷◌, codes};
+ghost use Rattle.std.specs.Prelude.{◌≡◌, None, Some, [], ◌∷◌, codes, if◌then◌else◌, nat_eq, refl};
+ghost use Rattle.predicates_core.specs.Label.{value_of};
 
 use super::makers_without_memory::holds;
+use predicates::custom::absent_case;
 use predicates::ord::{OrdPredicate, ge, le, lt};
+use predicates::reflection::Case;
 use predicates::{PredicateChange, Total};
-use predicates_dynamic::{Check, Members};
-use predicates_sweep::Memory::Taken;
+use predicates_dynamic::{Check, Listed, Members, NoContext, View};
+use predicates_sweep::Memory::{Never, Taken};
 use predicates_sweep::{
     Answer, Call, Rendered, Row, Without, leaf, over, refusing, sweep, sweep_calls,
 };
@@ -320,8 +323,8 @@ fn texts_of_checks(rt: HostRuntime) -> Result<(), Fail> {
         Taken,
     )?;
     let check = threshold_of_members(rt.alloc())?;
-    let expected =
-        "at_least(1, each only (var <= 5), odd_of(any only (var >= 9), at_least 2 only (var >= 5)))";
+    let expected = "at_least(1, each only (var <= 5), odd_of(any only (var >= 9), \
+        at_least 2 only (var >= 5)))";
     sweep(
         &rt,
         "the text of a Check of members",
@@ -329,4 +332,95 @@ fn texts_of_checks(rt: HostRuntime) -> Result<(), Fail> {
         expected,
         Taken,
     )
+}
+
+// The item, twice, in a list that is made for the call; 0 has none.
+#[derive(Clone, Copy)]
+struct Twice;
+
+impl fmt::Display for Twice {
+    ghost output = { λ _. Some (codes "twice ") };
+
+    fn fmt<W: fmt::Write>(&self, f: &mut fmt::Formatter<W>) -> fmt::Result {
+        f.write_str("twice ")
+    }
+}
+
+impl View<u32> for Twice {
+    type Kept = Vec<u32>;
+
+    ghost gives = { λ _ n o. o ≡ (if nat_eq n 0 then None else Some (n ∷ n ∷ [])) };
+
+    ghost given = { λ _ n. (if nat_eq n 0 then None else Some (n ∷ n ∷ []), refl) };
+
+    ghost lends = { λ _ _. ⊥ };
+
+    ghost absence_of = { λ _ _. value_of (codes "error") (Some (codes "none")) };
+
+    fn list<'i>(
+        &self,
+        alloc: Global,
+        item: &'i u32,
+    ) -> Result<Option<Listed<'i, u32, Vec<u32>>>, AllocError> {
+        if *item == 0 {
+            return Ok(None);
+        }
+        let mut members = Vec::new(alloc);
+        members.push(*item)?;
+        members.push(*item)?;
+        Ok(Some(Listed::Kept(members)))
+    }
+
+    fn absent_case<W: fmt::Display>(
+        &self,
+        alloc: Global,
+        whole: &W,
+        _item: &u32,
+    ) -> Result<Case, AllocError> {
+        absent_case(alloc, whole, "none")
+    }
+}
+
+type Listing = Check<OrdPredicate<u32>, Twice>;
+
+// A verdict with what a run keeps, which is nothing here.
+#[derive(Drop)]
+struct Asking<'a> {
+    check: &'a Listing,
+    item: u32,
+}
+
+impl Call for Asking<'_> {
+    type Operand = ();
+
+    type Answer = Answer;
+
+    fn operand(&self, _alloc: Global) -> Result<(), AllocError> {
+        Ok(())
+    }
+
+    #[tactic(auto, using(predicates_dynamic::specs::Laws::all_leaves))]
+    fn call(&self, alloc: Global, _operand: ()) -> Result<Answer, AllocError> {
+        let holds = self.check.eval_with(alloc, &mut NoContext, &self.item)?;
+        Ok(Answer::Verdict(holds))
+    }
+}
+
+#[test]
+fn verdicts_over_lists_that_are_made(rt: HostRuntime) -> Result<(), Fail> {
+    let alloc = rt.alloc();
+    let leaf: Listing = Check::leaf_beside_members(ge(5));
+    let check = leaf.of_each(alloc, Twice)?;
+    for (item, expected) in [(7, "true"), (4, "false")] {
+        let asking = Asking {
+            check: &check,
+            item,
+        };
+        sweep(&rt, "Check::eval_with", &asking, expected, Taken)?;
+    }
+    let asking = Asking {
+        check: &check,
+        item: 0,
+    };
+    sweep(&rt, "Check::eval_with of no list", &asking, "false", Never)
 }

@@ -85,8 +85,8 @@ impl Call for OverALeaf {
 }
 
 const NODE: &str = "{\"children\":[{\"case\":{\"children\":[],\
-\"products\":[{\"name\":\"a\",\"value\":\"1\"}],\"result\":true,\"text\":\"l\"},\"name\":\"left\"}],\
-\"products\":[],\"result\":false,\"text\":null}";
+\"products\":[{\"name\":\"a\",\"value\":\"1\"}],\"result\":true,\"text\":\"l\"},\
+\"name\":\"left\"}],\"products\":[],\"result\":false,\"text\":null}";
 
 #[test]
 fn cases(rt: HostRuntime) -> Result<(), Fail> {

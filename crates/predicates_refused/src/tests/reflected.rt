@@ -75,8 +75,18 @@ fn cases(rt: HostRuntime) -> Result<(), Fail> {
         expected,
         Taken,
     )?;
-    let expected =
-        "a = true\n  - var: 7\n  left: b = true\n    - var: 7\n  right: c = true\n    - var: 7\n    part: predicate = true\n    part: predicate = true\n    part: predicate = true\n    part: predicate = true\n";
+    let expected = "\
+a = true
+  - var: 7
+  left: b = true
+    - var: 7
+  right: c = true
+    - var: 7
+    part: predicate = true
+    part: predicate = true
+    part: predicate = true
+    part: predicate = true
+";
     sweep(
         &rt,
         "add_child beside another",

@@ -189,7 +189,14 @@ const FAILING: [(&str, Failing, &str); 4] = [
     (
         "failures",
         Failing::Rules,
-        "var >= 10 = false\n  - var: 7\nvar >= 20 = false\n  - var: 7\nvar <= 5 = false\n  - var: 7\n",
+        "\
+var >= 10 = false
+  - var: 7
+var >= 20 = false
+  - var: 7
+var <= 5 = false
+  - var: 7
+",
     ),
     (
         "sift",

@@ -9,8 +9,11 @@ use std::io::ErrorKind;
 use std::process::Abort;
 use std::test::Fail;
 
-const BLANK: &str =
-    "line 1: true\n(var.is_empty() || var.contains(a)) = true\n  left: var.is_empty() = true\n    - var: \n";
+const BLANK: &str = "\
+line 1: true
+(var.is_empty() || var.contains(a)) = true
+  left: var.is_empty() = true
+    - var: \n";
 
 // A run over numbers between 5 and 10, or over texts by the check; or, with the wanted verdict, a
 // filter by it.

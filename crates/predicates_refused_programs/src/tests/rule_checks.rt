@@ -35,20 +35,32 @@ fn calls_of_checks_of_records(rt: HostRuntime) -> Result<(), Fail> {
     let rule = rule_of(rt.alloc(), b"a: /x == 1 or /x == 2")?;
     let record = Value::from_str(rt.alloc(), "{\"x\": 3}")?;
     let memory = [Never, Taken, Perhaps];
-    let lines =
-        "/x == 1 or /x == 2 = false\n  part: /x == 1 = false\n    - found: 3\n  part: /x == 2 = false\n    - found: 3\n";
+    let lines = "\
+/x == 1 or /x == 2 = false
+  part: /x == 1 = false
+    - found: 3
+  part: /x == 2 = false
+    - found: 3
+";
     sweep_calls(
         &rt,
         &rule.check,
         &record,
         row("Check", false, lines, memory),
     )?;
-    let lines =
-        "a = false\n  rule: /x == 1 or /x == 2 = false\n    part: /x == 1 = false\n      - found: 3\n    part: /x == 2 = false\n      - found: 3\n";
+    let lines = "\
+a = false
+  rule: /x == 1 or /x == 2 = false
+    part: /x == 1 = false
+      - found: 3
+    part: /x == 2 = false
+      - found: 3
+";
     sweep_calls(&rt, &rule, &record, row("RuleCheck", false, lines, memory))
 }
 
-// A name, a rule, a record, the verdict, the lines of the case, and what each call does with memory.
+// A name, a rule, a record, the verdict, the lines of the case, and what each call does with
+// memory.
 const RULES: [(&str, &[u8], &str, bool, &str, [Memory; 3]); 2] = [
     (
         "RuleCheck with a pattern",
@@ -63,7 +75,12 @@ const RULES: [(&str, &[u8], &str, bool, &str, [Memory; 3]); 2] = [
         b"a: keys / in [\"x\"]",
         "{\"y\": 1}",
         false,
-        "a = false\n  rule: keys / in [\"x\"] = false\n    - found: {\"y\":1}\n    - other key: \"y\"\n",
+        "\
+a = false
+  rule: keys / in [\"x\"] = false
+    - found: {\"y\":1}
+    - other key: \"y\"
+",
         [Never, Taken, Perhaps],
     ),
 ];

@@ -98,7 +98,10 @@ impl Call for Finding<'_> {
 const READ: [(&str, &[u8], &str); 4] = [
     (
         "read_rules",
-        b"a: /x >= 1.5 and (/y in [1, \"b\"] or not /z is text) # c\n\n\"b c\": each /l (/q missing)",
+        b"\
+a: /x >= 1.5 and (/y in [1, \"b\"] or not /z is text) # c
+
+\"b c\": each /l (/q missing)",
         "a: /x >= 1.5 and (/y in [1, \"b\"] or not /z is text)\nb c: each /l (/q missing)\n",
     ),
     (
@@ -109,7 +112,8 @@ const READ: [(&str, &[u8], &str); 4] = [
     (
         "read_rules of a misspelt word",
         b"a: / exist",
-        "line 1, column 6: expected a word, an operator, a path or a literal, found `exist`; did you mean `exists`?",
+        "line 1, column 6: expected a word, an operator, a path or a literal, found `exist`; \
+         did you mean `exists`?",
     ),
     ("read_rules of no rule", b"# c", ""),
 ];
@@ -126,7 +130,11 @@ const FOUND: [(&str, &[u8], &str); 2] = [
     (
         "read_faults",
         b"a: /b = 1\nb: /c exists\nc: / exist",
-        "line 1, column 7: expected a word, an operator, a path or a literal, found `=`; did you mean `==`?\nline 3, column 6: expected a word, an operator, a path or a literal, found `exist`; did you mean `exists`?\n",
+        "\
+line 1, column 7: expected a word, an operator, a path or a literal, found `=`; did you mean `==`?
+line 3, column 6: expected a word, an operator, a path or a literal, found `exist`; \
+    did you mean `exists`?
+",
     ),
     ("read_faults of no fault", b"a: / exists", ""),
 ];

@@ -10,12 +10,32 @@ use std::alloc::{AllocError, Global};
 use std::test::Fail;
 
 /// What is written for 7, 11 and 4 between 5 and 10.
-pub const NUMBERS: &str =
-    "7: true\n(var >= 5 && var <= 10) = true\n  left: var >= 5 = true\n    - var: 7\n  right: var <= 10 = true\n    - var: 7\n11: false\n(var >= 5 && var <= 10) = false\n  right: var <= 10 = false\n    - var: 11\n4: false\n(var >= 5 && var <= 10) = false\n  left: var >= 5 = false\n    - var: 4\n";
+pub const NUMBERS: &str = "\
+7: true
+(var >= 5 && var <= 10) = true
+  left: var >= 5 = true
+    - var: 7
+  right: var <= 10 = true
+    - var: 7
+11: false
+(var >= 5 && var <= 10) = false
+  right: var <= 10 = false
+    - var: 11
+4: false
+(var >= 5 && var <= 10) = false
+  left: var >= 5 = false
+    - var: 4
+";
 
 /// What is written for 7 alone.
-pub const SEVEN: &str =
-    "7: true\n(var >= 5 && var <= 10) = true\n  left: var >= 5 = true\n    - var: 7\n  right: var <= 10 = true\n    - var: 7\n";
+pub const SEVEN: &str = "\
+7: true
+(var >= 5 && var <= 10) = true
+  left: var >= 5 = true
+    - var: 7
+  right: var <= 10 = true
+    - var: 7
+";
 
 // The block of 7 between 5 and 10; over predicates of any kind, or such as have a formula on each
 // item.
@@ -123,7 +143,12 @@ const TEXTS: [(&[&str], &[u8], &str, Memory); 4] = [
     (
         &["empty", "trim", "contains=a", "or"],
         b"  \n",
-        "true\nline 1: true\n(var.is_empty() || var.contains(a)) = true\n  left: var.is_empty() = true\n    - var: \n",
+        "\
+true
+line 1: true
+(var.is_empty() || var.contains(a)) = true
+  left: var.is_empty() = true
+    - var: \n",
         Taken,
     ),
     (

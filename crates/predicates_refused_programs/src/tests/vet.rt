@@ -158,7 +158,17 @@ const RUNS: [(&str, &[u8], Report, Option<&str>, &[u8], &str, Memory); 10] = [
         Report::First,
         None,
         RECORDS,
-        "false\nrecord 1: false\na = false\n  rule: /x == 1 or /x == 2 = false\n    part: /x == 1 = false\n      - found: 3\n    part: /x == 2 = false\n      - found: 3\nvet: record 3: not JSON: EOF while parsing at line 1 column 2\n",
+        "\
+false
+record 1: false
+a = false
+  rule: /x == 1 or /x == 2 = false
+    part: /x == 1 = false
+      - found: 3
+    part: /x == 2 = false
+      - found: 3
+vet: record 3: not JSON: EOF while parsing at line 1 column 2
+",
         Taken,
     ),
     (
@@ -167,7 +177,21 @@ const RUNS: [(&str, &[u8], Report, Option<&str>, &[u8], &str, Memory); 10] = [
         Report::All,
         Some("/x"),
         b"{\"x\": 3, \"l\": [1, 4]}",
-        "false\nrecord 1 (3): false\na = false\n  rule: /x == 1 or /x == 2 = false\n    part: /x == 1 = false\n      - found: 3\n    part: /x == 2 = false\n      - found: 3\nb = false\n  rule: each /l (/ < 3) = false\n    - index: 1\n    item: / < 3 = false\n      - found: 4\n",
+        "\
+false
+record 1 (3): false
+a = false
+  rule: /x == 1 or /x == 2 = false
+    part: /x == 1 = false
+      - found: 3
+    part: /x == 2 = false
+      - found: 3
+b = false
+  rule: each /l (/ < 3) = false
+    - index: 1
+    item: / < 3 = false
+      - found: 4
+",
         Taken,
     ),
     (
@@ -176,7 +200,24 @@ const RUNS: [(&str, &[u8], Report, Option<&str>, &[u8], &str, Memory); 10] = [
         Report::Change,
         None,
         b"{\"x\": 3, \"l\": [4, 1, 5]}",
-        "false\nrecord 1: false\na = false\n  rule: /x == 1 or /x == 2 = false\n    part: /x == 1 = false\n      - found: 3\n      - index: 0\nb = false\n  rule: each /l (/ < 3) = false\n    - index: 0\n    item: / < 3 = false\n      - found: 4\n      - index: 0\n    item: / < 3 = false\n      - found: 5\n      - index: 2\n",
+        "\
+false
+record 1: false
+a = false
+  rule: /x == 1 or /x == 2 = false
+    part: /x == 1 = false
+      - found: 3
+      - index: 0
+b = false
+  rule: each /l (/ < 3) = false
+    - index: 0
+    item: / < 3 = false
+      - found: 4
+      - index: 0
+    item: / < 3 = false
+      - found: 5
+      - index: 2
+",
         Taken,
     ),
     (
@@ -206,7 +247,12 @@ const RUNS: [(&str, &[u8], Report, Option<&str>, &[u8], &str, Memory); 10] = [
         },
         Some("/x"),
         b"{\"x\": 3}",
-        "false\n{\"record\":3,\"holds\":false,\"case\":{\"text\":\"a\",\"result\":false,\"products\":[],\"children\":[{\"name\":\"rule\",\"case\":{\"text\":\"/x == 1\",\"result\":false,\"products\":[{\"name\":\"found\",\"value\":3}],\"children\":[]}}]}}\n",
+        "\
+false
+{\"record\":3,\"holds\":false,\"case\":{\"text\":\"a\",\"result\":false,\"products\":[],\
+    \"children\":[{\"name\":\"rule\",\"case\":{\"text\":\"/x == 1\",\"result\":false,\
+    \"products\":[{\"name\":\"found\",\"value\":3}],\"children\":[]}}]}}
+",
         Taken,
     ),
     (
@@ -227,7 +273,13 @@ const RUNS: [(&str, &[u8], Report, Option<&str>, &[u8], &str, Memory); 10] = [
         Report::GitHub { all: true },
         Some("/x"),
         b"{\"x\": 3, \"l\": [1, 4]}",
-        "false\n::error title=a::record 1 (3): false%0Aa = false%0A  rule: /x == 1 or /x == 2 = false%0A    part: /x == 1 = false%0A      - found: 3%0A    part: /x == 2 = false%0A      - found: 3\n::error title=b::record 1 (3): false%0Ab = false%0A  rule: each /l (/ < 3) = false%0A    - index: 1%0A    item: / < 3 = false%0A      - found: 4\n",
+        "\
+false
+::error title=a::record 1 (3): false%0Aa = false%0A  rule: /x == 1 or /x == 2 = false\
+    %0A    part: /x == 1 = false%0A      - found: 3%0A    part: /x == 2 = false%0A      - found: 3
+::error title=b::record 1 (3): false%0Ab = false%0A  rule: each /l (/ < 3) = false%0A    - index: 1\
+    %0A    item: / < 3 = false%0A      - found: 4
+",
         Taken,
     ),
     (
@@ -275,7 +327,12 @@ const VALUES: [(&str, &[u8], &str); 2] = [
     (
         "run_records: an array that is not closed",
         b"{\"x\": 2} [{\"x\": 1},",
-        "false\n{\"x\": 2}\n{\"x\": 1}\nvet: record 3: not JSON: EOF while parsing at line 1 column 1\n",
+        "\
+false
+{\"x\": 2}
+{\"x\": 1}
+vet: record 3: not JSON: EOF while parsing at line 1 column 1
+",
     ),
 ];
 

@@ -21,7 +21,8 @@ const ROWS: [Row; 20] = [
     (
         &[b"vet", b"--format", b"github", b"rules", b"one"],
         1,
-        "::error file=one,line=2,title=a%2C b%3A 5%25::a, b: 5%25 = false%0A  rule: / == 1 = false%0A    - found: 4\n",
+        "::error file=one,line=2,title=a%2C b%3A 5%25::a, b: 5%25 = false%0A  rule: / == 1 = false\
+         %0A    - found: 4\n",
         "2 records, 1 failed\n",
     ),
     // Standard input has none.
@@ -35,7 +36,13 @@ const ROWS: [Row; 20] = [
             b"rules",
         ],
         1,
-        "::error title=a%2C b%3A 5%25::record 1: false%0Aa, b: 5%25 = false%0A  rule: / == 1 = false%0A    - found: 2\n::error title=a%2C b%3A 5%25::record 3: false%0Aa, b: 5%25 = false%0A  rule: / == 1 = false%0A    - found: 5\n::error title=c::record 3: false%0Ac = false%0A  rule: / < 3 = false%0A    - found: 5\n",
+        "\
+::error title=a%2C b%3A 5%25::record 1: false%0Aa, b: 5%25 = false%0A  rule: / == 1 = false\
+    %0A    - found: 2
+::error title=a%2C b%3A 5%25::record 3: false%0Aa, b: 5%25 = false%0A  rule: / == 1 = false\
+    %0A    - found: 5
+::error title=c::record 3: false%0Ac = false%0A  rule: / < 3 = false%0A    - found: 5
+",
         "3 records, 2 failed\n",
     ),
     // Of a value in a file no line is known.
@@ -50,7 +57,8 @@ const ROWS: [Row; 20] = [
             b"one",
         ],
         1,
-        "::error file=one,title=a%2C b%3A 5%25::one:2: false%0Aa, b: 5%25 = false%0A  rule: / == 1 = false%0A    - found: 4\n",
+        "::error file=one,title=a%2C b%3A 5%25::one:2: false%0Aa, b: 5%25 = false\
+         %0A  rule: / == 1 = false%0A    - found: 4\n",
         "2 records, 1 failed\n",
     ),
     // A label, a name with signs that have a meaning, and standard input among files.
@@ -66,8 +74,18 @@ const ROWS: [Row; 20] = [
             b"-",
         ],
         2,
-        "::error file=d%2Ce%3Af%25,line=2,title=a%2C b%3A 5%25::d,e:f%25:2 (2): false%0Aa, b: 5%25 = false%0A  rule: / == 1 = false%0A    - found: 2\n::error title=a%2C b%3A 5%25::record 1 (2): false%0Aa, b: 5%25 = false%0A  rule: / == 1 = false%0A    - found: 2\n::error title=a%2C b%3A 5%25::record 3 (5): false%0Aa, b: 5%25 = false%0A  rule: / == 1 = false%0A    - found: 5\n",
-        "vet: d,e:f%:1: not JSON: EOF while parsing at line 2 column 0\n4 records, 3 failed, 1 line unreadable\n",
+        "\
+::error file=d%2Ce%3Af%25,line=2,title=a%2C b%3A 5%25::d,e:f%25:2 (2): false%0Aa, b: 5%25 = false\
+    %0A  rule: / == 1 = false%0A    - found: 2
+::error title=a%2C b%3A 5%25::record 1 (2): false%0Aa, b: 5%25 = false%0A  rule: / == 1 = false\
+    %0A    - found: 2
+::error title=a%2C b%3A 5%25::record 3 (5): false%0Aa, b: 5%25 = false%0A  rule: / == 1 = false\
+    %0A    - found: 5
+",
+        "\
+vet: d,e:f%:1: not JSON: EOF while parsing at line 2 column 0
+4 records, 3 failed, 1 line unreadable
+",
     ),
     // Of a record that keeps every rule, nothing.
     (
@@ -81,14 +99,36 @@ const ROWS: [Row; 20] = [
             b"-",
         ],
         1,
-        "::error title=a%2C b%3A 5%25::record 1: false%0Aa, b: 5%25 = false%0A  rule: / == 1 = false%0A    - found: 2\n::error title=a%2C b%3A 5%25::record 3: false%0Aa, b: 5%25 = false%0A  rule: / == 1 = false%0A    - found: 5\n",
+        "\
+::error title=a%2C b%3A 5%25::record 1: false%0Aa, b: 5%25 = false%0A  rule: / == 1 = false\
+    %0A    - found: 2
+::error title=a%2C b%3A 5%25::record 3: false%0Aa, b: 5%25 = false%0A  rule: / == 1 = false\
+    %0A    - found: 5
+",
         "2\t##\ta, b: 5%\n1\t#\tc\n3 records, 2 failed\n",
     ),
     // A document of one file, whose name stands nowhere.
     (
         &[b"vet", b"--format", b"junit", b"rules", b"one"],
         1,
-        "<?xml version=\"1.0\" encoding=\"UTF-8\"?>\n<testsuites>\n<testsuite name=\"rules\" tests=\"2\" failures=\"2\" errors=\"0\">\n<testcase name=\"a, b: 5%\" classname=\"vet\"><failure message=\"1 record breaks it\">record 2: false\na, b: 5% = false\n  rule: / == 1 = false\n    - found: 4\n</failure></testcase>\n<testcase name=\"c\" classname=\"vet\"><failure message=\"1 record breaks it\">record 2: false\nc = false\n  rule: / &lt; 3 = false\n    - found: 4\n</failure></testcase>\n</testsuite>\n</testsuites>\n",
+        "\
+<?xml version=\"1.0\" encoding=\"UTF-8\"?>
+<testsuites>
+<testsuite name=\"rules\" tests=\"2\" failures=\"2\" errors=\"0\">
+<testcase name=\"a, b: 5%\" classname=\"vet\">\
+    <failure message=\"1 record breaks it\">record 2: false
+a, b: 5% = false
+  rule: / == 1 = false
+    - found: 4
+</failure></testcase>
+<testcase name=\"c\" classname=\"vet\"><failure message=\"1 record breaks it\">record 2: false
+c = false
+  rule: / &lt; 3 = false
+    - found: 4
+</failure></testcase>
+</testsuite>
+</testsuites>
+",
         "2 records, 1 failed\n",
     ),
     // The first record of each rule, though nothing else is written, under its label.
@@ -105,21 +145,70 @@ const ROWS: [Row; 20] = [
             b"rules",
         ],
         1,
-        "<?xml version=\"1.0\" encoding=\"UTF-8\"?>\n<testsuites>\n<testsuite name=\"rules\" tests=\"2\" failures=\"2\" errors=\"0\">\n<testcase name=\"a, b: 5%\" classname=\"vet\"><failure message=\"2 records break it\">record 1 (2): false\na, b: 5% = false\n  rule: / == 1 = false\n    - found: 2\n</failure></testcase>\n<testcase name=\"c\" classname=\"vet\"><failure message=\"1 record breaks it\">record 3 (5): false\nc = false\n  rule: / &lt; 3 = false\n    - found: 5\n</failure></testcase>\n</testsuite>\n</testsuites>\n",
+        "\
+<?xml version=\"1.0\" encoding=\"UTF-8\"?>
+<testsuites>
+<testsuite name=\"rules\" tests=\"2\" failures=\"2\" errors=\"0\">
+<testcase name=\"a, b: 5%\" classname=\"vet\">\
+    <failure message=\"2 records break it\">record 1 (2): false
+a, b: 5% = false
+  rule: / == 1 = false
+    - found: 2
+</failure></testcase>
+<testcase name=\"c\" classname=\"vet\"><failure message=\"1 record breaks it\">record 3 (5): false
+c = false
+  rule: / &lt; 3 = false
+    - found: 5
+</failure></testcase>
+</testsuite>
+</testsuites>
+",
         "2\t##\ta, b: 5%\n1\t#\tc\n3 records, 2 failed\n",
     ),
     // Lines and a file that can't be read, and a rule that no record breaks.
     (
         &[b"vet", b"--format", b"junit", b"rules", b"d,e:f%", b"none"],
         2,
-        "<?xml version=\"1.0\" encoding=\"UTF-8\"?>\n<testsuites>\n<testsuite name=\"rules\" tests=\"4\" failures=\"1\" errors=\"2\">\n<testcase name=\"a, b: 5%\" classname=\"vet\"><failure message=\"1 record breaks it\">d,e:f%:2: false\na, b: 5% = false\n  rule: / == 1 = false\n    - found: 2\n</failure></testcase>\n<testcase name=\"c\" classname=\"vet\"/>\n<testcase name=\"lines\" classname=\"input\"><error message=\"1 unreadable\"/></testcase>\n<testcase name=\"files\" classname=\"input\"><error message=\"not all could be read\"/></testcase>\n</testsuite>\n</testsuites>\n",
-        "vet: d,e:f%:1: not JSON: EOF while parsing at line 2 column 0\nvet: none: entity not found\n1 record, 1 failed, 1 line unreadable\n",
+        "\
+<?xml version=\"1.0\" encoding=\"UTF-8\"?>
+<testsuites>
+<testsuite name=\"rules\" tests=\"4\" failures=\"1\" errors=\"2\">
+<testcase name=\"a, b: 5%\" classname=\"vet\">\
+    <failure message=\"1 record breaks it\">d,e:f%:2: false
+a, b: 5% = false
+  rule: / == 1 = false
+    - found: 2
+</failure></testcase>
+<testcase name=\"c\" classname=\"vet\"/>
+<testcase name=\"lines\" classname=\"input\"><error message=\"1 unreadable\"/></testcase>
+<testcase name=\"files\" classname=\"input\"><error message=\"not all could be read\"/></testcase>
+</testsuite>
+</testsuites>
+",
+        "\
+vet: d,e:f%:1: not JSON: EOF while parsing at line 2 column 0
+vet: none: entity not found
+1 record, 1 failed, 1 line unreadable
+",
     ),
     // What has a meaning of its own in XML, and what it forbids.
     (
         &[b"vet", b"--format", b"junit", b"x<y"],
         1,
-        "<?xml version=\"1.0\" encoding=\"UTF-8\"?>\n<testsuites>\n<testsuite name=\"x&lt;y\" tests=\"1\" failures=\"1\" errors=\"0\">\n<testcase name=\"&lt;&amp;&quot;&gt;\" classname=\"vet\"><failure message=\"3 records break it\">record 1: false\n&lt;&amp;&quot;&gt; = false\n  rule: / == &quot;\u{fffd}&quot; = false\n    - found: 2\n    - error: not a string\n</failure></testcase>\n</testsuite>\n</testsuites>\n",
+        "\
+<?xml version=\"1.0\" encoding=\"UTF-8\"?>
+<testsuites>
+<testsuite name=\"x&lt;y\" tests=\"1\" failures=\"1\" errors=\"0\">
+<testcase name=\"&lt;&amp;&quot;&gt;\" classname=\"vet\">\
+    <failure message=\"3 records break it\">record 1: false
+&lt;&amp;&quot;&gt; = false
+  rule: / == &quot;\u{fffd}&quot; = false
+    - found: 2
+    - error: not a string
+</failure></testcase>
+</testsuite>
+</testsuites>
+",
         "3 records, 3 failed\n",
     ),
     // It goes with no other report either.
@@ -183,13 +272,15 @@ const ROWS: [Row; 20] = [
         &[b"vet", b"--format", b"xml", b"rules"],
         2,
         "",
-        "vet: invalid value 'xml' for '--format <FORMAT>' [possible values: github, junit]; try --help\n",
+        "vet: invalid value 'xml' for '--format <FORMAT>' [possible values: github, junit]; \
+         try --help\n",
     ),
     (
         &[b"vet", b"--format", b"GitHub", b"rules"],
         2,
         "",
-        "vet: invalid value 'GitHub' for '--format <FORMAT>' [possible values: github, junit]; try --help\n",
+        "vet: invalid value 'GitHub' for '--format <FORMAT>' [possible values: github, junit]; \
+         try --help\n",
     ),
 ];
 

@@ -43,7 +43,10 @@ const ROWS: [Row; 51] = [
         Closed::Neither,
         2,
         "record 2: false\na = false\n  rule: / == 1 = false\n    - found: 2\n",
-        "vet: record 4: not JSON: EOF while parsing at line 1 column 1\n3 records, 1 failed, 1 line unreadable\n",
+        "\
+vet: record 4: not JSON: EOF while parsing at line 1 column 1
+3 records, 1 failed, 1 line unreadable
+",
     ),
     (
         &[b"vet", b"--failed", b"--input-format", b"json", b"rules"],
@@ -63,7 +66,10 @@ const ROWS: [Row; 51] = [
         Closed::Neither,
         2,
         "",
-        "vet: record 2: not JSON: EOF while parsing at line 1 column 2\n1 record, 0 failed, 1 line unreadable\n",
+        "\
+vet: record 2: not JSON: EOF while parsing at line 1 column 2
+1 record, 0 failed, 1 line unreadable
+",
     ),
     // Every record keeps every rule.
     (
@@ -154,7 +160,17 @@ const ROWS: [Row; 51] = [
         None,
         Closed::Neither,
         1,
-        "record 1: false\na = false\n  rule: / == 1 = false\n    - found: 4\nb = false\n  rule: / == 2 or / == 3 = false\n    part: / == 2 = false\n      - found: 4\n      - index: 0\n",
+        "\
+record 1: false
+a = false
+  rule: / == 1 = false
+    - found: 4
+b = false
+  rule: / == 2 or / == 3 = false
+    part: / == 2 = false
+      - found: 4
+      - index: 0
+",
         "1 record, 1 failed\n",
     ),
     // A line holds no record.
@@ -166,7 +182,10 @@ const ROWS: [Row; 51] = [
         Closed::Neither,
         2,
         "",
-        "vet: record 2: not JSON: EOF while parsing at line 1 column 2\n1 record, 0 failed, 1 line unreadable\n",
+        "\
+vet: record 2: not JSON: EOF while parsing at line 1 column 2
+1 record, 0 failed, 1 line unreadable
+",
     ),
     // The column of what ends with its line is that of the line behind.
     (
@@ -177,7 +196,10 @@ const ROWS: [Row; 51] = [
         Closed::Neither,
         2,
         "",
-        "vet: record 1: not JSON: EOF while parsing at line 2 column 0\n1 record, 0 failed, 1 line unreadable\n",
+        "\
+vet: record 1: not JSON: EOF while parsing at line 2 column 0
+1 record, 0 failed, 1 line unreadable
+",
     ),
     (
         PLAIN,
@@ -197,7 +219,11 @@ const ROWS: [Row; 51] = [
         Closed::Neither,
         2,
         "",
-        "vet: record 1: not JSON: EOF while parsing at line 2 column 0\nvet: record 3: not UTF-8\n1 record, 0 failed, 2 lines unreadable\n",
+        "\
+vet: record 1: not JSON: EOF while parsing at line 2 column 0
+vet: record 3: not UTF-8
+1 record, 0 failed, 2 lines unreadable
+",
     ),
     // Blank lines hold no record, and count as lines.
     (
@@ -249,7 +275,8 @@ const ROWS: [Row; 51] = [
         Closed::Neither,
         2,
         "",
-        "vet: rules: line 1, column 13: expected a word, an operator, a path or a literal, found `=`; did you mean `==`?\n",
+        "vet: rules: line 1, column 13: expected a word, an operator, a path or a literal, found \
+         `=`; did you mean `==`?\n",
     ),
     (
         PLAIN,
@@ -259,7 +286,8 @@ const ROWS: [Row; 51] = [
         Closed::Neither,
         2,
         "",
-        "vet: rules: line 1, column 8: expected a word, an operator, a path or a literal, found `age`; a path begins with `/`\n",
+        "vet: rules: line 1, column 8: expected a word, an operator, a path or a literal, found \
+         `age`; a path begins with `/`\n",
     ),
     (
         PLAIN,
@@ -269,7 +297,8 @@ const ROWS: [Row; 51] = [
         Closed::Neither,
         2,
         "",
-        "vet: rules: line 1, column 15: expected a word, an operator, a path or a literal, found `'Zoe'`; a text stands in double quotes\n",
+        "vet: rules: line 1, column 15: expected a word, an operator, a path or a literal, found \
+         `'Zoe'`; a text stands in double quotes\n",
     ),
     (
         PLAIN,
@@ -361,7 +390,9 @@ const ROWS: [Row; 51] = [
         None,
         Closed::Neither,
         1,
-        "{\"record\":2,\"holds\":false,\"case\":{\"text\":\"a\",\"result\":false,\"products\":[],\"children\":[{\"name\":\"rule\",\"case\":{\"text\":\"/ == 1\",\"result\":false,\"products\":[{\"name\":\"found\",\"value\":2}],\"children\":[]}}]}}\n",
+        "{\"record\":2,\"holds\":false,\"case\":{\"text\":\"a\",\"result\":false,\"products\":[],\
+         \"children\":[{\"name\":\"rule\",\"case\":{\"text\":\"/ == 1\",\"result\":false,\
+         \"products\":[{\"name\":\"found\",\"value\":2}],\"children\":[]}}]}}\n",
         "3 records, 1 failed\n",
     ),
     (
@@ -422,7 +453,16 @@ const ROWS: [Row; 51] = [
         None,
         Closed::Neither,
         1,
-        "record 1: false\na = false\n  rule: / == 1 = false\n    - found: 2\nrecord 3: false\na = false\n  rule: / == 1 = false\n    - found: 3\n",
+        "\
+record 1: false
+a = false
+  rule: / == 1 = false
+    - found: 2
+record 3: false
+a = false
+  rule: / == 1 = false
+    - found: 3
+",
         "3 records, 2 failed\n",
     ),
     // Faults of reading and writing.
@@ -488,7 +528,20 @@ const ROWS: [Row; 51] = [
         None,
         Closed::Neither,
         1,
-        "one:1: false\na = false\n  rule: / == 1 = false\n    - found: 2\n-:2: false\na = false\n  rule: / == 1 = false\n    - found: 4\ntwo:3: false\na = false\n  rule: / == 1 = false\n    - found: 3\n",
+        "\
+one:1: false
+a = false
+  rule: / == 1 = false
+    - found: 2
+-:2: false
+a = false
+  rule: / == 1 = false
+    - found: 4
+two:3: false
+a = false
+  rule: / == 1 = false
+    - found: 3
+",
         "6 records, 3 failed\n",
     ),
     (
@@ -498,8 +551,13 @@ const ROWS: [Row; 51] = [
         None,
         Closed::Neither,
         2,
-        "{\"file\":\"two\",\"record\":3,\"holds\":false,\"case\":{\"text\":\"a\",\"result\":false,\"products\":[],\"children\":[{\"name\":\"rule\",\"case\":{\"text\":\"/ == 1\",\"result\":false,\"products\":[{\"name\":\"found\",\"value\":3}],\"children\":[]}}]}}\n",
-        "vet: bad:1: not JSON: EOF while parsing at line 2 column 0\n3 records, 1 failed, 1 line unreadable\n",
+        "{\"file\":\"two\",\"record\":3,\"holds\":false,\"case\":{\"text\":\"a\",\"result\":false,\
+         \"products\":[],\"children\":[{\"name\":\"rule\",\"case\":{\"text\":\"/ == 1\",\
+         \"result\":false,\"products\":[{\"name\":\"found\",\"value\":3}],\"children\":[]}}]}}\n",
+        "\
+vet: bad:1: not JSON: EOF while parsing at line 2 column 0
+3 records, 1 failed, 1 line unreadable
+",
     ),
     // The last line of a file has a line feed where another file goes on.
     (
@@ -510,7 +568,10 @@ const ROWS: [Row; 51] = [
         Closed::Neither,
         2,
         "1\n3\n1\n1\n",
-        "vet: bad:1: not JSON: EOF while parsing at line 2 column 0\n5 records, 4 failed, 1 line unreadable\n",
+        "\
+vet: bad:1: not JSON: EOF while parsing at line 2 column 0
+5 records, 4 failed, 1 line unreadable
+",
     ),
     // One that can't be read is told, and the others are read.
     (

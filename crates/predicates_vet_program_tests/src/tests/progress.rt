@@ -8,7 +8,8 @@ use std::alloc::Global;
 use std::io::ErrorKind;
 use std::test::Fail;
 
-// Words, the tick, what the file of standard input has, where it is one, standard input, and standard error.
+// Words, the tick, what the file of standard input has, where it is one, standard input, and
+// standard error.
 type Row = (
     &'static [&'static [u8]],
     u64,
@@ -26,7 +27,8 @@ const ROWS: [Row; 12] = [
         100,
         None,
         b"1\n2\n1\n",
-        "\r1 line, 5 a second\x1b[K\r2 lines, 5 a second\x1b[K\r3 lines, 5 a second\x1b[K\r\x1b[K3 records, 1 failed\n",
+        "\r1 line, 5 a second\x1b[K\r2 lines, 5 a second\x1b[K\r3 lines, 5 a second\x1b[K\
+         \r\x1b[K3 records, 1 failed\n",
     ),
     (
         PLAIN,
@@ -43,7 +45,9 @@ const ROWS: [Row; 12] = [
         200,
         None,
         b"",
-        "\r2 lines, 50 %, 10 a second\x1b[K\r2 lines, 50 %, 5 a second\x1b[K\r\x1b[K\r4 lines, 100 %, 6 a second\x1b[K\r4 lines, 100 %, 5 a second\x1b[K\r4 lines, 100 %, 4 a second\x1b[K\r\x1b[K4 records, 2 failed\n",
+        "\r2 lines, 50 %, 10 a second\x1b[K\r2 lines, 50 %, 5 a second\x1b[K\r\x1b[K\
+         \r4 lines, 100 %, 6 a second\x1b[K\r4 lines, 100 %, 5 a second\x1b[K\
+         \r4 lines, 100 %, 4 a second\x1b[K\r\x1b[K4 records, 2 failed\n",
     ),
     // Standard input may be a file.
     (
@@ -51,14 +55,18 @@ const ROWS: [Row; 12] = [
         200,
         Some(b"2\n1\n"),
         b"2\n1\n",
-        "\r0 lines, 25 %, 0 a second\x1b[K\r1 line, 50 %, 2 a second\x1b[K\r1 line, 75 %, 1 a second\x1b[K\r2 lines, 100 %, 2 a second\x1b[K\r2 lines, 100 %, 2 a second\x1b[K\r\x1b[K2 records, 1 failed\n",
+        "\r0 lines, 25 %, 0 a second\x1b[K\r1 line, 50 %, 2 a second\x1b[K\
+         \r1 line, 75 %, 1 a second\x1b[K\r2 lines, 100 %, 2 a second\x1b[K\
+         \r2 lines, 100 %, 2 a second\x1b[K\r\x1b[K2 records, 1 failed\n",
     ),
     (
         &[b"vet", b"--progress", b"rules", b"one", b"-"],
         400,
         Some(b"1\n"),
         b"1\n",
-        "\r2 lines, 66 %, 5 a second\x1b[K\r2 lines, 66 %, 2 a second\x1b[K\r\x1b[K\r2 lines, 83 %, 1 a second\x1b[K\r3 lines, 100 %, 1 a second\x1b[K\r3 lines, 100 %, 1 a second\x1b[K\r\x1b[K3 records, 1 failed\n",
+        "\r2 lines, 66 %, 5 a second\x1b[K\r2 lines, 66 %, 2 a second\x1b[K\r\x1b[K\
+         \r2 lines, 83 %, 1 a second\x1b[K\r3 lines, 100 %, 1 a second\x1b[K\
+         \r3 lines, 100 %, 1 a second\x1b[K\r\x1b[K3 records, 1 failed\n",
     ),
     // One that has grown, and one that had nothing.
     (
@@ -66,7 +74,8 @@ const ROWS: [Row; 12] = [
         200,
         Some(b"1"),
         b"1\n",
-        "\r0 lines, 100 %, 0 a second\x1b[K\r1 line, 100 %, 2 a second\x1b[K\r1 line, 100 %, 1 a second\x1b[K\r\x1b[K1 record, 0 failed\n",
+        "\r0 lines, 100 %, 0 a second\x1b[K\r1 line, 100 %, 2 a second\x1b[K\
+         \r1 line, 100 %, 1 a second\x1b[K\r\x1b[K1 record, 0 failed\n",
     ),
     (
         PLAIN,
@@ -81,7 +90,12 @@ const ROWS: [Row; 12] = [
         200,
         None,
         b"[\n1\n",
-        "\r0 lines, 0 a second\x1b[K\r1 line, 2 a second\x1b[K\r\x1b[Kvet: record 1: not JSON: EOF while parsing at line 2 column 0\n\r1 line, 1 a second\x1b[K\r2 lines, 2 a second\x1b[K\r2 lines, 2 a second\x1b[K\r\x1b[K1 record, 0 failed, 1 line unreadable\n",
+        "\
+\r0 lines, 0 a second\x1b[K\r1 line, 2 a second\x1b[K\
+    \r\x1b[Kvet: record 1: not JSON: EOF while parsing at line 2 column 0
+\r1 line, 1 a second\x1b[K\r2 lines, 2 a second\x1b[K\r2 lines, 2 a second\x1b[K\
+    \r\x1b[K1 record, 0 failed, 1 line unreadable
+",
     ),
     (
         &[
@@ -95,7 +109,11 @@ const ROWS: [Row; 12] = [
         200,
         None,
         b"",
-        "vet: none: entity not found\n\r2 lines, 10 a second\x1b[K\r2 lines, 5 a second\x1b[K\r\x1b[K1\t#\ta\n2 records, 1 failed\n",
+        "\
+vet: none: entity not found
+\r2 lines, 10 a second\x1b[K\r2 lines, 5 a second\x1b[K\r\x1b[K1\t#\ta
+2 records, 1 failed
+",
     ),
     // Before each write to standard output.
     (
@@ -103,7 +121,8 @@ const ROWS: [Row; 12] = [
         200,
         None,
         b"2\n1\n",
-        "\r0 lines, 0 a second\x1b[K\r1 line, 2 a second\x1b[K\r\x1b[K\r1 line, 1 a second\x1b[K\r2 lines, 2 a second\x1b[K\r2 lines, 2 a second\x1b[K\r\x1b[K2 records, 1 failed\n",
+        "\r0 lines, 0 a second\x1b[K\r1 line, 2 a second\x1b[K\r\x1b[K\r1 line, 1 a second\x1b[K\
+         \r2 lines, 2 a second\x1b[K\r2 lines, 2 a second\x1b[K\r\x1b[K2 records, 1 failed\n",
     ),
     // The lines of values that take several.
     (
@@ -111,7 +130,9 @@ const ROWS: [Row; 12] = [
         300,
         None,
         b"[1,\n1]",
-        "\r0 lines, 0 a second\x1b[K\r0 lines, 0 a second\x1b[K\r0 lines, 0 a second\x1b[K\r1 line, 0 a second\x1b[K\r1 line, 0 a second\x1b[K\r1 line, 0 a second\x1b[K\r1 line, 0 a second\x1b[K\r\x1b[K2 records, 0 failed\n",
+        "\r0 lines, 0 a second\x1b[K\r0 lines, 0 a second\x1b[K\r0 lines, 0 a second\x1b[K\
+         \r1 line, 0 a second\x1b[K\r1 line, 0 a second\x1b[K\r1 line, 0 a second\x1b[K\
+         \r1 line, 0 a second\x1b[K\r\x1b[K2 records, 0 failed\n",
     ),
 ];
 
@@ -120,7 +141,8 @@ const FAULTS: [(Option<ErrorKind>, Closed, &str); 3] = [
     (
         Some(ErrorKind::BrokenPipe),
         Closed::Neither,
-        "\r0 lines, 0 a second\x1b[K\r1 line, 2 a second\x1b[K\r\x1b[Kvet: input could not be read: broken pipe\n",
+        "\r0 lines, 0 a second\x1b[K\r1 line, 2 a second\x1b[K\
+         \r\x1b[Kvet: input could not be read: broken pipe\n",
     ),
     // Nothing else is told.
     (

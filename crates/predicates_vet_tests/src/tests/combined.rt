@@ -3,7 +3,7 @@
 use super::reference::{
     Against, Answer, Test, denied, joined, push_rule, ranged, tested, value_of,
 };
-use super::writes;
+use super::{Expected, writes};
 use predicates_vet::settings::Report;
 use serde_json::Value;
 use std::alloc::{AllocError, Global};
@@ -89,8 +89,21 @@ const SECOND: [Test<'static>; 3] = [
 // How many records there are.
 const COUNT: u64 = 14;
 
-pub(super) const RECORDS: &str =
-    "{}\nnull\n\"ABC\"\n[1, 2]\n{\"x\": 1}\n{\"x\": -9223372036854775808}\n{\"x\": 18446744073709551615, \"l\": []}\n{\"x\": 1.0, \"l\": [1, \"b\", null, {\"x\": 1}]}\n{\"x\": \"b\", \"l\": {\"x\": 1}}\n{\"x\": \"ABC\", \"l\": [{\"x\": \"ABC\"}, {\"x\": \"b\"}]}\n{\"x\": true, \"l\": [[], {\"x\": {}}, \"ABC\", 0]}\n{\"x\": null, \"a/b~\": 0, \"l\": [{\"x\": null, \"l\": [1, 1]}]}\n{\"x\": [], \"l\": \"AB\"}\n{\"x\": \"\u{e9}\", \"l\": [{\"x\": \"\"}]}";
+pub(super) const RECORDS: &str = "\
+{}
+null
+\"ABC\"
+[1, 2]
+{\"x\": 1}
+{\"x\": -9223372036854775808}
+{\"x\": 18446744073709551615, \"l\": []}
+{\"x\": 1.0, \"l\": [1, \"b\", null, {\"x\": 1}]}
+{\"x\": \"b\", \"l\": {\"x\": 1}}
+{\"x\": \"ABC\", \"l\": [{\"x\": \"ABC\"}, {\"x\": \"b\"}]}
+{\"x\": true, \"l\": [[], {\"x\": {}}, \"ABC\", 0]}
+{\"x\": null, \"a/b~\": 0, \"l\": [{\"x\": null, \"l\": [1, 1]}]}
+{\"x\": [], \"l\": \"AB\"}
+{\"x\": \"\u{e9}\", \"l\": [{\"x\": \"\"}]}";
 
 // Two answers, in order.
 fn two(alloc: Global, left: Answer, right: Answer) -> Result<Vec<Answer>, AllocError> {
@@ -153,8 +166,7 @@ fn over_items(
     alloc: Global,
     quantifier: &str,
     word: &str,
-    first: Test<'_>,
-    second: Test<'_>,
+    (first, second): (Test<'_>, Test<'_>),
     value: &Value,
 ) -> Result<Answer, AllocError> {
     let (left, right) = (first.0, second.0);
@@ -198,9 +210,9 @@ fn both_ranges(
     second: Test<'_>,
     value: &Value,
 ) -> Result<Answer, AllocError> {
-    let right = over_items(alloc, "any", "xor", first, second, value)?;
+    let right = over_items(alloc, "any", "xor", (first, second), value)?;
     let right = denied_range(alloc, right)?;
-    let left = over_items(alloc, "any", "or", first, second, value)?;
+    let left = over_items(alloc, "any", "or", (first, second), value)?;
     both(alloc, "xor", false, left, right)
 }
 
@@ -233,10 +245,10 @@ fn said(
         "c" => pair(alloc, "xor", first, second, value),
         "d" => denied_row(alloc, pair(alloc, "and", first, second, value)?),
         "e" => denied_row(alloc, pair(alloc, "xor", first, second, value)?),
-        "f" => over_items(alloc, "each", "or", first, second, value),
-        "g" => over_items(alloc, "any", "and", first, second, value),
+        "f" => over_items(alloc, "each", "or", (first, second), value),
+        "g" => over_items(alloc, "any", "and", (first, second), value),
         "h" => {
-            let part = over_items(alloc, "each", "xor", first, second, value)?;
+            let part = over_items(alloc, "each", "xor", (first, second), value)?;
             denied_range(alloc, part)
         }
         "i" => both_ranges(alloc, first, second, value),
@@ -334,27 +346,20 @@ fn agrees(
 ) -> Result<bool, AllocError> {
     let rules = rules_of(alloc, first, second)?;
     let (all, one, failed) = blocks(alloc, first, second, values)?;
-    let input = RECORDS.as_bytes();
-    let counts = (COUNT, failed, 0);
-    let whole = writes(
-        alloc,
-        Report::All,
-        None,
-        &rules,
-        input,
-        all.as_bytes(),
-        counts,
-    )?;
-    let short = writes(
-        alloc,
-        Report::First,
-        None,
-        &rules,
-        input,
-        one.as_bytes(),
-        counts,
-    )?;
-    Ok(whole && short)
+    let whole = Expected {
+        report: Report::All,
+        id: None,
+        rules: &rules,
+        records: RECORDS.as_bytes(),
+        output: all.as_bytes(),
+        counts: (COUNT, failed, 0),
+    };
+    let short = Expected {
+        report: Report::First,
+        output: one.as_bytes(),
+        ..whole
+    };
+    Ok(writes(alloc, whole)? && writes(alloc, short)?)
 }
 
 // The values of the records.

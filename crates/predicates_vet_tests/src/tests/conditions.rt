@@ -1,5 +1,5 @@
 //! Numbers compared by their values, two paths compared, lengths, kinds and keys.
-use super::writes;
+use super::{Expected, writes, writes_block};
 use predicates_vet::settings::Report;
 use std::alloc::{AllocError, Global};
 use std::test::Fail;
@@ -34,7 +34,13 @@ const NUMBERS: [(&str, &[u8], &[u8]); 10] = [
     (
         "a: /x == 18.0",
         b"{\"x\": \"18\"}",
-        b"record 1: false\na = false\n  rule: /x == 18.0 = false\n    - found: \"18\"\n    - error: not a number\n",
+        b"\
+record 1: false
+a = false
+  rule: /x == 18.0 = false
+    - found: \"18\"
+    - error: not a number
+",
     ),
 ];
 
@@ -49,7 +55,13 @@ const PATHS: [(&str, &[u8], &[u8]); 15] = [
     (
         "a: /s != /e",
         b"{\"s\": \"b\", \"e\": \"b\"}",
-        b"record 1: false\na = false\n  rule: /s != /e = false\n    - found: \"b\"\n    - other: \"b\"\n",
+        b"\
+record 1: false
+a = false
+  rule: /s != /e = false
+    - found: \"b\"
+    - other: \"b\"
+",
     ),
     ("a: /s > /e", b"{\"s\": true, \"e\": false}", b""),
     (
@@ -60,39 +72,88 @@ const PATHS: [(&str, &[u8], &[u8]); 15] = [
     (
         "a: /s < /e",
         b"{\"s\": 1}",
-        b"record 1: false\na = false\n  rule: /s < /e = false\n    - found: 1\n    - error: nothing at /e\n",
+        b"\
+record 1: false
+a = false
+  rule: /s < /e = false
+    - found: 1
+    - error: nothing at /e
+",
     ),
     (
         "a: /s == /e",
         b"{\"s\": \"1\", \"e\": 1}",
-        b"record 1: false\na = false\n  rule: /s == /e = false\n    - found: \"1\"\n    - other: 1\n    - error: not comparable with /e\n",
+        b"\
+record 1: false
+a = false
+  rule: /s == /e = false
+    - found: \"1\"
+    - other: 1
+    - error: not comparable with /e
+",
     ),
     (
         "a: /s == /e",
         b"{\"s\": [1], \"e\": [1]}",
-        b"record 1: false\na = false\n  rule: /s == /e = false\n    - found: [1]\n    - other: [1]\n    - error: not comparable with /e\n",
+        b"\
+record 1: false
+a = false
+  rule: /s == /e = false
+    - found: [1]
+    - other: [1]
+    - error: not comparable with /e
+",
     ),
     ("a: /s > /e", b"{\"s\": [1], \"e\": null}", b""),
     ("a: /s == /e", b"{\"s\": null, \"e\": null}", b""),
     (
         "a: /s != /e",
         b"{\"s\": null, \"e\": 1}",
-        b"record 1: false\na = false\n  rule: /s != /e = false\n    - found: null\n    - other: 1\n    - error: not comparable with /e\n",
+        b"\
+record 1: false
+a = false
+  rule: /s != /e = false
+    - found: null
+    - other: 1
+    - error: not comparable with /e
+",
     ),
     (
         "a: /x == /",
         b"{\"x\": 1}",
-        b"record 1: false\na = false\n  rule: /x == / = false\n    - found: 1\n    - other: {\"x\":1}\n    - error: not comparable with /\n",
+        b"\
+record 1: false
+a = false
+  rule: /x == / = false
+    - found: 1
+    - other: {\"x\":1}
+    - error: not comparable with /
+",
     ),
     (
         "a: each /l (/a < /b)",
         b"{\"b\": 9, \"l\": [{\"a\": 1, \"b\": 2}, {\"a\": 2, \"b\": 1}]}",
-        b"record 1: false\na = false\n  rule: each /l (/a < /b) = false\n    - index: 1\n    item: /a < /b = false\n      - found: 2\n      - other: 1\n",
+        b"\
+record 1: false
+a = false
+  rule: each /l (/a < /b) = false
+    - index: 1
+    item: /a < /b = false
+      - found: 2
+      - other: 1
+",
     ),
     (
         "a: not /s < /e",
         b"{\"s\": 1, \"e\": 2}",
-        b"record 1: false\na = false\n  rule: not /s < /e = false\n    predicate: /s < /e = true\n      - found: 1\n      - other: 2\n",
+        b"\
+record 1: false
+a = false
+  rule: not /s < /e = false
+    predicate: /s < /e = true
+      - found: 1
+      - other: 2
+",
     ),
 ];
 
@@ -101,29 +162,59 @@ const LENGTHS: [(&str, &[u8], &[u8]); 8] = [
     (
         "a: /x length == 2",
         b"{\"x\": \"\xc3\xa9\"}",
-        b"record 1: false\na = false\n  rule: /x length == 2 = false\n    - found: \"\xc3\xa9\"\n    - len: 1\n",
+        b"\
+record 1: false
+a = false
+  rule: /x length == 2 = false
+    - found: \"\xc3\xa9\"
+    - len: 1
+",
     ),
     (
         "a: /x length < 1",
         b"{\"x\": [1]}",
-        b"record 1: false\na = false\n  rule: /x length < 1 = false\n    - found: [1]\n    - len: 1\n",
+        b"\
+record 1: false
+a = false
+  rule: /x length < 1 = false
+    - found: [1]
+    - len: 1
+",
     ),
     ("a: /x length == 1", b"{\"x\": {\"k\": [2, 3]}}", b""),
     ("a: / length <= 0", b"\"\"", b""),
     (
         "a: /x length != 3",
         b"{\"x\": 3}",
-        b"record 1: false\na = false\n  rule: /x length != 3 = false\n    - found: 3\n    - error: not a string, an array or an object\n",
+        b"\
+record 1: false
+a = false
+  rule: /x length != 3 = false
+    - found: 3
+    - error: not a string, an array or an object
+",
     ),
     (
         "a: /x length > 18446744073709551615",
         b"{}",
-        b"record 1: false\na = false\n  rule: /x length > 18446744073709551615 = false\n    - error: nothing at /x\n",
+        b"\
+record 1: false
+a = false
+  rule: /x length > 18446744073709551615 = false
+    - error: nothing at /x
+",
     ),
     (
         "a: not /x length > 0",
         b"{\"x\": \"b\"}",
-        b"record 1: false\na = false\n  rule: not /x length > 0 = false\n    predicate: /x length > 0 = true\n      - found: \"b\"\n      - len: 1\n",
+        b"\
+record 1: false
+a = false
+  rule: not /x length > 0 = false
+    predicate: /x length > 0 = true
+      - found: \"b\"
+      - len: 1
+",
     ),
 ];
 
@@ -141,7 +232,13 @@ const KINDS: [(&str, &[u8], &[u8]); 3] = [
     (
         "a: not /x is text",
         b"{\"x\": \"b\"}",
-        b"record 1: false\na = false\n  rule: not /x is text = false\n    predicate: /x is text = true\n      - found: \"b\"\n",
+        b"\
+record 1: false
+a = false
+  rule: not /x is text = false
+    predicate: /x is text = true
+      - found: \"b\"
+",
     ),
 ];
 
@@ -150,13 +247,25 @@ const KEYS: [(&str, &[u8], &[u8]); 11] = [
     (
         "a: keys / in [\"x\"]",
         b"{\"z\": 2, \"x\": 1, \"y\": 3}",
-        b"record 1: false\na = false\n  rule: keys / in [\"x\"] = false\n    - found: {\"x\":1,\"y\":3,\"z\":2}\n    - other key: \"y\"\n",
+        b"\
+record 1: false
+a = false
+  rule: keys / in [\"x\"] = false
+    - found: {\"x\":1,\"y\":3,\"z\":2}
+    - other key: \"y\"
+",
     ),
     ("a: keys /x in []", b"{\"x\": {}}", b""),
     (
         "a: keys /x in []",
         b"{\"x\": {\"\": 0}}",
-        b"record 1: false\na = false\n  rule: keys /x in [] = false\n    - found: {\"\":0}\n    - other key: \"\"\n",
+        b"\
+record 1: false
+a = false
+  rule: keys /x in [] = false
+    - found: {\"\":0}
+    - other key: \"\"
+",
     ),
     (
         "a: keys / in [\"\\u0061\", \"/~0\", \"\u{e9}\"]",
@@ -166,22 +275,45 @@ const KEYS: [(&str, &[u8], &[u8]); 11] = [
     (
         "a: keys / in [\"q\", \"A\"]",
         b"{\"q\\\"\\n\": 1}",
-        b"record 1: false\na = false\n  rule: keys / in [\"q\", \"A\"] = false\n    - found: {\"q\\\"\\n\":1}\n    - other key: \"q\\\"\\n\"\n",
+        b"\
+record 1: false
+a = false
+  rule: keys / in [\"q\", \"A\"] = false
+    - found: {\"q\\\"\\n\":1}
+    - other key: \"q\\\"\\n\"
+",
     ),
     (
         "a: keys /x in [\"a\"]",
         b"{\"x\": [\"b\"]}",
-        b"record 1: false\na = false\n  rule: keys /x in [\"a\"] = false\n    - found: [\"b\"]\n    - error: not an object\n",
+        b"\
+record 1: false
+a = false
+  rule: keys /x in [\"a\"] = false
+    - found: [\"b\"]
+    - error: not an object
+",
     ),
     (
         "a: keys /x in [\"a\"]",
         b"{}",
-        b"record 1: false\na = false\n  rule: keys /x in [\"a\"] = false\n    - error: nothing at /x\n",
+        b"\
+record 1: false
+a = false
+  rule: keys /x in [\"a\"] = false
+    - error: nothing at /x
+",
     ),
     (
         "a: not keys /x in [\"a\"]",
         b"{\"x\": {\"a\": 1}}",
-        b"record 1: false\na = false\n  rule: not keys /x in [\"a\"] = false\n    predicate: keys /x in [\"a\"] = true\n      - found: {\"a\":1}\n",
+        b"\
+record 1: false
+a = false
+  rule: not keys /x in [\"a\"] = false
+    predicate: keys /x in [\"a\"] = true
+      - found: {\"a\":1}
+",
     ),
     (
         "a: not keys /x in [\"a\"]",
@@ -191,15 +323,24 @@ const KEYS: [(&str, &[u8], &[u8]); 11] = [
     (
         "a: each /l (keys / in [\"k\"] and keys ^/ in [\"l\"])",
         b"{\"l\": [{\"k\": 1}, {\"k\": 1, \"K\": 2}]}",
-        b"record 1: false\na = false\n  rule: each /l (keys / in [\"k\"] and keys ^/ in [\"l\"]) = false\n    - index: 1\n    item: keys / in [\"k\"] and keys ^/ in [\"l\"] = false\n      - index: 0\n      part: keys / in [\"k\"] = false\n        - found: {\"K\":2,\"k\":1}\n        - other key: \"K\"\n",
+        b"\
+record 1: false
+a = false
+  rule: each /l (keys / in [\"k\"] and keys ^/ in [\"l\"]) = false
+    - index: 1
+    item: keys / in [\"k\"] and keys ^/ in [\"l\"] = false
+      - index: 0
+      part: keys / in [\"k\"] = false
+        - found: {\"K\":2,\"k\":1}
+        - other key: \"K\"
+",
     ),
 ];
 
 // Whether a run with this report writes each block for its rule and record.
 fn say(alloc: Global, report: Report, rows: &[(&str, &[u8], &[u8])]) -> Result<bool, AllocError> {
     for (rule, record, block) in rows {
-        let failed = if block.is_empty() { 0 } else { 1 };
-        if !writes(alloc, report, None, rule, record, block, (1, failed, 0))? {
+        if !writes_block(alloc, report, rule, record, block)? {
             return Ok(false);
         }
     }
@@ -220,12 +361,33 @@ const CHANGES: [(&str, &[u8], &[u8]); 4] = [
     (
         "a: not /s < /e",
         b"{\"s\": 1, \"e\": 2}",
-        b"record 1: false\na = false\n  rule: not /s < /e = false\n    predicate: /s < /e = true\n      - found: 1\n      - other: 2\n",
+        b"\
+record 1: false
+a = false
+  rule: not /s < /e = false
+    predicate: /s < /e = true
+      - found: 1
+      - other: 2
+",
     ),
     (
         "a: /s == /e and /s length > 1",
         b"{\"s\": \"b\", \"e\": 1}",
-        b"record 1: false\na = false\n  rule: /s == /e and /s length > 1 = false\n    - index: 0\n    part: /s == /e = false\n      - found: \"b\"\n      - other: 1\n      - error: not comparable with /e\n      - index: 0\n    part: /s length > 1 = false\n      - found: \"b\"\n      - len: 1\n      - index: 1\n",
+        b"\
+record 1: false
+a = false
+  rule: /s == /e and /s length > 1 = false
+    - index: 0
+    part: /s == /e = false
+      - found: \"b\"
+      - other: 1
+      - error: not comparable with /e
+      - index: 0
+    part: /s length > 1 = false
+      - found: \"b\"
+      - len: 1
+      - index: 1
+",
     ),
     (
         "a: /x is text",
@@ -235,7 +397,13 @@ const CHANGES: [(&str, &[u8], &[u8]); 4] = [
     (
         "a: keys / in [\"x\"]",
         b"{\"y\": 1}",
-        b"record 1: false\na = false\n  rule: keys / in [\"x\"] = false\n    - found: {\"y\":1}\n    - other key: \"y\"\n",
+        b"\
+record 1: false
+a = false
+  rule: keys / in [\"x\"] = false
+    - found: {\"y\":1}
+    - other key: \"y\"
+",
     ),
 ];
 
@@ -271,15 +439,15 @@ fn passes(alloc: Global, word: &str, value: &str, kinds: &str) -> Result<bool, A
     } else {
         ("", 1)
     };
-    writes(
-        alloc,
-        Report::Lines(true),
-        None,
-        &rule,
-        line.as_bytes(),
-        kept.as_bytes(),
-        (1, failed, 0),
-    )
+    let expected = Expected {
+        report: Report::Lines(true),
+        id: None,
+        rules: &rule,
+        records: line.as_bytes(),
+        output: kept.as_bytes(),
+        counts: (1, failed, 0),
+    };
+    writes(alloc, expected)
 }
 
 #[test]

@@ -57,12 +57,12 @@ fn written_by(alloc: Global, read: usize) -> Result<(Vec<u8>, Vec<u8>), AllocErr
 // How a run ends, and what was written, as answers and as messages.
 type Ran = (Result<Counts, RunFault>, Vec<u8>, Vec<u8>);
 
+// The run over the input, with room for so many bytes of answers and of messages, behind which a
+// writer has a fault of the kind.
 fn ran(
     alloc: Global,
-    bytes: &[u8],
-    end: Option<ErrorKind>,
-    room: usize,
-    message_room: usize,
+    mut input: Slow<'_>,
+    (room, message_room): (usize, usize),
     kind: ErrorKind,
 ) -> Option<Ran> {
     let Ok(checks) = read_checks(alloc, b"a: /x == 1") else {
@@ -74,7 +74,6 @@ fn ran(
     };
     let job = Job::new(&checks, &settings);
     let mut tally = Tally::new(alloc, None);
-    let mut input = Slow { bytes, end };
     let output = Narrow {
         got: Vec::new(alloc),
         room,
@@ -103,14 +102,16 @@ fn fails_reading(
 ) -> Result<bool, AllocError> {
     let front = &INPUT[..read.min(INPUT.len())];
     let (expected, messages) = written_by(alloc, read)?;
-    Ok(
-        match ran(alloc, front, Some(kind), usize::MAX, usize::MAX, kind) {
-            Some((ended, answers, told)) => {
-                ended == Err(fault) && answers == expected && told == messages
-            }
-            None => false,
-        },
-    )
+    let input = Slow {
+        bytes: front,
+        end: Some(kind),
+    };
+    Ok(match ran(alloc, input, (usize::MAX, usize::MAX), kind) {
+        Some((ended, answers, told)) => {
+            ended == Err(fault) && answers == expected && told == messages
+        }
+        None => false,
+    })
 }
 
 // Whether a run that has room for so many bytes in one place answers the fault after these bytes,
@@ -137,10 +138,20 @@ fn fails_writing(
     fault: RunFault,
 ) -> Result<bool, AllocError> {
     let (whole, messages) = written_by(alloc, usize::MAX)?;
-    Ok(match ran(alloc, INPUT, None, room, usize::MAX, kind) {
-        Some(ran) => is_cut(ran, &whole, &messages, room, fault),
-        None => false,
-    })
+    Ok(
+        match ran(
+            alloc,
+            Slow {
+                bytes: INPUT,
+                end: None,
+            },
+            (room, usize::MAX),
+            kind,
+        ) {
+            Some(ran) => is_cut(ran, &whole, &messages, room, fault),
+            None => false,
+        },
+    )
 }
 
 // The same where this many bytes of messages are written.
@@ -151,12 +162,22 @@ fn fails_telling(
     fault: RunFault,
 ) -> Result<bool, AllocError> {
     let (whole, messages) = written_by(alloc, usize::MAX)?;
-    Ok(match ran(alloc, INPUT, None, usize::MAX, room, kind) {
-        Some((ended, answers, told)) => {
-            is_cut((ended, told, answers), &messages, &whole, room, fault)
-        }
-        None => false,
-    })
+    Ok(
+        match ran(
+            alloc,
+            Slow {
+                bytes: INPUT,
+                end: None,
+            },
+            (usize::MAX, room),
+            kind,
+        ) {
+            Some((ended, answers, told)) => {
+                is_cut((ended, told, answers), &messages, &whole, room, fault)
+            }
+            None => false,
+        },
+    )
 }
 
 const COUNTS: Counts = Counts {

@@ -76,14 +76,33 @@ const CUT: [(usize, usize, usize, &str); 21] = [
 ];
 
 // What is written of `{"x": 1}` by the fronts that are rules.
-const NOT_IN: &str =
-    "record 1: false\na = false\n  rule: not /x in [1, \"b\"] = false\n    predicate: /x in [1, \"b\"] = true\n      - found: 1\n";
+const NOT_IN: &str = "\
+record 1: false
+a = false
+  rule: not /x in [1, \"b\"] = false
+    predicate: /x in [1, \"b\"] = true
+      - found: 1
+";
 
-const AND_OF_ONE: &str =
-    "record 1: false\na = false\n  rule: not /x in [1, \"b\"] and /y >= 1 = false\n    - index: 0\n    part: not /x in [1, \"b\"] = false\n      predicate: /x in [1, \"b\"] = true\n        - found: 1\n";
+const AND_OF_ONE: &str = "\
+record 1: false
+a = false
+  rule: not /x in [1, \"b\"] and /y >= 1 = false
+    - index: 0
+    part: not /x in [1, \"b\"] = false
+      predicate: /x in [1, \"b\"] = true
+        - found: 1
+";
 
-const AND_OF_EIGHTEEN: &str =
-    "record 1: false\na = false\n  rule: not /x in [1, \"b\"] and /y >= 18 = false\n    - index: 0\n    part: not /x in [1, \"b\"] = false\n      predicate: /x in [1, \"b\"] = true\n        - found: 1\n";
+const AND_OF_EIGHTEEN: &str = "\
+record 1: false
+a = false
+  rule: not /x in [1, \"b\"] and /y >= 18 = false
+    - index: 0
+    part: not /x in [1, \"b\"] = false
+      predicate: /x in [1, \"b\"] = true
+        - found: 1
+";
 
 // Whether the front of this many bytes, behind a line that has no rule, is told so.
 fn front_is_told(
@@ -275,15 +294,31 @@ const LINES: [(&[u8], &str); 4] = [
     ),
     (
         b"known:  /name starts_with \"A\" or /name == \"Zoe\"\n",
-        "known = false\n  rule: /name starts_with \"A\" or /name == \"Zoe\" = false\n    part: /name starts_with \"A\" = false\n      - error: nothing at /name\n    part: /name == \"Zoe\" = false\n      - error: nothing at /name\n",
+        "\
+known = false
+  rule: /name starts_with \"A\" or /name == \"Zoe\" = false
+    part: /name starts_with \"A\" = false
+      - error: nothing at /name
+    part: /name == \"Zoe\" = false
+      - error: nothing at /name
+",
     ),
     (
         b"seated: /seat exists and not /seat in [13, 17]\n",
-        "seated = false\n  rule: /seat exists and not /seat in [13, 17] = false\n    - index: 0\n    part: /seat exists = false\n",
+        "\
+seated = false
+  rule: /seat exists and not /seat in [13, 17] = false
+    - index: 0
+    part: /seat exists = false
+",
     ),
     (
         b"lines:  each /lines (/quantity >= 1)\n",
-        "lines = false\n  rule: each /lines (/quantity >= 1) = false\n    - error: nothing at /lines\n",
+        "\
+lines = false
+  rule: each /lines (/quantity >= 1) = false
+    - error: nothing at /lines
+",
     ),
 ];
 

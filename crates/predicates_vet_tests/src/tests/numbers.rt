@@ -1,5 +1,5 @@
 //! Numbers in the order of their values: whole numbers exactly, any other as the nearest `f64`.
-use super::writes;
+use super::writes_block;
 use predicates_vet::settings::Report;
 use std::alloc::{AllocError, Global};
 use std::cmp::Ordering;
@@ -85,15 +85,7 @@ fn stand_so(alloc: Global, number: (&str, u32), other: (&str, u32)) -> Result<bo
         "a: /x {holds} {right} and not /x {first} {right} and not /x {second} {right}"
     )?;
     let record = format!(in alloc; "{{\"x\": {left}}}")?;
-    writes(
-        alloc,
-        Report::First,
-        None,
-        rule.as_str(),
-        record.as_bytes(),
-        b"",
-        (1, 0, 0),
-    )
+    writes_block(alloc, Report::First, &rule, record.as_bytes(), b"")
 }
 
 #[test]

@@ -3,7 +3,7 @@ use predicates_core::reflection::{Case, render};
 use predicates_core::{Predicate, PredicateChange};
 use predicates_rule_check::check_of;
 use predicates_rules::condition::{Comparison, Condition};
-use predicates_rules::expression::{Expression, Quantifier};
+use predicates_rules::expression::{Expression, HowMany};
 use serde_json::Value;
 use std::alloc::{AllocError, Global};
 use std::test::Fail;
@@ -11,7 +11,7 @@ use std::test::Fail;
 // The expression `QUANTIFIER LIST (PATH == OTHER)`.
 fn over_list(
     alloc: Global,
-    quantifier: Quantifier,
+    quantifier: HowMany,
     list: &str,
     path: &str,
     other: &str,
@@ -26,7 +26,7 @@ fn over_list(
 // Each item of `/k` for each of `/l`: `each /l (QUANTIFIER LIST (PATH == OTHER))`.
 fn within_list(alloc: Global, inner: Expression) -> Result<Expression, AllocError> {
     let list = String::from_str(alloc, "/l")?;
-    Ok(Expression::Quantified(Quantifier::Each, list, Box::new(alloc, inner)?))
+    Ok(Expression::Quantified(HowMany::Each, list, Box::new(alloc, inner)?))
 }
 
 fn rendered(alloc: Global, found: Option<Case>) -> Result<String, AllocError> {
@@ -36,8 +36,8 @@ fn rendered(alloc: Global, found: Option<Case>) -> Result<String, AllocError> {
     }
 }
 
-// Whether the record breaks the expression, for the first reason and with the change of these lines,
-// or keeps it where there are none. The change is looked at where lines are given.
+// Whether the record breaks the expression, for the first reason and with the change of these
+// lines, or keeps it where there are none. The change is looked at where lines are given.
 fn breaks(
     alloc: Global,
     expression: Expression,
@@ -68,14 +68,26 @@ const ROWS: [(&str, &str, &str, &str, &str); 9] = [
         "/c",
         "^/c",
         "{\"c\": 1, \"l\": [{\"c\": 1}, {\"c\": 2}]}",
-        "each /l (/c == ^/c) = false\n  - index: 1\n  item: /c == ^/c = false\n    - found: 2\n    - other: 1\n",
+        "\
+each /l (/c == ^/c) = false
+  - index: 1
+  item: /c == ^/c = false
+    - found: 2
+    - other: 1
+",
     ),
     (
         "/l",
         "^/c",
         "/c",
         "{\"c\": 1, \"l\": [{\"c\": 1}, {\"c\": 2}]}",
-        "each /l (^/c == /c) = false\n  - index: 1\n  item: ^/c == /c = false\n    - found: 1\n    - other: 2\n",
+        "\
+each /l (^/c == /c) = false
+  - index: 1
+  item: ^/c == /c = false
+    - found: 1
+    - other: 2
+",
     ),
     (
         "/l",
@@ -89,35 +101,66 @@ const ROWS: [(&str, &str, &str, &str, &str); 9] = [
         "/c",
         "^/c",
         "{\"l\": [{\"c\": 1}]}",
-        "each /l (/c == ^/c) = false\n  - index: 0\n  item: /c == ^/c = false\n    - found: 1\n    - error: nothing at ^/c\n",
+        "\
+each /l (/c == ^/c) = false
+  - index: 0
+  item: /c == ^/c = false
+    - found: 1
+    - error: nothing at ^/c
+",
     ),
     (
         "/l",
         "^/c",
         "/c",
         "{\"l\": [{\"c\": 1}]}",
-        "each /l (^/c == /c) = false\n  - index: 0\n  item: ^/c == /c = false\n    - error: nothing at ^/c\n",
+        "\
+each /l (^/c == /c) = false
+  - index: 0
+  item: ^/c == /c = false
+    - error: nothing at ^/c
+",
     ),
     (
         "/l",
         "/c",
         "^/c",
         "{\"c\": \"1\", \"l\": [{\"c\": 1}]}",
-        "each /l (/c == ^/c) = false\n  - index: 0\n  item: /c == ^/c = false\n    - found: 1\n    - other: \"1\"\n    - error: not comparable with ^/c\n",
+        "\
+each /l (/c == ^/c) = false
+  - index: 0
+  item: /c == ^/c = false
+    - found: 1
+    - other: \"1\"
+    - error: not comparable with ^/c
+",
     ),
     (
         "/l",
         "/c",
         "^",
         "{\"l\": [{\"c\": 1}]}",
-        "each /l (/c == ^/) = false\n  - index: 0\n  item: /c == ^/ = false\n    - found: 1\n    - other: {\"l\":[{\"c\":1}]}\n    - error: not comparable with ^/\n",
+        "\
+each /l (/c == ^/) = false
+  - index: 0
+  item: /c == ^/ = false
+    - found: 1
+    - other: {\"l\":[{\"c\":1}]}
+    - error: not comparable with ^/
+",
     ),
     (
         "^/l",
         "",
         "^/l/0",
         "{\"l\": [3, 4]}",
-        "each ^/l (/ == ^/l/0) = false\n  - index: 1\n  item: / == ^/l/0 = false\n    - found: 4\n    - other: 3\n",
+        "\
+each ^/l (/ == ^/l/0) = false
+  - index: 1
+  item: / == ^/l/0 = false
+    - found: 4
+    - other: 3
+",
     ),
     (
         "^/m",
@@ -131,7 +174,7 @@ const ROWS: [(&str, &str, &str, &str, &str); 9] = [
 #[test]
 fn paths_from_the_record(rt: HostRuntime) -> Result<(), Fail> {
     for (list, path, other, record, reason) in ROWS {
-        let each = over_list(rt.alloc(), Quantifier::Each, list, path, other)?;
+        let each = over_list(rt.alloc(), HowMany::Each, list, path, other)?;
         assert!(rt; breaks(rt.alloc(), each, record, reason, None)?, "{record}");
     }
     Ok(())
@@ -139,27 +182,63 @@ fn paths_from_the_record(rt: HostRuntime) -> Result<(), Fail> {
 
 // A list that begins at the record, within another: a quantifier, a record, the reason, and the
 // change.
-const WITHIN: [(Quantifier, &str, &str, &str); 4] = [
+const WITHIN: [(HowMany, &str, &str, &str); 4] = [
     (
-        Quantifier::Any,
+        HowMany::Any,
         "{\"c\": 2, \"k\": [{\"x\": 1}, {\"x\": 3}], \"l\": [{\"k\": [{\"x\": 2}]}]}",
-        "each /l (any ^/k (/x == ^/c)) = false\n  - index: 0\n  item: any ^/k (/x == ^/c) = false\n    item: /x == ^/c = false\n      - found: 1\n      - other: 2\n    item: /x == ^/c = false\n      - found: 3\n      - other: 2\n",
-        "each /l (any ^/k (/x == ^/c)) = false\n  - index: 0\n  item: any ^/k (/x == ^/c) = false\n    - index: 0\n    item: /x == ^/c = false\n      - found: 1\n      - other: 2\n      - index: 0\n",
+        "\
+each /l (any ^/k (/x == ^/c)) = false
+  - index: 0
+  item: any ^/k (/x == ^/c) = false
+    item: /x == ^/c = false
+      - found: 1
+      - other: 2
+    item: /x == ^/c = false
+      - found: 3
+      - other: 2
+",
+        "\
+each /l (any ^/k (/x == ^/c)) = false
+  - index: 0
+  item: any ^/k (/x == ^/c) = false
+    - index: 0
+    item: /x == ^/c = false
+      - found: 1
+      - other: 2
+      - index: 0
+",
     ),
     (
-        Quantifier::Any,
+        HowMany::Any,
         "{\"c\": 2, \"k\": [{\"x\": 1}, {\"x\": 2}], \"l\": [{\"k\": []}]}",
         "",
         "",
     ),
     (
-        Quantifier::AtLeast(2),
+        HowMany::AtLeast(2),
         "{\"c\": 2, \"k\": [{\"x\": 2}, {\"x\": 3}], \"l\": [0]}",
-        "each /l (at least 2 ^/k (/x == ^/c)) = false\n  - index: 0\n  item: at least 2 ^/k (/x == ^/c) = false\n    item: /x == ^/c = false\n      - found: 3\n      - other: 2\n      - index: 1\n",
-        "each /l (at least 2 ^/k (/x == ^/c)) = false\n  - index: 0\n  item: at least 2 ^/k (/x == ^/c) = false\n    - index: 0\n    item: /x == ^/c = false\n      - found: 3\n      - other: 2\n      - index: 1\n",
+        "\
+each /l (at least 2 ^/k (/x == ^/c)) = false
+  - index: 0
+  item: at least 2 ^/k (/x == ^/c) = false
+    item: /x == ^/c = false
+      - found: 3
+      - other: 2
+      - index: 1
+",
+        "\
+each /l (at least 2 ^/k (/x == ^/c)) = false
+  - index: 0
+  item: at least 2 ^/k (/x == ^/c) = false
+    - index: 0
+    item: /x == ^/c = false
+      - found: 3
+      - other: 2
+      - index: 1
+",
     ),
     (
-        Quantifier::AtLeast(1),
+        HowMany::AtLeast(1),
         "{\"c\": 2, \"k\": [{\"x\": 2}, {\"x\": 3}], \"l\": [0, 1]}",
         "",
         "",

@@ -1,6 +1,6 @@
 //! What a run writes by its report, its labels, the name of its input, and how much may be written;
 //! and what it counts.
-use super::{settings_of, writes as writes_of};
+use super::{settings_of, writes_block};
 use predicates_lines::MAX_LINE;
 use predicates_vet::settings::Report;
 use predicates_vet::{
@@ -14,8 +14,13 @@ const RULES: &[u8] = b"a: /x == 1\nb: /y == 2\nc: /t matches \"^[a-c]*$\"";
 
 // The first breaks `a` and `b`, the second no record, the third keeps all, the fourth is blank, the
 // fifth breaks all three.
-const RECORDS: &[u8] =
-    b"{\"x\": 3, \"t\": \"b\"}\n\xff\n{\"x\": 1, \"y\": 2, \"t\": \"\"}\n\n{\"y\": 1e2, \"t\": \"d\\\"\"}\n";
+const RECORDS: &[u8] = b"\
+{\"x\": 3, \"t\": \"b\"}
+\xff
+{\"x\": 1, \"y\": 2, \"t\": \"\"}
+
+{\"y\": 1e2, \"t\": \"d\\\"\"}
+";
 
 // How a run is asked for: its report, the path of the labels, the name of the input, and how much
 // may be written.
@@ -47,21 +52,47 @@ const RUNS: [(Asked<'static>, Told<'static>); 9] = [
     (
         (Report::First, None, Some("f"), None),
         (
-            b"f:1: false\na = false\n  rule: /x == 1 = false\n    - found: 3\nf:5: false\na = false\n  rule: /x == 1 = false\n    - error: nothing at /x\n",
+            b"\
+f:1: false
+a = false
+  rule: /x == 1 = false
+    - found: 3
+f:5: false
+a = false
+  rule: /x == 1 = false
+    - error: nothing at /x
+",
             MESSAGE_IN_FILE,
         ),
     ),
     (
         (Report::First, Some("/t"), Some("f"), None),
         (
-            b"f:1 (\"b\"): false\na = false\n  rule: /x == 1 = false\n    - found: 3\nf:5 (\"d\\\"\"): false\na = false\n  rule: /x == 1 = false\n    - error: nothing at /x\n",
+            b"\
+f:1 (\"b\"): false
+a = false
+  rule: /x == 1 = false
+    - found: 3
+f:5 (\"d\\\"\"): false
+a = false
+  rule: /x == 1 = false
+    - error: nothing at /x
+",
             MESSAGE_IN_FILE,
         ),
     ),
     (
         (Report::All, Some("/z"), None, Some(1)),
         (
-            b"record 1 (null): false\na = false\n  rule: /x == 1 = false\n    - found: 3\nb = false\n  rule: /y == 2 = false\n    - error: nothing at /y\n",
+            b"\
+record 1 (null): false
+a = false
+  rule: /x == 1 = false
+    - found: 3
+b = false
+  rule: /y == 2 = false
+    - error: nothing at /y
+",
             MESSAGE,
         ),
     ),
@@ -73,21 +104,39 @@ const RUNS: [(Asked<'static>, Told<'static>); 9] = [
     (
         (JSON, None, None, Some(2)),
         (
-            b"{\"record\":1,\"holds\":false,\"case\":{\"text\":\"a\",\"result\":false,\"products\":[],\"children\":[{\"name\":\"rule\",\"case\":{\"text\":\"/x == 1\",\"result\":false,\"products\":[{\"name\":\"found\",\"value\":3}],\"children\":[]}}]}}\n{\"record\":3,\"holds\":true}\n",
+            b"\
+{\"record\":1,\"holds\":false,\"case\":{\"text\":\"a\",\"result\":false,\"products\":[],\
+    \"children\":[{\"name\":\"rule\",\"case\":{\"text\":\"/x == 1\",\"result\":false,\
+    \"products\":[{\"name\":\"found\",\"value\":3}],\"children\":[]}}]}}
+{\"record\":3,\"holds\":true}
+",
             MESSAGE,
         ),
     ),
     (
         (FAILED_JSON, Some("/t"), Some("f\""), Some(9)),
         (
-            b"{\"file\":\"f\\\"\",\"record\":\"b\",\"holds\":false,\"case\":{\"text\":\"a\",\"result\":false,\"products\":[],\"children\":[{\"name\":\"rule\",\"case\":{\"text\":\"/x == 1\",\"result\":false,\"products\":[{\"name\":\"found\",\"value\":3}],\"children\":[]}}]}}\n{\"file\":\"f\\\"\",\"record\":\"d\\\"\",\"holds\":false,\"case\":{\"text\":\"a\",\"result\":false,\"products\":[],\"children\":[{\"name\":\"rule\",\"case\":{\"text\":\"/x == 1\",\"result\":false,\"products\":[{\"name\":\"error\",\"value\":\"nothing at /x\"}],\"children\":[]}}]}}\n",
+            b"\
+{\"file\":\"f\\\"\",\"record\":\"b\",\"holds\":false,\"case\":{\"text\":\"a\",\"result\":false,\
+    \"products\":[],\"children\":[{\"name\":\"rule\",\"case\":{\"text\":\"/x == 1\",\
+    \"result\":false,\"products\":[{\"name\":\"found\",\"value\":3}],\"children\":[]}}]}}
+{\"file\":\"f\\\"\",\"record\":\"d\\\"\",\"holds\":false,\"case\":{\"text\":\"a\",\"result\":false,\
+    \"products\":[],\"children\":[{\"name\":\"rule\",\"case\":{\"text\":\"/x == 1\",\
+    \"result\":false,\"products\":[{\"name\":\"error\",\"value\":\"nothing at /x\"}],\
+    \"children\":[]}}]}}
+",
             b"vet: f\":2: not UTF-8\n",
         ),
     ),
     (
         (ALL_JSON, Some("/x"), None, Some(1)),
         (
-            b"{\"record\":3,\"holds\":false,\"cases\":[{\"text\":\"a\",\"result\":false,\"products\":[],\"children\":[{\"name\":\"rule\",\"case\":{\"text\":\"/x == 1\",\"result\":false,\"products\":[{\"name\":\"found\",\"value\":3}],\"children\":[]}}]},{\"text\":\"b\",\"result\":false,\"products\":[],\"children\":[{\"name\":\"rule\",\"case\":{\"text\":\"/y == 2\",\"result\":false,\"products\":[{\"name\":\"error\",\"value\":\"nothing at /y\"}],\"children\":[]}}]}]}\n",
+            b"{\"record\":3,\"holds\":false,\"cases\":[{\"text\":\"a\",\"result\":false,\
+             \"products\":[],\"children\":[{\"name\":\"rule\",\"case\":{\"text\":\"/x == 1\",\
+             \"result\":false,\"products\":[{\"name\":\"found\",\"value\":3}],\"children\":[]}}]},\
+             {\"text\":\"b\",\"result\":false,\"products\":[],\"children\":[{\"name\":\"rule\",\
+             \"case\":{\"text\":\"/y == 2\",\"result\":false,\"products\":[{\"name\":\"error\",\
+             \"value\":\"nothing at /y\"}],\"children\":[]}}]}]}\n",
             MESSAGE,
         ),
     ),
@@ -140,8 +189,16 @@ fn reports_with_names_and_room(rt: HostRuntime) -> Result<(), Fail> {
 const LONG: &[u8] = b"{\"x\": 2}\n{\"x\": 3 }\n\n         \n{\"x\": 4}";
 
 // What is written of the short ones, and of the long ones the messages.
-const SHORT_TOLD: &[u8] =
-    b"record 1: false\na = false\n  rule: /x == 1 = false\n    - found: 2\nrecord 5: false\na = false\n  rule: /x == 1 = false\n    - found: 4\n";
+const SHORT_TOLD: &[u8] = b"\
+record 1: false
+a = false
+  rule: /x == 1 = false
+    - found: 2
+record 5: false
+a = false
+  rule: /x == 1 = false
+    - found: 4
+";
 
 const LONG_TOLD: &[u8] =
     b"vet: record 2: longer than 9 bytes\nvet: record 4: longer than 9 bytes\n";
@@ -191,34 +248,32 @@ fn text_of(alloc: Global, letters: usize) -> Result<String, AllocError> {
 // Whether the block of the record, which is no number, shows this of what was found.
 fn shows(alloc: Global, record: &str, shown: &str) -> Result<bool, AllocError> {
     let block = format!(in alloc;
-        "record 1: false\na = false\n  rule: / == 1 = false\n    - found{shown}\n    - error: not a number\n"
+        "\
+record 1: false
+a = false
+  rule: / == 1 = false
+    - found{shown}
+    - error: not a number
+"
     )?;
-    let (rule, counts) = ("a: / == 1", (1, 1, 0));
-    writes_of(
-        alloc,
-        Report::First,
-        None,
-        rule,
-        record.as_bytes(),
-        block.as_bytes(),
-        counts,
-    )
+    let (rule, record) = ("a: / == 1", record.as_bytes());
+    writes_block(alloc, Report::First, rule, record, block.as_bytes())
 }
 
 // Whether the object of the record has the whole of it.
 fn has_whole(alloc: Global, record: &str) -> Result<bool, AllocError> {
     let object = format!(in alloc;
-        "{{\"record\":1,\"holds\":false,\"case\":{{\"text\":\"a\",\"result\":false,\"products\":[],\"children\":[{{\"name\":\"rule\",\"case\":{{\"text\":\"/ == 1\",\"result\":false,\"products\":[{{\"name\":\"found\",\"value\":{record}}},{{\"name\":\"error\",\"value\":\"not a number\"}}],\"children\":[]}}}}]}}}}\n"
+        "{{\"record\":1,\"holds\":false,\"case\":{{\"text\":\"a\",\"result\":false,\"products\":[],\
+         \"children\":[{{\"name\":\"rule\",\"case\":{{\"text\":\"/ == 1\",\"result\":false,\
+         \"products\":[{{\"name\":\"found\",\"value\":{record}}},{{\"name\":\"error\",\
+         \"value\":\"not a number\"}}],\"children\":[]}}}}]}}}}\n"
     )?;
-    let (rule, counts) = ("a: / == 1", (1, 1, 0));
-    writes_of(
+    writes_block(
         alloc,
         JSON,
-        None,
-        rule,
+        "a: / == 1",
         record.as_bytes(),
         object.as_bytes(),
-        counts,
     )
 }
 
@@ -263,7 +318,10 @@ fn summaries(rt: HostRuntime) -> Result<(), Fail> {
 const FAULTS: [(&[u8], &str); 5] = [
     (
         b"a: / >=\nb: / exists\nc: / ==",
-        "vet: rules: line 1, column 8: expected a literal or a path, found the end of the line\nvet: rules: line 3, column 8: expected a literal or a path, found the end of the line\n",
+        "\
+vet: rules: line 1, column 8: expected a literal or a path, found the end of the line
+vet: rules: line 3, column 8: expected a literal or a path, found the end of the line
+",
     ),
     (
         b"a: / >=",
@@ -271,7 +329,8 @@ const FAULTS: [(&[u8], &str); 5] = [
     ),
     (
         b"a: / matches \"[\"",
-        "vet: rules: line 1, rule a: no regular expression: unclosed character class at character 1: [\n",
+        "vet: rules: line 1, rule a: no regular expression: unclosed character class at character \
+         1: [\n",
     ),
     (
         b"a: / exists\na: / exists",
@@ -280,7 +339,11 @@ const FAULTS: [(&[u8], &str); 5] = [
     // A line for each, of patterns too.
     (
         b"a: / matches \"[\"\nb: / exists\n# c\nd: / >=\n\ne: / == 1 and / matches \"(\"",
-        "vet: rules: line 1, rule a: no regular expression: unclosed character class at character 1: [\nvet: rules: line 4, column 8: expected a literal or a path, found the end of the line\nvet: rules: line 6, rule e: no regular expression: unclosed group at character 1: (\n",
+        "\
+vet: rules: line 1, rule a: no regular expression: unclosed character class at character 1: [
+vet: rules: line 4, column 8: expected a literal or a path, found the end of the line
+vet: rules: line 6, rule e: no regular expression: unclosed group at character 1: (
+",
     ),
 ];
 
