@@ -88,12 +88,12 @@ fn writes(alloc: Global, expected: Expected<'_>) -> Result<bool, AllocError> {
 
 // Whether a run over the one record writes the block, which is empty where the record keeps the
 // rules.
-fn writes_block(
+fn writes_block<'a>(
     alloc: Global,
     report: Report,
-    rules: &str,
-    records: &[u8],
-    output: &[u8],
+    rules: &'a str,
+    records: &'a [u8],
+    output: &'a [u8],
 ) -> Result<bool, AllocError> {
     let failed = if output.is_empty() { 0 } else { 1 };
     let expected = Expected {
