@@ -3,6 +3,7 @@ use super::{is_shown, read_check, texts_of};
 use predicates::Predicate;
 use predicates::prelude::*;
 use predicates_explain::{MAX_DEPTH, TextCheck, WordsError};
+use predicates_words::take_word;
 use std::alloc::{AllocError, Global};
 use std::test::Fail;
 
@@ -44,6 +45,16 @@ fn texts_of_errors(rt: HostRuntime) -> Result<(), Fail> {
         assert!(rt; right, "{expected}");
     }
     assert!(rt; is_shown(alloc, WordsError::NoMemory, "no memory")?);
+    Ok(())
+}
+
+#[test]
+fn words_are_taken_one_by_one(rt: HostRuntime) -> Result<(), Fail> {
+    let alloc = rt.alloc();
+    let mut checks = Vec::new(alloc);
+    let mut depths = Vec::new(alloc);
+    assert!(rt; take_word(alloc, &mut checks, &mut depths, "empty")?.is_none());
+    assert!(rt; checks.len() == 1);
     Ok(())
 }
 
