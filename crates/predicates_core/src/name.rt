@@ -3,9 +3,9 @@
 //! ```
 //! let blank = predicate::str::is_empty().trim().name("blank");
 //! ```
-ghost use Rattle.std.specs.Prelude.{◌≡◌, [], Some};
+ghost use Rattle.std.specs.Prelude.{◌≡◌, ◌↔◌, [], Some};
 ghost use Rattle.predicates_core.specs.Label.{plain};
-ghost use Rattle.predicates_core.specs.Formula.{Named};
+ghost use Rattle.predicates_core.specs.Formula.{Formula, Named};
 ghost use Rattle.predicates_core.specs.Parts.{part};
 ghost use Rattle.predicates_core.specs.Combined.{IsNamed};
 ghost use Rattle.predicates_core.specs.Name.{inner_of, name_of};
@@ -28,11 +28,24 @@ pub struct NamePredicate<M, Item, N = &'static str> {
     name: N,
 }
 
-impl<M, Item, N> NamePredicate<M, Item, N> {
+impl<M: Predicate<Item>, Item, N: AsStaticStr> NamePredicate<M, Item, N> {
     /// The predicate under the name.
     pub fn new(inner: M, name: N) -> NamePredicate<M, Item, N>
         ensures inner { inner_of result ≡ inner }
         ensures name { name_of result ≡ name }
+        ensures formula { (v : Item) (f : Formula)
+            → ⟦<NamePredicate<M, Item, N> as Predicate<Item>>⟧.formula result v f
+            ↔ IsNamed (N.bytes name) (M.formula inner v) f }
+        ensures lawful { ⟦<NamePredicate<M, Item, N> as Predicate<Item>>⟧.lawful result
+            ↔ M.lawful inner }
+        ensures infallible { (v : Item)
+            → ⟦<NamePredicate<M, Item, N> as Predicate<Item>>⟧.infallible result v
+            ↔ M.infallible inner v }
+        ensures values { ⟦<NamePredicate<M, Item, N> as PredicateReflection>⟧.parameters_of result
+            ≡ [] }
+        ensures parts { ⟦<NamePredicate<M, Item, N> as PredicateReflection>⟧.children_of result
+            ≡ part (N.bytes name) (M.output inner) (M.parameters_of inner)
+            (M.children_of inner) }
     {
         NamePredicate {
             inner,
@@ -152,7 +165,10 @@ pub trait PredicateNameExt<Item>: Predicate<Item> {
     where
         Self: Sized,
         ensures inner { inner_of result ≡ self }
-        ensures name { name_of result ≡ name };
+        ensures name { name_of result ≡ name }
+        ensures formula { (v : Item) (f : Formula)
+            → ⟦<NamePredicate<Self, Item, N> as Predicate<Item>>⟧.formula result v f
+            ↔ IsNamed (N.bytes name) (Self.formula self v) f };
 }
 
 impl<P: Predicate<Item>, Item> PredicateNameExt<Item> for P {
