@@ -6,7 +6,10 @@
 //! ```
 //!
 //! Making one takes no memory. `eval` takes none where those of the parts take none.
-ghost use Rattle.std.specs.Prelude.{◌≡◌};
+ghost use Rattle.std.specs.Prelude.{◌≡◌, ◌↔◌};
+ghost use Rattle.predicates_core.specs.Combined.{infix_text, not_text, sign, IsNot, IsPair};
+ghost use Rattle.predicates_core.specs.Formula.{Formula};
+ghost use Rattle.predicates_core.specs.declared.custom.join.Operator.TheVariants.{And, Or, Xor};
 ghost use Rattle.predicates_boolean.specs.Join.{left_of, right_of};
 ghost use Rattle.predicates_boolean.specs.Not.{inner_of};
 
@@ -33,7 +36,11 @@ pub trait PredicateBooleanExt<Item>: Predicate<Item> {
     where
         Self: Sized,
         ensures left { left_of result ≡ self }
-        ensures right { right_of result ≡ other };
+        ensures right { right_of result ≡ other }
+        ensures formula { (v : Item) (f : Formula)
+            → ⟦<AndPredicate<Self, B, Item> as Predicate<Item>>⟧.formula result v f
+            ↔ IsPair And (infix_text (sign And) (Self.output self) (B.output other))
+            (Self.formula self v) (B.formula other v) f };
 
     /// `self` or `other` holds; `other` is evaluated only where `self` does not hold.
     ///
@@ -46,7 +53,11 @@ pub trait PredicateBooleanExt<Item>: Predicate<Item> {
     where
         Self: Sized,
         ensures left { left_of result ≡ self }
-        ensures right { right_of result ≡ other };
+        ensures right { right_of result ≡ other }
+        ensures formula { (v : Item) (f : Formula)
+            → ⟦<OrPredicate<Self, B, Item> as Predicate<Item>>⟧.formula result v f
+            ↔ IsPair Or (infix_text (sign Or) (Self.output self) (B.output other))
+            (Self.formula self v) (B.formula other v) f };
 
     /// Exactly one of `self` and `other` holds; both are evaluated.
     ///
@@ -59,7 +70,11 @@ pub trait PredicateBooleanExt<Item>: Predicate<Item> {
     where
         Self: Sized,
         ensures left { left_of result ≡ self }
-        ensures right { right_of result ≡ other };
+        ensures right { right_of result ≡ other }
+        ensures formula { (v : Item) (f : Formula)
+            → ⟦<XorPredicate<Self, B, Item> as Predicate<Item>>⟧.formula result v f
+            ↔ IsPair Xor (infix_text (sign Xor) (Self.output self) (B.output other))
+            (Self.formula self v) (B.formula other v) f };
 
     /// `self` does not hold.
     ///
@@ -71,7 +86,10 @@ pub trait PredicateBooleanExt<Item>: Predicate<Item> {
     fn not(self) -> NotPredicate<Self, Item>
     where
         Self: Sized,
-        ensures { inner_of result ≡ self };
+        ensures inner { inner_of result ≡ self }
+        ensures formula { (v : Item) (f : Formula)
+            → ⟦<NotPredicate<Self, Item> as Predicate<Item>>⟧.formula result v f
+            ↔ IsNot (not_text (Self.output self)) (Self.formula self v) f };
 }
 
 impl<P: Predicate<Item>, Item> PredicateBooleanExt<Item> for P {

@@ -1,8 +1,9 @@
-//! What combinators mean, as contracts of calls that do nothing.
+//! What lists of rules mean on an item of any type, as contracts of calls that do nothing: the
+//! calls that make a list don't name the items that it is asked of.
 //!
 //! ```
-//! // From here on a proof knows the formulas of `both` on `item`, and when it takes no memory.
-//! semantics::join(&both, &item);
+//! // From here on a proof knows the formulas of `all` on `item`, and when it takes no memory.
+//! semantics::rules(&all, &item);
 //! ```
 //!
 //! Each clause holds for every predicate of the type and every item. The clauses state the
@@ -10,49 +11,18 @@
 //! parameters and children.
 ghost use Rattle.std.specs.Prelude.{◌≡◌, ◌↔◌, [], codes, map};
 ghost use Rattle.std.specs.List.{AllByRecursion};
-ghost use Rattle.predicates_core.specs.Combined.{infix_text, not_text, sign, IsPair, IsNot};
 ghost use Rattle.predicates_core.specs.Formula.{Formula};
-ghost use Rattle.predicates_core.specs.Parts.{part, part_of_each, two_parts};
+ghost use Rattle.predicates_core.specs.Parts.{part_of_each};
 ghost use Rattle.predicates_core.specs.Several.{IsOfMembers, listed_text};
-ghost use Rattle.predicates_boolean.specs.Join.{left_of, right_of};
-ghost use Rattle.predicates_boolean.specs.Not as Not;
 ghost use Rattle.predicates_boolean.specs.Rules.{rules_of, word};
 ghost use Rattle.predicates_boolean.specs.Threshold.{counted_of, least_of};
 ghost use Rattle.predicates_core.specs.Thresholds.{IsOfThreshold, counted_text};
 
-use crate::boolean::{JoinOperator, JoinPredicate, NotPredicate};
 use crate::rules::RulesPredicate;
 use crate::threshold::AtLeastPredicate;
 use predicates_core::Predicate;
 use predicates_core::custom::Quantifier;
 use predicates_core::reflection::PredicateReflection;
-
-/// Its formulas are `Join` by the operator over a formula of each part.
-pub fn join<O: JoinOperator, A: Predicate<Item>, B: Predicate<Item>, Item>(
-    both: &JoinPredicate<O, A, B, Item>,
-    item: &Item,
-)
-    ensures formula { (f : Formula)
-        → ⟦<JoinPredicate<O, A, B, Item> as Predicate<Item>>⟧.formula both.now item.now f
-        ↔ IsPair O.joins_by
-        (infix_text (sign O.joins_by) (A.output (left_of both.now)) (B.output (right_of both.now)))
-        (A.formula (left_of both.now) item.now)
-        (B.formula (right_of both.now) item.now)
-        f }
-    ensures lawful { ⟦<JoinPredicate<O, A, B, Item> as Predicate<Item>>⟧.lawful both.now
-        ↔ A.lawful (left_of both.now) × B.lawful (right_of both.now) }
-    ensures infallible { ⟦<JoinPredicate<O, A, B, Item> as Predicate<Item>>⟧.infallible
-        both.now item.now
-        ↔ A.infallible (left_of both.now) item.now × B.infallible (right_of both.now) item.now }
-    ensures values { ⟦<JoinPredicate<O, A, B, Item> as PredicateReflection>⟧.parameters_of both.now
-        ≡ [] }
-    ensures parts { ⟦<JoinPredicate<O, A, B, Item> as PredicateReflection>⟧.children_of both.now
-        ≡ two_parts
-        (codes "left") (A.output (left_of both.now))
-        (A.parameters_of (left_of both.now)) (A.children_of (left_of both.now))
-        (codes "right") (B.output (right_of both.now))
-        (B.parameters_of (right_of both.now)) (B.children_of (right_of both.now)) }
-{}
 
 /// Its formulas are a join over a formula of each rule, in order, under the name `rule`; without
 /// rules it is one leaf.
@@ -90,23 +60,4 @@ pub fn at_least<P: Predicate<Item>, Item>(threshold: &AtLeastPredicate<P>, item:
     ensures parts { ⟦<AtLeastPredicate<P> as PredicateReflection>⟧.children_of threshold.now
         ≡ part_of_each
         (codes "rule") P.output P.parameters_of P.children_of (counted_of threshold.now) }
-{}
-
-/// Its formulas are `Not` over a formula of its part.
-pub fn not<M: Predicate<Item>, Item>(opposite: &NotPredicate<M, Item>, item: &Item)
-    ensures formula { (f : Formula)
-        → ⟦<NotPredicate<M, Item> as Predicate<Item>>⟧.formula opposite.now item.now f
-        ↔ IsNot (not_text (M.output (Not.inner_of opposite.now)))
-        (M.formula (Not.inner_of opposite.now) item.now) f }
-    ensures lawful { ⟦<NotPredicate<M, Item> as Predicate<Item>>⟧.lawful opposite.now
-        ↔ M.lawful (Not.inner_of opposite.now) }
-    ensures infallible { ⟦<NotPredicate<M, Item> as Predicate<Item>>⟧.infallible
-        opposite.now item.now
-        ↔ M.infallible (Not.inner_of opposite.now) item.now }
-    ensures values { ⟦<NotPredicate<M, Item> as PredicateReflection>⟧.parameters_of opposite.now
-        ≡ [] }
-    ensures parts { ⟦<NotPredicate<M, Item> as PredicateReflection>⟧.children_of opposite.now
-        ≡ part (codes "predicate") (M.output (Not.inner_of opposite.now))
-        (M.parameters_of (Not.inner_of opposite.now))
-        (M.children_of (Not.inner_of opposite.now)) }
 {}

@@ -71,7 +71,7 @@ pub type ExactlyPredicate<P, Item> = AndPredicate<
 /// assert!(rt; one_at_most.eval(alloc, &11)?);
 /// assert!(rt; !one_at_most.eval(alloc, &7)?);
 /// ```
-pub fn at_most<P, Item>(most: usize, rules: Vec<P>) -> AtMostPredicate<P, Item>
+pub fn at_most<P: Predicate<Item>, Item>(most: usize, rules: Vec<P>) -> AtMostPredicate<P, Item>
     ensures most { least_of (inner_of result) ≡ one_more most }
     ensures rules { counted_of (inner_of result) ≡ rules.items }
 {
@@ -88,7 +88,7 @@ pub fn at_most<P, Item>(most: usize, rules: Vec<P>) -> AtMostPredicate<P, Item>
 /// assert!(rt; two.eval(alloc, &7)?);
 /// assert!(rt; !two.eval(alloc, &11)?);
 /// ```
-pub fn exactly<P: Clone, Item>(
+pub fn exactly<P: Predicate<Item> + Clone, Item>(
     number: usize,
     rules: Vec<P>,
 ) -> Result<ExactlyPredicate<P, Item>, AllocError>

@@ -1,7 +1,7 @@
 //! Two predicates that an operator joins: and, or, xor.
-ghost use Rattle.std.specs.Prelude.{◌≡◌, [], codes};
+ghost use Rattle.std.specs.Prelude.{◌≡◌, ◌↔◌, [], codes};
 ghost use Rattle.predicates_core.specs.Label.{plain};
-ghost use Rattle.predicates_core.specs.Formula.{pair};
+ghost use Rattle.predicates_core.specs.Formula.{Formula, pair};
 ghost use Rattle.predicates_core.specs.declared.custom.join.Operator.{Operator};
 ghost use Rattle.predicates_core.specs.declared.custom.join.Operator.TheVariants.{And, Or, Xor};
 ghost use Rattle.predicates_core.specs.Parts.{two_parts};
@@ -80,13 +80,31 @@ pub type OrPredicate<M1, M2, Item> = JoinPredicate<OrOperator, M1, M2, Item>;
 /// Exactly one part holds. Made by `PredicateBooleanExt::xor`.
 pub type XorPredicate<M1, M2, Item> = JoinPredicate<XorOperator, M1, M2, Item>;
 
-impl<O, M1, M2, Item> JoinPredicate<O, M1, M2, Item> {
+impl<O: JoinOperator, M1: Predicate<Item>, M2: Predicate<Item>, Item> JoinPredicate<
+    O,
+    M1,
+    M2,
+    Item,
+> {
     ghost use Rattle.predicates_boolean.specs.Join.{left_of, right_of};
 
     /// Joins two parts; `a` is the left one and is evaluated first.
     pub fn new(a: M1, b: M2) -> JoinPredicate<O, M1, M2, Item>
         ensures left { left_of result ≡ a }
         ensures right { right_of result ≡ b }
+        ensures formula { (v : Item) (f : Formula)
+            → ⟦<JoinPredicate<O, M1, M2, Item> as Predicate<Item>>⟧.formula result v f
+            ↔ IsPair O.joins_by (infix_text (sign O.joins_by) (M1.output a) (M2.output b))
+            (M1.formula a v) (M2.formula b v) f }
+        ensures lawful { ⟦<JoinPredicate<O, M1, M2, Item> as Predicate<Item>>⟧.lawful result
+            ↔ M1.lawful a × M2.lawful b }
+        ensures infallible { (v : Item)
+            → ⟦<JoinPredicate<O, M1, M2, Item> as Predicate<Item>>⟧.infallible result v
+            ↔ M1.infallible a v × M2.infallible b v }
+        ensures values { ⟦<JoinPredicate<O, M1, M2, Item> as PredicateReflection>⟧.parameters_of result ≡ [] }
+        ensures parts { ⟦<JoinPredicate<O, M1, M2, Item> as PredicateReflection>⟧.children_of result
+            ≡ two_parts (codes "left") (M1.output a) (M1.parameters_of a) (M1.children_of a)
+            (codes "right") (M2.output b) (M2.parameters_of b) (M2.children_of b) }
     {
         JoinPredicate {
             a,

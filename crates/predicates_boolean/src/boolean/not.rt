@@ -1,7 +1,7 @@
 //! The part does not hold.
-ghost use Rattle.std.specs.Prelude.{◌≡◌, [], codes};
+ghost use Rattle.std.specs.Prelude.{◌≡◌, ◌↔◌, [], codes};
 ghost use Rattle.predicates_core.specs.Label.{plain};
-ghost use Rattle.predicates_core.specs.Formula.{Not};
+ghost use Rattle.predicates_core.specs.Formula.{Formula, Not};
 ghost use Rattle.predicates_core.specs.Parts.{part};
 ghost use Rattle.predicates_core.specs.Combined.{not_text, IsNot};
 ghost use Rattle.predicates_core.proofs.CombinedLemmas.{not_text_fits, one_not, has_not};
@@ -20,12 +20,25 @@ pub struct NotPredicate<M, Item> {
     item: PhantomData<Item>,
 }
 
-impl<M, Item> NotPredicate<M, Item> {
+impl<M: Predicate<Item>, Item> NotPredicate<M, Item> {
     ghost use Rattle.predicates_boolean.specs.Not.{inner_of};
 
     /// Holds where `inner` does not, as `PredicateBooleanExt::not`.
     pub fn new(inner: M) -> NotPredicate<M, Item>
-        ensures { inner_of result ≡ inner }
+        ensures inner { inner_of result ≡ inner }
+        ensures formula { (v : Item) (f : Formula)
+            → ⟦<NotPredicate<M, Item> as Predicate<Item>>⟧.formula result v f
+            ↔ IsNot (not_text (M.output inner)) (M.formula inner v) f }
+        ensures lawful { ⟦<NotPredicate<M, Item> as Predicate<Item>>⟧.lawful result
+            ↔ M.lawful inner }
+        ensures infallible { (v : Item)
+            → ⟦<NotPredicate<M, Item> as Predicate<Item>>⟧.infallible result v
+            ↔ M.infallible inner v }
+        ensures values { ⟦<NotPredicate<M, Item> as PredicateReflection>⟧.parameters_of result
+            ≡ [] }
+        ensures parts { ⟦<NotPredicate<M, Item> as PredicateReflection>⟧.children_of result
+            ≡ part (codes "predicate") (M.output inner) (M.parameters_of inner)
+            (M.children_of inner) }
     {
         NotPredicate {
             inner,
