@@ -1,10 +1,11 @@
 //! A predicate of texts in a box.
-ghost use Rattle.std.specs.Prelude.{◌≡◌, refl, IfOk, IsOk, string_bytes, Some, codes};
+ghost use Rattle.std.specs.Prelude.{◌≡◌, ◌↔◌, refl, IfOk, IsOk, string_bytes, Some, codes};
 ghost use Rattle.predicates_core.specs.Label.{Fits};
-ghost use Rattle.predicates_core.specs.Formula.{HasTruth};
+ghost use Rattle.predicates_core.specs.Formula.{Formula, HasTruth};
 ghost use Rattle.predicates_core.specs.Shows.{IsAnswer, IsFound};
 ghost use Rattle.predicates_core.specs.Change.{IsFoundChange};
 ghost use Rattle.predicates_core.specs.Leaves.{IsExactly};
+ghost use Rattle.predicates_core.specs.Text.{Text};
 ghost use Rattle.predicates.specs.Boxed.{inner_of, kept_text};
 ghost use Rattle.predicates.specs.Printed.{as_printed, IsPrintedAs, HasFormulas};
 ghost use Rattle.predicates.specs.PrintedLaws.{printed_text_fits, one_printed};
@@ -36,6 +37,18 @@ impl BoxPredicate {
         ensures text { IfOk result (λ made. Fits (text_output inner) (kept_text made)) }
         ensures same { IfOk result (λ made.
             HasFormulas (text_formula inner) (⟦<BoxPredicate as Predicate<String>>⟧.formula made)) }
+        ensures formula { IfOk result (λ made. (v : Text) (f : Formula)
+            → ⟦<BoxPredicate as Predicate<String>>⟧.formula made v f
+            ↔ IsPrintedAs (kept_text made) (text_formula inner (string_bytes v)) f) }
+        ensures lawful { IfOk result ⟦<BoxPredicate as Predicate<String>>⟧.lawful }
+        ensures infallible { IfOk result (λ made. (v : Text)
+            → ⟦<BoxPredicate as Predicate<String>>⟧.infallible made v
+            ↔ text_infallible inner v) }
+        ensures values { IfOk result (λ made.
+            ⟦<BoxPredicate as PredicateReflection>⟧.parameters_of made
+            ≡ text_parameters_of inner) }
+        ensures parts { IfOk result (λ made.
+            ⟦<BoxPredicate as PredicateReflection>⟧.children_of made ≡ text_children_of inner) }
     {
         let printed = inner.text_printed(alloc)?;
         Ok(BoxPredicate { inner, printed })
