@@ -49,6 +49,16 @@ fn texts_of_errors(rt: HostRuntime) -> Result<(), Fail> {
 }
 
 #[test]
+fn check_that_the_words_leave(rt: HostRuntime) -> Result<(), Fail> {
+    let alloc = rt.alloc();
+    let words = texts_of(alloc, &["empty", "trim", "not"])?;
+    let text = String::from_str(alloc, "a")?;
+    let check = TextCheck::from_words(alloc, &words)?; // `empty`, `trim`, `not`
+    assert!(rt; check.eval(alloc, &text)?);
+    Ok(())
+}
+
+#[test]
 fn words_are_taken_one_by_one(rt: HostRuntime) -> Result<(), Fail> {
     let alloc = rt.alloc();
     let mut checks = Vec::new(alloc);

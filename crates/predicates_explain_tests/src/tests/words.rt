@@ -37,6 +37,18 @@ fn which_tokens_are_words(rt: HostRuntime) -> Result<(), Fail> {
     Ok(())
 }
 
+#[test]
+fn words_are_read_and_applied(rt: HostRuntime) -> Result<(), Fail> {
+    let alloc = rt.alloc();
+    assert!(rt; read_word(alloc, "trim")? == Some(Word::Trim));
+    assert!(rt; read_word(alloc, "trimmed")?.is_none());
+    let mut stack = Vec::new(alloc);
+    apply_word(alloc, &mut stack, Word::Empty)?;
+    apply_word(alloc, &mut stack, Word::Trim)?;
+    assert!(rt; stack.len() == 1);
+    Ok(())
+}
+
 // Takes the tokens in order, and answers the first fault.
 fn apply_tokens(
     alloc: Global,
