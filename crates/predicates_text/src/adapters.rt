@@ -4,8 +4,16 @@
 //! let blank = predicate::str::is_empty().trim();
 //! let utf8 = predicate::str::is_empty().not().from_utf8();
 //! ```
-ghost use Rattle.std.specs.Prelude.{◌≡◌};
+ghost use Rattle.std.specs.Prelude.{◌≡◌, ◌↔◌, ℕ, Vec};
+ghost use Rattle.std.specs.Str.{IsUtf8};
+ghost use Rattle.std.specs.declared.alloc.Global.{Global};
+ghost use Rattle.predicates_core.specs.Formula.{Formula};
+ghost use Rattle.predicates_core.specs.Text.{Text};
 ghost use Rattle.predicates_text.specs.AdapterParts.{inner_of};
+ghost use Rattle.predicates_text.specs.ViewFormulas.{IsOfEach, IsDecoded, IsTrimmedOf};
+ghost use Rattle.predicates_text.specs.ViewFormulas.{HasEvenLinesOf, IsCaseFoldedOf};
+ghost use Rattle.predicates_text.specs.declared.adapters.fold_case.FoldCaseView.{FoldCaseView};
+ghost use Rattle.predicates_text.specs.declared.adapters.view.ViewPredicate.{ViewPredicate};
 
 mod fold_case;
 mod normalize;
@@ -33,7 +41,14 @@ pub trait PredicateStrExt: Predicate<String> {
     fn trim(self) -> TrimPredicate<Self>
     where
         Self: Sized,
-        ensures inner { inner_of result ≡ self };
+        ensures inner { inner_of result ≡ self }
+        ensures formula { (v : Text) (f : Formula)
+            → ⟦<TrimPredicate<Self> as Predicate<String>>⟧.formula result v f
+            ↔ IsOfEach (Self.formula self) (IsTrimmedOf v) f }
+        ensures lawful { ⟦<TrimPredicate<Self> as Predicate<String>>⟧.lawful result
+            ↔ Self.lawful self }
+        ensures fallible { (v : Text)
+            → ¬ (⟦<TrimPredicate<Self> as Predicate<String>>⟧.infallible result v) };
 
     /// The predicate of a text with even line endings: a carriage return, with the line feed behind
     /// it or alone, counts as a line feed. Its `eval` takes memory for that text, but none where
@@ -47,7 +62,14 @@ pub trait PredicateStrExt: Predicate<String> {
     fn normalize(self) -> NormalizedPredicate<Self>
     where
         Self: Sized,
-        ensures inner { inner_of result ≡ self };
+        ensures inner { inner_of result ≡ self }
+        ensures formula { (v : Text) (f : Formula)
+            → ⟦<NormalizedPredicate<Self> as Predicate<String>>⟧.formula result v f
+            ↔ IsOfEach (Self.formula self) (HasEvenLinesOf v) f }
+        ensures lawful { ⟦<NormalizedPredicate<Self> as Predicate<String>>⟧.lawful result
+            ↔ Self.lawful self }
+        ensures fallible { (v : Text)
+            → ¬ (⟦<NormalizedPredicate<Self> as Predicate<String>>⟧.infallible result v) };
 
     /// The predicate of a text after the default case folding of Unicode, which is one for texts
     /// that differ in case alone. A text that the predicate is made of is not folded. Its `eval`
@@ -61,7 +83,18 @@ pub trait PredicateStrExt: Predicate<String> {
     fn fold_case(self) -> FoldCasePredicate<Self>
     where
         Self: Sized,
-        ensures inner { inner_of result ≡ self };
+        ensures inner { inner_of result ≡ self }
+        ensures formula { (v : Text) (f : Formula)
+            → ⟦<FoldCasePredicate<Self> as Predicate<String>>⟧.formula result v f
+            ↔ IsOfEach (Self.formula self) (IsCaseFoldedOf v) f }
+        ensures lawful { ⟦<FoldCasePredicate<Self> as Predicate<String>>⟧.lawful result
+            ↔ Self.lawful self }
+        ensures fallible { (v : Text)
+            → ¬ (⟦<FoldCasePredicate<Self> as Predicate<String>>⟧.infallible result v) }
+        ensures again { (twice : ViewPredicate FoldCaseView (ViewPredicate FoldCaseView Self))
+            (v : Text) (f : Formula) → inner_of twice ≡ result
+            → ⟦<FoldCasePredicate<FoldCasePredicate<Self>> as Predicate<String>>⟧.formula twice v f
+            ↔ ⟦<FoldCasePredicate<Self> as Predicate<String>>⟧.formula result v f };
 
     /// The predicate of the text that bytes encode, which is false on other bytes. Its `eval`
     /// takes memory for the text, and none on other bytes.
@@ -74,7 +107,15 @@ pub trait PredicateStrExt: Predicate<String> {
     fn from_utf8(self) -> Utf8Predicate<Self>
     where
         Self: Sized,
-        ensures inner { inner_of result ≡ self };
+        ensures inner { inner_of result ≡ self }
+        ensures formula { (v : Vec ℕ Global) (f : Formula)
+            → ⟦<Utf8Predicate<Self> as Predicate<Vec<u8>>>⟧.formula result v f
+            ↔ IsDecoded (Self.output self) (Self.formula self) v.items f }
+        ensures lawful { ⟦<Utf8Predicate<Self> as Predicate<Vec<u8>>>⟧.lawful result
+            ↔ Self.lawful self }
+        ensures infallible { (v : Vec ℕ Global)
+            → ⟦<Utf8Predicate<Self> as Predicate<Vec<u8>>>⟧.infallible result v
+            ↔ ¬ (IsUtf8 v.items) };
 }
 
 impl<P: Predicate<String>> PredicateStrExt for P {

@@ -17,7 +17,6 @@ pub mod count;
 mod expressions;
 mod leaf_case;
 pub mod search;
-pub mod semantics;
 mod text_count;
 mod text_test;
 mod views;

@@ -5,6 +5,7 @@ ghost use Rattle.predicates_core.specs.Formula.{Formula};
 ghost use Rattle.predicates_core.specs.Label.{value_of};
 ghost use Rattle.predicates_core.specs.LeafLaws.{exactly_text_fits, one_exactly};
 ghost use Rattle.predicates_core.specs.Leaves.{IsExactly};
+ghost use Rattle.predicates_core.specs.Text.{Text};
 ghost use Rattle.predicates_core.specs.Tree.{empty};
 ghost use Rattle.predicates_text.specs.Leaves.{number_leaf};
 
@@ -41,6 +42,24 @@ pub trait TextCount: fmt::Display {
 pub struct TextCountPredicate<T> {
     pub(crate) counted: T,
     pub(crate) count: usize,
+}
+
+impl<T: TextCount> TextCountPredicate<T> {
+    // The predicate that asks for so many.
+    pub(crate) fn new(counted: T, count: usize) -> TextCountPredicate<T>
+        ensures counted { result.counted ≡ counted }
+        ensures count { result.count ≡ count }
+        ensures lawful { ⟦<TextCountPredicate<T> as Predicate<String>>⟧.lawful result }
+        ensures infallible { (v : Text)
+            → ⟦<TextCountPredicate<T> as Predicate<String>>⟧.infallible result v
+            ↔ T.infallible counted }
+        ensures values { ⟦<TextCountPredicate<T> as PredicateReflection>⟧.parameters_of result
+            ≡ value_of (codes "count") (Some (decimal count)) }
+        ensures parts { ⟦<TextCountPredicate<T> as PredicateReflection>⟧.children_of result
+            ≡ empty }
+    {
+        TextCountPredicate { counted, count }
+    }
 }
 
 impl<T: fmt::Display> fmt::Display for TextCountPredicate<T> {

@@ -3,6 +3,7 @@ ghost use Rattle.std.specs.Prelude.{◌≡◌, ◌↔◌, refl, [], ℕ, Bool, L
 ghost use Rattle.predicates_core.specs.Formula.{Formula};
 ghost use Rattle.predicates_core.specs.LeafLaws.{exactly_text_fits, one_exactly};
 ghost use Rattle.predicates_core.specs.Leaves.{IsExactly};
+ghost use Rattle.predicates_core.specs.Text.{Text};
 ghost use Rattle.predicates_core.specs.Tree.{empty};
 ghost use Rattle.predicates_text.specs.Leaves.{text_leaf};
 
@@ -41,6 +42,21 @@ pub struct TextTestPredicate<T> {
 }
 
 impl<T: TextTest> TextTestPredicate<T> {
+    // The predicate over this test.
+    pub(crate) fn new(test: T) -> TextTestPredicate<T>
+        ensures test { result.test ≡ test }
+        ensures lawful { ⟦<TextTestPredicate<T> as Predicate<String>>⟧.lawful result }
+        ensures infallible { (v : Text)
+            → ⟦<TextTestPredicate<T> as Predicate<String>>⟧.infallible result v
+            ↔ T.infallible test }
+        ensures values { ⟦<TextTestPredicate<T> as PredicateReflection>⟧.parameters_of result
+            ≡ [] }
+        ensures parts { ⟦<TextTestPredicate<T> as PredicateReflection>⟧.children_of result
+            ≡ empty }
+    {
+        TextTestPredicate { test }
+    }
+
     // Whether the test holds of the text. Not inlined, so that `explain` has a small frame.
     #[inline(never)]
     fn verdict(&self, alloc: Global, text: &str) -> Result<bool, AllocError>

@@ -48,12 +48,17 @@ pub struct ViewPredicate<V, P> {
     view: PhantomData<V>,
 }
 
-impl<V, P> ViewPredicate<V, P> {
+impl<V, P: PredicateReflection> ViewPredicate<V, P> {
     ghost use Rattle.predicates_text.specs.AdapterParts.{inner_of};
 
     // The adapter over this predicate.
     pub(crate) fn new(inner: P) -> ViewPredicate<V, P>
-        ensures { inner_of result ≡ inner }
+        ensures inner { inner_of result ≡ inner }
+        ensures values { ⟦<ViewPredicate<V, P> as PredicateReflection>⟧.parameters_of result
+            ≡ [] }
+        ensures parts { ⟦<ViewPredicate<V, P> as PredicateReflection>⟧.children_of result
+            ≡ part (codes "predicate") (P.output inner) (P.parameters_of inner)
+            (P.children_of inner) }
     {
         ViewPredicate {
             inner,

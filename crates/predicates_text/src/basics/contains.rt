@@ -1,9 +1,11 @@
 //! Whether a text contains a pattern.
-ghost use Rattle.std.specs.Prelude.{◌≡◌, string_bytes};
+ghost use Rattle.std.specs.Prelude.{◌≡◌, ◌↔◌, string_bytes};
 ghost use Rattle.std.specs.Str.{chars};
+ghost use Rattle.predicates_core.specs.Formula.{Formula};
+ghost use Rattle.predicates_core.specs.Text.{Text};
 ghost use Rattle.predicates_text.specs.Leaves.{contains_text};
 ghost use Rattle.predicates_text.specs.LeafFormulaLaws.{is_text_leaf};
-ghost use Rattle.predicates_text.specs.LeafFormulas.{IsContainsLeaf};
+ghost use Rattle.predicates_text.specs.LeafFormulas.{IsContainsLeaf, IsCountedLeaf};
 ghost use Rattle.predicates_text.specs.Patterns.{contains_pattern, matches_pattern, matches_count};
 ghost use Rattle.predicates_text.specs.PlaceLaws.{part_decides};
 ghost use Rattle.predicates_text.specs.Places.{is_part};
@@ -12,6 +14,7 @@ use crate::basics::matches::MatchesPredicate;
 use crate::search;
 use crate::text_count::TextCountPredicate;
 use crate::text_test::{TextTest, TextTestPredicate};
+use predicates_core::Predicate;
 use std::alloc::{AllocError, Global};
 use std::fmt;
 
@@ -31,10 +34,13 @@ pub struct ContainsPredicate {
 /// ```
 pub fn contains(pattern: String) -> TextTestPredicate<ContainsPredicate>
     ensures pattern { contains_pattern result ≡ string_bytes pattern }
+    ensures formula { (v : Text) (f : Formula)
+        → ⟦<TextTestPredicate<ContainsPredicate> as Predicate<String>>⟧.formula result v f
+        ↔ IsContainsLeaf (string_bytes pattern) (string_bytes v) f }
+    ensures infallible { (v : Text)
+        → ⟦<TextTestPredicate<ContainsPredicate> as Predicate<String>>⟧.infallible result v }
 {
-    TextTestPredicate {
-        test: ContainsPredicate { pattern },
-    }
+    TextTestPredicate::new(ContainsPredicate { pattern })
 }
 
 impl TextTestPredicate<ContainsPredicate> {
@@ -50,11 +56,13 @@ impl TextTestPredicate<ContainsPredicate> {
     pub fn count(self, count: usize) -> MatchesPredicate
         ensures pattern { matches_pattern result ≡ contains_pattern self }
         ensures count { matches_count result ≡ count }
+        ensures formula { (v : Text) (f : Formula)
+            → ⟦<MatchesPredicate as Predicate<String>>⟧.formula result v f
+            ↔ IsCountedLeaf (contains_pattern self) count (string_bytes v) f }
+        ensures infallible { (v : Text)
+            → ⟦<MatchesPredicate as Predicate<String>>⟧.infallible result v }
     {
-        TextCountPredicate {
-            counted: self.test,
-            count,
-        }
+        TextCountPredicate::new(self.test, count)
     }
 }
 

@@ -1,6 +1,8 @@
 //! Whether a text is another one but for case.
-ghost use Rattle.std.specs.Prelude.{◌≡◌, string_bytes};
+ghost use Rattle.std.specs.Prelude.{◌≡◌, ◌↔◌, string_bytes};
 ghost use Rattle.std.specs.Str.{chars};
+ghost use Rattle.predicates_core.specs.Formula.{Formula};
+ghost use Rattle.predicates_core.specs.Text.{Text};
 ghost use Rattle.predicates_text.specs.Leaves.{eq_ignore_case_text};
 ghost use Rattle.predicates_text.specs.LeafFormulaLaws.{is_text_leaf};
 ghost use Rattle.predicates_text.specs.LeafFormulas.{IsEqIgnoreCaseLeaf};
@@ -10,6 +12,7 @@ ghost use Rattle.predicates_text.specs.Places.{is_eq_ignore_case};
 
 use crate::search;
 use crate::text_test::{TextTest, TextTestPredicate};
+use predicates_core::Predicate;
 use std::alloc::{AllocError, Global};
 use std::fmt;
 
@@ -29,10 +32,13 @@ pub struct EqIgnoreCasePredicate {
 /// ```
 pub fn eq_ignore_case(other: String) -> TextTestPredicate<EqIgnoreCasePredicate>
     ensures other { eq_ignore_case_other result ≡ string_bytes other }
+    ensures formula { (v : Text) (f : Formula)
+        → ⟦<TextTestPredicate<EqIgnoreCasePredicate> as Predicate<String>>⟧.formula result v f
+        ↔ IsEqIgnoreCaseLeaf (string_bytes other) (string_bytes v) f }
+    ensures infallible { (v : Text)
+        → ⟦<TextTestPredicate<EqIgnoreCasePredicate> as Predicate<String>>⟧.infallible result v }
 {
-    TextTestPredicate {
-        test: EqIgnoreCasePredicate { other },
-    }
+    TextTestPredicate::new(EqIgnoreCasePredicate { other })
 }
 
 impl fmt::Display for EqIgnoreCasePredicate {

@@ -1,5 +1,8 @@
 //! Whether a text has no characters.
+ghost use Rattle.std.specs.Prelude.{◌↔◌, string_bytes};
 ghost use Rattle.std.specs.Str.{chars};
+ghost use Rattle.predicates_core.specs.Formula.{Formula};
+ghost use Rattle.predicates_core.specs.Text.{Text};
 ghost use Rattle.predicates_text.specs.Leaves.{empty_text};
 ghost use Rattle.predicates_text.specs.LeafFormulaLaws.{is_text_leaf};
 ghost use Rattle.predicates_text.specs.LeafFormulas.{IsEmptyLeaf};
@@ -8,6 +11,7 @@ ghost use Rattle.predicates_text.specs.Places.{is_empty};
 
 use crate::search;
 use crate::text_test::{TextTest, TextTestPredicate};
+use predicates_core::Predicate;
 use std::alloc::{AllocError, Global};
 use std::fmt;
 
@@ -22,10 +26,14 @@ pub struct IsEmptyPredicate;
 /// assert!(rt; is_empty().eval(alloc, &String::new(alloc))?);
 /// assert!(rt; !is_empty().eval(alloc, &" ".to_owned(alloc)?)?);
 /// ```
-pub fn is_empty() -> TextTestPredicate<IsEmptyPredicate> {
-    TextTestPredicate {
-        test: IsEmptyPredicate,
-    }
+pub fn is_empty() -> TextTestPredicate<IsEmptyPredicate>
+    ensures formula { (v : Text) (f : Formula)
+        → ⟦<TextTestPredicate<IsEmptyPredicate> as Predicate<String>>⟧.formula result v f
+        ↔ IsEmptyLeaf (string_bytes v) f }
+    ensures infallible { (v : Text)
+        → ⟦<TextTestPredicate<IsEmptyPredicate> as Predicate<String>>⟧.infallible result v }
+{
+    TextTestPredicate::new(IsEmptyPredicate)
 }
 
 impl fmt::Display for IsEmptyPredicate {

@@ -1,6 +1,8 @@
 //! Whether a text begins with a pattern.
-ghost use Rattle.std.specs.Prelude.{◌≡◌, string_bytes};
+ghost use Rattle.std.specs.Prelude.{◌≡◌, ◌↔◌, string_bytes};
 ghost use Rattle.std.specs.Str.{chars};
+ghost use Rattle.predicates_core.specs.Formula.{Formula};
+ghost use Rattle.predicates_core.specs.Text.{Text};
 ghost use Rattle.predicates_text.specs.Leaves.{starts_text};
 ghost use Rattle.predicates_text.specs.LeafFormulaLaws.{is_text_leaf};
 ghost use Rattle.predicates_text.specs.LeafFormulas.{IsStartsLeaf};
@@ -10,6 +12,7 @@ ghost use Rattle.predicates_text.specs.Places.{is_front};
 
 use crate::search;
 use crate::text_test::{TextTest, TextTestPredicate};
+use predicates_core::Predicate;
 use std::alloc::{AllocError, Global};
 use std::fmt;
 
@@ -29,10 +32,13 @@ pub struct StartsWithPredicate {
 /// ```
 pub fn starts_with(pattern: String) -> TextTestPredicate<StartsWithPredicate>
     ensures pattern { starts_pattern result ≡ string_bytes pattern }
+    ensures formula { (v : Text) (f : Formula)
+        → ⟦<TextTestPredicate<StartsWithPredicate> as Predicate<String>>⟧.formula result v f
+        ↔ IsStartsLeaf (string_bytes pattern) (string_bytes v) f }
+    ensures infallible { (v : Text)
+        → ⟦<TextTestPredicate<StartsWithPredicate> as Predicate<String>>⟧.infallible result v }
 {
-    TextTestPredicate {
-        test: StartsWithPredicate { pattern },
-    }
+    TextTestPredicate::new(StartsWithPredicate { pattern })
 }
 
 impl fmt::Display for StartsWithPredicate {

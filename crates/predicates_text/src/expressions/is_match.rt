@@ -1,12 +1,14 @@
 //! Whether a regular expression has a match in a text.
-ghost use Rattle.std.specs.Prelude.{◌≡◌, ◌≢◌, IfOk, IfErr, is_some, string_bytes};
+ghost use Rattle.std.specs.Prelude.{◌≡◌, ◌≢◌, ◌↔◌, IfOk, IfErr, is_some, string_bytes};
 ghost use Rattle.regex.specs.Patterns.{default_config, find_str};
 ghost use Rattle.regex.specs.Sources.{IsRefusal};
 ghost use Rattle.regex.specs.Strings.{regex_pattern};
 ghost use Rattle.regex.specs.Failures.{IsRightKind, HasSpanIn};
 ghost use Rattle.regex.specs.declared.error.Error.TheVariants.{Internal};
+ghost use Rattle.predicates_core.specs.Formula.{Formula};
 ghost use Rattle.predicates_core.specs.Leaves.{IsExactly};
-ghost use Rattle.predicates_text.specs.Expressions.{match_text, match_formula};
+ghost use Rattle.predicates_core.specs.Text.{Text};
+ghost use Rattle.predicates_text.specs.Expressions.{match_text, match_formula, match_count_formula};
 ghost use Rattle.predicates_text.specs.Expressions.{regex_text, regex_meaning, regex_matches_text};
 ghost use Rattle.predicates_text.specs.Expressions.{regex_matches_meaning, regex_matches_count};
 ghost use Rattle.predicates_text.specs.Expressions.{IsReadFromText};
@@ -16,6 +18,7 @@ use crate::expressions::match_count::RegexMatchesPredicate;
 use crate::expressions::regex_search::has_match;
 use crate::text_count::TextCountPredicate;
 use crate::text_test::{TextTest, TextTestPredicate};
+use predicates_core::Predicate;
 use regex::Regex;
 use std::alloc::{AllocError, Global};
 use std::fmt;
@@ -50,15 +53,18 @@ pub fn is_match(
 ) -> Result<TextTestPredicate<RegexPredicate>, RegexError>
     ensures pattern { IfOk result (λ p. regex_text p ≡ string_bytes pattern) }
     ensures read { IfOk result (λ p. IsReadFromText p) }
+    ensures formula { IfOk result (λ p. (v : Text) (f : Formula)
+        → ⟦<TextTestPredicate<RegexPredicate> as Predicate<String>>⟧.formula p v f
+        ↔ IsExactly (match_formula (string_bytes pattern) (regex_meaning p) (string_bytes v)) f) }
+    ensures fallible { IfOk result (λ p. (v : Text)
+        → ¬ (⟦<TextTestPredicate<RegexPredicate> as Predicate<String>>⟧.infallible p v)) }
     ensures refused { IfErr result (IsRefusal default_config (string_bytes pattern)) }
     ensures kind { IfErr result (IsRightKind default_config (string_bytes pattern)) }
     ensures span { IfErr result (HasSpanIn (string_bytes pattern)) }
     ensures no_internal { IfErr result (λ e. e ≢ Internal) }
 {
     let regex = boxed(alloc, Regex::new(alloc, &pattern)?)?;
-    Ok(TextTestPredicate {
-        test: RegexPredicate { pattern, regex },
-    })
+    Ok(TextTestPredicate::new(RegexPredicate { pattern, regex }))
 }
 
 impl TextTestPredicate<RegexPredicate> {
@@ -75,11 +81,14 @@ impl TextTestPredicate<RegexPredicate> {
         ensures pattern { regex_matches_text result ≡ regex_text self }
         ensures meaning { regex_matches_meaning result ≡ regex_meaning self }
         ensures count { regex_matches_count result ≡ count }
+        ensures formula { (v : Text) (f : Formula)
+            → ⟦<RegexMatchesPredicate as Predicate<String>>⟧.formula result v f
+            ↔ IsExactly (match_count_formula (regex_text self) (regex_meaning self) count
+            (string_bytes v)) f }
+        ensures fallible { (v : Text)
+            → ¬ (⟦<RegexMatchesPredicate as Predicate<String>>⟧.infallible result v) }
     {
-        TextCountPredicate {
-            counted: self.test,
-            count,
-        }
+        TextCountPredicate::new(self.test, count)
     }
 }
 
