@@ -3,9 +3,9 @@
 //! ```
 //! let open = predicate::always().or(predicate::eq(5));
 //! ```
-ghost use Rattle.std.specs.Prelude.{◌≡◌, refl, true, false, codes, Some};
+ghost use Rattle.std.specs.Prelude.{◌≡◌, ◌↔◌, refl, true, false, codes, Some};
 ghost use Rattle.predicates_core.specs.Label.{plain, value_of};
-ghost use Rattle.predicates_core.specs.Formula.{Leaf};
+ghost use Rattle.predicates_core.specs.Formula.{Formula, Leaf};
 ghost use Rattle.predicates_core.specs.Tree.{empty};
 ghost use Rattle.predicates_core.specs.Leaves.{IsExactly, word};
 ghost use Rattle.predicates_item.specs.Constant.{answer_of};
@@ -26,6 +26,28 @@ pub struct BooleanPredicate<Item> {
     item: PhantomData<Item>,
 }
 
+impl<Item> BooleanPredicate<Item> {
+    // The predicate that answers this.
+    fn new(retval: bool) -> BooleanPredicate<Item>
+        ensures answer { answer_of result ≡ retval }
+        ensures formula { (v : Item) (f : Formula)
+            → ⟦<BooleanPredicate<Item> as Predicate<Item>>⟧.formula result v f
+            ↔ IsExactly (Leaf (plain (Some (word retval))) retval) f }
+        ensures lawful { ⟦<BooleanPredicate<Item> as Predicate<Item>>⟧.lawful result }
+        ensures infallible { (v : Item)
+            → ⟦<BooleanPredicate<Item> as Predicate<Item>>⟧.infallible result v }
+        ensures values { ⟦<BooleanPredicate<Item> as PredicateReflection>⟧.parameters_of result
+            ≡ value_of (codes "value") (Some (word retval)) }
+        ensures parts { ⟦<BooleanPredicate<Item> as PredicateReflection>⟧.children_of result
+            ≡ empty }
+    {
+        BooleanPredicate {
+            retval,
+            item: PhantomData,
+        }
+    }
+}
+
 /// The predicate that holds of every item. It takes no memory, and neither does its `eval`.
 ///
 /// ```
@@ -33,12 +55,12 @@ pub struct BooleanPredicate<Item> {
 /// assert!(rt; open.eval(alloc, &5)?);
 /// ```
 pub fn always<Item>() -> BooleanPredicate<Item>
-    ensures { answer_of result ≡ true }
+    ensures answer { answer_of result ≡ true }
+    ensures formula { (v : Item) (f : Formula)
+        → ⟦<BooleanPredicate<Item> as Predicate<Item>>⟧.formula result v f
+        ↔ IsExactly (Leaf (plain (Some (word true))) true) f }
 {
-    BooleanPredicate {
-        retval: true,
-        item: PhantomData,
-    }
+    BooleanPredicate::new(true)
 }
 
 /// The predicate that holds of no item. It takes no memory, and neither does its `eval`.
@@ -48,12 +70,12 @@ pub fn always<Item>() -> BooleanPredicate<Item>
 /// assert!(rt; !closed.eval(alloc, &5)?);
 /// ```
 pub fn never<Item>() -> BooleanPredicate<Item>
-    ensures { answer_of result ≡ false }
+    ensures answer { answer_of result ≡ false }
+    ensures formula { (v : Item) (f : Formula)
+        → ⟦<BooleanPredicate<Item> as Predicate<Item>>⟧.formula result v f
+        ↔ IsExactly (Leaf (plain (Some (word false))) false) f }
 {
-    BooleanPredicate {
-        retval: false,
-        item: PhantomData,
-    }
+    BooleanPredicate::new(false)
 }
 
 impl<Item> fmt::Display for BooleanPredicate<Item> {

@@ -3,7 +3,8 @@
 //! ```
 //! let big = predicate::function(|x: &i32| *x >= 5).fn_name("big");
 //! ```
-ghost use Rattle.std.specs.Prelude.{◌≡◌, [], codes};
+ghost use Rattle.std.specs.Prelude.{◌≡◌, ◌↔◌, [], codes};
+ghost use Rattle.predicates_core.specs.Formula.{Formula};
 ghost use Rattle.predicates_core.specs.Tree.{empty};
 ghost use Rattle.predicates_item.specs.Function.{HasOneAnswer, IsCall, call_text, call_text_fits};
 ghost use Rattle.predicates_item.specs.Function.{one_call, function_of, name_of};
@@ -39,15 +40,35 @@ pub fn function<F: Fn(&T) -> bool, T>(function: F) -> FnPredicate<F, T>
     requires one_answer { HasOneAnswer F.Fn function }
     ensures function { function_of result ≡ function }
     ensures name { name_of result ≡ codes "fn" }
+    ensures formula { (v : T) (f : Formula)
+        → ⟦<FnPredicate<F, T> as Predicate<T>>⟧.formula result v f
+        ↔ IsCall F.Fn function (call_text (codes "fn")) v f }
 {
-    FnPredicate {
-        function,
-        name: StaticText::new("fn"),
-        item: PhantomData,
-    }
+    FnPredicate::new(function, StaticText::new("fn"))
 }
 
-impl<F, T> FnPredicate<F, T> {
+impl<F: Fn(&T) -> bool, T> FnPredicate<F, T> {
+    // The predicate that asks the function, under the name.
+    fn new(function: F, name: StaticText) -> FnPredicate<F, T>
+        ensures function { function_of result ≡ function }
+        ensures name { name_of result ≡ name }
+        ensures formula { (v : T) (f : Formula)
+            → ⟦<FnPredicate<F, T> as Predicate<T>>⟧.formula result v f
+            ↔ IsCall F.Fn function (call_text name) v f }
+        ensures lawful { ⟦<FnPredicate<F, T> as Predicate<T>>⟧.lawful result
+            ↔ F.IsAlwaysCallable function × HasOneAnswer F.Fn function }
+        ensures infallible { (v : T)
+            → ⟦<FnPredicate<F, T> as Predicate<T>>⟧.infallible result v }
+        ensures values { ⟦<FnPredicate<F, T> as PredicateReflection>⟧.parameters_of result ≡ [] }
+        ensures parts { ⟦<FnPredicate<F, T> as PredicateReflection>⟧.children_of result ≡ empty }
+    {
+        FnPredicate {
+            function,
+            name,
+            item: PhantomData,
+        }
+    }
+
     /// The same predicate under another name; the old one is dropped. It takes no memory.
     ///
     /// ```
@@ -58,17 +79,16 @@ impl<F, T> FnPredicate<F, T> {
     pub fn fn_name(self, name: &'static str) -> FnPredicate<F, T>
         ensures function { function_of result ≡ function_of self }
         ensures name { name_of result ≡ name.now }
+        ensures formula { (v : T) (f : Formula)
+            → ⟦<FnPredicate<F, T> as Predicate<T>>⟧.formula result v f
+            ↔ IsCall F.Fn (function_of self) (call_text name.now) v f }
     {
         let FnPredicate {
             function,
             name: _,
-            item,
+            item: _,
         } = self;
-        FnPredicate {
-            function,
-            name: StaticText::new(name),
-            item,
-        }
+        FnPredicate::new(function, StaticText::new(name))
     }
 }
 

@@ -13,5 +13,4 @@ pub mod constant;
 pub mod function;
 pub mod iter;
 pub mod ord;
-pub mod semantics;
 mod showing;

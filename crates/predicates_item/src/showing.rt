@@ -31,6 +31,24 @@ pub struct ShowingPredicate<T> {
     pub(crate) test: T,
 }
 
+impl<T: TestParameters> ShowingPredicate<T> {
+    // The predicate over this test.
+    pub(crate) fn new<Item: fmt::Debug>(test: T) -> ShowingPredicate<T>
+    where
+        T: Test<Item>,
+        ensures test { result.test ≡ test }
+        ensures lawful { ⟦<ShowingPredicate<T> as Predicate<Item>>⟧.lawful result }
+        ensures infallible { (v : Item)
+            → ⟦<ShowingPredicate<T> as Predicate<Item>>⟧.infallible result v }
+        ensures values { ⟦<ShowingPredicate<T> as PredicateReflection>⟧.parameters_of result
+            ≡ T.parameters_of test }
+        ensures parts { ⟦<ShowingPredicate<T> as PredicateReflection>⟧.children_of result
+            ≡ empty }
+    {
+        ShowingPredicate { test }
+    }
+}
+
 impl<T: fmt::Debug> fmt::Debug for ShowingPredicate<T> {
     ghost debug_output = { λ p. T.debug_output p.test };
 

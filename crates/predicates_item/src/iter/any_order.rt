@@ -1,9 +1,18 @@
 //! Makes the predicate of the members of a list in any order.
-ghost use Rattle.std.specs.Prelude.{IfOk};
+ghost use Rattle.std.specs.Prelude.{◌≡◌, ◌↔◌, ◌-◌, IfOk, Vec, codes, length, true};
+ghost use Rattle.std.specs.Fmt.{debug_list};
 ghost use Rattle.std.specs.Iterator.{IsFiniteIterable};
-ghost use Rattle.predicates_item.specs.Multiset.{KeepsAscending, members_of};
+ghost use Rattle.std.specs.declared.alloc.Global.{Global};
+ghost use Rattle.predicates_core.specs.Formula.{Formula};
+ghost use Rattle.predicates_core.specs.Label.{value_of};
+ghost use Rattle.predicates_core.specs.Leaves.{IsExactly};
+ghost use Rattle.predicates_core.specs.Tree.{empty};
+ghost use Rattle.predicates_item.specs.Multiset.{KeepsAscending, ascending, count_of, difference};
+ghost use Rattle.predicates_item.specs.Multiset.{has_same_counts, members_of, multiset_leaf};
 
 use crate::iter::multiset::SameMembersPredicate;
+use predicates_core::Predicate;
+use predicates_core::reflection::PredicateReflection;
 use std::alloc::{AllocError, Global};
 use std::fmt;
 
@@ -25,8 +34,30 @@ pub fn same_members<I: IntoIterator<Item = T>, T: fmt::Debug + Ord + Drop>(
     iter: I,
 ) -> Result<SameMembersPredicate<T>, AllocError>
     requires { IsFiniteIterable I.into_iter_gives I.IntoIter.can_next I.IntoIter.remaining iter }
-    ensures { IfOk result (λ p.
+    ensures items { IfOk result (λ p.
         KeepsAscending I.into_iter_gives I.IntoIter.next_gives T.cmp iter (members_of p)) }
+    ensures formula { IfOk result (λ p. (v : Vec T Global) (f : Formula)
+        → ⟦<SameMembersPredicate<T> as Predicate<Vec<T>>>⟧.formula p v f
+        ↔ IsExactly (multiset_leaf T.eq T.cmp T.debug_output (members_of p) v.items) f) }
+    ensures truth { IfOk result (λ p. (v : Vec T Global)
+        → has_same_counts T.eq (members_of p) v.items ≡ true
+        ↔ ((value : T) → count_of T.eq (members_of p) value ≡ count_of T.eq v.items value)) }
+    ensures missing { IfOk result (λ p. (v : Vec T Global) (value : T)
+        → count_of T.eq (difference T.eq (members_of p) v.items) value
+        ≡ count_of T.eq (members_of p) value - count_of T.eq v.items value) }
+    ensures extra { IfOk result (λ p. (v : Vec T Global) (value : T)
+        → count_of T.eq (difference T.eq (ascending T.cmp v.items) (members_of p)) value
+        ≡ count_of T.eq v.items value - count_of T.eq (members_of p) value) }
+    ensures lawful { IfOk result (λ p.
+        ⟦<SameMembersPredicate<T> as Predicate<Vec<T>>>⟧.lawful p) }
+    ensures infallible { IfOk result (λ p. (v : Vec T Global)
+        → ⟦<SameMembersPredicate<T> as Predicate<Vec<T>>>⟧.infallible p v
+        ↔ (length v.items ≡ length (members_of p) → ⊥)) }
+    ensures values { IfOk result (λ p.
+        ⟦<SameMembersPredicate<T> as PredicateReflection>⟧.parameters_of p
+        ≡ value_of (codes "values") (debug_list T.debug_output (members_of p))) }
+    ensures parts { IfOk result (λ p.
+        ⟦<SameMembersPredicate<T> as PredicateReflection>⟧.children_of p ≡ empty) }
 {
     let mut members = Vec::from_iter(alloc, iter)?;
     members.sort()?;

@@ -1,15 +1,19 @@
 //! Membership in a hash set.
-ghost use Rattle.std.specs.Prelude.{◌≡◌, refl, codes, IfOk, None};
+ghost use Rattle.std.specs.Prelude.{◌≡◌, ◌↔◌, refl, codes, IfOk, None};
 ghost use Rattle.std.specs.Iterator.{IsFiniteIterable};
+ghost use Rattle.predicates_core.specs.Formula.{Formula};
 ghost use Rattle.predicates_core.specs.Label.{value_of};
-ghost use Rattle.predicates_item.specs.Members.{KeepsFirst, has_equal, has_text, member_text};
+ghost use Rattle.predicates_core.specs.Leaves.{IsExactly};
+ghost use Rattle.predicates_item.specs.Members.{KeepsFirst, has_equal, has_text, member_leaf};
+ghost use Rattle.predicates_item.specs.Members.{member_text};
 ghost use Rattle.predicates_item.specs.HashableIn.{members_of};
 
 use crate::iter::values::values;
 use crate::showing::{ContentTest, ShowingPredicate};
 use indexmap::IndexSet;
+use predicates_core::Predicate;
 use predicates_core::custom::{Test, TestParameters};
-use predicates_core::reflection::Parameter;
+use predicates_core::reflection::{Parameter, PredicateReflection};
 use std::alloc::{AllocError, Global};
 use std::fmt;
 use std::hash::Hash;
@@ -34,13 +38,17 @@ pub fn in_hash<I: IntoIterator<Item = T>, T: fmt::Debug + Hash + Eq + Drop>(
     iter: I,
 ) -> Result<ShowingPredicate<HashableInPredicate<T>>, AllocError>
     requires { IsFiniteIterable I.into_iter_gives I.IntoIter.can_next I.IntoIter.remaining iter }
-    ensures { IfOk result (λ p.
+    ensures first { IfOk result (λ p.
         KeepsFirst I.into_iter_gives I.IntoIter.next_gives T.eq iter (members_of p)) }
+    ensures formula { IfOk result (λ p. (v : T) (f : Formula)
+        → ⟦<ShowingPredicate<HashableInPredicate<T>> as Predicate<T>>⟧.formula p v f
+        ↔ IsExactly (member_leaf (T.debug_output v) (has_equal T.eq (members_of p) v)) f) }
+    ensures values { IfOk result (λ p.
+        ⟦<ShowingPredicate<HashableInPredicate<T>> as PredicateReflection>⟧.parameters_of p
+        ≡ value_of (codes "values") None) }
 {
     let members = IndexSet::from_iter(alloc, iter)?;
-    Ok(ShowingPredicate {
-        test: HashableInPredicate { members },
-    })
+    Ok(ShowingPredicate::new::<T>(HashableInPredicate { members }))
 }
 
 impl<T: Eq + Hash> fmt::Display for HashableInPredicate<T> {

@@ -1,19 +1,22 @@
 //! Membership in a list.
-ghost use Rattle.std.specs.Prelude.{◌≡◌, refl, codes, IfOk};
+ghost use Rattle.std.specs.Prelude.{◌≡◌, ◌↔◌, refl, codes, IfOk};
 ghost use Rattle.std.specs.Fmt.{debug_list};
 ghost use Rattle.std.specs.Iterator.{IsFiniteIterable};
 ghost use Rattle.std.specs.List.Sorted.{IsPermutation, IsSorted};
+ghost use Rattle.predicates_core.specs.Formula.{Formula};
 ghost use Rattle.predicates_core.specs.Label.{value_of};
+ghost use Rattle.predicates_core.specs.Leaves.{IsExactly};
 ghost use Rattle.predicates_item.specs.Members.{GivesItems, HasSameMembers, has_equal, has_text};
-ghost use Rattle.predicates_item.specs.Members.{member_text};
+ghost use Rattle.predicates_item.specs.Members.{member_leaf, member_text};
 ghost use Rattle.predicates_item.specs.In.{members_of};
 ghost use Rattle.predicates_item.specs.OrdIn as OrdIn;
 
 use crate::iter::sorted::OrdInPredicate;
 use crate::iter::values::values;
 use crate::showing::{ContentTest, ShowingPredicate};
+use predicates_core::Predicate;
 use predicates_core::custom::{Test, TestParameters};
-use predicates_core::reflection::Parameter;
+use predicates_core::reflection::{Parameter, PredicateReflection};
 use std::alloc::{AllocError, Global};
 use std::fmt;
 
@@ -36,16 +39,20 @@ pub fn in_iter<I: IntoIterator<Item = T>, T: fmt::Debug + PartialEq + Drop>(
     iter: I,
 ) -> Result<ShowingPredicate<InPredicate<T>>, AllocError>
     requires { IsFiniteIterable I.into_iter_gives I.IntoIter.can_next I.IntoIter.remaining iter }
-    ensures { IfOk result (λ p.
+    ensures items { IfOk result (λ p.
         GivesItems I.into_iter_gives I.IntoIter.next_gives iter (members_of p)) }
+    ensures formula { IfOk result (λ p. (v : T) (f : Formula)
+        → ⟦<ShowingPredicate<InPredicate<T>> as Predicate<T>>⟧.formula p v f
+        ↔ IsExactly (member_leaf (T.debug_output v) (has_equal T.eq (members_of p) v)) f) }
+    ensures values { IfOk result (λ p.
+        ⟦<ShowingPredicate<InPredicate<T>> as PredicateReflection>⟧.parameters_of p
+        ≡ value_of (codes "values") (debug_list T.debug_output (members_of p))) }
 {
     let members = Vec::from_iter(alloc, iter)?;
-    Ok(ShowingPredicate {
-        test: InPredicate { members },
-    })
+    Ok(ShowingPredicate::new::<T>(InPredicate { members }))
 }
 
-impl<T: Ord> ShowingPredicate<InPredicate<T>> {
+impl<T: fmt::Debug + Ord> ShowingPredicate<InPredicate<T>> {
     /// The predicate of the same members in ascending order, each as often as before, which finds
     /// an item by binary search. Sorting takes memory; where it runs out, the members are dropped.
     ///
@@ -63,12 +70,17 @@ impl<T: Ord> ShowingPredicate<InPredicate<T>> {
         ensures sorted { IfOk result (λ p. IsSorted T.cmp (OrdIn.members_of p)) }
         ensures same { IfOk result (λ p.
             HasSameMembers T.eq (OrdIn.members_of p) (members_of self)) }
+        ensures formula { IfOk result (λ p. (v : T) (f : Formula)
+            → ⟦<ShowingPredicate<OrdInPredicate<T>> as Predicate<T>>⟧.formula p v f
+            ↔ IsExactly
+            (member_leaf (T.debug_output v) (has_equal T.eq (OrdIn.members_of p) v)) f) }
+        ensures values { IfOk result (λ p.
+            ⟦<ShowingPredicate<OrdInPredicate<T>> as PredicateReflection>⟧.parameters_of p
+            ≡ value_of (codes "values") (debug_list T.debug_output (OrdIn.members_of p))) }
     {
         let InPredicate { mut members } = self.test;
         members.sort()?;
-        Ok(ShowingPredicate {
-            test: OrdInPredicate { members },
-        })
+        Ok(ShowingPredicate::new::<T>(OrdInPredicate { members }))
     }
 }
 

@@ -1,11 +1,15 @@
 //! Equality with a constant.
-ghost use Rattle.std.specs.Prelude.{◌≡◌, refl, [], bytes_eq, string_bytes};
+ghost use Rattle.std.specs.Prelude.{◌≡◌, ◌↔◌, refl, [], bytes_eq, codes, not, string_bytes};
+ghost use Rattle.predicates_core.specs.Formula.{Formula, Leaf};
+ghost use Rattle.predicates_core.specs.Label.{showing};
+ghost use Rattle.predicates_core.specs.Leaves.{IsExactly};
 ghost use Rattle.predicates_item.specs.Comparison.{comparison_text, eq_symbol, eq_truth};
 ghost use Rattle.predicates_item.specs.Makers.{equal_to, unequal_to};
 
 use crate::showing::{ContentTest, ShowingPredicate};
+use predicates_core::Predicate;
 use predicates_core::custom::{Test, TestParameters};
-use predicates_core::reflection::Parameter;
+use predicates_core::reflection::{Parameter, PredicateReflection};
 use std::alloc::{AllocError, Global};
 use std::fmt;
 
@@ -79,14 +83,22 @@ impl ContentTest for EqPredicate<String> {
 /// assert!(rt; !five.eval(alloc, &6)?);
 /// ```
 pub fn eq<T: fmt::Debug + PartialEq>(constant: T) -> ShowingPredicate<EqPredicate<T>>
-    ensures { result ≡ equal_to constant }
+    ensures made { result ≡ equal_to constant }
+    ensures formula { (v : T) (f : Formula)
+        → ⟦<ShowingPredicate<EqPredicate<T>> as Predicate<T>>⟧.formula result v f
+        ↔ IsExactly
+        (Leaf
+        (showing (comparison_text (codes "==") (T.debug_output constant))
+        (codes "var") (T.debug_output v))
+        (T.eq v constant))
+        f }
+    ensures values { ⟦<ShowingPredicate<EqPredicate<T>> as PredicateReflection>⟧.parameters_of
+        result ≡ [] }
 {
-    ShowingPredicate {
-        test: EqPredicate {
-            constant,
-            op: EqOps::Equal,
-        },
-    }
+    ShowingPredicate::new::<T>(EqPredicate {
+        constant,
+        op: EqOps::Equal,
+    })
 }
 
 /// Holds of an item that does not equal the constant.
@@ -97,12 +109,20 @@ pub fn eq<T: fmt::Debug + PartialEq>(constant: T) -> ShowingPredicate<EqPredicat
 /// assert!(rt; !other.eval(alloc, &5)?);
 /// ```
 pub fn ne<T: fmt::Debug + PartialEq>(constant: T) -> ShowingPredicate<EqPredicate<T>>
-    ensures { result ≡ unequal_to constant }
+    ensures made { result ≡ unequal_to constant }
+    ensures formula { (v : T) (f : Formula)
+        → ⟦<ShowingPredicate<EqPredicate<T>> as Predicate<T>>⟧.formula result v f
+        ↔ IsExactly
+        (Leaf
+        (showing (comparison_text (codes "!=") (T.debug_output constant))
+        (codes "var") (T.debug_output v))
+        (not (T.eq v constant)))
+        f }
+    ensures values { ⟦<ShowingPredicate<EqPredicate<T>> as PredicateReflection>⟧.parameters_of
+        result ≡ [] }
 {
-    ShowingPredicate {
-        test: EqPredicate {
-            constant,
-            op: EqOps::NotEqual,
-        },
-    }
+    ShowingPredicate::new::<T>(EqPredicate {
+        constant,
+        op: EqOps::NotEqual,
+    })
 }

@@ -1,13 +1,17 @@
 //! The order of the item and a constant.
-ghost use Rattle.std.specs.Prelude.{◌≡◌, refl, [], string_bytes};
+ghost use Rattle.std.specs.Prelude.{◌≡◌, ◌↔◌, refl, [], codes, string_bytes};
 ghost use Rattle.std.specs.Cmp.Lexicographic.{slice_cmp};
-ghost use Rattle.std.specs.Ordering.{nat_cmp};
+ghost use Rattle.std.specs.Ordering.{nat_cmp, is_lt, is_le, is_ge, is_gt};
+ghost use Rattle.predicates_core.specs.Formula.{Formula, Leaf};
+ghost use Rattle.predicates_core.specs.Label.{showing};
+ghost use Rattle.predicates_core.specs.Leaves.{IsExactly};
 ghost use Rattle.predicates_item.specs.Comparison.{comparison_text, ord_symbol, ord_truth};
 ghost use Rattle.predicates_item.specs.Makers.{less_than, at_most, at_least, greater_than};
 
 use crate::showing::{ContentTest, ShowingPredicate};
+use predicates_core::Predicate;
 use predicates_core::custom::{Test, TestParameters};
-use predicates_core::reflection::Parameter;
+use predicates_core::reflection::{Parameter, PredicateReflection};
 use std::alloc::{AllocError, Global};
 use std::fmt;
 
@@ -88,14 +92,22 @@ impl ContentTest for OrdPredicate<String> {
 /// assert!(rt; !below.eval(alloc, &5)?);
 /// ```
 pub fn lt<T: fmt::Debug + Ord>(constant: T) -> ShowingPredicate<OrdPredicate<T>>
-    ensures { result ≡ less_than constant }
+    ensures made { result ≡ less_than constant }
+    ensures formula { (v : T) (f : Formula)
+        → ⟦<ShowingPredicate<OrdPredicate<T>> as Predicate<T>>⟧.formula result v f
+        ↔ IsExactly
+        (Leaf
+        (showing (comparison_text (codes "<") (T.debug_output constant))
+        (codes "var") (T.debug_output v))
+        (is_lt (T.cmp v constant)))
+        f }
+    ensures values { ⟦<ShowingPredicate<OrdPredicate<T>> as PredicateReflection>⟧.parameters_of
+        result ≡ [] }
 {
-    ShowingPredicate {
-        test: OrdPredicate {
-            constant,
-            op: OrdOps::LessThan,
-        },
-    }
+    ShowingPredicate::new::<T>(OrdPredicate {
+        constant,
+        op: OrdOps::LessThan,
+    })
 }
 
 /// Holds of an item at most the constant.
@@ -106,14 +118,22 @@ pub fn lt<T: fmt::Debug + Ord>(constant: T) -> ShowingPredicate<OrdPredicate<T>>
 /// assert!(rt; !at_most.eval(alloc, &6)?);
 /// ```
 pub fn le<T: fmt::Debug + Ord>(constant: T) -> ShowingPredicate<OrdPredicate<T>>
-    ensures { result ≡ at_most constant }
+    ensures made { result ≡ at_most constant }
+    ensures formula { (v : T) (f : Formula)
+        → ⟦<ShowingPredicate<OrdPredicate<T>> as Predicate<T>>⟧.formula result v f
+        ↔ IsExactly
+        (Leaf
+        (showing (comparison_text (codes "<=") (T.debug_output constant))
+        (codes "var") (T.debug_output v))
+        (is_le (T.cmp v constant)))
+        f }
+    ensures values { ⟦<ShowingPredicate<OrdPredicate<T>> as PredicateReflection>⟧.parameters_of
+        result ≡ [] }
 {
-    ShowingPredicate {
-        test: OrdPredicate {
-            constant,
-            op: OrdOps::LessThanOrEqual,
-        },
-    }
+    ShowingPredicate::new::<T>(OrdPredicate {
+        constant,
+        op: OrdOps::LessThanOrEqual,
+    })
 }
 
 /// Holds of an item at least the constant.
@@ -124,14 +144,22 @@ pub fn le<T: fmt::Debug + Ord>(constant: T) -> ShowingPredicate<OrdPredicate<T>>
 /// assert!(rt; !at_least.eval(alloc, &4)?);
 /// ```
 pub fn ge<T: fmt::Debug + Ord>(constant: T) -> ShowingPredicate<OrdPredicate<T>>
-    ensures { result ≡ at_least constant }
+    ensures made { result ≡ at_least constant }
+    ensures formula { (v : T) (f : Formula)
+        → ⟦<ShowingPredicate<OrdPredicate<T>> as Predicate<T>>⟧.formula result v f
+        ↔ IsExactly
+        (Leaf
+        (showing (comparison_text (codes ">=") (T.debug_output constant))
+        (codes "var") (T.debug_output v))
+        (is_ge (T.cmp v constant)))
+        f }
+    ensures values { ⟦<ShowingPredicate<OrdPredicate<T>> as PredicateReflection>⟧.parameters_of
+        result ≡ [] }
 {
-    ShowingPredicate {
-        test: OrdPredicate {
-            constant,
-            op: OrdOps::GreaterThanOrEqual,
-        },
-    }
+    ShowingPredicate::new::<T>(OrdPredicate {
+        constant,
+        op: OrdOps::GreaterThanOrEqual,
+    })
 }
 
 /// Holds of an item greater than the constant.
@@ -142,12 +170,20 @@ pub fn ge<T: fmt::Debug + Ord>(constant: T) -> ShowingPredicate<OrdPredicate<T>>
 /// assert!(rt; !above.eval(alloc, &5)?);
 /// ```
 pub fn gt<T: fmt::Debug + Ord>(constant: T) -> ShowingPredicate<OrdPredicate<T>>
-    ensures { result ≡ greater_than constant }
+    ensures made { result ≡ greater_than constant }
+    ensures formula { (v : T) (f : Formula)
+        → ⟦<ShowingPredicate<OrdPredicate<T>> as Predicate<T>>⟧.formula result v f
+        ↔ IsExactly
+        (Leaf
+        (showing (comparison_text (codes ">") (T.debug_output constant))
+        (codes "var") (T.debug_output v))
+        (is_gt (T.cmp v constant)))
+        f }
+    ensures values { ⟦<ShowingPredicate<OrdPredicate<T>> as PredicateReflection>⟧.parameters_of
+        result ≡ [] }
 {
-    ShowingPredicate {
-        test: OrdPredicate {
-            constant,
-            op: OrdOps::GreaterThan,
-        },
-    }
+    ShowingPredicate::new::<T>(OrdPredicate {
+        constant,
+        op: OrdOps::GreaterThan,
+    })
 }
