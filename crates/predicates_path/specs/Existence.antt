@@ -25,6 +25,6 @@ abbrev pub path_product : Snapshot → Product
 path_product s = record { name = codes "var"; value = Some (path_of s) }
 
 -- a leaf that shows the path
-abbrev pub existence_formula : FileTestPredicate ExistencePredicate → Snapshot → Formula
-existence_formula p s = file_leaf (Some (existence_text (asks_presence p))) (Some (path_product s))
-    (existence_truth (asks_presence p) s)
+abbrev pub existence_formula : Bool → Snapshot → Formula
+existence_formula asks s = file_leaf (Some (existence_text asks)) (Some (path_product s))
+    (existence_truth asks s)

@@ -38,8 +38,11 @@ abbrev pub kind_predicate_text : FileType → List ℕ
 kind_predicate_text kind = codes "var is " ++ kind_text kind
 
 -- a leaf that shows the kind that was found, or its fault
+abbrev pub kind_leaf : FileType → Bool → Snapshot → Formula
+kind_leaf kind follow s =
+    let found : Result FileType PathFault = found_kind follow s in
+    file_leaf (Some (kind_predicate_text kind)) (Some (kind_product found)) (has_kind kind found)
+
+-- that of a predicate
 abbrev pub kind_formula : FileTestPredicate FileTypePredicate → Snapshot → Formula
-kind_formula p s =
-    let found : Result FileType PathFault = found_kind (follows p) s in
-    file_leaf (Some (kind_predicate_text (tested_kind p))) (Some (kind_product found))
-    (has_kind (tested_kind p) found)
+kind_formula p s = kind_leaf (tested_kind p) (follows p) s

@@ -1,5 +1,6 @@
 //! Predicates of bytes, evaluated on the content at a path.
-ghost use Rattle.std.specs.Prelude.{◌≡◌, false, [], codes, IfOk};
+ghost use Rattle.std.specs.Prelude.{◌≡◌, ◌↔◌, false, [], codes, IfOk};
+ghost use Rattle.predicates_core.specs.Formula.{Formula};
 ghost use Rattle.predicates_core.specs.Parts.{part};
 ghost use Rattle.predicates_core.specs.Leaves.{IsExactly};
 ghost use Rattle.predicates_core.specs.Shows.{IsCaseOf};
@@ -176,7 +177,20 @@ pub trait PredicateFileContentExt: Predicate<Vec<u8>> {
     fn from_file_path(self) -> FileContentPredicate<Self>
     where
         Self: Sized,
-        ensures inner { inner_of result ≡ self };
+        ensures inner { inner_of result ≡ self }
+        ensures formula { (s : Snapshot) (f : Formula)
+            → ⟦<FileContentPredicate<Self> as Predicate<Snapshot>>⟧.formula result s f
+            ↔ IsOfContent (Self.output self) (Self.formula self) (path_of s) (held_of s) f }
+        ensures lawful { ⟦<FileContentPredicate<Self> as Predicate<Snapshot>>⟧.lawful result
+            ↔ Self.lawful self }
+        ensures infallible { (s : Snapshot)
+            → ⟦<FileContentPredicate<Self> as Predicate<Snapshot>>⟧.infallible result s
+            ↔ IfOk (held_of s) (Self.infallible self) }
+        ensures values { ⟦<FileContentPredicate<Self> as PredicateReflection>⟧.parameters_of
+            result ≡ [] }
+        ensures parts { ⟦<FileContentPredicate<Self> as PredicateReflection>⟧.children_of result
+            ≡ part (codes "predicate") (Self.output self) (Self.parameters_of self)
+            (Self.children_of self) };
 }
 
 impl<P: Predicate<Vec<u8>>> PredicateFileContentExt for P {

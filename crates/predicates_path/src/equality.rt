@@ -1,19 +1,24 @@
 //! Whether a content equals the bytes or the text of a file.
-ghost use Rattle.std.specs.Prelude.{◌≡◌, refl, codes, Ok, Err, None, Some, IsOkAnd, string_bytes};
-ghost use Rattle.std.specs.Prelude.{MatchOption, MatchResult};
+ghost use Rattle.std.specs.Prelude.{◌≡◌, ◌↔◌, refl, codes, Ok, Err, None, Some, string_bytes};
+ghost use Rattle.std.specs.Prelude.{IfOk, IfSome, IsOkAnd, MatchOption, MatchResult};
 ghost use Rattle.std.specs.Str.{IsUtf8};
+ghost use Rattle.predicates_core.specs.Formula.{Formula};
 ghost use Rattle.predicates_core.specs.Label.{value_of};
-ghost use Rattle.predicates_path.specs.Snapshot.{path_of, content_of};
+ghost use Rattle.predicates_core.specs.Leaves.{IsExactly};
+ghost use Rattle.predicates_core.specs.Text.{Text};
+ghost use Rattle.predicates_path.specs.Snapshot.{Bytes, path_of, content_of};
 ghost use Rattle.predicates_path.specs.Equality.{compared_path, compared_bytes, equality_text};
 ghost use Rattle.predicates_path.specs.Equality.{shown_bytes, has_bytes, has_content, equals_bytes};
+ghost use Rattle.predicates_path.specs.Equality.{equals_content};
 ghost use Rattle.predicates_path.specs.TextEquality as text;
+ghost use Rattle.predicates_path.specs.declared.snapshot.Snapshot.{Snapshot};
 
 use crate::file_test::{FileTest, FileTestPredicate};
 use crate::snapshot::has_bytes;
 use crate::{PathFault, Snapshot};
-use predicates_core::ReadsContent;
 use predicates_core::custom::TestParameters;
-use predicates_core::reflection::{Case, Parameter};
+use predicates_core::reflection::{Case, Parameter, PredicateReflection};
+use predicates_core::{Predicate, ReadsContent};
 use std::alloc::{AllocError, Global};
 use std::fmt;
 
@@ -44,12 +49,24 @@ pub fn eq_file(snapshot: Snapshot) -> Result<FileTestPredicate<BinaryFilePredica
         (λ bytes. IsOkAnd result
         (λ p. (compared_path p ≡ path_of snapshot) × (compared_bytes p ≡ bytes)))
         (λ fault. result ≡ Err fault) }
+    ensures formula_of_snapshots { IfOk (content_of snapshot) (λ bytes. IfOk result (λ p.
+        (s : Snapshot) (f : Formula)
+        → ⟦<FileTestPredicate<BinaryFilePredicate> as Predicate<Snapshot>>⟧.formula p s f
+        ↔ IsExactly (equals_content (path_of snapshot) bytes s) f)) }
+    ensures formula_of_bytes { IfOk (content_of snapshot) (λ bytes. IfOk result (λ p.
+        (v : Bytes) (f : Formula)
+        → ⟦<FileTestPredicate<BinaryFilePredicate> as Predicate<Vec<u8>>>⟧.formula p v f
+        ↔ IsExactly (equals_bytes (path_of snapshot) bytes v.items) f)) }
+    ensures of_bytes { IfOk result (λ p. (v : Bytes)
+        → ⟦<FileTestPredicate<BinaryFilePredicate> as Predicate<Vec<u8>>>⟧.lawful p
+        × ⟦<FileTestPredicate<BinaryFilePredicate> as Predicate<Vec<u8>>>⟧.infallible p v) }
+    ensures values { IfOk (content_of snapshot) (λ bytes. IfOk result (λ p.
+        ⟦<FileTestPredicate<BinaryFilePredicate> as PredicateReflection>⟧.parameters_of p
+        ≡ value_of (codes "content") (shown_bytes bytes))) }
 {
     let (path, content) = (snapshot.path, snapshot.content);
     let content = content?;
-    Ok(FileTestPredicate {
-        test: BinaryFilePredicate { path, content },
-    })
+    Ok(FileTestPredicate::new(BinaryFilePredicate { path, content }))
 }
 
 impl FileTestPredicate<BinaryFilePredicate> {
@@ -64,12 +81,23 @@ impl FileTestPredicate<BinaryFilePredicate> {
         ensures text { MatchOption result (¬ (IsUtf8 (compared_bytes self)))
             (λ p. (text.compared_path p ≡ compared_path self)
             × (text.compared_text p ≡ compared_bytes self)) }
+        ensures formula_of_snapshots { IfSome result (λ p. (s : Snapshot) (f : Formula)
+            → ⟦<FileTestPredicate<StrFilePredicate> as Predicate<Snapshot>>⟧.formula p s f
+            ↔ IsExactly (equals_content (compared_path self) (compared_bytes self) s) f) }
+        ensures formula_of_texts { IfSome result (λ p. (v : Text) (f : Formula)
+            → ⟦<FileTestPredicate<StrFilePredicate> as Predicate<String>>⟧.formula p v f
+            ↔ IsExactly (equals_bytes (compared_path self) (compared_bytes self)
+            (string_bytes v)) f) }
+        ensures of_texts { IfSome result (λ p. (v : Text)
+            → ⟦<FileTestPredicate<StrFilePredicate> as Predicate<String>>⟧.lawful p
+            × ⟦<FileTestPredicate<StrFilePredicate> as Predicate<String>>⟧.infallible p v) }
+        ensures values { IfSome result (λ p.
+            ⟦<FileTestPredicate<StrFilePredicate> as PredicateReflection>⟧.parameters_of p
+            ≡ value_of (codes "content") (Some (compared_bytes self))) }
     {
         let BinaryFilePredicate { path, content } = self.test;
         match String::from_utf8(content) {
-            Ok(content) => Some(FileTestPredicate {
-                test: StrFilePredicate { path, content },
-            }),
+            Ok(content) => Some(FileTestPredicate::new(StrFilePredicate { path, content })),
             Err(_) => None,
         }
     }

@@ -1,12 +1,16 @@
 //! Whether a path leads to anything.
-ghost use Rattle.std.specs.Prelude.{◌≡◌, true, false, [], Some};
+ghost use Rattle.std.specs.Prelude.{◌≡◌, ◌↔◌, true, false, [], Some};
+ghost use Rattle.predicates_core.specs.Formula.{Formula};
+ghost use Rattle.predicates_core.specs.Leaves.{IsExactly};
 ghost use Rattle.predicates_path.specs.Existence.{asks_presence, existence_text, existence_truth};
-ghost use Rattle.predicates_path.specs.Existence.{path_product};
+ghost use Rattle.predicates_path.specs.Existence.{existence_formula, path_product};
+ghost use Rattle.predicates_path.specs.declared.snapshot.Snapshot.{Snapshot};
 
 use crate::Snapshot;
 use crate::file_test::{FileTest, FileTestPredicate};
+use predicates_core::Predicate;
 use predicates_core::custom::TestParameters;
-use predicates_core::reflection::{Case, Parameter};
+use predicates_core::reflection::{Case, Parameter, PredicateReflection};
 use std::alloc::{AllocError, Global};
 use std::fmt;
 
@@ -24,10 +28,13 @@ pub struct ExistencePredicate {
 /// ```
 pub fn exists() -> FileTestPredicate<ExistencePredicate>
     ensures presence { asks_presence result ≡ true }
+    ensures formula { (s : Snapshot) (f : Formula)
+        → ⟦<FileTestPredicate<ExistencePredicate> as Predicate<Snapshot>>⟧.formula result s f
+        ↔ IsExactly (existence_formula true s) f }
+    ensures values { ⟦<FileTestPredicate<ExistencePredicate> as PredicateReflection>⟧.parameters_of
+        result ≡ [] }
 {
-    FileTestPredicate {
-        test: ExistencePredicate { exists: true },
-    }
+    FileTestPredicate::new(ExistencePredicate { exists: true })
 }
 
 /// Holds where the path leads to nothing, or is a link without a target. It takes no memory.
@@ -38,10 +45,13 @@ pub fn exists() -> FileTestPredicate<ExistencePredicate>
 /// ```
 pub fn missing() -> FileTestPredicate<ExistencePredicate>
     ensures presence { asks_presence result ≡ false }
+    ensures formula { (s : Snapshot) (f : Formula)
+        → ⟦<FileTestPredicate<ExistencePredicate> as Predicate<Snapshot>>⟧.formula result s f
+        ↔ IsExactly (existence_formula false s) f }
+    ensures values { ⟦<FileTestPredicate<ExistencePredicate> as PredicateReflection>⟧.parameters_of
+        result ≡ [] }
 {
-    FileTestPredicate {
-        test: ExistencePredicate { exists: false },
-    }
+    FileTestPredicate::new(ExistencePredicate { exists: false })
 }
 
 impl fmt::Display for ExistencePredicate {

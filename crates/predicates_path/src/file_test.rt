@@ -5,7 +5,9 @@ ghost use Rattle.predicates_core.specs.Leaves.{IsExactly};
 ghost use Rattle.predicates_core.specs.LeafLaws.{exactly_text_fits, one_exactly};
 ghost use Rattle.predicates_core.specs.Tree.{empty};
 ghost use Rattle.predicates_path.specs.FileTest.{IsShown, file_leaf};
+ghost use Rattle.predicates_path.specs.declared.snapshot.Snapshot.{Snapshot};
 
+use crate::Snapshot;
 use predicates_core::custom::{TestParameters, is_other, leaf_change};
 use predicates_core::node::{leaf_node, printed};
 use predicates_core::reflection::{Case, Child, Parameter, PredicateReflection};
@@ -35,6 +37,22 @@ pub trait FileTest<Item>: fmt::Display + TestParameters {
 #[derive(Clone, Copy, PartialEq, Eq, Drop)]
 pub struct FileTestPredicate<T> {
     pub(crate) test: T,
+}
+
+impl<T: FileTest<Snapshot>> FileTestPredicate<T> {
+    // The predicate of the test.
+    pub(crate) fn new(test: T) -> FileTestPredicate<T>
+        ensures test { result.test ≡ test }
+        ensures lawful { ⟦<FileTestPredicate<T> as Predicate<Snapshot>>⟧.lawful result }
+        ensures infallible { (s : Snapshot)
+            → ⟦<FileTestPredicate<T> as Predicate<Snapshot>>⟧.infallible result s }
+        ensures values { ⟦<FileTestPredicate<T> as PredicateReflection>⟧.parameters_of result
+            ≡ T.parameters_of test }
+        ensures parts { ⟦<FileTestPredicate<T> as PredicateReflection>⟧.children_of result
+            ≡ empty }
+    {
+        FileTestPredicate { test }
+    }
 }
 
 impl<T: fmt::Debug> fmt::Debug for FileTestPredicate<T> {

@@ -1,18 +1,21 @@
 //! Which kind of file is at a path.
-ghost use Rattle.std.specs.Prelude.{◌≡◌, true, false, codes, Ok, Err, Some, IfOk};
+ghost use Rattle.std.specs.Prelude.{◌≡◌, ◌↔◌, true, false, codes, Ok, Err, Some, IfOk};
 ghost use Rattle.std.specs.Prelude.{IsOkAnd, MatchResult};
+ghost use Rattle.predicates_core.specs.Formula.{Formula};
 ghost use Rattle.predicates_core.specs.Label.{value_of};
-ghost use Rattle.predicates_core.specs.Leaves.{word};
+ghost use Rattle.predicates_core.specs.Leaves.{IsExactly, word};
 ghost use Rattle.predicates_path.specs.Snapshot.{followed_of};
 ghost use Rattle.predicates_path.specs.Kind.{tested_kind, follows, found_kind, has_kind};
-ghost use Rattle.predicates_path.specs.Kind.{kind_product, kind_predicate_text};
+ghost use Rattle.predicates_path.specs.Kind.{kind_leaf, kind_product, kind_predicate_text};
+ghost use Rattle.predicates_path.specs.declared.snapshot.Snapshot.{Snapshot};
 
 use crate::fault::show_fault;
 use crate::file_test::{FileTest, FileTestPredicate};
 use crate::{FileType, PathFault, Snapshot};
+use predicates_core::Predicate;
 use predicates_core::custom::TestParameters;
 use predicates_core::node::showing;
-use predicates_core::reflection::{Case, Parameter};
+use predicates_core::reflection::{Case, Parameter, PredicateReflection};
 use std::alloc::{AllocError, Global};
 use std::fmt;
 
@@ -27,11 +30,14 @@ pub struct FileTypePredicate {
 fn plain(kind: FileType) -> FileTestPredicate<FileTypePredicate>
     ensures kind { tested_kind result ≡ kind }
     ensures follow { follows result ≡ false }
+    ensures formula { (s : Snapshot) (f : Formula)
+        → ⟦<FileTestPredicate<FileTypePredicate> as Predicate<Snapshot>>⟧.formula result s f
+        ↔ IsExactly (kind_leaf kind false s) f }
+    ensures values { ⟦<FileTestPredicate<FileTypePredicate> as PredicateReflection>⟧.parameters_of
+        result ≡ value_of (codes "follow") (Some (word false)) }
 {
     let follow = false;
-    FileTestPredicate {
-        test: FileTypePredicate { kind, follow },
-    }
+    FileTestPredicate::new(FileTypePredicate { kind, follow })
 }
 
 /// Holds where a regular file is at the path itself, without following links, and not where the
@@ -44,6 +50,11 @@ fn plain(kind: FileType) -> FileTestPredicate<FileTypePredicate>
 pub fn is_file() -> FileTestPredicate<FileTypePredicate>
     ensures kind { tested_kind result ≡ FileType.File }
     ensures follow { follows result ≡ false }
+    ensures formula { (s : Snapshot) (f : Formula)
+        → ⟦<FileTestPredicate<FileTypePredicate> as Predicate<Snapshot>>⟧.formula result s f
+        ↔ IsExactly (kind_leaf FileType.File false s) f }
+    ensures values { ⟦<FileTestPredicate<FileTypePredicate> as PredicateReflection>⟧.parameters_of
+        result ≡ value_of (codes "follow") (Some (word false)) }
 {
     plain(FileType::File)
 }
@@ -57,6 +68,11 @@ pub fn is_file() -> FileTestPredicate<FileTypePredicate>
 pub fn is_dir() -> FileTestPredicate<FileTypePredicate>
     ensures kind { tested_kind result ≡ FileType.Dir }
     ensures follow { follows result ≡ false }
+    ensures formula { (s : Snapshot) (f : Formula)
+        → ⟦<FileTestPredicate<FileTypePredicate> as Predicate<Snapshot>>⟧.formula result s f
+        ↔ IsExactly (kind_leaf FileType.Dir false s) f }
+    ensures values { ⟦<FileTestPredicate<FileTypePredicate> as PredicateReflection>⟧.parameters_of
+        result ≡ value_of (codes "follow") (Some (word false)) }
 {
     plain(FileType::Dir)
 }
@@ -70,6 +86,11 @@ pub fn is_dir() -> FileTestPredicate<FileTypePredicate>
 pub fn is_symlink() -> FileTestPredicate<FileTypePredicate>
     ensures kind { tested_kind result ≡ FileType.Symlink }
     ensures follow { follows result ≡ false }
+    ensures formula { (s : Snapshot) (f : Formula)
+        → ⟦<FileTestPredicate<FileTypePredicate> as Predicate<Snapshot>>⟧.formula result s f
+        ↔ IsExactly (kind_leaf FileType.Symlink false s) f }
+    ensures values { ⟦<FileTestPredicate<FileTypePredicate> as PredicateReflection>⟧.parameters_of
+        result ≡ value_of (codes "follow") (Some (word false)) }
 {
     plain(FileType::Symlink)
 }
@@ -88,11 +109,14 @@ impl FileTestPredicate<FileTypePredicate> {
             (λ kind. IsOkAnd result (λ p. tested_kind p ≡ kind))
             (λ fault. result ≡ Err fault) }
         ensures follow { IfOk result (λ p. follows p ≡ true) }
+        ensures formula { IfOk (followed_of snapshot.now) (λ kind. IfOk result (λ p.
+            (s : Snapshot) (f : Formula) → ⟦<Self as Predicate<Snapshot>>⟧.formula p s f
+            ↔ IsExactly (kind_leaf kind true s) f)) }
+        ensures values { IfOk result (λ p. ⟦<Self as PredicateReflection>⟧.parameters_of p
+            ≡ value_of (codes "follow") (Some (word true))) }
     {
         let (kind, follow) = (snapshot.followed()?, true);
-        Ok(FileTestPredicate {
-            test: FileTypePredicate { kind, follow },
-        })
+        Ok(FileTestPredicate::new(FileTypePredicate { kind, follow }))
     }
 
     /// The predicate of the same kind, which follows links where `yes` is true. It takes no memory.
@@ -104,6 +128,11 @@ impl FileTestPredicate<FileTypePredicate> {
     pub fn follow_links(mut self, yes: bool) -> Self
         ensures kind { tested_kind result ≡ tested_kind self }
         ensures follow { follows result ≡ yes }
+        ensures formula { (s : Snapshot) (f : Formula)
+            → ⟦<Self as Predicate<Snapshot>>⟧.formula result s f
+            ↔ IsExactly (kind_leaf (tested_kind self) yes s) f }
+        ensures values { ⟦<Self as PredicateReflection>⟧.parameters_of result
+            ≡ value_of (codes "follow") (Some (word yes)) }
     {
         self.test.follow = yes;
         self

@@ -18,7 +18,6 @@ mod fault;
 mod file_test;
 mod file_type;
 mod file_type_predicate;
-pub mod semantics;
 mod snapshot;
 
 pub use content::{FileContentPredicate, PredicateFileContentExt};
