@@ -49,10 +49,13 @@ pub struct LengthPredicate<P> {
     inner: P,
 }
 
-impl<P> LengthPredicate<P> {
+impl<P: PredicateReflection> LengthPredicate<P> {
     /// The predicate of a length.
     pub fn new(inner: P) -> LengthPredicate<P>
-        ensures { inner_of result ≡ inner }
+        ensures inner { inner_of result ≡ inner }
+        ensures values { ⟦<LengthPredicate<P> as PredicateReflection>⟧.parameters_of result ≡ [] }
+        ensures parts { ⟦<LengthPredicate<P> as PredicateReflection>⟧.children_of result
+            ≡ part (codes "len") (P.output inner) (P.parameters_of inner) (P.children_of inner) }
     {
         LengthPredicate { inner }
     }

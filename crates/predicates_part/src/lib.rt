@@ -13,14 +13,23 @@
 //! ```
 #![tactic(auto)]
 
-ghost use Rattle.std.specs.Prelude.{◌≡◌, option_copied, IfOk};
-ghost use Rattle.predicates_part.specs.Part.{HasOnePart, owned, borrowed};
+ghost use Rattle.std.specs.Prelude.{◌≡◌, ◌↔◌, true, false, [], ◌∷◌, codes, option_copied, IfOk};
+ghost use Rattle.std.specs.Prelude.{IfSome, Option, Vec};
+ghost use Rattle.std.specs.Global.{Global};
+ghost use Rattle.predicates_core.specs.Combined.{IsNamed};
+ghost use Rattle.predicates_core.specs.Formula.{Formula};
+ghost use Rattle.predicates_core.specs.Present.{IsOfPresent};
+ghost use Rattle.predicates_core.specs.Several.{IsOfMembers};
+ghost use Rattle.predicates_core.specs.Thresholds.{IsOfThreshold, counted_text};
+ghost use Rattle.predicates_part.specs.Part.{HasOnePart, IsOfPart, IsInfallibleOnPart};
+ghost use Rattle.predicates_part.specs.Part.{owned, borrowed};
 ghost use Rattle.predicates_part.specs.Part.{inner_of, function_of, name_of};
 ghost use Rattle.predicates_part.specs.Length as Length;
 ghost use Rattle.predicates_boolean.specs.Join.{left_of, right_of};
 ghost use Rattle.predicates_boolean.specs.Not as Not;
 ghost use Rattle.predicates_boolean.specs.Threshold.{one_more};
 ghost use Rattle.predicates_part.specs.Members as Members;
+ghost use Rattle.predicates_part.specs.Members.{applied_text};
 ghost use Rattle.predicates_part.specs.MembersAtLeast as MembersAtLeast;
 ghost use Rattle.predicates_part.specs.Optional as Optional;
 
@@ -68,11 +77,21 @@ pub trait PredicatePartExt<U>: Predicate<U> {
     ) -> FieldPredicate<Self, F, T, U, N, ByValue>
     where
         Self: Sized,
+        U: Drop,
         requires callable { F.IsAlwaysCallable function }
         requires one_part { HasOnePart F.Fn owned function }
         ensures inner { inner_of result ≡ self }
         ensures function { function_of result ≡ function }
-        ensures name { name_of result ≡ name };
+        ensures name { name_of result ≡ name }
+        ensures formula { (v : T) (f : Formula)
+            → ⟦<FieldPredicate<Self, F, T, U, N, ByValue> as Predicate<T>>⟧.formula result v f
+            ↔ IsNamed (N.bytes name) (IsOfPart F.Fn owned function (Self.formula self) v) f }
+        ensures lawful { ⟦<FieldPredicate<Self, F, T, U, N, ByValue> as Predicate<T>>⟧.lawful result
+            ↔ Self.lawful self × F.IsAlwaysCallable function
+            × HasOnePart F.Fn owned function }
+        ensures infallible { (v : T)
+            → ⟦<FieldPredicate<Self, F, T, U, N, ByValue> as Predicate<T>>⟧.infallible result v
+            ↔ IsInfallibleOnPart F.Fn owned function (Self.infallible self) v };
 
     /// As `of`, of a part that the function borrows from the item. The function is a named one with
     /// an `ensures`, as `fn name_of(person: &Person) -> &String`, and no closure.
@@ -93,7 +112,16 @@ pub trait PredicatePartExt<U>: Predicate<U> {
         requires one_part { HasOnePart F.Fn borrowed function }
         ensures inner { inner_of result ≡ self }
         ensures function { function_of result ≡ function }
-        ensures name { name_of result ≡ name };
+        ensures name { name_of result ≡ name }
+        ensures formula { (v : T) (f : Formula)
+            → ⟦<FieldPredicate<Self, F, T, U, N, ByReference> as Predicate<T>>⟧.formula result v f
+            ↔ IsNamed (N.bytes name) (IsOfPart F.Fn borrowed function (Self.formula self) v) f }
+        ensures lawful { ⟦<FieldPredicate<Self, F, T, U, N, ByReference> as Predicate<T>>⟧.lawful
+            result ↔ Self.lawful self × F.IsAlwaysCallable function
+            × HasOnePart F.Fn borrowed function }
+        ensures infallible { (v : T)
+            → ⟦<FieldPredicate<Self, F, T, U, N, ByReference> as Predicate<T>>⟧.infallible result v
+            ↔ IsInfallibleOnPart F.Fn borrowed function (Self.infallible self) v };
 
     /// As `of_ref`, of a part that an item may lack, as the value under a key of a map, the first
     /// member of a list or an enum's variant. Where there is none, this one does not hold; the case
@@ -115,7 +143,18 @@ pub trait PredicatePartExt<U>: Predicate<U> {
         requires one_part { HasOnePart F.Fn option_copied function }
         ensures inner { inner_of result ≡ self }
         ensures function { function_of result ≡ function }
-        ensures name { name_of result ≡ name };
+        ensures name { name_of result ≡ name }
+        ensures formula { (v : T) (f : Formula)
+            → ⟦<FieldPredicate<Self, F, T, U, N, ByOption> as Predicate<T>>⟧.formula result v f
+            ↔ IsNamed (N.bytes name) (IsOfPart F.Fn option_copied function
+            (IsOfPresent (Self.output self) (codes "no value") (Self.formula self)) v) f }
+        ensures lawful { ⟦<FieldPredicate<Self, F, T, U, N, ByOption> as Predicate<T>>⟧.lawful
+            result ↔ Self.lawful self × F.IsAlwaysCallable function
+            × HasOnePart F.Fn option_copied function }
+        ensures infallible { (v : T)
+            → ⟦<FieldPredicate<Self, F, T, U, N, ByOption> as Predicate<T>>⟧.infallible result v
+            ↔ IsInfallibleOnPart F.Fn option_copied function
+            (λ held. IfSome held (Self.infallible self)) v };
 
     /// As `of`, of a field. There is no condition, and where this one is `Total` so is the result.
     ///
@@ -133,7 +172,15 @@ pub trait PredicatePartExt<U>: Predicate<U> {
         Self: Sized,
         ensures inner { inner_of result ≡ self }
         ensures function { function_of result ≡ field }
-        ensures name { name_of result ≡ name };
+        ensures name { name_of result ≡ name }
+        ensures formula { (v : T) (f : Formula)
+            → ⟦<FieldPredicate<Self, F, T, U, N, ByField> as Predicate<T>>⟧.formula result v f
+            ↔ IsNamed (N.bytes name) (Self.formula self (F.part_of field v)) f }
+        ensures lawful { ⟦<FieldPredicate<Self, F, T, U, N, ByField> as Predicate<T>>⟧.lawful result
+            ↔ Self.lawful self }
+        ensures infallible { (v : T)
+            → ⟦<FieldPredicate<Self, F, T, U, N, ByField> as Predicate<T>>⟧.infallible result v
+            ↔ Self.infallible self (F.part_of field v) };
 
     /// The predicate of an `Option` that holds of `Some` where this one holds of its value, and
     /// does not hold of `None`. It takes no memory of its own, and prints what this one prints.
@@ -146,7 +193,10 @@ pub trait PredicatePartExt<U>: Predicate<U> {
     fn of_some(self) -> SomePredicate<Self>
     where
         Self: Sized,
-        ensures inner { Optional.inner_of result ≡ self };
+        ensures inner { Optional.inner_of result ≡ self }
+        ensures formula { (v : Option U) (f : Formula)
+            → ⟦<SomePredicate<Self> as Predicate<Option<U>>>⟧.formula result v f
+            ↔ IsOfPresent (Self.output self) (codes "no value") (Self.formula self) v f };
 
     /// The predicate of a `Result` that holds of `Ok` where this one holds of its value, and does
     /// not hold of `Err`. It takes no memory of its own, and prints what this one prints.
@@ -190,7 +240,11 @@ pub trait PredicatePartExt<U>: Predicate<U> {
     fn of_each(self) -> EachPredicate<Self>
     where
         Self: Sized,
-        ensures inner { Members.inner_of result ≡ self };
+        ensures inner { Members.inner_of result ≡ self }
+        ensures formula { (v : Vec U Global) (f : Formula)
+            → ⟦<EachPredicate<Self> as Predicate<Vec<U>>>⟧.formula result v f
+            ↔ IsOfMembers false (applied_text (codes "each") (Self.output self)) (codes "item")
+            (Self.formula self) v.items f };
 
     /// The predicate of a list that holds where this one holds of a member. It prints `any(..)`,
     /// and takes no memory of its own.
@@ -206,7 +260,11 @@ pub trait PredicatePartExt<U>: Predicate<U> {
     fn of_any(self) -> AnyPredicate<Self>
     where
         Self: Sized,
-        ensures inner { Members.inner_of result ≡ self };
+        ensures inner { Members.inner_of result ≡ self }
+        ensures formula { (v : Vec U Global) (f : Formula)
+            → ⟦<AnyPredicate<Self> as Predicate<Vec<U>>>⟧.formula result v f
+            ↔ IsOfMembers true (applied_text (codes "any") (Self.output self)) (codes "item")
+            (Self.formula self) v.items f };
 
     /// The predicate of a list that holds where this one holds of at least so many members. It
     /// prints `at_least(2, ..)`, and takes no memory of its own.
@@ -224,7 +282,12 @@ pub trait PredicatePartExt<U>: Predicate<U> {
     where
         Self: Sized,
         ensures least { MembersAtLeast.least_of result ≡ least }
-        ensures inner { MembersAtLeast.inner_of result ≡ self };
+        ensures inner { MembersAtLeast.inner_of result ≡ self }
+        ensures formula { (v : Vec U Global) (f : Formula)
+            → ⟦<MembersAtLeastPredicate<Self> as Predicate<Vec<U>>>⟧.formula result v f
+            ↔ IsOfThreshold least
+            (counted_text (codes "at_least") least (Self.output self ∷ [])) (codes "item")
+            (Self.formula self) v.items f };
 
     /// The predicate of a list that holds where this one holds of at most so many members: it is
     /// not that one more of them hold, and prints `(! at_least(3, ..))` for two. It takes no memory
@@ -281,7 +344,10 @@ impl<P: Predicate<U>, U> PredicatePartExt<U> for P {
         self,
         name: N,
         function: F,
-    ) -> FieldPredicate<Self, F, T, U, N, ByValue> {
+    ) -> FieldPredicate<Self, F, T, U, N, ByValue>
+    where
+        U: Drop,
+    {
         NamePredicate::new(PartPredicate::new(self, function), name)
     }
 

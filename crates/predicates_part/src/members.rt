@@ -3,8 +3,10 @@
 //! ```
 //! let adults = predicate::ge(18).of_each();
 //! ```
-ghost use Rattle.std.specs.Prelude.{◌≡◌, [], codes};
+ghost use Rattle.std.specs.Prelude.{◌≡◌, ◌↔◌, [], codes, Vec};
+ghost use Rattle.std.specs.Global.{Global};
 ghost use Rattle.std.specs.List.{AllByRecursion};
+ghost use Rattle.predicates_core.specs.Formula.{Formula};
 ghost use Rattle.predicates_core.specs.Parts.{part};
 ghost use Rattle.predicates_core.specs.Several.{IsOfMembers, members_formula};
 ghost use Rattle.predicates_core.proofs.Several.{members_text_fits, one_members, has_members};
@@ -34,10 +36,25 @@ pub type EachPredicate<P> = MembersPredicate<Every, P>;
 /// Holds of a list where its inner predicate holds of a member.
 pub type AnyPredicate<P> = MembersPredicate<AtLeastOne, P>;
 
-impl<Q, P> MembersPredicate<Q, P> {
+impl<Q: Quantifier, P> MembersPredicate<Q, P> {
     /// The predicate of the members of a list.
-    pub fn new(inner: P) -> MembersPredicate<Q, P>
-        ensures { inner_of result ≡ inner }
+    pub fn new<U>(inner: P) -> MembersPredicate<Q, P>
+    where
+        P: Predicate<U>,
+        ensures inner { inner_of result ≡ inner }
+        ensures formula { (v : Vec U Global) (f : Formula)
+            → ⟦<MembersPredicate<Q, P> as Predicate<Vec<U>>>⟧.formula result v f
+            ↔ IsOfMembers Q.one_suffices (applied_text (word Q.one_suffices) (P.output inner))
+            (codes "item") (P.formula inner) v.items f }
+        ensures lawful { ⟦<MembersPredicate<Q, P> as Predicate<Vec<U>>>⟧.lawful result
+            ↔ P.lawful inner }
+        ensures infallible { (v : Vec U Global)
+            → ⟦<MembersPredicate<Q, P> as Predicate<Vec<U>>>⟧.infallible result v
+            ↔ AllByRecursion (P.infallible inner) v.items }
+        ensures values { ⟦<MembersPredicate<Q, P> as PredicateReflection>⟧.parameters_of result
+            ≡ [] }
+        ensures parts { ⟦<MembersPredicate<Q, P> as PredicateReflection>⟧.children_of result
+            ≡ part (codes "item") (P.output inner) (P.parameters_of inner) (P.children_of inner) }
     {
         MembersPredicate {
             inner,

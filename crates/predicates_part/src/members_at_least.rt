@@ -3,8 +3,10 @@
 //! ```
 //! let two_adults = predicate::ge(18).of_at_least(2);
 //! ```
-ghost use Rattle.std.specs.Prelude.{◌≡◌, [], ◌∷◌, codes};
+ghost use Rattle.std.specs.Prelude.{◌≡◌, ◌↔◌, [], ◌∷◌, codes, Vec};
+ghost use Rattle.std.specs.Global.{Global};
 ghost use Rattle.std.specs.List.{AllByRecursion};
+ghost use Rattle.predicates_core.specs.Formula.{Formula};
 ghost use Rattle.predicates_core.specs.Parts.{part};
 ghost use Rattle.predicates_core.specs.Thresholds.{IsOfThreshold, counted_text, threshold_formula};
 ghost use Rattle.predicates_core.proofs.Several.{each_holds};
@@ -42,9 +44,24 @@ pub type MembersExactlyPredicate<P, U> = AndPredicate<
 
 impl<P> MembersAtLeastPredicate<P> {
     /// The predicate of a list.
-    pub fn new(least: usize, inner: P) -> MembersAtLeastPredicate<P>
+    pub fn new<U>(least: usize, inner: P) -> MembersAtLeastPredicate<P>
+    where
+        P: Predicate<U>,
         ensures least { least_of result ≡ least }
         ensures inner { inner_of result ≡ inner }
+        ensures formula { (v : Vec U Global) (f : Formula)
+            → ⟦<MembersAtLeastPredicate<P> as Predicate<Vec<U>>>⟧.formula result v f
+            ↔ IsOfThreshold least (counted_text (codes "at_least") least (P.output inner ∷ []))
+            (codes "item") (P.formula inner) v.items f }
+        ensures lawful { ⟦<MembersAtLeastPredicate<P> as Predicate<Vec<U>>>⟧.lawful result
+            ↔ P.lawful inner }
+        ensures infallible { (v : Vec U Global)
+            → ⟦<MembersAtLeastPredicate<P> as Predicate<Vec<U>>>⟧.infallible result v
+            ↔ AllByRecursion (P.infallible inner) v.items }
+        ensures values { ⟦<MembersAtLeastPredicate<P> as PredicateReflection>⟧.parameters_of result
+            ≡ [] }
+        ensures parts { ⟦<MembersAtLeastPredicate<P> as PredicateReflection>⟧.children_of result
+            ≡ part (codes "item") (P.output inner) (P.parameters_of inner) (P.children_of inner) }
     {
         MembersAtLeastPredicate { least, inner }
     }

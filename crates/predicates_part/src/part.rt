@@ -59,11 +59,18 @@ pub type FieldPredicate<P, F, T, U, N = &'static str, Access = ByValue> = NamePr
     N,
 >;
 
-impl<P, F, U, Access> PartPredicate<P, F, U, Access> {
-    /// The predicate of the part that the function gives.
+impl<P: PredicateReflection, F, U, Access> PartPredicate<P, F, U, Access> {
+    /// The predicate of the part that the function gives. Whatever gives the part, it is described
+    /// as its inner predicate.
     pub(crate) fn new(inner: P, function: F) -> PartPredicate<P, F, U, Access>
         ensures inner { part_inner_of result ≡ inner }
         ensures function { part_function_of result ≡ function }
+        ensures text { ⟦<PartPredicate<P, F, U, Access> as fmt::Display>⟧.output result
+            ≡ P.output inner }
+        ensures values { ⟦<PartPredicate<P, F, U, Access> as PredicateReflection>⟧.parameters_of
+            result ≡ P.parameters_of inner }
+        ensures parts { ⟦<PartPredicate<P, F, U, Access> as PredicateReflection>⟧.children_of
+            result ≡ P.children_of inner }
     {
         PartPredicate {
             inner,

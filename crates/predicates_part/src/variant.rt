@@ -116,10 +116,15 @@ pub type OkPredicate<P> = VariantPredicate<OkVariant, P>;
 /// Holds of `Err` where its inner predicate holds of the error, and not of `Ok`.
 pub type ErrPredicate<P> = VariantPredicate<ErrVariant, P>;
 
-impl<V, P> VariantPredicate<V, P> {
+impl<V, P: PredicateReflection> VariantPredicate<V, P> {
     /// The predicate of the value that the variant holds.
     pub fn new(inner: P) -> VariantPredicate<V, P>
-        ensures { inner_of result ≡ inner }
+        ensures inner { inner_of result ≡ inner }
+        ensures values { ⟦<VariantPredicate<V, P> as PredicateReflection>⟧.parameters_of result
+            ≡ [] }
+        ensures parts { ⟦<VariantPredicate<V, P> as PredicateReflection>⟧.children_of result
+            ≡ part (codes "predicate") (P.output inner) (P.parameters_of inner)
+            (P.children_of inner) }
     {
         VariantPredicate {
             inner,
