@@ -3,7 +3,8 @@
 //! ```
 //! let named = predicate::str::starts_with(prefix).of_string();
 //! ```
-ghost use Rattle.std.specs.Prelude.{◌≡◌, [], codes, IfSome, Option, option_map};
+ghost use Rattle.std.specs.Prelude.{◌≡◌, ◌↔◌, [], codes, IfSome, Option, option_map};
+ghost use Rattle.predicates_core.specs.Formula.{Formula};
 ghost use Rattle.predicates_core.specs.Parts.{part};
 ghost use Rattle.serde_json.specs.View.{view};
 ghost use Rattle.serde_json.specs.declared.value.Value.{Value as JsonValue};
@@ -101,10 +102,22 @@ pub struct KindPredicate<P, U> {
     kind: PhantomData<U>,
 }
 
-impl<P, U> KindPredicate<P, U> {
+impl<P: Predicate<U>, U: JsonKind> KindPredicate<P, U> {
     // The predicate of the kind over this one.
     pub(crate) fn new(inner: P) -> KindPredicate<P, U>
-        ensures { inner_of result ≡ inner }
+        ensures inner { inner_of result ≡ inner }
+        ensures formula { (v : JsonValue) (f : Formula)
+            → ⟦<KindPredicate<P, U> as Predicate<Value>>⟧.formula result v f
+            ↔ IsOfPresent (P.output inner) (kind_text (view v)) (P.formula inner) (U.held_by v) f }
+        ensures lawful { ⟦<KindPredicate<P, U> as Predicate<Value>>⟧.lawful result
+            ↔ P.lawful inner }
+        ensures infallible { (v : JsonValue)
+            → ⟦<KindPredicate<P, U> as Predicate<Value>>⟧.infallible result v
+            ↔ IfSome (U.held_by v) (P.infallible inner) }
+        ensures values { ⟦<KindPredicate<P, U> as PredicateReflection>⟧.parameters_of result ≡ [] }
+        ensures parts { ⟦<KindPredicate<P, U> as PredicateReflection>⟧.children_of result
+            ≡ part (codes "predicate") (P.output inner) (P.parameters_of inner)
+            (P.children_of inner) }
     {
         KindPredicate {
             inner,

@@ -17,12 +17,19 @@
 //! ```
 #![tactic(auto)]
 
-ghost use Rattle.std.specs.Prelude.{◌≡◌};
+ghost use Rattle.std.specs.Prelude.{◌≡◌, ◌↔◌, option_and_then};
+ghost use Rattle.predicates_core.specs.Formula.{Formula};
+ghost use Rattle.predicates_core.specs.Present.{IsOfPresent};
+ghost use Rattle.serde_json.specs.Find.{as_number};
+ghost use Rattle.serde_json.specs.View.{view};
 ghost use Rattle.serde_json.specs.declared.value.Value.{Value as JsonValue};
+ghost use Rattle.predicates_json.specs.At.{at_pointer};
 ghost use Rattle.predicates_json.specs.Kinds.{held_bool, held_string, held_array, held_object};
+ghost use Rattle.predicates_json.specs.Kinds.{kind_text, no_number_text};
 ghost use Rattle.predicates_json.specs.KindParts as Kind;
 ghost use Rattle.predicates_json.specs.NumberParts as Number;
 ghost use Rattle.predicates_json.specs.Pointer as Pointer;
+ghost use Rattle.predicates_json.specs.Pointer.{IsAt, no_value_text};
 
 mod at;
 mod case;
@@ -31,7 +38,6 @@ mod null;
 mod number;
 mod pointer;
 mod presence;
-pub mod semantics;
 
 pub use at::value_at;
 pub use case::case_json;
@@ -58,7 +64,11 @@ pub trait PredicateJsonExt: Sized {
     where
         Self: Predicate<Value>,
         ensures inner { Pointer.inner_of result ≡ self }
-        ensures pointer { Pointer.pointer_of result ≡ pointer };
+        ensures pointer { Pointer.pointer_of result ≡ pointer }
+        ensures formula { (v : JsonValue) (f : Formula)
+            → ⟦<PointerPredicate<Self, N> as Predicate<Value>>⟧.formula result v f
+            ↔ IsAt (N.bytes pointer) (IsOfPresent (Self.output self) no_value_text
+            (Self.formula self) (at_pointer (N.bytes pointer) v)) f };
 
     /// The predicate that holds of a JSON text where this one holds of it, and not of a value of
     /// another kind. It prints what this one prints, takes no memory to make, and its `eval` takes
@@ -73,7 +83,11 @@ pub trait PredicateJsonExt: Sized {
     where
         Self: Predicate<String>,
         ensures inner { Kind.inner_of result ≡ self }
-        ensures kind { (v : JsonValue) → ⟦<String as JsonKind>⟧.held_by v ≡ held_string v };
+        ensures kind { (v : JsonValue) → ⟦<String as JsonKind>⟧.held_by v ≡ held_string v }
+        ensures formula { (v : JsonValue) (f : Formula)
+            → ⟦<KindPredicate<Self, String> as Predicate<Value>>⟧.formula result v f
+            ↔ IsOfPresent (Self.output self) (kind_text (view v)) (Self.formula self)
+            (held_string v) f };
 
     /// The same of a JSON truth.
     ///
@@ -86,7 +100,11 @@ pub trait PredicateJsonExt: Sized {
     where
         Self: Predicate<bool>,
         ensures inner { Kind.inner_of result ≡ self }
-        ensures kind { (v : JsonValue) → ⟦<bool as JsonKind>⟧.held_by v ≡ held_bool v };
+        ensures kind { (v : JsonValue) → ⟦<bool as JsonKind>⟧.held_by v ≡ held_bool v }
+        ensures formula { (v : JsonValue) (f : Formula)
+            → ⟦<KindPredicate<Self, bool> as Predicate<Value>>⟧.formula result v f
+            ↔ IsOfPresent (Self.output self) (kind_text (view v)) (Self.formula self)
+            (held_bool v) f };
 
     /// The same of the items of a JSON array.
     ///
@@ -99,7 +117,11 @@ pub trait PredicateJsonExt: Sized {
     where
         Self: Predicate<Vec<Value>>,
         ensures inner { Kind.inner_of result ≡ self }
-        ensures kind { (v : JsonValue) → ⟦<Vec<Value> as JsonKind>⟧.held_by v ≡ held_array v };
+        ensures kind { (v : JsonValue) → ⟦<Vec<Value> as JsonKind>⟧.held_by v ≡ held_array v }
+        ensures formula { (v : JsonValue) (f : Formula)
+            → ⟦<KindPredicate<Self, Vec<Value>> as Predicate<Value>>⟧.formula result v f
+            ↔ IsOfPresent (Self.output self) (kind_text (view v)) (Self.formula self)
+            (held_array v) f };
 
     /// The same of the members of a JSON object.
     ///
@@ -113,7 +135,11 @@ pub trait PredicateJsonExt: Sized {
         Self: Predicate<Map<String, Value>>,
         ensures inner { Kind.inner_of result ≡ self }
         ensures kind { (v : JsonValue) → ⟦<Map<String, Value> as JsonKind>⟧.held_by v
-            ≡ held_object v };
+            ≡ held_object v }
+        ensures formula { (v : JsonValue) (f : Formula)
+            → ⟦<KindPredicate<Self, Map<String, Value>> as Predicate<Value>>⟧.formula result v f
+            ↔ IsOfPresent (Self.output self) (kind_text (view v)) (Self.formula self)
+            (held_object v) f };
 
     /// The same of a JSON number, read as an `i64`, a `u64` or an `f64`. A number that the type
     /// cannot represent is of another kind: for the first two a float, even `5.0`, or one that is
@@ -127,7 +153,11 @@ pub trait PredicateJsonExt: Sized {
     fn of_number<N: JsonNumber>(self) -> NumberPredicate<Self, N>
     where
         Self: Predicate<N>,
-        ensures inner { Number.inner_of result ≡ self };
+        ensures inner { Number.inner_of result ≡ self }
+        ensures formula { (v : JsonValue) (f : Formula)
+            → ⟦<NumberPredicate<Self, N> as Predicate<Value>>⟧.formula result v f
+            ↔ IsOfPresent (Self.output self) (no_number_text N.misfit_text (view v))
+            (Self.formula self) (option_and_then N.number_as (as_number (view v))) f };
 }
 
 impl<P> PredicateJsonExt for P {

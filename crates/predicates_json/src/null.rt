@@ -1,9 +1,11 @@
 //! Whether a value is null.
-ghost use Rattle.std.specs.Prelude.{refl, [], Some};
+ghost use Rattle.std.specs.Prelude.{◌≡◌, ◌↔◌, refl, [], Some};
+ghost use Rattle.predicates_core.specs.Formula.{Formula};
 ghost use Rattle.predicates_core.specs.Tree.{empty};
 ghost use Rattle.predicates_core.specs.Leaves.{IsExactly};
 ghost use Rattle.predicates_core.specs.LeafLaws.{one_exactly};
 ghost use Rattle.serde_json.specs.View.{view};
+ghost use Rattle.serde_json.specs.declared.value.Value.{Value as JsonValue};
 ghost use Rattle.predicates_json.specs.Null.{null_text, null_formula};
 ghost use Rattle.predicates_json.specs.NullLaws.{null_text_fits};
 
@@ -27,7 +29,16 @@ pub struct NullPredicate;
 /// assert!(rt; is_null().eval(alloc, &Value::from_str(alloc, "null")?)?);
 /// assert!(rt; !is_null().eval(alloc, &Value::from_str(alloc, "0")?)?);
 /// ```
-pub fn is_null() -> NullPredicate {
+pub fn is_null() -> NullPredicate
+    ensures formula { (v : JsonValue) (f : Formula)
+        → ⟦<NullPredicate as Predicate<Value>>⟧.formula result v f
+        ↔ IsExactly (null_formula (view v)) f }
+    ensures lawful { ⟦<NullPredicate as Predicate<Value>>⟧.lawful result }
+    ensures infallible { (v : JsonValue)
+        → ⟦<NullPredicate as Predicate<Value>>⟧.infallible result v }
+    ensures values { ⟦<NullPredicate as PredicateReflection>⟧.parameters_of result ≡ [] }
+    ensures parts { ⟦<NullPredicate as PredicateReflection>⟧.children_of result ≡ empty }
+{
     NullPredicate
 }
 

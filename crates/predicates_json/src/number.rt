@@ -3,11 +3,14 @@
 //! ```
 //! let adult = predicate::ge(18i64).of_number();
 //! ```
-ghost use Rattle.std.specs.Prelude.{◌≡◌, [], List, codes, Some, IfSome, Option, option_and_then, ℕ};
+ghost use Rattle.std.specs.Prelude.{◌≡◌, ◌↔◌, ℕ, [], List, codes, Some, IfSome, Option};
+ghost use Rattle.std.specs.Prelude.{option_and_then};
+ghost use Rattle.predicates_core.specs.Formula.{Formula};
 ghost use Rattle.predicates_core.specs.Parts.{part};
 ghost use Rattle.serde_json.specs.Data.{Num};
 ghost use Rattle.serde_json.specs.Find.{as_i64, as_u64, as_number, to_float};
 ghost use Rattle.serde_json.specs.View.{view, number_view};
+ghost use Rattle.serde_json.specs.declared.value.Value.{Value as JsonValue};
 ghost use Rattle.predicates_json.specs.Kinds.{no_i64_text, no_u64_text, no_f64_text};
 ghost use Rattle.predicates_json.specs.Kinds.{no_number_text};
 ghost use Rattle.predicates_core.specs.Present.{IsOfPresent, present_text_fits, one_present};
@@ -123,10 +126,24 @@ pub struct NumberPredicate<P, N> {
     number: PhantomData<N>,
 }
 
-impl<P, N> NumberPredicate<P, N> {
+impl<P: Predicate<N>, N: JsonNumber> NumberPredicate<P, N> {
     // The predicate of a number over this one.
     pub(crate) fn new(inner: P) -> NumberPredicate<P, N>
-        ensures { inner_of result ≡ inner }
+        ensures inner { inner_of result ≡ inner }
+        ensures formula { (v : JsonValue) (f : Formula)
+            → ⟦<NumberPredicate<P, N> as Predicate<Value>>⟧.formula result v f
+            ↔ IsOfPresent (P.output inner) (no_number_text N.misfit_text (view v))
+            (P.formula inner) (option_and_then N.number_as (as_number (view v))) f }
+        ensures lawful { ⟦<NumberPredicate<P, N> as Predicate<Value>>⟧.lawful result
+            ↔ P.lawful inner }
+        ensures infallible { (v : JsonValue)
+            → ⟦<NumberPredicate<P, N> as Predicate<Value>>⟧.infallible result v
+            ↔ IfSome (option_and_then N.number_as (as_number (view v))) (P.infallible inner) }
+        ensures values { ⟦<NumberPredicate<P, N> as PredicateReflection>⟧.parameters_of result
+            ≡ [] }
+        ensures parts { ⟦<NumberPredicate<P, N> as PredicateReflection>⟧.children_of result
+            ≡ part (codes "predicate") (P.output inner) (P.parameters_of inner)
+            (P.children_of inner) }
     {
         NumberPredicate {
             inner,

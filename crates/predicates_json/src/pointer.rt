@@ -3,8 +3,11 @@
 //! ```
 //! let adult = predicate::ge(18i64).of_number().of_pointer("/age");
 //! ```
-ghost use Rattle.std.specs.Prelude.{◌≡◌, ℕ, List, [], codes, false, Some, IfSome, string_bytes};
+ghost use Rattle.std.specs.Prelude.{◌≡◌, ◌↔◌, ℕ, List, [], codes, false, Some, IfSome};
+ghost use Rattle.std.specs.Prelude.{string_bytes};
+ghost use Rattle.predicates_core.specs.Formula.{Formula};
 ghost use Rattle.predicates_core.specs.Parts.{part};
+ghost use Rattle.serde_json.specs.declared.value.Value.{Value as JsonValue};
 ghost use Rattle.predicates_json.specs.At.{at_pointer};
 ghost use Rattle.predicates_core.specs.Present.{IsOfPresent, present_text_fits, one_present};
 ghost use Rattle.predicates_core.specs.Present.{present_formula};
@@ -75,11 +78,25 @@ pub struct PointerPredicate<P, N = &'static str> {
     pointer: N,
 }
 
-impl<P, N> PointerPredicate<P, N> {
+impl<P: Predicate<Value>, N: JsonPointer> PointerPredicate<P, N> {
     // The predicate of what stands at the pointer over this one.
     pub(crate) fn new(inner: P, pointer: N) -> PointerPredicate<P, N>
         ensures inner { inner_of result ≡ inner }
         ensures pointer { pointer_of result ≡ pointer }
+        ensures formula { (v : JsonValue) (f : Formula)
+            → ⟦<PointerPredicate<P, N> as Predicate<Value>>⟧.formula result v f
+            ↔ IsAt (N.bytes pointer) (IsOfPresent (P.output inner) no_value_text
+            (P.formula inner) (at_pointer (N.bytes pointer) v)) f }
+        ensures lawful { ⟦<PointerPredicate<P, N> as Predicate<Value>>⟧.lawful result
+            ↔ P.lawful inner }
+        ensures infallible { (v : JsonValue)
+            → ⟦<PointerPredicate<P, N> as Predicate<Value>>⟧.infallible result v
+            ↔ IfSome (at_pointer (N.bytes pointer) v) (P.infallible inner) }
+        ensures values { ⟦<PointerPredicate<P, N> as PredicateReflection>⟧.parameters_of result
+            ≡ [] }
+        ensures parts { ⟦<PointerPredicate<P, N> as PredicateReflection>⟧.children_of result
+            ≡ part (codes "value") (P.output inner) (P.parameters_of inner)
+            (P.children_of inner) }
     {
         PointerPredicate { inner, pointer }
     }

@@ -1,8 +1,10 @@
 //! Whether anything stands at a JSON Pointer.
-ghost use Rattle.std.specs.Prelude.{◌≡◌, refl, true, false, [], Some};
+ghost use Rattle.std.specs.Prelude.{◌≡◌, ◌↔◌, refl, true, false, [], Some};
+ghost use Rattle.predicates_core.specs.Formula.{Formula};
 ghost use Rattle.predicates_core.specs.Tree.{empty};
 ghost use Rattle.predicates_core.specs.Leaves.{IsExactly};
 ghost use Rattle.predicates_core.specs.LeafLaws.{exactly_text_fits, one_exactly};
+ghost use Rattle.serde_json.specs.declared.value.Value.{Value as JsonValue};
 ghost use Rattle.predicates_json.specs.At.{at_pointer};
 ghost use Rattle.predicates_json.specs.Presence.{presence_text, presence_truth, presence_formula};
 ghost use Rattle.predicates_json.specs.Presence.{asks_presence, asked_pointer};
@@ -34,11 +36,11 @@ pub struct PointerPresencePredicate<N = &'static str> {
 pub fn has_pointer<N: JsonPointer>(pointer: N) -> PointerPresencePredicate<N>
     ensures pointer { asked_pointer result ≡ pointer }
     ensures presence { asks_presence result ≡ true }
+    ensures formula { (v : JsonValue) (f : Formula)
+        → ⟦<PointerPresencePredicate<N> as Predicate<Value>>⟧.formula result v f
+        ↔ IsExactly (presence_formula true (N.bytes pointer) v) f }
 {
-    PointerPresencePredicate {
-        pointer,
-        present: true,
-    }
+    PointerPresencePredicate::new(pointer, true)
 }
 
 /// Holds where nothing stands at the pointer. It takes no memory, and neither does its `eval`.
@@ -51,14 +53,32 @@ pub fn has_pointer<N: JsonPointer>(pointer: N) -> PointerPresencePredicate<N>
 pub fn lacks_pointer<N: JsonPointer>(pointer: N) -> PointerPresencePredicate<N>
     ensures pointer { asked_pointer result ≡ pointer }
     ensures presence { asks_presence result ≡ false }
+    ensures formula { (v : JsonValue) (f : Formula)
+        → ⟦<PointerPresencePredicate<N> as Predicate<Value>>⟧.formula result v f
+        ↔ IsExactly (presence_formula false (N.bytes pointer) v) f }
 {
-    PointerPresencePredicate {
-        pointer,
-        present: false,
-    }
+    PointerPresencePredicate::new(pointer, false)
 }
 
 impl<N: JsonPointer> PointerPresencePredicate<N> {
+    // The predicate that asks for something at the pointer, or for nothing.
+    fn new(pointer: N, present: bool) -> PointerPresencePredicate<N>
+        ensures pointer { asked_pointer result ≡ pointer }
+        ensures presence { asks_presence result ≡ present }
+        ensures formula { (v : JsonValue) (f : Formula)
+            → ⟦<PointerPresencePredicate<N> as Predicate<Value>>⟧.formula result v f
+            ↔ IsExactly (presence_formula present (N.bytes pointer) v) f }
+        ensures lawful { ⟦<PointerPresencePredicate<N> as Predicate<Value>>⟧.lawful result }
+        ensures infallible { (v : JsonValue)
+            → ⟦<PointerPresencePredicate<N> as Predicate<Value>>⟧.infallible result v }
+        ensures values { ⟦<PointerPresencePredicate<N> as PredicateReflection>⟧.parameters_of result
+            ≡ [] }
+        ensures parts { ⟦<PointerPresencePredicate<N> as PredicateReflection>⟧.children_of result
+            ≡ empty }
+    {
+        PointerPresencePredicate { pointer, present }
+    }
+
     // Whether it holds of the value.
     fn holds(&self, value: &Value) -> bool
         ensures { result ≡ presence_truth (asks_presence self.now)
