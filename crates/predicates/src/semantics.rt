@@ -1,6 +1,6 @@
 //! What those predicates mean that no call could say when it makes one, as contracts of calls that
-//! do nothing: a list of rules, a threshold and a length are asked of items of any type, and any
-//! predicate of texts is a `TextPredicate`.
+//! do nothing: lists of rules, thresholds, variants and lengths are asked of items of any type, and
+//! any predicate of texts is a `TextPredicate`.
 //!
 //! ```
 //! // From here on a proof knows the formulas of `all` on `item`, and when it takes no memory.
@@ -11,7 +11,7 @@ ghost use Rattle.std.specs.Prelude.{◌≡◌, ◌↔◌, string_bytes};
 use crate::boxed::TextPredicate;
 pub use predicates_boolean::semantics::{at_least, rules};
 use predicates_core::{PredicateChange, ReadsContent};
-pub use predicates_part::semantics::{length, members};
+pub use predicates_part::semantics::{length, variant};
 
 /// As a `TextPredicate`, a predicate keeps its formula on each text, its printed text, its
 /// parameters and its children.
