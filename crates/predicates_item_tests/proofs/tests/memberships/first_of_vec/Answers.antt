@@ -12,4 +12,4 @@ returns c =
     let members = c.args.members.items in
     IfOk-weaker c.in_hash.result _ (λ p. members_of p ≡ first_of_equals int_eq members)
     (λ p keeps. kept_from_gives members (λ it made. YieldsList-from_vec members (search rules) (search rules)) keeps)
-    c.in_hash.ensures
+    c.in_hash.ensures.first

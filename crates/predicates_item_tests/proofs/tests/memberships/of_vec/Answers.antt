@@ -10,4 +10,4 @@ returns c =
     let members = c.args.members.items in
     IfOk-weaker c.in_iter.result _ (λ p. members_of p ≡ members)
     (λ p given. items_from_gives members (λ it made. YieldsList-from_vec members (search rules) (search rules)) given)
-    c.in_iter.ensures
+    c.in_iter.ensures.items

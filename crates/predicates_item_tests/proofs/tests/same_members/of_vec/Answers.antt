@@ -11,4 +11,4 @@ returns c =
     let members = c.args.members.items in
     IfOk-weaker c.same_members.result _ (λ p. members_of p ≡ ascending int_cmp members)
     (λ p keeps. ascending_from_gives members (λ it made. YieldsList-from_vec members (search rules) (search rules)) keeps)
-    c.same_members.ensures
+    c.same_members.ensures.items
