@@ -101,7 +101,8 @@ impl<O: JoinOperator, M1: Predicate<Item>, M2: Predicate<Item>, Item> JoinPredic
         ensures infallible { (v : Item)
             → ⟦<JoinPredicate<O, M1, M2, Item> as Predicate<Item>>⟧.infallible result v
             ↔ M1.infallible a v × M2.infallible b v }
-        ensures values { ⟦<JoinPredicate<O, M1, M2, Item> as PredicateReflection>⟧.parameters_of result ≡ [] }
+        ensures values { ⟦<JoinPredicate<O, M1, M2, Item> as PredicateReflection>⟧.parameters_of
+            result ≡ [] }
         ensures parts { ⟦<JoinPredicate<O, M1, M2, Item> as PredicateReflection>⟧.children_of result
             ≡ two_parts (codes "left") (M1.output a) (M1.parameters_of a) (M1.children_of a)
             (codes "right") (M2.output b) (M2.parameters_of b) (M2.children_of b) }
