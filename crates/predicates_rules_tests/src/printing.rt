@@ -6,6 +6,7 @@ use predicates_rules::expression::{Connective, Expression, HowMany};
 use predicates_rules::literal::Literal;
 use predicates_rules::rule::{Rule, read_rules, written_is_read};
 use std::alloc::{AllocError, Global};
+use std::process::Abort;
 use std::test::Fail;
 
 // The rules of one line, of which the text is the expression.
@@ -48,7 +49,7 @@ fn prints(alloc: Global, text: &str, expected: &str) -> Result<bool, AllocError>
 }
 
 // The expression of a rule, and how it is printed.
-const PRINTED: [(&str, &str); 50] = [
+const PRINTED_COMPARISONS: [(&str, &str); 18] = [
     ("/a==1", "/a == 1"),
     ("/\t exists", "/ exists"),
     ("/a/b~1c missing", "/a/b~1c missing"),
@@ -67,6 +68,9 @@ const PRINTED: [(&str, &str); 50] = [
     ("^/start==^/", "^/start == ^/"),
     ("^/ is object", "^/ is object"),
     ("any/a(^/b>/)", "any /a (^/b > /)"),
+];
+
+const PRINTED_CONDITIONS: [(&str, &str); 10] = [
     ("/a length>=3", "/a length >= 3"),
     ("/a is   text", "/a is text"),
     ("/a is null", "/a is null"),
@@ -83,6 +87,9 @@ const PRINTED: [(&str, &str); 50] = [
         "/seat in[13,17 , \"a, b\",null]",
         "/seat in [13, 17, \"a, b\", null]",
     ),
+];
+
+const PRINTED_JOINS: [(&str, &str); 12] = [
     ("(((/a exists)))", "/a exists"),
     ("not(not /a exists)", "not not /a exists"),
     ("not(/a==1 or/b==2)", "not (/a == 1 or /b == 2)"),
@@ -119,6 +126,9 @@ const PRINTED: [(&str, &str); 50] = [
         "not at least 0 of((not(/a exists)))# why",
         "not at least 0 of (not /a exists)",
     ),
+];
+
+const PRINTED_IMPLICATIONS: [(&str, &str); 10] = [
     ("if/a exists then/b exists", "if /a exists then /b exists"),
     (
         "if((/a exists or/b exists))then(if/c exists then/d exists)",
@@ -152,13 +162,21 @@ const PRINTED: [(&str, &str); 50] = [
     ),
 ];
 
-#[test]
-fn prints_rules(rt: HostRuntime) -> Result<(), Fail> {
-    for (text, expected) in &PRINTED {
-        let same = prints(rt.alloc(), text, expected)?;
+fn all_printed(rt: &impl Abort, alloc: Global, rows: &[(&str, &str)]) -> Result<(), Fail> {
+    for (text, expected) in rows {
+        let same = prints(alloc, text, expected)?;
         assert!(rt; same, "{text}");
     }
     Ok(())
+}
+
+#[test]
+fn prints_rules(rt: HostRuntime) -> Result<(), Fail> {
+    let alloc = rt.alloc();
+    all_printed(&rt, alloc, &PRINTED_COMPARISONS)?;
+    all_printed(&rt, alloc, &PRINTED_CONDITIONS)?;
+    all_printed(&rt, alloc, &PRINTED_JOINS)?;
+    all_printed(&rt, alloc, &PRINTED_IMPLICATIONS)
 }
 
 // What stands around one expression, and around and between two.

@@ -4,6 +4,7 @@ use predicates_rules::error::{Reason, RulesError};
 use predicates_rules::expression::Expression;
 use predicates_rules::rule::{Rule, read_faults, read_rules, without_mark};
 use std::alloc::{AllocError, Global};
+use std::process::Abort;
 use std::test::Fail;
 
 const SAMPLE: &str =
@@ -28,6 +29,15 @@ fn shown(alloc: Global, text: &str) -> Result<String, AllocError> {
 
 fn shows(alloc: Global, text: &str, expected: &str) -> Result<bool, AllocError> {
     Ok(shown(alloc, text)?.as_str() == expected)
+}
+
+// Whether each text shows what stands beside it.
+fn all_shown(rt: &impl Abort, alloc: Global, rows: &[(&str, &str)]) -> Result<(), Fail> {
+    for (text, expected) in rows {
+        let same = shows(alloc, text, expected)?;
+        assert!(rt; same, "{text}");
+    }
+    Ok(())
 }
 
 // A text, and the rules that it says, as `Debug` shows them.
@@ -126,11 +136,7 @@ const READ: [(&str, &str); 24] = [
 
 #[test]
 fn reads_rules(rt: HostRuntime) -> Result<(), Fail> {
-    for (text, expected) in &READ {
-        let same = shows(rt.alloc(), text, expected)?;
-        assert!(rt; same, "{text}");
-    }
-    Ok(())
+    all_shown(&rt, rt.alloc(), &READ)
 }
 
 // A text in which a name stands twice, and what is told of it.
@@ -167,15 +173,12 @@ const REPEATED: [(&str, &str); 7] = [
 
 #[test]
 fn tells_both_lines_of_a_name(rt: HostRuntime) -> Result<(), Fail> {
-    for (text, expected) in &REPEATED {
-        let same = shows(rt.alloc(), text, expected)?;
-        assert!(rt; same, "{text}");
-    }
-    Ok(())
+    all_shown(&rt, rt.alloc(), &REPEATED)
 }
 
-// A text, and the line that says why it has no rules.
-const REFUSED: [(&str, &str); 75] = [
+// A text, and the line that says why it has no rules: of names, of expressions, of literals, of
+// thresholds, of conditions, of implications.
+const REFUSED_NAMES: [(&str, &str); 8] = [
     (
         "a: / exists\n\"\": / exists",
         "line 2, column 1: expected the name of a rule, found `\"\"`",
@@ -208,6 +211,9 @@ const REFUSED: [(&str, &str); 75] = [
         "an = /b exists",
         "line 1, column 3: expected `:` behind the name of a rule, found `=`",
     ),
+];
+
+const REFUSED_EXPRESSIONS: [(&str, &str); 17] = [
     (
         "a: or",
         "line 1, column 4: expected a path, `not`, `each`, `any`, `at`, `keys`, `if` or `(`, found `or`",
@@ -270,6 +276,9 @@ const REFUSED: [(&str, &str); 75] = [
         "a: ü",
         "line 1, column 4: expected a word, an operator, a path or a literal, found `ü`; a path begins with `/`",
     ),
+];
+
+const REFUSED_LITERALS: [(&str, &str); 6] = [
     (
         "a: /b == 01",
         "line 1, column 10: expected a number as JSON writes it, in the range of a 64-bit float, found `01`",
@@ -294,6 +303,9 @@ const REFUSED: [(&str, &str); 75] = [
         "a:\tnot\t/b\tin\t[ 1 , 2 ,\t3\t",
         "line 1, column 26: expected `,` or `]`, found the end of the line",
     ),
+];
+
+const REFUSED_THRESHOLDS: [(&str, &str); 19] = [
     (
         "a: at 2 of (/b exists)",
         "line 1, column 7: expected `least`, found `2`",
@@ -370,6 +382,9 @@ const REFUSED: [(&str, &str); 75] = [
         "a: at least 2 /b (/ exists, / exists)",
         "line 1, column 27: expected `)`, `or`, `xor` or `and`, found `,`",
     ),
+];
+
+const REFUSED_CONDITIONS: [(&str, &str); 16] = [
     (
         "a: /b >= (",
         "line 1, column 10: expected a literal or a path, found `(`",
@@ -434,6 +449,9 @@ const REFUSED: [(&str, &str); 75] = [
         "a: /b is text text",
         "line 1, column 15: expected the end of the line, `or`, `xor` or `and`, found `text`",
     ),
+];
+
+const REFUSED_IMPLICATIONS: [(&str, &str); 9] = [
     (
         "a: if /b exists",
         "line 1, column 16: expected `then`, `or`, `xor` or `and`, found the end of the line",
@@ -474,11 +492,13 @@ const REFUSED: [(&str, &str); 75] = [
 
 #[test]
 fn says_what_was_expected(rt: HostRuntime) -> Result<(), Fail> {
-    for (text, expected) in &REFUSED {
-        let same = shows(rt.alloc(), text, expected)?;
-        assert!(rt; same, "{text}");
-    }
-    Ok(())
+    let alloc = rt.alloc();
+    all_shown(&rt, alloc, &REFUSED_NAMES)?;
+    all_shown(&rt, alloc, &REFUSED_EXPRESSIONS)?;
+    all_shown(&rt, alloc, &REFUSED_LITERALS)?;
+    all_shown(&rt, alloc, &REFUSED_THRESHOLDS)?;
+    all_shown(&rt, alloc, &REFUSED_CONDITIONS)?;
+    all_shown(&rt, alloc, &REFUSED_IMPLICATIONS)
 }
 
 // The same of a rule that asks for the keys of an object.
@@ -551,15 +571,11 @@ const REFUSED_KEYS: [(&str, &str); 16] = [
 
 #[test]
 fn says_what_was_expected_of_keys(rt: HostRuntime) -> Result<(), Fail> {
-    for (text, expected) in &REFUSED_KEYS {
-        let same = shows(rt.alloc(), text, expected)?;
-        assert!(rt; same, "{text}");
-    }
-    Ok(())
+    all_shown(&rt, rt.alloc(), &REFUSED_KEYS)
 }
 
 // A slip of a rule, and what is told behind what was expected.
-const SLIPS: [(&str, &str); 48] = [
+const SLIPS_OF_OPERATORS: [(&str, &str); 18] = [
     ("/b=1", "found `=`; did you mean `==`?"),
     ("/b === 1", "found `===`; did you mean `==`?"),
     ("/b =< 1", "found `=<`; did you mean `<=`?"),
@@ -590,6 +606,9 @@ const SLIPS: [(&str, &str); 48] = [
         "/b contains Zoe",
         "found `Zoe`; a text stands in double quotes",
     ),
+];
+
+const SLIPS_OF_WORDS: [(&str, &str); 14] = [
     ("x == 1", "found `x`; a path begins with `/`"),
     ("note==1", "found `note`; a path begins with `/`"),
     ("$.x == 1", "found `$.x`; a path begins with `/`"),
@@ -631,6 +650,9 @@ const SLIPS: [(&str, &str); 48] = [
         "if b exists then /c exists",
         "found `b`; a path begins with `/`",
     ),
+];
+
+const SLIPS_OF_CONDITIONS: [(&str, &str); 16] = [
     ("/b len > 3", "found `len`; did you mean `length`?"),
     ("/b is string", "found `string`; did you mean `text`?"),
     ("/b is int", "found `int`; did you mean `whole`?"),
@@ -666,12 +688,19 @@ fn tells(alloc: Global, text: &str, told: &str) -> Result<bool, AllocError> {
     Ok(shown.starts_with("line 1, column ") && shown.ends_with(end.as_str()))
 }
 
-#[test]
-fn tells_what_was_likely_meant(rt: HostRuntime) -> Result<(), Fail> {
-    for (text, told) in &SLIPS {
-        assert!(rt; tells(rt.alloc(), text, told)?, "{text}");
+fn all_told(rt: &impl Abort, alloc: Global, rows: &[(&str, &str)]) -> Result<(), Fail> {
+    for (text, told) in rows {
+        assert!(rt; tells(alloc, text, told)?, "{text}");
     }
     Ok(())
+}
+
+#[test]
+fn tells_what_was_likely_meant(rt: HostRuntime) -> Result<(), Fail> {
+    let alloc = rt.alloc();
+    all_told(&rt, alloc, &SLIPS_OF_OPERATORS)?;
+    all_told(&rt, alloc, &SLIPS_OF_WORDS)?;
+    all_told(&rt, alloc, &SLIPS_OF_CONDITIONS)
 }
 
 // Whether this is why bytes have no rules, or they have some and it is `none`.

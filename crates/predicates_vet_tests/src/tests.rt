@@ -19,6 +19,7 @@ use predicates_vet::{
     Counts, Job, ReadChecksError, RunFault, Streams, Tally, read_checks, run_records,
 };
 use std::alloc::{AllocError, Global};
+use std::process::Abort;
 use std::test::Fail;
 
 // What a run writes, its messages, and how it ends.
@@ -107,9 +108,36 @@ fn writes_block<'a>(
     writes(alloc, expected)
 }
 
+// Whether a run with this report writes each block for its rule and record.
+fn all_written(
+    rt: &impl Abort,
+    alloc: Global,
+    report: Report,
+    rows: &[(&str, &[u8], &[u8])],
+) -> Result<(), Fail> {
+    for (rule, record, block) in rows {
+        let told = writes_block(alloc, report, rule, record, block)?;
+        assert!(rt; told, "{rule}");
+    }
+    Ok(())
+}
+
+// The same, with a report of its own for each.
+fn all_reported(
+    rt: &impl Abort,
+    alloc: Global,
+    rows: &[(Report, &str, &[u8], &[u8])],
+) -> Result<(), Fail> {
+    for (report, rule, record, block) in rows {
+        let told = writes_block(alloc, *report, rule, record, block)?;
+        assert!(rt; told, "{report:?} {rule}");
+    }
+    Ok(())
+}
+
 // A rule, a record, and the lines below the label of its block, or nothing where the record keeps
 // it.
-const BLOCKS: [(&str, &[u8], &[u8]); 24] = [
+const BLOCKS_OF_VALUES: [(&str, &[u8], &[u8]); 15] = [
     ("a: /x == 1", b"{\"x\": 1}", b""),
     (
         "a: /x == 1",
@@ -200,6 +228,9 @@ a = false
       - found: 2
 ",
     ),
+];
+
+const BLOCKS_OF_LISTS: [(&str, &[u8], &[u8]); 9] = [
     (
         "a: any / (/ == 1)",
         b"[]",
@@ -285,11 +316,8 @@ a = false
 
 #[test]
 fn blocks_of_records(rt: HostRuntime) -> Result<(), Fail> {
-    for (rule, record, block) in BLOCKS {
-        let told = writes_block(rt.alloc(), Report::First, rule, record, block)?;
-        assert!(rt; told, "{rule}");
-    }
-    Ok(())
+    all_written(&rt, rt.alloc(), Report::First, &BLOCKS_OF_VALUES)?;
+    all_written(&rt, rt.alloc(), Report::First, &BLOCKS_OF_LISTS)
 }
 
 // A rule, a record, and the block of what would have to change in the rule.
@@ -451,11 +479,7 @@ a = false
 
 #[test]
 fn changes_of_records(rt: HostRuntime) -> Result<(), Fail> {
-    for (rule, record, block) in CHANGES {
-        let told = writes_block(rt.alloc(), Report::Change, rule, record, block)?;
-        assert!(rt; told, "{rule}");
-    }
-    Ok(())
+    all_written(&rt, rt.alloc(), Report::Change, &CHANGES)
 }
 
 // The records, those that break the rule, those that keep it, and the counts.

@@ -2,6 +2,7 @@
 use predicates_fakes::Process;
 use predicates_vet_program::run_program;
 use std::alloc::Global;
+use std::process::Abort;
 use std::test::Fail;
 
 // Words, and the status, standard output and standard error.
@@ -16,7 +17,7 @@ const FILES: [(&str, &[u8]); 4] = [
 
 const INPUT: &[u8] = b"2\n1\n5\n";
 
-const ROWS: [Row; 20] = [
+const ANNOTATIONS: [Row; 5] = [
     // A file, which has its name though it is the only one.
     (
         &[b"vet", b"--format", b"github", b"rules", b"one"],
@@ -107,6 +108,9 @@ vet: d,e:f%:1: not JSON: EOF while parsing at line 2 column 0
 ",
         "2\t##\ta, b: 5%\n1\t#\tc\n3 records, 2 failed\n",
     ),
+];
+
+const DOCUMENTS: [Row; 5] = [
     // A document of one file, whose name stands nowhere.
     (
         &[b"vet", b"--format", b"junit", b"rules", b"one"],
@@ -218,6 +222,9 @@ vet: none: entity not found
         "",
         "vet: the argument '--format <FORMAT>' cannot be used with '--json'; try --help\n",
     ),
+];
+
+const WRONG_WORDS: [Row; 8] = [
     // What it can't stand with.
     (
         &[b"vet", b"--format", b"github", b"--json", b"rules"],
@@ -267,6 +274,9 @@ vet: none: entity not found
         "",
         "vet: the argument '--change' cannot be used with '--format <FORMAT>'; try --help\n",
     ),
+];
+
+const WRONG_NAMES: [Row; 2] = [
     // Other names.
     (
         &[b"vet", b"--format", b"xml", b"rules"],
@@ -295,11 +305,18 @@ fn ends(alloc: Global, row: Row) -> bool {
         && told.as_slice() == messages.as_bytes()
 }
 
+fn all_end(rt: &impl Abort, alloc: Global, rows: &[Row]) {
+    for row in rows {
+        assert!(rt; ends(alloc, *row), "{:?}", row.0);
+    }
+}
+
 #[test]
 fn formats(rt: HostRuntime) -> Result<(), Fail> {
-    for row in ROWS {
-        let words = row.0;
-        assert!(rt; ends(rt.alloc(), row), "{words:?}");
-    }
+    let alloc = rt.alloc();
+    all_end(&rt, alloc, &ANNOTATIONS);
+    all_end(&rt, alloc, &DOCUMENTS);
+    all_end(&rt, alloc, &WRONG_WORDS);
+    all_end(&rt, alloc, &WRONG_NAMES);
     Ok(())
 }

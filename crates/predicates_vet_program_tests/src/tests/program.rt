@@ -3,6 +3,7 @@ use predicates_fakes::{Closed, Process};
 use predicates_vet_program::run_program;
 use std::alloc::{AllocError, Global};
 use std::io::ErrorKind;
+use std::process::Abort;
 use std::test::Fail;
 
 // Words, the rules, an input and the error at its end, the output that fails, and the status,
@@ -33,7 +34,7 @@ const BAD: &[u8] = b"[\n1";
 
 const BLOCK: &str = "record 1: false\na = false\n  rule: / == 1 = false\n    - found: 2\n";
 
-const ROWS: [Row; 51] = [
+const VALUES: [Row; 3] = [
     // Records as values, one behind another or as the members of an array.
     (
         &[b"vet", b"--input-format", b"json", b"rules"],
@@ -71,6 +72,9 @@ vet: record 2: not JSON: EOF while parsing at line 1 column 2
 1 record, 0 failed, 1 line unreadable
 ",
     ),
+];
+
+const REPORTS: [Row; 9] = [
     // Every record keeps every rule.
     (
         PLAIN,
@@ -173,6 +177,9 @@ b = false
 ",
         "1 record, 1 failed\n",
     ),
+];
+
+const UNREADABLE: [Row; 5] = [
     // A line holds no record.
     (
         PLAIN,
@@ -236,6 +243,9 @@ vet: record 3: not UTF-8
         "record 4: false\na = false\n  rule: / == 1 = false\n    - found: 2\n",
         "2 records, 1 failed\n",
     ),
+];
+
+const RULES: [Row; 8] = [
     // Rules that can't be read.
     (
         &[b"vet", b"none"],
@@ -321,6 +331,9 @@ vet: record 3: not UTF-8
         "",
         "vet: --id id: not a path, which begins with `/`\n",
     ),
+];
+
+const WRONG_WORDS: [Row; 6] = [
     // Wrong words.
     (
         &[b"vet"],
@@ -382,6 +395,9 @@ vet: record 3: not UTF-8
         "",
         "vet: unexpected argument '--so; try --help\n",
     ),
+];
+
+const AMOUNTS: [Row; 7] = [
     // Objects of the records that break a rule.
     (
         &[b"vet", b"--json", b"--failed", b"rules"],
@@ -465,6 +481,9 @@ a = false
 ",
         "3 records, 2 failed\n",
     ),
+];
+
+const FAULTS: [Row; 7] = [
     // Faults of reading and writing.
     (
         PLAIN,
@@ -510,6 +529,9 @@ a = false
     ),
     (PLAIN, b"a: / == 1", b"1", None, Closed::Error, 2, "", ""),
     (PLAIN, b"a: / == 1", b"[", None, Closed::Error, 2, "", ""),
+];
+
+const FILES: [Row; 6] = [
     // Files, and standard input among them.
     (
         &[b"vet", b"rules", b"one"],
@@ -694,12 +716,23 @@ fn pair_ends(
     Ok(status == 0 && told.ends_with(b"1 record, 0 failed\n"))
 }
 
+fn all_end(rt: &impl Abort, alloc: Global, rows: &[Row]) {
+    for row in rows {
+        assert!(rt; ends(alloc, *row), "{:?} on {:?}", row.0, row.2);
+    }
+}
+
 #[test]
 fn statuses_and_messages(rt: HostRuntime) -> Result<(), Fail> {
-    for row in ROWS {
-        let (words, input) = (row.0, row.2);
-        assert!(rt; ends(rt.alloc(), row), "{words:?} on {input:?}");
-    }
+    let alloc = rt.alloc();
+    all_end(&rt, alloc, &VALUES);
+    all_end(&rt, alloc, &REPORTS);
+    all_end(&rt, alloc, &UNREADABLE);
+    all_end(&rt, alloc, &RULES);
+    all_end(&rt, alloc, &WRONG_WORDS);
+    all_end(&rt, alloc, &AMOUNTS);
+    all_end(&rt, alloc, &FAULTS);
+    all_end(&rt, alloc, &FILES);
     Ok(())
 }
 

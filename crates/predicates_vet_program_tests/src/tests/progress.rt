@@ -6,6 +6,7 @@ use predicates_fakes::{Closed, Process};
 use predicates_vet_program::run_program;
 use std::alloc::Global;
 use std::io::ErrorKind;
+use std::process::Abort;
 use std::test::Fail;
 
 // Words, the tick, what the file of standard input has, where it is one, standard input, and
@@ -20,7 +21,7 @@ type Row = (
 
 const PLAIN: &[&[u8]] = &[b"vet", b"--progress", b"rules"];
 
-const ROWS: [Row; 12] = [
+const LINES: [Row; 3] = [
     // Five times a second, however often is read.
     (
         PLAIN,
@@ -39,6 +40,9 @@ const ROWS: [Row; 12] = [
     ),
     // A run of less than a fifth of a second shows nothing.
     (PLAIN, 20, None, b"1\n2\n1\n", "3 records, 1 failed\n"),
+];
+
+const SHARES: [Row; 5] = [
     // The share, of all files together.
     (
         &[b"vet", b"--progress", b"rules", b"one", b"two"],
@@ -84,6 +88,9 @@ const ROWS: [Row; 12] = [
         b"",
         "\r0 lines, 0 %, 0 a second\x1b[K\r\x1b[K0 records, 0 failed\n",
     ),
+];
+
+const MESSAGES: [Row; 4] = [
     // The line is taken away before a message, before the summary, and where nothing else is told.
     (
         PLAIN,
@@ -219,12 +226,18 @@ fn is_silent(alloc: Global, words: &[&[u8]], tick: Option<u64>, on_terminal: boo
     told.as_slice() == b"3 records, 1 failed\n".as_slice()
 }
 
+fn all_tell(rt: &impl Abort, alloc: Global, rows: &[Row]) {
+    for row in rows {
+        assert!(rt; row_tells(alloc, *row), "{:?} on {:?}", row.0, row.3);
+    }
+}
+
 #[test]
 fn lines(rt: HostRuntime) -> Result<(), Fail> {
-    for row in ROWS {
-        let (words, input) = (row.0, row.3);
-        assert!(rt; row_tells(rt.alloc(), row), "{words:?} on {input:?}");
-    }
+    let alloc = rt.alloc();
+    all_tell(&rt, alloc, &LINES);
+    all_tell(&rt, alloc, &SHARES);
+    all_tell(&rt, alloc, &MESSAGES);
     Ok(())
 }
 

@@ -1,5 +1,5 @@
 //! Numbers compared by their values, two paths compared, lengths, kinds and keys.
-use super::{Expected, writes, writes_block};
+use super::{Expected, all_written, writes};
 use predicates_vet::settings::Report;
 use std::alloc::{AllocError, Global};
 use std::test::Fail;
@@ -337,24 +337,14 @@ a = false
     ),
 ];
 
-// Whether a run with this report writes each block for its rule and record.
-fn say(alloc: Global, report: Report, rows: &[(&str, &[u8], &[u8])]) -> Result<bool, AllocError> {
-    for (rule, record, block) in rows {
-        if !writes_block(alloc, report, rule, record, block)? {
-            return Ok(false);
-        }
-    }
-    Ok(true)
-}
-
 #[test]
 fn blocks_of_conditions(rt: HostRuntime) -> Result<(), Fail> {
-    assert!(rt; say(rt.alloc(), Report::First, &NUMBERS)?);
-    assert!(rt; say(rt.alloc(), Report::First, &PATHS)?);
-    assert!(rt; say(rt.alloc(), Report::First, &LENGTHS)?);
-    assert!(rt; say(rt.alloc(), Report::First, &KINDS)?);
-    assert!(rt; say(rt.alloc(), Report::First, &KEYS)?);
-    Ok(())
+    let alloc = rt.alloc();
+    all_written(&rt, alloc, Report::First, &NUMBERS)?;
+    all_written(&rt, alloc, Report::First, &PATHS)?;
+    all_written(&rt, alloc, Report::First, &LENGTHS)?;
+    all_written(&rt, alloc, Report::First, &KINDS)?;
+    all_written(&rt, alloc, Report::First, &KEYS)
 }
 
 const CHANGES: [(&str, &[u8], &[u8]); 4] = [
@@ -409,8 +399,7 @@ a = false
 
 #[test]
 fn changes_of_conditions(rt: HostRuntime) -> Result<(), Fail> {
-    assert!(rt; say(rt.alloc(), Report::Change, &CHANGES)?);
-    Ok(())
+    all_written(&rt, rt.alloc(), Report::Change, &CHANGES)
 }
 
 // The words for kinds, and values, each with the kinds that it is of.

@@ -1,5 +1,5 @@
 //! Rules that say what follows from another condition.
-use super::writes_block;
+use super::all_reported;
 use predicates_vet::settings::Report;
 use std::test::Fail;
 
@@ -118,9 +118,5 @@ a = false
 
 #[test]
 fn what_follows(rt: HostRuntime) -> Result<(), Fail> {
-    for (report, rule, record, block) in ROWS {
-        let whole = writes_block(rt.alloc(), report, rule, record, block)?;
-        assert!(rt; whole, "{rule}");
-    }
-    Ok(())
+    all_reported(&rt, rt.alloc(), &ROWS)
 }

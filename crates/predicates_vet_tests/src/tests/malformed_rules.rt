@@ -3,6 +3,7 @@
 use super::run_of;
 use predicates_vet::settings::{Report, Settings};
 use std::alloc::{AllocError, Global};
+use std::process::Abort;
 use std::str;
 use std::test::Fail;
 
@@ -31,7 +32,7 @@ const WHOLE: &[u8] = b"a: not /x in [1, \"b\"] and /y >= 18";
 
 // The front of the rule, from how many bytes to how many; the column, or 0 for the first one behind
 // the front; and what is expected there.
-const CUT: [(usize, usize, usize, &str); 21] = [
+const CUT: [(usize, usize, usize, &str); 16] = [
     (1, 1, 0, "`:` behind the name of a rule"),
     (
         2,
@@ -68,6 +69,9 @@ const CUT: [(usize, usize, usize, &str); 21] = [
         "an operator, `exists`, `missing`, `is_empty`, `length` or `is`",
     ),
     (30, 32, 0, "a literal or a path"),
+];
+
+const CUT_TO_RULES: [(usize, usize, usize, &str); 5] = [
     (0, 0, 0, ""),
     (21, 21, 0, NOT_IN),
     (22, 22, 0, NOT_IN),
@@ -127,17 +131,28 @@ fn front_is_told(
     Ok(found.starts_with(&message))
 }
 
-#[test]
-fn rules_that_are_cut(rt: HostRuntime) -> Result<(), Fail> {
+// How many fronts the rows have, each of which is told so.
+fn fronts_told(
+    rt: &impl Abort,
+    alloc: Global,
+    rows: &[(usize, usize, usize, &str)],
+) -> Result<usize, Fail> {
     let mut count = 0usize;
-    for (from, to, column, expected) in CUT {
-        for len in from..=to {
-            let right = front_is_told(rt.alloc(), len, column, expected)?;
+    for (from, to, column, expected) in rows {
+        for len in *from..=*to {
+            let right = front_is_told(alloc, len, *column, expected)?;
             assert!(rt; right, "{len} bytes");
             count = count.saturating_add(1);
         }
     }
-    assert_eq!(rt; count, WHOLE.len().saturating_add(1));
+    Ok(count)
+}
+
+#[test]
+fn rules_that_are_cut(rt: HostRuntime) -> Result<(), Fail> {
+    let cut = fronts_told(&rt, rt.alloc(), &CUT)?;
+    let rules = fronts_told(&rt, rt.alloc(), &CUT_TO_RULES)?;
+    assert_eq!(rt; cut.saturating_add(rules), WHOLE.len().saturating_add(1));
     Ok(())
 }
 
@@ -157,7 +172,7 @@ const CONDITION: &str = "an operator, `exists`, `missing`, `is_empty`, `length` 
 
 // A place in the short rule from 1, the byte that is put there, the column and what is expected
 // there; or 0, and what is written of `{"x": 10}`.
-const CHANGED: [(usize, u8, usize, &str); 42] = [
+const CHANGED_NAMES: [(usize, u8, usize, &str); 12] = [
     (1, b'#', 0, ""),
     (1, b' ', 2, "the name of a rule"),
     (1, b'"', 1, QUOTE),
@@ -175,6 +190,9 @@ const CHANGED: [(usize, u8, usize, &str); 42] = [
     (2, b'0', 3, "`:` behind the name of a rule"),
     (2, b'=', 2, "`:` behind the name of a rule"),
     (2, 255, 1, UTF8),
+];
+
+const CHANGED_PATHS: [(usize, u8, usize, &str); 12] = [
     (
         3,
         b'#',
@@ -207,6 +225,9 @@ const CHANGED: [(usize, u8, usize, &str); 42] = [
     ),
     (4, b'=', 4, TOKEN),
     (4, 255, 3, UTF8),
+];
+
+const CHANGED_OPERATORS: [(usize, u8, usize, &str); 12] = [
     (5, b'#', 5, CONDITION),
     (5, b' ', 6, TOKEN),
     (5, b'"', 6, TOKEN),
@@ -234,6 +255,9 @@ const CHANGED: [(usize, u8, usize, &str); 42] = [
         "a = false\n  rule: /x <= 9 = false\n    - found: 10\n",
     ),
     (6, 255, 6, TOKEN),
+];
+
+const CHANGED_LITERALS: [(usize, u8, usize, &str); 6] = [
     (7, b'#', 7, OPERAND),
     (7, b' ', 8, OPERAND),
     (7, b'"', 7, QUOTE),
@@ -277,13 +301,24 @@ fn change_is_told(
     Ok(found.as_str() == whole.as_str())
 }
 
-#[test]
-fn rules_with_a_byte_changed(rt: HostRuntime) -> Result<(), Fail> {
-    for (place, byte, column, expected) in CHANGED {
-        let right = change_is_told(rt.alloc(), place, byte, column, expected)?;
+fn all_changes_told(
+    rt: &impl Abort,
+    alloc: Global,
+    rows: &[(usize, u8, usize, &str)],
+) -> Result<(), Fail> {
+    for (place, byte, column, expected) in rows {
+        let right = change_is_told(alloc, *place, *byte, *column, expected)?;
         assert!(rt; right, "{byte} at {place}");
     }
     Ok(())
+}
+
+#[test]
+fn rules_with_a_byte_changed(rt: HostRuntime) -> Result<(), Fail> {
+    all_changes_told(&rt, rt.alloc(), &CHANGED_NAMES)?;
+    all_changes_told(&rt, rt.alloc(), &CHANGED_PATHS)?;
+    all_changes_told(&rt, rt.alloc(), &CHANGED_OPERATORS)?;
+    all_changes_told(&rt, rt.alloc(), &CHANGED_LITERALS)
 }
 
 // Four rules, and what is written of `{}` by each.

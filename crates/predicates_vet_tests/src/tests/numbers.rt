@@ -3,10 +3,11 @@ use super::writes_block;
 use predicates_vet::settings::Report;
 use std::alloc::{AllocError, Global};
 use std::cmp::Ordering;
+use std::process::Abort;
 use std::test::Fail;
 
 // Numbers of JSON, and how many values of the table are below.
-const RANKED: [(&str, u32); 59] = [
+const FAR_BELOW_ZERO: [(&str, u32); 15] = [
     ("-1.0e300", 0),
     ("-9.223372036854778e18", 1),
     ("-9.223372036854776e18", 2),
@@ -22,6 +23,9 @@ const RANKED: [(&str, u32); 59] = [
     ("-9007199254740992", 9),
     ("-9007199254740991", 10),
     ("-18", 11),
+];
+
+const AROUND_ZERO: [(&str, u32); 19] = [
     ("-2", 12),
     ("-1", 13),
     ("-0.5", 14),
@@ -41,6 +45,9 @@ const RANKED: [(&str, u32); 59] = [
     ("18.0", 25),
     ("18", 25),
     ("18.000000000000004", 26),
+];
+
+const FAR_ABOVE_ZERO: [(&str, u32); 11] = [
     ("4503599627370495.5", 27),
     ("9007199254740991.0", 28),
     ("9007199254740991", 28),
@@ -52,6 +59,9 @@ const RANKED: [(&str, u32); 59] = [
     ("9007199254740995", 32),
     ("9.223372036854775e18", 33),
     ("9223372036854775807", 34),
+];
+
+const ABOVE_I64: [(&str, u32); 14] = [
     ("9.223372036854776e18", 35),
     ("9223372036854775808", 35),
     ("9223372036854775809", 36),
@@ -88,12 +98,38 @@ fn stand_so(alloc: Global, number: (&str, u32), other: (&str, u32)) -> Result<bo
     writes_block(alloc, Report::First, &rule, record.as_bytes(), b"")
 }
 
-#[test]
-fn numbers_are_in_the_order_of_their_values(rt: HostRuntime) -> Result<(), Fail> {
-    for number in RANKED {
-        for other in RANKED {
-            assert!(rt; stand_so(rt.alloc(), number, other)?);
+fn pairs_stand_so(
+    rt: &impl Abort,
+    alloc: Global,
+    numbers: &[(&str, u32)],
+    others: &[(&str, u32)],
+) -> Result<(), Fail> {
+    for number in numbers {
+        for other in others {
+            assert!(rt;
+                stand_so(alloc, *number, *other)?,
+                "{} {}",
+                number.0,
+                other.0
+            );
         }
     }
     Ok(())
+}
+
+// The numbers beside all numbers.
+fn all_stand_so(rt: &impl Abort, alloc: Global, numbers: &[(&str, u32)]) -> Result<(), Fail> {
+    pairs_stand_so(rt, alloc, numbers, &FAR_BELOW_ZERO)?;
+    pairs_stand_so(rt, alloc, numbers, &AROUND_ZERO)?;
+    pairs_stand_so(rt, alloc, numbers, &FAR_ABOVE_ZERO)?;
+    pairs_stand_so(rt, alloc, numbers, &ABOVE_I64)
+}
+
+#[test]
+fn numbers_are_in_the_order_of_their_values(rt: HostRuntime) -> Result<(), Fail> {
+    let alloc = rt.alloc();
+    all_stand_so(&rt, alloc, &FAR_BELOW_ZERO)?;
+    all_stand_so(&rt, alloc, &AROUND_ZERO)?;
+    all_stand_so(&rt, alloc, &FAR_ABOVE_ZERO)?;
+    all_stand_so(&rt, alloc, &ABOVE_I64)
 }

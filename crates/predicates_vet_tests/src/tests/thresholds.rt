@@ -1,11 +1,11 @@
 //! Rules that want at least so many of listed expressions, or of a list's items.
-use super::writes_block;
+use super::all_reported;
 use predicates_vet::settings::Report;
 use std::test::Fail;
 
 // What is reported, a rule, a record, and what is written of it, or nothing where the record keeps
 // the rule.
-const ROWS: [(Report, &str, &[u8], &[u8]); 22] = [
+const PARTS: [(Report, &str, &[u8], &[u8]); 9] = [
     (
         Report::First,
         "reach: at least 2 of (/mail exists, /phone exists, /address exists)",
@@ -111,6 +111,9 @@ a = false
 ",
     ),
     (Report::First, "a: at least 0 of (/x == 1)", b"{}", b""),
+];
+
+const ITEMS: [(Report, &str, &[u8], &[u8]); 13] = [
     (
         Report::First,
         "a: at least 2 /l (/ == 1)",
@@ -272,9 +275,6 @@ a = false
 
 #[test]
 fn thresholds_of_parts_and_of_items(rt: HostRuntime) -> Result<(), Fail> {
-    for (report, rule, record, block) in ROWS {
-        let told = writes_block(rt.alloc(), report, rule, record, block)?;
-        assert!(rt; told, "{report:?} {rule}");
-    }
-    Ok(())
+    all_reported(&rt, rt.alloc(), &PARTS)?;
+    all_reported(&rt, rt.alloc(), &ITEMS)
 }
