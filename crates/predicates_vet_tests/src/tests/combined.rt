@@ -8,14 +8,18 @@ use predicates_vet::settings::Report;
 use serde_json::Value;
 use std::alloc::{AllocError, Global};
 use std::fmt::Write;
+use std::process::Abort;
 use std::test::Fail;
 
-const TESTS: [Test<'static>; 31] = [
+const STATES: [Test<'static>; 5] = [
     ("/ exists", &[], "exists", Against::Nothing),
     ("/x missing", &["x"], "missing", Against::Nothing),
     ("/x is_empty", &["x"], "is_empty", Against::Nothing),
     ("/l is_empty", &["l"], "is_empty", Against::Nothing),
     ("/a~1b~0 exists", &["a/b~"], "exists", Against::Nothing),
+];
+
+const COMPARISONS: [Test<'static>; 10] = [
     ("/x == 1", &["x"], "==", Against::Whole(1)),
     ("/x != 1", &["x"], "!=", Against::Whole(1)),
     (
@@ -36,6 +40,9 @@ const TESTS: [Test<'static>; 31] = [
     ("/x != true", &["x"], "!=", Against::Truth(true)),
     ("/x == null", &["x"], "==", Against::Null),
     ("/x > null", &["x"], ">", Against::Null),
+];
+
+const TEXTS: [Test<'static>; 7] = [
     (
         "/x in [1, \"b\", null]",
         &["x"],
@@ -58,6 +65,9 @@ const TESTS: [Test<'static>; 31] = [
         "matches",
         Against::Text(""),
     ),
+];
+
+const PATHS_AND_KINDS: [Test<'static>; 9] = [
     ("/x == /l/1", &["x"], "==", Against::Place(&["l", "1"])),
     (
         "/x >= /l/0/x",
@@ -371,15 +381,27 @@ fn values(alloc: Global) -> Result<Vec<Value>, Fail> {
     Ok(values)
 }
 
-#[test]
-fn pairs_of_tests(rt: HostRuntime) -> Result<(), Fail> {
-    let values = values(rt.alloc())?;
-    for first in TESTS {
+fn all_agree(
+    rt: &impl Abort,
+    alloc: Global,
+    tests: &[Test<'static>],
+    values: &[Value],
+) -> Result<(), Fail> {
+    for first in tests {
         for second in SECOND {
-            let same = agrees(rt.alloc(), first, second, &values)?;
+            let same = agrees(alloc, *first, second, values)?;
             let (left, right) = (first.0, second.0);
             assert!(rt; same, "{left} and {right}");
         }
     }
     Ok(())
+}
+
+#[test]
+fn pairs_of_tests(rt: HostRuntime) -> Result<(), Fail> {
+    let values = values(rt.alloc())?;
+    all_agree(&rt, rt.alloc(), &STATES, &values)?;
+    all_agree(&rt, rt.alloc(), &COMPARISONS, &values)?;
+    all_agree(&rt, rt.alloc(), &TEXTS, &values)?;
+    all_agree(&rt, rt.alloc(), &PATHS_AND_KINDS, &values)
 }
