@@ -39,8 +39,8 @@ impl fmt::Display for Hint {
     }
 }
 
-// What other languages write, and what a rule writes.
-const OTHER_NAMES: [(&str, &str); 28] = [
+// What other languages write for an operator or a comparison, and what a rule writes.
+const OTHER_SIGNS: [(&str, &str); 14] = [
     ("=", "=="),
     ("===", "=="),
     ("!==", "!="),
@@ -55,6 +55,10 @@ const OTHER_NAMES: [(&str, &str); 28] = [
     ("le", "<="),
     ("gt", ">"),
     ("ge", ">="),
+];
+
+// What they write for any other word.
+const OTHER_WORDS: [(&str, &str); 14] = [
     ("all", "each"),
     ("every", "each"),
     ("some", "any"),
@@ -71,13 +75,17 @@ const OTHER_NAMES: [(&str, &str); 28] = [
     ("boolean", "bool"),
 ];
 
-fn other_name(word: &str) -> Option<&'static str> {
-    for (other, meant) in OTHER_NAMES {
+fn meant_by(word: &str, names: &[(&str, &'static str)]) -> Option<&'static str> {
+    for (other, meant) in names {
         if other.eq_ignore_ascii_case(word) {
             return Some(meant);
         }
     }
     None
+}
+
+fn other_name(word: &str) -> Option<&'static str> {
+    meant_by(word, &OTHER_SIGNS).or(meant_by(word, &OTHER_WORDS))
 }
 
 // Longer ones are misspelt from no word.

@@ -294,22 +294,39 @@ fn is_shown(alloc: Global, expression: Expression, expected: &str) -> Result<boo
     Ok(format!(in alloc; "{expression}")?.as_str() == expected)
 }
 
+// What denies each of the rules, on a line of its own.
+fn lines_of_denied(alloc: Global, rules: &[Rule]) -> Result<String, AllocError> {
+    let mut lines = String::new(alloc);
+    for rule in rules {
+        writeln!(lines, "{}", Denied(&rule.expression))?;
+    }
+    Ok(lines)
+}
+
+fn denies(alloc: Global, text: &str, expected: &str) -> Result<bool, AllocError> {
+    match read_rules(alloc, text.as_bytes()) {
+        Ok(rules) => Ok(lines_of_denied(alloc, rules.as_slice())?.as_str() == expected),
+        Err(_) => Ok(false),
+    }
+}
+
+// Rules, and what denies each.
+const DENIED: [(&str, &str); 2] = [
+    (
+        "a: /age >= 18 or /guest exists",
+        "not (/age >= 18 or /guest exists)\n",
+    ),
+    (
+        "a: if /b exists then not /c exists\nb: not / exists",
+        "not (if /b exists then not /c exists)\nnot not / exists\n",
+    ),
+];
+
 #[test]
 fn prints_what_denies_a_rule(rt: HostRuntime) -> Result<(), Fail> {
-    let alloc = rt.alloc();
-    let rules = read_rules(alloc, b"a: /age >= 18 or /guest exists")?;
-    assert!(rt; rules.len() == 1);
-    let text = format!(in alloc; "{}", Denied(&rules[0].expression))?;
-    assert!(rt; text.as_str() == "not (/age >= 18 or /guest exists)");
-    let rules = read_rules(
-        alloc,
-        b"a: if /b exists then not /c exists\nb: not / exists",
-    )?;
-    assert!(rt; rules.len() == 2);
-    let first = format!(in alloc; "{}", Denied(&rules[0].expression))?;
-    assert!(rt; first.as_str() == "not (if /b exists then not /c exists)");
-    let second = format!(in alloc; "{}", Denied(&rules[1].expression))?;
-    assert!(rt; second.as_str() == "not not / exists");
+    for (text, expected) in &DENIED {
+        assert!(rt; denies(rt.alloc(), text, expected)?, "{text}");
+    }
     Ok(())
 }
 
