@@ -53,7 +53,7 @@ def functions_of(lines):
     found, owners, open_ones = [], [], []
     for number, line in enumerate(lines):
         indent = len(line) - len(line.lstrip())
-        while owners and line.strip() and indent <= owners[-1][0] and not line.strip().startswith(('where', '{', ')')):
+        while owners and line.strip() and indent <= owners[-1][0] and not line.strip().startswith(('where', '{', ')', '>')):
             owners.pop()
         match = OWNER.match(line)
         if match and not line.rstrip().endswith(';'):
