@@ -1,7 +1,8 @@
 """What the tools read of a crate's sources: its functions, and its wrong bodies.
 
 A wrong body is a file NAME.edit in a crate's `wrong/` or `must-fail/`: a line 'file: src/lib.rt', and then pairs of
-lines 'old: TEXT' and 'new: TEXT'. Each old text stands exactly once in what the pairs before it left.
+lines 'old: TEXT' and 'new: TEXT'. Each old text stands exactly once in what the pairs before it left. A line
+'by: FILE OWNER::NAME' above them names the function that is to be refused, where the pairs change no body (tools/edits).
 """
 import re
 from pathlib import Path
