@@ -5,8 +5,8 @@ use Rattle.predicates_boolean.specs.declared.threshold.AtLeastPredicate.{AtLeast
 abbrev pub counted_of : {P : Type 0} → AtLeastPredicate P → List P
 counted_of p = p.rules.items
 
-abbrev pub least_of : {P : Type 0} → AtLeastPredicate P → ℕ
-least_of p = p.least
+abbrev pub needed_of : {P : Type 0} → AtLeastPredicate P → ℕ
+needed_of p = p.least
 
 -- one more than the number, or the number itself where no `usize` is larger
 abbrev pub one_more : ℕ → ℕ

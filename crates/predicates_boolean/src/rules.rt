@@ -8,19 +8,20 @@
 //! ```
 //!
 //! Rules of several types stand in a `BoxPredicate` or in an enum of the caller's.
-ghost use Rattle.std.specs.Prelude.{◌≡◌, [], codes, map};
+ghost use Rattle.std.specs.Prelude.{◌≡◌, [], codes, length, map};
 ghost use Rattle.std.specs.Fmt.{DisplaysOnOk};
 ghost use Rattle.std.specs.List.{AllByRecursion};
 ghost use Rattle.predicates_core.specs.Parts.{part_of_each};
-ghost use Rattle.predicates_core.specs.Several.{IsOfMembers, members_formula, listed_text};
-ghost use Rattle.predicates_core.specs.Several.{further_texts};
-ghost use Rattle.predicates_core.proofs.Several.{members_text_fits, one_by_members, has_members};
+ghost use Rattle.predicates_core.specs.Several.{further_texts, listed_text};
+ghost use Rattle.predicates_core.specs.Thresholds.{IsOfThreshold, least_of, threshold_formula};
 ghost use Rattle.predicates_core.proofs.Several.{each_holds, each_weaker};
+ghost use Rattle.predicates_core.proofs.ThresholdCases.{threshold_text_fits, one_by_threshold};
+ghost use Rattle.predicates_core.proofs.ThresholdCases.{has_threshold};
 ghost use Rattle.predicates_boolean.specs.Rules.{rules_of, word};
 
 use predicates_core::custom::{
-    AtLeastOne, Deciding, Every, Quantifier, each_child, parts_case, parts_change, parts_explained,
-    parts_hold,
+    AtLeastOne, Counting, Every, Quantifier, each_child, least_of, parts_case, parts_change,
+    parts_explained, parts_hold,
 };
 use predicates_core::reflection::{Case, Child, Parameter, PredicateReflection};
 use predicates_core::{Content, Predicate, PredicateChange, ReadsContent, Total};
@@ -76,16 +77,23 @@ pub fn any_of<P>(rules: Vec<P>) -> AnyOfPredicate<P>
 }
 
 impl<Q: Quantifier, P> RulesPredicate<Q, P> {
+    // How many of its rules have to hold.
+    fn least(&self) -> usize
+        ensures { result ≡ least_of Q.one_suffices (length (rules_of self.now)) }
+    {
+        least_of(Q::one_suffices(), self.rules.len())
+    }
+
     // What its cases are made of.
-    fn deciding(&self) -> Deciding<'_, RulesPredicate<Q, P>>
+    fn counting(&self) -> Counting<'_, RulesPredicate<Q, P>>
         ensures whole { result.whole.now ≡ self.now }
         ensures name { result.name.now ≡ codes "rule" }
-        ensures decides { result.decides ≡ Q.one_suffices }
+        ensures least { result.least ≡ least_of Q.one_suffices (length (rules_of self.now)) }
     {
-        Deciding {
+        Counting {
             whole: self,
             name: "rule",
-            decides: Q::one_suffices(),
+            least: self.least(),
         }
     }
 }
@@ -143,19 +151,21 @@ impl<Q: Quantifier, P: PredicateReflection> PredicateReflection for RulesPredica
 impl<Q: Quantifier, P: Predicate<Item>, Item> Predicate<Item> for RulesPredicate<Q, P> {
     ghost lawful = { λ p. AllByRecursion P.lawful (rules_of p) };
 
-    ghost formula = { λ p v. IsOfMembers Q.one_suffices
+    ghost formula = { λ p v. IsOfThreshold (least_of Q.one_suffices (length (rules_of p)))
         (listed_text (word Q.one_suffices) (map P.output (rules_of p)))
         (codes "rule") (λ q. P.formula q v) (rules_of p) };
 
     ghost infallible = { λ p v. AllByRecursion (λ q. P.infallible q v) (rules_of p) };
 
-    ghost text_fits = { λ p v f. members_text_fits (rules_of p) };
+    ghost text_fits = { λ p v f. threshold_text_fits
+        (least_of Q.one_suffices (length (rules_of p))) (rules_of p) };
 
-    ghost one_formula = { λ p v f g lawful. one_by_members (rules_of p)
+    ghost one_formula = { λ p v f g lawful. one_by_threshold
+        (least_of Q.one_suffices (length (rules_of p))) (rules_of p)
         (each_weaker P.lawful _ (rules_of p) (λ q of_q x y. P.one_formula q v x y of_q) lawful) };
 
     fn eval(&self, alloc: Global, item: &Item) -> Result<bool, AllocError> {
-        parts_hold(alloc, self.rules.as_slice(), Q::one_suffices(), item)
+        parts_hold(alloc, self.least(), self.rules.as_slice(), item)
     }
 
     fn find_case(
@@ -164,7 +174,7 @@ impl<Q: Quantifier, P: Predicate<Item>, Item> Predicate<Item> for RulesPredicate
         expected: bool,
         item: &Item,
     ) -> Result<Option<Case>, AllocError> {
-        let list = self.deciding();
+        let list = self.counting();
         parts_case(alloc, list, self.rules.as_slice(), expected, item)
     }
 
@@ -174,7 +184,7 @@ impl<Q: Quantifier, P: Predicate<Item>, Item> Predicate<Item> for RulesPredicate
         wanted: Option<bool>,
         item: &Item,
     ) -> Result<Option<Case>, AllocError> {
-        let list = self.deciding();
+        let list = self.counting();
         parts_explained(alloc, list, self.rules.as_slice(), wanted, item)
     }
 }
@@ -186,30 +196,32 @@ impl<Q: Quantifier, P: PredicateChange<Item>, Item> PredicateChange<Item> for Ru
         wanted: Option<bool>,
         item: &Item,
     ) -> Result<Option<Case>, AllocError> {
-        let list = self.deciding();
+        let list = self.counting();
         parts_change(alloc, list, self.rules.as_slice(), wanted, item)
     }
 }
 
 impl<Q: Quantifier, P: Total<Item>, Item> Total<Item> for RulesPredicate<Q, P> {
-    ghost formula_of = { λ p v. members_formula Q.one_suffices
+    ghost formula_of = { λ p v. threshold_formula (least_of Q.one_suffices (length (rules_of p)))
         (listed_text (word Q.one_suffices) (map P.output (rules_of p))) (codes "rule")
         (λ q. P.formula_of q v) (rules_of p) };
 
     ghost always_lawful = { λ p. each_holds (rules_of p) P.always_lawful };
 
-    ghost has_formula = { λ p v. has_members (λ q. P.formula_of q v) (rules_of p)
+    ghost has_formula = { λ p v. has_threshold
+        (least_of Q.one_suffices (length (rules_of p))) (λ q. P.formula_of q v) (rules_of p)
         (λ q. P.has_formula q v) };
 }
 
 impl<Q: Quantifier, P: ReadsContent<Item>, Item: Content> ReadsContent<Item>
     for RulesPredicate<Q, P> {
-    ghost content_formula = { λ p bytes. members_formula Q.one_suffices
+    ghost content_formula = { λ p bytes. threshold_formula (least_of Q.one_suffices (length (rules_of p)))
         (listed_text (word Q.one_suffices) (map P.output (rules_of p))) (codes "rule")
         (λ q. P.content_formula q bytes) (rules_of p) };
 
     ghost always_lawful = { λ p. each_holds (rules_of p) P.always_lawful };
 
-    ghost has_formula = { λ p v. has_members (λ q. P.content_formula q (Item.content v))
+    ghost has_formula = { λ p v. has_threshold
+        (least_of Q.one_suffices (length (rules_of p))) (λ q. P.content_formula q (Item.content v))
         (rules_of p) (λ q. P.has_formula q v) };
 }

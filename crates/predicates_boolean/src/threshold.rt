@@ -13,12 +13,12 @@ ghost use Rattle.predicates_core.proofs.ThresholdCases.{threshold_text_fits, one
 ghost use Rattle.predicates_core.proofs.ThresholdCases.{has_threshold};
 ghost use Rattle.predicates_boolean.specs.Join.{left_of, right_of};
 ghost use Rattle.predicates_boolean.specs.Not.{inner_of};
-ghost use Rattle.predicates_boolean.specs.Threshold.{counted_of, least_of, one_more};
+ghost use Rattle.predicates_boolean.specs.Threshold.{counted_of, needed_of, one_more};
 
 use crate::boolean::{AndPredicate, NotPredicate};
 use crate::rules::write_further;
 use predicates_core::custom::{
-    Counting, each_child, threshold_case, threshold_change, threshold_explained, threshold_holds,
+    Counting, each_child, parts_case, parts_change, parts_explained, parts_hold,
 };
 use predicates_core::reflection::{Case, Child, Parameter, PredicateReflection};
 use predicates_core::{Content, Predicate, PredicateChange, ReadsContent, Total};
@@ -46,7 +46,7 @@ pub struct AtLeastPredicate<P> {
 /// assert!(rt; !two_of_three.eval(alloc, &11)?);
 /// ```
 pub fn at_least<P>(least: usize, rules: Vec<P>) -> AtLeastPredicate<P>
-    ensures least { least_of result ≡ least }
+    ensures least { needed_of result ≡ least }
     ensures rules { counted_of result ≡ rules.items }
 {
     AtLeastPredicate { least, rules }
@@ -72,7 +72,7 @@ pub type ExactlyPredicate<P, Item> = AndPredicate<
 /// assert!(rt; !one_at_most.eval(alloc, &7)?);
 /// ```
 pub fn at_most<P: Predicate<Item>, Item>(most: usize, rules: Vec<P>) -> AtMostPredicate<P, Item>
-    ensures most { least_of (inner_of result) ≡ one_more most }
+    ensures most { needed_of (inner_of result) ≡ one_more most }
     ensures rules { counted_of (inner_of result) ≡ rules.items }
 {
     NotPredicate::new(at_least(one_more(most), rules))
@@ -92,9 +92,9 @@ pub fn exactly<P: Predicate<Item> + Clone, Item>(
     number: usize,
     rules: Vec<P>,
 ) -> Result<ExactlyPredicate<P, Item>, AllocError>
-    ensures least { IfOk result (λ both. least_of (left_of both) ≡ number) }
+    ensures least { IfOk result (λ both. needed_of (left_of both) ≡ number) }
     ensures rules { IfOk result (λ both. counted_of (left_of both) ≡ rules.items) }
-    ensures most { IfOk result (λ both. least_of (inner_of (right_of both)) ≡ one_more number) }
+    ensures most { IfOk result (λ both. needed_of (inner_of (right_of both)) ≡ one_more number) }
     ensures copied { IfOk result (λ both.
         AllZip P.is_clone rules.items (counted_of (inner_of (right_of both)))) }
 {
@@ -128,7 +128,7 @@ impl<P> AtLeastPredicate<P> {
 }
 
 impl<P: fmt::Display> fmt::Display for AtLeastPredicate<P> {
-    ghost output = { λ p. counted_text (codes "at_least") (least_of p)
+    ghost output = { λ p. counted_text (codes "at_least") (needed_of p)
         (map P.output (counted_of p)) };
 
     fn fmt<W: fmt::Write>(&self, f: &mut fmt::Formatter<W>) -> fmt::Result {
@@ -157,19 +157,19 @@ impl<P: PredicateReflection> PredicateReflection for AtLeastPredicate<P> {
 impl<P: Predicate<Item>, Item> Predicate<Item> for AtLeastPredicate<P> {
     ghost lawful = { λ p. AllByRecursion P.lawful (counted_of p) };
 
-    ghost formula = { λ p v. IsOfThreshold (least_of p)
-        (counted_text (codes "at_least") (least_of p) (map P.output (counted_of p)))
+    ghost formula = { λ p v. IsOfThreshold (needed_of p)
+        (counted_text (codes "at_least") (needed_of p) (map P.output (counted_of p)))
         (codes "rule") (λ q. P.formula q v) (counted_of p) };
 
     ghost infallible = { λ p v. AllByRecursion (λ q. P.infallible q v) (counted_of p) };
 
-    ghost text_fits = { λ p v f. threshold_text_fits (least_of p) (counted_of p) };
+    ghost text_fits = { λ p v f. threshold_text_fits (needed_of p) (counted_of p) };
 
-    ghost one_formula = { λ p v f g lawful. one_by_threshold (least_of p) (counted_of p)
+    ghost one_formula = { λ p v f g lawful. one_by_threshold (needed_of p) (counted_of p)
         (each_weaker P.lawful _ (counted_of p) (λ q of_q x y. P.one_formula q v x y of_q) lawful) };
 
     fn eval(&self, alloc: Global, item: &Item) -> Result<bool, AllocError> {
-        threshold_holds(alloc, self.least, self.rules.as_slice(), item)
+        parts_hold(alloc, self.least, self.rules.as_slice(), item)
     }
 
     fn find_case(
@@ -179,7 +179,7 @@ impl<P: Predicate<Item>, Item> Predicate<Item> for AtLeastPredicate<P> {
         item: &Item,
     ) -> Result<Option<Case>, AllocError> {
         let list = self.counting();
-        threshold_case(alloc, list, self.rules.as_slice(), expected, item)
+        parts_case(alloc, list, self.rules.as_slice(), expected, item)
     }
 
     fn explain(
@@ -189,7 +189,7 @@ impl<P: Predicate<Item>, Item> Predicate<Item> for AtLeastPredicate<P> {
         item: &Item,
     ) -> Result<Option<Case>, AllocError> {
         let list = self.counting();
-        threshold_explained(alloc, list, self.rules.as_slice(), wanted, item)
+        parts_explained(alloc, list, self.rules.as_slice(), wanted, item)
     }
 }
 
@@ -201,28 +201,28 @@ impl<P: PredicateChange<Item>, Item> PredicateChange<Item> for AtLeastPredicate<
         item: &Item,
     ) -> Result<Option<Case>, AllocError> {
         let list = self.counting();
-        threshold_change(alloc, list, self.rules.as_slice(), wanted, item)
+        parts_change(alloc, list, self.rules.as_slice(), wanted, item)
     }
 }
 
 impl<P: Total<Item>, Item> Total<Item> for AtLeastPredicate<P> {
-    ghost formula_of = { λ p v. threshold_formula (least_of p)
-        (counted_text (codes "at_least") (least_of p) (map P.output (counted_of p)))
+    ghost formula_of = { λ p v. threshold_formula (needed_of p)
+        (counted_text (codes "at_least") (needed_of p) (map P.output (counted_of p)))
         (codes "rule") (λ q. P.formula_of q v) (counted_of p) };
 
     ghost always_lawful = { λ p. each_holds (counted_of p) P.always_lawful };
 
-    ghost has_formula = { λ p v. has_threshold (least_of p) (λ q. P.formula_of q v) (counted_of p)
+    ghost has_formula = { λ p v. has_threshold (needed_of p) (λ q. P.formula_of q v) (counted_of p)
         (λ q. P.has_formula q v) };
 }
 
 impl<P: ReadsContent<Item>, Item: Content> ReadsContent<Item> for AtLeastPredicate<P> {
-    ghost content_formula = { λ p bytes. threshold_formula (least_of p)
-        (counted_text (codes "at_least") (least_of p) (map P.output (counted_of p)))
+    ghost content_formula = { λ p bytes. threshold_formula (needed_of p)
+        (counted_text (codes "at_least") (needed_of p) (map P.output (counted_of p)))
         (codes "rule") (λ q. P.content_formula q bytes) (counted_of p) };
 
     ghost always_lawful = { λ p. each_holds (counted_of p) P.always_lawful };
 
-    ghost has_formula = { λ p v. has_threshold (least_of p)
+    ghost has_formula = { λ p v. has_threshold (needed_of p)
         (λ q. P.content_formula q (Item.content v)) (counted_of p) (λ q. P.has_formula q v) };
 }

@@ -27,7 +27,7 @@ root_with_product label b b' c p bytes e fits h = record {
   products = fit_last label.products c.root.products p bytes fits h.products;
 }
 
-shows_with_product : (f : Formula) (c : Tree CaseNode) (S : List ℕ) (p : Product) (bytes : List ℕ) → Fits p.value bytes → Shows f c S → Shows (with_product f p) (describe.with_product c (p.name, bytes)) S
+pub shows_with_product : (f : Formula) (c : Tree CaseNode) (S : List ℕ) (p : Product) (bytes : List ℕ) → Fits p.value bytes → Shows f c S → Shows (with_product f p) (describe.with_product c (p.name, bytes)) S
 unfolding Shows with_product truth value actual
 shows_with_product (Leaf label t) c S p bytes fits h = (root_with_product label _ _ c p bytes refl fits h.0, h.1, h.2)
 shows_with_product (Join op label fs) c S p bytes fits h = (root_with_product label _ _ c p bytes (with_product_truth (Join op label fs) p) fits h.0, h.1)

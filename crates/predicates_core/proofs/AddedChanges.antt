@@ -1,26 +1,16 @@
 -- One product more at the root: the first change stays, and its case has the product too.
-use Rattle.std.proofs.Common.{refl, ℕ, Bool, List, Option, Some, None}
+use Rattle.std.proofs.Common.{ℕ, Bool, List, Option, Some, None}
 use Rattle.predicates_core.specs.Label.{Entry, Product, Fits}
-use Rattle.predicates_core.specs.Formula.{Formula, Leaf, Join, Not, Named, AtLeast, truth, value, actual, with_product}
-use Rattle.predicates_core.specs.ShowsChange.{ShowsChange}
+use Rattle.predicates_core.specs.Formula.{Formula, with_product}
 use Rattle.predicates_core.specs.Change.{ExplainsChange, IsChangeOf, IsFoundChange}
 use Rattle.predicates_core.specs.Tree.{Tree}
 use Rattle.predicates_core.specs.Describe as describe
 use Rattle.predicates_core.specs.Describe.{CaseNode}
 use Rattle.predicates_core.specs.Leaves.{IsShowing}
 use Rattle.predicates_core.specs.Added.{IsWithProduct}
-use Rattle.predicates_core.proofs.Added.{root_with_product, HasTruth-with_product}
+use Rattle.predicates_core.proofs.Added.{shows_with_product, HasTruth-with_product}
 use Rattle.predicates_core.proofs.ChangeCases.{change_by_result}
-use Rattle.predicates_core.proofs.FirstReasonOf.{with_product_truth}
 use Rattle.predicates_core.proofs.FirstChangeOf.{change-with_product}
-
-shows_with_product : (f : Formula) (c : Tree CaseNode) (S : List ℕ) (p : Product) (bytes : List ℕ) → Fits p.value bytes → ShowsChange f c S → ShowsChange (with_product f p) (describe.with_product c (p.name, bytes)) S
-unfolding ShowsChange with_product truth value actual
-shows_with_product (Leaf label t) c S p bytes fits h = (root_with_product label _ _ c p bytes refl fits h.0, h.1, h.2)
-shows_with_product (Join op label fs) c S p bytes fits h = (root_with_product label _ _ c p bytes (with_product_truth (Join op label fs) p) fits h.0, h.1)
-shows_with_product (Not label f) c S p bytes fits h = (root_with_product label _ _ c p bytes (with_product_truth (Not label f) p) fits h.0, h.1)
-shows_with_product (Named label name f) c S p bytes fits h = (root_with_product label _ _ c p bytes (with_product_truth (Named label name f) p) fits h.0, h.1)
-shows_with_product (AtLeast k label fs) c S p bytes fits h = (root_with_product label _ _ c p bytes (with_product_truth (AtLeast k label fs) p) fits h.0, h.1)
 
 explains_with_product : (f : Formula) (c : Tree CaseNode) (p : Product) (bytes : List ℕ) → Fits p.value bytes → ExplainsChange f c → ExplainsChange (with_product f p) (describe.with_product c (p.name, bytes))
 explains_with_product f c p bytes fits x = record {

@@ -8,8 +8,7 @@ use Rattle.predicates_core.specs.Formula.{Formula, Formulas, one, more, Leaf, Jo
 use Rattle.predicates_core.specs.Reason.{AreIncreasing}
 use Rattle.predicates_core.specs.Tree.{Tree, Forest, empty, branch, forest}
 use Rattle.predicates_core.specs.Describe.{CaseNode, NamedCase}
-use Rattle.predicates_core.specs.Shows.{ShowsPart, ShowsNumbered, with_index, left_share, right_share, Shows, Explains, IsCaseOf, IsFound, IsNode, found_parts}
-use Rattle.predicates_core.specs.ShowsChange.{ShowsChange, ShowsTurned, are_alike}
+use Rattle.predicates_core.specs.Shows.{ShowsPart, ShowsParts, Shows, Explains, IsCaseOf, IsFound, IsNode, found_parts}
 use Rattle.predicates_core.specs.Change.{IsFirstChange, ExplainsChange, IsChangeOf, IsFoundChange}
 use Rattle.predicates_core.specs.Combined.{IsPair, IsNot, IsNamed}
 use Rattle.predicates_core.specs.Leaves.{IsExactly}
@@ -19,7 +18,7 @@ use Rattle.predicates_core.proofs.Values.{not-not, truth-Leaf}
 use Rattle.predicates_core.proofs.Joins.{pair_joins}
 use Rattle.predicates_core.proofs.Shown.{shows_both, shows_left, shows_right, shows_part, IsNonempty}
 use Rattle.predicates_core.proofs.CombinedLemmas.{node_fits, node_of_text, HasTruth-pair, HasTruth-not, HasTruth-named}
-use Rattle.predicates_core.proofs.Found.{Found, no_formula, truth_of_none, is_opposite, is_same}
+use Rattle.predicates_core.proofs.Found.{Found, result_shown, no_formula, truth_of_none, is_opposite, is_same}
 use Rattle.predicates_core.proofs.FirstChange.{no_change_is_empty, LeftTurns, RightTurns, BothTurn, left_first, right_first, both_first}
 use Rattle.predicates_core.proofs.FirstChangeOf.{change-Not, change-Named, change-Leaf, xor_left}
 
@@ -34,7 +33,7 @@ change_numbers f ks h = h.minimal.change.numbers
 
 -- what explains a leaf's verdict shows what would turn it
 leaf_change : (f : Formula) (t : Tree CaseNode) → IsLeaf f → Explains f t → ExplainsChange f t
-unfolding Shows ShowsChange
+unfolding Shows
 leaf_change (Leaf label own) t is x = record {
   leaves = 0 ∷ [];
   first = change-Leaf label own;
@@ -61,17 +60,8 @@ leaf_found w (Err e) leaf x = tt
 
 -- ---- what is found
 
--- a case has the truth as its result
-pub result_turned : (f : Formula) (t : Tree CaseNode) (s : List ℕ) → ShowsChange f t s → t.root.result ≡ truth f
-unfolding ShowsChange
-result_turned (Leaf label own) t s h = h.0.result ∙ sym (truth-Leaf label own)
-result_turned (Join op label fs) t s h = h.0.result
-result_turned (Not label f) t s h = h.0.result
-result_turned (Named label name f) t s h = h.0.result
-result_turned (AtLeast k label fs) t s h = h.0.result
-
 pub change_by_result : {F : Formula → Type 0} {b : Bool} {t : Tree CaseNode} → IsChangeOf F b t → IsChangeOf F t.root.result t
-change_by_result {t = t} c = record { truth = record { at = λ f h. sym (result_turned f t (c.explains f h).leaves (c.explains f h).shown) }; explains = c.explains }
+change_by_result {t = t} c = record { truth = record { at = λ f h. sym (result_shown f t (c.explains f h).leaves (c.explains f h).shown) }; explains = c.explains }
 
 pub change_truth : {F : Formula → Type 0} (w : Option Bool) (found : Found) → IsFoundChange F w found → HasTruth F (shown_verdict w found)
 change_truth (Some e) None x = x
@@ -93,33 +83,23 @@ pub change_wanted : {F : Formula → Type 0} (w : Option Bool) {h : Bool} {t : T
 change_wanted {F} (Some e) {h} {t} x is = subst (λ b. IsChangeOf F b t) (is_same e h is) x
 change_wanted None x is = change_by_result x
 
--- a part that is shown under its own name is shown under the name, with its number
-pub place_turned : (name n : List ℕ) (f : Formula) (c d : Tree CaseNode) (k : ℕ) (rest : Forest CaseNode) → n ≡ name → d ≡ with_index k c → (x : ExplainsChange f c) → ShowsPart (ShowsNumbered k (ShowsChange f)) n x.leaves (branch name d.root d.children rest) rest
-place_turned name n f c d k rest e tells x = subst (λ z. ShowsPart (ShowsNumbered k (ShowsChange f)) n x.leaves (branch z d.root d.children rest) rest) e (shows_part (ShowsNumbered k (ShowsChange f)) n rest x.leaves d (some_change f x.leaves x.first) (c, tells, x.shown))
-
--- none of the formulas is shown where none has a share
-pub shows_no_change : (k : ℕ) (fs : Formulas) → ShowsTurned true k fs empty []
-unfolding ShowsChange left_share right_share
-shows_no_change k (one name f) = refl
-shows_no_change k (more name f fs) = (empty, refl, shows_no_change (suc k) fs)
-
 -- ---- one part
 
 module _ (inner : Formula) (b : Bool) (t c : Tree CaseNode) where
   not_change : (text : Entry) → ExplainsChange inner c → IsNode text b ((codes "predicate", c) ∷ []) t → truth (Not (plain text) inner) ≡ b → ExplainsChange (Not (plain text) inner) t
-  unfolding ShowsChange
+  unfolding Shows
   not_change text x node e = record {
     leaves = x.leaves;
     first = change-Not (plain text) inner x.leaves x.first;
-    shown = (node_fits text b _ _ t node e, subst (λ ch. ShowsPart (ShowsChange inner) (codes "predicate") x.leaves ch empty) (sym node.children) (shows_part (ShowsChange inner) (codes "predicate") empty x.leaves c (some_change inner x.leaves x.first) x.shown));
+    shown = (node_fits text b _ _ t node e, subst (λ ch. ShowsPart (Shows inner) (codes "predicate") x.leaves ch empty) (sym node.children) (shows_part (Shows inner) (codes "predicate") empty x.leaves c (some_change inner x.leaves x.first) x.shown));
   }
 
   pub named_change : (text : Entry) (name : List ℕ) → ExplainsChange inner c → IsNode text b ((name, c) ∷ []) t → truth (Named (plain text) name inner) ≡ b → ExplainsChange (Named (plain text) name inner) t
-  unfolding ShowsChange
+  unfolding Shows
   named_change text name x node e = record {
     leaves = x.leaves;
     first = change-Named (plain text) name inner x.leaves x.first;
-    shown = (node_fits text b _ _ t node e, subst (λ ch. ShowsPart (ShowsChange inner) name x.leaves ch empty) (sym node.children) (shows_part (ShowsChange inner) name empty x.leaves c (some_change inner x.leaves x.first) x.shown));
+    shown = (node_fits text b _ _ t node e, subst (λ ch. ShowsPart (Shows inner) name x.leaves ch empty) (sym node.children) (shows_part (Shows inner) name empty x.leaves c (some_change inner x.leaves x.first) x.shown));
   }
 
 module _ {part : Formula → Type 0} {b : Bool} {c t : Tree CaseNode} where
@@ -165,48 +145,44 @@ module _ (part : Formula → Type 0) (name : List ℕ) where
 abbrev two : Formula → Formula → Formulas
 two l r = more (codes "left") l (one (codes "right") r)
 
--- their names tell them apart
-two_names : (l r : Formula) → are_alike (two l r) ≡ false
-two_names l r = refl
-
 -- leaves that are the first change of the join, and that the cases under their names show
 abbrev IsTurnedBelow : Operator → Label → Formulas → List NamedCase → Type 0
-IsTurnedBelow op label fs cases = (leaves : List ℕ) × IsFirstChange (Join op label fs) leaves × ShowsTurned false 0 fs (forest cases) leaves
+IsTurnedBelow op label fs cases = (leaves : List ℕ) × IsFirstChange (Join op label fs) leaves × ShowsParts fs (forest cases) leaves
 
 module _ (op : Operator) (label : Label) (l r : Formula) where
   left_below : {c : Tree CaseNode} (x : ExplainsChange l c) → LeftTurns (apply op) (truth l) (truth r) → IsTurnedBelow op label (two l r) ((codes "left", c) ∷ [])
-  unfolding ShowsChange
+  unfolding Shows
   left_below {c} x t = (
     _,
     left_first (pair_joins op label l r) t x.leaves x.first,
-    shows_left (ShowsChange l) (codes "left") (ShowsTurned false 1 (one (codes "right") r)) (size l) x.leaves c (change_numbers l x.leaves x.first) (some_change l x.leaves x.first) x.shown refl,
+    shows_left (Shows l) (codes "left") (ShowsParts (one (codes "right") r)) (size l) x.leaves c (change_numbers l x.leaves x.first) (some_change l x.leaves x.first) x.shown refl,
   )
 
   right_below : {d : Tree CaseNode} (y : ExplainsChange r d) → RightTurns (apply op) (truth l) (truth r) → IsTurnedBelow op label (two l r) ((codes "right", d) ∷ [])
-  unfolding ShowsChange
+  unfolding Shows
   right_below {d} y t = (
     _,
     right_first (pair_joins op label l r) t y.leaves y.first,
-    shows_right (ShowsChange l) (codes "left") (ShowsTurned false 1 (one (codes "right") r)) (size l) y.leaves (branch (codes "right") d.root d.children empty)
-        (shows_part (ShowsChange r) (codes "right") empty y.leaves d (some_change r y.leaves y.first) y.shown),
+    shows_right (Shows l) (codes "left") (ShowsParts (one (codes "right") r)) (size l) y.leaves (branch (codes "right") d.root d.children empty)
+        (shows_part (Shows r) (codes "right") empty y.leaves d (some_change r y.leaves y.first) y.shown),
   )
 
   both_below : {c d : Tree CaseNode} (x : ExplainsChange l c) (y : ExplainsChange r d) → BothTurn (apply op) (truth l) (truth r) → IsTurnedBelow op label (two l r) ((codes "left", c) ∷ (codes "right", d) ∷ [])
-  unfolding ShowsChange
+  unfolding Shows
   both_below {c} {d} x y t = (
     _,
     both_first (pair_joins op label l r) t x.leaves y.leaves x.first y.first,
-    shows_both (ShowsChange l) (codes "left") (ShowsTurned false 1 (one (codes "right") r)) (size l) x.leaves y.leaves c (branch (codes "right") d.root d.children empty) (change_numbers l x.leaves x.first) (some_change l x.leaves x.first) x.shown
-        (shows_part (ShowsChange r) (codes "right") empty y.leaves d (some_change r y.leaves y.first) y.shown),
+    shows_both (Shows l) (codes "left") (ShowsParts (one (codes "right") r)) (size l) x.leaves y.leaves c (branch (codes "right") d.root d.children empty) (change_numbers l x.leaves x.first) (some_change l x.leaves x.first) x.shown
+        (shows_part (Shows r) (codes "right") empty y.leaves d (some_change r y.leaves y.first) y.shown),
   )
 
 -- the node fits and its children show the parts
-join_change : (op : Operator) (fs : Formulas) (b : Bool) (t : Tree CaseNode) (text : Entry) (cases : List NamedCase) → are_alike fs ≡ false → truth (Join op (plain text) fs) ≡ b → IsNode text b cases t → IsTurnedBelow op (plain text) fs cases → ExplainsChange (Join op (plain text) fs) t
-unfolding ShowsChange
-join_change op fs b t text cases apart e node x = record {
+join_change : (op : Operator) (fs : Formulas) (b : Bool) (t : Tree CaseNode) (text : Entry) (cases : List NamedCase) → truth (Join op (plain text) fs) ≡ b → IsNode text b cases t → IsTurnedBelow op (plain text) fs cases → ExplainsChange (Join op (plain text) fs) t
+unfolding Shows
+join_change op fs b t text cases e node x = record {
   leaves = x.0;
   first = x.1;
-  shown = (node_fits text b _ cases t node e, subst (λ tells. ShowsTurned tells 0 fs t.children x.0) (sym apart) (subst (λ ch. ShowsTurned false 0 fs ch x.0) (sym node.children) x.2));
+  shown = (node_fits text b _ cases t node e, subst (λ ch. ShowsParts fs ch x.0) (sym node.children) x.2);
 }
 
 module _ (op : Operator) {text : Option (List ℕ)} {left right : Formula → Type 0} {x y e : Bool} {t : Tree CaseNode} {bytes : List ℕ} {cases : List NamedCase} where
@@ -217,7 +193,7 @@ module _ (op : Operator) {text : Option (List ℕ)} {left right : Formula → Ty
       record {
         truth = whole;
         explains = λ f h.
-            subst (λ g. ExplainsChange g t) (sym h.is) (join_change op (two h.left_formula h.right_formula) e t text cases (two_names h.left_formula h.right_formula) (ap truth (sym h.is) ∙ whole.at f h) (node_of_text written fits) (below h.left_formula h.right_formula h.of_left h.of_right));
+            subst (λ g. ExplainsChange g t) (sym h.is) (join_change op (two h.left_formula h.right_formula) e t text cases (ap truth (sym h.is) ∙ whole.at f h) (node_of_text written fits) (below h.left_formula h.right_formula h.of_left h.of_right));
       }
 
 change_of_none : {F : Formula → Type 0} {b : Bool} {t : Tree CaseNode} → ((f : Formula) → F f → ⊥) → IsChangeOf F b t

@@ -33,7 +33,6 @@ pub mod FirstChange
 pub mod TurnedThresholds
 pub mod FirstChangeOf
 pub mod ChangeCases
-pub mod SeveralChanges
 pub mod PresentChanges
 pub mod AddedChanges
 pub mod ThresholdChanges

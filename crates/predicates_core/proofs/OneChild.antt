@@ -1,23 +1,40 @@
 -- Where one part decides a join, its case has the first part that does, and no other.
 use Rattle.std.proofs.Common.{◌≡◌, ◌⊎◌, ℕ, Bool, true, false, List, [], ◌∷◌, Option, Some, refl, sym, ap, ◌∙◌, subst, inl, inr}
 use Rattle.std.specs.Prelude.{not}
+use mathlib.Core.Bool.{beq}
 use Rattle.predicates_core.specs.Describe.{CaseNode}
 use Rattle.predicates_core.specs.Formula.{Formula, Formulas, one, more, Join, apply, size, truth}
 use Rattle.predicates_core.specs.Label.{Label}
-use Rattle.predicates_core.specs.Laws.{first_with, OneChild}
+use Rattle.predicates_core.specs.Laws.{decided_by, first_with, OneChild}
 use Rattle.predicates_core.specs.Reason.{IsFirstReason}
-use Rattle.predicates_core.specs.Several.{decided_by}
 use Rattle.predicates_core.specs.Shows.{ShowsPart, Shows, ShowsParts, Explains, left_share, right_share}
 use Rattle.predicates_core.specs.Tree.{Tree, Forest, empty, branch}
 use Rattle.predicates_core.proofs.Existence.{first_reasons}
 use Rattle.predicates_core.proofs.FirstReason.{first_unique}
-use Rattle.predicates_core.proofs.FirstOfJoins.{left_first, right_first}
-use Rattle.predicates_core.proofs.FirstReasonOf.{same_symmetric, same_first, one_reasons, left_whatever}
+use Rattle.predicates_core.proofs.FirstOfJoins.{LeftDecides, RightDecides, left_first, right_first}
+use Rattle.predicates_core.proofs.FirstReasonOf.{same_symmetric, same_first, one_reasons, and_left, and_right, or_left, or_right, left_whatever}
 use Rattle.predicates_core.proofs.Joins.{joins}
 use Rattle.predicates_core.proofs.Numbers.{shifted}
-use Rattle.predicates_core.proofs.Several.{decided, itself, not_itself}
 use Rattle.predicates_core.proofs.Shown.{IsNonempty, not_empty, numbers_of, left_share-alone, right_share-alone, left_share-shifted, right_share-shifted}
 use Rattle.predicates_core.proofs.Values.{truth-one, truth-more}
+
+-- what is known of a join where one part with the truth `decides` decides the whole
+record Decides (decides : Bool) : Type 0 where
+  pub passes : (x : Bool) → apply (decided_by decides) (not decides) x ≡ x
+  pub left : LeftDecides (apply (decided_by decides)) decides decides
+  pub right : RightDecides (apply (decided_by decides)) (not decides) decides
+
+decided : (decides : Bool) → Decides decides
+decided true = record { passes = λ x. refl; left = or_left; right = or_right }
+decided false = record { passes = λ x. refl; left = and_left; right = and_right }
+
+not_itself : (b : Bool) → beq (not b) b ≡ false
+not_itself true = refl
+not_itself false = refl
+
+itself : (b : Bool) → beq b b ≡ true
+itself true = refl
+itself false = refl
 
 same_or_opposite : (a b : Bool) → (a ≡ b) ⊎ (a ≡ not b)
 same_or_opposite true true = inl refl

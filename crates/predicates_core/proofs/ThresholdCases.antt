@@ -1,28 +1,29 @@
 -- The truth of a threshold over several members, and the cases that explain it, from those of its
 -- members.
-use Rattle.std.proofs.Common.{◌≡◌, ◌⊎◌, ℕ, zero, suc, ◌+◌, ◌-◌, ◌<◌, ◌≤◌, Bool, true, false, Option, List, [], ◌∷◌, ◌++◌, Some, None, codes, length-append, map, length, take, drop, get_or, refl, sym, ap, ◌∙◌, subst, arith, inl, inr, ⊎_elim}
+use Rattle.std.proofs.Common.{◌≡◌, ◌⊎◌, ℕ, zero, suc, ◌+◌, ◌-◌, ◌<◌, ◌≤◌, Bool, true, false, Option, List, [], ◌∷◌, ◌++◌, Some, None, length-append, map, length, take, drop, get_or, refl, sym, ap, ◌∙◌, subst, arith, inl, inr, ⊎_elim}
 use Rattle.std.specs.List.{AllByRecursion}
 use Rattle.std.specs.Prelude.{not, ◌&&◌, nat_le, Result, Ok, Err, IfOk}
 use Rattle.std.proofs.lemmas.Bool.{cases_lt}
 use Rattle.std.proofs.lemmas.Bool.Decides.{nat_tests}
 use Rattle.std.proofs.lemmas.List.{take-append-drop, length-take-le, take_more, take_all, map-append}
-use Rattle.std.specs.Fmt.{decimal}
 use mathlib.Core.Bool.{beq}
-use Rattle.predicates_core.specs.Label.{Entry, plain, Fits, FitsEntry}
+use Rattle.predicates_core.specs.Label.{Entry, plain, FitsEntry}
 use Rattle.predicates_core.specs.Formula.{Formula, Formulas, one, more, AtLeast, number_of_parts, needed, actual_of_parts, truth, size, text_of, HasTruth}
 use Rattle.predicates_core.specs.Tree.{Tree, Forest, empty, branch, forest, add_last}
 use Rattle.predicates_core.specs.Describe.{CaseNode, with_child}
 use Rattle.predicates_core.specs.Shows.{ShowsPart, ShowsNumbered, with_index, left_share, right_share, Shows, ShowsPlaces, Explains, IsCaseOf, IsAnswer, IsFound, IsNode}
-use Rattle.predicates_core.specs.Leaves.{IsExactly, IsShowing}
-use Rattle.predicates_core.specs.Several.{AreOfEach, formulas_of}
+use Rattle.predicates_core.specs.Leaves.{IsExactly}
+use Rattle.predicates_core.specs.Asked.{shown_verdict}
+use Rattle.predicates_core.specs.Several.{AreOfEach, formulas_of, is_absent, IsNextCase, IsNodeWith}
 use Rattle.predicates_core.specs.Thresholds.{enough_of, IsSettled, settled, IsOfThreshold, threshold_formula}
 use Rattle.predicates_core.specs.LeafLaws.{exactly_text_fits, one_exactly, fits_itself}
 use Rattle.predicates_core.proofs.Numbers.{shifted, equal_at_itself}
 use Rattle.predicates_core.proofs.Joins.{length-actual_of_parts}
-use Rattle.predicates_core.proofs.Thresholds.{like, one_like, FirstEnough, enough_none, enough_one, enough_with, enough_without, like-actual, like-one, decisive, truth_by_parts, threshold_first}
-use Rattle.predicates_core.proofs.Shown.{told, not_empty, numbers_of, shows_part, left_share-joined, right_share-joined, left_share-shifted, right_share-shifted}
-use Rattle.predicates_core.proofs.CombinedLemmas.{node_fits, node_of_text}
-use Rattle.predicates_core.proofs.Found.{no_formula, case_by_result}
+use Rattle.predicates_core.proofs.Thresholds.{like, either, one_like, FirstEnough, enough_none, enough_one, enough_with, enough_without, like-actual, like-one, decisive, truth_by_parts, threshold_first}
+use Rattle.predicates_core.proofs.Shown.{not_empty, numbers_of, shows_part, shows_both, shows_right}
+use Rattle.predicates_core.proofs.CombinedLemmas.{node_fits}
+use Rattle.predicates_core.proofs.Values.{not-not}
+use Rattle.predicates_core.proofs.Found.{no_formula, case_by_result, truth_found, case_found}
 use Rattle.predicates_core.proofs.Several.{forest-add_last, formula_at, HasOne, one_of_each, are_formulas}
 use Rattle.predicates_core.proofs.Leaves.{HasTruth-exactly}
 
@@ -51,10 +52,34 @@ place_shown : (name n : List ℕ) (f : Formula) (c d : Tree CaseNode) (k : ℕ) 
 place_shown name n f c d k rest e told x = subst (λ z. ShowsPart (ShowsNumbered k (Shows f)) n x.leaves (branch z d.root d.children rest) rest) e (shows_part (ShowsNumbered k (Shows f)) n rest x.leaves d (not_empty f x.leaves x.first) (c, told, x.shown))
 
 -- none of the formulas is shown where none has a share
-shows_no_place : (k : ℕ) (fs : Formulas) → ShowsPlaces k fs empty []
+pub shows_no_place : (k : ℕ) (fs : Formulas) → ShowsPlaces k fs empty []
 unfolding Shows left_share right_share
 shows_no_place k (one name f) = refl
 shows_no_place k (more name f fs) = (empty, refl, shows_no_place (suc k) fs)
+
+never_opposite : (a : Bool) → beq a (not a) ≡ true → ⊥
+never_opposite true e = cc
+never_opposite false e = cc
+
+not_itself : (b : Bool) → beq (not b) b ≡ false
+not_itself true = refl
+not_itself false = refl
+
+same_beq : (a b : Bool) → a ≡ b → beq a b ≡ true
+same_beq a b e = subst (λ z. beq a z ≡ true) e (itself a)
+  where
+    itself : (a : Bool) → beq a a ≡ true
+    itself true = refl
+    itself false = refl
+
+-- one case more
+pub node_more : {text : Entry} {b : Bool} (name : List ℕ) (cs : List (Tree CaseNode)) (c : Tree CaseNode) {t s : Tree CaseNode} → IsNode text b (map (λ z. (name, z)) cs) t → s ≡ with_child t name c → IsNode text b (map (λ z. (name, z)) (cs ++ c ∷ [])) s
+node_more name cs c {t} {s} h e = rw e (record {
+  text = h.text;
+  result = h.result;
+  products = h.products;
+  children = ap (λ f. add_last f name c) h.children ∙ forest-add_last (map (λ z. (name, z)) cs) name c ∙ ap forest (sym (map-append (λ z. (name, z)) cs (c ∷ [])));
+})
 
 module _ (b : Bool) {U : Type 0} (has : U → Formula → Type 0) where
   -- at least m of the members have the truth
@@ -89,7 +114,7 @@ module _ (b : Bool) {U : Type 0} (has : U → Formula → Type 0) where
   among_none [] (suc m) e a = absurd a
   among_none (u ∷ us) m e a = absurd (cc)
 
-  among_like : (name : List ℕ) (us : List U) (m : ℕ) (fs : Formulas) → AreOfEach name has us fs → Among us m → m ≤ like b fs (actual_of_parts fs)
+  pub among_like : (name : List ℕ) (us : List U) (m : ℕ) (fs : Formulas) → AreOfEach name has us fs → Among us m → m ≤ like b fs (actual_of_parts fs)
   among_like name us zero fs of a = omega arith
   among_like name [] (suc m) fs of a = absurd a
   among_like name (u ∷ us) (suc m) (one n f) of a = ⊎_elim
@@ -124,141 +149,235 @@ module _ (b : Bool) {U : Type 0} (has : U → Formula → Type 0) where
   pub HasTruth-settled : {text : Entry} {name : List ℕ} {us : List U} (k : ℕ) → IsSettled k (length us) → nat_le k (length us) ≡ b → HasTruth (IsOfThreshold k text name has us) b
   HasTruth-settled k s e = record { at = λ f p. (HasTruth-exactly e).at f (p.of_settled s) }
 
-  -- ---- the members with the truth, and their cases
+  -- ---- the members with the truth, and the cases of the first of them
 
   -- the case tells the member's number
   abbrev pub IsNumbered : (U → Tree CaseNode → Type 0) → ℕ → U → Tree CaseNode → Type 0
-  IsNumbered of_member k u d = (c : Tree CaseNode) × (d ≡ with_index k c) × of_member u c
+  IsNumbered of_member k u d = HasTruth (has u) b × ((c : Tree CaseNode) × (d ≡ with_index k c) × of_member u c)
 
-  -- the cases are those of the members with the truth, in order, and no other member has it; the
-  -- first member has the number k
-  abbrev pub Sifted : (U → Tree CaseNode → Type 0) → ℕ → List U → List (Tree CaseNode) → Type 0
-  Sifted of_member k [] [] = Unit {0}
-  Sifted of_member k [] (c ∷ cs) = ⊥
-  Sifted of_member k (u ∷ us) [] = HasTruth (has u) (not b) × Sifted of_member (suc k) us []
-  Sifted of_member k (u ∷ us) (c ∷ cs) = (HasTruth (has u) (not b) × Sifted of_member (suc k) us (c ∷ cs)) ⊎ (IsNumbered of_member k u c × Sifted of_member (suc k) us cs)
+  -- t of the members have the truth, and the others do not; the cases are those of the first of them,
+  -- in order; the first member has the number k
+  abbrev pub Sifted : (U → Tree CaseNode → Type 0) → ℕ → List U → List (Tree CaseNode) → ℕ → Type 0
+  Sifted of_member k [] [] zero = Unit {0}
+  Sifted of_member k [] [] (suc t) = ⊥
+  Sifted of_member k [] (c ∷ cs) t = ⊥
+  Sifted of_member k (u ∷ us) [] zero = HasTruth (has u) (not b) × Sifted of_member (suc k) us [] zero
+  Sifted of_member k (u ∷ us) [] (suc t) = (HasTruth (has u) (not b) × Sifted of_member (suc k) us [] (suc t)) ⊎ (HasTruth (has u) b × Sifted of_member (suc k) us [] t)
+  Sifted of_member k (u ∷ us) (c ∷ cs) zero = ⊥
+  Sifted of_member k (u ∷ us) (c ∷ cs) (suc t) = (HasTruth (has u) (not b) × Sifted of_member (suc k) us (c ∷ cs) (suc t)) ⊎ (IsNumbered of_member k u c × Sifted of_member (suc k) us cs t)
 
   module _ (of_member : U → Tree CaseNode → Type 0) where
-    sifted_last : (k : ℕ) (us : List U) (cs : List (Tree CaseNode)) (u : U) → Sifted of_member k us cs → HasTruth (has u) (not b) → Sifted of_member k (us ++ u ∷ []) cs
-    sifted_last k [] [] u s h = (h, tt)
-    sifted_last k [] (c ∷ cs) u s h = absurd s
-    sifted_last k (v ∷ us) [] u s h = (s.0, sifted_last (suc k) us [] u s.1 h)
-    sifted_last k (v ∷ us) (c ∷ cs) u s h = ⊎_elim (λ a. inl (a.0, sifted_last (suc k) us (c ∷ cs) u a.1 h)) (λ x. inr (x.0, sifted_last (suc k) us cs u x.1 h)) s
+    sifted_last : (k : ℕ) (us : List U) (cs : List (Tree CaseNode)) (t : ℕ) (u : U) → Sifted of_member k us cs t → HasTruth (has u) (not b) → Sifted of_member k (us ++ u ∷ []) cs t
+    sifted_last k [] [] zero u s h = (h, tt)
+    sifted_last k [] [] (suc t) u s h = absurd s
+    sifted_last k [] (c ∷ cs) t u s h = absurd s
+    sifted_last k (v ∷ us) [] zero u s h = (s.0, sifted_last (suc k) us [] zero u s.1 h)
+    sifted_last k (v ∷ us) [] (suc t) u s h = ⊎_elim (λ a. inl (a.0, sifted_last (suc k) us [] (suc t) u a.1 h)) (λ x. inr (x.0, sifted_last (suc k) us [] t u x.1 h)) s
+    sifted_last k (v ∷ us) (c ∷ cs) zero u s h = absurd s
+    sifted_last k (v ∷ us) (c ∷ cs) (suc t) u s h = ⊎_elim (λ a. inl (a.0, sifted_last (suc k) us (c ∷ cs) (suc t) u a.1 h)) (λ x. inr (x.0, sifted_last (suc k) us cs t u x.1 h)) s
 
-    sifted_one_more : (k : ℕ) (us : List U) (cs : List (Tree CaseNode)) (u : U) (d : Tree CaseNode) → Sifted of_member k us cs → IsNumbered of_member (k + length us) u d → Sifted of_member k (us ++ u ∷ []) (cs ++ d ∷ [])
-    sifted_one_more k [] [] u d s h = inr (subst (λ n. IsNumbered of_member n u d) (omega arith) h, tt)
-    sifted_one_more k [] (c ∷ cs) u d s h = absurd s
-    sifted_one_more k (v ∷ us) [] u d s h = inl (s.0, sifted_one_more (suc k) us [] u d s.1 (subst (λ n. IsNumbered of_member n u d) (omega arith) h))
-    sifted_one_more k (v ∷ us) (c ∷ cs) u d s h = ⊎_elim
-        (λ a. inl (a.0, sifted_one_more (suc k) us (c ∷ cs) u d a.1 (subst (λ n. IsNumbered of_member n u d) (omega arith) h)))
-        (λ x. inr (x.0, sifted_one_more (suc k) us cs u d x.1 (subst (λ n. IsNumbered of_member n u d) (omega arith) h)))
+    -- one more has the truth, and is not asked for its case
+    sifted_counted : (k : ℕ) (us : List U) (cs : List (Tree CaseNode)) (t : ℕ) (u : U) → Sifted of_member k us cs t → HasTruth (has u) b → Sifted of_member k (us ++ u ∷ []) cs (suc t)
+    sifted_counted k [] [] zero u s h = inr (h, tt)
+    sifted_counted k [] [] (suc t) u s h = absurd s
+    sifted_counted k [] (c ∷ cs) t u s h = absurd s
+    sifted_counted k (v ∷ us) [] zero u s h = inl (s.0, sifted_counted (suc k) us [] zero u s.1 h)
+    sifted_counted k (v ∷ us) [] (suc t) u s h = ⊎_elim (λ a. inl (a.0, sifted_counted (suc k) us [] (suc t) u a.1 h)) (λ x. inr (x.0, sifted_counted (suc k) us [] t u x.1 h)) s
+    sifted_counted k (v ∷ us) (c ∷ cs) zero u s h = absurd s
+    sifted_counted k (v ∷ us) (c ∷ cs) (suc t) u s h = ⊎_elim (λ a. inl (a.0, sifted_counted (suc k) us (c ∷ cs) (suc t) u a.1 h)) (λ x. inr (x.0, sifted_counted (suc k) us cs t u x.1 h)) s
+
+    -- one more has the truth, and all before it have their cases
+    sifted_one_more : (k : ℕ) (us : List U) (cs : List (Tree CaseNode)) (t : ℕ) (u : U) (d : Tree CaseNode) → length cs ≡ t → Sifted of_member k us cs t → IsNumbered of_member (k + length us) u d → Sifted of_member k (us ++ u ∷ []) (cs ++ d ∷ []) (suc t)
+    sifted_one_more k [] [] zero u d e s h = inr (subst (λ n. IsNumbered of_member n u d) (omega arith) h, tt)
+    sifted_one_more k [] [] (suc t) u d e s h = absurd s
+    sifted_one_more k [] (c ∷ cs) t u d e s h = absurd s
+    sifted_one_more k (v ∷ us) [] zero u d e s h = inl (s.0, sifted_one_more (suc k) us [] zero u d refl s.1 (subst (λ n. IsNumbered of_member n u d) (omega arith) h))
+    sifted_one_more k (v ∷ us) [] (suc t) u d e s h = absurd (omega (arith, e))
+    sifted_one_more k (v ∷ us) (c ∷ cs) zero u d e s h = absurd s
+    sifted_one_more k (v ∷ us) (c ∷ cs) (suc t) u d e s h = ⊎_elim
+        (λ a. inl (a.0, sifted_one_more (suc k) us (c ∷ cs) (suc t) u d e a.1 (subst (λ n. IsNumbered of_member n u d) (omega arith) h)))
+        (λ x. inr (x.0, sifted_one_more (suc k) us cs t u d (omega (arith, e)) x.1 (subst (λ n. IsNumbered of_member n u d) (omega arith) h)))
         s
 
-    pub sifted_nothing : (k : ℕ) (us : List U) (c : Tree CaseNode) (cs : List (Tree CaseNode)) → us ≡ [] → Sifted of_member k us (c ∷ cs) → ⊥
-    sifted_nothing k [] c cs e s = s
-    sifted_nothing k (u ∷ us) c cs e s = cc
+    -- as many members have the truth
+    pub sifted_among : (k : ℕ) (us : List U) (cs : List (Tree CaseNode)) (t : ℕ) → Sifted of_member k us cs t → Among us t
+    sifted_among k us cs zero s = tt
+    sifted_among k [] [] (suc t) s = absurd s
+    sifted_among k [] (c ∷ cs) (suc t) s = absurd s
+    sifted_among k (u ∷ us) [] (suc t) s = ⊎_elim (λ a. inr (sifted_among (suc k) us [] (suc t) a.1)) (λ x. inl (x.0, sifted_among (suc k) us [] t x.1)) s
+    sifted_among k (u ∷ us) (c ∷ cs) (suc t) s = ⊎_elim (λ a. inr (sifted_among (suc k) us (c ∷ cs) (suc t) a.1)) (λ x. inl (x.0.0, sifted_among (suc k) us cs t x.1)) s
+
+    pub sifted_nothing : (k : ℕ) (us : List U) (c : Tree CaseNode) (cs : List (Tree CaseNode)) (t : ℕ) → us ≡ [] → Sifted of_member k us (c ∷ cs) t → ⊥
+    sifted_nothing k [] c cs t e s = s
+    sifted_nothing k (u ∷ us) c cs t e s = cc
+
+    pub sifted_short : (k : ℕ) (us : List U) (cs : List (Tree CaseNode)) (t : ℕ) → Sifted of_member k us cs t → t ≤ length us
+    sifted_short k us cs zero s = omega arith
+    sifted_short k [] [] (suc t) s = absurd s
+    sifted_short k [] (c ∷ cs) (suc t) s = absurd s
+    sifted_short k (u ∷ us) [] (suc t) s = ⊎_elim
+        (λ a. let ih = sifted_short (suc k) us [] (suc t) a.1 in omega (arith, ih))
+        (λ x. let ih = sifted_short (suc k) us [] t x.1 in omega (arith, ih))
+        s
+    sifted_short k (u ∷ us) (c ∷ cs) (suc t) s = ⊎_elim
+        (λ a. let ih = sifted_short (suc k) us (c ∷ cs) (suc t) a.1 in omega (arith, ih))
+        (λ x. let ih = sifted_short (suc k) us cs t x.1 in omega (arith, ih))
+        s
+
+    -- no more cases than members with the truth
+    pub sifted_cases : (k : ℕ) (us : List U) (cs : List (Tree CaseNode)) (t : ℕ) → Sifted of_member k us cs t → length cs ≤ t
+    sifted_cases k us [] t s = omega arith
+    sifted_cases k [] (c ∷ cs) t s = absurd s
+    sifted_cases k (u ∷ us) (c ∷ cs) zero s = absurd s
+    sifted_cases k (u ∷ us) (c ∷ cs) (suc t) s = ⊎_elim
+        (λ a. sifted_cases (suc k) us (c ∷ cs) (suc t) a.1)
+        (λ x. let ih = sifted_cases (suc k) us cs t x.1 in omega (arith, ih))
+        s
 
     -- of the members in front, and one more
-    pub sifted_passed : (us : List U) {k : ℕ} {u : U} (cs : List (Tree CaseNode)) → k < length us → u ≡ get_or us k u → Sifted of_member 0 (take k us) cs → HasTruth (has u) (not b) → Sifted of_member 0 (take (k + 1) us) cs
-    sifted_passed us {k} {u} cs within is s h = subst (λ z. Sifted of_member 0 z cs) (ap (λ z. take k us ++ z ∷ []) is ∙ sym (take_more us k u within)) (sifted_last 0 (take k us) cs u s h)
+    pub sifted_passed : (us : List U) {k : ℕ} {u : U} (cs : List (Tree CaseNode)) (t : ℕ) → k < length us → u ≡ get_or us k u → Sifted of_member 0 (take k us) cs t → HasTruth (has u) (not b) → Sifted of_member 0 (take (k + 1) us) cs t
+    sifted_passed us {k} {u} cs t within is s h = subst (λ z. Sifted of_member 0 z cs t) (ap (λ z. take k us ++ z ∷ []) is ∙ sym (take_more us k u within)) (sifted_last 0 (take k us) cs t u s h)
 
-    pub sifted_kept : (us : List U) {k : ℕ} {u : U} {c d : Tree CaseNode} (cs : List (Tree CaseNode)) → k < length us → u ≡ get_or us k u → Sifted of_member 0 (take k us) cs → of_member u c → IsShowing (codes "index") (Some (decimal k)) c d → Sifted of_member 0 (take (k + 1) us) (cs ++ d ∷ [])
-    sifted_kept us {k} {u} {c} {d} cs within is s h tells =
+    pub sifted_held : (us : List U) {k : ℕ} {u : U} (cs : List (Tree CaseNode)) (t : ℕ) → k < length us → u ≡ get_or us k u → Sifted of_member 0 (take k us) cs t → HasTruth (has u) b → Sifted of_member 0 (take (k + 1) us) cs (suc t)
+    sifted_held us {k} {u} cs t within is s h = subst (λ z. Sifted of_member 0 z cs (suc t)) (ap (λ z. take k us ++ z ∷ []) is ∙ sym (take_more us k u within)) (sifted_counted 0 (take k us) cs t u s h)
+
+    pub sifted_kept : (us : List U) {k t : ℕ} {u : U} {c : Tree CaseNode} (cs : List (Tree CaseNode)) → k < length us → u ≡ get_or us k u → length cs ≡ t → Sifted of_member 0 (take k us) cs t → HasTruth (has u) b → of_member u c → Sifted of_member 0 (take (k + 1) us) (cs ++ with_index k c ∷ []) (suc t)
+    sifted_kept us {k} {t} {u} {c} cs within is all s h of_c =
         let at : 0 + length (take k us) ≡ k = omega (arith, length-take-le k us (omega (arith, within))) in
-        subst (λ z. Sifted of_member 0 z (cs ++ d ∷ [])) (ap (λ z. take k us ++ z ∷ []) is ∙ sym (take_more us k u within)) (sifted_one_more 0 (take k us) cs u d s (c, told k tells ∙ ap (λ n. with_index n c) (sym at), h))
+        subst (λ z. Sifted of_member 0 z (cs ++ with_index k c ∷ []) (suc t)) (ap (λ z. take k us ++ z ∷ []) is ∙ sym (take_more us k u within)) (sifted_one_more 0 (take k us) cs t u (with_index k c) all s (h, (c, ap (λ n. with_index n c) (sym at), of_c)))
+
+    -- so many of the members in front have the truth
+    pub HasTruth-sifted : {text : Entry} {name : List ℕ} {us : List U} (cs : List (Tree CaseNode)) (j t k : ℕ) → 1 ≤ k → k ≤ length us → Sifted of_member 0 (take j us) cs t → t ≡ enough_of b k (length us) → HasTruth (IsOfThreshold k text name has us) b
+    HasTruth-sifted {us = us} cs j t k some within s e = HasTruth-among k some within (subst (Among us) e (among_all us j t (sifted_among 0 (take j us) cs t s)))
 
   front_none : (us vs : List U) → us ++ vs ≡ [] → us ≡ []
   front_none [] vs e = refl
   front_none (u ∷ us) vs e = absurd (cc)
 
-  abbrev IsOwnCase : U → Tree CaseNode → Type 0
+  abbrev pub IsOwnCase : U → Tree CaseNode → Type 0
   IsOwnCase u c = IsCaseOf (has u) b c
 
-  -- the cases of the members in front with the truth, whatever the other members are
-  sifted_shown : (name : List ℕ) (k : ℕ) (us vs : List U) (fs : Formulas) (cs : List (Tree CaseNode)) → AreOfEach name has (us ++ vs) fs → Sifted IsOwnCase k us cs → (leaves : List ℕ) × FirstEnough b (length cs) fs leaves × ShowsPlaces k fs (forest (map (λ c. (name, c)) cs)) leaves
+  -- the cases of the first members with the truth, whatever the other members are
+  sifted_shown : (name : List ℕ) (k : ℕ) (us vs : List U) (fs : Formulas) (cs : List (Tree CaseNode)) (t : ℕ) → AreOfEach name has (us ++ vs) fs → Sifted IsOwnCase k us cs t → (leaves : List ℕ) × FirstEnough b (length cs) fs leaves × ShowsPlaces k fs (forest (map (λ c. (name, c)) cs)) leaves
   unfolding Shows
-  sifted_shown name k us vs fs [] of s = ([], enough_none b fs, shows_no_place k fs)
-  sifted_shown name k [] vs fs (c ∷ cs) of s = absurd s
-  sifted_shown name k (u ∷ us) vs (one n f) (c ∷ []) of s = ⊎_elim
-      (λ a. absurd (sifted_nothing IsOwnCase (suc k) us c [] (front_none us vs of.2) a.1))
+  sifted_shown name k us vs fs [] t of s = ([], enough_none b fs, shows_no_place k fs)
+  sifted_shown name k [] vs fs (c ∷ cs) t of s = absurd s
+  sifted_shown name k (u ∷ us) vs fs (c ∷ cs) zero of s = absurd s
+  sifted_shown name k (u ∷ us) vs (one n f) (c ∷ []) (suc t) of s = ⊎_elim
+      (λ a. absurd (sifted_nothing IsOwnCase (suc k) us c [] (suc t) (front_none us vs of.2) a.1))
       (λ own.
-      let x = own.0.2.explains f of.1 in
-      (x.leaves, enough_one (own.0.2.truth.at f of.1) x.leaves x.first, place_shown name n f own.0.0 c k empty of.0 own.0.1 x))
+      let x = own.0.1.2.explains f of.1 in
+      (x.leaves, enough_one (own.0.0.at f of.1) x.leaves x.first, place_shown name n f own.0.1.0 c k empty of.0 own.0.1.1 x))
       s
-  sifted_shown name k (u ∷ us) vs (one n f) (c ∷ d ∷ cs) of s = ⊎_elim
-      (λ a. absurd (sifted_nothing IsOwnCase (suc k) us c (d ∷ cs) (front_none us vs of.2) a.1))
-      (λ own. absurd (sifted_nothing IsOwnCase (suc k) us d cs (front_none us vs of.2) own.1))
+  sifted_shown name k (u ∷ us) vs (one n f) (c ∷ d ∷ cs) (suc t) of s = ⊎_elim
+      (λ a. absurd (sifted_nothing IsOwnCase (suc k) us c (d ∷ cs) (suc t) (front_none us vs of.2) a.1))
+      (λ own. absurd (sifted_nothing IsOwnCase (suc k) us d cs t (front_none us vs of.2) own.1))
       s
-  sifted_shown name k (u ∷ us) vs (more n f fs) (c ∷ cs) of s = ⊎_elim
+  sifted_shown name k (u ∷ us) vs (more n f fs) (c ∷ cs) (suc t) of s = ⊎_elim
       (λ a.
-      let ih = sifted_shown name (suc k) us vs fs (c ∷ cs) of.2 a.1 in
+      let ih = sifted_shown name (suc k) us vs fs (c ∷ cs) (suc t) of.2 a.1 in
       let children = forest (map (λ d. (name, d)) (c ∷ cs)) in (
         shifted (size f) ih.0,
         enough_without (a.0.at f of.1) ih.0 ih.1,
-        (
-          children,
-          subst (λ z. ShowsPart (ShowsNumbered k (Shows f)) n z children children) (sym (left_share-shifted (size f) ih.0)) refl,
-          subst (ShowsPlaces (suc k) fs children) (sym (right_share-shifted (size f) ih.0)) ih.2,
-        ),
+        shows_right (ShowsNumbered k (Shows f)) n (ShowsPlaces (suc k) fs) (size f) ih.0 children ih.2,
       ))
       (λ own.
-      let x = own.0.2.explains f of.1 in
-      let ih = sifted_shown name (suc k) us vs fs cs of.2 own.1 in
-      let numbers = numbers_of f x.leaves x.first in
+      let x = own.0.1.2.explains f of.1 in
+      let ih = sifted_shown name (suc k) us vs fs cs t of.2 own.1 in
       let children = forest (map (λ d. (name, d)) cs) in (
         x.leaves ++ shifted (size f) ih.0,
-        enough_with (own.0.2.truth.at f of.1) x.leaves ih.0 x.first ih.1,
-        (
-          children,
-          subst (λ z. ShowsPart (ShowsNumbered k (Shows f)) n z (branch name c.root c.children children) children) (sym (left_share-joined 0 (size f) x.leaves ih.0 numbers)) (place_shown name n f own.0.0 c k children of.0 own.0.1 x),
-          subst (ShowsPlaces (suc k) fs children) (sym (right_share-joined 0 (size f) x.leaves ih.0 numbers)) ih.2,
-        ),
+        enough_with (own.0.0.at f of.1) x.leaves ih.0 x.first ih.1,
+        subst (λ z. ShowsPlaces k (more n f fs) (branch z c.root c.children children) (x.leaves ++ shifted (size f) ih.0)) of.0
+            (shows_both (ShowsNumbered k (Shows f)) n (ShowsPlaces (suc k) fs) (size f) x.leaves ih.0 c children (numbers_of f x.leaves x.first) (not_empty f x.leaves x.first) (own.0.1.0, own.0.1.1, x.shown) ih.2),
       ))
       s
 
-  -- a node over the cases of the members with the truth
-  pub record IsSifted (text : Entry) (name : List ℕ) (us : List U) (t : Tree CaseNode) (kept : ℕ) : Type 0 where
+  -- ---- the node over the cases
+
+  -- the node is over the cases, where there are some
+  abbrev pub IsOver : Entry → List ℕ → List (Tree CaseNode) → Option (Tree CaseNode) → Type 0
+  IsOver text name [] None = Unit {0}
+  IsOver text name [] (Some t) = ⊥
+  IsOver text name (c ∷ cs) None = ⊥
+  IsOver text name (c ∷ cs) (Some t) = IsNode text b (map (λ d. (name, d)) (c ∷ cs)) t
+
+  nothing_over : (text : Entry) (name : List ℕ) (cs : List (Tree CaseNode)) → IsOver text name cs None → cs ≡ []
+  nothing_over text name [] o = refl
+  nothing_over text name (c ∷ cs) o = absurd o
+
+  over_nothing : (text : Entry) (name : List ℕ) (t : Tree CaseNode) (cs : List (Tree CaseNode)) → cs ≡ [] → IsOver text name cs (Some t) → ⊥
+  over_nothing text name t [] e o = o
+  over_nothing text name t (c ∷ cs) e o = cc
+
+  node_over : (text : Entry) (name : List ℕ) (t : Tree CaseNode) (cs : List (Tree CaseNode)) → IsOver text name cs (Some t) → IsNode text b (map (λ d. (name, d)) cs) t
+  node_over text name t [] o = absurd o
+  node_over text name t (c ∷ cs) o = o
+
+  -- members with the truth are asked for their cases
+  abbrev pub shows_such : Option Bool → Bool
+  shows_such None = true
+  shows_such (Some wanted) = beq wanted b
+
+  pub record IsSifted (wanted : Option Bool) (text : Entry) (name : List ℕ) (us : List U) (node : Option (Tree CaseNode)) (t : ℕ) : Type 0 where
     pub cases : List (Tree CaseNode)
-    pub bytes : List ℕ
-    pub fits : Fits text bytes
-    pub written : IsNode (Some bytes) b (map (λ c. (name, c)) cases) t
-    pub are : Sifted IsOwnCase 0 us cases
-    pub number : length cases ≡ kept
+    pub over : IsOver text name cases node
+    pub are : Sifted IsOwnCase 0 us cases t
+    pub all : shows_such wanted ≡ true → length cases ≡ t
+    pub none : shows_such wanted ≡ false → cases ≡ []
 
-  pub sift_none : {text : Entry} {name : List ℕ} {t : Tree CaseNode} {bytes : List ℕ} → IsNode (Some bytes) b [] t → Fits text bytes → IsSifted text name [] t 0
-  sift_none {text} {name} {t} {bytes} written fits = record { cases = []; bytes = bytes; fits = fits; written = written; are = tt; number = refl }
+  pub sift_none : (wanted : Option Bool) {text : Entry} {name : List ℕ} → IsSifted wanted text name [] None 0
+  sift_none wanted = record { cases = []; over = tt; are = tt; all = λ e. refl; none = λ e. refl }
 
-  pub sift_passed : {text : Entry} {name : List ℕ} (us : List U) {k kept : ℕ} {u : U} {t : Tree CaseNode} → k < length us → u ≡ get_or us k u → IsSifted text name (take k us) t kept → HasTruth (has u) (not b) → IsSifted text name (take (k + 1) us) t kept
-  sift_passed us {k} {kept} {u} within is s h = record {
+  pub sift_passed : {wanted : Option Bool} {text : Entry} {name : List ℕ} (us : List U) {k t : ℕ} {u : U} {node : Option (Tree CaseNode)} → k < length us → u ≡ get_or us k u → IsSifted wanted text name (take k us) node t → HasTruth (has u) (not b) → IsSifted wanted text name (take (k + 1) us) node t
+  sift_passed us {t = t} within is s h = record { cases = s.cases; over = s.over; are = sifted_passed IsOwnCase us s.cases t within is s.are h; all = s.all; none = s.none }
+
+  over_next : (text : Entry) (name : List ℕ) (cs : List (Tree CaseNode)) (node : Option (Tree CaseNode)) (d t : Tree CaseNode) → IsOver text name cs node → IsNextCase b text name d node t → IsOver text name (cs ++ d ∷ []) (Some t)
+  over_next text name [] None d t o n = n
+  over_next text name [] (Some w) d t o n = absurd o
+  over_next text name (c ∷ cs) None d t o n = absurd o
+  over_next text name (c ∷ cs) (Some w) d t o n = node_more name (c ∷ cs) d o n
+
+  -- one more member, of which this was found
+  pub sift_next : (wanted : Option Bool) {text : Entry} {name : List ℕ} (us : List U) {k t : ℕ} {u : U} (fresh : ℕ) (node found next : Option (Tree CaseNode)) → fresh ≡ suc t → k < length us → u ≡ get_or us k u → IsSifted wanted text name (take k us) node t → IsFound (has u) wanted found → is_absent wanted found ≡ false → shown_verdict wanted found ≡ b → IsNodeWith b text name k node found next → IsSifted wanted text name (take (k + 1) us) next fresh
+  sift_next wanted us {k} {t} {u} fresh so_far None next grown within is s x some v e = record {
     cases = s.cases;
-    bytes = s.bytes;
-    fits = s.fits;
-    written = s.written;
-    are = sifted_passed IsOwnCase us s.cases within is s.are h;
-    number = s.number;
+    over = subst (IsOver _ _ s.cases) (sym e) s.over;
+    are = subst (Sifted IsOwnCase 0 (take (k + 1) us) s.cases) (sym grown) (sifted_held IsOwnCase us s.cases t within is s.are (subst (HasTruth (has u)) v (truth_found wanted None x)));
+    all = λ is. absurd (never wanted some v is);
+    none = s.none;
   }
+    where
+      never : (w : Option Bool) → is_absent w None ≡ false → shown_verdict w None ≡ b → shows_such w ≡ true → ⊥
+      never None some v is = cc
+      never (Some a) some v is = never_opposite a (subst (λ z. beq a z ≡ true) (sym v) is)
+  sift_next wanted us fresh so_far (Some c) None grown within is s x some v e = absurd e
+  sift_next wanted {text} {name} us {k} {t} {u} fresh so_far (Some c) (Some next) grown within is s x some v e =
+      let own : IsCaseOf (has u) b c = subst (λ z. IsCaseOf (has u) z c) v (case_found wanted c x) in
+      let asked : shows_such wanted ≡ true = of_asked wanted v in
+      let all : length s.cases ≡ t = s.all asked in
+      let longer = length-append s.cases (with_index k c ∷ []) in
+      record {
+        cases = s.cases ++ with_index k c ∷ [];
+        over = over_next text name s.cases so_far (with_index k c) next s.over e;
+        are = subst (Sifted IsOwnCase 0 (take (k + 1) us) (s.cases ++ with_index k c ∷ [])) (sym grown) (sifted_kept IsOwnCase us s.cases within is all s.are own.truth own);
+        all = λ same. omega (arith, longer, all, grown);
+        none = λ other. absurd (both (shows_such wanted) asked other);
+      }
+    where
+      of_asked : (w : Option Bool) → shown_verdict w (Some c) ≡ b → shows_such w ≡ true
+      of_asked None v = refl
+      of_asked (Some a) v = same_beq a b v
 
-  pub sift_kept : {text : Entry} {name : List ℕ} (us : List U) {k kept : ℕ} {u : U} {c d t s : Tree CaseNode} → k < length us → u ≡ get_or us k u → IsSifted text name (take k us) t kept → IsCaseOf (has u) b c → IsShowing (codes "index") (Some (decimal k)) c d → s ≡ with_child t name d → IsSifted text name (take (k + 1) us) s (kept + 1)
-  sift_kept {text} {name} us {k} {kept} {u} {c} {d} {t} {s} within is i h tells e = record {
-    cases = i.cases ++ d ∷ [];
-    bytes = i.bytes;
-    fits = i.fits;
-    written = rw e (record {
-      text = i.written.text;
-      result = i.written.result;
-      products = i.written.products;
-      children = ap (λ f. add_last f name d) i.written.children ∙ forest-add_last (map (λ z. (name, z)) i.cases) name d ∙ ap forest (sym (map-append (λ z. (name, z)) i.cases (d ∷ [])));
-    });
-    are = sifted_kept IsOwnCase us i.cases within is i.are h tells;
-    number = let a = length-append i.cases (d ∷ []) in omega (arith, a, i.number);
-  }
+      both : (a : Bool) → a ≡ true → a ≡ false → ⊥
+      both true e f = cc
+      both false e f = cc
 
   -- the case of the whole, where enough of the members in front have the truth
-  pub sifted_case : {text : Entry} {name : List ℕ} {us : List U} {t : Tree CaseNode} {kept : ℕ} (j k : ℕ) → 1 ≤ k → k ≤ length us → IsSifted text name (take j us) t kept → kept ≡ enough_of b k (length us) → IsCaseOf (IsOfThreshold k text name has us) b t
+  case_of_sifted : {text : Entry} {name : List ℕ} {us : List U} {t : Tree CaseNode} (cs : List (Tree CaseNode)) (kept j k : ℕ) → 1 ≤ k → k ≤ length us → Sifted IsOwnCase 0 (take j us) cs kept → IsNode text b (map (λ d. (name, d)) cs) t → length cs ≡ enough_of b k (length us) → IsCaseOf (IsOfThreshold k text name has us) b t
   unfolding Shows
-  sifted_case {text} {name} {us} {t} {kept} j k some within s enough =
-      let shown = λ (fs : Formulas) (of : AreOfEach name has us fs). sifted_shown name 0 (take j us) (drop j us) fs s.cases (subst (λ z. AreOfEach name has z fs) (sym (take-append-drop j us)) of) s.are in
-      let is = λ (fs : Formulas) (of : AreOfEach name has us fs). s.number ∙ enough ∙ sym (decisive_is name has b k us fs of some within) in
+  case_of_sifted {text} {name} {us} {t} cs kept j k some within s node enough =
+      let shown = λ (fs : Formulas) (of : AreOfEach name has us fs). sifted_shown name 0 (take j us) (drop j us) fs cs kept (subst (λ z. AreOfEach name has z fs) (sym (take-append-drop j us)) of) s in
+      let is = λ (fs : Formulas) (of : AreOfEach name has us fs). enough ∙ sym (decisive_is name has b k us fs of some within) in
       let true_of = λ (fs : Formulas) (of : AreOfEach name has us fs).
       (let h = (shown fs of).1.minimal.reason.enough (actual_of_parts fs) (length-actual_of_parts fs) (equal_at_itself (shown fs of).0 (actual_of_parts fs)) in
       truth_by_parts b k (plain text) fs (subst (λ m. m ≤ like b fs (actual_of_parts fs)) (is fs of) h)) in
@@ -267,13 +386,29 @@ module _ (b : Bool) {U : Type 0} (has : U → Formula → Type 0) where
         explains = λ f p.
             let c = p.of_counted some within in
             let x = shown c.formulas c.of_each in
-            let node : IsNode text b (map (λ d. (name, d)) s.cases) t = node_of_text s.written s.fits in
             subst (λ g. Explains g t) (sym c.is) (record {
               leaves = x.0;
               first = threshold_first (true_of c.formulas c.of_each) x.0 (subst (λ m. FirstEnough b m c.formulas x.0) (is c.formulas c.of_each) x.1);
               shown = (node_fits text b _ _ t node (true_of c.formulas c.of_each), subst (λ ch. ShowsPlaces 0 c.formulas ch x.0) (sym node.children) x.2);
             });
       }
+
+  -- what is found of the whole, where enough of the members in front have the truth
+  module _ (text : Entry) (name : List ℕ) (us : List U) (kept j k : ℕ) (some : 1 ≤ k) (within : k ≤ length us) (least : 1 ≤ enough_of b k (length us)) (enough : kept ≡ enough_of b k (length us)) where
+    case_enough : (wanted : Option Bool) (node : Option (Tree CaseNode)) → IsSifted wanted text name (take j us) node kept → shows_such wanted ≡ true → (t : Tree CaseNode) × (node ≡ Some t) × IsCaseOf (IsOfThreshold k text name has us) b t
+    case_enough wanted None s asked = absurd (let l = s.all asked in let z = ap length (nothing_over text name s.cases s.over) in omega (arith, l, z, enough, least))
+    case_enough wanted (Some t) s asked = (t, refl, case_of_sifted s.cases kept j k some within s.are (node_over text name t s.cases s.over) (s.all asked ∙ enough))
+
+    none_enough : (w : Bool) (node : Option (Tree CaseNode)) → IsSifted (Some w) text name (take j us) node kept → w ≡ not b → IsFound (IsOfThreshold k text name has us) (Some w) node
+    none_enough w None s other = subst (HasTruth (IsOfThreshold k text name has us)) (sym (not-not b) ∙ ap not (sym other)) (HasTruth-sifted IsOwnCase s.cases j kept k some within s.are enough)
+    none_enough w (Some t) s other = absurd (over_nothing text name t s.cases (s.none (rw other (not_itself b))) s.over)
+
+    pub found_enough : (wanted : Option Bool) (node : Option (Tree CaseNode)) → IsSifted wanted text name (take j us) node kept → IsFound (IsOfThreshold k text name has us) wanted node
+    found_enough None so_far s = let x = case_enough None so_far s refl in subst (IsFound (IsOfThreshold k text name has us) None) (sym x.1) (case_by_result x.2)
+    found_enough (Some w) so_far s = ⊎_elim
+        (λ is. let x = case_enough (Some w) so_far s (same_beq w b is) in subst (IsFound (IsOfThreshold k text name has us) (Some w)) (sym x.1) (subst (λ z. IsCaseOf (IsOfThreshold k text name has us) z x.0) (sym is) x.2))
+        (λ other. none_enough w so_far s other)
+        (either w b)
 
 -- ---- how many members hold and how many fail, of one member more
 
@@ -294,14 +429,20 @@ module _ {U : Type 0} (has : U → Formula → Type 0) where
 -- ---- where too few have the truth
 
 module _ (b : Bool) {U : Type 0} (has : U → Formula → Type 0) (of_member : U → Tree CaseNode → Type 0) where
-  among_rest : (j : ℕ) (us : List U) (cs : List (Tree CaseNode)) (m : ℕ) → m + length cs ≡ length us → Sifted b has of_member j us cs → Among (not b) has us m
-  among_rest j us cs zero e s = tt
-  among_rest j [] [] (suc m) e s = absurd (omega (arith, e))
-  among_rest j [] (c ∷ cs) (suc m) e s = absurd s
-  among_rest j (u ∷ us) [] (suc m) e s = inl (s.0, among_rest (suc j) us [] m (omega (arith, e)) s.1)
-  among_rest j (u ∷ us) (c ∷ cs) (suc m) e s = ⊎_elim
-      (λ a. inl (a.0, among_rest (suc j) us (c ∷ cs) m (omega (arith, e)) a.1))
-      (λ k. inr (among_rest (suc j) us cs (suc m) (omega (arith, e)) k.1))
+  pub among_rest : (j : ℕ) (us : List U) (cs : List (Tree CaseNode)) (t m : ℕ) → m + t ≡ length us → Sifted b has of_member j us cs t → Among (not b) has us m
+  among_rest j us cs t zero e s = tt
+  among_rest j [] [] zero (suc m) e s = absurd (omega (arith, e))
+  among_rest j [] [] (suc t) (suc m) e s = absurd s
+  among_rest j [] (c ∷ cs) t (suc m) e s = absurd s
+  among_rest j (u ∷ us) [] zero (suc m) e s = inl (s.0, among_rest (suc j) us [] zero m (omega (arith, e)) s.1)
+  among_rest j (u ∷ us) [] (suc t) (suc m) e s = ⊎_elim
+      (λ a. inl (a.0, among_rest (suc j) us [] (suc t) m (omega (arith, e)) a.1))
+      (λ k. inr (among_rest (suc j) us [] t (suc m) (omega (arith, e)) k.1))
+      s
+  among_rest j (u ∷ us) (c ∷ cs) zero (suc m) e s = absurd s
+  among_rest j (u ∷ us) (c ∷ cs) (suc t) (suc m) e s = ⊎_elim
+      (λ a. inl (a.0, among_rest (suc j) us (c ∷ cs) (suc t) m (omega (arith, e)) a.1))
+      (λ k. inr (among_rest (suc j) us cs t (suc m) (omega (arith, e)) k.1))
       s
 
   among_less : (c : Bool) (us : List U) (m n : ℕ) → n ≤ m → Among c has us m → Among c has us n
@@ -317,26 +458,12 @@ module _ (b : Bool) {U : Type 0} (has : U → Formula → Type 0) (of_member : U
       by_truth true few = omega (arith, some, within, few, h)
       by_truth false few = omega (arith, some, within, few, h)
 
-  sifted_short : (j : ℕ) (vs : List U) (cs : List (Tree CaseNode)) → Sifted b has of_member j vs cs → length cs ≤ length vs
-  sifted_short j [] [] s = omega arith
-  sifted_short j [] (c ∷ cs) s = absurd s
-  sifted_short j (v ∷ vs) [] s = omega arith
-  sifted_short j (v ∷ vs) (c ∷ cs) s = ⊎_elim
-      (λ a. let ih = sifted_short (suc j) vs (c ∷ cs) a.1 in omega (arith, ih))
-      (λ k. let ih = sifted_short (suc j) vs cs k.1 in omega (arith, ih))
-      s
-
   -- too few of all members have the truth
-  pub few_sifted : {text : Entry} {name : List ℕ} {us : List U} (cs : List (Tree CaseNode)) (k : ℕ) → 1 ≤ k → k ≤ length us → Sifted b has of_member 0 us cs → length cs < enough_of b k (length us) → HasTruth (IsOfThreshold k text name has us) (not b)
-  few_sifted {text} {name} {us} cs k some within are few =
-      let short = sifted_short 0 us cs are in
-      let rest : Among (not b) has us (length us - length cs) = among_rest 0 us cs (length us - length cs) (omega (arith, short)) are in
-      HasTruth-among (not b) has k some within (among_less (not b) us (length us - length cs) (enough_of (not b) k (length us)) (opposite_enough k (length us) (length cs) some within few short) rest)
-
-module _ (b : Bool) {U : Type 0} (has : U → Formula → Type 0) where
-  pub sifted_few : {text : Entry} {name : List ℕ} {us : List U} {t : Tree CaseNode} {j kept : ℕ} (k : ℕ) → 1 ≤ k → k ≤ length us → length us ≤ j → IsSifted b has text name (take j us) t kept → kept < enough_of b k (length us) → HasTruth (IsOfThreshold k text name has us) (not b)
-  sifted_few {text} {name} {us} {t} {j} {kept} k some within all s few =
-      few_sifted b has (λ u c. IsCaseOf (has u) b c) s.cases k some within (subst (λ z. Sifted b has (λ u c. IsCaseOf (has u) b c) 0 z s.cases) (take_all j us all) s.are) (omega (arith, s.number, few))
+  pub few_sifted : {text : Entry} {name : List ℕ} {us : List U} (cs : List (Tree CaseNode)) (k t : ℕ) → 1 ≤ k → k ≤ length us → Sifted b has of_member 0 us cs t → t < enough_of b k (length us) → HasTruth (IsOfThreshold k text name has us) (not b)
+  few_sifted {text} {name} {us} cs k t some within are few =
+      let short = sifted_short b has of_member 0 us cs t are in
+      let rest : Among (not b) has us (length us - t) = among_rest 0 us cs t (length us - t) (omega (arith, short)) are in
+      HasTruth-among (not b) has k some within (among_less (not b) us (length us - t) (enough_of (not b) k (length us)) (opposite_enough k (length us) t some within few short) rest)
 
 -- one at least
 pub enough_some : (b : Bool) (k n : ℕ) → 1 ≤ k → k ≤ n → 1 ≤ enough_of b k n
@@ -369,16 +496,17 @@ either_found b (Ok None) h x = no_formula h x
 either_found b (Ok (Some t)) h x = case_by_result x
 either_found b (Err e) h x = tt
 
--- the case of whichever truth it has
-pub own_case : {F : Formula → Type 0} {b : Bool} {c : Tree CaseNode} → c.root.result ≡ b → IsCaseOf F c.root.result c → IsCaseOf F b c
-own_case {F} {b} {c} e x = subst (λ z. IsCaseOf F z c) e x
-
 -- a member of which there is no formula, and so none of the whole
 pub absent_counted : {U : Type 0} {text : Entry} {name : List ℕ} (has : U → Formula → Type 0) (us : List U) {j : ℕ} {u : U} (k : ℕ) → 1 ≤ k → k ≤ length us → j < length us → u ≡ get_or us j u → ((f : Formula) → has u f → ⊥) → (f : Formula) → IsOfThreshold k text name has us f → ⊥
 absent_counted {name = name} has us {j} {u} k some within at is none f p =
     let c = p.of_counted some within in
-    let g = formula_at true name has us j u c.formulas at is c.of_each in
+    let g = formula_at name has us j u c.formulas at is c.of_each in
     none g.0 g.1
+
+pub absent_found : {U : Type 0} (text : Entry) (name : List ℕ) (has : U → Formula → Type 0) (us : List U) {j : ℕ} {u : U} (k : ℕ) → 1 ≤ k → k ≤ length us → j < length us → u ≡ get_or us j u → (w : Option Bool) (found : Option (Tree CaseNode)) → is_absent w found ≡ true → IsFound (has u) w found → IsFound (IsOfThreshold k text name has us) w None
+absent_found text name has us k some within at is None None e x = absent_counted has us k some within at is x
+absent_found text name has us k some within at is None (Some t) e x = absurd (cc)
+absent_found text name has us k some within at is (Some b) found e x = absurd (cc)
 
 -- ---- the printed text, and that there is one formula
 

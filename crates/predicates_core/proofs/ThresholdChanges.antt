@@ -1,40 +1,30 @@
 -- The cases that show what would turn a threshold, from those of its members.
-use Rattle.std.proofs.Common.{◌≡◌, ℕ, zero, suc, ◌+◌, ◌-◌, ◌≤◌, Bool, true, false, Option, List, [], ◌∷◌, ◌++◌, map, length, take, refl, sym, ap, ◌∙◌, subst, arith, ⊎_elim}
-use Rattle.std.specs.Prelude.{not, Result, IfOk}
-use Rattle.std.proofs.lemmas.List.{map-append}
+use Rattle.std.proofs.Common.{◌≡◌, ◌⊎◌, ℕ, zero, suc, ◌+◌, ◌-◌, ◌<◌, ◌≤◌, Bool, Some, None, get_or, inl, inr, length-append, true, false, Option, List, [], ◌∷◌, ◌++◌, map, length, take, refl, sym, ap, ◌∙◌, subst, arith, ⊎_elim}
+use Rattle.std.specs.Prelude.{not, ◌&&◌, nat_lt, Result, IfOk}
+use Rattle.std.proofs.lemmas.Bool.{cases_lt}
+use Rattle.std.proofs.lemmas.Bool.Decides.{nat_tests}
+use Rattle.std.proofs.lemmas.List.{take_all}
 use Rattle.predicates_core.specs.Label.{Entry, plain}
-use Rattle.predicates_core.specs.Formula.{Formula, Formulas, one, more, AtLeast, number_of_parts, actual_of_parts, truth, size}
-use Rattle.predicates_core.specs.Tree.{Tree, empty, branch, forest, add_last}
-use Rattle.predicates_core.specs.Describe.{CaseNode, NamedCase, with_child}
-use Rattle.predicates_core.specs.Shows.{ShowsPart, ShowsNumbered, IsFound, IsNode}
-use Rattle.predicates_core.specs.ShowsChange.{ShowsChange, ShowsTurned}
+use Rattle.predicates_core.specs.Formula.{Formula, Formulas, one, more, AtLeast, number_of_parts, actual_of_parts, truth, size, HasTruth}
+use Rattle.predicates_core.specs.Tree.{Tree, empty, branch, forest}
+use Rattle.predicates_core.specs.Describe.{CaseNode, NamedCase}
+use Rattle.predicates_core.specs.Shows.{Shows, ShowsPart, ShowsPlaces, ShowsNumbered, with_index, IsFound, IsNode}
 use Rattle.predicates_core.specs.Change.{ExplainsChange, IsChangeOf, IsFoundChange}
+use Rattle.predicates_core.specs.Asked.{is_other}
+use Rattle.predicates_core.specs.Turning.{asks_for, asked_of, IsChangeAsked, IsTurn, told_cases}
+use Rattle.predicates_core.proofs.Found.{truth_of_none}
 use Rattle.predicates_core.specs.Leaves.{IsExactly}
 use Rattle.predicates_core.specs.Several.{AreOfEach}
 use Rattle.predicates_core.specs.Thresholds.{enough_of, IsSettled, settled, IsOfThreshold}
-use Rattle.predicates_core.proofs.Several.{forest-add_last}
 use Rattle.predicates_core.proofs.Numbers.{shifted}
 use Rattle.predicates_core.proofs.Values.{not-not, needed_within}
 use Rattle.predicates_core.proofs.Thresholds.{like, like_both, one_like, none_like, like-one, like-actual, decisive, truth_by_parts}
 use Rattle.predicates_core.proofs.TurnedThresholds.{BringsFirst, brings_none, brings_one, brings_beside, brings_with, threshold_change}
-use Rattle.predicates_core.proofs.ThresholdCases.{Sifted, sifted_nothing, decisive_is}
-use Rattle.predicates_core.proofs.Shown.{left_share-joined, right_share-joined, left_share-shifted, right_share-shifted}
+use Rattle.predicates_core.proofs.ThresholdCases.{Sifted, sifted_nothing, sifted_short, sifted_cases, sifted_passed, sifted_held, sifted_kept, absent_counted, sifted_among, among_like, among_all, among_rest, number_of_each, decisive_is, shows_no_place}
+use Rattle.predicates_core.proofs.Shown.{shows_part, shows_both, shows_right}
 use Rattle.predicates_core.proofs.CombinedLemmas.{node_fits}
-use Rattle.predicates_core.proofs.ChangeCases.{change_numbers, place_turned, shows_no_change, exact_leaf, leaf_found}
+use Rattle.predicates_core.proofs.ChangeCases.{change_numbers, some_change, exact_leaf, leaf_found, change_wanted}
 use Rattle.predicates_core.proofs.Fewer.{found_change_of_fewer}
-
--- one case more
-pub node_more : {text : Entry} {b : Bool} (name : List ℕ) (cs : List (Tree CaseNode)) (c : Tree CaseNode) {t s : Tree CaseNode} → IsNode text b (map (λ z. (name, z)) cs) t → s ≡ with_child t name c → IsNode text b (map (λ z. (name, z)) (cs ++ c ∷ [])) s
-node_more name cs c {t} {s} h e = rw e (record {
-  text = h.text;
-  result = h.result;
-  products = h.products;
-  children = ap (λ f. add_last f name c) h.children ∙ forest-add_last (map (λ z. (name, z)) cs) name c ∙ ap forest (sym (map-append (λ z. (name, z)) cs (c ∷ [])));
-})
-
--- the change of whichever truth it has
-pub own_change : {F : Formula → Type 0} {b : Bool} {c : Tree CaseNode} → c.root.result ≡ b → IsChangeOf F c.root.result c → IsChangeOf F b c
-own_change {F} {b} {c} e x = subst (λ z. IsChangeOf F z c) e x
 
 -- one truth or the other of each part
 like_all : (b : Bool) (fs : Formulas) (w : List Bool) → like b fs w + like (not b) fs w ≡ number_of_parts fs
@@ -46,6 +36,11 @@ decisive_all : (b : Bool) (k : ℕ) (fs : Formulas) → decisive b k fs + decisi
 decisive_all true k fs = let e = needed_within k fs in omega (arith, e)
 decisive_all false k fs = let e = needed_within k fs in omega (arith, e)
 
+-- one more than all members
+enough_both : (b : Bool) (k n : ℕ) → 1 ≤ k → k ≤ n → enough_of b k n + enough_of (not b) k n ≡ suc n
+enough_both true k n some within = omega (arith, some, within)
+enough_both false k n some within = omega (arith, some, within)
+
 module _ (b : Bool) {U : Type 0} (name : List ℕ) (has : U → Formula → Type 0) where
   abbrev pub IsOwnChange : U → Tree CaseNode → Type 0
   IsOwnChange u c = IsChangeOf (has u) b c
@@ -53,100 +48,76 @@ module _ (b : Bool) {U : Type 0} (name : List ℕ) (has : U → Formula → Type
   abbrev named : List (Tree CaseNode) → List NamedCase
   named cs = map (λ c. (name, c)) cs
 
-  -- as many parts have the truth as there are cases
-  sifted_like : (k : ℕ) (us : List U) (fs : Formulas) (cs : List (Tree CaseNode)) → AreOfEach name has us fs → Sifted b has IsOwnChange k us cs → like b fs (actual_of_parts fs) ≡ length cs
-  sifted_like k [] fs cs of s = absurd of
-  sifted_like k (u ∷ us) (one n f) [] of s = like-one b n f ∙ none_like (truth f) b (s.0.at f of.1)
-  sifted_like k (u ∷ us) (one n f) (c ∷ []) of s = ⊎_elim
-      (λ a. absurd (sifted_nothing b has IsOwnChange (suc k) us c [] of.2 a.1))
-      (λ own. like-one b n f ∙ one_like (truth f) b (own.0.2.truth.at f of.1))
-      s
-  sifted_like k (u ∷ us) (one n f) (c ∷ d ∷ cs) of s = ⊎_elim
-      (λ a. absurd (sifted_nothing b has IsOwnChange (suc k) us c (d ∷ cs) of.2 a.1))
-      (λ own. absurd (sifted_nothing b has IsOwnChange (suc k) us d cs of.2 own.1))
-      s
-  sifted_like k (u ∷ us) (more n f fs) [] of s =
-      let e = like-actual b n f fs in
-      let z = none_like (truth f) b (s.0.at f of.1) in
-      let ih = sifted_like (suc k) us fs [] of.2 s.1 in
-      omega (arith, e, z, ih)
-  sifted_like k (u ∷ us) (more n f fs) (c ∷ cs) of s =
-      let e = like-actual b n f fs in
-      ⊎_elim
-      (λ a.
-      let z = none_like (truth f) b (a.0.at f of.1) in
-      let ih = sifted_like (suc k) us fs (c ∷ cs) of.2 a.1 in
-      omega (arith, e, z, ih))
-      (λ own.
-      let o = one_like (truth f) b (own.0.2.truth.at f of.1) in
-      let ih = sifted_like (suc k) us fs cs of.2 own.1 in
-      omega (arith, e, o, ih))
-      s
+  -- just so many parts have the truth
+  sifted_like : (us : List U) (fs : Formulas) (cs : List (Tree CaseNode)) (t : ℕ) → AreOfEach name has us fs → Sifted b has IsOwnChange 0 us cs t → like b fs (actual_of_parts fs) ≡ t
+  sifted_like us fs cs t of s =
+      let short = sifted_short b has IsOwnChange 0 us cs t s in
+      let such = among_like b has name us t fs of (sifted_among b has IsOwnChange 0 us cs t s) in
+      let others = among_like (not b) has name us (length us - t) fs of (among_rest b has IsOwnChange 0 us cs t (length us - t) (omega (arith, short)) s) in
+      let all = like_all b fs (actual_of_parts fs) in
+      let each = number_of_each name has us fs of in
+      omega (arith, short, such, others, all, each)
 
   -- the first n of the cases show leaves that bring n parts more to the other truth
   abbrev IsTurnedBy : ℕ → Formulas → List (Tree CaseNode) → ℕ → Type 0
-  IsTurnedBy k fs cs n = (leaves : List ℕ) × BringsFirst (not b) (like (not b) fs (actual_of_parts fs) + n) fs leaves × ShowsTurned true k fs (forest (named (take n cs))) leaves
+  IsTurnedBy k fs cs n = (leaves : List ℕ) × BringsFirst (not b) (like (not b) fs (actual_of_parts fs) + n) fs leaves × ShowsPlaces k fs (forest (named (take n cs))) leaves
 
-  turned_shown : (k : ℕ) (us : List U) (fs : Formulas) (cs : List (Tree CaseNode)) (n : ℕ) → AreOfEach name has us fs → Sifted b has IsOwnChange k us cs → n ≤ length cs → IsTurnedBy k fs cs n
-  unfolding ShowsChange
-  turned_shown k us fs cs zero of s within = ([], brings_none (not b) _ fs (omega arith), shows_no_change k fs)
-  turned_shown k [] fs cs (suc n) of s within = absurd of
-  turned_shown k (u ∷ us) fs [] (suc n) of s within = absurd (omega (arith, within))
-  turned_shown k (u ∷ us) (one m f) (c ∷ []) (suc zero) of s within = ⊎_elim
-      (λ a. absurd (sifted_nothing b has IsOwnChange (suc k) us c [] of.2 a.1))
+  turned_shown : (k : ℕ) (us : List U) (fs : Formulas) (cs : List (Tree CaseNode)) (t n : ℕ) → AreOfEach name has us fs → Sifted b has IsOwnChange k us cs t → n ≤ length cs → IsTurnedBy k fs cs n
+  unfolding Shows
+  turned_shown k us fs cs t zero of s within = ([], brings_none (not b) _ fs (omega arith), shows_no_place k fs)
+  turned_shown k [] fs cs t (suc n) of s within = absurd of
+  turned_shown k (u ∷ us) fs [] t (suc n) of s within = absurd (omega (arith, within))
+  turned_shown k (u ∷ us) fs (c ∷ cs) zero (suc n) of s within = absurd s
+  turned_shown k (u ∷ us) (one m f) (c ∷ []) (suc t) (suc zero) of s within = ⊎_elim
+      (λ a. absurd (sifted_nothing b has IsOwnChange (suc k) us c [] (suc t) of.2 a.1))
       (λ own.
-      let x = own.0.2.explains f of.1 in
-      let is : truth f ≡ not (not b) = own.0.2.truth.at f of.1 ∙ sym (not-not b) in
+      let x = own.0.1.2.explains f of.1 in
+      let is : truth f ≡ not (not b) = own.0.0.at f of.1 ∙ sym (not-not b) in
       let e = like-one (not b) m f in
       let z = none_like (truth f) (not b) is in
-      let number : 1 ≡ like (not b) (one m f) (actual_of_parts (one m f)) + 1 = omega (arith, e, z) in
-      (x.leaves, subst (λ n. BringsFirst (not b) n (one m f) x.leaves) number (brings_one is x.leaves x.first), place_turned name m f own.0.0 c k empty of.0 own.0.1 x))
+      let number : 1 ≡ like (not b) (one m f) (actual_of_parts (one m f)) + 1 = omega (arith, e, z) in (
+        x.leaves,
+        subst (λ n. BringsFirst (not b) n (one m f) x.leaves) number (brings_one is x.leaves x.first),
+        subst (λ z. ShowsPart (ShowsNumbered k (Shows f)) m x.leaves (branch z c.root c.children empty) empty) of.0 (shows_part (ShowsNumbered k (Shows f)) m empty x.leaves c (some_change f x.leaves x.first) (own.0.1.0, own.0.1.1, x.shown)),
+      ))
       s
-  turned_shown k (u ∷ us) (one m f) (c ∷ []) (suc (suc n)) of s within = absurd (omega (arith, within))
-  turned_shown k (u ∷ us) (one m f) (c ∷ d ∷ cs) (suc n) of s within = ⊎_elim
-      (λ a. absurd (sifted_nothing b has IsOwnChange (suc k) us c (d ∷ cs) of.2 a.1))
-      (λ own. absurd (sifted_nothing b has IsOwnChange (suc k) us d cs of.2 own.1))
+  turned_shown k (u ∷ us) (one m f) (c ∷ []) (suc t) (suc (suc n)) of s within = absurd (omega (arith, within))
+  turned_shown k (u ∷ us) (one m f) (c ∷ d ∷ cs) (suc t) (suc n) of s within = ⊎_elim
+      (λ a. absurd (sifted_nothing b has IsOwnChange (suc k) us c (d ∷ cs) (suc t) of.2 a.1))
+      (λ own. absurd (sifted_nothing b has IsOwnChange (suc k) us d cs t of.2 own.1))
       s
-  turned_shown k (u ∷ us) (more m f fs) (c ∷ cs) (suc n) of s within =
+  turned_shown k (u ∷ us) (more m f fs) (c ∷ cs) (suc t) (suc n) of s within =
       let e = like-actual (not b) m f fs in
       ⊎_elim
       (λ a.
-      let ih = turned_shown (suc k) us fs (c ∷ cs) (suc n) of.2 a.1 within in
+      let ih = turned_shown (suc k) us fs (c ∷ cs) (suc t) (suc n) of.2 a.1 within in
       let children = forest (named (take (suc n) (c ∷ cs))) in
       let is : truth f ≡ not b = a.0.at f of.1 in
       let o = one_like (truth f) (not b) is in
       let number : suc (like (not b) fs (actual_of_parts fs) + suc n) ≡ like (not b) (more m f fs) (actual_of_parts (more m f fs)) + suc n = omega (arith, e, o) in (
         shifted (size f) ih.0,
         subst (λ z. BringsFirst (not b) z (more m f fs) (shifted (size f) ih.0)) number (brings_beside (not b) _ m f fs is ih.0 ih.1),
-        (
-          children,
-          subst (λ z. ShowsPart (ShowsNumbered k (ShowsChange f)) m z children children) (sym (left_share-shifted (size f) ih.0)) refl,
-          subst (ShowsTurned true (suc k) fs children) (sym (right_share-shifted (size f) ih.0)) ih.2,
-        ),
+        shows_right (ShowsNumbered k (Shows f)) m (ShowsPlaces (suc k) fs) (size f) ih.0 children ih.2,
       ))
       (λ own.
-      let x = own.0.2.explains f of.1 in
-      let ih = turned_shown (suc k) us fs cs n of.2 own.1 (omega (arith, within)) in
+      let x = own.0.1.2.explains f of.1 in
+      let ih = turned_shown (suc k) us fs cs t n of.2 own.1 (omega (arith, within)) in
       let children = forest (named (take n cs)) in
-      let numbers = change_numbers f x.leaves x.first in
-      let is : truth f ≡ not (not b) = own.0.2.truth.at f of.1 ∙ sym (not-not b) in
+      let is : truth f ≡ not (not b) = own.0.0.at f of.1 ∙ sym (not-not b) in
       let z = none_like (truth f) (not b) is in
       let number : suc (like (not b) fs (actual_of_parts fs) + n) ≡ like (not b) (more m f fs) (actual_of_parts (more m f fs)) + suc n = omega (arith, e, z) in (
         x.leaves ++ shifted (size f) ih.0,
         subst (λ z. BringsFirst (not b) z (more m f fs) (x.leaves ++ shifted (size f) ih.0)) number (brings_with (not b) _ m f fs is (omega arith) x.leaves ih.0 x.first ih.1),
-        (
-          children,
-          subst (λ z. ShowsPart (ShowsNumbered k (ShowsChange f)) m z (branch name c.root c.children children) children) (sym (left_share-joined 0 (size f) x.leaves ih.0 numbers)) (place_turned name m f own.0.0 c k children of.0 own.0.1 x),
-          subst (ShowsTurned true (suc k) fs children) (sym (right_share-joined 0 (size f) x.leaves ih.0 numbers)) ih.2,
-        ),
+        subst (λ z. ShowsPlaces k (more m f fs) (branch z c.root c.children children) (x.leaves ++ shifted (size f) ih.0)) of.0
+            (shows_both (ShowsNumbered k (Shows f)) m (ShowsPlaces (suc k) fs) (size f) x.leaves ih.0 c children (change_numbers f x.leaves x.first) (some_change f x.leaves x.first) (own.0.1.0, own.0.1.1, x.shown) ih.2),
       ))
       s
 
   -- the node over as many of the cases as turn the whole
-  pub change_of_sifted : {text : Entry} {us : List U} {t : Tree CaseNode} (k : ℕ) (cs : List (Tree CaseNode)) (n : ℕ) → 1 ≤ k → k ≤ length us → Sifted b has IsOwnChange 0 us cs → enough_of b k (length us) ≤ length cs → 1 ≤ enough_of b k (length us) → n ≡ length cs - enough_of b k (length us) + 1 → IsNode text b (named (take n cs)) t → IsChangeOf (IsOfThreshold k text name has us) b t
-  unfolding ShowsChange
-  change_of_sifted {text} {us} {t} k cs n some within s enough least is node =
-      let likes = λ (fs : Formulas) (of : AreOfEach name has us fs). sifted_like 0 us fs cs of s in
+  pub change_of_sifted : {text : Entry} {us : List U} {t : Tree CaseNode} (k : ℕ) (cs : List (Tree CaseNode)) (m n : ℕ) → 1 ≤ k → k ≤ length us → Sifted b has IsOwnChange 0 us cs m → enough_of b k (length us) ≤ m → 1 ≤ enough_of b k (length us) → n ≡ m - enough_of b k (length us) + 1 → n ≤ length cs → IsNode text b (named (take n cs)) t → IsChangeOf (IsOfThreshold k text name has us) b t
+  unfolding Shows
+  change_of_sifted {text} {us} {t} k cs m n some within s enough least is shows node =
+      let likes = λ (fs : Formulas) (of : AreOfEach name has us fs). sifted_like us fs cs m of s in
       let decides = λ (fs : Formulas) (of : AreOfEach name has us fs). decisive_is name has b k us fs of some within in
       let holds = λ (fs : Formulas) (of : AreOfEach name has us fs).
       (let l = likes fs of in let d = decides fs of in truth_by_parts b k (plain text) fs (omega (arith, l, d, enough))) in
@@ -155,7 +126,7 @@ module _ (b : Bool) {U : Type 0} (name : List ℕ) (has : U → Formula → Type
         explains = λ f p.
             let c = p.of_counted some within in
             let fs = c.formulas in
-            let x = turned_shown 0 us fs cs n c.of_each s (omega (arith, is, enough, least)) in
+            let x = turned_shown 0 us fs cs m n c.of_each s shows in
             let l = likes fs c.of_each in
             let d = decides fs c.of_each in
             let all = like_all b fs (actual_of_parts fs) in
@@ -165,9 +136,112 @@ module _ (b : Bool) {U : Type 0} (name : List ℕ) (has : U → Formula → Type
             subst (λ g. ExplainsChange g t) (sym c.is) (record {
               leaves = x.0;
               first = threshold_change (not b) k (plain text) fs turned x.0 (subst (λ m. BringsFirst (not b) m fs x.0) number x.1);
-              shown = (node_fits text b _ _ t node (holds fs c.of_each), subst (λ ch. ShowsTurned true 0 fs ch x.0) (sym node.children) x.2);
+              shown = (node_fits text b _ _ t node (holds fs c.of_each), subst (λ ch. ShowsPlaces 0 fs ch x.0) (sym node.children) x.2);
             });
       }
+
+-- ---- one member more
+
+module _ (b : Bool) {U : Type 0} (name : List ℕ) (has : U → Formula → Type 0) (wanted : Option Bool) (room : ℕ) where
+  -- as many of the cases are kept as may have to be shown
+  pub record IsTurning (us : List U) (cs : List (Tree CaseNode)) (t others : ℕ) : Type 0 where
+    pub are : Sifted b has (IsOwnChange b name has) 0 us cs t
+    pub all : is_other wanted b ≡ false → others < room → (length cs ≡ t) ⊎ (room ≤ length cs)
+
+  pub turning_none : (others : ℕ) → IsTurning [] [] 0 others
+  turning_none others = record { are = tt; all = λ w few. inl refl }
+
+  pub turning_passed : (us : List U) {k : ℕ} {u : U} (cs : List (Tree CaseNode)) (t others fresh : ℕ) → fresh ≡ suc others → k < length us → u ≡ get_or us k u → IsTurning (take k us) cs t others → HasTruth (has u) (not b) → IsTurning (take (k + 1) us) cs t fresh
+  turning_passed us cs t others fresh grown within is s h = record {
+    are = sifted_passed b has (IsOwnChange b name has) us cs t within is s.are h;
+    all = λ w few. s.all w (omega (arith, few, grown));
+  }
+
+  asked_so : (such others : ℕ) → asks_for b wanted room such others ≡ true → (is_other wanted b ≡ false) × (such < room) × (others < room)
+  asked_so such others e = by_tests (is_other wanted b) (nat_lt such room) (nat_lt others room) refl refl refl e
+    where
+      by_tests : (x y z : Bool) → is_other wanted b ≡ x → nat_lt such room ≡ y → nat_lt others room ≡ z → (not x && y && z) ≡ true → (is_other wanted b ≡ false) × (such < room) × (others < room)
+      by_tests false true true ex ey ez h = (ex, grind (arith, nat_tests), grind (arith, nat_tests))
+      by_tests false true false ex ey ez h = absurd (cc)
+      by_tests false false z ex ey ez h = absurd (cc)
+      by_tests true y z ex ey ez h = absurd (cc)
+
+  not_asked : (such others : ℕ) → asks_for b wanted room such others ≡ false → is_other wanted b ≡ false → others < room → room ≤ such
+  not_asked such others e w few = ⊎_elim
+      (λ less. absurd (let x : nat_lt such room ≡ true = grind (arith, nat_tests) in let y : nat_lt others room ≡ true = grind (arith, nat_tests) in never (rw (w, x, y) at e)))
+      (λ enough. enough)
+      (cases_lt such room)
+    where
+      never : true ≡ false → ⊥
+      never e = cc
+
+  pub turning_next : (us : List U) {k : ℕ} {u : U} (cs : List (Tree CaseNode)) (t others fresh : ℕ) (change : Option (Tree CaseNode)) (asks : Bool) → fresh ≡ suc t → k < length us → u ≡ get_or us k u → IsTurning (take k us) cs t others → asks ≡ asks_for b wanted room t others → HasTruth (has u) b → IsChangeAsked asks (has u) b change → IsTurning (take (k + 1) us) (told_cases cs k change) fresh others
+  turning_next us {k} {u} cs t others fresh None false grown within is s e h x = record {
+    are = subst (Sifted b has (IsOwnChange b name has) 0 (take (k + 1) us) cs) (sym grown) (sifted_held b has (IsOwnChange b name has) us cs t within is s.are h);
+    all = λ w few. let full = not_asked t others (sym e) w few in ⊎_elim (λ same. inr (omega (arith, same, full))) (λ plenty. inr plenty) (s.all w few);
+  }
+  turning_next us cs t others fresh None true grown within is s e h x = absurd x
+  turning_next us cs t others fresh (Some c) false grown within is s e h x = absurd x
+  turning_next us {k} {u} cs t others fresh (Some c) true grown within is s e h x =
+      let asked = asked_so t others (sym e) in
+      let short = sifted_cases b has (IsOwnChange b name has) 0 (take k us) cs t s.are in
+      let all : length cs ≡ t = ⊎_elim (λ same. same) (λ plenty. absurd (omega (arith, plenty, short, asked.1))) (s.all asked.0 asked.2) in
+      let longer = length-append cs (with_index k c ∷ []) in
+      record {
+        are = subst (Sifted b has (IsOwnChange b name has) 0 (take (k + 1) us) (cs ++ with_index k c ∷ [])) (sym grown) (sifted_kept b has (IsOwnChange b name has) us cs within is all s.are h x);
+        all = λ w few. inl (omega (arith, longer, all, grown));
+      }
+
+-- what a member with the truth was asked
+pub asked_held : (of_held of_failed : Bool) → asked_of of_held of_failed true ≡ of_held
+asked_held true true = refl
+asked_held true false = refl
+asked_held false true = refl
+asked_held false false = refl
+
+pub asked_failed : (of_held of_failed : Bool) → asked_of of_held of_failed false ≡ of_failed
+asked_failed true true = refl
+asked_failed true false = refl
+asked_failed false true = refl
+asked_failed false false = refl
+
+module _ (b : Bool) {U : Type 0} (name : List ℕ) (has : U → Formula → Type 0) (wanted : Option Bool) where
+  -- the change of the whole, where enough of all members have the truth
+  pub change_of_turning : {text : Entry} (us : List U) (cs : List (Tree CaseNode)) {t : Tree CaseNode} (j such others k n : ℕ) → 1 ≤ k → k ≤ length us → 1 ≤ enough_of b k (length us) → length us ≤ j → such + others ≡ length us → is_other wanted b ≡ false → IsTurning b name has wanted (enough_of (not b) k (length us)) (take j us) cs such others → enough_of b k (length us) ≤ such → n ≡ such - enough_of b k (length us) + 1 → IsNode text b (named b name has (take n cs)) t → IsFoundChange (IsOfThreshold k text name has us) wanted (Some t)
+  change_of_turning {text} us cs {t} j such others k n some within least all sum w s enough is node =
+      let both = enough_both b k (length us) some within in
+      let few : others < enough_of (not b) k (length us) = omega (arith, both, sum, enough) in
+      let shows : n ≤ length cs = ⊎_elim (λ same. omega (arith, same, is, least, enough)) (λ plenty. omega (arith, plenty, is, both, sum, enough)) (s.all w few) in
+      change_wanted wanted (change_of_sifted b name has k cs such n some within (subst (λ z. Sifted b has (IsOwnChange b name has) 0 z cs such) (take_all j us all) s.are) enough least is shows node) w
+
+  -- so many of the members in front have the truth
+  pub truth_of_turning : {text : Entry} (us : List U) (cs : List (Tree CaseNode)) (room j such others k : ℕ) → 1 ≤ k → k ≤ length us → IsTurning b name has wanted room (take j us) cs such others → enough_of b k (length us) ≤ such → HasTruth (IsOfThreshold k text name has us) b
+  truth_of_turning {text} us cs room j such others k some within s enough = record {
+    at = λ f p.
+        let c = p.of_counted some within in
+        let e = decisive_is name has b k us c.formulas c.of_each some within in
+        let h = among_like b has name us such c.formulas c.of_each (among_all b has us j such (sifted_among b has (IsOwnChange b name has) 0 (take j us) cs such s.are)) in
+        ap truth c.is ∙ truth_by_parts b k (plain text) c.formulas (omega (arith, e, h, enough));
+  }
+
+-- where another truth is wanted, too few have this one
+pub other_settled : (o : Bool) (t enough : ℕ) → (o ≡ true → t < enough) → enough ≤ t → o ≡ false
+other_settled true t enough few h = absurd (let l = few refl in omega (arith, l, h))
+other_settled false t enough few h = refl
+
+-- what a member answered
+pub turn_absent : (F : Formula → Type 0) (of_held of_failed a b : Bool) (found : Option (Tree CaseNode)) → IsTurn of_held of_failed F a b found → a ≡ true → (f : Formula) → F f → ⊥
+turn_absent F h f true b found x e = x
+turn_absent F h f false b found x e = absurd (cc)
+
+pub turn_told : {F : Formula → Type 0} (of_held of_failed a b v : Bool) (found : Option (Tree CaseNode)) → IsTurn of_held of_failed F a b found → a ≡ false → b ≡ v → HasTruth F v × IsChangeAsked (asked_of of_held of_failed v) F v found
+turn_told h f true b v found x e same = absurd (cc)
+turn_told {F} h f false b v found x e same = subst (λ z. HasTruth F z × IsChangeAsked (asked_of h f z) F z found) same x
+
+-- there is no formula of a member, and so none of the whole
+pub absent_turn : {U : Type 0} (text : Entry) (name : List ℕ) (has : U → Formula → Type 0) (us : List U) {j : ℕ} {u : U} (k : ℕ) (w : Option Bool) → 1 ≤ k → k ≤ length us → j < length us → u ≡ get_or us j u → ((f : Formula) → has u f → ⊥) → IsFoundChange (IsOfThreshold k text name has us) w None
+absent_turn text name has us k None some within at is none = absent_counted has us k some within at is none
+absent_turn text name has us k (Some e) some within at is none = truth_of_none (absent_counted has us k some within at is none)
 
 -- a whole that is settled is a leaf
 pub settled_change : {U E : Type 0} (text : Entry) (name : List ℕ) (has : U → Formula → Type 0) (us : List U) (k : ℕ) (w : Option Bool) (r : Result (Option (Tree CaseNode)) E) → IsSettled k (length us) → IfOk r (IsFound (IsExactly (settled text k (length us))) w) → IfOk r (IsFoundChange (IsOfThreshold k text name has us) w)

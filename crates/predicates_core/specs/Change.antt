@@ -6,7 +6,7 @@ use Rattle.predicates_core.specs.Formula.{Formula, size, value, actual, truth, H
 use Rattle.predicates_core.specs.Reason.{AreIncreasing, ComesBefore, IsReason}
 use Rattle.predicates_core.specs.Describe.{CaseNode}
 use Rattle.predicates_core.specs.Tree.{Tree}
-use Rattle.predicates_core.specs.ShowsChange.{ShowsChange}
+use Rattle.predicates_core.specs.Shows.{Shows}
 
 -- the valuation with the truth at each of the places turned round
 unfoldable pub turned : List ℕ → List Bool → List Bool
@@ -37,7 +37,7 @@ pub record IsFirstChange (f : Formula) (leaves : List ℕ) : Type 0 where
 pub record ExplainsChange (f : Formula) (t : Tree CaseNode) : Type 0 where
   pub leaves : List ℕ
   pub first : IsFirstChange f leaves
-  pub shown : ShowsChange f t leaves
+  pub shown : Shows f t leaves
 
 -- each formula of F has the truth b, and the case shows what would turn it
 pub record IsChangeOf (F : Formula → Type 0) (b : Bool) (t : Tree CaseNode) : Type 0 where

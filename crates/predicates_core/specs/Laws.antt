@@ -1,12 +1,13 @@
 -- Laws of formulas and of their first reasons.
-use Rattle.std.specs.Prelude.{◌≡◌, ◌≢◌, ℕ, List, [], Bool, cond, Option, Some, None, length}
+use Rattle.std.specs.Prelude.{◌≡◌, ◌≢◌, ℕ, List, [], Bool, true, false, cond, Option, Some, None, length}
 use mathlib.Core.Bool.{beq}
 use Rattle.predicates_core.specs.Describe.{CaseNode}
 use Rattle.predicates_core.specs.Formula.{Formula, Formulas, one, more, Join, AtLeast, needed}
 use Rattle.predicates_core.specs.Formula.{number_of_parts, truth}
 use Rattle.predicates_core.specs.Label.{Label}
 use Rattle.predicates_core.specs.Reason.{IsFirstReason}
-use Rattle.predicates_core.specs.Several.{decided_by}
+use Rattle.predicates_core.specs.declared.custom.join.Operator.{Operator}
+use Rattle.predicates_core.specs.declared.custom.join.Operator.TheVariants.{And, Or}
 use Rattle.predicates_core.specs.Shows.{Explains}
 use Rattle.predicates_core.specs.Thresholds.{enough_of}
 use Rattle.predicates_core.specs.Tree.{Tree, empty, branch, named_trees}
@@ -22,6 +23,11 @@ FirstReasons = (f : Formula) → HasOneFirstReason f
 -- no first reason is empty, so a case shows a leaf at least
 abbrev pub NoneIsEmpty : Type 0
 NoneIsEmpty = (f : Formula) (leaves : List ℕ) → IsFirstReason f leaves → leaves ≢ []
+
+-- the operator by which one part with the truth decides the whole
+abbrev pub decided_by : Bool → Operator
+decided_by true = Or
+decided_by false = And
 
 -- the first part with the truth, if there is one, and its name
 abbrev pub first_with : Bool → Formulas → Option (List ℕ × Formula)

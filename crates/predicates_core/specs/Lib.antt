@@ -10,7 +10,6 @@ pub use Rattle.predicates_reflection.specs.Ownership
 pub mod Formula
 pub mod Reason
 pub mod Shows
-pub mod ShowsChange
 pub mod Change
 pub mod Combined
 pub mod Asked

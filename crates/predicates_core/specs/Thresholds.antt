@@ -12,6 +12,11 @@ abbrev pub enough_of : Bool → ℕ → ℕ → ℕ
 enough_of true k n = k
 enough_of false k n = suc n - k
 
+-- how many of n members have to hold: one, or all
+abbrev pub least_of : Bool → ℕ → ℕ
+least_of true n = 1
+least_of false n = n
+
 -- whatever n parts answer, k of them hold or they do not
 abbrev pub IsSettled : ℕ → ℕ → Type 0
 IsSettled k n = (k ≡ 0) ⊎ (n < k)

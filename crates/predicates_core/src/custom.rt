@@ -14,8 +14,8 @@
 //! let change = join_change(alloc, join, wanted, item)?;
 //! let children = two_children(alloc, &self.left, &self.right)?;
 //!
-//! let holds = members_hold(alloc, &self.part, false, members)?;
-//! let list = Deciding { whole: self, name: "item", decides: false };
+//! let holds = members_hold(alloc, members.len(), &self.part, members)?;
+//! let list = Counting { whole: self, name: "item", least: members.len() };
 //! let case = members_explained(alloc, list, &self.part, wanted, members)?;
 //! let change = members_change(alloc, list, &self.part, wanted, members)?;
 //! ```
@@ -25,14 +25,12 @@ mod children;
 mod detailed_test;
 mod join;
 mod leaf_cases;
-mod list_changes;
 mod members;
 mod named;
 mod not;
 mod parts;
 mod present;
 mod quantifier;
-mod several;
 mod test_predicate;
 mod threshold;
 mod threshold_changes;
@@ -44,20 +42,14 @@ pub use join::{
     Join, Operator, is_other, join_case, join_explained, join_truth, kept_if, shown_verdict,
 };
 pub use leaf_cases::{absent_case, bare_case, showing_case};
-pub use list_changes::{asked_at, first_alone, is_first_passed, next_change};
-pub use members::{
-    members_case, members_change, members_explained, members_hold, members_threshold_case,
-    members_threshold_change, members_threshold_explained, members_threshold_holds,
-};
+pub use members::{members_case, members_change, members_explained, members_hold};
 pub use named::{named_case, named_explained};
 pub use not::{not_case, not_explained, opposite_of};
-pub use parts::{
-    each_child, parts_case, parts_change, parts_explained, parts_hold, threshold_case,
-    threshold_change, threshold_explained, threshold_holds,
-};
+pub use parts::{each_child, parts_case, parts_change, parts_explained, parts_hold};
 pub use present::{present_case, present_change, present_explained, present_holds};
-pub use quantifier::{AtLeastOne, Every, Quantifier};
-pub use several::{Deciding, deciding_case, is_deciding, is_wanted, no_member, with_index};
+pub use quantifier::{AtLeastOne, Every, Quantifier, least_of};
 pub use test_predicate::{Test, TestPredicate, leaf};
-pub use threshold::{Counting, enough_of, is_settled, settled_case};
+pub use threshold::{
+    Counting, enough_of, is_absent, is_settled, node_with, settled_case, with_index,
+};
 pub use threshold_changes::node_of_first;

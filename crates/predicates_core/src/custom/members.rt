@@ -4,13 +4,10 @@ ghost use Rattle.std.specs.Prelude.{ℕ, List, IfOk, IsOk};
 ghost use Rattle.predicates_core.specs.Change.{IsFoundChange};
 ghost use Rattle.predicates_core.specs.Formula.{HasTruth};
 ghost use Rattle.predicates_core.specs.Label.{Entry};
-ghost use Rattle.predicates_core.specs.Several.{IsOfMembers};
 ghost use Rattle.predicates_core.specs.Shows.{IsAnswer, IsFound};
 ghost use Rattle.predicates_core.specs.Thresholds.{IsOfThreshold};
 
 use crate::custom::ask::ByPredicate;
-use crate::custom::list_changes::several_change;
-use crate::custom::several::{Deciding, several_case, several_explained, several_hold};
 use crate::custom::threshold::{Counting, counted_case, counted_explained, counted_hold};
 use crate::custom::threshold_changes::counted_change;
 use crate::reflection::Case;
@@ -18,85 +15,14 @@ use crate::{Predicate, PredicateChange};
 use std::alloc::{AllocError, Global};
 use std::fmt;
 
-/// The `eval` of a predicate of a list that one member with the verdict `decides` decides. It stops
-/// at the first such member.
-///
-/// ```
-/// let even = leaf(MultipleOf { divisor: 2 });
-/// assert!(rt; members_hold(alloc, &even, true, &[1, 4])?); // one that holds suffices
-/// assert!(rt; !members_hold(alloc, &even, false, &[1, 4])?); // each has to hold
-/// ```
-pub fn members_hold<P: Predicate<Item>, Item>(
-    alloc: Global,
-    part: &P,
-    decides: bool,
-    members: &[Item],
-) -> Result<bool, AllocError>
-    requires { P.lawful part.now }
-    ensures truth { IfOk result (λ held. (text : Entry) (name : List ℕ)
-        → HasTruth (IsOfMembers decides text name (P.formula part.now) members.now) held) }
-    ensures infallible { AllByRecursion (P.infallible part.now) members.now → IsOk result }
-{
-    several_hold::<ByPredicate, P, Item>(alloc, part, decides, members)
-}
-
-/// The `find_case` of such a predicate. The node has the case of each member under the name, or
-/// that of the first member that decides, with its number as the product `index`.
-pub fn members_case<W: fmt::Display, P: Predicate<Item>, Item>(
-    alloc: Global,
-    list: Deciding<'_, W>,
-    part: &P,
-    expected: bool,
-    members: &[Item],
-) -> Result<Option<Case>, AllocError>
-    requires { P.lawful part.now }
-    ensures { IfOk result (IsAnswer (IsOfMembers list.entry.decides
-        (W.output list.entry.whole.now) list.entry.name.now
-        (P.formula part.now) members.now) expected) }
-{
-    several_case::<W, ByPredicate, P, Item>(alloc, list, part, expected, members)
-}
-
-/// The `explain` of such a predicate.
-pub fn members_explained<W: fmt::Display, P: Predicate<Item>, Item>(
-    alloc: Global,
-    list: Deciding<'_, W>,
-    part: &P,
-    wanted: Option<bool>,
-    members: &[Item],
-) -> Result<Option<Case>, AllocError>
-    requires { P.lawful part.now }
-    ensures { IfOk result (IsFound (IsOfMembers list.entry.decides
-        (W.output list.entry.whole.now) list.entry.name.now
-        (P.formula part.now) members.now) wanted) }
-{
-    several_explained::<W, ByPredicate, P, Item>(alloc, list, part, wanted, members)
-}
-
-/// The `find_change` of a predicate of a list that one member with the verdict `decides` decides.
-pub fn members_change<W: fmt::Display, P: PredicateChange<Item>, Item>(
-    alloc: Global,
-    list: Deciding<'_, W>,
-    part: &P,
-    wanted: Option<bool>,
-    members: &[Item],
-) -> Result<Option<Case>, AllocError>
-    requires { P.lawful part.now }
-    ensures { IfOk result (IsFoundChange (IsOfMembers list.entry.decides
-        (W.output list.entry.whole.now) list.entry.name.now
-        (P.formula part.now) members.now) wanted) }
-{
-    several_change::<W, ByPredicate, P, Item>(alloc, list, part, wanted, members)
-}
-
 /// The `eval` of a predicate that holds where at least so many of its members do. It stops at the
 /// member that decides.
 ///
 /// ```
 /// let even = leaf(MultipleOf { divisor: 2 });
-/// assert!(rt; members_threshold_holds(alloc, 2, &even, &[1, 2, 4])?);
+/// assert!(rt; members_hold(alloc, 2, &even, &[1, 2, 4])?);
 /// ```
-pub fn members_threshold_holds<P: Predicate<Item>, Item>(
+pub fn members_hold<P: Predicate<Item>, Item>(
     alloc: Global,
     least: usize,
     part: &P,
@@ -112,7 +38,7 @@ pub fn members_threshold_holds<P: Predicate<Item>, Item>(
 
 /// The `find_case` of such a predicate. The node has the cases of the first members that decide,
 /// each under the name.
-pub fn members_threshold_case<W: fmt::Display, P: Predicate<Item>, Item>(
+pub fn members_case<W: fmt::Display, P: Predicate<Item>, Item>(
     alloc: Global,
     list: Counting<'_, W>,
     part: &P,
@@ -128,7 +54,7 @@ pub fn members_threshold_case<W: fmt::Display, P: Predicate<Item>, Item>(
 }
 
 /// The `explain` of such a predicate.
-pub fn members_threshold_explained<W: fmt::Display, P: Predicate<Item>, Item>(
+pub fn members_explained<W: fmt::Display, P: Predicate<Item>, Item>(
     alloc: Global,
     list: Counting<'_, W>,
     part: &P,
@@ -146,7 +72,7 @@ pub fn members_threshold_explained<W: fmt::Display, P: Predicate<Item>, Item>(
 /// The `find_change` of such a predicate. Of the members with the whole's verdict, as many as turn
 /// it are shown, the first ones. Where their number alone decides, no member is asked; otherwise
 /// each is asked once, and memory is taken for every change that is found.
-pub fn members_threshold_change<W: fmt::Display, P: PredicateChange<Item>, Item>(
+pub fn members_change<W: fmt::Display, P: PredicateChange<Item>, Item>(
     alloc: Global,
     list: Counting<'_, W>,
     part: &P,

@@ -5,14 +5,11 @@ ghost use Rattle.predicates_core.specs.Change.{IsFoundChange};
 ghost use Rattle.predicates_core.specs.Formula.{HasTruth};
 ghost use Rattle.predicates_core.specs.Label.{Entry};
 ghost use Rattle.predicates_core.specs.Parts.{FitsParts, part_of_each};
-ghost use Rattle.predicates_core.specs.Several.{IsOfMembers};
 ghost use Rattle.predicates_core.specs.Shows.{IsAnswer, IsFound};
 ghost use Rattle.predicates_core.specs.Thresholds.{IsOfThreshold};
 ghost use Rattle.predicates_core.specs.Tree.{forest};
 
 use crate::custom::ask::OfItem;
-use crate::custom::list_changes::several_change;
-use crate::custom::several::{Deciding, several_case, several_explained, several_hold};
 use crate::custom::threshold::{Counting, counted_case, counted_explained, counted_hold};
 use crate::custom::threshold_changes::counted_change;
 use crate::reflection::{Case, Child, PredicateReflection, describe};
@@ -20,85 +17,14 @@ use crate::{Predicate, PredicateChange};
 use std::alloc::{AllocError, Global};
 use std::fmt;
 
-/// The `eval` of a predicate that one part with the verdict `decides` decides. It stops at the
-/// first such part.
-///
-/// ```
-/// let rules = [predicate::ge(5), predicate::le(10)];
-/// assert!(rt; parts_hold(alloc, &rules, true, &11)?); // one that holds suffices
-/// assert!(rt; !parts_hold(alloc, &rules, false, &11)?); // each has to hold
-/// ```
-pub fn parts_hold<P: Predicate<Item>, Item>(
-    alloc: Global,
-    parts: &[P],
-    decides: bool,
-    item: &Item,
-) -> Result<bool, AllocError>
-    requires { AllByRecursion P.lawful parts.now }
-    ensures truth { IfOk result (λ held. (text : Entry) (name : List ℕ)
-        → HasTruth (IsOfMembers decides text name (λ p. P.formula p item.now) parts.now) held) }
-    ensures infallible { AllByRecursion (λ p. P.infallible p item.now) parts.now → IsOk result }
-{
-    several_hold::<OfItem, Item, P>(alloc, item, decides, parts)
-}
-
-/// The `find_case` of such a predicate. The node has the case of each part under the name, or that
-/// of the first part that decides, with its number as the product `index`.
-pub fn parts_case<W: fmt::Display, P: Predicate<Item>, Item>(
-    alloc: Global,
-    list: Deciding<'_, W>,
-    parts: &[P],
-    expected: bool,
-    item: &Item,
-) -> Result<Option<Case>, AllocError>
-    requires { AllByRecursion P.lawful parts.now }
-    ensures { IfOk result (IsAnswer (IsOfMembers list.entry.decides
-        (W.output list.entry.whole.now) list.entry.name.now
-        (λ p. P.formula p item.now) parts.now) expected) }
-{
-    several_case::<W, OfItem, Item, P>(alloc, list, item, expected, parts)
-}
-
-/// The `explain` of such a predicate.
-pub fn parts_explained<W: fmt::Display, P: Predicate<Item>, Item>(
-    alloc: Global,
-    list: Deciding<'_, W>,
-    parts: &[P],
-    wanted: Option<bool>,
-    item: &Item,
-) -> Result<Option<Case>, AllocError>
-    requires { AllByRecursion P.lawful parts.now }
-    ensures { IfOk result (IsFound (IsOfMembers list.entry.decides
-        (W.output list.entry.whole.now) list.entry.name.now
-        (λ p. P.formula p item.now) parts.now) wanted) }
-{
-    several_explained::<W, OfItem, Item, P>(alloc, list, item, wanted, parts)
-}
-
-/// The `find_change` of a predicate that one part with the verdict `decides` decides.
-pub fn parts_change<W: fmt::Display, P: PredicateChange<Item>, Item>(
-    alloc: Global,
-    list: Deciding<'_, W>,
-    parts: &[P],
-    wanted: Option<bool>,
-    item: &Item,
-) -> Result<Option<Case>, AllocError>
-    requires { AllByRecursion P.lawful parts.now }
-    ensures { IfOk result (IsFoundChange (IsOfMembers list.entry.decides
-        (W.output list.entry.whole.now) list.entry.name.now
-        (λ p. P.formula p item.now) parts.now) wanted) }
-{
-    several_change::<W, OfItem, Item, P>(alloc, list, item, wanted, parts)
-}
-
 /// The `eval` of a predicate that holds where at least so many of its parts do. It stops at the
 /// part that decides.
 ///
 /// ```
 /// let rules = [predicate::ge(5), predicate::le(10), predicate::gt(7)];
-/// assert!(rt; threshold_holds(alloc, 2, &rules, &7)?);
+/// assert!(rt; parts_hold(alloc, 2, &rules, &7)?);
 /// ```
-pub fn threshold_holds<P: Predicate<Item>, Item>(
+pub fn parts_hold<P: Predicate<Item>, Item>(
     alloc: Global,
     least: usize,
     parts: &[P],
@@ -114,7 +40,7 @@ pub fn threshold_holds<P: Predicate<Item>, Item>(
 
 /// The `find_case` of such a predicate. The node has the cases of the first parts that decide, each
 /// under the name.
-pub fn threshold_case<W: fmt::Display, P: Predicate<Item>, Item>(
+pub fn parts_case<W: fmt::Display, P: Predicate<Item>, Item>(
     alloc: Global,
     list: Counting<'_, W>,
     parts: &[P],
@@ -130,7 +56,7 @@ pub fn threshold_case<W: fmt::Display, P: Predicate<Item>, Item>(
 }
 
 /// The `explain` of such a predicate.
-pub fn threshold_explained<W: fmt::Display, P: Predicate<Item>, Item>(
+pub fn parts_explained<W: fmt::Display, P: Predicate<Item>, Item>(
     alloc: Global,
     list: Counting<'_, W>,
     parts: &[P],
@@ -148,7 +74,7 @@ pub fn threshold_explained<W: fmt::Display, P: Predicate<Item>, Item>(
 /// The `find_change` of such a predicate. Of the parts with the whole's verdict, as many as turn it
 /// are shown, the first ones. Where the number alone decides, no part is asked; otherwise each is
 /// asked once, and memory is taken for every change that is found.
-pub fn threshold_change<W: fmt::Display, P: PredicateChange<Item>, Item>(
+pub fn parts_change<W: fmt::Display, P: PredicateChange<Item>, Item>(
     alloc: Global,
     list: Counting<'_, W>,
     parts: &[P],

@@ -1,19 +1,19 @@
 //! Verdicts and cases of a list whose members are each asked, of which at least so many have to
-//! hold.
-ghost use Rattle.std.specs.Prelude.{◌≡◌, ◌≤◌, ℕ, List, None, Some, true, false, codes, IfOk, IsOk};
+//! hold: all of them for `each`, one for `any`.
+ghost use Rattle.std.specs.Prelude.{◌≡◌, ◌≤◌, ℕ, List, Some, true, false, not, codes, IfOk, IsOk};
 ghost use Rattle.std.specs.Prelude.{⊤};
 ghost use Rattle.std.specs.Fmt.{decimal};
 ghost use Rattle.std.specs.List.{AllByRecursion};
 ghost use Rattle.predicates_core.specs.Formula.{Leaf, HasTruth};
 ghost use Rattle.predicates_core.specs.Label.{Entry, showing};
 ghost use Rattle.predicates_core.specs.Leaves.{IsExactly, IsShowing};
+ghost use Rattle.predicates_core.specs.Several.{is_absent, IsNextCase, IsNodeWith};
 ghost use Rattle.predicates_core.specs.Thresholds.{enough_of, IsSettled, settled, IsOfThreshold};
 ghost use Rattle.predicates_core.specs.Shows.{IsAnswer, IsFound};
 
 use crate::custom::ask::Ask;
-use crate::custom::is_other;
-use crate::custom::several::with_index;
-use crate::node::{leaf_node, printed, showing};
+use crate::custom::{is_other, shown_verdict};
+use crate::node::{leaf_node, printed, showing, unary_node};
 use crate::reflection::Case;
 use std::alloc::{AllocError, Global};
 use std::fmt;
@@ -104,7 +104,7 @@ pub(super) fn counted_hold<A: Ask<Common, Member>, Common, Member>(
 }
 
 // The `find_case` of such a predicate. The node has the cases of the first members that decide,
-// each under the name.
+// each under the name. Where one member decides, no other one is asked for its case.
 pub(super) fn counted_case<W: fmt::Display, A: Ask<Common, Member>, Common, Member>(
     alloc: Global,
     list: Counting<'_, W>,
@@ -117,10 +117,12 @@ pub(super) fn counted_case<W: fmt::Display, A: Ask<Common, Member>, Common, Memb
         (W.output list.entry.whole.now) list.entry.name.now
         (A.formula_of common.now) members.now) expected) }
 {
-    if counted_hold::<A, Common, Member>(alloc, list.least, common, members)? != expected {
+    let asking = asking_for(expected, list.least, members.len());
+    if is_other_first::<A, Common, Member>(alloc, asking, list.least, common, expected, members)? {
         return Ok(None);
     }
-    counted_wanted::<W, A, Common, Member>(alloc, list, common, expected, members)
+    let wanted = Some(expected);
+    counted_found::<W, A, Common, Member>(alloc, list, common, asking, wanted, members)
 }
 
 // The `explain` of such a predicate.
@@ -136,88 +138,174 @@ pub(super) fn counted_explained<W: fmt::Display, A: Ask<Common, Member>, Common,
         (W.output list.entry.whole.now) list.entry.name.now
         (A.formula_of common.now) members.now) wanted) }
 {
-    match wanted {
-        Some(expected) => {
-            counted_wanted::<W, A, Common, Member>(alloc, list, common, expected, members)
-        }
-        None => counted_either::<W, A, Common, Member>(alloc, list, common, members),
+    let asking = Asking::ExplainAtOnce;
+    counted_found::<W, A, Common, Member>(alloc, list, common, asking, wanted, members)
+}
+
+// Whether a member is evaluated before it is asked for its case.
+#[derive(Clone, Copy)]
+enum Asking {
+    EvaluateFirst,
+    ExplainAtOnce,
+}
+
+// Where one member decides, each is evaluated first; otherwise the whole is.
+fn asking_for(expected: bool, least: usize, number: usize) -> Asking {
+    let one_decides = if expected { 1 } else { number };
+    if least == one_decides {
+        Asking::EvaluateFirst
+    } else {
+        Asking::ExplainAtOnce
     }
 }
 
-// The case of whichever verdict the whole has. Each member is asked once.
-fn counted_either<W: fmt::Display, A: Ask<Common, Member>, Common, Member>(
+// Whether the whole is known to have another verdict.
+fn is_other_first<A: Ask<Common, Member>, Common, Member>(
+    alloc: Global,
+    asking: Asking,
+    least: usize,
+    common: &Common,
+    expected: bool,
+    members: &[Member],
+) -> Result<bool, AllocError>
+    requires { AllByRecursion (A.lawful_of common.now) members.now }
+    ensures { IfOk result (λ other. other ≡ true → (text : Entry) (name : List ℕ)
+        → HasTruth (IsOfThreshold least text name (A.formula_of common.now) members.now)
+        (not expected)) }
+{
+    match asking {
+        Asking::EvaluateFirst => Ok(false),
+        Asking::ExplainAtOnce => {
+            Ok(counted_hold::<A, Common, Member>(alloc, least, common, members)? != expected)
+        }
+    }
+}
+
+// What is found of a member.
+fn member_found<A: Ask<Common, Member>, Common, Member>(
+    alloc: Global,
+    asking: Asking,
+    common: &Common,
+    wanted: Option<bool>,
+    member: &Member,
+) -> Result<Option<Case>, AllocError>
+    requires { A.lawful_of common.now member.now }
+    ensures { IfOk result (IsFound (A.formula_of common.now member.now) wanted) }
+{
+    match (asking, wanted) {
+        (Asking::EvaluateFirst, Some(expected)) => {
+            if A::eval(alloc, common, member)? != expected {
+                return Ok(None);
+            }
+            A::explain(alloc, common, wanted, member)
+        }
+        (_, _) => A::explain(alloc, common, wanted, member),
+    }
+}
+
+/// Whether nothing was found of a part, whichever its verdict: it has no formula then.
+pub fn is_absent(wanted: Option<bool>, found: &Option<Case>) -> bool
+    ensures { result ≡ is_absent wanted found.now }
+{
+    match (wanted, found) {
+        (None, None) => true,
+        (_, _) => false,
+    }
+}
+
+// The case of the whole, where it has the wanted verdict, or whichever it has. Each member is asked
+// once, until enough of them have a verdict.
+fn counted_found<W: fmt::Display, A: Ask<Common, Member>, Common, Member>(
     alloc: Global,
     list: Counting<'_, W>,
     common: &Common,
+    asking: Asking,
+    wanted: Option<bool>,
     members: &[Member],
 ) -> Result<Option<Case>, AllocError>
     requires { AllByRecursion (A.lawful_of common.now) members.now }
     ensures { IfOk result (IsFound (IsOfThreshold list.entry.least
         (W.output list.entry.whole.now) list.entry.name.now
-        (A.formula_of common.now) members.now) None) }
+        (A.formula_of common.now) members.now) wanted) }
 {
     if is_settled(list.least, members.len()) {
-        return settled_case(alloc, list.whole, list.least, members.len(), None);
+        return settled_case(alloc, list.whole, list.least, members.len(), wanted);
     }
     let most = enough_of(false, list.least, members.len());
-    let mut held_node = leaf_node(alloc, printed(alloc, list.whole)?, true);
-    let mut failed_node = leaf_node(alloc, printed(alloc, list.whole)?, false);
+    let mut held_node: Option<Case> = None;
+    let mut failed_node: Option<Case> = None;
     let mut held = 0usize;
     let mut failed = 0usize;
     for (index, member) in members.iter().enumerate() {
-        let Some(case) = A::explain(alloc, common, None, member)? else {
+        let found = member_found::<A, Common, Member>(alloc, asking, common, wanted, member)?;
+        if is_absent(wanted, &found) {
             return Ok(None);
-        };
-        let holds = case.root().result();
-        let told = with_index(alloc, index, case)?;
-        if holds {
-            held_node = held_node.add_child(list.name, told)?;
+        }
+        if shown_verdict(wanted, &found) {
+            held_node = node_with(alloc, list, true, index, held_node, found)?;
             held += 1;
             if held == list.least {
-                return Ok(Some(held_node));
+                return Ok(held_node);
             }
         } else {
-            failed_node = failed_node.add_child(list.name, told)?;
+            failed_node = node_with(alloc, list, false, index, failed_node, found)?;
             failed += 1;
             if failed == most {
-                return Ok(Some(failed_node));
+                return Ok(failed_node);
             }
         }
     }
     Ok(None)
 }
 
-// The case of a whole that is wanted to have the verdict.
-fn counted_wanted<W: fmt::Display, A: Ask<Common, Member>, Common, Member>(
+/// The node over the cases so far and the case that was found of one more part, which tells its
+/// number. It takes memory for the node, and for the first case its text.
+pub fn node_with<W: fmt::Display>(
     alloc: Global,
     list: Counting<'_, W>,
-    common: &Common,
-    decides: bool,
-    members: &[Member],
+    verdict: bool,
+    index: usize,
+    node: Option<Case>,
+    found: Option<Case>,
 ) -> Result<Option<Case>, AllocError>
-    requires { AllByRecursion (A.lawful_of common.now) members.now }
-    ensures { IfOk result (IsAnswer (IsOfThreshold list.entry.least
-        (W.output list.entry.whole.now) list.entry.name.now
-        (A.formula_of common.now) members.now) decides) }
+    ensures { IfOk result (IsNodeWith verdict (W.output list.entry.whole.now)
+        list.entry.name.now index node found) }
 {
-    if is_settled(list.least, members.len()) {
-        return settled_case(alloc, list.whole, list.least, members.len(), Some(decides));
-    }
-    let enough = enough_of(decides, list.least, members.len());
-    let mut node = leaf_node(alloc, printed(alloc, list.whole)?, decides);
-    let mut kept = 0usize;
-    for (index, member) in members.iter().enumerate() {
-        let Some(case) = A::explain(alloc, common, Some(decides), member)? else {
-            continue;
-        };
-        let told = with_index(alloc, index, case)?;
-        node = node.add_child(list.name, told)?;
-        kept += 1;
-        if kept == enough {
-            return Ok(Some(node));
+    match found {
+        None => Ok(node),
+        Some(case) => {
+            let told = with_index(alloc, index, case)?;
+            Ok(Some(next_case(alloc, list, verdict, node, told)?))
         }
     }
-    Ok(None)
+}
+
+fn next_case<W: fmt::Display>(
+    alloc: Global,
+    list: Counting<'_, W>,
+    verdict: bool,
+    node: Option<Case>,
+    case: Case,
+) -> Result<Case, AllocError>
+    ensures { IfOk result (IsNextCase verdict (W.output list.entry.whole.now)
+        list.entry.name.now case node) }
+{
+    match node {
+        Some(whole) => whole.add_child(list.name, case),
+        None => unary_node(alloc, printed(alloc, list.whole)?, verdict, list.name, case),
+    }
+}
+
+/// The case with a part's number, from 0, as the last of its products, `index`.
+///
+/// ```
+/// let case = with_index(alloc, 2, leaf_node(alloc, "a".to_owned(alloc)?, true))?;
+/// assert!(rt; render(alloc, &case)?.as_str() == "a = true\n  - index: 2\n");
+/// ```
+pub fn with_index(alloc: Global, index: usize, case: Case) -> Result<Case, AllocError>
+    ensures { IfOk result (IsShowing (codes "index") (Some (decimal index)) case) }
+{
+    Ok(showing(case, "index", format!(in alloc; "{index}")?)?)
 }
 
 /// What is found of a whole that is decided whatever its parts answer: a leaf with the whole's text

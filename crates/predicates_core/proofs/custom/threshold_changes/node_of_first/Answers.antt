@@ -1,4 +1,4 @@
-use Rattle.predicates_core.proofs.ThresholdChanges.{node_more}
+use Rattle.predicates_core.proofs.ThresholdCases.{node_more}
 use Rattle.predicates_core.proofs.custom.threshold_changes.node_of_first.Goals as goal
 
 pub loop-case-preserved : goal.loop-case-preserved
