@@ -1,6 +1,6 @@
 -- One product more at the root: the truth and the first reason stay, and the case has the product
 -- too.
-use Rattle.std.proofs.Common.{◌≡◌, refl, sym, ap, ◌∙◌, ℕ, Bool, List, [], ◌∷◌, ◌++◌, Option, Some, None}
+use Rattle.std.proofs.Common.{false, ◌≡◌, refl, sym, ap, ◌∙◌, ℕ, Bool, List, [], ◌∷◌, ◌++◌, Option, Some, None}
 use Rattle.predicates_core.specs.Label.{Label, Entry, Product, Fits, FitsEntry, FitsProducts}
 use Rattle.predicates_core.specs.Formula.{Formula, Leaf, Join, Not, Named, AtLeast, text_of, truth, value, actual, HasTruth, with_product}
 use Rattle.predicates_core.specs.Shows.{FitsNode, Shows, Explains, IsCaseOf, IsFound}
@@ -27,19 +27,19 @@ root_with_product label b b' c p bytes e fits h = record {
   products = fit_last label.products c.root.products p bytes fits h.products;
 }
 
-pub shows_with_product : (f : Formula) (c : Tree CaseNode) (S : List ℕ) (p : Product) (bytes : List ℕ) → Fits p.value bytes → Shows f c S → Shows (with_product f p) (describe.with_product c (p.name, bytes)) S
+pub shows_with_product : (always : Bool) (f : Formula) (c : Tree CaseNode) (S : List ℕ) (p : Product) (bytes : List ℕ) → Fits p.value bytes → Shows always f c S → Shows always (with_product f p) (describe.with_product c (p.name, bytes)) S
 unfolding Shows with_product truth value actual
-shows_with_product (Leaf label t) c S p bytes fits h = (root_with_product label _ _ c p bytes refl fits h.0, h.1, h.2)
-shows_with_product (Join op label fs) c S p bytes fits h = (root_with_product label _ _ c p bytes (with_product_truth (Join op label fs) p) fits h.0, h.1)
-shows_with_product (Not label f) c S p bytes fits h = (root_with_product label _ _ c p bytes (with_product_truth (Not label f) p) fits h.0, h.1)
-shows_with_product (Named label name f) c S p bytes fits h = (root_with_product label _ _ c p bytes (with_product_truth (Named label name f) p) fits h.0, h.1)
-shows_with_product (AtLeast k label fs) c S p bytes fits h = (root_with_product label _ _ c p bytes (with_product_truth (AtLeast k label fs) p) fits h.0, h.1)
+shows_with_product always (Leaf label t) c S p bytes fits h = (root_with_product label _ _ c p bytes refl fits h.0, h.1, h.2)
+shows_with_product always (Join op label fs) c S p bytes fits h = (root_with_product label _ _ c p bytes (with_product_truth (Join op label fs) p) fits h.0, h.1)
+shows_with_product always (Not label f) c S p bytes fits h = (root_with_product label _ _ c p bytes (with_product_truth (Not label f) p) fits h.0, h.1)
+shows_with_product always (Named label name f) c S p bytes fits h = (root_with_product label _ _ c p bytes (with_product_truth (Named label name f) p) fits h.0, h.1)
+shows_with_product always (AtLeast k label fs) c S p bytes fits h = (root_with_product label _ _ c p bytes (with_product_truth (AtLeast k label fs) p) fits h.0, h.1)
 
 explains_with_product : (f : Formula) (c : Tree CaseNode) (p : Product) (bytes : List ℕ) → Fits p.value bytes → Explains f c → Explains (with_product f p) (describe.with_product c (p.name, bytes))
 explains_with_product f c p bytes fits x = record {
   leaves = x.leaves;
   first = first-with_product f p x.leaves x.first;
-  shown = shows_with_product f c x.leaves p bytes fits x.shown;
+  shown = shows_with_product false f c x.leaves p bytes fits x.shown;
 }
 
 -- the text of the root stays

@@ -1,5 +1,5 @@
 -- One product more at the root: the first change stays, and its case has the product too.
-use Rattle.std.proofs.Common.{ℕ, Bool, List, Option, Some, None}
+use Rattle.std.proofs.Common.{ℕ, Bool, true, List, Option, Some, None}
 use Rattle.predicates_core.specs.Label.{Entry, Product, Fits}
 use Rattle.predicates_core.specs.Formula.{Formula, with_product}
 use Rattle.predicates_core.specs.Change.{ExplainsChange, IsChangeOf, IsFoundChange}
@@ -16,7 +16,7 @@ explains_with_product : (f : Formula) (c : Tree CaseNode) (p : Product) (bytes :
 explains_with_product f c p bytes fits x = record {
   leaves = x.leaves;
   first = change-with_product f p x.leaves x.first;
-  shown = shows_with_product f c x.leaves p bytes fits x.shown;
+  shown = shows_with_product true f c x.leaves p bytes fits x.shown;
 }
 
 -- what would turn the whole is what would turn the part

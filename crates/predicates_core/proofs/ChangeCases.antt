@@ -61,7 +61,7 @@ leaf_found w (Err e) leaf x = tt
 -- ---- what is found
 
 pub change_by_result : {F : Formula → Type 0} {b : Bool} {t : Tree CaseNode} → IsChangeOf F b t → IsChangeOf F t.root.result t
-change_by_result {t = t} c = record { truth = record { at = λ f h. sym (result_shown f t (c.explains f h).leaves (c.explains f h).shown) }; explains = c.explains }
+change_by_result {t = t} c = record { truth = record { at = λ f h. sym (result_shown true f t (c.explains f h).leaves (c.explains f h).shown) }; explains = c.explains }
 
 pub change_truth : {F : Formula → Type 0} (w : Option Bool) (found : Found) → IsFoundChange F w found → HasTruth F (shown_verdict w found)
 change_truth (Some e) None x = x
@@ -91,7 +91,7 @@ module _ (inner : Formula) (b : Bool) (t c : Tree CaseNode) where
   not_change text x node e = record {
     leaves = x.leaves;
     first = change-Not (plain text) inner x.leaves x.first;
-    shown = (node_fits text b _ _ t node e, subst (λ ch. ShowsPart (Shows inner) (codes "predicate") x.leaves ch empty) (sym node.children) (shows_part (Shows inner) (codes "predicate") empty x.leaves c (some_change inner x.leaves x.first) x.shown));
+    shown = (node_fits text b _ _ t node e, subst (λ ch. ShowsPart (Shows true inner) (codes "predicate") x.leaves ch empty) (sym node.children) (shows_part (Shows true inner) (codes "predicate") empty x.leaves c (some_change inner x.leaves x.first) x.shown));
   }
 
   pub named_change : (text : Entry) (name : List ℕ) → ExplainsChange inner c → IsNode text b ((name, c) ∷ []) t → truth (Named (plain text) name inner) ≡ b → ExplainsChange (Named (plain text) name inner) t
@@ -99,7 +99,7 @@ module _ (inner : Formula) (b : Bool) (t c : Tree CaseNode) where
   named_change text name x node e = record {
     leaves = x.leaves;
     first = change-Named (plain text) name inner x.leaves x.first;
-    shown = (node_fits text b _ _ t node e, subst (λ ch. ShowsPart (Shows inner) name x.leaves ch empty) (sym node.children) (shows_part (Shows inner) name empty x.leaves c (some_change inner x.leaves x.first) x.shown));
+    shown = (node_fits text b _ _ t node e, subst (λ ch. ShowsPart (Shows true inner) name x.leaves ch empty) (sym node.children) (shows_part (Shows true inner) name empty x.leaves c (some_change inner x.leaves x.first) x.shown));
   }
 
 module _ {part : Formula → Type 0} {b : Bool} {c t : Tree CaseNode} where
@@ -147,7 +147,7 @@ two l r = more (codes "left") l (one (codes "right") r)
 
 -- leaves that are the first change of the join, and that the cases under their names show
 abbrev IsTurnedBelow : Operator → Label → Formulas → List NamedCase → Type 0
-IsTurnedBelow op label fs cases = (leaves : List ℕ) × IsFirstChange (Join op label fs) leaves × ShowsParts fs (forest cases) leaves
+IsTurnedBelow op label fs cases = (leaves : List ℕ) × IsFirstChange (Join op label fs) leaves × ShowsParts true fs (forest cases) leaves
 
 module _ (op : Operator) (label : Label) (l r : Formula) where
   left_below : {c : Tree CaseNode} (x : ExplainsChange l c) → LeftTurns (apply op) (truth l) (truth r) → IsTurnedBelow op label (two l r) ((codes "left", c) ∷ [])
@@ -155,7 +155,7 @@ module _ (op : Operator) (label : Label) (l r : Formula) where
   left_below {c} x t = (
     _,
     left_first (pair_joins op label l r) t x.leaves x.first,
-    shows_left (Shows l) (codes "left") (ShowsParts (one (codes "right") r)) (size l) x.leaves c (change_numbers l x.leaves x.first) (some_change l x.leaves x.first) x.shown refl,
+    shows_left (Shows true l) (codes "left") (ShowsParts true (one (codes "right") r)) (size l) x.leaves c (change_numbers l x.leaves x.first) (some_change l x.leaves x.first) x.shown refl,
   )
 
   right_below : {d : Tree CaseNode} (y : ExplainsChange r d) → RightTurns (apply op) (truth l) (truth r) → IsTurnedBelow op label (two l r) ((codes "right", d) ∷ [])
@@ -163,8 +163,8 @@ module _ (op : Operator) (label : Label) (l r : Formula) where
   right_below {d} y t = (
     _,
     right_first (pair_joins op label l r) t y.leaves y.first,
-    shows_right (Shows l) (codes "left") (ShowsParts (one (codes "right") r)) (size l) y.leaves (branch (codes "right") d.root d.children empty)
-        (shows_part (Shows r) (codes "right") empty y.leaves d (some_change r y.leaves y.first) y.shown),
+    shows_right (Shows true l) (codes "left") (ShowsParts true (one (codes "right") r)) (size l) y.leaves (branch (codes "right") d.root d.children empty)
+        (shows_part (Shows true r) (codes "right") empty y.leaves d (some_change r y.leaves y.first) y.shown),
   )
 
   both_below : {c d : Tree CaseNode} (x : ExplainsChange l c) (y : ExplainsChange r d) → BothTurn (apply op) (truth l) (truth r) → IsTurnedBelow op label (two l r) ((codes "left", c) ∷ (codes "right", d) ∷ [])
@@ -172,8 +172,8 @@ module _ (op : Operator) (label : Label) (l r : Formula) where
   both_below {c} {d} x y t = (
     _,
     both_first (pair_joins op label l r) t x.leaves y.leaves x.first y.first,
-    shows_both (Shows l) (codes "left") (ShowsParts (one (codes "right") r)) (size l) x.leaves y.leaves c (branch (codes "right") d.root d.children empty) (change_numbers l x.leaves x.first) (some_change l x.leaves x.first) x.shown
-        (shows_part (Shows r) (codes "right") empty y.leaves d (some_change r y.leaves y.first) y.shown),
+    shows_both (Shows true l) (codes "left") (ShowsParts true (one (codes "right") r)) (size l) x.leaves y.leaves c (branch (codes "right") d.root d.children empty) (change_numbers l x.leaves x.first) (some_change l x.leaves x.first) x.shown
+        (shows_part (Shows true r) (codes "right") empty y.leaves d (some_change r y.leaves y.first) y.shown),
   )
 
 -- the node fits and its children show the parts
@@ -182,7 +182,7 @@ unfolding Shows
 join_change op fs b t text cases e node x = record {
   leaves = x.0;
   first = x.1;
-  shown = (node_fits text b _ cases t node e, subst (λ ch. ShowsParts fs ch x.0) (sym node.children) x.2);
+  shown = (node_fits text b _ cases t node e, subst (λ ch. ShowsParts true fs ch x.0) (sym node.children) x.2);
 }
 
 module _ (op : Operator) {text : Option (List ℕ)} {left right : Formula → Type 0} {x y e : Bool} {t : Tree CaseNode} {bytes : List ℕ} {cases : List NamedCase} where

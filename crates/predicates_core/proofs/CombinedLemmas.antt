@@ -1,5 +1,5 @@
 -- The truth of a combined formula, and the cases that explain it, from those of its parts.
-use Rattle.std.proofs.Common.{◌≡◌, ℕ, Bool, List, [], ◌∷◌, Option, Some, codes, refl, sym, ap, ◌∙◌, subst}
+use Rattle.std.proofs.Common.{false, ◌≡◌, ℕ, Bool, List, [], ◌∷◌, Option, Some, codes, refl, sym, ap, ◌∙◌, subst}
 use Rattle.std.specs.Prelude.{not}
 use Rattle.predicates_core.specs.Label.{Label, Entry, plain, Fits, FitsEntry, FitsProducts}
 use Rattle.predicates_core.specs.declared.custom.join.Operator.{Operator}
@@ -62,7 +62,7 @@ node_fits text b v parts t h e = record { text = h.text; result = h.result ∙ s
 
 -- leaves that are the first reason of the join, and that the cases under their names show
 abbrev IsShownBelow : Operator → Label → Formulas → List NamedCase → Type 0
-IsShownBelow op label fs cases = (leaves : List ℕ) × IsFirstReason (Join op label fs) leaves × ShowsParts fs (forest cases) leaves
+IsShownBelow op label fs cases = (leaves : List ℕ) × IsFirstReason (Join op label fs) leaves × ShowsParts false fs (forest cases) leaves
 
 abbrev two : Formula → Formula → Formulas
 two l r = more (codes "left") l (one (codes "right") r)
@@ -73,8 +73,8 @@ module _ (op : Operator) (label : Label) (l r : Formula) where
   both_below {c} {d} x y counts = (
     _,
     both_first (pair_joins op label l r) counts x.leaves y.leaves x.first y.first,
-    shows_both (Shows l) (codes "left") (ShowsParts (one (codes "right") r)) (size l) x.leaves y.leaves c (branch (codes "right") d.root d.children empty) (numbers_of l x.leaves x.first) (not_empty l x.leaves x.first) x.shown
-        (shows_part (Shows r) (codes "right") empty y.leaves d (not_empty r y.leaves y.first) y.shown),
+    shows_both (Shows false l) (codes "left") (ShowsParts false (one (codes "right") r)) (size l) x.leaves y.leaves c (branch (codes "right") d.root d.children empty) (numbers_of l x.leaves x.first) (not_empty l x.leaves x.first) x.shown
+        (shows_part (Shows false r) (codes "right") empty y.leaves d (not_empty r y.leaves y.first) y.shown),
   )
 
   left_below : {c : Tree CaseNode} (x : Explains l c) → LeftDecides (apply op) (truth l) (truth r) → IsShownBelow op label (two l r) ((codes "left", c) ∷ [])
@@ -82,7 +82,7 @@ module _ (op : Operator) (label : Label) (l r : Formula) where
   left_below {c} x counts = (
     _,
     left_first (pair_joins op label l r) counts x.leaves x.first,
-    shows_left (Shows l) (codes "left") (ShowsParts (one (codes "right") r)) (size l) x.leaves c (numbers_of l x.leaves x.first) (not_empty l x.leaves x.first) x.shown refl,
+    shows_left (Shows false l) (codes "left") (ShowsParts false (one (codes "right") r)) (size l) x.leaves c (numbers_of l x.leaves x.first) (not_empty l x.leaves x.first) x.shown refl,
   )
 
   right_below : {d : Tree CaseNode} (y : Explains r d) → RightDecides (apply op) (truth l) (truth r) → IsShownBelow op label (two l r) ((codes "right", d) ∷ [])
@@ -90,8 +90,8 @@ module _ (op : Operator) (label : Label) (l r : Formula) where
   right_below {d} y counts = (
     _,
     right_first (pair_joins op label l r) counts y.leaves y.first,
-    shows_right (Shows l) (codes "left") (ShowsParts (one (codes "right") r)) (size l) y.leaves (branch (codes "right") d.root d.children empty)
-        (shows_part (Shows r) (codes "right") empty y.leaves d (not_empty r y.leaves y.first) y.shown),
+    shows_right (Shows false l) (codes "left") (ShowsParts false (one (codes "right") r)) (size l) y.leaves (branch (codes "right") d.root d.children empty)
+        (shows_part (Shows false r) (codes "right") empty y.leaves d (not_empty r y.leaves y.first) y.shown),
   )
 
 -- the node fits and its children show the parts
@@ -100,7 +100,7 @@ unfolding Shows
 explains_join op fs b t text cases e node x = record {
   leaves = x.0;
   first = x.1;
-  shown = (node_fits text b _ cases t node e, subst (λ ch. ShowsParts fs ch x.0) (sym node.children) x.2);
+  shown = (node_fits text b _ cases t node e, subst (λ ch. ShowsParts false fs ch x.0) (sym node.children) x.2);
 }
 
 module _ (inner : Formula) (b : Bool) (t c : Tree CaseNode) where
@@ -109,7 +109,7 @@ module _ (inner : Formula) (b : Bool) (t c : Tree CaseNode) where
   explains_not text x node e = record {
     leaves = x.leaves;
     first = first-Not (plain text) inner x.leaves x.first;
-    shown = (node_fits text b _ _ t node e, subst (λ ch. ShowsPart (Shows inner) (codes "predicate") x.leaves ch empty) (sym node.children) (shows_part (Shows inner) (codes "predicate") empty x.leaves c (not_empty inner x.leaves x.first) x.shown));
+    shown = (node_fits text b _ _ t node e, subst (λ ch. ShowsPart (Shows false inner) (codes "predicate") x.leaves ch empty) (sym node.children) (shows_part (Shows false inner) (codes "predicate") empty x.leaves c (not_empty inner x.leaves x.first) x.shown));
   }
 
   pub explains_named : (name : List ℕ) → Explains inner c → IsNode (Some name) b ((name, c) ∷ []) t → truth (Named (plain (Some name)) name inner) ≡ b → Explains (Named (plain (Some name)) name inner) t
@@ -117,7 +117,7 @@ module _ (inner : Formula) (b : Bool) (t c : Tree CaseNode) where
   explains_named name x node e = record {
     leaves = x.leaves;
     first = first-Named (plain (Some name)) name inner x.leaves x.first;
-    shown = (node_fits (Some name) b _ _ t node e, subst (λ ch. ShowsPart (Shows inner) name x.leaves ch empty) (sym node.children) (shows_part (Shows inner) name empty x.leaves c (not_empty inner x.leaves x.first) x.shown));
+    shown = (node_fits (Some name) b _ _ t node e, subst (λ ch. ShowsPart (Shows false inner) name x.leaves ch empty) (sym node.children) (shows_part (Shows false inner) name empty x.leaves c (not_empty inner x.leaves x.first) x.shown));
   }
 
 -- ---- from the parts' cases to the case of the whole

@@ -29,16 +29,16 @@ pub case_of_none : {F : Formula → Type 0} {b : Bool} {t : Tree CaseNode} → (
 case_of_none none = record { truth = truth_of_none none; explains = λ f h. absurd (none f h) }
 
 -- a case has the truth as its result
-pub result_shown : (f : Formula) (t : Tree CaseNode) (s : List ℕ) → Shows f t s → t.root.result ≡ truth f
+pub result_shown : (always : Bool) (f : Formula) (t : Tree CaseNode) (s : List ℕ) → Shows always f t s → t.root.result ≡ truth f
 unfolding Shows
-result_shown (Leaf label own) t s h = h.0.result ∙ sym (truth-Leaf label own)
-result_shown (Join op label fs) t s h = h.0.result
-result_shown (Not label f) t s h = h.0.result
-result_shown (Named label name f) t s h = h.0.result
-result_shown (AtLeast k label fs) t s h = h.0.result
+result_shown always (Leaf label own) t s h = h.0.result ∙ sym (truth-Leaf label own)
+result_shown always (Join op label fs) t s h = h.0.result
+result_shown always (Not label f) t s h = h.0.result
+result_shown always (Named label name f) t s h = h.0.result
+result_shown always (AtLeast k label fs) t s h = h.0.result
 
 pub case_by_result : {F : Formula → Type 0} {b : Bool} {t : Tree CaseNode} → IsCaseOf F b t → IsCaseOf F t.root.result t
-case_by_result {t = t} c = record { truth = record { at = λ f h. sym (result_shown f t (c.explains f h).leaves (c.explains f h).shown) }; explains = c.explains }
+case_by_result {t = t} c = record { truth = record { at = λ f h. sym (result_shown false f t (c.explains f h).leaves (c.explains f h).shown) }; explains = c.explains }
 
 -- its opposite was asked for, and not found
 pub found_false : {F : Formula → Type 0} (found : Found) → HasTruth F false → IsAnswer F false found → IsFound F None found

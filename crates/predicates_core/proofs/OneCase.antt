@@ -1,12 +1,12 @@
 -- A formula that leaves no entry open has one case alone.
-use Rattle.std.proofs.Common.{◌≡◌, ℕ, suc, List, [], ◌∷◌, Bool, Some, None, refl, sym, ap, subst, ◌∙◌}
+use Rattle.std.proofs.Common.{◌≡◌, ℕ, suc, List, [], ◌∷◌, Bool, false, Some, None, refl, sym, ap, subst, ◌∙◌}
 use Rattle.std.specs.Prelude.{IsSome, codes}
 use Rattle.std.specs.List.{AllByRecursion}
 use Rattle.predicates_core.specs.Tree.{Tree, Forest, branch, empty}
 use Rattle.predicates_core.specs.Describe.{CaseNode, NamedBytes}
 use Rattle.predicates_core.specs.Label.{Label, Product, Entry, Fits, FitsProducts}
-use Rattle.predicates_core.specs.Formula.{Formula, Formulas, one, more, Leaf, Join, Not, Named, AtLeast, size}
-use Rattle.predicates_core.specs.Shows.{FitsNode, ShowsPart, ShowsNumbered, with_index, Shows, ShowsParts, ShowsPlaces, Explains, left_share, right_share}
+use Rattle.predicates_core.specs.Formula.{Formula, Formulas, one, more, Leaf, Join, Not, Named, AtLeast, number_of_parts, needed, size, truth}
+use Rattle.predicates_core.specs.Shows.{FitsNode, ShowsPart, ShowsNumbered, numbered, tells_numbers, Shows, ShowsParts, ShowsPlaces, Explains, left_share, right_share}
 use Rattle.predicates_core.specs.Alike.{IsStated, HasStatedLabels, HaveStatedLabels}
 use Rattle.predicates_core.proofs.FirstReason.{first_unique}
 
@@ -45,8 +45,8 @@ one_part showing name (k ∷ S) x y after_x after_y once e hx hy =
     let first : hx.0 ≡ hy.0 = once (k ∷ S) hx.0 hy.0 hx.2 hy.2 in
     hx.1 ∙ (λ i. branch name (first i).root (first i).children (e i)) ∙ sym hy.1
 
-one_numbered : (k : ℕ) (showing : Tree CaseNode → List ℕ → Type 0) → IsShownOnce showing → IsShownOnce (ShowsNumbered k showing)
-one_numbered k showing once S c d hc hd = hc.1 ∙ ap (with_index k) (once S hc.0 hd.0 hc.2 hd.2) ∙ sym hd.1
+one_numbered : (tells : Bool) (k : ℕ) (showing : Tree CaseNode → List ℕ → Type 0) → IsShownOnce showing → IsShownOnce (ShowsNumbered tells k showing)
+one_numbered tells k showing once S c d hc hd = hc.1 ∙ ap (numbered tells k) (once S hc.0 hd.0 hc.2 hd.2) ∙ sym hd.1
 
 one_tree : (label : Label) (b : Bool) (c d : Tree CaseNode) → IsStated label → FitsNode label b c.root → FitsNode label b d.root → c.children ≡ d.children → c ≡ d
 one_tree label b c d stated hc hd children =
@@ -57,29 +57,29 @@ one_tree label b c d stated hc hd children =
 mutual
   unfolding Shows HasStatedLabels
 
-  one_shown : (f : Formula) → HasStatedLabels f → IsShownOnce (Shows f)
-  one_shown (Leaf label own) stated S c d hc hd = one_tree label _ c d stated hc.0 hd.0 (hc.1 ∙ sym hd.1)
-  one_shown (Join op label fs) stated S c d hc hd =
-      one_tree label _ c d stated.0 hc.0 hd.0 (one_list_of_parts fs stated.1 S c.children d.children hc.1 hd.1)
-  one_shown (Not label f) stated S c d hc hd =
-      one_tree label _ c d stated.0 hc.0 hd.0 (one_part (Shows f) (codes "predicate") S c.children d.children empty empty (one_shown f stated.1) refl hc.1 hd.1)
-  one_shown (Named label name f) stated S c d hc hd =
-      one_tree label _ c d stated.0 hc.0 hd.0 (one_part (Shows f) name S c.children d.children empty empty (one_shown f stated.1) refl hc.1 hd.1)
-  one_shown (AtLeast k label fs) stated S c d hc hd =
-      one_tree label _ c d stated.0 hc.0 hd.0 (one_list_of_places 0 fs stated.1 S c.children d.children hc.1 hd.1)
+  one_shown : (always : Bool) (f : Formula) → HasStatedLabels f → IsShownOnce (Shows always f)
+  one_shown always (Leaf label own) stated S c d hc hd = one_tree label _ c d stated hc.0 hd.0 (hc.1 ∙ sym hd.1)
+  one_shown always (Join op label fs) stated S c d hc hd =
+      one_tree label _ c d stated.0 hc.0 hd.0 (one_list_of_parts always fs stated.1 S c.children d.children hc.1 hd.1)
+  one_shown always (Not label f) stated S c d hc hd =
+      one_tree label _ c d stated.0 hc.0 hd.0 (one_part (Shows always f) (codes "predicate") S c.children d.children empty empty (one_shown always f stated.1) refl hc.1 hd.1)
+  one_shown always (Named label name f) stated S c d hc hd =
+      one_tree label _ c d stated.0 hc.0 hd.0 (one_part (Shows always f) name S c.children d.children empty empty (one_shown always f stated.1) refl hc.1 hd.1)
+  one_shown always (AtLeast k label fs) stated S c d hc hd =
+      one_tree label _ c d stated.0 hc.0 hd.0 (one_list_of_places always (tells_numbers always (truth (AtLeast k label fs)) (needed k fs) (number_of_parts fs)) 0 fs stated.1 S c.children d.children hc.1 hd.1)
 
-  one_list_of_parts : (fs : Formulas) → HaveStatedLabels fs → (S : List ℕ) (x y : Forest CaseNode) → ShowsParts fs x S → ShowsParts fs y S → x ≡ y
-  one_list_of_parts (one name f) stated S x y hx hy = one_part (Shows f) name S x y empty empty (one_shown f stated) refl hx hy
-  one_list_of_parts (more name f fs) stated S x y hx hy =
-      let rests : hx.0 ≡ hy.0 = one_list_of_parts fs stated.1 (right_share (size f) S) hx.0 hy.0 hx.2 hy.2 in
-      one_part (Shows f) name (left_share (size f) S) x y hx.0 hy.0 (one_shown f stated.0) rests hx.1 hy.1
+  one_list_of_parts : (always : Bool) (fs : Formulas) → HaveStatedLabels fs → (S : List ℕ) (x y : Forest CaseNode) → ShowsParts always fs x S → ShowsParts always fs y S → x ≡ y
+  one_list_of_parts always (one name f) stated S x y hx hy = one_part (Shows always f) name S x y empty empty (one_shown always f stated) refl hx hy
+  one_list_of_parts always (more name f fs) stated S x y hx hy =
+      let rests : hx.0 ≡ hy.0 = one_list_of_parts always fs stated.1 (right_share (size f) S) hx.0 hy.0 hx.2 hy.2 in
+      one_part (Shows always f) name (left_share (size f) S) x y hx.0 hy.0 (one_shown always f stated.0) rests hx.1 hy.1
 
-  one_list_of_places : (k : ℕ) (fs : Formulas) → HaveStatedLabels fs → (S : List ℕ) (x y : Forest CaseNode) → ShowsPlaces k fs x S → ShowsPlaces k fs y S → x ≡ y
-  one_list_of_places k (one name f) stated S x y hx hy = one_part (ShowsNumbered k (Shows f)) name S x y empty empty (one_numbered k (Shows f) (one_shown f stated)) refl hx hy
-  one_list_of_places k (more name f fs) stated S x y hx hy =
-      let rests : hx.0 ≡ hy.0 = one_list_of_places (suc k) fs stated.1 (right_share (size f) S) hx.0 hy.0 hx.2 hy.2 in
-      one_part (ShowsNumbered k (Shows f)) name (left_share (size f) S) x y hx.0 hy.0 (one_numbered k (Shows f) (one_shown f stated.0)) rests hx.1 hy.1
+  one_list_of_places : (always tells : Bool) (k : ℕ) (fs : Formulas) → HaveStatedLabels fs → (S : List ℕ) (x y : Forest CaseNode) → ShowsPlaces always tells k fs x S → ShowsPlaces always tells k fs y S → x ≡ y
+  one_list_of_places always tells k (one name f) stated S x y hx hy = one_part (ShowsNumbered tells k (Shows always f)) name S x y empty empty (one_numbered tells k (Shows always f) (one_shown always f stated)) refl hx hy
+  one_list_of_places always tells k (more name f fs) stated S x y hx hy =
+      let rests : hx.0 ≡ hy.0 = one_list_of_places always tells (suc k) fs stated.1 (right_share (size f) S) hx.0 hy.0 hx.2 hy.2 in
+      one_part (ShowsNumbered tells k (Shows always f)) name (left_share (size f) S) x y hx.0 hy.0 (one_numbered tells k (Shows always f) (one_shown always f stated.0)) rests hx.1 hy.1
 
 -- two cases that explain the formula are equal
 pub one_case : (f : Formula) (c d : Tree CaseNode) → HasStatedLabels f → Explains f c → Explains f d → c ≡ d
-one_case f c d stated x y = one_shown f stated y.leaves c d (subst (λ S. Shows f c S) (first_unique f x.leaves y.leaves x.first y.first) x.shown) y.shown
+one_case f c d stated x y = one_shown false f stated y.leaves c d (subst (λ S. Shows false f c S) (first_unique f x.leaves y.leaves x.first y.first) x.shown) y.shown

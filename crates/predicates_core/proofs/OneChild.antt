@@ -43,13 +43,13 @@ same_or_opposite false true = inr refl
 same_or_opposite false false = inl refl
 
 -- without a share no part is shown
-none_shown : (fs : Formulas) (x : Forest CaseNode) → ShowsParts fs x [] → x ≡ empty
+none_shown : (fs : Formulas) (x : Forest CaseNode) → ShowsParts false fs x [] → x ≡ empty
 unfolding Shows left_share right_share
 none_shown (one n f) x h = h
 none_shown (more n f fs) x h = h.1 ∙ none_shown fs h.0 h.2
 
 -- a part with a share is shown
-part_shown : (f : Formula) (name S : List ℕ) (x rest : Forest CaseNode) → IsNonempty S → ShowsPart (Shows f) name S x rest → (c : Tree CaseNode) × (x ≡ branch name c.root c.children rest) × Shows f c S
+part_shown : (f : Formula) (name S : List ℕ) (x rest : Forest CaseNode) → IsNonempty S → ShowsPart (Shows false f) name S x rest → (c : Tree CaseNode) × (x ≡ branch name c.root c.children rest) × Shows false f c S
 part_shown f name [] x rest some h = absurd some
 part_shown f name (k ∷ ks) x rest some h = h
 
@@ -59,32 +59,32 @@ later b name f fs o d e = rw (d, not_itself b) e
 abbrev IsAlone : Bool → Formulas → Forest CaseNode → Type 0
 IsAlone b fs x = (name : List ℕ) × (f : Formula) × (c : Tree CaseNode) × (first_with b fs ≡ Some (name, f)) × (x ≡ branch name c.root c.children empty) × Explains f c
 
-alone : (b : Bool) (fs : Formulas) (name : List ℕ) (f : Formula) (S : List ℕ) (x : Forest CaseNode) → first_with b fs ≡ Some (name, f) → IsFirstReason f S → ShowsPart (Shows f) name S x empty → IsAlone b fs x
+alone : (b : Bool) (fs : Formulas) (name : List ℕ) (f : Formula) (S : List ℕ) (x : Forest CaseNode) → first_with b fs ≡ Some (name, f) → IsFirstReason f S → ShowsPart (Shows false f) name S x empty → IsAlone b fs x
 alone b fs name f S x is first h =
     let shown = part_shown f name S x empty (not_empty f S first) h in
     (name, f, shown.0, is, shown.1, record { leaves = S; first = first; shown = shown.2 })
 
 module _ (decides : Bool) (label : Label) where
   abbrev IsShownAlone : Formulas → Type 0
-  IsShownAlone fs = (S : List ℕ) (x : Forest CaseNode) → truth (Join (decided_by decides) label fs) ≡ decides → IsFirstReason (Join (decided_by decides) label fs) S → ShowsParts fs x S → IsAlone decides fs x
+  IsShownAlone fs = (S : List ℕ) (x : Forest CaseNode) → truth (Join (decided_by decides) label fs) ≡ decides → IsFirstReason (Join (decided_by decides) label fs) S → ShowsParts false fs x S → IsAlone decides fs x
 
   of_more : (n : List ℕ) (f : Formula) (fs : Formulas) → IsShownAlone fs → (truth f ≡ decides) ⊎ (truth f ≡ not decides) → IsShownAlone (more n f fs)
   unfolding Shows
   of_more n f fs below (inl d) S x e first h =
       let r = first_reasons f in
       let by_left : IsFirstReason (Join (decided_by decides) label (more n f fs)) r.0 = left_first (joins (decided_by decides) label n f fs) (rw d (left_whatever (decided decides).left)) r.0 r.1 in
-      let shown : ShowsParts (more n f fs) x r.0 = subst (ShowsParts (more n f fs) x) (first_unique _ S r.0 first by_left) h in
+      let shown : ShowsParts false (more n f fs) x r.0 = subst (ShowsParts false (more n f fs) x) (first_unique _ S r.0 first by_left) h in
       let numbers = numbers_of f r.0 r.1 in
-      let rest : shown.0 ≡ empty = none_shown fs shown.0 (subst (ShowsParts fs shown.0) (right_share-alone (size f) r.0 numbers) shown.2) in
-      alone decides (more n f fs) n f r.0 x (rw (d, itself decides) refl) r.1 (subst (ShowsPart (Shows f) n r.0 x) rest (subst (λ s. ShowsPart (Shows f) n s x shown.0) (left_share-alone (size f) r.0 numbers) shown.1))
+      let rest : shown.0 ≡ empty = none_shown fs shown.0 (subst (ShowsParts false fs shown.0) (right_share-alone (size f) r.0 numbers) shown.2) in
+      alone decides (more n f fs) n f r.0 x (rw (d, itself decides) refl) r.1 (subst (ShowsPart (Shows false f) n r.0 x) rest (subst (λ s. ShowsPart (Shows false f) n s x shown.0) (left_share-alone (size f) r.0 numbers) shown.1))
   of_more n f fs below (inr d) S x e first h =
       let others : truth (Join (decided_by decides) label fs) ≡ decides =
       sym ((decided decides).passes _) ∙ ap (λ z. apply (decided_by decides) z (truth (Join (decided_by decides) label fs))) (sym d) ∙ sym (truth-more (decided_by decides) label n f fs) ∙ e in
       let r = first_reasons (Join (decided_by decides) label fs) in
       let by_right : IsFirstReason (Join (decided_by decides) label (more n f fs)) (shifted (size f) r.0) = right_first (joins (decided_by decides) label n f fs) (rw (d, others) (decided decides).right) r.0 r.1 in
-      let shown : ShowsParts (more n f fs) x (shifted (size f) r.0) = subst (ShowsParts (more n f fs) x) (first_unique _ S (shifted (size f) r.0) first by_right) h in
-      let same : x ≡ shown.0 = subst (λ s. ShowsPart (Shows f) n s x shown.0) (left_share-shifted (size f) r.0) shown.1 in
-      let found = below r.0 shown.0 others r.1 (subst (ShowsParts fs shown.0) (right_share-shifted (size f) r.0) shown.2) in
+      let shown : ShowsParts false (more n f fs) x (shifted (size f) r.0) = subst (ShowsParts false (more n f fs) x) (first_unique _ S (shifted (size f) r.0) first by_right) h in
+      let same : x ≡ shown.0 = subst (λ s. ShowsPart (Shows false f) n s x shown.0) (left_share-shifted (size f) r.0) shown.1 in
+      let found = below r.0 shown.0 others r.1 (subst (ShowsParts false fs shown.0) (right_share-shifted (size f) r.0) shown.2) in
       (found.0, found.1, found.2, later decides n f fs (Some (found.0, found.1)) d found.3, same ∙ found.4, found.5)
 
   first_alone : (fs : Formulas) → IsShownAlone fs

@@ -8,14 +8,14 @@ use Rattle.std.proofs.lemmas.Bool.Decides.{nat_tests}
 use Rattle.std.proofs.lemmas.List.{take-append-drop, length-take-le, take_more, take_all, map-append}
 use mathlib.Core.Bool.{beq}
 use Rattle.predicates_core.specs.Label.{Entry, plain, FitsEntry}
-use Rattle.predicates_core.specs.Formula.{Formula, Formulas, one, more, AtLeast, number_of_parts, needed, actual_of_parts, truth, size, text_of, HasTruth}
+use Rattle.predicates_core.specs.Formula.{Formula, Formulas, one, more, AtLeast, number_of_parts, needed, enough_of, actual_of_parts, truth, size, text_of, HasTruth}
 use Rattle.predicates_core.specs.Tree.{Tree, Forest, empty, branch, forest, add_last}
 use Rattle.predicates_core.specs.Describe.{CaseNode, with_child}
-use Rattle.predicates_core.specs.Shows.{ShowsPart, ShowsNumbered, with_index, left_share, right_share, Shows, ShowsPlaces, Explains, IsCaseOf, IsAnswer, IsFound, IsNode}
+use Rattle.predicates_core.specs.Shows.{ShowsPart, ShowsNumbered, numbered, tells_numbers, left_share, right_share, Shows, ShowsPlaces, Explains, IsCaseOf, IsAnswer, IsFound, IsNode}
 use Rattle.predicates_core.specs.Leaves.{IsExactly}
 use Rattle.predicates_core.specs.Asked.{shown_verdict}
 use Rattle.predicates_core.specs.Several.{AreOfEach, formulas_of, is_absent, IsNextCase, IsNodeWith}
-use Rattle.predicates_core.specs.Thresholds.{enough_of, IsSettled, settled, IsOfThreshold, threshold_formula}
+use Rattle.predicates_core.specs.Thresholds.{IsSettled, settled, IsOfThreshold, threshold_formula}
 use Rattle.predicates_core.specs.LeafLaws.{exactly_text_fits, one_exactly, fits_itself}
 use Rattle.predicates_core.proofs.Numbers.{shifted, equal_at_itself}
 use Rattle.predicates_core.proofs.Joins.{length-actual_of_parts}
@@ -47,15 +47,15 @@ module _ {U : Type 0} (name : List ℕ) (has : U → Formula → Type 0) where
       let n = needed_is k fs some (omega (arith, within, e)) in
       omega (arith, e, n)
 
--- a formula that is shown under its own name is shown under the name, with its number
-place_shown : (name n : List ℕ) (f : Formula) (c d : Tree CaseNode) (k : ℕ) (rest : Forest CaseNode) → n ≡ name → d ≡ with_index k c → (x : Explains f c) → ShowsPart (ShowsNumbered k (Shows f)) n x.leaves (branch name d.root d.children rest) rest
-place_shown name n f c d k rest e told x = subst (λ z. ShowsPart (ShowsNumbered k (Shows f)) n x.leaves (branch z d.root d.children rest) rest) e (shows_part (ShowsNumbered k (Shows f)) n rest x.leaves d (not_empty f x.leaves x.first) (c, told, x.shown))
+-- a formula that is shown under its own name is shown under the name, with its number where it is told
+place_shown : (tells : Bool) (name n : List ℕ) (f : Formula) (c d : Tree CaseNode) (k : ℕ) (rest : Forest CaseNode) → n ≡ name → d ≡ numbered tells k c → (x : Explains f c) → ShowsPart (ShowsNumbered tells k (Shows false f)) n x.leaves (branch name d.root d.children rest) rest
+place_shown tells name n f c d k rest e told x = subst (λ z. ShowsPart (ShowsNumbered tells k (Shows false f)) n x.leaves (branch z d.root d.children rest) rest) e (shows_part (ShowsNumbered tells k (Shows false f)) n rest x.leaves d (not_empty f x.leaves x.first) (c, told, x.shown))
 
 -- none of the formulas is shown where none has a share
-pub shows_no_place : (k : ℕ) (fs : Formulas) → ShowsPlaces k fs empty []
+pub shows_no_place : (always tells : Bool) (k : ℕ) (fs : Formulas) → ShowsPlaces always tells k fs empty []
 unfolding Shows left_share right_share
-shows_no_place k (one name f) = refl
-shows_no_place k (more name f fs) = (empty, refl, shows_no_place (suc k) fs)
+shows_no_place always tells k (one name f) = refl
+shows_no_place always tells k (more name f fs) = (empty, refl, shows_no_place always tells (suc k) fs)
 
 never_opposite : (a : Bool) → beq a (not a) ≡ true → ⊥
 never_opposite true e = cc
@@ -151,22 +151,18 @@ module _ (b : Bool) {U : Type 0} (has : U → Formula → Type 0) where
 
   -- ---- the members with the truth, and the cases of the first of them
 
-  -- the case tells the member's number
-  abbrev pub IsNumbered : (U → Tree CaseNode → Type 0) → ℕ → U → Tree CaseNode → Type 0
-  IsNumbered of_member k u d = HasTruth (has u) b × ((c : Tree CaseNode) × (d ≡ with_index k c) × of_member u c)
-
   -- t of the members have the truth, and the others do not; the cases are those of the first of them,
   -- in order; the first member has the number k
-  abbrev pub Sifted : (U → Tree CaseNode → Type 0) → ℕ → List U → List (Tree CaseNode) → ℕ → Type 0
+  abbrev pub Sifted : (ℕ → U → Tree CaseNode → Type 0) → ℕ → List U → List (Tree CaseNode) → ℕ → Type 0
   Sifted of_member k [] [] zero = Unit {0}
   Sifted of_member k [] [] (suc t) = ⊥
   Sifted of_member k [] (c ∷ cs) t = ⊥
   Sifted of_member k (u ∷ us) [] zero = HasTruth (has u) (not b) × Sifted of_member (suc k) us [] zero
   Sifted of_member k (u ∷ us) [] (suc t) = (HasTruth (has u) (not b) × Sifted of_member (suc k) us [] (suc t)) ⊎ (HasTruth (has u) b × Sifted of_member (suc k) us [] t)
   Sifted of_member k (u ∷ us) (c ∷ cs) zero = ⊥
-  Sifted of_member k (u ∷ us) (c ∷ cs) (suc t) = (HasTruth (has u) (not b) × Sifted of_member (suc k) us (c ∷ cs) (suc t)) ⊎ (IsNumbered of_member k u c × Sifted of_member (suc k) us cs t)
+  Sifted of_member k (u ∷ us) (c ∷ cs) (suc t) = (HasTruth (has u) (not b) × Sifted of_member (suc k) us (c ∷ cs) (suc t)) ⊎ ((HasTruth (has u) b × of_member k u c) × Sifted of_member (suc k) us cs t)
 
-  module _ (of_member : U → Tree CaseNode → Type 0) where
+  module _ (of_member : ℕ → U → Tree CaseNode → Type 0) where
     sifted_last : (k : ℕ) (us : List U) (cs : List (Tree CaseNode)) (t : ℕ) (u : U) → Sifted of_member k us cs t → HasTruth (has u) (not b) → Sifted of_member k (us ++ u ∷ []) cs t
     sifted_last k [] [] zero u s h = (h, tt)
     sifted_last k [] [] (suc t) u s h = absurd s
@@ -187,16 +183,16 @@ module _ (b : Bool) {U : Type 0} (has : U → Formula → Type 0) where
     sifted_counted k (v ∷ us) (c ∷ cs) (suc t) u s h = ⊎_elim (λ a. inl (a.0, sifted_counted (suc k) us (c ∷ cs) (suc t) u a.1 h)) (λ x. inr (x.0, sifted_counted (suc k) us cs t u x.1 h)) s
 
     -- one more has the truth, and all before it have their cases
-    sifted_one_more : (k : ℕ) (us : List U) (cs : List (Tree CaseNode)) (t : ℕ) (u : U) (d : Tree CaseNode) → length cs ≡ t → Sifted of_member k us cs t → IsNumbered of_member (k + length us) u d → Sifted of_member k (us ++ u ∷ []) (cs ++ d ∷ []) (suc t)
-    sifted_one_more k [] [] zero u d e s h = inr (subst (λ n. IsNumbered of_member n u d) (omega arith) h, tt)
+    sifted_one_more : (k : ℕ) (us : List U) (cs : List (Tree CaseNode)) (t : ℕ) (u : U) (d : Tree CaseNode) → length cs ≡ t → Sifted of_member k us cs t → HasTruth (has u) b × of_member (k + length us) u d → Sifted of_member k (us ++ u ∷ []) (cs ++ d ∷ []) (suc t)
+    sifted_one_more k [] [] zero u d e s h = inr (subst (λ n. HasTruth (has u) b × of_member n u d) (omega arith) h, tt)
     sifted_one_more k [] [] (suc t) u d e s h = absurd s
     sifted_one_more k [] (c ∷ cs) t u d e s h = absurd s
-    sifted_one_more k (v ∷ us) [] zero u d e s h = inl (s.0, sifted_one_more (suc k) us [] zero u d refl s.1 (subst (λ n. IsNumbered of_member n u d) (omega arith) h))
+    sifted_one_more k (v ∷ us) [] zero u d e s h = inl (s.0, sifted_one_more (suc k) us [] zero u d refl s.1 (subst (λ n. HasTruth (has u) b × of_member n u d) (omega arith) h))
     sifted_one_more k (v ∷ us) [] (suc t) u d e s h = absurd (omega (arith, e))
     sifted_one_more k (v ∷ us) (c ∷ cs) zero u d e s h = absurd s
     sifted_one_more k (v ∷ us) (c ∷ cs) (suc t) u d e s h = ⊎_elim
-        (λ a. inl (a.0, sifted_one_more (suc k) us (c ∷ cs) (suc t) u d e a.1 (subst (λ n. IsNumbered of_member n u d) (omega arith) h)))
-        (λ x. inr (x.0, sifted_one_more (suc k) us cs t u d (omega (arith, e)) x.1 (subst (λ n. IsNumbered of_member n u d) (omega arith) h)))
+        (λ a. inl (a.0, sifted_one_more (suc k) us (c ∷ cs) (suc t) u d e a.1 (subst (λ n. HasTruth (has u) b × of_member n u d) (omega arith) h)))
+        (λ x. inr (x.0, sifted_one_more (suc k) us cs t u d (omega (arith, e)) x.1 (subst (λ n. HasTruth (has u) b × of_member n u d) (omega arith) h)))
         s
 
     -- as many members have the truth
@@ -241,10 +237,10 @@ module _ (b : Bool) {U : Type 0} (has : U → Formula → Type 0) where
     pub sifted_held : (us : List U) {k : ℕ} {u : U} (cs : List (Tree CaseNode)) (t : ℕ) → k < length us → u ≡ get_or us k u → Sifted of_member 0 (take k us) cs t → HasTruth (has u) b → Sifted of_member 0 (take (k + 1) us) cs (suc t)
     sifted_held us {k} {u} cs t within is s h = subst (λ z. Sifted of_member 0 z cs (suc t)) (ap (λ z. take k us ++ z ∷ []) is ∙ sym (take_more us k u within)) (sifted_counted 0 (take k us) cs t u s h)
 
-    pub sifted_kept : (us : List U) {k t : ℕ} {u : U} {c : Tree CaseNode} (cs : List (Tree CaseNode)) → k < length us → u ≡ get_or us k u → length cs ≡ t → Sifted of_member 0 (take k us) cs t → HasTruth (has u) b → of_member u c → Sifted of_member 0 (take (k + 1) us) (cs ++ with_index k c ∷ []) (suc t)
-    sifted_kept us {k} {t} {u} {c} cs within is all s h of_c =
+    pub sifted_kept : (us : List U) {k t : ℕ} {u : U} {d : Tree CaseNode} (cs : List (Tree CaseNode)) → k < length us → u ≡ get_or us k u → length cs ≡ t → Sifted of_member 0 (take k us) cs t → HasTruth (has u) b → of_member k u d → Sifted of_member 0 (take (k + 1) us) (cs ++ d ∷ []) (suc t)
+    sifted_kept us {k} {t} {u} {d} cs within is all s h of_c =
         let at : 0 + length (take k us) ≡ k = omega (arith, length-take-le k us (omega (arith, within))) in
-        subst (λ z. Sifted of_member 0 z (cs ++ with_index k c ∷ []) (suc t)) (ap (λ z. take k us ++ z ∷ []) is ∙ sym (take_more us k u within)) (sifted_one_more 0 (take k us) cs t u (with_index k c) all s (h, (c, ap (λ n. with_index n c) (sym at), of_c)))
+        subst (λ z. Sifted of_member 0 z (cs ++ d ∷ []) (suc t)) (ap (λ z. take k us ++ z ∷ []) is ∙ sym (take_more us k u within)) (sifted_one_more 0 (take k us) cs t u d all s (h, subst (λ n. of_member n u d) (sym at) of_c))
 
     -- so many of the members in front have the truth
     pub HasTruth-sifted : {text : Entry} {name : List ℕ} {us : List U} (cs : List (Tree CaseNode)) (j t k : ℕ) → 1 ≤ k → k ≤ length us → Sifted of_member 0 (take j us) cs t → t ≡ enough_of b k (length us) → HasTruth (IsOfThreshold k text name has us) b
@@ -254,41 +250,42 @@ module _ (b : Bool) {U : Type 0} (has : U → Formula → Type 0) where
   front_none [] vs e = refl
   front_none (u ∷ us) vs e = absurd (cc)
 
-  abbrev pub IsOwnCase : U → Tree CaseNode → Type 0
-  IsOwnCase u c = IsCaseOf (has u) b c
+  -- the case of the member, with its number where numbers are told
+  abbrev pub IsOwnCase : Bool → ℕ → U → Tree CaseNode → Type 0
+  IsOwnCase tells k u d = (c : Tree CaseNode) × (d ≡ numbered tells k c) × IsCaseOf (has u) b c
 
   -- the cases of the first members with the truth, whatever the other members are
-  sifted_shown : (name : List ℕ) (k : ℕ) (us vs : List U) (fs : Formulas) (cs : List (Tree CaseNode)) (t : ℕ) → AreOfEach name has (us ++ vs) fs → Sifted IsOwnCase k us cs t → (leaves : List ℕ) × FirstEnough b (length cs) fs leaves × ShowsPlaces k fs (forest (map (λ c. (name, c)) cs)) leaves
+  sifted_shown : (tells : Bool) (name : List ℕ) (k : ℕ) (us vs : List U) (fs : Formulas) (cs : List (Tree CaseNode)) (t : ℕ) → AreOfEach name has (us ++ vs) fs → Sifted (IsOwnCase tells) k us cs t → (leaves : List ℕ) × FirstEnough b (length cs) fs leaves × ShowsPlaces false tells k fs (forest (map (λ c. (name, c)) cs)) leaves
   unfolding Shows
-  sifted_shown name k us vs fs [] t of s = ([], enough_none b fs, shows_no_place k fs)
-  sifted_shown name k [] vs fs (c ∷ cs) t of s = absurd s
-  sifted_shown name k (u ∷ us) vs fs (c ∷ cs) zero of s = absurd s
-  sifted_shown name k (u ∷ us) vs (one n f) (c ∷ []) (suc t) of s = ⊎_elim
-      (λ a. absurd (sifted_nothing IsOwnCase (suc k) us c [] (suc t) (front_none us vs of.2) a.1))
+  sifted_shown tells name k us vs fs [] t of s = ([], enough_none b fs, shows_no_place false tells k fs)
+  sifted_shown tells name k [] vs fs (c ∷ cs) t of s = absurd s
+  sifted_shown tells name k (u ∷ us) vs fs (c ∷ cs) zero of s = absurd s
+  sifted_shown tells name k (u ∷ us) vs (one n f) (c ∷ []) (suc t) of s = ⊎_elim
+      (λ a. absurd (sifted_nothing (IsOwnCase tells) (suc k) us c [] (suc t) (front_none us vs of.2) a.1))
       (λ own.
       let x = own.0.1.2.explains f of.1 in
-      (x.leaves, enough_one (own.0.0.at f of.1) x.leaves x.first, place_shown name n f own.0.1.0 c k empty of.0 own.0.1.1 x))
+      (x.leaves, enough_one (own.0.0.at f of.1) x.leaves x.first, place_shown tells name n f own.0.1.0 c k empty of.0 own.0.1.1 x))
       s
-  sifted_shown name k (u ∷ us) vs (one n f) (c ∷ d ∷ cs) (suc t) of s = ⊎_elim
-      (λ a. absurd (sifted_nothing IsOwnCase (suc k) us c (d ∷ cs) (suc t) (front_none us vs of.2) a.1))
-      (λ own. absurd (sifted_nothing IsOwnCase (suc k) us d cs t (front_none us vs of.2) own.1))
+  sifted_shown tells name k (u ∷ us) vs (one n f) (c ∷ d ∷ cs) (suc t) of s = ⊎_elim
+      (λ a. absurd (sifted_nothing (IsOwnCase tells) (suc k) us c (d ∷ cs) (suc t) (front_none us vs of.2) a.1))
+      (λ own. absurd (sifted_nothing (IsOwnCase tells) (suc k) us d cs t (front_none us vs of.2) own.1))
       s
-  sifted_shown name k (u ∷ us) vs (more n f fs) (c ∷ cs) (suc t) of s = ⊎_elim
+  sifted_shown tells name k (u ∷ us) vs (more n f fs) (c ∷ cs) (suc t) of s = ⊎_elim
       (λ a.
-      let ih = sifted_shown name (suc k) us vs fs (c ∷ cs) (suc t) of.2 a.1 in
+      let ih = sifted_shown tells name (suc k) us vs fs (c ∷ cs) (suc t) of.2 a.1 in
       let children = forest (map (λ d. (name, d)) (c ∷ cs)) in (
         shifted (size f) ih.0,
         enough_without (a.0.at f of.1) ih.0 ih.1,
-        shows_right (ShowsNumbered k (Shows f)) n (ShowsPlaces (suc k) fs) (size f) ih.0 children ih.2,
+        shows_right (ShowsNumbered tells k (Shows false f)) n (ShowsPlaces false tells (suc k) fs) (size f) ih.0 children ih.2,
       ))
       (λ own.
       let x = own.0.1.2.explains f of.1 in
-      let ih = sifted_shown name (suc k) us vs fs cs t of.2 own.1 in
+      let ih = sifted_shown tells name (suc k) us vs fs cs t of.2 own.1 in
       let children = forest (map (λ d. (name, d)) cs) in (
         x.leaves ++ shifted (size f) ih.0,
         enough_with (own.0.0.at f of.1) x.leaves ih.0 x.first ih.1,
-        subst (λ z. ShowsPlaces k (more n f fs) (branch z c.root c.children children) (x.leaves ++ shifted (size f) ih.0)) of.0
-            (shows_both (ShowsNumbered k (Shows f)) n (ShowsPlaces (suc k) fs) (size f) x.leaves ih.0 c children (numbers_of f x.leaves x.first) (not_empty f x.leaves x.first) (own.0.1.0, own.0.1.1, x.shown) ih.2),
+        subst (λ z. ShowsPlaces false tells k (more n f fs) (branch z c.root c.children children) (x.leaves ++ shifted (size f) ih.0)) of.0
+            (shows_both (ShowsNumbered tells k (Shows false f)) n (ShowsPlaces false tells (suc k) fs) (size f) x.leaves ih.0 c children (numbers_of f x.leaves x.first) (not_empty f x.leaves x.first) (own.0.1.0, own.0.1.1, x.shown) ih.2),
       ))
       s
 
@@ -318,18 +315,18 @@ module _ (b : Bool) {U : Type 0} (has : U → Formula → Type 0) where
   shows_such None = true
   shows_such (Some wanted) = beq wanted b
 
-  pub record IsSifted (wanted : Option Bool) (text : Entry) (name : List ℕ) (us : List U) (node : Option (Tree CaseNode)) (t : ℕ) : Type 0 where
+  pub record IsSifted (tells : Bool) (wanted : Option Bool) (text : Entry) (name : List ℕ) (us : List U) (node : Option (Tree CaseNode)) (t : ℕ) : Type 0 where
     pub cases : List (Tree CaseNode)
     pub over : IsOver text name cases node
-    pub are : Sifted IsOwnCase 0 us cases t
+    pub are : Sifted (IsOwnCase tells) 0 us cases t
     pub all : shows_such wanted ≡ true → length cases ≡ t
     pub none : shows_such wanted ≡ false → cases ≡ []
 
-  pub sift_none : (wanted : Option Bool) {text : Entry} {name : List ℕ} → IsSifted wanted text name [] None 0
-  sift_none wanted = record { cases = []; over = tt; are = tt; all = λ e. refl; none = λ e. refl }
+  pub sift_none : (tells : Bool) (wanted : Option Bool) {text : Entry} {name : List ℕ} → IsSifted tells wanted text name [] None 0
+  sift_none tells wanted = record { cases = []; over = tt; are = tt; all = λ e. refl; none = λ e. refl }
 
-  pub sift_passed : {wanted : Option Bool} {text : Entry} {name : List ℕ} (us : List U) {k t : ℕ} {u : U} {node : Option (Tree CaseNode)} → k < length us → u ≡ get_or us k u → IsSifted wanted text name (take k us) node t → HasTruth (has u) (not b) → IsSifted wanted text name (take (k + 1) us) node t
-  sift_passed us {t = t} within is s h = record { cases = s.cases; over = s.over; are = sifted_passed IsOwnCase us s.cases t within is s.are h; all = s.all; none = s.none }
+  pub sift_passed : {tells : Bool} {wanted : Option Bool} {text : Entry} {name : List ℕ} (us : List U) {k t : ℕ} {u : U} {node : Option (Tree CaseNode)} → k < length us → u ≡ get_or us k u → IsSifted tells wanted text name (take k us) node t → HasTruth (has u) (not b) → IsSifted tells wanted text name (take (k + 1) us) node t
+  sift_passed {tells = tells} us {t = t} within is s h = record { cases = s.cases; over = s.over; are = sifted_passed (IsOwnCase tells) us s.cases t within is s.are h; all = s.all; none = s.none }
 
   over_next : (text : Entry) (name : List ℕ) (cs : List (Tree CaseNode)) (node : Option (Tree CaseNode)) (d t : Tree CaseNode) → IsOver text name cs node → IsNextCase b text name d node t → IsOver text name (cs ++ d ∷ []) (Some t)
   over_next text name [] None d t o n = n
@@ -338,11 +335,11 @@ module _ (b : Bool) {U : Type 0} (has : U → Formula → Type 0) where
   over_next text name (c ∷ cs) (Some w) d t o n = node_more name (c ∷ cs) d o n
 
   -- one more member, of which this was found
-  pub sift_next : (wanted : Option Bool) {text : Entry} {name : List ℕ} (us : List U) {k t : ℕ} {u : U} (fresh : ℕ) (node found next : Option (Tree CaseNode)) → fresh ≡ suc t → k < length us → u ≡ get_or us k u → IsSifted wanted text name (take k us) node t → IsFound (has u) wanted found → is_absent wanted found ≡ false → shown_verdict wanted found ≡ b → IsNodeWith b text name k node found next → IsSifted wanted text name (take (k + 1) us) next fresh
-  sift_next wanted us {k} {t} {u} fresh so_far None next grown within is s x some v e = record {
+  pub sift_next : (tells : Bool) (wanted : Option Bool) {text : Entry} {name : List ℕ} (us : List U) {k t : ℕ} {u : U} (fresh : ℕ) (node found next : Option (Tree CaseNode)) → fresh ≡ suc t → k < length us → u ≡ get_or us k u → IsSifted tells wanted text name (take k us) node t → IsFound (has u) wanted found → is_absent wanted found ≡ false → shown_verdict wanted found ≡ b → IsNodeWith b tells text name k node found next → IsSifted tells wanted text name (take (k + 1) us) next fresh
+  sift_next tells wanted us {k} {t} {u} fresh so_far None next grown within is s x some v e = record {
     cases = s.cases;
     over = subst (IsOver _ _ s.cases) (sym e) s.over;
-    are = subst (Sifted IsOwnCase 0 (take (k + 1) us) s.cases) (sym grown) (sifted_held IsOwnCase us s.cases t within is s.are (subst (HasTruth (has u)) v (truth_found wanted None x)));
+    are = subst (Sifted (IsOwnCase tells) 0 (take (k + 1) us) s.cases) (sym grown) (sifted_held (IsOwnCase tells) us s.cases t within is s.are (subst (HasTruth (has u)) v (truth_found wanted None x)));
     all = λ is. absurd (never wanted some v is);
     none = s.none;
   }
@@ -350,16 +347,16 @@ module _ (b : Bool) {U : Type 0} (has : U → Formula → Type 0) where
       never : (w : Option Bool) → is_absent w None ≡ false → shown_verdict w None ≡ b → shows_such w ≡ true → ⊥
       never None some v is = cc
       never (Some a) some v is = never_opposite a (subst (λ z. beq a z ≡ true) (sym v) is)
-  sift_next wanted us fresh so_far (Some c) None grown within is s x some v e = absurd e
-  sift_next wanted {text} {name} us {k} {t} {u} fresh so_far (Some c) (Some next) grown within is s x some v e =
+  sift_next tells wanted us fresh so_far (Some c) None grown within is s x some v e = absurd e
+  sift_next tells wanted {text} {name} us {k} {t} {u} fresh so_far (Some c) (Some next) grown within is s x some v e =
       let own : IsCaseOf (has u) b c = subst (λ z. IsCaseOf (has u) z c) v (case_found wanted c x) in
       let asked : shows_such wanted ≡ true = of_asked wanted v in
       let all : length s.cases ≡ t = s.all asked in
-      let longer = length-append s.cases (with_index k c ∷ []) in
+      let longer = length-append s.cases (numbered tells k c ∷ []) in
       record {
-        cases = s.cases ++ with_index k c ∷ [];
-        over = over_next text name s.cases so_far (with_index k c) next s.over e;
-        are = subst (Sifted IsOwnCase 0 (take (k + 1) us) (s.cases ++ with_index k c ∷ [])) (sym grown) (sifted_kept IsOwnCase us s.cases within is all s.are own.truth own);
+        cases = s.cases ++ numbered tells k c ∷ [];
+        over = over_next text name s.cases so_far (numbered tells k c) next s.over e;
+        are = subst (Sifted (IsOwnCase tells) 0 (take (k + 1) us) (s.cases ++ numbered tells k c ∷ [])) (sym grown) (sifted_kept (IsOwnCase tells) us s.cases within is all s.are own.truth (c, refl, own));
         all = λ same. omega (arith, longer, all, grown);
         none = λ other. absurd (both (shows_such wanted) asked other);
       }
@@ -373,10 +370,11 @@ module _ (b : Bool) {U : Type 0} (has : U → Formula → Type 0) where
       both false e f = cc
 
   -- the case of the whole, where enough of the members in front have the truth
-  case_of_sifted : {text : Entry} {name : List ℕ} {us : List U} {t : Tree CaseNode} (cs : List (Tree CaseNode)) (kept j k : ℕ) → 1 ≤ k → k ≤ length us → Sifted IsOwnCase 0 (take j us) cs kept → IsNode text b (map (λ d. (name, d)) cs) t → length cs ≡ enough_of b k (length us) → IsCaseOf (IsOfThreshold k text name has us) b t
+  case_of_sifted : {text : Entry} {name : List ℕ} {us : List U} {t : Tree CaseNode} (cs : List (Tree CaseNode)) (kept j k : ℕ) → 1 ≤ k → k ≤ length us → Sifted (IsOwnCase (tells_numbers false b k (length us))) 0 (take j us) cs kept → IsNode text b (map (λ d. (name, d)) cs) t → length cs ≡ enough_of b k (length us) → IsCaseOf (IsOfThreshold k text name has us) b t
   unfolding Shows
   case_of_sifted {text} {name} {us} {t} cs kept j k some within s node enough =
-      let shown = λ (fs : Formulas) (of : AreOfEach name has us fs). sifted_shown name 0 (take j us) (drop j us) fs cs kept (subst (λ z. AreOfEach name has z fs) (sym (take-append-drop j us)) of) s in
+      let tells = tells_numbers false b k (length us) in
+      let shown = λ (fs : Formulas) (of : AreOfEach name has us fs). sifted_shown tells name 0 (take j us) (drop j us) fs cs kept (subst (λ z. AreOfEach name has z fs) (sym (take-append-drop j us)) of) s in
       let is = λ (fs : Formulas) (of : AreOfEach name has us fs). enough ∙ sym (decisive_is name has b k us fs of some within) in
       let true_of = λ (fs : Formulas) (of : AreOfEach name has us fs).
       (let h = (shown fs of).1.minimal.reason.enough (actual_of_parts fs) (length-actual_of_parts fs) (equal_at_itself (shown fs of).0 (actual_of_parts fs)) in
@@ -386,24 +384,28 @@ module _ (b : Bool) {U : Type 0} (has : U → Formula → Type 0) where
         explains = λ f p.
             let c = p.of_counted some within in
             let x = shown c.formulas c.of_each in
+            let holds = true_of c.formulas c.of_each in
+            let each = number_of_each name has us c.formulas c.of_each in
+            let needs = needed_is k c.formulas some (omega (arith, within, each)) in
+            let told : tells ≡ tells_numbers false (truth (AtLeast k (plain text) c.formulas)) (needed k c.formulas) (number_of_parts c.formulas) = sym (λ i. tells_numbers false (holds i) (needs i) (each i)) in
             subst (λ g. Explains g t) (sym c.is) (record {
               leaves = x.0;
-              first = threshold_first (true_of c.formulas c.of_each) x.0 (subst (λ m. FirstEnough b m c.formulas x.0) (is c.formulas c.of_each) x.1);
-              shown = (node_fits text b _ _ t node (true_of c.formulas c.of_each), subst (λ ch. ShowsPlaces 0 c.formulas ch x.0) (sym node.children) x.2);
+              first = threshold_first holds x.0 (subst (λ m. FirstEnough b m c.formulas x.0) (is c.formulas c.of_each) x.1);
+              shown = (node_fits text b _ _ t node holds, subst (λ z. ShowsPlaces false z 0 c.formulas t.children x.0) told (subst (λ ch. ShowsPlaces false tells 0 c.formulas ch x.0) (sym node.children) x.2));
             });
       }
 
   -- what is found of the whole, where enough of the members in front have the truth
   module _ (text : Entry) (name : List ℕ) (us : List U) (kept j k : ℕ) (some : 1 ≤ k) (within : k ≤ length us) (least : 1 ≤ enough_of b k (length us)) (enough : kept ≡ enough_of b k (length us)) where
-    case_enough : (wanted : Option Bool) (node : Option (Tree CaseNode)) → IsSifted wanted text name (take j us) node kept → shows_such wanted ≡ true → (t : Tree CaseNode) × (node ≡ Some t) × IsCaseOf (IsOfThreshold k text name has us) b t
+    case_enough : (wanted : Option Bool) (node : Option (Tree CaseNode)) → IsSifted (tells_numbers false b k (length us)) wanted text name (take j us) node kept → shows_such wanted ≡ true → (t : Tree CaseNode) × (node ≡ Some t) × IsCaseOf (IsOfThreshold k text name has us) b t
     case_enough wanted None s asked = absurd (let l = s.all asked in let z = ap length (nothing_over text name s.cases s.over) in omega (arith, l, z, enough, least))
     case_enough wanted (Some t) s asked = (t, refl, case_of_sifted s.cases kept j k some within s.are (node_over text name t s.cases s.over) (s.all asked ∙ enough))
 
-    none_enough : (w : Bool) (node : Option (Tree CaseNode)) → IsSifted (Some w) text name (take j us) node kept → w ≡ not b → IsFound (IsOfThreshold k text name has us) (Some w) node
-    none_enough w None s other = subst (HasTruth (IsOfThreshold k text name has us)) (sym (not-not b) ∙ ap not (sym other)) (HasTruth-sifted IsOwnCase s.cases j kept k some within s.are enough)
+    none_enough : (w : Bool) (node : Option (Tree CaseNode)) → IsSifted (tells_numbers false b k (length us)) (Some w) text name (take j us) node kept → w ≡ not b → IsFound (IsOfThreshold k text name has us) (Some w) node
+    none_enough w None s other = subst (HasTruth (IsOfThreshold k text name has us)) (sym (not-not b) ∙ ap not (sym other)) (HasTruth-sifted (IsOwnCase (tells_numbers false b k (length us))) s.cases j kept k some within s.are enough)
     none_enough w (Some t) s other = absurd (over_nothing text name t s.cases (s.none (rw other (not_itself b))) s.over)
 
-    pub found_enough : (wanted : Option Bool) (node : Option (Tree CaseNode)) → IsSifted wanted text name (take j us) node kept → IsFound (IsOfThreshold k text name has us) wanted node
+    pub found_enough : (wanted : Option Bool) (node : Option (Tree CaseNode)) → IsSifted (tells_numbers false b k (length us)) wanted text name (take j us) node kept → IsFound (IsOfThreshold k text name has us) wanted node
     found_enough None so_far s = let x = case_enough None so_far s refl in subst (IsFound (IsOfThreshold k text name has us) None) (sym x.1) (case_by_result x.2)
     found_enough (Some w) so_far s = ⊎_elim
         (λ is. let x = case_enough (Some w) so_far s (same_beq w b is) in subst (IsFound (IsOfThreshold k text name has us) (Some w)) (sym x.1) (subst (λ z. IsCaseOf (IsOfThreshold k text name has us) z x.0) (sym is) x.2))
@@ -428,7 +430,7 @@ module _ {U : Type 0} (has : U → Formula → Type 0) where
 
 -- ---- where too few have the truth
 
-module _ (b : Bool) {U : Type 0} (has : U → Formula → Type 0) (of_member : U → Tree CaseNode → Type 0) where
+module _ (b : Bool) {U : Type 0} (has : U → Formula → Type 0) (of_member : ℕ → U → Tree CaseNode → Type 0) where
   pub among_rest : (j : ℕ) (us : List U) (cs : List (Tree CaseNode)) (t m : ℕ) → m + t ≡ length us → Sifted b has of_member j us cs t → Among (not b) has us m
   among_rest j us cs t zero e s = tt
   among_rest j [] [] zero (suc m) e s = absurd (omega (arith, e))

@@ -5,7 +5,7 @@ use Rattle.std.proofs.lemmas.Bool.{cases_lt}
 use Rattle.std.proofs.lemmas.Bool.Decides.{nat_tests}
 use Rattle.std.proofs.lemmas.List.{take_all}
 use Rattle.predicates_core.specs.Label.{Entry, plain}
-use Rattle.predicates_core.specs.Formula.{Formula, Formulas, one, more, AtLeast, number_of_parts, actual_of_parts, truth, size, HasTruth}
+use Rattle.predicates_core.specs.Formula.{Formula, Formulas, one, more, AtLeast, number_of_parts, enough_of, actual_of_parts, truth, size, HasTruth}
 use Rattle.predicates_core.specs.Tree.{Tree, empty, branch, forest}
 use Rattle.predicates_core.specs.Describe.{CaseNode, NamedCase}
 use Rattle.predicates_core.specs.Shows.{Shows, ShowsPart, ShowsPlaces, ShowsNumbered, with_index, IsFound, IsNode}
@@ -15,7 +15,7 @@ use Rattle.predicates_core.specs.Turning.{asks_for, asked_of, IsChangeAsked, IsT
 use Rattle.predicates_core.proofs.Found.{truth_of_none}
 use Rattle.predicates_core.specs.Leaves.{IsExactly}
 use Rattle.predicates_core.specs.Several.{AreOfEach}
-use Rattle.predicates_core.specs.Thresholds.{enough_of, IsSettled, settled, IsOfThreshold}
+use Rattle.predicates_core.specs.Thresholds.{IsSettled, settled, IsOfThreshold}
 use Rattle.predicates_core.proofs.Numbers.{shifted}
 use Rattle.predicates_core.proofs.Values.{not-not, needed_within}
 use Rattle.predicates_core.proofs.Thresholds.{like, like_both, one_like, none_like, like-one, like-actual, decisive, truth_by_parts}
@@ -42,8 +42,9 @@ enough_both true k n some within = omega (arith, some, within)
 enough_both false k n some within = omega (arith, some, within)
 
 module _ (b : Bool) {U : Type 0} (name : List ℕ) (has : U → Formula → Type 0) where
-  abbrev pub IsOwnChange : U → Tree CaseNode → Type 0
-  IsOwnChange u c = IsChangeOf (has u) b c
+  -- the change of the member, with its number
+  abbrev pub IsOwnChange : ℕ → U → Tree CaseNode → Type 0
+  IsOwnChange k u d = (c : Tree CaseNode) × (d ≡ with_index k c) × IsChangeOf (has u) b c
 
   abbrev named : List (Tree CaseNode) → List NamedCase
   named cs = map (λ c. (name, c)) cs
@@ -60,11 +61,11 @@ module _ (b : Bool) {U : Type 0} (name : List ℕ) (has : U → Formula → Type
 
   -- the first n of the cases show leaves that bring n parts more to the other truth
   abbrev IsTurnedBy : ℕ → Formulas → List (Tree CaseNode) → ℕ → Type 0
-  IsTurnedBy k fs cs n = (leaves : List ℕ) × BringsFirst (not b) (like (not b) fs (actual_of_parts fs) + n) fs leaves × ShowsPlaces k fs (forest (named (take n cs))) leaves
+  IsTurnedBy k fs cs n = (leaves : List ℕ) × BringsFirst (not b) (like (not b) fs (actual_of_parts fs) + n) fs leaves × ShowsPlaces true true k fs (forest (named (take n cs))) leaves
 
   turned_shown : (k : ℕ) (us : List U) (fs : Formulas) (cs : List (Tree CaseNode)) (t n : ℕ) → AreOfEach name has us fs → Sifted b has IsOwnChange k us cs t → n ≤ length cs → IsTurnedBy k fs cs n
   unfolding Shows
-  turned_shown k us fs cs t zero of s within = ([], brings_none (not b) _ fs (omega arith), shows_no_place k fs)
+  turned_shown k us fs cs t zero of s within = ([], brings_none (not b) _ fs (omega arith), shows_no_place true true k fs)
   turned_shown k [] fs cs t (suc n) of s within = absurd of
   turned_shown k (u ∷ us) fs [] t (suc n) of s within = absurd (omega (arith, within))
   turned_shown k (u ∷ us) fs (c ∷ cs) zero (suc n) of s within = absurd s
@@ -78,7 +79,7 @@ module _ (b : Bool) {U : Type 0} (name : List ℕ) (has : U → Formula → Type
       let number : 1 ≡ like (not b) (one m f) (actual_of_parts (one m f)) + 1 = omega (arith, e, z) in (
         x.leaves,
         subst (λ n. BringsFirst (not b) n (one m f) x.leaves) number (brings_one is x.leaves x.first),
-        subst (λ z. ShowsPart (ShowsNumbered k (Shows f)) m x.leaves (branch z c.root c.children empty) empty) of.0 (shows_part (ShowsNumbered k (Shows f)) m empty x.leaves c (some_change f x.leaves x.first) (own.0.1.0, own.0.1.1, x.shown)),
+        subst (λ z. ShowsPart (ShowsNumbered true k (Shows true f)) m x.leaves (branch z c.root c.children empty) empty) of.0 (shows_part (ShowsNumbered true k (Shows true f)) m empty x.leaves c (some_change f x.leaves x.first) (own.0.1.0, own.0.1.1, x.shown)),
       ))
       s
   turned_shown k (u ∷ us) (one m f) (c ∷ []) (suc t) (suc (suc n)) of s within = absurd (omega (arith, within))
@@ -97,7 +98,7 @@ module _ (b : Bool) {U : Type 0} (name : List ℕ) (has : U → Formula → Type
       let number : suc (like (not b) fs (actual_of_parts fs) + suc n) ≡ like (not b) (more m f fs) (actual_of_parts (more m f fs)) + suc n = omega (arith, e, o) in (
         shifted (size f) ih.0,
         subst (λ z. BringsFirst (not b) z (more m f fs) (shifted (size f) ih.0)) number (brings_beside (not b) _ m f fs is ih.0 ih.1),
-        shows_right (ShowsNumbered k (Shows f)) m (ShowsPlaces (suc k) fs) (size f) ih.0 children ih.2,
+        shows_right (ShowsNumbered true k (Shows true f)) m (ShowsPlaces true true (suc k) fs) (size f) ih.0 children ih.2,
       ))
       (λ own.
       let x = own.0.1.2.explains f of.1 in
@@ -108,8 +109,8 @@ module _ (b : Bool) {U : Type 0} (name : List ℕ) (has : U → Formula → Type
       let number : suc (like (not b) fs (actual_of_parts fs) + n) ≡ like (not b) (more m f fs) (actual_of_parts (more m f fs)) + suc n = omega (arith, e, z) in (
         x.leaves ++ shifted (size f) ih.0,
         subst (λ z. BringsFirst (not b) z (more m f fs) (x.leaves ++ shifted (size f) ih.0)) number (brings_with (not b) _ m f fs is (omega arith) x.leaves ih.0 x.first ih.1),
-        subst (λ z. ShowsPlaces k (more m f fs) (branch z c.root c.children children) (x.leaves ++ shifted (size f) ih.0)) of.0
-            (shows_both (ShowsNumbered k (Shows f)) m (ShowsPlaces (suc k) fs) (size f) x.leaves ih.0 c children (change_numbers f x.leaves x.first) (some_change f x.leaves x.first) (own.0.1.0, own.0.1.1, x.shown) ih.2),
+        subst (λ z. ShowsPlaces true true k (more m f fs) (branch z c.root c.children children) (x.leaves ++ shifted (size f) ih.0)) of.0
+            (shows_both (ShowsNumbered true k (Shows true f)) m (ShowsPlaces true true (suc k) fs) (size f) x.leaves ih.0 c children (change_numbers f x.leaves x.first) (some_change f x.leaves x.first) (own.0.1.0, own.0.1.1, x.shown) ih.2),
       ))
       s
 
@@ -136,7 +137,7 @@ module _ (b : Bool) {U : Type 0} (name : List ℕ) (has : U → Formula → Type
             subst (λ g. ExplainsChange g t) (sym c.is) (record {
               leaves = x.0;
               first = threshold_change (not b) k (plain text) fs turned x.0 (subst (λ m. BringsFirst (not b) m fs x.0) number x.1);
-              shown = (node_fits text b _ _ t node (holds fs c.of_each), subst (λ ch. ShowsPlaces 0 fs ch x.0) (sym node.children) x.2);
+              shown = (node_fits text b _ _ t node (holds fs c.of_each), subst (λ ch. ShowsPlaces true true 0 fs ch x.0) (sym node.children) x.2);
             });
       }
 
@@ -188,7 +189,7 @@ module _ (b : Bool) {U : Type 0} (name : List ℕ) (has : U → Formula → Type
       let all : length cs ≡ t = ⊎_elim (λ same. same) (λ plenty. absurd (omega (arith, plenty, short, asked.1))) (s.all asked.0 asked.2) in
       let longer = length-append cs (with_index k c ∷ []) in
       record {
-        are = subst (Sifted b has (IsOwnChange b name has) 0 (take (k + 1) us) (cs ++ with_index k c ∷ [])) (sym grown) (sifted_kept b has (IsOwnChange b name has) us cs within is all s.are h x);
+        are = subst (Sifted b has (IsOwnChange b name has) 0 (take (k + 1) us) (cs ++ with_index k c ∷ [])) (sym grown) (sifted_kept b has (IsOwnChange b name has) us cs within is all s.are h (c, refl, x));
         all = λ w few. inl (omega (arith, longer, all, grown));
       }
 

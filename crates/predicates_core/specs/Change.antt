@@ -1,5 +1,5 @@
 -- What would have to change for a formula's truth to turn: the first of all its minimal changes.
-use Rattle.std.specs.Prelude.{◌≡◌, ◌≢◌, ℕ, List, [], ◌∷◌, Bool, false, not, set, slice_index_or}
+use Rattle.std.specs.Prelude.{◌≡◌, ◌≢◌, ℕ, List, [], ◌∷◌, Bool, true, false, not, set, slice_index_or}
 use Rattle.std.specs.Prelude.{Option, Some, None, MatchOption}
 use Rattle.std.specs.List.{Contains}
 use Rattle.predicates_core.specs.Formula.{Formula, size, value, actual, truth, HasTruth}
@@ -33,11 +33,11 @@ pub record IsFirstChange (f : Formula) (leaves : List ℕ) : Type 0 where
   pub before_others : (other : List ℕ) → IsMinimalChange f other → other ≢ leaves
       → ComesBefore leaves other
 
--- the case shows the formula cut down to its first change
+-- the case shows the formula cut down to its first change, always with numbers
 pub record ExplainsChange (f : Formula) (t : Tree CaseNode) : Type 0 where
   pub leaves : List ℕ
   pub first : IsFirstChange f leaves
-  pub shown : Shows f t leaves
+  pub shown : Shows true f t leaves
 
 -- each formula of F has the truth b, and the case shows what would turn it
 pub record IsChangeOf (F : Formula → Type 0) (b : Bool) (t : Tree CaseNode) : Type 0 where

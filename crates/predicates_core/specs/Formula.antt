@@ -1,6 +1,6 @@
 -- The formula of a predicate on an item, its leaves, and its value under every choice of truths for
 -- the leaves.
-use Rattle.std.specs.Prelude.{◌≡◌, ℕ, ◌+◌, List, [], ◌∷◌, ◌++◌, length, take, drop, Bool, true}
+use Rattle.std.specs.Prelude.{◌≡◌, ℕ, ◌+◌, ◌-◌, List, [], ◌∷◌, ◌++◌, length, take, drop, Bool, true}
 use Rattle.std.specs.Prelude.{false, not, ◌&&◌, ◌||◌, nat_le, slice_index_or, codes, zero, suc}
 use Rattle.predicates_core.specs.declared.custom.join.Operator.{Operator}
 use Rattle.predicates_core.specs.declared.custom.join.Operator.TheVariants.{And, Or, Xor}
@@ -45,6 +45,11 @@ needed k (one name f) = 1
 needed zero (more name f fs) = 1
 needed (suc zero) (more name f fs) = 1
 needed (suc (suc k)) (more name f fs) = suc (needed (suc k) fs)
+
+-- how many of n parts decide by having the truth, where k have to hold
+abbrev pub enough_of : Bool → ℕ → ℕ → ℕ
+enough_of true k n = k
+enough_of false k n = suc n - k
 
 abbrev pub one_if : Bool → ℕ
 one_if true = 1

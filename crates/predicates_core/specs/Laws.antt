@@ -3,13 +3,12 @@ use Rattle.std.specs.Prelude.{◌≡◌, ◌≢◌, ℕ, List, [], Bool, true, f
 use mathlib.Core.Bool.{beq}
 use Rattle.predicates_core.specs.Describe.{CaseNode}
 use Rattle.predicates_core.specs.Formula.{Formula, Formulas, one, more, Join, AtLeast, needed}
-use Rattle.predicates_core.specs.Formula.{number_of_parts, truth}
+use Rattle.predicates_core.specs.Formula.{number_of_parts, enough_of, truth}
 use Rattle.predicates_core.specs.Label.{Label}
 use Rattle.predicates_core.specs.Reason.{IsFirstReason}
 use Rattle.predicates_core.specs.declared.custom.join.Operator.{Operator}
 use Rattle.predicates_core.specs.declared.custom.join.Operator.TheVariants.{And, Or}
 use Rattle.predicates_core.specs.Shows.{Explains}
-use Rattle.predicates_core.specs.Thresholds.{enough_of}
 use Rattle.predicates_core.specs.Tree.{Tree, empty, branch, named_trees}
 
 -- there is a first reason, and there is no other

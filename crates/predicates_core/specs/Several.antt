@@ -5,7 +5,7 @@ use Rattle.predicates_core.specs.Label.{Entry}
 use Rattle.predicates_core.specs.Formula.{Formula, Formulas, one, more}
 use Rattle.predicates_core.specs.Tree.{Tree}
 use Rattle.predicates_core.specs.Describe.{CaseNode, with_child}
-use Rattle.predicates_core.specs.Shows.{IsNode, with_index}
+use Rattle.predicates_core.specs.Shows.{IsNode, numbered}
 
 -- each member has one of the formulas, in order and under the name
 abbrev pub AreOfEach : {U : Type 0} → List ℕ → (U → Formula → Type 0) → List U → Formulas → Type 0
@@ -31,11 +31,13 @@ IsNextCase b text name d None t = IsNode text b ((name, d) ∷ []) t
 IsNextCase b text name d (Some node) t = t ≡ with_child node name d
 
 -- the node so far with the case that was found of one more member, which tells the member's number
-abbrev pub IsNodeWith : Bool → Entry → List ℕ → ℕ → Option (Tree CaseNode) → Option (Tree CaseNode)
-    → Option (Tree CaseNode) → Type 0
-IsNodeWith b text name k node None t = t ≡ node
-IsNodeWith b text name k node (Some c) None = ⊥
-IsNodeWith b text name k node (Some c) (Some t) = IsNextCase b text name (with_index k c) node t
+-- where numbers are told
+abbrev pub IsNodeWith : Bool → Bool → Entry → List ℕ → ℕ → Option (Tree CaseNode)
+    → Option (Tree CaseNode) → Option (Tree CaseNode) → Type 0
+IsNodeWith b tells text name k so_far None t = t ≡ so_far
+IsNodeWith b tells text name k so_far (Some c) None = ⊥
+IsNodeWith b tells text name k so_far (Some c) (Some t) =
+    IsNextCase b text name (numbered tells k c) so_far t
 
 -- the texts behind the first, each after a comma
 abbrev pub further_texts : List (Option (List ℕ)) → Option (List ℕ)

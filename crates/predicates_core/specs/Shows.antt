@@ -1,10 +1,11 @@
 -- When a case shows a formula, cut down to some of its leaves.
 use Rattle.std.specs.Fmt.{decimal}
 use Rattle.std.specs.Prelude.{◌≡◌, ℕ, suc, ◌-◌, Bool, not, List, [], ◌∷◌, map, filter, Option, Some}
-use Rattle.std.specs.Prelude.{None, MatchOption, codes, nat_lt, nat_le}
+use Rattle.std.specs.Prelude.{None, MatchOption, codes, nat_lt, nat_le, true, false}
 use Rattle.predicates_core.specs.Label.{Label, Entry, FitsText, FitsProducts}
 use Rattle.predicates_core.specs.Formula.{Formula, Leaf, Join, Not, Named, AtLeast}
 use Rattle.predicates_core.specs.Formula.{Formulas, one, more, size, truth, HasTruth}
+use Rattle.predicates_core.specs.Formula.{number_of_parts, needed, enough_of}
 use Rattle.predicates_core.specs.Reason.{IsFirstReason}
 use Rattle.predicates_core.specs.Tree.{Tree, Forest, empty, branch, forest}
 use Rattle.predicates_core.specs.Describe.{CaseNode, NamedCase, with_product}
@@ -34,43 +35,58 @@ ShowsPart showing name (k ∷ ks) children rest = (c : Tree CaseNode)
 abbrev pub with_index : ℕ → Tree CaseNode → Tree CaseNode
 with_index k c = with_product c (codes "index", decimal k)
 
--- the case shows the part, and tells its number
-abbrev pub ShowsNumbered : ℕ → (Tree CaseNode → List ℕ → Type 0) → Tree CaseNode → List ℕ → Type 0
-ShowsNumbered k showing = λ c s. (part : Tree CaseNode) × (c ≡ with_index k part) × showing part s
+-- so it is where numbers are told
+abbrev pub numbered : Bool → ℕ → Tree CaseNode → Tree CaseNode
+numbered true k c = with_index k c
+numbered false k c = c
 
--- the tree is the formula cut down to the leaves
+-- the case shows the part, and tells its number where numbers are told
+abbrev pub ShowsNumbered : Bool → ℕ → (Tree CaseNode → List ℕ → Type 0) → Tree CaseNode → List ℕ
+    → Type 0
+ShowsNumbered tells k showing = λ c s. (part : Tree CaseNode) × (c ≡ numbered tells k part)
+    × showing part s
+
+-- whether the parts of a threshold tell their numbers, where k of n have to hold and it has the
+-- truth b: always, or where some part is left out
+abbrev pub tells_numbers : Bool → Bool → ℕ → ℕ → Bool
+tells_numbers true b k n = true
+tells_numbers false b k n = nat_lt (enough_of b k n) n
+
+-- the tree is the formula cut down to the leaves; the parts of its thresholds always tell their
+-- numbers, or only where one is left out
 unfoldable mutual
-  pub Shows : Formula → Tree CaseNode → List ℕ → Type 0
-  Shows (Leaf label own) t s = FitsNode label own t.root × (t.children ≡ empty) × (s ≡ 0 ∷ [])
-  Shows (Join op label fs) t s = FitsNode label (truth (Join op label fs)) t.root
-      × ShowsParts fs t.children s
-  Shows (Not label f) t s = FitsNode label (truth (Not label f)) t.root
-      × ShowsPart (Shows f) (codes "predicate") s t.children empty
-  Shows (Named label name f) t s = FitsNode label (truth (Named label name f)) t.root
-      × ShowsPart (Shows f) name s t.children empty
-  Shows (AtLeast k label fs) t s = FitsNode label (truth (AtLeast k label fs)) t.root
-      × ShowsPlaces 0 fs t.children s
+  pub Shows : Bool → Formula → Tree CaseNode → List ℕ → Type 0
+  Shows always (Leaf label own) t s = FitsNode label own t.root × (t.children ≡ empty) × (s ≡ 0 ∷ [])
+  Shows always (Join op label fs) t s = FitsNode label (truth (Join op label fs)) t.root
+      × ShowsParts always fs t.children s
+  Shows always (Not label f) t s = FitsNode label (truth (Not label f)) t.root
+      × ShowsPart (Shows always f) (codes "predicate") s t.children empty
+  Shows always (Named label name f) t s = FitsNode label (truth (Named label name f)) t.root
+      × ShowsPart (Shows always f) name s t.children empty
+  Shows always (AtLeast k label fs) t s = FitsNode label (truth (AtLeast k label fs)) t.root
+      × ShowsPlaces always (tells_numbers always (truth (AtLeast k label fs)) (needed k fs)
+      (number_of_parts fs)) 0 fs t.children s
 
   -- the children are, in order, the parts with a share, each cut down to it
-  pub ShowsParts : Formulas → Forest CaseNode → List ℕ → Type 0
-  ShowsParts (one name f) children s = ShowsPart (Shows f) name s children empty
-  ShowsParts (more name f fs) children s = (rest : Forest CaseNode)
-      × ShowsPart (Shows f) name (left_share (size f) s) children rest
-      × ShowsParts fs rest (right_share (size f) s)
+  pub ShowsParts : Bool → Formulas → Forest CaseNode → List ℕ → Type 0
+  ShowsParts always (one name f) children s = ShowsPart (Shows always f) name s children empty
+  ShowsParts always (more name f fs) children s = (rest : Forest CaseNode)
+      × ShowsPart (Shows always f) name (left_share (size f) s) children rest
+      × ShowsParts always fs rest (right_share (size f) s)
 
-  -- so are they, and each tells its number; the first of these parts has the number k
-  pub ShowsPlaces : ℕ → Formulas → Forest CaseNode → List ℕ → Type 0
-  ShowsPlaces k (one name f) children s =
-      ShowsPart (ShowsNumbered k (Shows f)) name s children empty
-  ShowsPlaces k (more name f fs) children s = (rest : Forest CaseNode)
-      × ShowsPart (ShowsNumbered k (Shows f)) name (left_share (size f) s) children rest
-      × ShowsPlaces (suc k) fs rest (right_share (size f) s)
+  -- so are they, and each tells its number where numbers are told; the first part has the number k
+  pub ShowsPlaces : Bool → Bool → ℕ → Formulas → Forest CaseNode → List ℕ → Type 0
+  ShowsPlaces always tells k (one name f) children s =
+      ShowsPart (ShowsNumbered tells k (Shows always f)) name s children empty
+  ShowsPlaces always tells k (more name f fs) children s = (rest : Forest CaseNode)
+      × ShowsPart (ShowsNumbered tells k (Shows always f)) name (left_share (size f) s) children rest
+      × ShowsPlaces always tells (suc k) fs rest (right_share (size f) s)
 
--- the case shows the formula cut down to its first reason
+-- the case shows the formula cut down to its first reason, with numbers where a part is left out
 pub record Explains (f : Formula) (t : Tree CaseNode) : Type 0 where
   pub leaves : List ℕ
   pub first : IsFirstReason f leaves
-  pub shown : Shows f t leaves
+  pub shown : Shows false f t leaves
 
 -- each formula of F has the truth b, and the case explains it
 pub record IsCaseOf (F : Formula → Type 0) (b : Bool) (t : Tree CaseNode) : Type 0 where

@@ -1,16 +1,11 @@
 -- The formulas of a predicate that holds where at least so many of its parts do.
-use Rattle.std.specs.Prelude.{◌≡◌, ◌⊎◌, ℕ, suc, ◌-◌, ◌<◌, ◌≤◌, Bool, true, false, ◌&&◌, cond}
+use Rattle.std.specs.Prelude.{◌≡◌, ◌⊎◌, ℕ, ◌<◌, ◌≤◌, Bool, true, false, ◌&&◌, cond}
 use Rattle.std.specs.Prelude.{nat_le, List, [], ◌∷◌, length, Option, Some, codes}
 use Rattle.std.specs.Fmt.{decimal, ◌++?◌}
 use Rattle.predicates_core.specs.Label.{Entry, plain, showing}
 use Rattle.predicates_core.specs.Formula.{Formula, Formulas, Leaf, AtLeast}
 use Rattle.predicates_core.specs.Leaves.{IsExactly}
 use Rattle.predicates_core.specs.Several.{AreOfEach, formulas_of, further_texts}
-
--- how many of n parts decide by having the truth, where k have to hold
-abbrev pub enough_of : Bool → ℕ → ℕ → ℕ
-enough_of true k n = k
-enough_of false k n = suc n - k
 
 -- how many of n members have to hold: one, or all
 abbrev pub least_of : Bool → ℕ → ℕ

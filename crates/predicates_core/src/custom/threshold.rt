@@ -4,12 +4,12 @@ ghost use Rattle.std.specs.Prelude.{◌≡◌, ◌≤◌, ℕ, List, Some, true,
 ghost use Rattle.std.specs.Prelude.{⊤};
 ghost use Rattle.std.specs.Fmt.{decimal};
 ghost use Rattle.std.specs.List.{AllByRecursion};
-ghost use Rattle.predicates_core.specs.Formula.{Leaf, HasTruth};
+ghost use Rattle.predicates_core.specs.Formula.{enough_of, Leaf, HasTruth};
 ghost use Rattle.predicates_core.specs.Label.{Entry, showing};
 ghost use Rattle.predicates_core.specs.Leaves.{IsExactly, IsShowing};
 ghost use Rattle.predicates_core.specs.Several.{is_absent, IsNextCase, IsNodeWith};
-ghost use Rattle.predicates_core.specs.Thresholds.{enough_of, IsSettled, settled, IsOfThreshold};
-ghost use Rattle.predicates_core.specs.Shows.{IsAnswer, IsFound};
+ghost use Rattle.predicates_core.specs.Thresholds.{IsSettled, settled, IsOfThreshold};
+ghost use Rattle.predicates_core.specs.Shows.{IsAnswer, IsFound, numbered, tells_numbers};
 
 use crate::custom::ask::Ask;
 use crate::custom::{is_other, shown_verdict};
@@ -242,13 +242,13 @@ fn counted_found<W: fmt::Display, A: Ask<Common, Member>, Common, Member>(
             return Ok(None);
         }
         if shown_verdict(wanted, &found) {
-            held_node = node_with(alloc, list, true, index, held_node, found)?;
+            held_node = node_with(alloc, list, members.len(), true, index, held_node, found)?;
             held += 1;
             if held == list.least {
                 return Ok(held_node);
             }
         } else {
-            failed_node = node_with(alloc, list, false, index, failed_node, found)?;
+            failed_node = node_with(alloc, list, members.len(), false, index, failed_node, found)?;
             failed += 1;
             if failed == most {
                 return Ok(failed_node);
@@ -258,23 +258,29 @@ fn counted_found<W: fmt::Display, A: Ask<Common, Member>, Common, Member>(
     Ok(None)
 }
 
-/// The node over the cases so far and the case that was found of one more part, which tells its
-/// number. It takes memory for the node, and for the first case its text.
+/// The node over the cases so far and the case that was found of one more of the parts, which tells
+/// its number where some part is left out. It takes memory for the node, for the first case its
+/// text, and for a number.
 pub fn node_with<W: fmt::Display>(
     alloc: Global,
     list: Counting<'_, W>,
+    number: usize,
     verdict: bool,
     index: usize,
     node: Option<Case>,
     found: Option<Case>,
 ) -> Result<Option<Case>, AllocError>
-    ensures { IfOk result (IsNodeWith verdict (W.output list.entry.whole.now)
+    requires some { 1 ≤ list.least }
+    requires within { list.least ≤ number }
+    ensures { IfOk result (IsNodeWith verdict
+        (tells_numbers false verdict list.entry.least number) (W.output list.entry.whole.now)
         list.entry.name.now index node found) }
 {
     match found {
         None => Ok(node),
         Some(case) => {
-            let told = with_index(alloc, index, case)?;
+            let tells = enough_of(verdict, list.least, number) < number;
+            let told = numbered(alloc, tells, index, case)?;
             Ok(Some(next_case(alloc, list, verdict, node, told)?))
         }
     }
@@ -293,6 +299,17 @@ fn next_case<W: fmt::Display>(
     match node {
         Some(whole) => whole.add_child(list.name, case),
         None => unary_node(alloc, printed(alloc, list.whole)?, verdict, list.name, case),
+    }
+}
+
+// The case with its number, where numbers are told.
+fn numbered(alloc: Global, tells: bool, index: usize, case: Case) -> Result<Case, AllocError>
+    ensures { IfOk result (λ told. told ≡ numbered tells index case) }
+{
+    if tells {
+        with_index(alloc, index, case)
+    } else {
+        Ok(case)
     }
 }
 
