@@ -147,8 +147,8 @@ fn shown<P: Predicate<u32>>(alloc: Global, rule: &P, item: u32) -> Result<String
 
 const DECIDED: &str = "\
 large = true
-  - index: 0
   part: large digits = true
+    - index: 0
     item: at least 5 = true
       - var: 7
     item: at least 5 = true
@@ -158,9 +158,9 @@ large = true
 const FAILED: &str = "\
 large = false
   part: large digits = false
-    - index: 1
     item: at least 5 = false
       - var: 2
+      - index: 1
   part: at least 1000 = false
     - var: 52
 ";

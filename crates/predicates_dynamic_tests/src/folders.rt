@@ -176,8 +176,8 @@ fn is_explained(alloc: Global, words: &str, lines: &str) -> Result<bool, AllocEr
 // Each file of each folder.
 const TOO_SMALL: &str = "\
 each entries((any entries(size >= 25) || size >= 30)) = false
-  - index: 2
   item: (any entries(size >= 25) || size >= 30) = false
+    - index: 2
     left: any entries(size >= 25) = false
       - len: 0
     right: size >= 30 = false
@@ -196,9 +196,9 @@ at_least 2 entries(size >= 30) = true
 
 const NO_FOLDER: &str = "\
 each entries(each entries(size >= 20)) = false
-  - index: 0
   item: each entries(size >= 20) = false
     - error: no folder
+    - index: 0
 ";
 
 const NONE_LARGE: &str = "\

@@ -525,9 +525,9 @@ rule: any_of()
 // The case of a row whose last part has no parts.
 const EXPLAINED: &str = "\
 all_of((! 0), named, (2 ^ any_of(3)), any_of()) = false
-  - index: 3
   rule: any_of() = false
     - len: 0
+    - index: 3
 ";
 
 // A row of checks, where the first parts hold.

@@ -1,41 +1,8 @@
 //! The leaves that a case keeps, read from the places of its nodes and never from their texts.
 use crate::reference::ReferenceFormula;
 use crate::shown::{names_member, told_number};
-use predicates_core::reflection::{Case, CaseChild, CaseChildren, CaseView};
+use predicates_core::reflection::{Case, CaseChild, CaseView};
 use std::alloc::{AllocError, Global};
-
-// The number of the member that alone is shown; 0 where all are.
-fn shown_member(node: &CaseView<'_>) -> usize {
-    match node.products().first() {
-        Some(product) if product.name() == "index" => product.value().parse().unwrap_or(0),
-        _ => 0,
-    }
-}
-
-// Adds the leaves that the children of a list's node keep of its members, of which the first is not
-// among the `hidden` ones; false where a child is not cut from its member.
-#[cycle(kept)]
-fn add_members(
-    kept: &mut Vec<usize>,
-    members: &ReferenceFormula,
-    children: &mut CaseChildren<'_>,
-    hidden: usize,
-    first: usize,
-) -> Result<bool, AllocError> {
-    let (ReferenceFormula::And(member, rest) | ReferenceFormula::Or(member, rest)) = members else {
-        return Ok(true);
-    };
-    if hidden == 0 {
-        let Some(CaseChild { name, case }) = children.next() else {
-            return Ok(true);
-        };
-        if name != "item" || !add_kept(kept, member, &case, first)? {
-            return Ok(false);
-        }
-    }
-    let behind = first.saturating_add(member.leaf_count());
-    add_members(kept, rest, children, hidden.saturating_sub(1), behind)
-}
 
 fn child_count(node: &CaseView<'_>) -> usize {
     let mut count = 0_usize;
@@ -45,14 +12,35 @@ fn child_count(node: &CaseView<'_>) -> usize {
     count
 }
 
-// Adds the leaves that the children of a threshold's node keep of its members, of which the first
-// has the number `number`, and answers how many of the children are cut from the member with the
-// number that they tell.
+fn member_count(members: &ReferenceFormula) -> usize {
+    match members {
+        ReferenceFormula::And(_, rest) | ReferenceFormula::Or(_, rest) => {
+            member_count(rest).saturating_add(1)
+        }
+        _ => 0,
+    }
+}
+
+// Whether a child at this place is cut from the member with this number: the child tells it, but
+// where all members are shown it only has the member's place.
+fn is_of_member(case: &CaseView<'_>, place: usize, number: usize, all: bool) -> bool {
+    let told = told_number(case);
+    if all {
+        told.is_none() && place == number
+    } else {
+        told == Some(number)
+    }
+}
+
+// Adds the leaves that the children of a list's node keep of its members, of which the first has
+// the number `number`, and answers how many of the children are cut from these; `all` where the
+// node has as many children as the whole list has members.
 #[cycle(kept)]
-fn add_counted(
+fn add_members(
     kept: &mut Vec<usize>,
     members: &ReferenceFormula,
     node: &CaseView<'_>,
+    all: bool,
     number: usize,
     first: usize,
 ) -> Result<usize, AllocError> {
@@ -60,14 +48,14 @@ fn add_counted(
         return Ok(0);
     };
     let mut cut = 0_usize;
-    for CaseChild { name, case } in node.children() {
-        let is_told = names_member(name) && told_number(&case) == Some(number);
+    for (place, CaseChild { name, case }) in node.children().enumerate() {
+        let is_told = names_member(name) && is_of_member(&case, place, number, all);
         if is_told && add_kept(kept, member, &case, first)? {
             cut = cut.saturating_add(1);
         }
     }
     let behind = first.saturating_add(member.leaf_count());
-    let others = add_counted(kept, rest, node, number.saturating_add(1), behind)?;
+    let others = add_members(kept, rest, node, all, number.saturating_add(1), behind)?;
     Ok(cut.saturating_add(others))
 }
 
@@ -110,15 +98,10 @@ fn add_kept(
             };
             Ok(add_kept(kept, part, &case, first)? && children.next().is_none())
         }
-        ReferenceFormula::Members(members) => {
-            let mut children = node.children();
-            let hidden = shown_member(node);
-            let is_cut = add_members(kept, members, &mut children, hidden, first)?;
-            Ok(is_cut && children.next().is_none())
-        }
-        ReferenceFormula::Counted(_, members) => {
-            let cut = add_counted(kept, members, node, 0, first)?;
-            Ok(cut == child_count(node))
+        ReferenceFormula::Members(members) | ReferenceFormula::Counted(_, members) => {
+            let shown = child_count(node);
+            let all = shown == member_count(members);
+            Ok(add_members(kept, members, node, all, 0, first)? == shown)
         }
         ReferenceFormula::NoMore(_) => Ok(false),
     }

@@ -243,9 +243,9 @@ const BLOCKS_OF_LISTS: [(&str, &[u8], &[u8]); 9] = [
 record 1: false
 a = false
   rule: each / (/ < 3) = false
-    - index: 1
     item: / < 3 = false
       - found: 4
+      - index: 1
 ",
     ),
     (
@@ -279,8 +279,8 @@ a = false
 record 1: false
 a = false
   rule: each /l (any / (/ == 1)) = false
-    - index: 2
     item: any / (/ == 1) = false
+      - index: 2
       item: / == 1 = false
         - found: 2
       item: / == 1 = false
@@ -294,11 +294,10 @@ a = false
 record 1: false
 a = false
   rule: each / (each / (/ < 3)) = false
-    - index: 0
     item: each / (/ < 3) = false
-      - index: 1
       item: / < 3 = false
         - found: 4
+        - index: 1
 ",
     ),
     (
@@ -330,7 +329,6 @@ const CHANGES: [(&str, &[u8], &[u8]); 13] = [
 record 1: false
 a = false
   rule: /x == 1 and /y == 2 and /z == 3 = false
-    - index: 0
     part: /x == 1 = false
       - found: 0
       - index: 0
@@ -384,7 +382,6 @@ record 1: false
 a = false
   rule: not (/x == 1 or /y == 2 or /x == 3) = false
     predicate: /x == 1 or /y == 2 or /x == 3 = true
-      - index: 0
       part: /x == 1 = true
         - found: 1
         - index: 0
@@ -400,7 +397,6 @@ a = false
 record 1: false
 a = false
   rule: each / (/ < 3) = false
-    - index: 1
     item: / < 3 = false
       - found: 4
       - index: 1
@@ -443,7 +439,6 @@ a = false
 record 1: false
 a = false
   rule: each / (/ < 3) = false
-    - index: 1
     item: / < 3 = false
       - found: 4
       - index: 1

@@ -1,11 +1,10 @@
 //! The examples that stand at the traits' calls and at the steps of own predicates.
 use predicates::custom::{
-    AtLeastOne, Deciding, Every, Join, Operator, Quantifier, absent_case, deciding_case,
-    detailed_leaf, each_child, enough_of, is_other, is_settled, is_wanted, join_case, join_change,
-    join_explained, join_truth, leaf, leaf_change, members_hold, members_threshold_holds,
-    named_change, no_member, not_case, not_change, not_explained, one_child, opposite_of,
-    parts_hold, present_case, present_change, present_explained, present_holds, showing_case,
-    threshold_holds, two_children, with_index,
+    AtLeastOne, Every, Join, Operator, Quantifier, absent_case, detailed_leaf, each_child,
+    enough_of, is_other, is_settled, join_case, join_change, join_explained, join_truth, leaf,
+    leaf_change, least_of, members_hold, named_change, not_case, not_change, not_explained,
+    one_child, opposite_of, parts_hold, present_case, present_change, present_explained,
+    present_holds, showing_case, two_children, with_index,
 };
 use predicates::node::{binary_node_of, leaf_node, showing_all};
 use predicates::path::{FileType, PathFault};
@@ -297,17 +296,7 @@ fn verdicts_of_members(rt: HostRuntime) -> Result<(), Fail> {
     let alloc = rt.alloc();
 
     let even = leaf(MultipleOf { divisor: 2 });
-    assert!(rt; members_hold(alloc, &even, true, &[1, 4])?); // one that holds suffices
-    assert!(rt; !members_hold(alloc, &even, false, &[1, 4])?); // each has to hold
-    Ok(())
-}
-
-#[test]
-fn verdicts_of_so_many_members(rt: HostRuntime) -> Result<(), Fail> {
-    let alloc = rt.alloc();
-
-    let even = leaf(MultipleOf { divisor: 2 });
-    assert!(rt; members_threshold_holds(alloc, 2, &even, &[1, 2, 4])?);
+    assert!(rt; members_hold(alloc, 2, &even, &[1, 2, 4])?);
     Ok(())
 }
 
@@ -315,18 +304,8 @@ fn verdicts_of_so_many_members(rt: HostRuntime) -> Result<(), Fail> {
 fn verdicts_of_parts(rt: HostRuntime) -> Result<(), Fail> {
     let alloc = rt.alloc();
 
-    let rules = [predicate::ge(5), predicate::le(10)];
-    assert!(rt; parts_hold(alloc, &rules, true, &11)?); // one that holds suffices
-    assert!(rt; !parts_hold(alloc, &rules, false, &11)?); // each has to hold
-    Ok(())
-}
-
-#[test]
-fn verdicts_of_so_many_parts(rt: HostRuntime) -> Result<(), Fail> {
-    let alloc = rt.alloc();
-
     let rules = [predicate::ge(5), predicate::le(10), predicate::gt(7)];
-    assert!(rt; threshold_holds(alloc, 2, &rules, &7)?);
+    assert!(rt; parts_hold(alloc, 2, &rules, &7)?);
     Ok(())
 }
 
@@ -340,42 +319,11 @@ fn descriptions_of_parts(rt: HostRuntime) -> Result<(), Fail> {
 }
 
 #[test]
-fn wanted_verdicts(rt: HostRuntime) {
-    assert!(rt; is_wanted(Some(true), true) && !is_wanted(None, true));
-}
-
-#[test]
 fn numbers_of_parts(rt: HostRuntime) -> Result<(), Fail> {
     let alloc = rt.alloc();
 
     let case = with_index(alloc, 2, leaf_node(alloc, "a".to_owned(alloc)?, true))?;
     assert!(rt; render(alloc, &case)?.as_str() == "a = true\n  - index: 2\n");
-    Ok(())
-}
-
-#[test]
-fn cases_without_members(rt: HostRuntime) -> Result<(), Fail> {
-    let alloc = rt.alloc();
-
-    let case = no_member(alloc, &predicate::ge(5), true)?;
-    assert!(rt; render(alloc, &case)?.as_str() == "var >= 5 = true\n  - len: 0\n");
-    Ok(())
-}
-
-#[test]
-fn cases_of_a_deciding_part(rt: HostRuntime) -> Result<(), Fail> {
-    let alloc = rt.alloc();
-
-    let part = leaf_node(alloc, "a".to_owned(alloc)?, false);
-    let whole = predicate::ge(5);
-    let list = Deciding {
-        whole: &whole,
-        name: "rule",
-        decides: false,
-    };
-    let case = deciding_case(alloc, list, 2, part)?;
-    let lines = "var >= 5 = false\n  - index: 2\n  rule: a = false\n";
-    assert!(rt; render(alloc, &case)?.as_str() == lines);
     Ok(())
 }
 

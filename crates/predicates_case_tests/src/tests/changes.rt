@@ -93,13 +93,12 @@ fn members(alloc: Global) -> Result<bool, AllocError> {
         [
             "\
 each(var >= 18) = false
-  - index: 1
   item: var >= 18 = false
     - var: 17
+    - index: 1
 ",
             "\
 each(var >= 18) = false
-  - index: 1
   item: var >= 18 = false
     - var: 17
     - index: 1

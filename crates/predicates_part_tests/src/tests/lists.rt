@@ -50,9 +50,9 @@ fn reaches(alloc: Global, count: u32, last: u32) -> Result<bool, AllocError> {
 fn a_thousand_members(rt: HostRuntime) -> Result<(), Fail> {
     let lines = "\
 each(var < 999) = false
-  - index: 999
   item: var < 999 = false
     - var: 999
+    - index: 999
 ";
     assert!(rt; children_of_a_thousand(rt.alloc())? == 1_000);
     assert!(rt; shows_the_last(rt.alloc(), 1_000, 999, lines)?);
@@ -70,9 +70,9 @@ fn stays_below(alloc: Global, count: u32) -> Result<bool, AllocError> {
 fn a_million_members(rt: HostRuntime) -> Result<(), Fail> {
     let lines = "\
 each(var < 999999) = false
-  - index: 999999
   item: var < 999999 = false
     - var: 999999
+    - index: 999999
 ";
     assert!(rt; stays_below(rt.alloc(), 1_000_000)?);
     assert!(rt; shows_the_last(rt.alloc(), 1_000_000, 999_999, lines)?);
@@ -107,11 +107,11 @@ fn explains_each_of_each(alloc: Global, lines: &str) -> Result<bool, AllocError>
 fn members_of_members(rt: HostRuntime) -> Result<(), Fail> {
     let lines = "\
 each(each(var >= 1)) = false
-  - index: 1
   item: each(var >= 1) = false
     - index: 1
     item: var >= 1 = false
       - var: 0
+      - index: 1
 ";
     assert!(rt; explains_each_of_each(rt.alloc(), lines)?);
     Ok(())
@@ -144,9 +144,9 @@ fn members_under_xor(rt: HostRuntime) -> Result<(), Fail> {
     item: var >= 18 = true
       - var: 70
   right: any(var >= 65) = true
-    - index: 1
     item: var >= 65 = true
       - var: 70
+      - index: 1
 ";
     assert!(rt; explains_exclusive(rt.alloc(), lines)?);
     Ok(())
@@ -157,8 +157,8 @@ fn members_under_other_predicates(rt: HostRuntime) -> Result<(), Fail> {
     let alloc = rt.alloc();
     let lines = "\
 each(any(var >= 18)) = false
-  - index: 1
   item: any(var >= 18) = false
+    - index: 1
     item: var >= 18 = false
       - var: 2
     item: var >= 18 = false
@@ -170,9 +170,9 @@ each(any(var >= 18)) = false
   right: (! old) = false
     predicate: old = true
       old: any(var >= 65) = true
-        - index: 1
         item: var >= 65 = true
           - var: 70
+          - index: 1
 ";
     assert!(rt; explains_combined(alloc, lines)?);
     let each = predicate::ge(18u32).of_each();
@@ -218,15 +218,15 @@ const RULES: [(&[u32], u32, &str, &str); 3] = [
         4,
         "\
 all_of(var >= 1, var >= 5, var >= 9) = false
-  - index: 1
   rule: var >= 5 = false
     - var: 4
+    - index: 1
 ",
         "\
 any_of(var >= 1, var >= 5, var >= 9) = true
-  - index: 0
   rule: var >= 1 = true
     - var: 4
+    - index: 0
 ",
     ),
     (
@@ -234,7 +234,6 @@ any_of(var >= 1, var >= 5, var >= 9) = true
         1,
         "\
 all_of(var >= 2) = false
-  - index: 0
   rule: var >= 2 = false
     - var: 1
 ",

@@ -214,7 +214,6 @@ all_of((! var >= 10), small, (var < 3 ^ any_of(var >= 7))) = true
     left: var < 3 = false
       - var: 7
     right: any_of(var >= 7) = true
-      - index: 0
       rule: var >= 7 = true
         - var: 7
 ";
@@ -242,12 +241,9 @@ fn threshold_of_members(alloc: Global) -> Result<Numbers, AllocError> {
 const MEMBERS: &str = "\
 at_least(1, each only (var <= 5), odd_of(any only (var >= 9), at_least 2 only (var >= 5))) = false
   rule: each only (var <= 5) = false
-    - index: 0
-    - index: 0
     item: var <= 5 = false
       - var: 7
   rule: odd_of(any only (var >= 9), at_least 2 only (var >= 5)) = false
-    - index: 1
     rule: any only (var >= 9) = false
       item: var >= 9 = false
         - var: 7

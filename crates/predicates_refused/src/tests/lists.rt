@@ -29,7 +29,7 @@ fn members(rt: HostRuntime) -> Result<(), Fail> {
         over("of_each of all", true, EACH, children),
     )?;
     let members = Vec::from_slice(alloc, &[20, 17])?;
-    let lines = "each(var >= 18) = false\n  - index: 1\n  item: var >= 18 = false\n    - var: 17\n";
+    let lines = "each(var >= 18) = false\n  item: var >= 18 = false\n    - var: 17\n    - index: 1\n";
     sweep_calls(
         &rt,
         &each,
@@ -37,7 +37,7 @@ fn members(rt: HostRuntime) -> Result<(), Fail> {
         over("of_each", false, lines, children),
     )?;
     let any = ge(18u32).of_any();
-    let lines = "any(var >= 18) = true\n  - index: 0\n  item: var >= 18 = true\n    - var: 20\n";
+    let lines = "any(var >= 18) = true\n  item: var >= 18 = true\n    - var: 20\n    - index: 0\n";
     sweep_calls(&rt, &any, &members, over("of_any", true, lines, children))?;
     let none = Vec::new(alloc);
     let lines = "each(var >= 18) = true\n  - len: 0\n";
@@ -85,18 +85,18 @@ const RULES: [(&[u32], u32, [(bool, &str); 2]); 3] = [
                 false,
                 "\
 all_of(var >= 1, var >= 5) = false
-  - index: 1
   rule: var >= 5 = false
     - var: 4
+    - index: 1
 ",
             ),
             (
                 true,
                 "\
 any_of(var >= 1, var >= 5) = true
-  - index: 0
   rule: var >= 1 = true
     - var: 4
+    - index: 0
 ",
             ),
         ],
@@ -111,7 +111,7 @@ any_of(var >= 1, var >= 5) = true
             ),
             (
                 true,
-                "any_of(var >= 1) = true\n  - index: 0\n  rule: var >= 1 = true\n    - var: 4\n",
+                "any_of(var >= 1) = true\n  rule: var >= 1 = true\n    - var: 4\n",
             ),
         ],
     ),

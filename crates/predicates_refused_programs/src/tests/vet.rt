@@ -188,9 +188,9 @@ a = false
       - found: 3
 b = false
   rule: each /l (/ < 3) = false
-    - index: 1
     item: / < 3 = false
       - found: 4
+      - index: 1
 ",
         Taken,
     ),
@@ -210,7 +210,6 @@ a = false
       - index: 0
 b = false
   rule: each /l (/ < 3) = false
-    - index: 0
     item: / < 3 = false
       - found: 4
       - index: 0
@@ -277,8 +276,8 @@ false
 false
 ::error title=a::record 1 (3): false%0Aa = false%0A  rule: /x == 1 or /x == 2 = false\
     %0A    part: /x == 1 = false%0A      - found: 3%0A    part: /x == 2 = false%0A      - found: 3
-::error title=b::record 1 (3): false%0Ab = false%0A  rule: each /l (/ < 3) = false%0A    - index: 1\
-    %0A    item: / < 3 = false%0A      - found: 4
+::error title=b::record 1 (3): false%0Ab = false%0A  rule: each /l (/ < 3) = false\
+    %0A    item: / < 3 = false%0A      - found: 4%0A      - index: 1
 ",
         Taken,
     ),

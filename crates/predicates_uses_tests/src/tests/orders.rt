@@ -73,8 +73,8 @@ const REASONS: [(&str, u32, Option<u32>, Option<&str>, &str); 4] = [
     left: (customer && lines) = false
       right: lines = false
         lines: each(quantity) = false
-          - index: 1
           item: quantity = false
+            - index: 1
             quantity: var >= 1 = false
               - var: 0
 ",

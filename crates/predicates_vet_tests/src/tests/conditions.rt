@@ -137,10 +137,10 @@ a = false
 record 1: false
 a = false
   rule: each /l (/a < /b) = false
-    - index: 1
     item: /a < /b = false
       - found: 2
       - other: 1
+      - index: 1
 ",
     ),
     (
@@ -327,12 +327,12 @@ a = false
 record 1: false
 a = false
   rule: each /l (keys / in [\"k\"] and keys ^/ in [\"l\"]) = false
-    - index: 1
     item: keys / in [\"k\"] and keys ^/ in [\"l\"] = false
-      - index: 0
+      - index: 1
       part: keys / in [\"k\"] = false
         - found: {\"K\":2,\"k\":1}
         - other key: \"K\"
+        - index: 0
 ",
     ),
 ];
@@ -367,7 +367,6 @@ a = false
 record 1: false
 a = false
   rule: /s == /e and /s length > 1 = false
-    - index: 0
     part: /s == /e = false
       - found: \"b\"
       - other: 1

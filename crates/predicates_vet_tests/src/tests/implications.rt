@@ -57,9 +57,9 @@ a = false
   rule: if /x == 1 or /z exists then /y == 2 = false
     part: not (/x == 1 or /z exists) = false
       predicate: /x == 1 or /z exists = true
-        - index: 0
         part: /x == 1 = true
           - found: 1
+          - index: 0
     part: /y == 2 = false
       - found: 3
 ",
@@ -92,8 +92,8 @@ record 1: false
 a = false
   rule: not (if /x == 1 then /y == 2) = false
     predicate: if /x == 1 then /y == 2 = true
-      - index: 0
       part: not /x == 1 = true
+        - index: 0
         predicate: /x == 1 = false
           - found: 0
 ",
@@ -106,8 +106,8 @@ a = false
 record 1: false
 a = false
   rule: each /l (if /x exists then /y exists) = false
-    - index: 1
     item: if /x exists then /y exists = false
+      - index: 1
       part: not /x exists = false
         predicate: /x exists = true
           - found: 1

@@ -92,8 +92,8 @@ const AND_OF_ONE: &str = "\
 record 1: false
 a = false
   rule: not /x in [1, \"b\"] and /y >= 1 = false
-    - index: 0
     part: not /x in [1, \"b\"] = false
+      - index: 0
       predicate: /x in [1, \"b\"] = true
         - found: 1
 ";
@@ -102,8 +102,8 @@ const AND_OF_EIGHTEEN: &str = "\
 record 1: false
 a = false
   rule: not /x in [1, \"b\"] and /y >= 18 = false
-    - index: 0
     part: not /x in [1, \"b\"] = false
+      - index: 0
       predicate: /x in [1, \"b\"] = true
         - found: 1
 ";
@@ -343,8 +343,8 @@ known = false
         "\
 seated = false
   rule: /seat exists and not /seat in [13, 17] = false
-    - index: 0
     part: /seat exists = false
+      - index: 0
 ",
     ),
     (

@@ -70,10 +70,10 @@ const ROWS: [(&str, &str, &str, &str, &str); 9] = [
         "{\"c\": 1, \"l\": [{\"c\": 1}, {\"c\": 2}]}",
         "\
 each /l (/c == ^/c) = false
-  - index: 1
   item: /c == ^/c = false
     - found: 2
     - other: 1
+    - index: 1
 ",
     ),
     (
@@ -83,10 +83,10 @@ each /l (/c == ^/c) = false
         "{\"c\": 1, \"l\": [{\"c\": 1}, {\"c\": 2}]}",
         "\
 each /l (^/c == /c) = false
-  - index: 1
   item: ^/c == /c = false
     - found: 1
     - other: 2
+    - index: 1
 ",
     ),
     (
@@ -103,7 +103,6 @@ each /l (^/c == /c) = false
         "{\"l\": [{\"c\": 1}]}",
         "\
 each /l (/c == ^/c) = false
-  - index: 0
   item: /c == ^/c = false
     - found: 1
     - error: nothing at ^/c
@@ -116,7 +115,6 @@ each /l (/c == ^/c) = false
         "{\"l\": [{\"c\": 1}]}",
         "\
 each /l (^/c == /c) = false
-  - index: 0
   item: ^/c == /c = false
     - error: nothing at ^/c
 ",
@@ -128,7 +126,6 @@ each /l (^/c == /c) = false
         "{\"c\": \"1\", \"l\": [{\"c\": 1}]}",
         "\
 each /l (/c == ^/c) = false
-  - index: 0
   item: /c == ^/c = false
     - found: 1
     - other: \"1\"
@@ -142,7 +139,6 @@ each /l (/c == ^/c) = false
         "{\"l\": [{\"c\": 1}]}",
         "\
 each /l (/c == ^/) = false
-  - index: 0
   item: /c == ^/ = false
     - found: 1
     - other: {\"l\":[{\"c\":1}]}
@@ -156,10 +152,10 @@ each /l (/c == ^/) = false
         "{\"l\": [3, 4]}",
         "\
 each ^/l (/ == ^/l/0) = false
-  - index: 1
   item: / == ^/l/0 = false
     - found: 4
     - other: 3
+    - index: 1
 ",
     ),
     (
@@ -188,7 +184,6 @@ const WITHIN: [(HowMany, &str, &str, &str); 4] = [
         "{\"c\": 2, \"k\": [{\"x\": 1}, {\"x\": 3}], \"l\": [{\"k\": [{\"x\": 2}]}]}",
         "\
 each /l (any ^/k (/x == ^/c)) = false
-  - index: 0
   item: any ^/k (/x == ^/c) = false
     item: /x == ^/c = false
       - found: 1
@@ -199,7 +194,6 @@ each /l (any ^/k (/x == ^/c)) = false
 ",
         "\
 each /l (any ^/k (/x == ^/c)) = false
-  - index: 0
   item: any ^/k (/x == ^/c) = false
     - index: 0
     item: /x == ^/c = false
@@ -219,7 +213,6 @@ each /l (any ^/k (/x == ^/c)) = false
         "{\"c\": 2, \"k\": [{\"x\": 2}, {\"x\": 3}], \"l\": [0]}",
         "\
 each /l (at least 2 ^/k (/x == ^/c)) = false
-  - index: 0
   item: at least 2 ^/k (/x == ^/c) = false
     item: /x == ^/c = false
       - found: 3
@@ -228,7 +221,6 @@ each /l (at least 2 ^/k (/x == ^/c)) = false
 ",
         "\
 each /l (at least 2 ^/k (/x == ^/c)) = false
-  - index: 0
   item: at least 2 ^/k (/x == ^/c) = false
     - index: 0
     item: /x == ^/c = false

@@ -327,13 +327,33 @@ pub fn tested(alloc: Global, test: Test<'_>, value: &Value) -> Result<Answer, Al
     Ok(Answer { text, holds, below })
 }
 
-// Writes each of the lines two places further in.
+// Writes the line two places further in.
+fn push_line(to: &mut String, line: &str) -> Result<(), AllocError> {
+    to.push_str("  ")?;
+    to.push_str(line)?;
+    to.push_str("\n")
+}
+
+// Writes each of the lines so.
 fn push_within(to: &mut String, lines: &str) -> Result<(), AllocError> {
     for line in lines.split('\n') {
         if !line.is_empty() {
-            to.push_str("  ")?;
-            to.push_str(line)?;
-            to.push_str("\n")?;
+            push_line(to, line)?;
+        }
+    }
+    Ok(())
+}
+
+// Writes them with the line that tells a number behind those of products.
+fn push_numbered(to: &mut String, lines: &str, number: &str) -> Result<(), AllocError> {
+    let mut is_told = false;
+    for line in lines.split('\n') {
+        if !is_told && !line.starts_with("- ") {
+            push_line(to, number)?;
+            is_told = true;
+        }
+        if !line.is_empty() {
+            push_line(to, line)?;
         }
     }
     Ok(())
@@ -344,11 +364,16 @@ fn push_truth(to: &mut String, text: &str, holds: bool) -> Result<(), AllocError
     to.push_str(if holds { " = true\n" } else { " = false\n" })
 }
 
-/// Writes the lines of a part under the name.
-pub fn push_part(to: &mut String, name: &str, part: &Answer) -> Result<(), AllocError> {
+// Writes the line that a part has under the name.
+fn push_head(to: &mut String, name: &str, part: &Answer) -> Result<(), AllocError> {
     to.push_str(name)?;
     to.push_str(": ")?;
-    push_truth(to, &part.text, part.holds)?;
+    push_truth(to, &part.text, part.holds)
+}
+
+/// Writes the lines of a part under the name.
+pub fn push_part(to: &mut String, name: &str, part: &Answer) -> Result<(), AllocError> {
+    push_head(to, name, part)?;
     push_within(to, &part.below)
 }
 
@@ -384,7 +409,8 @@ fn first_of(parts: &[Answer], truth: bool) -> Option<usize> {
     parts.iter().position(|part| part.holds == truth)
 }
 
-// The lines of the first part with this truth, or of all where none has it.
+// The lines of the first part with this truth, which tells its number if there are others, or of
+// all parts where none has it.
 fn deciding(
     alloc: Global,
     name: &str,
@@ -397,9 +423,15 @@ fn deciding(
     let Some(index) = first_of(parts, truth) else {
         return each_of(alloc, name, parts);
     };
-    let mut below = format!(in alloc; "- index: {index}\n")?;
+    let mut below = String::new(alloc);
     if let Some(part) = parts.get(index) {
-        push_part(&mut below, name, part)?;
+        if parts.len() == 1 {
+            push_part(&mut below, name, part)?;
+        } else {
+            let number = format!(in alloc; "- index: {index}")?;
+            push_head(&mut below, name, part)?;
+            push_numbered(&mut below, &part.below, &number)?;
+        }
     }
     Ok(below)
 }
