@@ -1,12 +1,22 @@
 -- One thing more holds, or has its report.
-use Rattle.std.proofs.Common.{◌≡◌, ◌<◌, true, false, true≢false, not, List, [], ◌∷◌, ◌++◌, length, refl, sym, ap, ◌∙◌, map, subst, arith}
+use Rattle.std.proofs.Common.{◌≡◌, ◌<◌, true, false, true≢false, not, Option, Some, List, [], ◌∷◌, ◌++◌, length, refl, sym, ap, ◌∙◌, map, subst, arith}
 use Rattle.std.proofs.lemmas.List.{map-append, append-nil}
 use Rattle.std.proofs.lemmas.List.Elements.{filter-append, All-nil, All-push, All-head, All-tail}
 use Rattle.std.specs.Prelude.{filter, All}
 use Rattle.std.specs.List.{AllByRecursion}
 use Rattle.predicates_core.specs.Formula.{Formula, HasTruth, truth}
 use Rattle.predicates_core.proofs.Several.{each_weaker}
-use Rattle.predicates_check.specs.Told.{AreEach, AreTold, HasFailures, Mark}
+use Rattle.predicates_core.specs.Describe.{CaseNode}
+use Rattle.predicates_core.specs.Shows.{IsAnswer}
+use Rattle.predicates_core.specs.Tree.{Tree}
+use Rattle.predicates_check.specs.Told.{AreEach, AreTold, HasFailures, HoldsInfallibly, Mark, about}
+
+-- a rule that holds infallibly has no case of not holding
+pub no_case : {P Item : Type 0} (infallible : P → Item → Type 0) (formula : P → Item → Formula → Type 0) (item : Item) (rule : P) (found : Option (Tree CaseNode)) (case : Tree CaseNode)
+    → HoldsInfallibly infallible formula item rule → IsAnswer (about formula item rule) false found → found ≡ Some case → ⊥
+no_case infallible formula item rule found case holds answer is =
+    let unmet = subst (IsAnswer (about formula item rule) false) is answer in
+    absurd (true≢false (sym holds.1.2 ∙ unmet.truth.at holds.1.0 holds.1.1))
 
 each_more : {A B : Type 0} (R : A → B → Type 0) (xs : List A) (ys : List B) (x : A) (y : B) → AreEach R xs ys → R x y → AreEach R (xs ++ x ∷ []) (ys ++ y ∷ [])
 each_more R [] [] x y all more = (more, tt)

@@ -1,8 +1,9 @@
 -- How an expectation fails.
 use Rattle.std.specs.Prelude.{◌≡◌, ℕ, List, ◌++◌, true, false, codes, string_bytes}
-use Rattle.predicates_core.specs.Formula.{Formula, HasTruth, truth}
+use Rattle.predicates_core.specs.Formula.{Formula, HasTruth}
 use Rattle.predicates_core.specs.Lines.{lines}
 use Rattle.predicates_core.specs.Shows.{IsCaseOf}
+use Rattle.predicates_check.specs.Told.{HoldsInfallibly}
 use Rattle.predicates_check.specs.declared.expectation.Expectation.{Expectation}
 use Rattle.predicates_check.specs.declared.failure.Failure.{Failure}
 
@@ -20,8 +21,7 @@ IsMet formula expectation = HasTruth (expected formula expectation) true
 abbrev pub IsMetInfallibly : {Item P : Type 0} → (P → Item → Type 0) → (P → Item → Formula → Type 0)
     → Expectation Item P → Type 0
 IsMetInfallibly infallible formula expectation =
-    infallible expectation.check expectation.item
-    × ((f : Formula) × expected formula expectation f × (truth f ≡ true))
+    HoldsInfallibly infallible formula expectation.item expectation.check
 
 -- the expectation's label, with a case that explains why it is not met
 abbrev pub IsFailure : {Item P : Type 0} → (P → Item → Formula → Type 0) → Expectation Item P

@@ -1,6 +1,6 @@
 -- Things that are told apart by the truths of their formulas.
 use Rattle.std.specs.Prelude.{◌≡◌, Bool, true, false, not, List, [], ◌∷◌, ◌++◌, map, filter, All}
-use Rattle.predicates_core.specs.Formula.{Formula, HasTruth}
+use Rattle.predicates_core.specs.Formula.{Formula, HasTruth, truth}
 use Rattle.predicates_core.specs.Tree.{Tree}
 use Rattle.predicates_core.specs.Describe.{CaseNode}
 use Rattle.predicates_core.specs.Shows.{IsCaseOf}
@@ -35,6 +35,12 @@ pub record HasFailures {A B : Type 0} (F : A → Formula → Type 0) (IsReport :
 -- the formulas that a rule has on the item
 abbrev pub about : {P Item : Type 0} → (P → Item → Formula → Type 0) → Item → P → Formula → Type 0
 about formula item rule = formula rule item
+
+-- the rule is infallible on the item, and has a formula there that is true
+abbrev pub HoldsInfallibly : {P Item : Type 0} → (P → Item → Type 0) → (P → Item → Formula → Type 0)
+    → Item → P → Type 0
+HoldsInfallibly infallible formula item rule =
+    infallible rule item × ((f : Formula) × formula rule item f × (truth f ≡ true))
 
 -- a case that explains why the thing does not hold
 abbrev pub Explains : {A : Type 0} → (A → Formula → Type 0) → A → Tree CaseNode → Type 0

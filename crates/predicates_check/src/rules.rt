@@ -1,8 +1,9 @@
 //! All rules that do not hold of an item.
 ghost use Rattle.std.specs.List.{AllByRecursion};
-ghost use Rattle.std.specs.Prelude.{◌≡◌, IfOk, OnErr, OnOk};
-ghost use Rattle.predicates_check.specs.Told.{HasFailures, Explains, IsAdded, about};
+ghost use Rattle.std.specs.Prelude.{◌≡◌, IfOk, IsOk, OnErr, OnOk};
+ghost use Rattle.predicates_check.specs.Told.{HasFailures, HoldsInfallibly, Explains, IsAdded, about};
 
+use crate::requirement::find_reason;
 use predicates_core::Predicate;
 use predicates_core::reflection::Case;
 use std::alloc::{AllocError, Global};
@@ -35,7 +36,8 @@ pub fn add_failure<P: Predicate<Item>, Item>(
 }
 
 /// One case for each rule that does not hold of the item, in their order: all failures, where the
-/// case of `and` shows the first reason alone. It takes memory for the cases.
+/// case of `and` shows the first reason alone. It takes memory for the cases; where all hold, it
+/// takes what memory `eval` takes.
 ///
 /// ```
 /// let rules = [predicate::ge(5), predicate::ge(10)];
@@ -48,12 +50,14 @@ pub fn failures<P: Predicate<Item>, Item>(
     item: &Item,
 ) -> Result<Vec<Case>, AllocError>
     requires { AllByRecursion P.lawful rules.now }
-    ensures { IfOk result (λ cases. HasFailures (about P.formula item.now)
+    ensures failing { IfOk result (λ cases. HasFailures (about P.formula item.now)
         (Explains (about P.formula item.now)) rules.now cases.items) }
+    ensures infallible { AllByRecursion (HoldsInfallibly P.infallible P.formula item.now) rules.now
+        → IsOk result }
 {
     let mut cases = Vec::new(alloc);
     for rule in rules {
-        if let Some(case) = rule.find_case(alloc, false, item)? {
+        if let Some(case) = find_reason(alloc, rule, item)? {
             cases.push(case)?;
         }
     }

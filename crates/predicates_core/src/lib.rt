@@ -18,6 +18,7 @@ pub mod laws;
 pub mod name;
 pub mod node;
 mod predicate;
+pub mod semantics;
 
 pub use change::PredicateChange;
 pub use predicate::{Content, Predicate, ReadsContent, Total, default_find_case};

@@ -59,6 +59,12 @@ pub fn always<Item>() -> BooleanPredicate<Item>
     ensures formula { (v : Item) (f : Formula)
         → ⟦<BooleanPredicate<Item> as Predicate<Item>>⟧.formula result v f
         ↔ IsExactly (Leaf (plain (Some (word true))) true) f }
+    ensures lawful { ⟦<BooleanPredicate<Item> as Predicate<Item>>⟧.lawful result }
+    ensures infallible { (v : Item)
+        → ⟦<BooleanPredicate<Item> as Predicate<Item>>⟧.infallible result v }
+    ensures values { ⟦<BooleanPredicate<Item> as PredicateReflection>⟧.parameters_of result
+        ≡ value_of (codes "value") (Some (word true)) }
+    ensures parts { ⟦<BooleanPredicate<Item> as PredicateReflection>⟧.children_of result ≡ empty }
 {
     BooleanPredicate::new(true)
 }
@@ -74,6 +80,12 @@ pub fn never<Item>() -> BooleanPredicate<Item>
     ensures formula { (v : Item) (f : Formula)
         → ⟦<BooleanPredicate<Item> as Predicate<Item>>⟧.formula result v f
         ↔ IsExactly (Leaf (plain (Some (word false))) false) f }
+    ensures lawful { ⟦<BooleanPredicate<Item> as Predicate<Item>>⟧.lawful result }
+    ensures infallible { (v : Item)
+        → ⟦<BooleanPredicate<Item> as Predicate<Item>>⟧.infallible result v }
+    ensures values { ⟦<BooleanPredicate<Item> as PredicateReflection>⟧.parameters_of result
+        ≡ value_of (codes "value") (Some (word false)) }
+    ensures parts { ⟦<BooleanPredicate<Item> as PredicateReflection>⟧.children_of result ≡ empty }
 {
     BooleanPredicate::new(false)
 }

@@ -43,6 +43,11 @@ pub fn function<F: Fn(&T) -> bool, T>(function: F) -> FnPredicate<F, T>
     ensures formula { (v : T) (f : Formula)
         → ⟦<FnPredicate<F, T> as Predicate<T>>⟧.formula result v f
         ↔ IsCall F.Fn function (call_text (codes "fn")) v f }
+    ensures lawful { ⟦<FnPredicate<F, T> as Predicate<T>>⟧.lawful result
+        ↔ F.IsAlwaysCallable function × HasOneAnswer F.Fn function }
+    ensures infallible { (v : T) → ⟦<FnPredicate<F, T> as Predicate<T>>⟧.infallible result v }
+    ensures values { ⟦<FnPredicate<F, T> as PredicateReflection>⟧.parameters_of result ≡ [] }
+    ensures parts { ⟦<FnPredicate<F, T> as PredicateReflection>⟧.children_of result ≡ empty }
 {
     FnPredicate::new(function, StaticText::new("fn"))
 }
@@ -82,6 +87,11 @@ impl<F: Fn(&T) -> bool, T> FnPredicate<F, T> {
         ensures formula { (v : T) (f : Formula)
             → ⟦<FnPredicate<F, T> as Predicate<T>>⟧.formula result v f
             ↔ IsCall F.Fn (function_of self) (call_text name.now) v f }
+        ensures lawful { ⟦<FnPredicate<F, T> as Predicate<T>>⟧.lawful result
+            ↔ ⟦<FnPredicate<F, T> as Predicate<T>>⟧.lawful self }
+        ensures infallible { (v : T) → ⟦<FnPredicate<F, T> as Predicate<T>>⟧.infallible result v }
+        ensures values { ⟦<FnPredicate<F, T> as PredicateReflection>⟧.parameters_of result ≡ [] }
+        ensures parts { ⟦<FnPredicate<F, T> as PredicateReflection>⟧.children_of result ≡ empty }
     {
         let FnPredicate {
             function,

@@ -17,7 +17,7 @@
 //! ```
 #![tactic(auto)]
 
-ghost use Rattle.std.specs.Prelude.{◌≡◌, ◌↔◌, option_and_then};
+ghost use Rattle.std.specs.Prelude.{◌≡◌, ◌↔◌, option_and_then, [], codes, IfSome};
 ghost use Rattle.predicates_core.specs.Formula.{Formula};
 ghost use Rattle.predicates_core.specs.Present.{IsOfPresent};
 ghost use Rattle.serde_json.specs.Find.{as_number};
@@ -30,6 +30,7 @@ ghost use Rattle.predicates_json.specs.KindParts as Kind;
 ghost use Rattle.predicates_json.specs.NumberParts as Number;
 ghost use Rattle.predicates_json.specs.Pointer as Pointer;
 ghost use Rattle.predicates_json.specs.Pointer.{IsAt, no_value_text};
+ghost use Rattle.predicates_core.specs.Parts.{part};
 
 mod at;
 mod case;
@@ -46,6 +47,7 @@ pub use null::{NullPredicate, is_null};
 pub use number::{JsonNumber, NumberPredicate};
 pub use pointer::{JsonPointer, PointerPredicate, is_pointer};
 use predicates_core::Predicate;
+use predicates_core::reflection::PredicateReflection;
 pub use presence::{PointerPresencePredicate, has_pointer, lacks_pointer};
 use serde_json::{Map, Value};
 
@@ -68,7 +70,17 @@ pub trait PredicateJsonExt: Sized {
         ensures formula { (v : JsonValue) (f : Formula)
             → ⟦<PointerPredicate<Self, N> as Predicate<Value>>⟧.formula result v f
             ↔ IsAt (N.bytes pointer) (IsOfPresent (Self.output self) no_value_text
-            (Self.formula self) (at_pointer (N.bytes pointer) v)) f };
+            (Self.formula self) (at_pointer (N.bytes pointer) v)) f }
+        ensures lawful { ⟦<PointerPredicate<Self, N> as Predicate<Value>>⟧.lawful result
+            ↔ Self.lawful self }
+        ensures infallible { (v : JsonValue)
+            → ⟦<PointerPredicate<Self, N> as Predicate<Value>>⟧.infallible result v
+            ↔ IfSome (at_pointer (N.bytes pointer) v) (Self.infallible self) }
+        ensures values { ⟦<PointerPredicate<Self, N> as PredicateReflection>⟧.parameters_of result
+            ≡ [] }
+        ensures parts { ⟦<PointerPredicate<Self, N> as PredicateReflection>⟧.children_of result
+            ≡ part (codes "value") (Self.output self) (Self.parameters_of self)
+            (Self.children_of self) };
 
     /// The predicate that holds of a JSON text where this one holds of it, and not of a value of
     /// another kind. It prints what this one prints, takes no memory to make, and its `eval` takes
@@ -87,7 +99,17 @@ pub trait PredicateJsonExt: Sized {
         ensures formula { (v : JsonValue) (f : Formula)
             → ⟦<KindPredicate<Self, String> as Predicate<Value>>⟧.formula result v f
             ↔ IsOfPresent (Self.output self) (kind_text (view v)) (Self.formula self)
-            (held_string v) f };
+            (held_string v) f }
+        ensures lawful { ⟦<KindPredicate<Self, String> as Predicate<Value>>⟧.lawful result
+            ↔ Self.lawful self }
+        ensures infallible { (v : JsonValue)
+            → ⟦<KindPredicate<Self, String> as Predicate<Value>>⟧.infallible result v
+            ↔ IfSome (held_string v) (Self.infallible self) }
+        ensures values { ⟦<KindPredicate<Self, String> as PredicateReflection>⟧.parameters_of result
+            ≡ [] }
+        ensures parts { ⟦<KindPredicate<Self, String> as PredicateReflection>⟧.children_of result
+            ≡ part (codes "predicate") (Self.output self) (Self.parameters_of self)
+            (Self.children_of self) };
 
     /// The same of a JSON truth.
     ///
@@ -104,7 +126,17 @@ pub trait PredicateJsonExt: Sized {
         ensures formula { (v : JsonValue) (f : Formula)
             → ⟦<KindPredicate<Self, bool> as Predicate<Value>>⟧.formula result v f
             ↔ IsOfPresent (Self.output self) (kind_text (view v)) (Self.formula self)
-            (held_bool v) f };
+            (held_bool v) f }
+        ensures lawful { ⟦<KindPredicate<Self, bool> as Predicate<Value>>⟧.lawful result
+            ↔ Self.lawful self }
+        ensures infallible { (v : JsonValue)
+            → ⟦<KindPredicate<Self, bool> as Predicate<Value>>⟧.infallible result v
+            ↔ IfSome (held_bool v) (Self.infallible self) }
+        ensures values { ⟦<KindPredicate<Self, bool> as PredicateReflection>⟧.parameters_of result
+            ≡ [] }
+        ensures parts { ⟦<KindPredicate<Self, bool> as PredicateReflection>⟧.children_of result
+            ≡ part (codes "predicate") (Self.output self) (Self.parameters_of self)
+            (Self.children_of self) };
 
     /// The same of the items of a JSON array.
     ///
@@ -121,7 +153,14 @@ pub trait PredicateJsonExt: Sized {
         ensures formula { (v : JsonValue) (f : Formula)
             → ⟦<KindPredicate<Self, Vec<Value>> as Predicate<Value>>⟧.formula result v f
             ↔ IsOfPresent (Self.output self) (kind_text (view v)) (Self.formula self)
-            (held_array v) f };
+            (held_array v) f }
+        ensures lawful { ⟦<KindPredicate<Self, Vec<Value>> as Predicate<Value>>⟧.lawful result
+            ↔ Self.lawful self }
+        ensures infallible { (v : JsonValue)
+            → ⟦<KindPredicate<Self, Vec<Value>> as Predicate<Value>>⟧.infallible result v
+            ↔ IfSome (held_array v) (Self.infallible self) }
+        ensures values { ⟦<KindPredicate<Self, Vec<Value>> as PredicateReflection>⟧.parameters_of result ≡ [] }
+        ensures parts { ⟦<KindPredicate<Self, Vec<Value>> as PredicateReflection>⟧.children_of result ≡ part (codes "predicate") (Self.output self) (Self.parameters_of self) (Self.children_of self) };
 
     /// The same of the members of a JSON object.
     ///
@@ -139,7 +178,13 @@ pub trait PredicateJsonExt: Sized {
         ensures formula { (v : JsonValue) (f : Formula)
             → ⟦<KindPredicate<Self, Map<String, Value>> as Predicate<Value>>⟧.formula result v f
             ↔ IsOfPresent (Self.output self) (kind_text (view v)) (Self.formula self)
-            (held_object v) f };
+            (held_object v) f }
+        ensures lawful { ⟦<KindPredicate<Self, Map<String, Value>> as Predicate<Value>>⟧.lawful result ↔ Self.lawful self }
+        ensures infallible { (v : JsonValue)
+            → ⟦<KindPredicate<Self, Map<String, Value>> as Predicate<Value>>⟧.infallible result v
+            ↔ IfSome (held_object v) (Self.infallible self) }
+        ensures values { ⟦<KindPredicate<Self, Map<String, Value>> as PredicateReflection>⟧.parameters_of result ≡ [] }
+        ensures parts { ⟦<KindPredicate<Self, Map<String, Value>> as PredicateReflection>⟧.children_of result ≡ part (codes "predicate") (Self.output self) (Self.parameters_of self) (Self.children_of self) };
 
     /// The same of a JSON number, read as an `i64`, a `u64` or an `f64`. A number that the type
     /// cannot represent is of another kind: for the first two a float, even `5.0`, or one that is
@@ -157,7 +202,17 @@ pub trait PredicateJsonExt: Sized {
         ensures formula { (v : JsonValue) (f : Formula)
             → ⟦<NumberPredicate<Self, N> as Predicate<Value>>⟧.formula result v f
             ↔ IsOfPresent (Self.output self) (no_number_text N.misfit_text (view v))
-            (Self.formula self) (option_and_then N.number_as (as_number (view v))) f };
+            (Self.formula self) (option_and_then N.number_as (as_number (view v))) f }
+        ensures lawful { ⟦<NumberPredicate<Self, N> as Predicate<Value>>⟧.lawful result
+            ↔ Self.lawful self }
+        ensures infallible { (v : JsonValue)
+            → ⟦<NumberPredicate<Self, N> as Predicate<Value>>⟧.infallible result v
+            ↔ IfSome (option_and_then N.number_as (as_number (view v))) (Self.infallible self) }
+        ensures values { ⟦<NumberPredicate<Self, N> as PredicateReflection>⟧.parameters_of result
+            ≡ [] }
+        ensures parts { ⟦<NumberPredicate<Self, N> as PredicateReflection>⟧.children_of result
+            ≡ part (codes "predicate") (Self.output self) (Self.parameters_of self)
+            (Self.children_of self) };
 }
 
 impl<P> PredicateJsonExt for P {

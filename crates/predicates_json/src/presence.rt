@@ -39,6 +39,13 @@ pub fn has_pointer<N: JsonPointer>(pointer: N) -> PointerPresencePredicate<N>
     ensures formula { (v : JsonValue) (f : Formula)
         → ⟦<PointerPresencePredicate<N> as Predicate<Value>>⟧.formula result v f
         ↔ IsExactly (presence_formula true (N.bytes pointer) v) f }
+    ensures lawful { ⟦<PointerPresencePredicate<N> as Predicate<Value>>⟧.lawful result }
+    ensures infallible { (v : JsonValue)
+        → ⟦<PointerPresencePredicate<N> as Predicate<Value>>⟧.infallible result v }
+    ensures values { ⟦<PointerPresencePredicate<N> as PredicateReflection>⟧.parameters_of result
+        ≡ [] }
+    ensures parts { ⟦<PointerPresencePredicate<N> as PredicateReflection>⟧.children_of result
+        ≡ empty }
 {
     PointerPresencePredicate::new(pointer, true)
 }
@@ -56,6 +63,13 @@ pub fn lacks_pointer<N: JsonPointer>(pointer: N) -> PointerPresencePredicate<N>
     ensures formula { (v : JsonValue) (f : Formula)
         → ⟦<PointerPresencePredicate<N> as Predicate<Value>>⟧.formula result v f
         ↔ IsExactly (presence_formula false (N.bytes pointer) v) f }
+    ensures lawful { ⟦<PointerPresencePredicate<N> as Predicate<Value>>⟧.lawful result }
+    ensures infallible { (v : JsonValue)
+        → ⟦<PointerPresencePredicate<N> as Predicate<Value>>⟧.infallible result v }
+    ensures values { ⟦<PointerPresencePredicate<N> as PredicateReflection>⟧.parameters_of result
+        ≡ [] }
+    ensures parts { ⟦<PointerPresencePredicate<N> as PredicateReflection>⟧.children_of result
+        ≡ empty }
 {
     PointerPresencePredicate::new(pointer, false)
 }

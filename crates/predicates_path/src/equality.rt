@@ -12,6 +12,7 @@ ghost use Rattle.predicates_path.specs.Equality.{shown_bytes, has_bytes, has_con
 ghost use Rattle.predicates_path.specs.Equality.{equals_content};
 ghost use Rattle.predicates_path.specs.TextEquality as text;
 ghost use Rattle.predicates_path.specs.declared.snapshot.Snapshot.{Snapshot};
+ghost use Rattle.predicates_core.specs.Tree.{empty};
 
 use crate::file_test::{FileTest, FileTestPredicate};
 use crate::snapshot::has_bytes;
@@ -63,6 +64,12 @@ pub fn eq_file(snapshot: Snapshot) -> Result<FileTestPredicate<BinaryFilePredica
     ensures values { IfOk (content_of snapshot) (λ bytes. IfOk result (λ p.
         ⟦<FileTestPredicate<BinaryFilePredicate> as PredicateReflection>⟧.parameters_of p
         ≡ value_of (codes "content") (shown_bytes bytes))) }
+    ensures lawful { IfOk result (λ p.
+        ⟦<FileTestPredicate<BinaryFilePredicate> as Predicate<Snapshot>>⟧.lawful p) }
+    ensures infallible { IfOk result (λ p. (s : Snapshot)
+        → ⟦<FileTestPredicate<BinaryFilePredicate> as Predicate<Snapshot>>⟧.infallible p s) }
+    ensures parts { IfOk result (λ p.
+        ⟦<FileTestPredicate<BinaryFilePredicate> as PredicateReflection>⟧.children_of p ≡ empty) }
 {
     let (path, content) = (snapshot.path, snapshot.content);
     let content = content?;
@@ -94,6 +101,12 @@ impl FileTestPredicate<BinaryFilePredicate> {
         ensures values { IfSome result (λ p.
             ⟦<FileTestPredicate<StrFilePredicate> as PredicateReflection>⟧.parameters_of p
             ≡ value_of (codes "content") (Some (compared_bytes self))) }
+        ensures lawful { IfSome result (λ p.
+            ⟦<FileTestPredicate<StrFilePredicate> as Predicate<Snapshot>>⟧.lawful p) }
+        ensures infallible { IfSome result (λ p. (s : Snapshot)
+            → ⟦<FileTestPredicate<StrFilePredicate> as Predicate<Snapshot>>⟧.infallible p s) }
+        ensures parts { IfSome result (λ p.
+            ⟦<FileTestPredicate<StrFilePredicate> as PredicateReflection>⟧.children_of p ≡ empty) }
     {
         let BinaryFilePredicate { path, content } = self.test;
         match String::from_utf8(content) {

@@ -5,6 +5,7 @@ ghost use Rattle.predicates_core.specs.Leaves.{IsExactly};
 ghost use Rattle.predicates_path.specs.Existence.{asks_presence, existence_text, existence_truth};
 ghost use Rattle.predicates_path.specs.Existence.{existence_formula, path_product};
 ghost use Rattle.predicates_path.specs.declared.snapshot.Snapshot.{Snapshot};
+ghost use Rattle.predicates_core.specs.Tree.{empty};
 
 use crate::Snapshot;
 use crate::file_test::{FileTest, FileTestPredicate};
@@ -33,6 +34,10 @@ pub fn exists() -> FileTestPredicate<ExistencePredicate>
         ↔ IsExactly (existence_formula true s) f }
     ensures values { ⟦<FileTestPredicate<ExistencePredicate> as PredicateReflection>⟧.parameters_of
         result ≡ [] }
+    ensures lawful { ⟦<FileTestPredicate<ExistencePredicate> as Predicate<Snapshot>>⟧.lawful result }
+    ensures infallible { (s : Snapshot)
+        → ⟦<FileTestPredicate<ExistencePredicate> as Predicate<Snapshot>>⟧.infallible result s }
+    ensures parts { ⟦<FileTestPredicate<ExistencePredicate> as PredicateReflection>⟧.children_of result ≡ empty }
 {
     FileTestPredicate::new(ExistencePredicate { exists: true })
 }
@@ -50,6 +55,10 @@ pub fn missing() -> FileTestPredicate<ExistencePredicate>
         ↔ IsExactly (existence_formula false s) f }
     ensures values { ⟦<FileTestPredicate<ExistencePredicate> as PredicateReflection>⟧.parameters_of
         result ≡ [] }
+    ensures lawful { ⟦<FileTestPredicate<ExistencePredicate> as Predicate<Snapshot>>⟧.lawful result }
+    ensures infallible { (s : Snapshot)
+        → ⟦<FileTestPredicate<ExistencePredicate> as Predicate<Snapshot>>⟧.infallible result s }
+    ensures parts { ⟦<FileTestPredicate<ExistencePredicate> as PredicateReflection>⟧.children_of result ≡ empty }
 {
     FileTestPredicate::new(ExistencePredicate { exists: false })
 }

@@ -8,6 +8,7 @@ ghost use Rattle.predicates_path.specs.Snapshot.{followed_of};
 ghost use Rattle.predicates_path.specs.Kind.{tested_kind, follows, found_kind, has_kind};
 ghost use Rattle.predicates_path.specs.Kind.{kind_leaf, kind_product, kind_predicate_text};
 ghost use Rattle.predicates_path.specs.declared.snapshot.Snapshot.{Snapshot};
+ghost use Rattle.predicates_core.specs.Tree.{empty};
 
 use crate::fault::show_fault;
 use crate::file_test::{FileTest, FileTestPredicate};
@@ -55,6 +56,10 @@ pub fn is_file() -> FileTestPredicate<FileTypePredicate>
         ↔ IsExactly (kind_leaf FileType.File false s) f }
     ensures values { ⟦<FileTestPredicate<FileTypePredicate> as PredicateReflection>⟧.parameters_of
         result ≡ value_of (codes "follow") (Some (word false)) }
+    ensures lawful { ⟦<FileTestPredicate<FileTypePredicate> as Predicate<Snapshot>>⟧.lawful result }
+    ensures infallible { (s : Snapshot)
+        → ⟦<FileTestPredicate<FileTypePredicate> as Predicate<Snapshot>>⟧.infallible result s }
+    ensures parts { ⟦<FileTestPredicate<FileTypePredicate> as PredicateReflection>⟧.children_of result ≡ empty }
 {
     plain(FileType::File)
 }
@@ -73,6 +78,10 @@ pub fn is_dir() -> FileTestPredicate<FileTypePredicate>
         ↔ IsExactly (kind_leaf FileType.Dir false s) f }
     ensures values { ⟦<FileTestPredicate<FileTypePredicate> as PredicateReflection>⟧.parameters_of
         result ≡ value_of (codes "follow") (Some (word false)) }
+    ensures lawful { ⟦<FileTestPredicate<FileTypePredicate> as Predicate<Snapshot>>⟧.lawful result }
+    ensures infallible { (s : Snapshot)
+        → ⟦<FileTestPredicate<FileTypePredicate> as Predicate<Snapshot>>⟧.infallible result s }
+    ensures parts { ⟦<FileTestPredicate<FileTypePredicate> as PredicateReflection>⟧.children_of result ≡ empty }
 {
     plain(FileType::Dir)
 }
@@ -91,6 +100,10 @@ pub fn is_symlink() -> FileTestPredicate<FileTypePredicate>
         ↔ IsExactly (kind_leaf FileType.Symlink false s) f }
     ensures values { ⟦<FileTestPredicate<FileTypePredicate> as PredicateReflection>⟧.parameters_of
         result ≡ value_of (codes "follow") (Some (word false)) }
+    ensures lawful { ⟦<FileTestPredicate<FileTypePredicate> as Predicate<Snapshot>>⟧.lawful result }
+    ensures infallible { (s : Snapshot)
+        → ⟦<FileTestPredicate<FileTypePredicate> as Predicate<Snapshot>>⟧.infallible result s }
+    ensures parts { ⟦<FileTestPredicate<FileTypePredicate> as PredicateReflection>⟧.children_of result ≡ empty }
 {
     plain(FileType::Symlink)
 }
@@ -114,6 +127,10 @@ impl FileTestPredicate<FileTypePredicate> {
             ↔ IsExactly (kind_leaf kind true s) f)) }
         ensures values { IfOk result (λ p. ⟦<Self as PredicateReflection>⟧.parameters_of p
             ≡ value_of (codes "follow") (Some (word true))) }
+        ensures lawful { IfOk result (λ p. ⟦<Self as Predicate<Snapshot>>⟧.lawful p) }
+        ensures infallible { IfOk result (λ p. (s : Snapshot)
+            → ⟦<Self as Predicate<Snapshot>>⟧.infallible p s) }
+        ensures parts { IfOk result (λ p. ⟦<Self as PredicateReflection>⟧.children_of p ≡ empty) }
     {
         let (kind, follow) = (snapshot.followed()?, true);
         Ok(FileTestPredicate::new(FileTypePredicate { kind, follow }))
@@ -133,6 +150,9 @@ impl FileTestPredicate<FileTypePredicate> {
             ↔ IsExactly (kind_leaf (tested_kind self) yes s) f }
         ensures values { ⟦<Self as PredicateReflection>⟧.parameters_of result
             ≡ value_of (codes "follow") (Some (word yes)) }
+        ensures lawful { ⟦<Self as Predicate<Snapshot>>⟧.lawful result }
+        ensures infallible { (s : Snapshot) → ⟦<Self as Predicate<Snapshot>>⟧.infallible result s }
+        ensures parts { ⟦<Self as PredicateReflection>⟧.children_of result ≡ empty }
     {
         self.test.follow = yes;
         self

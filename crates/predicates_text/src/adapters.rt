@@ -4,7 +4,7 @@
 //! let blank = predicate::str::is_empty().trim();
 //! let utf8 = predicate::str::is_empty().not().from_utf8();
 //! ```
-ghost use Rattle.std.specs.Prelude.{◌≡◌, ◌↔◌, ℕ, Vec};
+ghost use Rattle.std.specs.Prelude.{◌≡◌, ◌↔◌, ℕ, Vec, [], codes};
 ghost use Rattle.std.specs.Str.{IsUtf8};
 ghost use Rattle.std.specs.declared.alloc.Global.{Global};
 ghost use Rattle.predicates_core.specs.Formula.{Formula};
@@ -14,6 +14,7 @@ ghost use Rattle.predicates_text.specs.ViewFormulas.{IsOfEach, IsDecoded, IsTrim
 ghost use Rattle.predicates_text.specs.ViewFormulas.{HasEvenLinesOf, IsCaseFoldedOf};
 ghost use Rattle.predicates_text.specs.declared.adapters.fold_case.FoldCaseView.{FoldCaseView};
 ghost use Rattle.predicates_text.specs.declared.adapters.view.ViewPredicate.{ViewPredicate};
+ghost use Rattle.predicates_core.specs.Parts.{part};
 
 mod fold_case;
 mod normalize;
@@ -24,6 +25,7 @@ mod view;
 pub use fold_case::{FoldCasePredicate, FoldCaseView};
 pub use normalize::{NormalizeView, NormalizedPredicate};
 use predicates_core::Predicate;
+use predicates_core::reflection::PredicateReflection;
 pub use trim::{TrimPredicate, TrimView};
 pub use utf8::{Utf8Predicate, Utf8View};
 pub use view::{TextView, View, ViewPredicate};
@@ -48,7 +50,11 @@ pub trait PredicateStrExt: Predicate<String> {
         ensures lawful { ⟦<TrimPredicate<Self> as Predicate<String>>⟧.lawful result
             ↔ Self.lawful self }
         ensures fallible { (v : Text)
-            → ¬ (⟦<TrimPredicate<Self> as Predicate<String>>⟧.infallible result v) };
+            → ¬ (⟦<TrimPredicate<Self> as Predicate<String>>⟧.infallible result v) }
+        ensures values { ⟦<TrimPredicate<Self> as PredicateReflection>⟧.parameters_of result ≡ [] }
+        ensures parts { ⟦<TrimPredicate<Self> as PredicateReflection>⟧.children_of result
+            ≡ part (codes "predicate") (Self.output self) (Self.parameters_of self)
+            (Self.children_of self) };
 
     /// The predicate of a text with even line endings: a carriage return, with the line feed behind
     /// it or alone, counts as a line feed. Its `eval` takes memory for that text, but none where
@@ -69,7 +75,12 @@ pub trait PredicateStrExt: Predicate<String> {
         ensures lawful { ⟦<NormalizedPredicate<Self> as Predicate<String>>⟧.lawful result
             ↔ Self.lawful self }
         ensures fallible { (v : Text)
-            → ¬ (⟦<NormalizedPredicate<Self> as Predicate<String>>⟧.infallible result v) };
+            → ¬ (⟦<NormalizedPredicate<Self> as Predicate<String>>⟧.infallible result v) }
+        ensures values { ⟦<NormalizedPredicate<Self> as PredicateReflection>⟧.parameters_of result
+            ≡ [] }
+        ensures parts { ⟦<NormalizedPredicate<Self> as PredicateReflection>⟧.children_of result
+            ≡ part (codes "predicate") (Self.output self) (Self.parameters_of self)
+            (Self.children_of self) };
 
     /// The predicate of a text after the default case folding of Unicode, which is one for texts
     /// that differ in case alone. A text that the predicate is made of is not folded. Its `eval`
@@ -94,7 +105,12 @@ pub trait PredicateStrExt: Predicate<String> {
         ensures again { (twice : ViewPredicate FoldCaseView (ViewPredicate FoldCaseView Self))
             (v : Text) (f : Formula) → inner_of twice ≡ result
             → ⟦<FoldCasePredicate<FoldCasePredicate<Self>> as Predicate<String>>⟧.formula twice v f
-            ↔ ⟦<FoldCasePredicate<Self> as Predicate<String>>⟧.formula result v f };
+            ↔ ⟦<FoldCasePredicate<Self> as Predicate<String>>⟧.formula result v f }
+        ensures values { ⟦<FoldCasePredicate<Self> as PredicateReflection>⟧.parameters_of result
+            ≡ [] }
+        ensures parts { ⟦<FoldCasePredicate<Self> as PredicateReflection>⟧.children_of result
+            ≡ part (codes "predicate") (Self.output self) (Self.parameters_of self)
+            (Self.children_of self) };
 
     /// The predicate of the text that bytes encode, which is false on other bytes. Its `eval`
     /// takes memory for the text, and none on other bytes.
@@ -115,7 +131,11 @@ pub trait PredicateStrExt: Predicate<String> {
             ↔ Self.lawful self }
         ensures infallible { (v : Vec ℕ Global)
             → ⟦<Utf8Predicate<Self> as Predicate<Vec<u8>>>⟧.infallible result v
-            ↔ ¬ (IsUtf8 v.items) };
+            ↔ ¬ (IsUtf8 v.items) }
+        ensures values { ⟦<Utf8Predicate<Self> as PredicateReflection>⟧.parameters_of result ≡ [] }
+        ensures parts { ⟦<Utf8Predicate<Self> as PredicateReflection>⟧.children_of result
+            ≡ part (codes "predicate") (Self.output self) (Self.parameters_of self)
+            (Self.children_of self) };
 }
 
 impl<P: Predicate<String>> PredicateStrExt for P {

@@ -7,6 +7,7 @@ ghost use Rattle.predicates_core.specs.Leaves.{IsExactly};
 ghost use Rattle.predicates_item.specs.Members.{KeepsFirst, has_equal, has_text, member_leaf};
 ghost use Rattle.predicates_item.specs.Members.{member_text};
 ghost use Rattle.predicates_item.specs.HashableIn.{members_of};
+ghost use Rattle.predicates_core.specs.Tree.{empty};
 
 use crate::iter::values::values;
 use crate::showing::{ContentTest, ShowingPredicate};
@@ -46,6 +47,12 @@ pub fn in_hash<I: IntoIterator<Item = T>, T: fmt::Debug + Hash + Eq + Drop>(
     ensures values { IfOk result (λ p.
         ⟦<ShowingPredicate<HashableInPredicate<T>> as PredicateReflection>⟧.parameters_of p
         ≡ value_of (codes "values") None) }
+    ensures lawful { IfOk result (λ p.
+        ⟦<ShowingPredicate<HashableInPredicate<T>> as Predicate<T>>⟧.lawful p) }
+    ensures infallible { IfOk result (λ p. (v : T)
+        → ⟦<ShowingPredicate<HashableInPredicate<T>> as Predicate<T>>⟧.infallible p v) }
+    ensures parts { IfOk result (λ p.
+        ⟦<ShowingPredicate<HashableInPredicate<T>> as PredicateReflection>⟧.children_of p ≡ empty) }
 {
     let members = IndexSet::from_iter(alloc, iter)?;
     Ok(ShowingPredicate::new::<T>(HashableInPredicate { members }))

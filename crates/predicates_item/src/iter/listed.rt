@@ -10,6 +10,7 @@ ghost use Rattle.predicates_item.specs.Members.{GivesItems, HasSameMembers, has_
 ghost use Rattle.predicates_item.specs.Members.{member_leaf, member_text};
 ghost use Rattle.predicates_item.specs.In.{members_of};
 ghost use Rattle.predicates_item.specs.OrdIn as OrdIn;
+ghost use Rattle.predicates_core.specs.Tree.{empty};
 
 use crate::iter::sorted::OrdInPredicate;
 use crate::iter::values::values;
@@ -47,6 +48,12 @@ pub fn in_iter<I: IntoIterator<Item = T>, T: fmt::Debug + PartialEq + Drop>(
     ensures values { IfOk result (λ p.
         ⟦<ShowingPredicate<InPredicate<T>> as PredicateReflection>⟧.parameters_of p
         ≡ value_of (codes "values") (debug_list T.debug_output (members_of p))) }
+    ensures lawful { IfOk result (λ p.
+        ⟦<ShowingPredicate<InPredicate<T>> as Predicate<T>>⟧.lawful p) }
+    ensures infallible { IfOk result (λ p. (v : T)
+        → ⟦<ShowingPredicate<InPredicate<T>> as Predicate<T>>⟧.infallible p v) }
+    ensures parts { IfOk result (λ p.
+        ⟦<ShowingPredicate<InPredicate<T>> as PredicateReflection>⟧.children_of p ≡ empty) }
 {
     let members = Vec::from_iter(alloc, iter)?;
     Ok(ShowingPredicate::new::<T>(InPredicate { members }))
@@ -77,6 +84,12 @@ impl<T: fmt::Debug + Ord> ShowingPredicate<InPredicate<T>> {
         ensures values { IfOk result (λ p.
             ⟦<ShowingPredicate<OrdInPredicate<T>> as PredicateReflection>⟧.parameters_of p
             ≡ value_of (codes "values") (debug_list T.debug_output (OrdIn.members_of p))) }
+        ensures lawful { IfOk result (λ p.
+            ⟦<ShowingPredicate<OrdInPredicate<T>> as Predicate<T>>⟧.lawful p) }
+        ensures infallible { IfOk result (λ p. (v : T)
+            → ⟦<ShowingPredicate<OrdInPredicate<T>> as Predicate<T>>⟧.infallible p v) }
+        ensures parts { IfOk result (λ p.
+            ⟦<ShowingPredicate<OrdInPredicate<T>> as PredicateReflection>⟧.children_of p ≡ empty) }
     {
         let InPredicate { mut members } = self.test;
         members.sort()?;

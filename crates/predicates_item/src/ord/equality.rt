@@ -5,6 +5,7 @@ ghost use Rattle.predicates_core.specs.Label.{showing};
 ghost use Rattle.predicates_core.specs.Leaves.{IsExactly};
 ghost use Rattle.predicates_item.specs.Comparison.{comparison_text, eq_symbol, eq_truth};
 ghost use Rattle.predicates_item.specs.Makers.{equal_to, unequal_to};
+ghost use Rattle.predicates_core.specs.Tree.{empty};
 
 use crate::showing::{ContentTest, ShowingPredicate};
 use predicates_core::Predicate;
@@ -94,6 +95,11 @@ pub fn eq<T: fmt::Debug + PartialEq>(constant: T) -> ShowingPredicate<EqPredicat
         f }
     ensures values { ⟦<ShowingPredicate<EqPredicate<T>> as PredicateReflection>⟧.parameters_of
         result ≡ [] }
+    ensures lawful { ⟦<ShowingPredicate<EqPredicate<T>> as Predicate<T>>⟧.lawful result }
+    ensures infallible { (v : T)
+        → ⟦<ShowingPredicate<EqPredicate<T>> as Predicate<T>>⟧.infallible result v }
+    ensures parts { ⟦<ShowingPredicate<EqPredicate<T>> as PredicateReflection>⟧.children_of result
+        ≡ empty }
 {
     ShowingPredicate::new::<T>(EqPredicate {
         constant,
@@ -120,6 +126,11 @@ pub fn ne<T: fmt::Debug + PartialEq>(constant: T) -> ShowingPredicate<EqPredicat
         f }
     ensures values { ⟦<ShowingPredicate<EqPredicate<T>> as PredicateReflection>⟧.parameters_of
         result ≡ [] }
+    ensures lawful { ⟦<ShowingPredicate<EqPredicate<T>> as Predicate<T>>⟧.lawful result }
+    ensures infallible { (v : T)
+        → ⟦<ShowingPredicate<EqPredicate<T>> as Predicate<T>>⟧.infallible result v }
+    ensures parts { ⟦<ShowingPredicate<EqPredicate<T>> as PredicateReflection>⟧.children_of result
+        ≡ empty }
 {
     ShowingPredicate::new::<T>(EqPredicate {
         constant,

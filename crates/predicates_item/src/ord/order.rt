@@ -7,6 +7,7 @@ ghost use Rattle.predicates_core.specs.Label.{showing};
 ghost use Rattle.predicates_core.specs.Leaves.{IsExactly};
 ghost use Rattle.predicates_item.specs.Comparison.{comparison_text, ord_symbol, ord_truth};
 ghost use Rattle.predicates_item.specs.Makers.{less_than, at_most, at_least, greater_than};
+ghost use Rattle.predicates_core.specs.Tree.{empty};
 
 use crate::showing::{ContentTest, ShowingPredicate};
 use predicates_core::Predicate;
@@ -103,6 +104,11 @@ pub fn lt<T: fmt::Debug + Ord>(constant: T) -> ShowingPredicate<OrdPredicate<T>>
         f }
     ensures values { ⟦<ShowingPredicate<OrdPredicate<T>> as PredicateReflection>⟧.parameters_of
         result ≡ [] }
+    ensures lawful { ⟦<ShowingPredicate<OrdPredicate<T>> as Predicate<T>>⟧.lawful result }
+    ensures infallible { (v : T)
+        → ⟦<ShowingPredicate<OrdPredicate<T>> as Predicate<T>>⟧.infallible result v }
+    ensures parts { ⟦<ShowingPredicate<OrdPredicate<T>> as PredicateReflection>⟧.children_of result
+        ≡ empty }
 {
     ShowingPredicate::new::<T>(OrdPredicate {
         constant,
@@ -129,6 +135,11 @@ pub fn le<T: fmt::Debug + Ord>(constant: T) -> ShowingPredicate<OrdPredicate<T>>
         f }
     ensures values { ⟦<ShowingPredicate<OrdPredicate<T>> as PredicateReflection>⟧.parameters_of
         result ≡ [] }
+    ensures lawful { ⟦<ShowingPredicate<OrdPredicate<T>> as Predicate<T>>⟧.lawful result }
+    ensures infallible { (v : T)
+        → ⟦<ShowingPredicate<OrdPredicate<T>> as Predicate<T>>⟧.infallible result v }
+    ensures parts { ⟦<ShowingPredicate<OrdPredicate<T>> as PredicateReflection>⟧.children_of result
+        ≡ empty }
 {
     ShowingPredicate::new::<T>(OrdPredicate {
         constant,
@@ -155,6 +166,11 @@ pub fn ge<T: fmt::Debug + Ord>(constant: T) -> ShowingPredicate<OrdPredicate<T>>
         f }
     ensures values { ⟦<ShowingPredicate<OrdPredicate<T>> as PredicateReflection>⟧.parameters_of
         result ≡ [] }
+    ensures lawful { ⟦<ShowingPredicate<OrdPredicate<T>> as Predicate<T>>⟧.lawful result }
+    ensures infallible { (v : T)
+        → ⟦<ShowingPredicate<OrdPredicate<T>> as Predicate<T>>⟧.infallible result v }
+    ensures parts { ⟦<ShowingPredicate<OrdPredicate<T>> as PredicateReflection>⟧.children_of result
+        ≡ empty }
 {
     ShowingPredicate::new::<T>(OrdPredicate {
         constant,
@@ -181,6 +197,11 @@ pub fn gt<T: fmt::Debug + Ord>(constant: T) -> ShowingPredicate<OrdPredicate<T>>
         f }
     ensures values { ⟦<ShowingPredicate<OrdPredicate<T>> as PredicateReflection>⟧.parameters_of
         result ≡ [] }
+    ensures lawful { ⟦<ShowingPredicate<OrdPredicate<T>> as Predicate<T>>⟧.lawful result }
+    ensures infallible { (v : T)
+        → ⟦<ShowingPredicate<OrdPredicate<T>> as Predicate<T>>⟧.infallible result v }
+    ensures parts { ⟦<ShowingPredicate<OrdPredicate<T>> as PredicateReflection>⟧.children_of result
+        ≡ empty }
 {
     ShowingPredicate::new::<T>(OrdPredicate {
         constant,

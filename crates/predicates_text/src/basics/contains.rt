@@ -1,5 +1,5 @@
 //! Whether a text contains a pattern.
-ghost use Rattle.std.specs.Prelude.{◌≡◌, ◌↔◌, string_bytes};
+ghost use Rattle.std.specs.Prelude.{◌≡◌, ◌↔◌, string_bytes, [], Some, codes};
 ghost use Rattle.std.specs.Str.{chars};
 ghost use Rattle.predicates_core.specs.Formula.{Formula};
 ghost use Rattle.predicates_core.specs.Text.{Text};
@@ -9,12 +9,16 @@ ghost use Rattle.predicates_text.specs.LeafFormulas.{IsContainsLeaf, IsCountedLe
 ghost use Rattle.predicates_text.specs.Patterns.{contains_pattern, matches_pattern, matches_count};
 ghost use Rattle.predicates_text.specs.PlaceLaws.{part_decides};
 ghost use Rattle.predicates_text.specs.Places.{is_part};
+ghost use Rattle.predicates_core.specs.Tree.{empty};
+ghost use Rattle.predicates_core.specs.Label.{value_of};
+ghost use Rattle.std.specs.Fmt.{decimal};
 
 use crate::basics::matches::MatchesPredicate;
 use crate::search;
 use crate::text_count::TextCountPredicate;
 use crate::text_test::{TextTest, TextTestPredicate};
 use predicates_core::Predicate;
+use predicates_core::reflection::PredicateReflection;
 use std::alloc::{AllocError, Global};
 use std::fmt;
 
@@ -39,6 +43,9 @@ pub fn contains(pattern: String) -> TextTestPredicate<ContainsPredicate>
         ↔ IsContainsLeaf (string_bytes pattern) (string_bytes v) f }
     ensures infallible { (v : Text)
         → ⟦<TextTestPredicate<ContainsPredicate> as Predicate<String>>⟧.infallible result v }
+    ensures lawful { ⟦<TextTestPredicate<ContainsPredicate> as Predicate<String>>⟧.lawful result }
+    ensures values { ⟦<TextTestPredicate<ContainsPredicate> as PredicateReflection>⟧.parameters_of result ≡ [] }
+    ensures parts { ⟦<TextTestPredicate<ContainsPredicate> as PredicateReflection>⟧.children_of result ≡ empty }
 {
     TextTestPredicate::new(ContainsPredicate { pattern })
 }
@@ -61,6 +68,10 @@ impl TextTestPredicate<ContainsPredicate> {
             ↔ IsCountedLeaf (contains_pattern self) count (string_bytes v) f }
         ensures infallible { (v : Text)
             → ⟦<MatchesPredicate as Predicate<String>>⟧.infallible result v }
+        ensures lawful { ⟦<MatchesPredicate as Predicate<String>>⟧.lawful result }
+        ensures values { ⟦<MatchesPredicate as PredicateReflection>⟧.parameters_of result
+            ≡ value_of (codes "count") (Some (decimal count)) }
+        ensures parts { ⟦<MatchesPredicate as PredicateReflection>⟧.children_of result ≡ empty }
     {
         TextCountPredicate::new(self.test, count)
     }

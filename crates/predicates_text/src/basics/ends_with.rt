@@ -1,5 +1,5 @@
 //! Whether a text ends with a pattern.
-ghost use Rattle.std.specs.Prelude.{◌≡◌, ◌↔◌, string_bytes};
+ghost use Rattle.std.specs.Prelude.{◌≡◌, ◌↔◌, string_bytes, []};
 ghost use Rattle.std.specs.Str.{chars};
 ghost use Rattle.predicates_core.specs.Formula.{Formula};
 ghost use Rattle.predicates_core.specs.Text.{Text};
@@ -9,10 +9,12 @@ ghost use Rattle.predicates_text.specs.LeafFormulas.{IsEndsLeaf};
 ghost use Rattle.predicates_text.specs.Patterns.{ends_pattern};
 ghost use Rattle.predicates_text.specs.PlaceLaws.{back_decides};
 ghost use Rattle.predicates_text.specs.Places.{is_back};
+ghost use Rattle.predicates_core.specs.Tree.{empty};
 
 use crate::search;
 use crate::text_test::{TextTest, TextTestPredicate};
 use predicates_core::Predicate;
+use predicates_core::reflection::PredicateReflection;
 use std::alloc::{AllocError, Global};
 use std::fmt;
 
@@ -37,6 +39,9 @@ pub fn ends_with(pattern: String) -> TextTestPredicate<EndsWithPredicate>
         ↔ IsEndsLeaf (string_bytes pattern) (string_bytes v) f }
     ensures infallible { (v : Text)
         → ⟦<TextTestPredicate<EndsWithPredicate> as Predicate<String>>⟧.infallible result v }
+    ensures lawful { ⟦<TextTestPredicate<EndsWithPredicate> as Predicate<String>>⟧.lawful result }
+    ensures values { ⟦<TextTestPredicate<EndsWithPredicate> as PredicateReflection>⟧.parameters_of result ≡ [] }
+    ensures parts { ⟦<TextTestPredicate<EndsWithPredicate> as PredicateReflection>⟧.children_of result ≡ empty }
 {
     TextTestPredicate::new(EndsWithPredicate { pattern })
 }

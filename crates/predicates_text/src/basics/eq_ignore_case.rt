@@ -1,5 +1,5 @@
 //! Whether a text is another one but for case.
-ghost use Rattle.std.specs.Prelude.{◌≡◌, ◌↔◌, string_bytes};
+ghost use Rattle.std.specs.Prelude.{◌≡◌, ◌↔◌, string_bytes, []};
 ghost use Rattle.std.specs.Str.{chars};
 ghost use Rattle.predicates_core.specs.Formula.{Formula};
 ghost use Rattle.predicates_core.specs.Text.{Text};
@@ -9,10 +9,12 @@ ghost use Rattle.predicates_text.specs.LeafFormulas.{IsEqIgnoreCaseLeaf};
 ghost use Rattle.predicates_text.specs.Patterns.{eq_ignore_case_other};
 ghost use Rattle.predicates_text.specs.PlaceLaws.{eq_ignore_case_decides};
 ghost use Rattle.predicates_text.specs.Places.{is_eq_ignore_case};
+ghost use Rattle.predicates_core.specs.Tree.{empty};
 
 use crate::search;
 use crate::text_test::{TextTest, TextTestPredicate};
 use predicates_core::Predicate;
+use predicates_core::reflection::PredicateReflection;
 use std::alloc::{AllocError, Global};
 use std::fmt;
 
@@ -37,6 +39,9 @@ pub fn eq_ignore_case(other: String) -> TextTestPredicate<EqIgnoreCasePredicate>
         ↔ IsEqIgnoreCaseLeaf (string_bytes other) (string_bytes v) f }
     ensures infallible { (v : Text)
         → ⟦<TextTestPredicate<EqIgnoreCasePredicate> as Predicate<String>>⟧.infallible result v }
+    ensures lawful { ⟦<TextTestPredicate<EqIgnoreCasePredicate> as Predicate<String>>⟧.lawful result }
+    ensures values { ⟦<TextTestPredicate<EqIgnoreCasePredicate> as PredicateReflection>⟧.parameters_of result ≡ [] }
+    ensures parts { ⟦<TextTestPredicate<EqIgnoreCasePredicate> as PredicateReflection>⟧.children_of result ≡ empty }
 {
     TextTestPredicate::new(EqIgnoreCasePredicate { other })
 }

@@ -1,5 +1,5 @@
 //! Whether a text has no characters.
-ghost use Rattle.std.specs.Prelude.{◌↔◌, string_bytes};
+ghost use Rattle.std.specs.Prelude.{◌↔◌, string_bytes, []};
 ghost use Rattle.std.specs.Str.{chars};
 ghost use Rattle.predicates_core.specs.Formula.{Formula};
 ghost use Rattle.predicates_core.specs.Text.{Text};
@@ -8,10 +8,12 @@ ghost use Rattle.predicates_text.specs.LeafFormulaLaws.{is_text_leaf};
 ghost use Rattle.predicates_text.specs.LeafFormulas.{IsEmptyLeaf};
 ghost use Rattle.predicates_text.specs.PlaceLaws.{empty_decides};
 ghost use Rattle.predicates_text.specs.Places.{is_empty};
+ghost use Rattle.predicates_core.specs.Tree.{empty};
 
 use crate::search;
 use crate::text_test::{TextTest, TextTestPredicate};
 use predicates_core::Predicate;
+use predicates_core::reflection::PredicateReflection;
 use std::alloc::{AllocError, Global};
 use std::fmt;
 
@@ -32,6 +34,9 @@ pub fn is_empty() -> TextTestPredicate<IsEmptyPredicate>
         ↔ IsEmptyLeaf (string_bytes v) f }
     ensures infallible { (v : Text)
         → ⟦<TextTestPredicate<IsEmptyPredicate> as Predicate<String>>⟧.infallible result v }
+    ensures lawful { ⟦<TextTestPredicate<IsEmptyPredicate> as Predicate<String>>⟧.lawful result }
+    ensures values { ⟦<TextTestPredicate<IsEmptyPredicate> as PredicateReflection>⟧.parameters_of result ≡ [] }
+    ensures parts { ⟦<TextTestPredicate<IsEmptyPredicate> as PredicateReflection>⟧.children_of result ≡ empty }
 {
     TextTestPredicate::new(IsEmptyPredicate)
 }

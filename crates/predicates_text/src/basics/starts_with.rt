@@ -1,5 +1,5 @@
 //! Whether a text begins with a pattern.
-ghost use Rattle.std.specs.Prelude.{◌≡◌, ◌↔◌, string_bytes};
+ghost use Rattle.std.specs.Prelude.{◌≡◌, ◌↔◌, string_bytes, []};
 ghost use Rattle.std.specs.Str.{chars};
 ghost use Rattle.predicates_core.specs.Formula.{Formula};
 ghost use Rattle.predicates_core.specs.Text.{Text};
@@ -9,10 +9,12 @@ ghost use Rattle.predicates_text.specs.LeafFormulas.{IsStartsLeaf};
 ghost use Rattle.predicates_text.specs.Patterns.{starts_pattern};
 ghost use Rattle.predicates_text.specs.PlaceLaws.{front_decides};
 ghost use Rattle.predicates_text.specs.Places.{is_front};
+ghost use Rattle.predicates_core.specs.Tree.{empty};
 
 use crate::search;
 use crate::text_test::{TextTest, TextTestPredicate};
 use predicates_core::Predicate;
+use predicates_core::reflection::PredicateReflection;
 use std::alloc::{AllocError, Global};
 use std::fmt;
 
@@ -37,6 +39,9 @@ pub fn starts_with(pattern: String) -> TextTestPredicate<StartsWithPredicate>
         ↔ IsStartsLeaf (string_bytes pattern) (string_bytes v) f }
     ensures infallible { (v : Text)
         → ⟦<TextTestPredicate<StartsWithPredicate> as Predicate<String>>⟧.infallible result v }
+    ensures lawful { ⟦<TextTestPredicate<StartsWithPredicate> as Predicate<String>>⟧.lawful result }
+    ensures values { ⟦<TextTestPredicate<StartsWithPredicate> as PredicateReflection>⟧.parameters_of result ≡ [] }
+    ensures parts { ⟦<TextTestPredicate<StartsWithPredicate> as PredicateReflection>⟧.children_of result ≡ empty }
 {
     TextTestPredicate::new(StartsWithPredicate { pattern })
 }

@@ -1,5 +1,5 @@
 //! Whether a regular expression has a match in a text.
-ghost use Rattle.std.specs.Prelude.{◌≡◌, ◌≢◌, ◌↔◌, IfOk, IfErr, is_some, string_bytes};
+ghost use Rattle.std.specs.Prelude.{◌≡◌, ◌≢◌, ◌↔◌, IfOk, IfErr, is_some, string_bytes, [], Some};
 ghost use Rattle.regex.specs.Patterns.{default_config, find_str};
 ghost use Rattle.regex.specs.Sources.{IsRefusal};
 ghost use Rattle.regex.specs.Strings.{regex_pattern};
@@ -12,6 +12,10 @@ ghost use Rattle.predicates_text.specs.Expressions.{match_text, match_formula, m
 ghost use Rattle.predicates_text.specs.Expressions.{regex_text, regex_meaning, regex_matches_text};
 ghost use Rattle.predicates_text.specs.Expressions.{regex_matches_meaning, regex_matches_count};
 ghost use Rattle.predicates_text.specs.Expressions.{IsReadFromText};
+ghost use Rattle.predicates_core.specs.Tree.{empty};
+ghost use Rattle.std.specs.Prelude.{codes};
+ghost use Rattle.predicates_core.specs.Label.{value_of};
+ghost use Rattle.std.specs.Fmt.{decimal};
 
 use crate::expressions::RegexError;
 use crate::expressions::match_count::RegexMatchesPredicate;
@@ -19,6 +23,7 @@ use crate::expressions::regex_search::has_match;
 use crate::text_count::TextCountPredicate;
 use crate::text_test::{TextTest, TextTestPredicate};
 use predicates_core::Predicate;
+use predicates_core::reflection::PredicateReflection;
 use regex::Regex;
 use std::alloc::{AllocError, Global};
 use std::fmt;
@@ -62,6 +67,12 @@ pub fn is_match(
     ensures kind { IfErr result (IsRightKind default_config (string_bytes pattern)) }
     ensures span { IfErr result (HasSpanIn (string_bytes pattern)) }
     ensures no_internal { IfErr result (λ e. e ≢ Internal) }
+    ensures lawful { IfOk result (λ p.
+        ⟦<TextTestPredicate<RegexPredicate> as Predicate<String>>⟧.lawful p) }
+    ensures values { IfOk result (λ p.
+        ⟦<TextTestPredicate<RegexPredicate> as PredicateReflection>⟧.parameters_of p ≡ []) }
+    ensures parts { IfOk result (λ p.
+        ⟦<TextTestPredicate<RegexPredicate> as PredicateReflection>⟧.children_of p ≡ empty) }
 {
     let regex = boxed(alloc, Regex::new(alloc, &pattern)?)?;
     Ok(TextTestPredicate::new(RegexPredicate { pattern, regex }))
@@ -87,6 +98,11 @@ impl TextTestPredicate<RegexPredicate> {
             (string_bytes v)) f }
         ensures fallible { (v : Text)
             → ¬ (⟦<RegexMatchesPredicate as Predicate<String>>⟧.infallible result v) }
+        ensures lawful { ⟦<RegexMatchesPredicate as Predicate<String>>⟧.lawful result }
+        ensures values { ⟦<RegexMatchesPredicate as PredicateReflection>⟧.parameters_of result
+            ≡ value_of (codes "count") (Some (decimal count)) }
+        ensures parts { ⟦<RegexMatchesPredicate as PredicateReflection>⟧.children_of result
+            ≡ empty }
     {
         TextCountPredicate::new(self.test, count)
     }

@@ -1,23 +1,11 @@
-use Rattle.std.proofs.Common.{◌≡◌, ◌∙◌, false, true≢false, Option, Some, rules, arith, sym, subst, get_or}
+use Rattle.std.proofs.Common.{true≢false, rules, arith, sym, subst, get_or}
 use Rattle.std.proofs.ByRecursion.{All-get_or}
 use Rattle.std.proofs.lemmas.List.{take_more}
-use Rattle.predicates_core.specs.Tree.{Tree}
-use Rattle.predicates_core.specs.Describe.{CaseNode}
-use Rattle.predicates_core.specs.Formula.{Formula}
-use Rattle.predicates_core.specs.Shows.{IsAnswer}
-use Rattle.predicates_check.specs.declared.expectation.Expectation.{Expectation}
 use Rattle.predicates_check.specs.Told.{HasFailures}
 use Rattle.predicates_check.specs.Expected.{expected, IsMetInfallibly, IsFailure}
-use Rattle.predicates_check.proofs.Telling.{failures_held, failures_more}
+use Rattle.predicates_check.proofs.Telling.{failures_held, failures_more, no_case}
 use Rattle.predicates_check.proofs.expectation.check_all.Goals as goal
 use Rattle.predicates_check.proofs.expectation.check_all.Goals.{in-Some+in_ok-label+in_ok-push, in_default}
-
--- an expectation that is met infallibly has no case of not being met
-no_case : {Item P : Type 0} (infallible : P → Item → Type 0) (formula : P → Item → Formula → Type 0) (expectation : Expectation Item P) (found : Option (Tree CaseNode)) (case : Tree CaseNode)
-    → IsMetInfallibly infallible formula expectation → IsAnswer (expected formula expectation) false found → found ≡ Some case → ⊥
-no_case infallible formula expectation found case met answer is =
-    let unmet = subst (IsAnswer (expected formula expectation) false) is answer in
-    absurd (true≢false (sym met.1.2 ∙ unmet.truth.at met.1.0 met.1.1))
 
 pub loop-expectation-preserved : goal.loop-expectation-preserved
 loop-expectation-preserved g c =
@@ -40,9 +28,9 @@ returns-in_err-reason-clause-infallible g c = λ all.
 pub returns-in_err-label-clause-infallible : goal.returns-in_err-label-clause-infallible
 returns-in_err-label-clause-infallible g c = λ all.
     let met = subst (IsMetInfallibly g.P.Predicate.infallible g.P.Predicate.formula) (sym c.expectation-item.is) (All-get_or _ c.args.expectations.now c.loop-expectation.expectation-index _ c.loop-expectation-test.true all) in
-    absurd (no_case g.P.Predicate.infallible g.P.Predicate.formula c.expectation-item.result _ _ met c.in_ok-reason.ensures.answer c.in-Some.is)
+    absurd (no_case g.P.Predicate.infallible g.P.Predicate.formula c.expectation-item.result.item c.expectation-item.result.check _ _ met c.in_ok-reason.ensures.answer c.in-Some.is)
 
 pub returns-in_err-push-clause-infallible : goal.returns-in_err-push-clause-infallible
 returns-in_err-push-clause-infallible g c = λ all.
     let met = subst (IsMetInfallibly g.P.Predicate.infallible g.P.Predicate.formula) (sym c.expectation-item.is) (All-get_or _ c.args.expectations.now c.loop-expectation.expectation-index _ c.loop-expectation-test.true all) in
-    absurd (no_case g.P.Predicate.infallible g.P.Predicate.formula c.expectation-item.result _ _ met c.in_ok-reason.ensures.answer c.in-Some.is)
+    absurd (no_case g.P.Predicate.infallible g.P.Predicate.formula c.expectation-item.result.item c.expectation-item.result.check _ _ met c.in_ok-reason.ensures.answer c.in-Some.is)
