@@ -23,12 +23,12 @@ loop-rule-preserved g c =
       | in_default w ↦ search (rules, failures_held F R (get_or all place rule) c.loop-rule.invariant)
     ])
 
-pub returns-in_err-find_reason-clause-infallible : goal.returns-in_err-find_reason-clause-infallible
-returns-in_err-find_reason-clause-infallible g c = λ all.
+pub returns-in_err-case-clause-infallible : goal.returns-in_err-case-clause-infallible
+returns-in_err-case-clause-infallible g c = λ all.
     let holds = subst (HoldsInfallibly g.P.Predicate.infallible g.P.Predicate.formula c.args.item.now) (sym c.rule-item.is) (All-get_or _ c.args.rules.now c.loop-rule.rule-index _ c.loop-rule-test.true all) in
-    absurd (true≢false (sym (c.in_err-find_reason.ensures.infallible holds.0 holds.1.0 holds.1.1 holds.1.2)))
+    absurd (true≢false (sym (c.in_err-case.ensures.infallible holds.0 holds.1.0 holds.1.1 holds.1.2)))
 
 pub returns-in_err-push-clause-infallible : goal.returns-in_err-push-clause-infallible
 returns-in_err-push-clause-infallible g c = λ all.
     let holds = subst (HoldsInfallibly g.P.Predicate.infallible g.P.Predicate.formula c.args.item.now) (sym c.rule-item.is) (All-get_or _ c.args.rules.now c.loop-rule.rule-index _ c.loop-rule-test.true all) in
-    absurd (no_case g.P.Predicate.infallible g.P.Predicate.formula c.args.item.now c.rule-item.result _ _ holds c.in_ok-find_reason.ensures.answer c.in-Some.is)
+    absurd (no_case g.P.Predicate.infallible g.P.Predicate.formula c.args.item.now c.rule-item.result _ _ holds c.in_ok-case.ensures.answer c.in-Some.is)
