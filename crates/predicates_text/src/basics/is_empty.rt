@@ -1,5 +1,5 @@
 //! Whether a text has no characters.
-ghost use Rattle.std.specs.Prelude.{◌↔◌, string_bytes, []};
+ghost use Rattle.std.specs.Prelude.{◌≡◌, ◌↔◌, string_bytes, []};
 ghost use Rattle.std.specs.Str.{chars};
 ghost use Rattle.predicates_core.specs.Formula.{Formula};
 ghost use Rattle.predicates_core.specs.Text.{Text};
