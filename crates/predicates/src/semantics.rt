@@ -9,7 +9,7 @@
 ghost use Rattle.std.specs.Prelude.{◌≡◌, ◌↔◌, string_bytes};
 
 use crate::boxed::TextPredicate;
-pub use predicates_boolean::semantics::{at_least, rules};
+pub use predicates_boolean::semantics::rules;
 use predicates_core::{PredicateChange, ReadsContent};
 pub use predicates_part::semantics::{length, variant};
 

@@ -8,19 +8,19 @@
 //! ```
 //!
 //! Rules of several types stand in a `BoxPredicate` or in an enum of the caller's.
-ghost use Rattle.std.specs.Prelude.{◌≡◌, [], codes, length, map};
+ghost use Rattle.std.specs.Prelude.{◌≡◌, [], codes, map};
 ghost use Rattle.std.specs.Fmt.{DisplaysOnOk};
 ghost use Rattle.std.specs.List.{AllByRecursion};
 ghost use Rattle.predicates_core.specs.Parts.{part_of_each};
 ghost use Rattle.predicates_core.specs.Several.{further_texts, listed_text};
-ghost use Rattle.predicates_core.specs.Thresholds.{IsOfThreshold, least_of, threshold_formula};
+ghost use Rattle.predicates_core.specs.Thresholds.{IsOfThreshold, threshold_formula};
 ghost use Rattle.predicates_core.proofs.Several.{each_holds, each_weaker};
 ghost use Rattle.predicates_core.proofs.ThresholdCases.{threshold_text_fits, one_by_threshold};
 ghost use Rattle.predicates_core.proofs.ThresholdCases.{has_threshold};
-ghost use Rattle.predicates_boolean.specs.Rules.{rules_of, word};
+ghost use Rattle.predicates_boolean.specs.Rules.{least_of_rules, quantifier_of, rules_of, rules_text};
 
 use predicates_core::custom::{
-    AtLeastOne, Counting, Every, Quantifier, each_child, least_of, parts_case, parts_change,
+    AtLeastOne, Counting, Every, HowMany, Quantifier, each_child, parts_case, parts_change,
     parts_explained, parts_hold,
 };
 use predicates_core::reflection::{Case, Child, Parameter, PredicateReflection};
@@ -29,11 +29,12 @@ use std::alloc::{AllocError, Global};
 use std::fmt;
 use std::marker::PhantomData;
 
-/// Holds where each of its rules does, or where one does. Made by `all_of` and `any_of`.
-#[derive(Debug, PartialEq, Eq, Drop)]
+/// Holds where each of its rules does, where one does, or where at least so many do. Made by
+/// `all_of`, `any_of` and `at_least`.
+#[derive(PartialEq, Eq, Drop)]
 pub struct RulesPredicate<Q, P> {
     rules: Vec<P>,
-    quantifier: PhantomData<Q>,
+    quantifier: Q,
 }
 
 /// Holds where each of its rules does. Made by `all_of`.
@@ -53,10 +54,7 @@ pub type AnyOfPredicate<P> = RulesPredicate<AtLeastOne, P>;
 pub fn all_of<P>(rules: Vec<P>) -> AllOfPredicate<P>
     ensures { rules_of result ≡ rules.items }
 {
-    RulesPredicate {
-        rules,
-        quantifier: PhantomData,
-    }
+    RulesPredicate::new(Every, rules)
 }
 
 /// Holds where one of the rules does; `eval` stops at the first that does. It prints `any_of(..)`,
@@ -70,25 +68,30 @@ pub fn all_of<P>(rules: Vec<P>) -> AllOfPredicate<P>
 pub fn any_of<P>(rules: Vec<P>) -> AnyOfPredicate<P>
     ensures { rules_of result ≡ rules.items }
 {
-    RulesPredicate {
-        rules,
-        quantifier: PhantomData,
-    }
+    RulesPredicate::new(AtLeastOne, rules)
 }
 
 impl<Q: Quantifier, P> RulesPredicate<Q, P> {
+    // Of which so many of the rules have to hold.
+    pub(super) fn new(quantifier: Q, rules: Vec<P>) -> RulesPredicate<Q, P>
+        ensures quantifier { quantifier_of result ≡ quantifier }
+        ensures rules { rules_of result ≡ rules.items }
+    {
+        RulesPredicate { rules, quantifier }
+    }
+
     // How many of its rules have to hold.
     fn least(&self) -> usize
-        ensures { result ≡ least_of Q.one_suffices (length (rules_of self.now)) }
+        ensures { result ≡ least_of_rules Q.how_many self.now }
     {
-        least_of(Q::one_suffices(), self.rules.len())
+        self.quantifier.how_many().least_of(self.rules.len())
     }
 
     // What its cases are made of.
     fn counting(&self) -> Counting<'_, RulesPredicate<Q, P>>
         ensures whole { result.whole.now ≡ self.now }
         ensures name { result.name.now ≡ codes "rule" }
-        ensures least { result.least ≡ least_of Q.one_suffices (length (rules_of self.now)) }
+        ensures least { result.least ≡ least_of_rules Q.how_many self.now }
     {
         Counting {
             whole: self,
@@ -98,15 +101,8 @@ impl<Q: Quantifier, P> RulesPredicate<Q, P> {
     }
 }
 
-// What is printed before the list.
-fn word_of(one_suffices: bool) -> &'static str
-    ensures { result.now ≡ word one_suffices }
-{
-    if one_suffices { "any_of" } else { "all_of" }
-}
-
 // Writes each of the rules behind a comma.
-pub(super) fn write_further<P: fmt::Display, W: fmt::Write>(
+fn write_further<P: fmt::Display, W: fmt::Write>(
     f: &mut fmt::Formatter<W>,
     rules: &[P],
 ) -> fmt::Result
@@ -119,17 +115,55 @@ pub(super) fn write_further<P: fmt::Display, W: fmt::Write>(
     Ok(())
 }
 
+// Writes the rules behind the word.
+fn write_listed<P: fmt::Display, W: fmt::Write>(
+    f: &mut fmt::Formatter<W>,
+    word: &'static str,
+    rules: &[P],
+) -> fmt::Result
+    ensures { DisplaysOnOk W.write_str_gives f.old result
+        (listed_text word.entry.now (map P.output rules.now)) f.new }
+{
+    let Some((first, rest)) = rules.split_first() else {
+        return write!(f, "{word}()");
+    };
+    write!(f, "{word}({first}")?;
+    write_further(f, rest)?;
+    f.write_str(")")
+}
+
 impl<Q: Quantifier, P: fmt::Display> fmt::Display for RulesPredicate<Q, P> {
-    ghost output = { λ p. listed_text (word Q.one_suffices) (map P.output (rules_of p)) };
+    ghost output = { λ p. rules_text (Q.how_many p.quantifier) (map P.output (rules_of p)) };
 
     fn fmt<W: fmt::Write>(&self, f: &mut fmt::Formatter<W>) -> fmt::Result {
-        let word = word_of(Q::one_suffices());
-        let Some((first, rest)) = self.rules.as_slice().split_first() else {
-            return write!(f, "{word}()");
-        };
-        write!(f, "{word}({first}")?;
-        write_further(f, rest)?;
-        f.write_str(")")
+        let rules = self.rules.as_slice();
+        match self.quantifier.how_many() {
+            HowMany::Every => write_listed(f, "all_of", rules),
+            HowMany::AtLeastOne => write_listed(f, "any_of", rules),
+            HowMany::AtLeast(least) => {
+                write!(f, "at_least({least}")?;
+                write_further(f, rules)?;
+                f.write_str(")")
+            }
+        }
+    }
+}
+
+// Of a threshold it tells the number.
+impl<Q: Quantifier, P: fmt::Debug> fmt::Debug for RulesPredicate<Q, P> {
+    fn fmt<W: fmt::Write>(&self, f: &mut fmt::Formatter<W>) -> fmt::Result {
+        match self.quantifier.how_many() {
+            HowMany::AtLeast(least) => f
+                .debug_struct("AtLeastPredicate")
+                .field("least", &least)
+                .field("rules", &self.rules)
+                .finish(),
+            _ => f
+                .debug_struct("RulesPredicate")
+                .field("rules", &self.rules)
+                .field("quantifier", &PhantomData::<Q>)
+                .finish(),
+        }
     }
 }
 
@@ -151,17 +185,17 @@ impl<Q: Quantifier, P: PredicateReflection> PredicateReflection for RulesPredica
 impl<Q: Quantifier, P: Predicate<Item>, Item> Predicate<Item> for RulesPredicate<Q, P> {
     ghost lawful = { λ p. AllByRecursion P.lawful (rules_of p) };
 
-    ghost formula = { λ p v. IsOfThreshold (least_of Q.one_suffices (length (rules_of p)))
-        (listed_text (word Q.one_suffices) (map P.output (rules_of p)))
+    ghost formula = { λ p v. IsOfThreshold (least_of_rules Q.how_many p)
+        (rules_text (Q.how_many p.quantifier) (map P.output (rules_of p)))
         (codes "rule") (λ q. P.formula q v) (rules_of p) };
 
     ghost infallible = { λ p v. AllByRecursion (λ q. P.infallible q v) (rules_of p) };
 
     ghost text_fits = { λ p v f. threshold_text_fits
-        (least_of Q.one_suffices (length (rules_of p))) (rules_of p) };
+        (least_of_rules Q.how_many p) (rules_of p) };
 
     ghost one_formula = { λ p v f g lawful. one_by_threshold
-        (least_of Q.one_suffices (length (rules_of p))) (rules_of p)
+        (least_of_rules Q.how_many p) (rules_of p)
         (each_weaker P.lawful _ (rules_of p) (λ q of_q x y. P.one_formula q v x y of_q) lawful) };
 
     fn eval(&self, alloc: Global, item: &Item) -> Result<bool, AllocError> {
@@ -202,26 +236,26 @@ impl<Q: Quantifier, P: PredicateChange<Item>, Item> PredicateChange<Item> for Ru
 }
 
 impl<Q: Quantifier, P: Total<Item>, Item> Total<Item> for RulesPredicate<Q, P> {
-    ghost formula_of = { λ p v. threshold_formula (least_of Q.one_suffices (length (rules_of p)))
-        (listed_text (word Q.one_suffices) (map P.output (rules_of p))) (codes "rule")
+    ghost formula_of = { λ p v. threshold_formula (least_of_rules Q.how_many p)
+        (rules_text (Q.how_many p.quantifier) (map P.output (rules_of p))) (codes "rule")
         (λ q. P.formula_of q v) (rules_of p) };
 
     ghost always_lawful = { λ p. each_holds (rules_of p) P.always_lawful };
 
     ghost has_formula = { λ p v. has_threshold
-        (least_of Q.one_suffices (length (rules_of p))) (λ q. P.formula_of q v) (rules_of p)
+        (least_of_rules Q.how_many p) (λ q. P.formula_of q v) (rules_of p)
         (λ q. P.has_formula q v) };
 }
 
 impl<Q: Quantifier, P: ReadsContent<Item>, Item: Content> ReadsContent<Item>
     for RulesPredicate<Q, P> {
-    ghost content_formula = { λ p bytes. threshold_formula (least_of Q.one_suffices (length (rules_of p)))
-        (listed_text (word Q.one_suffices) (map P.output (rules_of p))) (codes "rule")
+    ghost content_formula = { λ p bytes. threshold_formula (least_of_rules Q.how_many p)
+        (rules_text (Q.how_many p.quantifier) (map P.output (rules_of p))) (codes "rule")
         (λ q. P.content_formula q bytes) (rules_of p) };
 
     ghost always_lawful = { λ p. each_holds (rules_of p) P.always_lawful };
 
     ghost has_formula = { λ p v. has_threshold
-        (least_of Q.one_suffices (length (rules_of p))) (λ q. P.content_formula q (Item.content v))
+        (least_of_rules Q.how_many p) (λ q. P.content_formula q (Item.content v))
         (rules_of p) (λ q. P.has_formula q v) };
 }

@@ -21,6 +21,7 @@ pub mod Present
 pub mod Several
 pub mod Turning
 pub mod Thresholds
+pub mod HowMany
 pub mod Laws
 pub mod Added
 pub mod Text

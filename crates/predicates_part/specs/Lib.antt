@@ -1,5 +1,4 @@
 pub mod Part
 pub mod Optional
 pub mod Members
-pub mod MembersAtLeast
 pub mod Length

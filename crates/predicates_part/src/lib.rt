@@ -13,13 +13,12 @@
 //! ```
 #![tactic(auto)]
 
-ghost use Rattle.std.specs.Prelude.{◌≡◌, ◌↔◌, true, false, [], ◌∷◌, codes, option_copied, IfOk};
+ghost use Rattle.std.specs.Prelude.{◌≡◌, ◌↔◌, [], ◌∷◌, codes, length, option_copied, IfOk};
 ghost use Rattle.std.specs.Prelude.{IfSome, Option, Vec};
 ghost use Rattle.std.specs.Global.{Global};
 ghost use Rattle.predicates_core.specs.Combined.{IsNamed};
 ghost use Rattle.predicates_core.specs.Formula.{Formula};
 ghost use Rattle.predicates_core.specs.Present.{IsOfPresent};
-ghost use Rattle.predicates_core.specs.Several.{IsOfMembers};
 ghost use Rattle.predicates_core.specs.Thresholds.{IsOfThreshold, counted_text};
 ghost use Rattle.predicates_part.specs.Part.{HasOnePart, IsOfPart, IsInfallibleOnPart};
 ghost use Rattle.predicates_part.specs.Part.{owned, borrowed};
@@ -30,26 +29,25 @@ ghost use Rattle.predicates_boolean.specs.Not as Not;
 ghost use Rattle.predicates_boolean.specs.Threshold.{one_more};
 ghost use Rattle.predicates_part.specs.Members as Members;
 ghost use Rattle.predicates_part.specs.Members.{applied_text};
-ghost use Rattle.predicates_part.specs.MembersAtLeast as MembersAtLeast;
 ghost use Rattle.predicates_part.specs.Optional as Optional;
 
 mod length;
 mod members;
-mod members_at_least;
 mod part;
 pub mod semantics;
 mod variant;
 
 pub use length::{Length, LengthPredicate};
-pub use members::{AnyPredicate, EachPredicate, MembersPredicate};
-pub use members_at_least::{
-    MembersAtLeastPredicate, MembersAtMostPredicate, MembersExactlyPredicate,
+pub use members::{
+    AnyPredicate, EachPredicate, MembersAtLeastPredicate, MembersAtMostPredicate,
+    MembersExactlyPredicate, MembersPredicate,
 };
 pub use part::{ByField, ByOption, ByReference, ByValue, Field, FieldPredicate, PartPredicate};
 use predicates_boolean::boolean::{AndPredicate, NotPredicate};
 use predicates_boolean::threshold::one_more;
 use predicates_core::Predicate;
 use predicates_core::as_static_str::AsStaticStr;
+use predicates_core::custom::{AtLeast, AtLeastOne, Every};
 use predicates_core::name::NamePredicate;
 use std::alloc::AllocError;
 pub use variant::{
@@ -243,8 +241,8 @@ pub trait PredicatePartExt<U>: Predicate<U> {
         ensures inner { Members.inner_of result ≡ self }
         ensures formula { (v : Vec U Global) (f : Formula)
             → ⟦<EachPredicate<Self> as Predicate<Vec<U>>>⟧.formula result v f
-            ↔ IsOfMembers false (applied_text (codes "each") (Self.output self)) (codes "item")
-            (Self.formula self) v.items f };
+            ↔ IsOfThreshold (length v.items) (applied_text (codes "each") (Self.output self))
+            (codes "item") (Self.formula self) v.items f };
 
     /// The predicate of a list that holds where this one holds of a member. It prints `any(..)`,
     /// and takes no memory of its own.
@@ -263,15 +261,16 @@ pub trait PredicatePartExt<U>: Predicate<U> {
         ensures inner { Members.inner_of result ≡ self }
         ensures formula { (v : Vec U Global) (f : Formula)
             → ⟦<AnyPredicate<Self> as Predicate<Vec<U>>>⟧.formula result v f
-            ↔ IsOfMembers true (applied_text (codes "any") (Self.output self)) (codes "item")
+            ↔ IsOfThreshold 1 (applied_text (codes "any") (Self.output self)) (codes "item")
             (Self.formula self) v.items f };
 
     /// The predicate of a list that holds where this one holds of at least so many members. It
     /// prints `at_least(2, ..)`, and takes no memory of its own.
     ///
-    /// `eval` stops at the member that decides. The case shows the first members that decide, each
-    /// with its number as the product `index`: `least` that hold, or of those that do not one more
-    /// than may be. Where the number alone settles it, as where none is needed, it is one leaf.
+    /// `eval` stops at the member that decides. The case shows the first members that decide:
+    /// `least` that hold, or of those that do not one more than may be. Unless these are all, each
+    /// has its number as the product `index`. Where the number alone settles it, as where none is
+    /// needed, it is one leaf.
     ///
     /// ```
     /// let two_adults = predicate::ge(18).of_at_least(2);
@@ -281,8 +280,8 @@ pub trait PredicatePartExt<U>: Predicate<U> {
     fn of_at_least(self, least: usize) -> MembersAtLeastPredicate<Self>
     where
         Self: Sized,
-        ensures least { MembersAtLeast.least_of result ≡ least }
-        ensures inner { MembersAtLeast.inner_of result ≡ self }
+        ensures least { Members.needed_of result ≡ least }
+        ensures inner { Members.inner_of result ≡ self }
         ensures formula { (v : Vec U Global) (f : Formula)
             → ⟦<MembersAtLeastPredicate<Self> as Predicate<Vec<U>>>⟧.formula result v f
             ↔ IsOfThreshold least
@@ -301,8 +300,8 @@ pub trait PredicatePartExt<U>: Predicate<U> {
     fn of_at_most(self, most: usize) -> MembersAtMostPredicate<Self, U>
     where
         Self: Sized,
-        ensures most { MembersAtLeast.least_of (Not.inner_of result) ≡ one_more most }
-        ensures inner { MembersAtLeast.inner_of (Not.inner_of result) ≡ self };
+        ensures most { Members.needed_of (Not.inner_of result) ≡ one_more most }
+        ensures inner { Members.inner_of (Not.inner_of result) ≡ self };
 
     /// The predicate of a list that holds where this one holds of so many members, and no more:
     /// `of_at_least` of the number, and `of_at_most` of it by a copy of this one. So each member is
@@ -317,12 +316,12 @@ pub trait PredicatePartExt<U>: Predicate<U> {
     fn of_exactly(self, number: usize) -> Result<MembersExactlyPredicate<Self, U>, AllocError>
     where
         Self: Sized + Clone,
-        ensures least { IfOk result (λ both. MembersAtLeast.least_of (left_of both) ≡ number) }
-        ensures inner { IfOk result (λ both. MembersAtLeast.inner_of (left_of both) ≡ self) }
+        ensures least { IfOk result (λ both. Members.needed_of (left_of both) ≡ number) }
+        ensures inner { IfOk result (λ both. Members.inner_of (left_of both) ≡ self) }
         ensures most { IfOk result (λ both.
-            MembersAtLeast.least_of (Not.inner_of (right_of both)) ≡ one_more number) }
+            Members.needed_of (Not.inner_of (right_of both)) ≡ one_more number) }
         ensures copied { IfOk result (λ both.
-            Self.is_clone self (MembersAtLeast.inner_of (Not.inner_of (right_of both)))) };
+            Self.is_clone self (Members.inner_of (Not.inner_of (right_of both)))) };
 
     /// The predicate of a list or a text that holds where this one, a predicate of `usize`, holds
     /// of its length: the number of members, or of bytes. It prints `len`, and takes no memory of
@@ -388,19 +387,19 @@ impl<P: Predicate<U>, U> PredicatePartExt<U> for P {
     }
 
     fn of_each(self) -> EachPredicate<Self> {
-        MembersPredicate::new(self)
+        MembersPredicate::new(Every, self)
     }
 
     fn of_any(self) -> AnyPredicate<Self> {
-        MembersPredicate::new(self)
+        MembersPredicate::new(AtLeastOne, self)
     }
 
     fn of_at_least(self, least: usize) -> MembersAtLeastPredicate<Self> {
-        MembersAtLeastPredicate::new(least, self)
+        MembersPredicate::new(AtLeast { least }, self)
     }
 
     fn of_at_most(self, most: usize) -> MembersAtMostPredicate<Self, U> {
-        NotPredicate::new(MembersAtLeastPredicate::new(one_more(most), self))
+        NotPredicate::new(self.of_at_least(one_more(most)))
     }
 
     fn of_exactly(self, number: usize) -> Result<MembersExactlyPredicate<Self, U>, AllocError>
@@ -408,9 +407,7 @@ impl<P: Predicate<U>, U> PredicatePartExt<U> for P {
         Self: Clone,
     {
         let copied = self.clone()?;
-        let least = MembersAtLeastPredicate::new(number, self);
-        let more = MembersAtLeastPredicate::new(one_more(number), copied);
-        Ok(AndPredicate::new(least, NotPredicate::new(more)))
+        Ok(AndPredicate::new(self.of_at_least(number), copied.of_at_most(number)))
     }
 
     fn of_len(self) -> LengthPredicate<Self> {

@@ -2,19 +2,24 @@
 //!
 //! ```
 //! let adults = predicate::ge(18).of_each();
+//! let two_adults = predicate::ge(18).of_at_least(2);
 //! ```
-ghost use Rattle.std.specs.Prelude.{◌≡◌, ◌↔◌, [], codes, Vec};
+ghost use Rattle.std.specs.Prelude.{◌≡◌, ◌↔◌, [], codes, length, Vec};
 ghost use Rattle.std.specs.Global.{Global};
 ghost use Rattle.std.specs.List.{AllByRecursion};
 ghost use Rattle.predicates_core.specs.Formula.{Formula};
+ghost use Rattle.predicates_core.specs.HowMany.{least_of};
 ghost use Rattle.predicates_core.specs.Parts.{part};
-ghost use Rattle.predicates_core.specs.Several.{IsOfMembers, members_formula};
-ghost use Rattle.predicates_core.proofs.Several.{members_text_fits, one_members, has_members};
-ghost use Rattle.predicates_part.specs.Members.{applied_text, inner_of, word};
+ghost use Rattle.predicates_core.specs.Thresholds.{IsOfThreshold, threshold_formula};
+ghost use Rattle.predicates_core.proofs.Several.{each_holds};
+ghost use Rattle.predicates_core.proofs.ThresholdCases.{threshold_text_fits, one_by_threshold};
+ghost use Rattle.predicates_core.proofs.ThresholdCases.{has_threshold};
+ghost use Rattle.predicates_part.specs.Members.{inner_of, members_text, quantifier_of};
 
+use predicates_boolean::boolean::{AndPredicate, NotPredicate};
 use predicates_core::custom::{
-    AtLeastOne, Deciding, Every, Quantifier, members_case, members_change, members_explained,
-    members_hold, one_child,
+    AtLeast, AtLeastOne, Counting, Every, HowMany, Quantifier, members_case, members_change,
+    members_explained, members_hold, one_child,
 };
 use predicates_core::reflection::{Case, Child, Parameter, PredicateReflection};
 use predicates_core::{Predicate, PredicateChange, Total};
@@ -22,12 +27,12 @@ use std::alloc::{AllocError, Global};
 use std::fmt;
 use std::marker::PhantomData;
 
-/// Holds of a list where its inner predicate holds of each member, or of one. Made by `of_each` and
-/// `of_any` of `PredicatePartExt`.
-#[derive(Debug, Clone, Copy, PartialEq, Eq, Drop)]
+/// Holds of a list where its inner predicate holds of each member, of one, or of at least so many.
+/// Made by `of_each`, `of_any` and `of_at_least` of `PredicatePartExt`.
+#[derive(Clone, Copy, PartialEq, Eq, Drop)]
 pub struct MembersPredicate<Q, P> {
     inner: P,
-    quantifier: PhantomData<Q>,
+    quantifier: Q,
 }
 
 /// Holds of a list where its inner predicate holds of each member.
@@ -36,15 +41,30 @@ pub type EachPredicate<P> = MembersPredicate<Every, P>;
 /// Holds of a list where its inner predicate holds of a member.
 pub type AnyPredicate<P> = MembersPredicate<AtLeastOne, P>;
 
+/// Holds of a list where its inner predicate holds of at least so many members.
+pub type MembersAtLeastPredicate<P> = MembersPredicate<AtLeast, P>;
+
+/// Holds of a list where its inner predicate holds of at most so many members.
+pub type MembersAtMostPredicate<P, U> = NotPredicate<MembersAtLeastPredicate<P>, Vec<U>>;
+
+/// Holds of a list where its inner predicate holds of so many members, and no more.
+pub type MembersExactlyPredicate<P, U> = AndPredicate<
+    MembersAtLeastPredicate<P>,
+    MembersAtMostPredicate<P, U>,
+    Vec<U>,
+>;
+
 impl<Q: Quantifier, P> MembersPredicate<Q, P> {
-    /// The predicate of the members of a list.
-    pub fn new<U>(inner: P) -> MembersPredicate<Q, P>
+    /// The predicate of a list, of which so many members have to hold.
+    pub fn new<U>(quantifier: Q, inner: P) -> MembersPredicate<Q, P>
     where
         P: Predicate<U>,
+        ensures quantifier { quantifier_of result ≡ quantifier }
         ensures inner { inner_of result ≡ inner }
         ensures formula { (v : Vec U Global) (f : Formula)
             → ⟦<MembersPredicate<Q, P> as Predicate<Vec<U>>>⟧.formula result v f
-            ↔ IsOfMembers Q.one_suffices (applied_text (word Q.one_suffices) (P.output inner))
+            ↔ IsOfThreshold (least_of (Q.how_many quantifier) (length v.items))
+            (members_text (Q.how_many quantifier) (P.output inner))
             (codes "item") (P.formula inner) v.items f }
         ensures lawful { ⟦<MembersPredicate<Q, P> as Predicate<Vec<U>>>⟧.lawful result
             ↔ P.lawful inner }
@@ -56,42 +76,58 @@ impl<Q: Quantifier, P> MembersPredicate<Q, P> {
         ensures parts { ⟦<MembersPredicate<Q, P> as PredicateReflection>⟧.children_of result
             ≡ part (codes "item") (P.output inner) (P.parameters_of inner) (P.children_of inner) }
     {
-        MembersPredicate {
-            inner,
-            quantifier: PhantomData,
-        }
+        MembersPredicate { inner, quantifier }
     }
-}
 
-impl<Q: Quantifier, P> MembersPredicate<Q, P> {
-    // What its cases are made of.
-    fn deciding(&self) -> Deciding<'_, MembersPredicate<Q, P>>
+    // How many of so many members have to hold.
+    fn least(&self, number: usize) -> usize
+        ensures { result ≡ least_of (Q.how_many self.now.quantifier) number }
+    {
+        self.quantifier.how_many().least_of(number)
+    }
+
+    // What its cases of a list of so many are made of.
+    fn counting(&self, number: usize) -> Counting<'_, MembersPredicate<Q, P>>
         ensures whole { result.whole.now ≡ self.now }
         ensures name { result.name.now ≡ codes "item" }
-        ensures decides { result.decides ≡ Q.one_suffices }
+        ensures least { result.least ≡ least_of (Q.how_many self.now.quantifier) number }
     {
-        Deciding {
+        Counting {
             whole: self,
             name: "item",
-            decides: Q::one_suffices(),
+            least: self.least(number),
         }
     }
-}
-
-// What is printed before the inner predicate.
-fn word_of(one_suffices: bool) -> &'static str
-    ensures { result.now ≡ word one_suffices }
-{
-    if one_suffices { "any" } else { "each" }
 }
 
 impl<Q: Quantifier, P: fmt::Display> fmt::Display for MembersPredicate<Q, P> {
-    ghost output = { λ p. applied_text (word Q.one_suffices) (P.output (inner_of p)) };
+    ghost output = { λ p. members_text (Q.how_many p.quantifier) (P.output (inner_of p)) };
 
     fn fmt<W: fmt::Write>(&self, f: &mut fmt::Formatter<W>) -> fmt::Result {
-        let word = word_of(Q::one_suffices());
         let inner = &self.inner;
-        write!(f, "{word}({inner})")
+        match self.quantifier.how_many() {
+            HowMany::Every => write!(f, "each({inner})"),
+            HowMany::AtLeastOne => write!(f, "any({inner})"),
+            HowMany::AtLeast(least) => write!(f, "at_least({least}, {inner})"),
+        }
+    }
+}
+
+// Of a threshold it tells the number.
+impl<Q: Quantifier, P: fmt::Debug> fmt::Debug for MembersPredicate<Q, P> {
+    fn fmt<W: fmt::Write>(&self, f: &mut fmt::Formatter<W>) -> fmt::Result {
+        match self.quantifier.how_many() {
+            HowMany::AtLeast(least) => f
+                .debug_struct("MembersAtLeastPredicate")
+                .field("least", &least)
+                .field("inner", &self.inner)
+                .finish(),
+            _ => f
+                .debug_struct("MembersPredicate")
+                .field("inner", &self.inner)
+                .field("quantifier", &PhantomData::<Q>)
+                .finish(),
+        }
     }
 }
 
@@ -114,19 +150,21 @@ impl<Q: Quantifier, P: PredicateReflection> PredicateReflection for MembersPredi
 impl<Q: Quantifier, P: Predicate<U>, U> Predicate<Vec<U>> for MembersPredicate<Q, P> {
     ghost lawful = { λ p. P.lawful (inner_of p) };
 
-    ghost formula = { λ p v. IsOfMembers Q.one_suffices
-        (applied_text (word Q.one_suffices) (P.output (inner_of p)))
+    ghost formula = { λ p v. IsOfThreshold (least_of (Q.how_many p.quantifier) (length v.items))
+        (members_text (Q.how_many p.quantifier) (P.output (inner_of p)))
         (codes "item") (P.formula (inner_of p)) v.items };
 
     ghost infallible = { λ p v. AllByRecursion (P.infallible (inner_of p)) v.items };
 
-    ghost text_fits = { λ p v f. members_text_fits v.items };
+    ghost text_fits = { λ p v f. threshold_text_fits
+        (least_of (Q.how_many p.quantifier) (length v.items)) v.items };
 
-    ghost one_formula = { λ p v f g lawful. one_members v.items
-        (λ u x y. P.one_formula (inner_of p) u x y lawful) };
+    ghost one_formula = { λ p v f g lawful. one_by_threshold
+        (least_of (Q.how_many p.quantifier) (length v.items)) v.items
+        (each_holds v.items (λ u x y. P.one_formula (inner_of p) u x y lawful)) };
 
     fn eval(&self, alloc: Global, item: &Vec<U>) -> Result<bool, AllocError> {
-        members_hold(alloc, &self.inner, Q::one_suffices(), item.as_slice())
+        members_hold(alloc, self.least(item.len()), &self.inner, item.as_slice())
     }
 
     fn find_case(
@@ -135,7 +173,7 @@ impl<Q: Quantifier, P: Predicate<U>, U> Predicate<Vec<U>> for MembersPredicate<Q
         expected: bool,
         item: &Vec<U>,
     ) -> Result<Option<Case>, AllocError> {
-        let list = self.deciding();
+        let list = self.counting(item.len());
         members_case(alloc, list, &self.inner, expected, item.as_slice())
     }
 
@@ -145,7 +183,7 @@ impl<Q: Quantifier, P: Predicate<U>, U> Predicate<Vec<U>> for MembersPredicate<Q
         wanted: Option<bool>,
         item: &Vec<U>,
     ) -> Result<Option<Case>, AllocError> {
-        let list = self.deciding();
+        let list = self.counting(item.len());
         members_explained(alloc, list, &self.inner, wanted, item.as_slice())
     }
 }
@@ -157,18 +195,20 @@ impl<Q: Quantifier, P: PredicateChange<U>, U> PredicateChange<Vec<U>> for Member
         wanted: Option<bool>,
         item: &Vec<U>,
     ) -> Result<Option<Case>, AllocError> {
-        let list = self.deciding();
+        let list = self.counting(item.len());
         members_change(alloc, list, &self.inner, wanted, item.as_slice())
     }
 }
 
 impl<Q: Quantifier, P: Total<U>, U> Total<Vec<U>> for MembersPredicate<Q, P> {
-    ghost formula_of = { λ p v. members_formula Q.one_suffices
-        (applied_text (word Q.one_suffices) (P.output (inner_of p))) (codes "item")
+    ghost formula_of = { λ p v. threshold_formula
+        (least_of (Q.how_many p.quantifier) (length v.items))
+        (members_text (Q.how_many p.quantifier) (P.output (inner_of p))) (codes "item")
         (P.formula_of (inner_of p)) v.items };
 
     ghost always_lawful = { λ p. P.always_lawful (inner_of p) };
 
-    ghost has_formula = { λ p v. has_members (P.formula_of (inner_of p)) v.items
+    ghost has_formula = { λ p v. has_threshold
+        (least_of (Q.how_many p.quantifier) (length v.items)) (P.formula_of (inner_of p)) v.items
         (P.has_formula (inner_of p)) };
 }

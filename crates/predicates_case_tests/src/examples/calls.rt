@@ -1,10 +1,10 @@
 //! The examples that stand at the traits' calls and at the steps of own predicates.
 use predicates::custom::{
-    AtLeastOne, Every, Join, Operator, Quantifier, absent_case, detailed_leaf, each_child,
+    AtLeast, HowMany, Join, Operator, Quantifier, absent_case, detailed_leaf, each_child,
     enough_of, is_other, is_settled, join_case, join_change, join_explained, join_truth, leaf,
-    leaf_change, least_of, members_hold, named_change, not_case, not_change, not_explained,
-    one_child, opposite_of, parts_hold, present_case, present_change, present_explained,
-    present_holds, showing_case, two_children, with_index,
+    leaf_change, members_hold, named_change, not_case, not_change, not_explained, one_child,
+    opposite_of, parts_hold, present_case, present_change, present_explained, present_holds,
+    showing_case, two_children, with_index,
 };
 use predicates::node::{binary_node_of, leaf_node, showing_all};
 use predicates::path::{FileType, PathFault};
@@ -338,8 +338,13 @@ fn deciding_numbers(rt: HostRuntime) {
 }
 
 #[test]
+fn numbers_that_have_to_hold(rt: HostRuntime) {
+    assert!(rt; HowMany::Every.least_of(3) == 3 && HowMany::AtLeastOne.least_of(3) == 1);
+}
+
+#[test]
 fn quantifiers(rt: HostRuntime) {
-    assert!(rt; AtLeastOne::one_suffices() && !Every::one_suffices());
+    assert!(rt; AtLeast { least: 2 }.how_many() == HowMany::AtLeast(2));
 }
 
 #[test]

@@ -1,30 +1,49 @@
-//! Whether each of several predicates has to hold, or one, as a type.
-ghost use Rattle.std.specs.Prelude.{◌≡◌, Bool, true, false};
-ghost use Rattle.predicates_core.specs.Thresholds.{least_of};
+//! How many of several predicates have to hold, as a value and as a type.
+ghost use Rattle.std.specs.Prelude.{◌≡◌};
+ghost use Rattle.predicates_core.specs.HowMany.{least_of};
+ghost use Rattle.predicates_core.specs.declared.custom.quantifier.HowMany.{HowMany};
+ghost use Rattle.predicates_core.specs.declared.custom.quantifier.HowMany.TheVariants as many;
 
-/// How many of several predicates have to hold: each, or one.
-pub trait Quantifier {
-    // One that holds suffices; otherwise each has to.
-    ghost one_suffices: { Bool };
-
-    /// Whether one that holds suffices; otherwise each has to.
-    ///
-    /// ```
-    /// assert!(rt; AtLeastOne::one_suffices() && !Every::one_suffices());
-    /// ```
-    fn one_suffices() -> bool
-        ensures { result ≡ one_suffices };
+/// How many of several predicates have to hold.
+#[derive(Debug, Clone, Copy, PartialEq, Eq)]
+pub enum HowMany {
+    /// Each of them.
+    Every,
+    /// At least one.
+    AtLeastOne,
+    /// At least so many.
+    AtLeast(usize),
 }
 
-/// How many of the number have to hold: one, or all.
-///
-/// ```
-/// assert!(rt; least_of(true, 3) == 1 && least_of(false, 3) == 3);
-/// ```
-pub fn least_of(one_suffices: bool, number: usize) -> usize
-    ensures { result ≡ least_of one_suffices number }
-{
-    if one_suffices { 1 } else { number }
+impl HowMany {
+    /// How many of the number have to hold.
+    ///
+    /// ```
+    /// assert!(rt; HowMany::Every.least_of(3) == 3 && HowMany::AtLeastOne.least_of(3) == 1);
+    /// ```
+    pub fn least_of(self, number: usize) -> usize
+        ensures { result ≡ least_of self number }
+    {
+        match self {
+            HowMany::Every => number,
+            HowMany::AtLeastOne => 1,
+            HowMany::AtLeast(least) => least,
+        }
+    }
+}
+
+/// How many of several predicates have to hold, as a type: each, one, or so many.
+pub trait Quantifier {
+    // How many.
+    ghost how_many: { Self → HowMany };
+
+    /// How many.
+    ///
+    /// ```
+    /// assert!(rt; AtLeast { least: 2 }.how_many() == HowMany::AtLeast(2));
+    /// ```
+    fn how_many(&self) -> HowMany
+        ensures { result ≡ how_many self.now };
 }
 
 /// Each of them has to hold.
@@ -32,10 +51,10 @@ pub fn least_of(one_suffices: bool, number: usize) -> usize
 pub struct Every;
 
 impl Quantifier for Every {
-    ghost one_suffices = { false };
+    ghost how_many = { λ _. many.Every };
 
-    fn one_suffices() -> bool {
-        false
+    fn how_many(&self) -> HowMany {
+        HowMany::Every
     }
 }
 
@@ -44,9 +63,24 @@ impl Quantifier for Every {
 pub struct AtLeastOne;
 
 impl Quantifier for AtLeastOne {
-    ghost one_suffices = { true };
+    ghost how_many = { λ _. many.AtLeastOne };
 
-    fn one_suffices() -> bool {
-        true
+    fn how_many(&self) -> HowMany {
+        HowMany::AtLeastOne
+    }
+}
+
+/// At least so many of them have to hold.
+#[derive(Debug, Clone, Copy, PartialEq, Eq)]
+pub struct AtLeast {
+    /// How many.
+    pub least: usize,
+}
+
+impl Quantifier for AtLeast {
+    ghost how_many = { λ q. many.AtLeast q.least };
+
+    fn how_many(&self) -> HowMany {
+        HowMany::AtLeast(self.least)
     }
 }
