@@ -1,5 +1,5 @@
 -- The truth of what stands at a pointer, and the cases that explain it, from those of the part.
-use Rattle.std.proofs.Common.{◌≡◌, ℕ, Bool, List, [], ◌∷◌, Option, Some, None, codes, sym, ap, ◌∙◌, subst}
+use Rattle.std.proofs.Common.{◌≡◌, ℕ, Bool, false, List, [], ◌∷◌, Option, Some, None, codes, sym, ap, ◌∙◌, subst}
 use Rattle.predicates_core.specs.Label.{plain, Fits}
 use Rattle.predicates_core.specs.Formula.{Formula, truth, HasTruth}
 use Rattle.predicates_core.specs.Tree.{Tree, empty}
@@ -20,7 +20,7 @@ unfolding Shows
 explains_at pointer inner b t c x node e = record {
   leaves = x.leaves;
   first = first-Named (plain (Some pointer)) (codes "value") inner x.leaves x.first;
-  shown = (node_fits (Some pointer) b _ _ t node e, subst (λ ch. ShowsPart (Shows inner) (codes "value") x.leaves ch empty) (sym node.children) (shows_part (Shows inner) (codes "value") empty x.leaves c (not_empty inner x.leaves x.first) x.shown));
+  shown = (node_fits (Some pointer) b _ _ t node e, subst (λ ch. ShowsPart (Shows false inner) (codes "value") x.leaves ch empty) (sym node.children) (shows_part (Shows false inner) (codes "value") empty x.leaves c (not_empty inner x.leaves x.first) x.shown));
 }
 
 pub IsCaseOf-at : {pointer bytes : List ℕ} {part : Formula → Type 0} {b : Bool} {c t : Tree CaseNode} → IsNode (Some bytes) b ((codes "value", c) ∷ []) t → Fits (Some pointer) bytes → IsCaseOf part b c → IsCaseOf (IsAt pointer part) b t
