@@ -1,14 +1,16 @@
 -- A check without parts is one leaf, so its case shows what would turn it.
 use Rattle.std.proofs.Common.{◌≡◌, ℕ, List, Bool, Option, Result, Ok, Err, sym, subst}
 use Rattle.std.specs.Prelude.{OnOk}
-use Rattle.predicates_core.specs.Change.{IsFoundChange}
 use Rattle.predicates_core.specs.Describe.{CaseNode}
 use Rattle.predicates_core.specs.Formula.{Formula, IsLeaf}
 use Rattle.predicates_core.specs.Shows.{IsFound}
 use Rattle.predicates_core.specs.Tree.{Tree}
 use Rattle.predicates_core.proofs.ChangeCases.{leaf_found}
+use Rattle.predicates_words.specs.Answers.{Finds}
 use Rattle.predicates_words.specs.Checks.{HasFormula}
 use Rattle.predicates_words.specs.Weight.{IsLeafCheck}
+use Rattle.predicates_words.specs.declared.check.answer.Sought.{Sought}
+use Rattle.predicates_words.specs.declared.check.answer.Sought.TheVariants.{Reason, Change}
 use Rattle.predicates_words.specs.declared.check.TextCheck.{TextCheck, Empty, Equals, Starts, Ends, Contains, Matches, Trim', Normalize', Not', And', Or', Xor'}
 
 leaf_of_check : (c : TextCheck) (bytes : List ℕ) → IsLeafCheck c → (f : Formula) → HasFormula c bytes f → IsLeaf f
@@ -25,7 +27,8 @@ leaf_of_check (And' _ left _ right) bytes is f h = absurd is
 leaf_of_check (Or' _ left _ right) bytes is f h = absurd is
 leaf_of_check (Xor' _ left _ right) bytes is f h = absurd is
 
-pub change_of_leaf : {A E : Type 0} (c : TextCheck) (bytes : List ℕ) (w : Option Bool) (r : Result A E) (found : Option (Tree CaseNode)) → IsLeafCheck c
-    → OnOk r (IsFound (HasFormula c bytes) w found) → OnOk r (IsFoundChange (HasFormula c bytes) w found)
-change_of_leaf {A} {E} c bytes w (Ok a) found is x = leaf_found {E = E} w (Ok found) (leaf_of_check c bytes is) x
-change_of_leaf c bytes w (Err e) found is x = tt
+pub answer_of_leaf : {A E : Type 0} (s : Sought) (c : TextCheck) (bytes : List ℕ) (w : Option Bool) (r : Result A E) (found : Option (Tree CaseNode)) → IsLeafCheck c
+    → OnOk r (IsFound (HasFormula c bytes) w found) → OnOk r (Finds s (HasFormula c bytes) w found)
+answer_of_leaf Reason c bytes w r found is x = x
+answer_of_leaf {A} {E} Change c bytes w (Ok a) found is x = leaf_found {E = E} w (Ok found) (leaf_of_check c bytes is) x
+answer_of_leaf Change c bytes w (Err e) found is x = tt

@@ -1,3 +1,4 @@
+pub mod Answers
 pub mod Applied
 pub mod CheckLaws
 pub mod Checks

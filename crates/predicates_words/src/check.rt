@@ -11,11 +11,10 @@ ghost use Rattle.predicates_words.specs.Checks.{IsInfallibleCheck, operator_of};
 ghost use Rattle.predicates_words.specs.CheckLaws.{check_text_fits, one_check, has_check_formula};
 ghost use Rattle.predicates_words.specs.Weight.{weight, IsLeafCheck};
 
-mod change;
-mod explain;
+mod answer;
 mod rotate;
 
-use explain::Question;
+use answer::{Question, Sought};
 use predicates_core::custom::Operator;
 use predicates_core::reflection::{Case, Child, Parameter, PredicateReflection};
 use predicates_core::{Predicate, PredicateChange, ReadsContent, Total};
@@ -296,8 +295,14 @@ impl Predicate<String> for TextCheck {
         wanted: Option<bool>,
         item: &String,
     ) -> Result<Option<Case>, AllocError> {
+        let sought = Sought::Reason;
         let mut found = None;
-        self.explain_into(alloc, Question { wanted, item }, &mut found)?;
+        let question = Question {
+            sought,
+            wanted,
+            item,
+        };
+        self.answer_into(alloc, question, &mut found)?;
         Ok(found)
     }
 }
@@ -309,8 +314,14 @@ impl PredicateChange<String> for TextCheck {
         wanted: Option<bool>,
         item: &String,
     ) -> Result<Option<Case>, AllocError> {
+        let sought = Sought::Change;
         let mut found = None;
-        self.change_into(alloc, Question { wanted, item }, &mut found)?;
+        let question = Question {
+            sought,
+            wanted,
+            item,
+        };
+        self.answer_into(alloc, question, &mut found)?;
         Ok(found)
     }
 }

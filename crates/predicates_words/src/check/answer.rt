@@ -1,25 +1,34 @@
-//! The case of a check over others, as the predicates of the library make it of their parts.
+//! The case of a check over others, and of what would turn its verdict, as the predicates of the
+//! library make them of their parts.
 //!
 //! A case is written to a place that is handed down, since an answer that holds one is large, and
 //! each level would copy it.
-ghost use Rattle.std.specs.Prelude.{◌≡◌, None, OnOk, string_bytes};
+ghost use Rattle.std.specs.Prelude.{◌≡◌, None, IfOk, OnOk, string_bytes};
 ghost use Rattle.predicates_core.specs.Combined.{IsNot, IsPair};
-ghost use Rattle.predicates_core.specs.Asked.{IsFoundIf};
 ghost use Rattle.predicates_core.specs.Shows.{IsFound, found_parts};
+ghost use Rattle.predicates_words.specs.Answers.{Finds, FindsRight};
 ghost use Rattle.predicates_words.specs.Checks.{check_text, operator_of, HasFormula, IsNodeOf};
 ghost use Rattle.predicates_words.specs.Weight.{IsLeafCheck};
 
 use crate::check::TextCheck;
 use predicates_core::Predicate;
-use predicates_core::custom::{is_other, kept_if, opposite_of, shown_verdict};
+use predicates_core::custom::{Operator, is_other, kept_if, opposite_of, shown_verdict};
 use predicates_core::node::{binary_node_of, printed, unary_node};
 use predicates_core::reflection::Case;
 use predicates_text::{lines_even_view, trimmed_view};
 use std::alloc::{AllocError, Global};
 
-// What is asked: about which item, and the case of which verdict, if only one is wanted.
+// Whether the case that explains is asked for, or that of what would turn the verdict.
+#[derive(Clone, Copy)]
+pub(crate) enum Sought {
+    Reason,
+    Change,
+}
+
+// What is asked: which case, about which item, and of which verdict, if only one is wanted.
 #[derive(Clone, Copy)]
 pub(crate) struct Question<'a> {
+    pub(crate) sought: Sought,
     pub(crate) wanted: Option<bool>,
     pub(crate) item: &'a String,
 }
@@ -39,9 +48,9 @@ pub(crate) struct PartCases {
 }
 
 impl TextCheck {
-    // The `explain` of the check. The place for the case holds none before.
-    #[cycle(explain)]
-    pub(crate) fn explain_into(
+    // The `explain` of the check, or its `find_change`. The place for the case holds none before.
+    #[cycle(answer)]
+    pub(crate) fn answer_into(
         &self,
         alloc: Global,
         question: Question<'_>,
@@ -49,33 +58,48 @@ impl TextCheck {
     ) -> Result<(), AllocError>
         requires { found.old ≡ None }
         ensures { OnOk result
-            (IsFound (HasFormula self.now (string_bytes question.entry.item.now))
+            (Finds question.entry.sought (HasFormula self.now (string_bytes question.entry.item.now))
             question.entry.wanted found.new) }
     {
         match self {
             TextCheck::Trim(inner) => {
                 let mut copy = String::new(alloc);
                 let item = trimmed_view(alloc, question.item, &mut copy)?;
-                inner.explain_into(alloc, Question { item, ..question }, found)
+                inner.answer_into(alloc, Question { item, ..question }, found)
             }
             TextCheck::Normalize(inner) => {
                 let mut copy = String::new(alloc);
                 let item = lines_even_view(alloc, question.item, &mut copy)?;
-                inner.explain_into(alloc, Question { item, ..question }, found)
+                inner.answer_into(alloc, Question { item, ..question }, found)
             }
-            TextCheck::Not(inner) => self.explain_not(alloc, inner, question, found),
+            TextCheck::Not(inner) => self.answer_not(alloc, inner, question, found),
             TextCheck::And(left, right)
             | TextCheck::Or(left, right)
             | TextCheck::Xor(left, right) => {
-                self.explain_join(alloc, Parts { left, right }, question, found)
+                self.answer_join(alloc, Parts { left, right }, question, found)
             }
-            _ => self.explain_leaf(alloc, question, found),
+            _ => self.answer_leaf(alloc, question, found),
         }
     }
 
-    // The same of a check without parts.
+    // The same of a check without parts: what would turn it is its one leaf.
+    fn answer_leaf(
+        &self,
+        alloc: Global,
+        question: Question<'_>,
+        found: &mut Option<Case>,
+    ) -> Result<(), AllocError>
+        requires { IsLeafCheck self.now }
+        ensures { OnOk result
+            (Finds question.entry.sought (HasFormula self.now (string_bytes question.entry.item.now))
+            question.entry.wanted found.new) }
+    {
+        self.explain_leaf(alloc, question, found)
+    }
+
+    // The `explain` of a check without parts.
     #[inline(never)]
-    pub(crate) fn explain_leaf(
+    fn explain_leaf(
         &self,
         alloc: Global,
         question: Question<'_>,
@@ -99,10 +123,10 @@ impl TextCheck {
         Ok(())
     }
 
-    // As `not_explained`.
+    // As `not_explained` and `not_change`.
     #[inline(never)]
-    #[cycle(explain)]
-    fn explain_not(
+    #[cycle(answer)]
+    fn answer_not(
         &self,
         alloc: Global,
         inner: &TextCheck,
@@ -110,13 +134,13 @@ impl TextCheck {
         found: &mut Option<Case>,
     ) -> Result<(), AllocError>
         requires { found.old ≡ None }
-        ensures { OnOk result (IsFound (IsNot (check_text self.now)
+        ensures { OnOk result (Finds question.entry.sought (IsNot (check_text self.now)
             (HasFormula inner.now (string_bytes question.entry.item.now)))
             question.entry.wanted found.new) }
     {
         let mut part = None;
         let wanted = opposite_of(question.wanted);
-        inner.explain_into(alloc, Question { wanted, ..question }, &mut part)?;
+        inner.answer_into(alloc, Question { wanted, ..question }, &mut part)?;
         let Some(part) = part else {
             return Ok(());
         };
@@ -126,31 +150,48 @@ impl TextCheck {
         Ok(())
     }
 
-    // What is found of the check, where it is asked.
-    #[cycle(explain)]
-    fn explain_if(
+    // The verdict of a right part, whose case is written where it may belong to the whole's.
+    #[cycle(answer)]
+    fn answer_right(
         &self,
         alloc: Global,
-        asked: bool,
+        operator: Operator,
+        left_holds: bool,
         question: Question<'_>,
         found: &mut Option<Case>,
-    ) -> Result<(), AllocError>
+    ) -> Result<bool, AllocError>
         requires { found.old ≡ None }
-        ensures { OnOk result
-            (IsFoundIf asked (HasFormula self.now (string_bytes question.entry.item.now))
-            question.entry.wanted found.new) }
+        ensures { IfOk result (λ holds. FindsRight question.entry.sought operator
+            (HasFormula self.now (string_bytes question.entry.item.now)) question.entry.wanted
+            left_holds holds found.new) }
     {
-        if asked {
-            self.explain_into(alloc, question, found)
-        } else {
-            Ok(())
+        match (question.sought, operator) {
+            (Sought::Reason, _) => {
+                let wanted = operator.right_wanted(question.wanted, left_holds);
+                if !operator.asks(left_holds) {
+                    return Ok(shown_verdict(wanted, found));
+                }
+                self.answer_into(alloc, Question { wanted, ..question }, found)?;
+                Ok(shown_verdict(wanted, found))
+            }
+            (Sought::Change, Operator::And) => {
+                let wanted = Some(false);
+                self.answer_into(alloc, Question { wanted, ..question }, found)?;
+                Ok(found.is_none())
+            }
+            (Sought::Change, Operator::Or) => {
+                let wanted = Some(true);
+                self.answer_into(alloc, Question { wanted, ..question }, found)?;
+                Ok(found.is_some())
+            }
+            (Sought::Change, Operator::Xor) => self.eval(alloc, question.item),
         }
     }
 
-    // As `join_explained`.
+    // As `join_explained` and `join_change`.
     #[inline(never)]
-    #[cycle(explain)]
-    fn explain_join(
+    #[cycle(answer)]
+    fn answer_join(
         &self,
         alloc: Global,
         parts: Parts<'_>,
@@ -158,31 +199,23 @@ impl TextCheck {
         found: &mut Option<Case>,
     ) -> Result<(), AllocError>
         requires { found.old ≡ None }
-        ensures { OnOk result (IsFound (IsPair (operator_of self.now) (check_text self.now)
+        ensures { OnOk result (Finds question.entry.sought
+            (IsPair (operator_of self.now) (check_text self.now)
             (HasFormula parts.entry.left.now (string_bytes question.entry.item.now))
             (HasFormula parts.entry.right.now (string_bytes question.entry.item.now)))
             question.entry.wanted found.new) }
     {
         let operator = self.operator();
-        let left_wanted = operator.left_wanted(question.wanted);
-        let left_question = Question {
-            wanted: left_wanted,
-            ..question
-        };
+        let wanted = operator.left_wanted(question.wanted);
         let mut left = None;
-        parts.left.explain_into(alloc, left_question, &mut left)?;
-        let left_holds = shown_verdict(left_wanted, &left);
-        let asks = operator.asks(left_holds);
-        let right_wanted = operator.right_wanted(question.wanted, left_holds);
-        let right_question = Question {
-            wanted: right_wanted,
-            ..question
-        };
-        let mut right = None;
         parts
+            .left
+            .answer_into(alloc, Question { wanted, ..question }, &mut left)?;
+        let left_holds = shown_verdict(wanted, &left);
+        let mut right = None;
+        let right_holds = parts
             .right
-            .explain_if(alloc, asks, right_question, &mut right)?;
-        let right_holds = shown_verdict(right_wanted, &right);
+            .answer_right(alloc, operator, left_holds, question, &mut right)?;
         let holds = operator.apply(left_holds, right_holds);
         if is_other(question.wanted, holds) {
             return Ok(());
@@ -195,7 +228,7 @@ impl TextCheck {
     // Writes the node over the cases of the parts. It is not inlined, so that a level without a
     // case has a small frame.
     #[inline(never)]
-    pub(crate) fn write_node(
+    fn write_node(
         &self,
         alloc: Global,
         holds: bool,
