@@ -7,11 +7,6 @@ use Rattle.predicates_core.specs.Formula.{Formula, Formulas, Leaf, AtLeast}
 use Rattle.predicates_core.specs.Leaves.{IsExactly}
 use Rattle.predicates_core.specs.Several.{AreOfEach, formulas_of, further_texts}
 
--- how many of n members have to hold: one, or all
-abbrev pub least_of : Bool → ℕ → ℕ
-least_of true n = 1
-least_of false n = n
-
 -- whatever n parts answer, k of them hold or they do not
 abbrev pub IsSettled : ℕ → ℕ → Type 0
 IsSettled k n = (k ≡ 0) ⊎ (n < k)

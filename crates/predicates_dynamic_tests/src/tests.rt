@@ -645,7 +645,6 @@ const TURNED: &str = "\
 odd_of(0, (! 1), 2) = false
   rule: 0 = true
     - var: 0
-    - index: 0
 ";
 
 const NO_PART: &str = "\

@@ -358,7 +358,6 @@ a = false
   rule: / < 3 xor / > 1 = false
     part: / < 3 = true
       - found: 2
-      - index: 0
 ",
     ),
     (
