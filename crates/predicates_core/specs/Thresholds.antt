@@ -1,5 +1,5 @@
 -- The formulas of a predicate that holds where at least so many of its parts do.
-use Rattle.std.specs.Prelude.{◌≡◌, ◌⊎◌, ℕ, ◌<◌, ◌≤◌, Bool, true, false, ◌&&◌, cond}
+use Rattle.std.specs.Prelude.{◌≡◌, ◌⊎◌, ℕ, ◌<◌, ◌≤◌, ◌&&◌, cond}
 use Rattle.std.specs.Prelude.{nat_le, List, [], ◌∷◌, length, Option, Some, codes}
 use Rattle.std.specs.Fmt.{decimal, ◌++?◌}
 use Rattle.predicates_core.specs.Label.{Entry, plain, showing}
