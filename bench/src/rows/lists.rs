@@ -133,8 +133,9 @@ impl ByHand for Each {
         text.clear();
         match found {
             Found::Failing(at, case) => {
-                write!(text, "each(var >= {LEAST}) = false\n  - index: {at}\n").unwrap();
+                writeln!(text, "each(var >= {LEAST}) = false").unwrap();
                 write_member(case, naming, lines, text);
+                writeln!(text, "    - index: {at}").unwrap();
             }
             Found::All(cases) => {
                 writeln!(text, "each(var >= {LEAST}) = true").unwrap();

@@ -112,8 +112,7 @@ impl<P: Predicate<Value>> Predicate<Value> for Each<P> {
         match breaks {
             Some((index, case)) if !expected => Some(
                 Case::new(Some(self), false)
-                    .add_product(Product::new("index", index))
-                    .add_child(case),
+                    .add_child(case.add_product(Product::new("index", index))),
             ),
             None if expected => Some(
                 items
