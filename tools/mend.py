@@ -1,0 +1,93 @@
+"""Answers that no longer fit the names of a changed body, mended by the names that the prover offers in their place.
+
+The prover says of an answer which name it lost, a value's or its own goal's, and which names stand there now, the nearest
+first. These are tried in turn. A body whose answers are all taken so keeps every clause. An answer for which no name is
+left to try is left out.
+"""
+import re
+import sys
+
+sys.dont_write_bytecode = True
+
+# How often an answer whose names all stand is tried with the next name all the same.
+RETRIES = 2
+
+
+class Answer:
+    """An answer as it is kept, and the names that are tried in place of those that it lost, the current one first."""
+
+    def __init__(self, text):
+        self.text, self.names, self.retries = text, {}, 0
+        self.kept = re.match(r'(?:pub )?(\S+)', text)[1]
+        self.is_left_out = self.was_read = False
+
+    def current(self):
+        """The name that it has now."""
+        return self.names[self.kept][0] if self.kept in self.names else self.kept
+
+    def mended(self):
+        text = self.text
+        for name, offers in self.names.items():
+            before = '' if name.startswith('.') else r'(?<![^\s(.])'
+            text = re.sub(rf'{before}{re.escape(name)}(?![^\s().,;{{}}])', lambda _: offers[0], text)
+        return text
+
+    def lose(self, name, offers):
+        """Notes a name that it lost, for which the prover offers others."""
+        # A name that was tried is lost where its next one is due.
+        first = next((it for it, tried in self.names.items() if name in (it, tried[0])), None)
+        if first:
+            self.names[first] = self.names[first][1:]
+        else:
+            first, self.names[name] = name, offers
+        if not self.names[first]:
+            del self.names[first]
+            self.is_left_out = True
+
+    def next_name(self):
+        """A name for which another is left to try."""
+        return next((it for it, offers in self.names.items() if len(offers) > 1), None) if self.retries < RETRIES else None
+
+    def retry(self):
+        """Goes on to the next name."""
+        name = self.next_name()
+        self.was_read, self.retries = True, self.retries + 1
+        self.names[name] = self.names[name][1:]
+
+
+class Answers:
+    """The answers of a folder of proofs."""
+
+    def __init__(self, text):
+        blocks = re.split(r'(?m)^(?=(?:pub )?\S+ :(?: |$))', text)
+        self.head, self.all = blocks[0], [Answer(it) for it in blocks[1:]]
+
+    def text(self):
+        return self.head + ''.join(it.mended() for it in self.all if not it.is_left_out)
+
+    def of(self, name):
+        return next((it for it in self.all if it.current() == name and not it.is_left_out), None)
+
+    def lose(self, name, lost, offers):
+        """Mends an answer that lost a name, or leaves all out where what they import is gone."""
+        answer = self.of(name)
+        if answer:
+            taken = {it.current() for it in self.all if not it.is_left_out}
+            answer.lose(lost, [it for it in offers if it not in taken])
+            if lost.startswith('.'):
+                # (the others that name the value lose it too)
+                for it in self.all:
+                    if it is not answer and lost in it.text and lost not in it.names:
+                        it.names[lost] = [*offers]
+        else:
+            for it in self.all:
+                it.is_left_out = True
+
+    def retried(self, goal):
+        """The answer of a goal, where it is one for which another name is left to try."""
+        answer = self.of(goal)
+        return answer if answer and answer.next_name() else None
+
+    def unread(self):
+        """The answers of which no names were found that all stand."""
+        return [it.kept for it in self.all if it.is_left_out and not it.was_read]
