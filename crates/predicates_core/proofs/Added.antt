@@ -1,16 +1,17 @@
--- One product more at the root: the truth and the first reason stay, and the case has the product
--- too.
-use Rattle.std.proofs.Common.{false, ◌≡◌, refl, sym, ap, ◌∙◌, ℕ, Bool, List, [], ◌∷◌, ◌++◌, Option, Some, None}
+-- One product more at the root: the truth and the first leaves stay, and the case has the product too.
+use Rattle.std.proofs.Common.{◌≡◌, refl, sym, ap, ◌∙◌, ℕ, Bool, List, [], ◌∷◌, ◌++◌, Option, Some, None}
 use Rattle.predicates_core.specs.Label.{Label, Entry, Product, Fits, FitsEntry, FitsProducts}
 use Rattle.predicates_core.specs.Formula.{Formula, Leaf, Join, Not, Named, AtLeast, text_of, truth, value, actual, HasTruth, with_product}
-use Rattle.predicates_core.specs.Shows.{FitsNode, Shows, Explains, IsCaseOf, IsFound}
+use Rattle.predicates_core.specs.Kinds.{Kind}
+use Rattle.predicates_core.specs.Shows.{FitsNode, Shows, ExplainsBy, IsCaseBy, IsFoundBy}
 use Rattle.predicates_core.specs.Tree.{Tree}
 use Rattle.predicates_core.specs.Describe as describe
 use Rattle.predicates_core.specs.Describe.{CaseNode, NamedBytes}
 use Rattle.predicates_core.specs.Leaves.{IsShowing}
 use Rattle.predicates_core.specs.Added.{IsWithProduct}
 use Rattle.predicates_core.proofs.Found.{case_by_result}
-use Rattle.predicates_core.proofs.FirstReasonOf.{with_product_truth, first-with_product}
+use Rattle.predicates_core.proofs.BothKinds.{same_first}
+use Rattle.predicates_core.proofs.FirstOf.{with_product_carries, with_product_truth}
 
 -- one product more on both sides, where the value fits
 fit_last : (ps : List Product) (ss : List NamedBytes) (p : Product) (bytes : List ℕ) → Fits p.value bytes → FitsProducts ps ss → FitsProducts (ps ++ p ∷ []) (ss ++ (p.name, bytes) ∷ [])
@@ -27,19 +28,19 @@ root_with_product label b b' c p bytes e fits h = record {
   products = fit_last label.products c.root.products p bytes fits h.products;
 }
 
-pub shows_with_product : (always : Bool) (f : Formula) (c : Tree CaseNode) (S : List ℕ) (p : Product) (bytes : List ℕ) → Fits p.value bytes → Shows always f c S → Shows always (with_product f p) (describe.with_product c (p.name, bytes)) S
+shows_with_product : (q : Kind) (f : Formula) (c : Tree CaseNode) (S : List ℕ) (p : Product) (bytes : List ℕ) → Fits p.value bytes → Shows q f c S → Shows q (with_product f p) (describe.with_product c (p.name, bytes)) S
 unfolding Shows with_product truth value actual
-shows_with_product always (Leaf label t) c S p bytes fits h = (root_with_product label _ _ c p bytes refl fits h.0, h.1, h.2)
-shows_with_product always (Join op label fs) c S p bytes fits h = (root_with_product label _ _ c p bytes (with_product_truth (Join op label fs) p) fits h.0, h.1)
-shows_with_product always (Not label f) c S p bytes fits h = (root_with_product label _ _ c p bytes (with_product_truth (Not label f) p) fits h.0, h.1)
-shows_with_product always (Named label name f) c S p bytes fits h = (root_with_product label _ _ c p bytes (with_product_truth (Named label name f) p) fits h.0, h.1)
-shows_with_product always (AtLeast k label fs) c S p bytes fits h = (root_with_product label _ _ c p bytes (with_product_truth (AtLeast k label fs) p) fits h.0, h.1)
+shows_with_product q (Leaf label t) c S p bytes fits h = (root_with_product label _ _ c p bytes refl fits h.0, h.1, h.2)
+shows_with_product q (Join op label fs) c S p bytes fits h = (root_with_product label _ _ c p bytes (with_product_truth (Join op label fs) p) fits h.0, h.1)
+shows_with_product q (Not label f) c S p bytes fits h = (root_with_product label _ _ c p bytes (with_product_truth (Not label f) p) fits h.0, h.1)
+shows_with_product q (Named label name f) c S p bytes fits h = (root_with_product label _ _ c p bytes (with_product_truth (Named label name f) p) fits h.0, h.1)
+shows_with_product q (AtLeast k label fs) c S p bytes fits h = (root_with_product label _ _ c p bytes (with_product_truth (AtLeast k label fs) p) fits h.0, h.1)
 
-explains_with_product : (f : Formula) (c : Tree CaseNode) (p : Product) (bytes : List ℕ) → Fits p.value bytes → Explains f c → Explains (with_product f p) (describe.with_product c (p.name, bytes))
-explains_with_product f c p bytes fits x = record {
+explains_with_product : (q : Kind) (f : Formula) (c : Tree CaseNode) (p : Product) (bytes : List ℕ) → Fits p.value bytes → ExplainsBy q f c → ExplainsBy q (with_product f p) (describe.with_product c (p.name, bytes))
+explains_with_product q f c p bytes fits x = record {
   leaves = x.leaves;
-  first = first-with_product f p x.leaves x.first;
-  shown = shows_with_product false f c x.leaves p bytes fits x.shown;
+  first = same_first q (with_product_carries f p) x.leaves x.first;
+  shown = shows_with_product q f c x.leaves p bytes fits x.shown;
 }
 
 -- the text of the root stays
@@ -61,18 +62,18 @@ module _ {name : List ℕ} {value : Entry} {part : Formula → Type 0} where
   pub HasTruth-with_product : {b : Bool} → HasTruth part b → HasTruth (IsWithProduct name value part) b
   HasTruth-with_product h = record { at = λ f p. ap truth p.is ∙ with_product_truth p.inner (record { name = name; value = value }) ∙ h.at p.inner p.of_part }
 
-  pub IsCaseOf-with_product : {b : Bool} {c t : Tree CaseNode} → IsShowing name value c t → IsCaseOf part b c → IsCaseOf (IsWithProduct name value part) b t
-  IsCaseOf-with_product {b} {c} {t} s h = record {
+  pub IsCaseOf-with_product : {q : Kind} {b : Bool} {c t : Tree CaseNode} → IsShowing name value c t → IsCaseBy q part b c → IsCaseBy q (IsWithProduct name value part) b t
+  IsCaseOf-with_product {q} {b} {c} {t} s h = record {
     truth = HasTruth-with_product h.truth;
-    explains = λ f p. rw (p.is, s.is) (explains_with_product p.inner c (record { name = name; value = value }) s.bytes s.fits (h.explains p.inner p.of_part));
+    explains = λ f p. rw (p.is, s.is) (explains_with_product q p.inner c (record { name = name; value = value }) s.bytes s.fits (h.explains p.inner p.of_part));
   }
 
 -- what is found of it
-module _ (name : List ℕ) (value : Entry) (part : Formula → Type 0) where
-  pub none_with_product : (w : Option Bool) → IsFound part w None → IsFound (IsWithProduct name value part) w None
-  none_with_product (Some e) x = HasTruth-with_product x
-  none_with_product None x = λ f p. x p.inner p.of_part
+module _ (q : Kind) (name : List ℕ) (value : Entry) (part : Formula → Type 0) where
+  pub nothing_with_product : (w : Option Bool) → IsFoundBy q part w None → IsFoundBy q (IsWithProduct name value part) w None
+  nothing_with_product (Some e) x = HasTruth-with_product x
+  nothing_with_product None x = λ f p. x p.inner p.of_part
 
-  pub case_with_product : (w : Option Bool) {c t : Tree CaseNode} → IsShowing name value c t → IsFound part w (Some c) → IsFound (IsWithProduct name value part) w (Some t)
-  case_with_product (Some e) s x = IsCaseOf-with_product s x
-  case_with_product None s x = case_by_result (IsCaseOf-with_product s x)
+  pub found_with_product : (w : Option Bool) {c t : Tree CaseNode} → IsShowing name value c t → IsFoundBy q part w (Some c) → IsFoundBy q (IsWithProduct name value part) w (Some t)
+  found_with_product (Some e) s x = IsCaseOf-with_product s x
+  found_with_product None s x = case_by_result (IsCaseOf-with_product s x)

@@ -1,28 +1,28 @@
 -- Formulas that are explained alike.
-use Rattle.std.proofs.Common.{◌≡◌, ℕ, List, Bool, true, false, refl, ap, ◌∙◌}
+use Rattle.std.proofs.Common.{◌≡◌, ℕ, List, Bool, true, false, refl, sym}
 use Rattle.std.specs.Prelude.{not, ◌&&◌, ◌||◌}
 use Rattle.predicates_core.specs.Label.{Label}
 use Rattle.predicates_core.specs.declared.custom.join.Operator.TheVariants.{And, Or, Xor}
-use Rattle.predicates_core.specs.Formula.{Formula, pair, Not, Named, differ, size, value, actual, truth}
+use Rattle.predicates_core.specs.Formula.{Formula, pair, Not, Named, differ, size, value, actual}
 use Rattle.predicates_core.specs.Alike.{AreAlike, AreSameFunction}
-use Rattle.predicates_core.proofs.Values.{not-not, truth-Not, truth-Named}
-use Rattle.predicates_core.proofs.FirstReasonOf.{SameReasons, same_symmetric, same_first, same_function_reasons, same_function_truth, not_reasons, named_reasons, first-Not}
+use Rattle.predicates_core.specs.Kinds.{reasons}
+use Rattle.predicates_core.proofs.Values.{not-not}
+use Rattle.predicates_core.proofs.BothKinds.{Carries, carried_truth, carries_back, same_first}
+use Rattle.predicates_core.proofs.FirstOf.{named_carries}
 
-alike : (f g : Formula) → truth f ≡ truth g → SameReasons f g → AreAlike f g
-alike f g e s = record { truths = e; reasons = λ S. (same_first s S, same_first (same_symmetric s) S) }
+alike : {f g : Formula} → Carries false f g → AreAlike f g
+alike c = record { truths = sym (carried_truth c); reasons = λ S. (same_first reasons c S, same_first reasons (carries_back c) S) }
 
 -- the same function of the same leaves is explained by the same ones
 pub same_function : (f g : Formula) → AreSameFunction f g → AreAlike f g
-same_function f g h = alike f g (same_function_truth f g h.leaves h.values) (same_function_reasons f g h.leaves h.values)
+same_function f g h = alike (record { leaves = h.leaves; values = λ w e. sym (h.values w e) })
 
 pub double_negation : (outer inner : Label) (f : Formula) → AreAlike (Not outer (Not inner f)) f
-double_negation outer inner f = record {
-  truths = truth-Not outer (Not inner f) ∙ ap not (truth-Not inner f) ∙ not-not (truth f);
-  reasons = λ S. (λ h. same_first (same_symmetric (not_reasons inner f)) S (same_first (same_symmetric (not_reasons outer (Not inner f))) S h), λ h. first-Not outer (Not inner f) S (first-Not inner f S h));
-}
+unfolding actual value
+double_negation outer inner f = alike (record { leaves = refl; values = λ w e. sym (not-not (value f w)) })
 
 pub named : (label : Label) (name : List ℕ) (f : Formula) → AreAlike (Named label name f) f
-named label name f = alike (Named label name f) f (truth-Named label name f) (same_symmetric (named_reasons label name f))
+named label name f = alike (carries_back (named_carries label name f))
 
 not_and : (a b : Bool) → not (a && b) ≡ (not a || not b)
 not_and true b = refl

@@ -1,47 +1,139 @@
 -- What is found of two parts that are asked in turn.
-use Rattle.std.proofs.Common.{◌≡◌, ℕ, Bool, true, false, List, Option, Some, None, cond, refl, sym, subst}
+use Rattle.std.proofs.Common.{◌≡◌, ℕ, Bool, true, false, List, ◌++◌, Option, Some, None, cond, codes, refl, sym, ap, ◌∙◌, subst}
 use Rattle.std.specs.Prelude.{not}
 use mathlib.Core.Bool.{beq}
-use Rattle.predicates_core.specs.Label.{Fits}
+use Rattle.predicates_core.specs.Label.{Fits, plain}
 use Rattle.predicates_core.specs.declared.custom.join.Operator.{Operator}
 use Rattle.predicates_core.specs.declared.custom.join.Operator.TheVariants.{And, Or, Xor}
-use Rattle.predicates_core.specs.Formula.{Formula, apply, differ, HasTruth}
-use Rattle.predicates_core.specs.Tree.{Tree}
+use Rattle.predicates_core.specs.Formula.{Formula, one, apply, differ, pair, size, truth, HasTruth}
+use Rattle.predicates_core.specs.Reason.{AreIncreasing}
+use Rattle.predicates_core.specs.Kinds.{Kind, reasons, changes, First}
+use Rattle.predicates_core.specs.Tree.{Tree, Forest, empty, branch, forest}
 use Rattle.predicates_core.specs.Describe.{CaseNode}
-use Rattle.predicates_core.specs.Shows.{IsCaseOf, IsAnswer, IsFound, IsNode, found_parts}
+use Rattle.predicates_core.specs.Shows.{ShowsPart, ShowsNumbered, Shows, ShowsParts, ExplainsBy, IsCaseBy, IsFoundBy, IsFound, IsNode, found_parts}
+use Rattle.predicates_core.specs.Change.{IsFoundChange}
 use Rattle.predicates_core.specs.Combined.{IsPair}
-use Rattle.predicates_core.specs.Asked.{asks, keeps, left_wanted, right_wanted, shown_verdict, is_other, IsFoundIf}
-use Rattle.predicates_core.proofs.FirstOfJoins.{BothCount, LeftDecides, RightDecides}
-use Rattle.predicates_core.proofs.FirstReasonOf.{and_both, and_left, and_right, or_both, or_left, or_right, xor_both, left_whatever}
-use Rattle.predicates_core.proofs.CombinedLemmas.{HasTruth-pair, HasTruth-left, case_of_both, case_of_left, case_of_right}
-use Rattle.predicates_core.proofs.Found.{Found, no_formula, truth_of_none, case_of_none, truth_found, case_found, none_wanted, case_wanted}
+use Rattle.predicates_core.specs.Asked.{asks, keeps, left_wanted, right_wanted, shown_verdict, is_other, IsFoundIf, IsAnswerIf}
+use Rattle.predicates_core.specs.Turning.{turns_right, IsRightChange}
+use Rattle.predicates_core.proofs.Numbers.{shifted, no_numbers}
+use Rattle.predicates_core.proofs.BothKinds.{first_numbers}
+use Rattle.predicates_core.proofs.FirstOf.{one_list}
+use Rattle.predicates_core.proofs.Pairs.{both, right_counts, kept, first_of_pair}
+use Rattle.predicates_core.proofs.Shown.{IsNonempty, not_empty, shows_part, shows_all}
+use Rattle.predicates_core.proofs.CombinedLemmas.{HasTruth-pair, HasTruth-left, node_fits, node_of_text}
+use Rattle.predicates_core.proofs.Found.{Found, no_formula, truth_of_none, truth_found, case_found, other_wanted, case_wanted}
 
 -- the part has the truth, where it was asked for it
 abbrev IsTruthIf : Bool → (Formula → Type 0) → Bool → Type 0
 IsTruthIf true F b = HasTruth F b
 IsTruthIf false F b = Unit {0}
 
--- what is found of a part that has the truth, where it was asked for its case
-abbrev IsCaseIf : Bool → (Formula → Type 0) → Bool → Found → Type 0
-IsCaseIf true F b found = IsAnswer F b found
-IsCaseIf false F b found = found ≡ None
+-- the right part has the truth, which its reason tells only where it was asked for
+abbrev IsTruthOfRight : Kind → Operator → Bool → (Formula → Type 0) → Bool → Type 0
+IsTruthOfRight reasons op a F b = IsTruthIf (asks op a) F b
+IsTruthOfRight changes op a F b = HasTruth F b
 
--- the left part's case, where it belongs to the reason
-left_case : (F : Formula → Type 0) (op : Operator) (w : Option Bool) (b : Bool) (c : Found) → IsFound F (left_wanted op w) c → is_other w (apply op (shown_verdict (left_wanted op w) c) b) ≡ false → keeps op (shown_verdict (left_wanted op w) c) b ≡ true → IsAnswer F (shown_verdict (left_wanted op w) c) c
-left_case F op w b (Some t) x same kept = case_found (left_wanted op w) t x
-left_case F And None b None x same kept = truth_of_none x
-left_case F Or None b None x same kept = truth_of_none x
-left_case F Xor w b None x same kept = truth_of_none x
-left_case F And (Some true) b None x same kept = absurd (cc)
-left_case F And (Some false) true None x same kept = absurd (cc)
-left_case F And (Some false) false None x same kept = absurd (cc)
-left_case F Or (Some true) true None x same kept = absurd (cc)
-left_case F Or (Some true) false None x same kept = absurd (cc)
-left_case F Or (Some false) b None x same kept = absurd (cc)
+truth_where_counted : (q : Kind) (op : Operator) (a : Bool) (F : Formula → Type 0) (b : Bool) → IsTruthOfRight q op a F b → right_counts q op a b ≡ true → HasTruth F b
+truth_where_counted reasons op a F b h e = subst (λ z. IsTruthIf z F b) e h
+truth_where_counted changes op a F b h e = h
+
+same_parts : (q : Kind) (op : Operator) (a : Bool) (F : Formula → Type 0) (b : Bool) → IsTruthOfRight q op a F b → (f : Formula) → F f → (keeps op a (truth f) ≡ keeps op a b) × (right_counts q op a (truth f) ≡ right_counts q op a b)
+same_parts reasons And true F b h f of = (ap (keeps And true) (h.at f of), refl)
+same_parts reasons And false F b h f of = (refl, refl)
+same_parts reasons Or true F b h f of = (refl, refl)
+same_parts reasons Or false F b h f of = (ap (keeps Or false) (h.at f of), refl)
+same_parts reasons Xor a F b h f of = (refl, refl)
+same_parts changes op a F b h f of = (ap (keeps op a) (h.at f of), ap (turns_right op) (h.at f of))
+
+-- ---- the case of two parts
+
+module _ (q : Kind) where
+  -- the part's case, where it belongs to that of the whole
+  abbrev IsKept : Bool → Formula → Found → List ℕ → Type 0
+  IsKept true f (Some c) S = IsNonempty S × Shows q f c S
+  IsKept true f None S = ⊥
+  IsKept false f (Some c) S = ⊥
+  IsKept false f None S = Unit {0}
+
+  -- the children with the part's case before them, if there is one
+  abbrev before : List ℕ → Found → Forest CaseNode → Forest CaseNode
+  before name (Some c) rest = branch name c.root c.children rest
+  before name None rest = rest
+
+  part_shown : (name : List ℕ) (k : ℕ) (keep : Bool) (f : Formula) (found : Found) (S : List ℕ) (rest : Forest CaseNode) → IsKept keep f found S → ShowsPart (ShowsNumbered false k (Shows q f)) name (kept keep S) (before name found rest) rest
+  part_shown name k true f (Some c) S rest h = shows_part (ShowsNumbered false k (Shows q f)) name rest S c h.0 (c, refl, h.1)
+  part_shown name k true f None S rest h = absurd h
+  part_shown name k false f (Some c) S rest h = absurd h
+  part_shown name k false f None S rest h = refl
+
+  kept_numbers : (keep : Bool) (f : Formula) (S : List ℕ) → First q f S → AreIncreasing 0 (size f) (kept keep S)
+  kept_numbers true f S h = first_numbers q f S h
+  kept_numbers false f S h = no_numbers (size f)
+
+  children_of : (c d : Found) → before (codes "left") c (before (codes "right") d empty) ≡ forest (found_parts c d)
+  children_of None None = refl
+  children_of None (Some d) = refl
+  children_of (Some c) None = refl
+  children_of (Some c) (Some d) = refl
+
+  -- the part's first leaves, which its case shows where that belongs to the whole's
+  side : (F : Formula → Type 0) {a : Bool} (keep : Bool) (found : Found) → (keep ≡ true → HasTruth F a) → IsAnswerIf q keep F a found → (f : Formula) → F f → (S : List ℕ) × First q f S × IsKept keep f found S
+  side F true (Some c) has x f of = let e = x.explains f of in (e.leaves, e.first, (not_empty q f e.leaves e.first, e.shown))
+  side F true None has x f of = absurd (no_formula (has refl) x f of)
+  side F false (Some c) has x f of = absurd (cc)
+  side F false None has x f of = let e = one_list q f in (e.0, e.1, tt)
+
+  module _ (op : Operator) (c d : Found) {text : Option (List ℕ)} {e : Bool} {t : Tree CaseNode} where
+    explains_pair : (l r : Formula) (S T : List ℕ) → First q l S → First q r T → IsKept (keeps op (truth l) (truth r)) l c S → IsKept (right_counts q op (truth l) (truth r)) r d T → truth (pair op (plain text) l r) ≡ e → IsNode text e (found_parts c d) t → ExplainsBy q (pair op (plain text) l r) t
+    unfolding Shows
+    explains_pair l r S T s g x y is node =
+        let keep = keeps op (truth l) (truth r) in
+        let counts = right_counts q op (truth l) (truth r) in
+        let right = before (codes "right") d empty in
+        let leaves = kept keep S ++ shifted (size l) (kept counts T) in
+        let shown : ShowsParts q false 0 (both l r) (before (codes "left") c right) leaves =
+        shows_all (ShowsNumbered false 0 (Shows q l)) (codes "left") (ShowsParts q false 1 (one (codes "right") r)) (size l) (kept keep S) (kept counts T) (kept_numbers keep l S s) (before (codes "left") c right) right
+        (part_shown (codes "left") 0 keep l c S right x) (part_shown (codes "right") 1 counts r d T empty y) in
+        record {
+          leaves = leaves;
+          first = first_of_pair q (plain text) l r S T s g op;
+          shown = (node_fits text e _ _ t node is, subst (λ ch. ShowsParts q false 0 (both l r) ch leaves) (children_of c d ∙ sym node.children) shown);
+        }
+
+  module _ (op : Operator) (a b : Bool) (c d : Found) {text : Option (List ℕ)} {left right : Formula → Type 0} {e : Bool} {t : Tree CaseNode} {bytes : List ℕ} where
+    -- the node over the cases of the parts that belong to it
+    pair_case : HasTruth (IsPair op text left right) e → HasTruth left a → IsTruthOfRight q op a right b → IsAnswerIf q (keeps op a b) left a c → IsAnswerIf q (right_counts q op a b) right b d → IsNode (Some bytes) e (found_parts c d) t → Fits text bytes → IsCaseBy q (IsPair op text left right) e t
+    pair_case whole l r x y written fits = record {
+      truth = whole;
+      explains = λ f h.
+          let s = side left (keeps op a b) c (λ k. l) x h.left_formula h.of_left in
+          let g = side right (right_counts q op a b) d (truth_where_counted q op a right b r) y h.right_formula h.of_right in
+          let same = same_parts q op a right b r h.right_formula h.of_right in
+          let is = l.at h.left_formula h.of_left in
+          let keeps_same = ap (λ z. keeps op z (truth h.right_formula)) is ∙ same.0 in
+          let counts_same = ap (λ z. right_counts q op z (truth h.right_formula)) is ∙ same.1 in
+          subst (λ z. ExplainsBy q z t) (sym h.is) (explains_pair op c d h.left_formula h.right_formula s.0 g.0 s.1 g.1
+          (subst (λ k. IsKept k h.left_formula c s.0) (sym keeps_same) s.2) (subst (λ k. IsKept k h.right_formula d g.0) (sym counts_same) g.2) (ap truth (sym h.is) ∙ whole.at f h) (node_of_text written fits));
+    }
+
+-- ---- what was found of each
+
+-- the left part's case, where it belongs to that of the whole
+left_case : (q : Kind) (F : Formula → Type 0) (op : Operator) (w : Option Bool) (b : Bool) (c : Found) → IsFoundBy q F (left_wanted op w) c → is_other w (apply op (shown_verdict (left_wanted op w) c) b) ≡ false → keeps op (shown_verdict (left_wanted op w) c) b ≡ true → IsAnswerIf q true F (shown_verdict (left_wanted op w) c) c
+left_case q F op w b (Some t) x same kept = case_found q (left_wanted op w) t x
+left_case q F And None b None x same kept = truth_of_none x
+left_case q F Or None b None x same kept = truth_of_none x
+left_case q F Xor w b None x same kept = truth_of_none x
+left_case q F And (Some true) b None x same kept = absurd (cc)
+left_case q F And (Some false) true None x same kept = absurd (cc)
+left_case q F And (Some false) false None x same kept = absurd (cc)
+left_case q F Or (Some true) true None x same kept = absurd (cc)
+left_case q F Or (Some true) false None x same kept = absurd (cc)
+left_case q F Or (Some false) b None x same kept = absurd (cc)
 
 -- the right part's case, where it was asked
-right_case : (F : Formula → Type 0) (op : Operator) (w : Option Bool) (a : Bool) (d : Found) → IsFound F (right_wanted op a w) d → is_other w (apply op a (shown_verdict (right_wanted op a w) d)) ≡ false → asks op a ≡ true → IsAnswer F (shown_verdict (right_wanted op a w) d) d
-right_case F op w a (Some t) x same asked = case_found (right_wanted op a w) t x
+right_case : (F : Formula → Type 0) (op : Operator) (w : Option Bool) (a : Bool) (d : Found) → IsFound F (right_wanted op a w) d → is_other w (apply op a (shown_verdict (right_wanted op a w) d)) ≡ false → asks op a ≡ true → IsAnswerIf reasons true F (shown_verdict (right_wanted op a w) d) d
+right_case F op w a (Some t) x same asked = case_found reasons (right_wanted op a w) t x
 right_case F And None a None x same asked = truth_of_none x
 right_case F Or None a None x same asked = truth_of_none x
 right_case F Xor None a None x same asked = truth_of_none x
@@ -64,41 +156,16 @@ module _ {text : Option (List ℕ)} {left right : Formula → Type 0} where
   truth_in_turn Or false b l r = HasTruth-pair Or l r
   truth_in_turn Xor a b l r = HasTruth-pair Xor l r
 
-module _ {text : Option (List ℕ)} {left right : Formula → Type 0} {bytes : List ℕ} {e : Bool} {t : Tree CaseNode} where
-  both_found : (op : Operator) {a b : Bool} (c d : Found) → BothCount (apply op) a b → IsNode (Some bytes) e (found_parts c d) t → Fits text bytes → HasTruth left a → HasTruth right b → IsAnswer left a c → IsAnswer right b d → apply op a b ≡ e → IsCaseOf (IsPair op text left right) e t
-  both_found op None d counts written fits l r x y is = case_of_none (λ f h. no_formula l x h.left_formula h.of_left)
-  both_found op (Some c) None counts written fits l r x y is = case_of_none (λ f h. no_formula r y h.right_formula h.of_right)
-  both_found op (Some c) (Some d) counts written fits l r x y is = case_of_both op counts written fits x y is
-
-  left_found : (op : Operator) {a b : Bool} (c d : Found) → LeftDecides (apply op) a b → IsNode (Some bytes) e (found_parts c d) t → Fits text bytes → HasTruth left a → IsAnswer left a c → d ≡ None → apply op a b ≡ e → IsCaseOf (IsPair op text left right) e t
-  left_found op None d counts written fits l x none is = case_of_none (λ f h. no_formula l x h.left_formula h.of_left)
-  left_found op (Some c) None counts written fits l x none is = case_of_left op counts written fits x is
-  left_found op (Some c) (Some d) counts written fits l x none is = absurd (cc)
-
-  right_found : (op : Operator) {a b : Bool} (c d : Found) → RightDecides (apply op) a b → IsNode (Some bytes) e (found_parts c d) t → Fits text bytes → HasTruth left a → HasTruth right b → c ≡ None → IsAnswer right b d → apply op a b ≡ e → IsCaseOf (IsPair op text left right) e t
-  right_found op c None counts written fits l r none y is = case_of_none (λ f h. no_formula r y h.right_formula h.of_right)
-  right_found op None (Some d) counts written fits l r none y is = case_of_right op counts written fits l y is
-  right_found op (Some c) (Some d) counts written fits l r none y is = absurd (cc)
-
-  case_of_parts : (op : Operator) (a b : Bool) (c d : Found) → IsNode (Some bytes) e (found_parts c d) t → Fits text bytes → HasTruth left a → IsTruthIf (asks op a) right b → IsCaseIf (keeps op a b) left a c → IsCaseIf (asks op a) right b d → apply op a b ≡ e → IsCaseOf (IsPair op text left right) e t
-  case_of_parts And true true c d written fits l r x y is = both_found And c d and_both written fits l r x y is
-  case_of_parts And true false c d written fits l r x y is = right_found And c d and_right written fits l r x y is
-  case_of_parts And false b c d written fits l r x y is = left_found And {b = b} c d (left_whatever and_left) written fits l x y is
-  case_of_parts Or false false c d written fits l r x y is = both_found Or c d or_both written fits l r x y is
-  case_of_parts Or false true c d written fits l r x y is = right_found Or c d or_right written fits l r x y is
-  case_of_parts Or true b c d written fits l r x y is = left_found Or {b = b} c d (left_whatever or_left) written fits l x y is
-  case_of_parts Xor a b c d written fits l r x y is = both_found Xor c d (xor_both a b) written fits l r x y is
-
 truth_asked : (F : Formula → Type 0) (asked : Bool) (w : Option Bool) (d : Found) → IsFoundIf asked F w d → IsTruthIf asked F (shown_verdict w d)
-truth_asked F true w d x = truth_found w d x
+truth_asked F true w d x = truth_found reasons w d x
 truth_asked F false w d x = tt
 
-left_kept : (F : Formula → Type 0) (op : Operator) (w : Option Bool) (b kept : Bool) (c : Found) {of_left : Option Bool} {a h : Bool} → of_left ≡ left_wanted op w → IsFound F of_left c → a ≡ shown_verdict of_left c → is_other w h ≡ false → h ≡ apply op a b → kept ≡ keeps op a b → IsCaseIf kept F a (cond kept c None)
-left_kept F op w b true c lw x la same is k =
-    rw (la, lw) (left_case F op w b c (rw (← lw) x) (rw (← lw, ← la, ← is) same) (rw (← lw, ← la) (sym k)))
-left_kept F op w b false c lw x la same is k = refl
+left_kept : (q : Kind) (F : Formula → Type 0) (op : Operator) (w : Option Bool) (b keep : Bool) (c : Found) {of_left : Option Bool} {a h : Bool} → of_left ≡ left_wanted op w → IsFoundBy q F of_left c → a ≡ shown_verdict of_left c → is_other w h ≡ false → h ≡ apply op a b → keep ≡ keeps op a b → IsAnswerIf q keep F a (cond keep c None)
+left_kept q F op w b true c lw x la same is k =
+    rw (la, lw) (left_case q F op w b c (rw (← lw) x) (rw (← lw, ← la, ← is) same) (rw (← lw, ← la) (sym k)))
+left_kept q F op w b false c lw x la same is k = refl
 
-right_asked : (F : Formula → Type 0) (op : Operator) (w : Option Bool) (a asked : Bool) (d : Found) {of_right : Option Bool} {b h : Bool} → of_right ≡ right_wanted op a w → IsFoundIf asked F of_right d → b ≡ shown_verdict of_right d → is_other w h ≡ false → h ≡ apply op a b → asked ≡ asks op a → IsCaseIf asked F b d
+right_asked : (F : Formula → Type 0) (op : Operator) (w : Option Bool) (a asked : Bool) (d : Found) {of_right : Option Bool} {b h : Bool} → of_right ≡ right_wanted op a w → IsFoundIf asked F of_right d → b ≡ shown_verdict of_right d → is_other w h ≡ false → h ≡ apply op a b → asked ≡ asks op a → IsAnswerIf reasons asked F b d
 right_asked F op w a true d rw_ y ra same is s =
     rw (ra, rw_) (right_case F op w a d (rw (← rw_) y) (rw (← rw_, ← ra, ← is) same) (sym s))
 right_asked F op w a false d rw_ y ra same is s = y
@@ -107,19 +174,33 @@ module _ (op : Operator) (w : Option Bool) (c d : Found) (text : Option (List �
   -- another truth is wanted than the whole has
   pub none_in_turn : of_left ≡ left_wanted op w → IsFound left of_left c → a ≡ shown_verdict of_left c → asked ≡ asks op a → of_right ≡ right_wanted op a w → IsFoundIf asked right of_right d → b ≡ shown_verdict of_right d → h ≡ apply op a b → is_other w h ≡ true → IsFound (IsPair op text left right) w None
   none_in_turn lw x la s rw_ y ra is other =
-      let l : HasTruth left a = rw la (truth_found of_left c x) in
+      let l : HasTruth left a = rw la (truth_found reasons of_left c x) in
       let r : IsTruthIf (asks op a) right b = rw (← s, ra) (truth_asked right asked of_right d y) in
-      none_wanted w (rw is (truth_in_turn op a b l r)) other
+      other_wanted reasons w (rw is (truth_in_turn op a b l r)) other
 
   -- the case of the whole, where its truth is wanted
-  pub case_in_turn : {kept : Bool} (bytes : List ℕ) {t : Tree CaseNode} → of_left ≡ left_wanted op w → IsFound left of_left c → a ≡ shown_verdict of_left c → asked ≡ asks op a → of_right ≡ right_wanted op a w → IsFoundIf asked right of_right d → b ≡ shown_verdict of_right d → h ≡ apply op a b → is_other w h ≡ false
-      → kept ≡ keeps op a b → IsNode (Some bytes) h (found_parts (cond kept c None) d) t → Fits text bytes → IsFound (IsPair op text left right) w (Some t)
-  case_in_turn {kept} bytes lw x la s rw_ y ra is same k written fits =
-      let l : HasTruth left a = rw la (truth_found of_left c x) in
+  pub case_in_turn : {keep : Bool} (bytes : List ℕ) {t : Tree CaseNode} → of_left ≡ left_wanted op w → IsFound left of_left c → a ≡ shown_verdict of_left c → asked ≡ asks op a → of_right ≡ right_wanted op a w → IsFoundIf asked right of_right d → b ≡ shown_verdict of_right d → h ≡ apply op a b → is_other w h ≡ false
+      → keep ≡ keeps op a b → IsNode (Some bytes) h (found_parts (cond keep c None) d) t → Fits text bytes → IsFound (IsPair op text left right) w (Some t)
+  case_in_turn {keep} bytes lw x la s rw_ y ra is same k written fits =
+      let l : HasTruth left a = rw la (truth_found reasons of_left c x) in
       let r : IsTruthIf (asks op a) right b = rw (← s, ra) (truth_asked right asked of_right d y) in
-      let of_c : IsCaseIf (keeps op a b) left a (cond kept c None) = rw (← k) (left_kept left op w b kept c lw x la same is k) in
-      let of_d : IsCaseIf (asks op a) right b d = rw (← s) (right_asked right op w a asked d rw_ y ra same is s) in
-      case_wanted w (case_of_parts op a b (cond kept c None) d written fits l r of_c of_d (sym is)) same
+      let of_c : IsAnswerIf reasons (keeps op a b) left a (cond keep c None) = rw (← k) (left_kept reasons left op w b keep c lw x la same is k) in
+      let of_d : IsAnswerIf reasons (asks op a) right b d = rw (← s) (right_asked right op w a asked d rw_ y ra same is s) in
+      case_wanted w (pair_case reasons op a b (cond keep c None) d (rw is (truth_in_turn op a b l r)) l r of_c of_d written fits) same
+
+-- what would turn the whole, where the right part's truth is always known
+module _ (op : Operator) (w : Option Bool) (c d : Found) (text : Option (List ℕ)) (left right : Formula → Type 0) (of_left : Option Bool) {a b h : Bool} where
+  pub no_change_in_turn : IsFoundChange left of_left c → a ≡ shown_verdict of_left c → IsRightChange op right b d → h ≡ apply op a b → is_other w h ≡ true → IsFoundChange (IsPair op text left right) w None
+  no_change_in_turn x la y is other =
+      let l : HasTruth left a = rw la (truth_found changes of_left c x) in
+      other_wanted changes w (rw is (HasTruth-pair op l y.truth)) other
+
+  pub change_in_turn : {keep : Bool} (bytes : List ℕ) {t : Tree CaseNode} → of_left ≡ left_wanted op w → IsFoundChange left of_left c → a ≡ shown_verdict of_left c → IsRightChange op right b d → h ≡ apply op a b → is_other w h ≡ false
+      → keep ≡ keeps op a b → IsNode (Some bytes) h (found_parts (cond keep c None) d) t → Fits text bytes → IsFoundChange (IsPair op text left right) w (Some t)
+  change_in_turn {keep} bytes lw x la y is same k written fits =
+      let l : HasTruth left a = rw la (truth_found changes of_left c x) in
+      let of_c : IsAnswerIf changes (keeps op a b) left a (cond keep c None) = rw (← k) (left_kept changes left op w b keep c lw x la same is k) in
+      case_wanted w (pair_case changes op a b (cond keep c None) d (rw is (HasTruth-pair op l y.truth)) l y.truth of_c y.change written fits) same
 
 pub truth_of_pair : (op : Operator) (a b : Bool) {left right : Formula → Type 0} → HasTruth left a → HasTruth right b → {h : Bool} → h ≡ apply op a b → (text : Option (List ℕ)) → HasTruth (IsPair op text left right) h
 truth_of_pair op a b {left} {right} l r is text = subst (HasTruth (IsPair op text left right)) (sym is) (HasTruth-pair op l r)

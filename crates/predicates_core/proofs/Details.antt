@@ -8,7 +8,8 @@ use Rattle.predicates_core.specs.Shows.{Shows, Explains, IsCaseOf, IsNode}
 use Rattle.predicates_core.specs.Leaves.{IsExactly, IsShowing}
 use Rattle.predicates_core.specs.Details.{showing_details, with_products}
 use Rattle.predicates_core.proofs.Leaves.{HasTruth-exactly}
-use Rattle.predicates_core.proofs.FirstReasonOf.{first-Leaf}
+use Rattle.predicates_core.specs.Kinds.{reasons}
+use Rattle.predicates_core.proofs.BothKinds.{first-Leaf}
 
 module _ {text item : Entry} {own b : Bool} {c d : Tree CaseNode} {bytes : List ℕ} (ps : List Product) (gs : List NamedBytes) where
   explains_details : FitsProducts ps gs → IsShowing (codes "var") item c d → IsNode (Some bytes) b [] c → Fits text bytes → own ≡ b → Explains (Leaf (showing_details text item ps) own) (with_products d gs)
@@ -17,7 +18,7 @@ module _ {text item : Entry} {own b : Bool} {c d : Tree CaseNode} {bytes : List 
       let shown : List Product = record { name = codes "var"; value = item } ∷ ps in
       record {
         leaves = 0 ∷ [];
-        first = first-Leaf (showing_details text item ps) own;
+        first = first-Leaf (showing_details text item ps) own reasons;
         shown = (
           record {
             text = subst (λ z. FitsText text z.root.text) (sym s.is) (bytes, written.text.1 ∙ ap Some written.text.2, fits);

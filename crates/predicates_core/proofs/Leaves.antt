@@ -3,6 +3,7 @@ use Rattle.std.proofs.Common.{◌≡◌, ℕ, Bool, true, false, List, [], ◌�
 use Rattle.std.specs.Prelude.{Result, Ok, Err, IfOk}
 use Rattle.predicates_core.specs.Label.{Label, Entry, plain, showing, showing_both, with_last, Fits}
 use Rattle.predicates_core.specs.Formula.{Formula, Leaf, truth, HasTruth, with_product}
+use Rattle.predicates_core.specs.Kinds.{reasons}
 use Rattle.predicates_core.specs.Tree.{Tree}
 use Rattle.predicates_core.specs.Describe.{CaseNode}
 use Rattle.predicates_core.specs.Shows.{Shows, Explains, IsAnswer, IsCaseOf, IsFound, IsNode}
@@ -10,7 +11,7 @@ use Rattle.predicates_core.specs.Leaves.{IsExactly, IsShowing}
 use Rattle.predicates_core.specs.Asked.{is_other}
 use Rattle.predicates_core.proofs.Found.{no_formula, none_wanted, case_wanted}
 use Rattle.predicates_core.proofs.Values.{truth-Leaf}
-use Rattle.predicates_core.proofs.FirstReasonOf.{first-Leaf}
+use Rattle.predicates_core.proofs.BothKinds.{first-Leaf}
 use Rattle.predicates_core.proofs.CombinedLemmas.{node_fits, node_of_text}
 use Rattle.predicates_core.proofs.Added.{IsCaseOf-with_product}
 
@@ -50,7 +51,7 @@ explains_bare : (text : Entry) (own b : Bool) (t : Tree CaseNode) → own ≡ b 
 unfolding Shows
 explains_bare text own b t e node = record {
   leaves = 0 ∷ [];
-  first = first-Leaf (plain text) own;
+  first = first-Leaf (plain text) own reasons;
   shown = (node_fits text b own [] t node e, node.children, refl);
 }
 

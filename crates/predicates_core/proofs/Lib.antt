@@ -6,9 +6,13 @@ pub use Rattle.predicates_reflection.proofs.StaticReads
 pub mod Numbers
 pub mod Joins
 pub mod Values
-pub mod FirstReason
-pub mod FirstOfJoins
-pub mod FirstReasonOf
+pub mod Firsts
+pub mod BothKinds
+pub mod Selection
+pub mod Reasons
+pub mod Changes
+pub mod FirstOf
+pub mod Pairs
 pub mod Thresholds
 pub mod Shown
 pub mod CombinedLemmas
@@ -18,7 +22,6 @@ pub mod PresentCases
 pub mod Added
 pub mod Found
 pub mod EnoughChildren
-pub mod Existence
 pub mod Alike
 pub mod OneCase
 pub mod OneChild
@@ -29,10 +32,5 @@ pub mod Listing
 pub mod EachPart
 pub mod ThresholdCases
 pub mod Turned
-pub mod FirstChange
-pub mod TurnedThresholds
-pub mod FirstChangeOf
 pub mod ChangeCases
-pub mod PresentChanges
-pub mod AddedChanges
 pub mod ThresholdChanges

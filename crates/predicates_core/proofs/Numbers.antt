@@ -1,8 +1,9 @@
 -- Increasing lists of numbers, and places at which two valuations are equal.
-use Rattle.std.proofs.Common.{◌≡◌, ◌⊎◌, ℕ, suc, ◌+◌, ◌-◌, ◌<◌, ◌≤◌, List, [], ◌∷◌, ◌++◌, Bool, false, length, get_or, refl, sym, ap, ◌∙◌, arith, inl, inr, ⊎_elim}
+use Rattle.std.proofs.Common.{◌≡◌, ℕ, suc, ◌+◌, ◌-◌, ◌<◌, ◌≤◌, List, [], ◌∷◌, ◌++◌, Bool, false, length, get_or, refl, sym, ap, ◌∙◌, arith, inl, inr, ⊎_elim}
 use Rattle.std.proofs.lemmas.List.{get_or_append_left, get_or-append-add}
 use Rattle.std.proofs.lemmas.Bool.{cases_lt}
-use Rattle.predicates_core.specs.Reason.{AreIncreasing, AreEqualAt, ComesBefore}
+use Rattle.predicates_core.specs.First.{ComesBefore}
+use Rattle.predicates_core.specs.Reason.{AreIncreasing, AreEqualAt}
 
 -- the numbers, each larger by n
 abbrev pub shifted : ℕ → List ℕ → List ℕ
@@ -36,6 +37,10 @@ unshifted low n m (k ∷ rest) h =
     let ih = unshifted (suc (k - n)) n m rest (lower (suc k) (n + suc (k - n)) (n + m) rest (omega arith) h.2) in
     let e : k ≡ n + (k - n) = omega arith in
     ((k - n) ∷ ih.0, cc, (omega arith, omega arith, ih.2))
+
+pub no_numbers : (n : ℕ) → AreIncreasing 0 n []
+unfolding AreIncreasing
+no_numbers n = tt
 
 -- every increasing list is one of the left part's numbers and one of the right part's
 pub split : (low n m : ℕ) (T : List ℕ) → low ≤ n → AreIncreasing low (n + m) T → (L : List ℕ) × (R : List ℕ) × (T ≡ L ++ shifted n R) × AreIncreasing low n L × AreIncreasing 0 m R
@@ -95,33 +100,6 @@ unfolding AreEqualAt
 right_equal_at n [] v₁ v₂ w₁ w₂ ev ew h = tt
 right_equal_at n (k ∷ R) v₁ v₂ w₁ w₂ ev ew h =
     (sym (at_right n v₁ v₂ k ev) ∙ h.0 ∙ at_right n w₁ w₂ k ew, right_equal_at n R v₁ v₂ w₁ w₂ ev ew h.1)
-
--- where one of two lists joined stands in the middle
-pub one_of_two : (L M front : List ℕ) (k : ℕ) (back : List ℕ) → L ++ M ≡ front ++ k ∷ back
-    → ((rest : List ℕ) × (L ≡ front ++ k ∷ rest) × (back ≡ rest ++ M)) ⊎ ((mid : List ℕ) × (front ≡ L ++ mid) × (M ≡ mid ++ k ∷ back))
-one_of_two [] M front k back e = inr (front, refl, e)
-one_of_two (x ∷ L) M [] k back e = inl (L, cc, cc)
-one_of_two (x ∷ L) M (y ∷ front) k back e =
-    let ih = one_of_two L M front k back (cc) in
-    ⊎_elim (λ a. inl (a.0, cc, a.2)) (λ b. inr (b.0, cc, b.2)) ih
-
--- a list that stands in the middle after its numbers were shifted stood there before
-abbrev OneOfShifted : ℕ → List ℕ → List ℕ → List ℕ → Type 0
-OneOfShifted n R front back = (f : List ℕ) × (j : ℕ) × (b : List ℕ) × (R ≡ f ++ j ∷ b) × (front ≡ shifted n f) × (back ≡ shifted n b)
-
-one_further : (n x y : ℕ) (R front back : List ℕ) → y ≡ n + x → OneOfShifted n R front back → OneOfShifted n (x ∷ R) (y ∷ front) back
-one_further n x y R front back e a = (x ∷ a.0, a.1, a.2, ap (λ z. x ∷ z) a.3, cc, a.5)
-
-pub one_of_shifted : (n : ℕ) (R front : List ℕ) (k : ℕ) (back : List ℕ) → shifted n R ≡ front ++ k ∷ back
-    → (f : List ℕ) × (j : ℕ) × (b : List ℕ) × (R ≡ f ++ j ∷ b) × (front ≡ shifted n f) × (back ≡ shifted n b)
-one_of_shifted n [] [] k back e = absurd (cc)
-one_of_shifted n [] (y ∷ front) k back e = absurd (cc)
-one_of_shifted n (x ∷ R) [] k back e = ([], x, R, refl, refl, cc)
-one_of_shifted n (x ∷ R) (y ∷ front) k back e = one_further n x y R front back (cc) (one_of_shifted n R front k back (cc))
-
-pub shifted_append : (n : ℕ) (L R : List ℕ) → shifted n (L ++ R) ≡ shifted n L ++ shifted n R
-shifted_append n [] R = refl
-shifted_append n (k ∷ L) R = ap (λ z. (n + k) ∷ z) (shifted_append n L R)
 
 pub before_joined : (S T X Y : List ℕ) → ComesBefore S T → ((k : ℕ) (rest : List ℕ) → T ≡ S ++ k ∷ rest → ⊥) → ComesBefore (S ++ X) (T ++ Y)
 unfolding ComesBefore

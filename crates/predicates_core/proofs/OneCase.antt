@@ -6,9 +6,10 @@ use Rattle.predicates_core.specs.Tree.{Tree, Forest, branch, empty}
 use Rattle.predicates_core.specs.Describe.{CaseNode, NamedBytes}
 use Rattle.predicates_core.specs.Label.{Label, Product, Entry, Fits, FitsProducts}
 use Rattle.predicates_core.specs.Formula.{Formula, Formulas, one, more, Leaf, Join, Not, Named, AtLeast, number_of_parts, needed, size, truth}
-use Rattle.predicates_core.specs.Shows.{FitsNode, ShowsPart, ShowsNumbered, numbered, tells_numbers, Shows, ShowsParts, ShowsPlaces, Explains, left_share, right_share}
+use Rattle.predicates_core.specs.Kinds.{Kind, reasons}
+use Rattle.predicates_core.specs.Shows.{FitsNode, ShowsPart, ShowsNumbered, numbered, tells_numbers, Shows, ShowsParts, Explains, left_share, right_share}
 use Rattle.predicates_core.specs.Alike.{IsStated, HasStatedLabels, HaveStatedLabels}
-use Rattle.predicates_core.proofs.FirstReason.{first_unique}
+use Rattle.predicates_core.proofs.Firsts.{first_unique}
 
 one_value : (entry : Entry) (x y : List ℕ) → IsSome entry → Fits entry x → Fits entry y → x ≡ y
 one_value None x y given fx fy = absurd (cc)
@@ -57,29 +58,23 @@ one_tree label b c d stated hc hd children =
 mutual
   unfolding Shows HasStatedLabels
 
-  one_shown : (always : Bool) (f : Formula) → HasStatedLabels f → IsShownOnce (Shows always f)
-  one_shown always (Leaf label own) stated S c d hc hd = one_tree label _ c d stated hc.0 hd.0 (hc.1 ∙ sym hd.1)
-  one_shown always (Join op label fs) stated S c d hc hd =
-      one_tree label _ c d stated.0 hc.0 hd.0 (one_list_of_parts always fs stated.1 S c.children d.children hc.1 hd.1)
-  one_shown always (Not label f) stated S c d hc hd =
-      one_tree label _ c d stated.0 hc.0 hd.0 (one_part (Shows always f) (codes "predicate") S c.children d.children empty empty (one_shown always f stated.1) refl hc.1 hd.1)
-  one_shown always (Named label name f) stated S c d hc hd =
-      one_tree label _ c d stated.0 hc.0 hd.0 (one_part (Shows always f) name S c.children d.children empty empty (one_shown always f stated.1) refl hc.1 hd.1)
-  one_shown always (AtLeast k label fs) stated S c d hc hd =
-      one_tree label _ c d stated.0 hc.0 hd.0 (one_list_of_places always (tells_numbers always (truth (AtLeast k label fs)) (needed k fs) (number_of_parts fs)) 0 fs stated.1 S c.children d.children hc.1 hd.1)
+  one_shown : (q : Kind) (f : Formula) → HasStatedLabels f → IsShownOnce (Shows q f)
+  one_shown q (Leaf label own) stated S c d hc hd = one_tree label _ c d stated hc.0 hd.0 (hc.1 ∙ sym hd.1)
+  one_shown q (Join op label fs) stated S c d hc hd =
+      one_tree label _ c d stated.0 hc.0 hd.0 (one_list_of_parts q false 0 fs stated.1 S c.children d.children hc.1 hd.1)
+  one_shown q (Not label f) stated S c d hc hd =
+      one_tree label _ c d stated.0 hc.0 hd.0 (one_part (Shows q f) (codes "predicate") S c.children d.children empty empty (one_shown q f stated.1) refl hc.1 hd.1)
+  one_shown q (Named label name f) stated S c d hc hd =
+      one_tree label _ c d stated.0 hc.0 hd.0 (one_part (Shows q f) name S c.children d.children empty empty (one_shown q f stated.1) refl hc.1 hd.1)
+  one_shown q (AtLeast k label fs) stated S c d hc hd =
+      one_tree label _ c d stated.0 hc.0 hd.0 (one_list_of_parts q (tells_numbers q (truth (AtLeast k label fs)) (needed k fs) (number_of_parts fs)) 0 fs stated.1 S c.children d.children hc.1 hd.1)
 
-  one_list_of_parts : (always : Bool) (fs : Formulas) → HaveStatedLabels fs → (S : List ℕ) (x y : Forest CaseNode) → ShowsParts always fs x S → ShowsParts always fs y S → x ≡ y
-  one_list_of_parts always (one name f) stated S x y hx hy = one_part (Shows always f) name S x y empty empty (one_shown always f stated) refl hx hy
-  one_list_of_parts always (more name f fs) stated S x y hx hy =
-      let rests : hx.0 ≡ hy.0 = one_list_of_parts always fs stated.1 (right_share (size f) S) hx.0 hy.0 hx.2 hy.2 in
-      one_part (Shows always f) name (left_share (size f) S) x y hx.0 hy.0 (one_shown always f stated.0) rests hx.1 hy.1
-
-  one_list_of_places : (always tells : Bool) (k : ℕ) (fs : Formulas) → HaveStatedLabels fs → (S : List ℕ) (x y : Forest CaseNode) → ShowsPlaces always tells k fs x S → ShowsPlaces always tells k fs y S → x ≡ y
-  one_list_of_places always tells k (one name f) stated S x y hx hy = one_part (ShowsNumbered tells k (Shows always f)) name S x y empty empty (one_numbered tells k (Shows always f) (one_shown always f stated)) refl hx hy
-  one_list_of_places always tells k (more name f fs) stated S x y hx hy =
-      let rests : hx.0 ≡ hy.0 = one_list_of_places always tells (suc k) fs stated.1 (right_share (size f) S) hx.0 hy.0 hx.2 hy.2 in
-      one_part (ShowsNumbered tells k (Shows always f)) name (left_share (size f) S) x y hx.0 hy.0 (one_numbered tells k (Shows always f) (one_shown always f stated.0)) rests hx.1 hy.1
+  one_list_of_parts : (q : Kind) (tells : Bool) (k : ℕ) (fs : Formulas) → HaveStatedLabels fs → (S : List ℕ) (x y : Forest CaseNode) → ShowsParts q tells k fs x S → ShowsParts q tells k fs y S → x ≡ y
+  one_list_of_parts q tells k (one name f) stated S x y hx hy = one_part (ShowsNumbered tells k (Shows q f)) name S x y empty empty (one_numbered tells k (Shows q f) (one_shown q f stated)) refl hx hy
+  one_list_of_parts q tells k (more name f fs) stated S x y hx hy =
+      let rests : hx.0 ≡ hy.0 = one_list_of_parts q tells (suc k) fs stated.1 (right_share (size f) S) hx.0 hy.0 hx.2 hy.2 in
+      one_part (ShowsNumbered tells k (Shows q f)) name (left_share (size f) S) x y hx.0 hy.0 (one_numbered tells k (Shows q f) (one_shown q f stated.0)) rests hx.1 hy.1
 
 -- two cases that explain the formula are equal
 pub one_case : (f : Formula) (c d : Tree CaseNode) → HasStatedLabels f → Explains f c → Explains f d → c ≡ d
-one_case f c d stated x y = one_shown false f stated y.leaves c d (subst (λ S. Shows false f c S) (first_unique f x.leaves y.leaves x.first y.first) x.shown) y.shown
+one_case f c d stated x y = one_shown reasons f stated y.leaves c d (subst (λ S. Shows reasons f c S) (first_unique x.first y.first) x.shown) y.shown

@@ -1,99 +1,66 @@
 -- Where one part decides a join, its case has the first part that does, and no other.
-use Rattle.std.proofs.Common.{◌≡◌, ◌⊎◌, ℕ, Bool, true, false, List, [], ◌∷◌, Option, Some, refl, sym, ap, ◌∙◌, subst, inl, inr}
-use Rattle.std.specs.Prelude.{not}
-use mathlib.Core.Bool.{beq}
+use Rattle.std.proofs.Common.{◌≡◌, ℕ, suc, Bool, true, false, List, [], ◌∷◌, Some, refl, sym, ◌∙◌, subst, arith, ⊎_elim}
 use Rattle.predicates_core.specs.Describe.{CaseNode}
-use Rattle.predicates_core.specs.Formula.{Formula, Formulas, one, more, Join, apply, size, truth}
+use Rattle.predicates_core.specs.Formula.{Formula, Formulas, one, more, Join, AtLeast, number_of_parts, size}
+use Rattle.predicates_core.specs.Kinds.{reasons}
 use Rattle.predicates_core.specs.Label.{Label}
 use Rattle.predicates_core.specs.Laws.{decided_by, first_with, OneChild}
-use Rattle.predicates_core.specs.Reason.{IsFirstReason}
-use Rattle.predicates_core.specs.Shows.{ShowsPart, Shows, ShowsParts, Explains, left_share, right_share}
+use Rattle.predicates_core.specs.Reason.{AreIncreasing, IsFirstReason}
+use Rattle.predicates_core.specs.Shows.{ShowsPart, ShowsNumbered, Shows, ShowsParts, Explains}
 use Rattle.predicates_core.specs.Tree.{Tree, Forest, empty, branch}
-use Rattle.predicates_core.proofs.Existence.{first_reasons}
-use Rattle.predicates_core.proofs.FirstReason.{first_unique}
-use Rattle.predicates_core.proofs.FirstOfJoins.{LeftDecides, RightDecides, left_first, right_first}
-use Rattle.predicates_core.proofs.FirstReasonOf.{same_symmetric, same_first, one_reasons, and_left, and_right, or_left, or_right, left_whatever}
-use Rattle.predicates_core.proofs.Joins.{joins}
-use Rattle.predicates_core.proofs.Numbers.{shifted}
-use Rattle.predicates_core.proofs.Shown.{IsNonempty, not_empty, numbers_of, left_share-alone, right_share-alone, left_share-shifted, right_share-shifted}
-use Rattle.predicates_core.proofs.Values.{truth-one, truth-more}
+use Rattle.predicates_core.proofs.Firsts.{first_unique}
+use Rattle.predicates_core.proofs.BothKinds.{Carries, carried_truth, first_numbers, same_first}
+use Rattle.predicates_core.proofs.FirstOf.{and_carries, or_carries, first_of_each, first_of_threshold, selected_of_threshold}
+use Rattle.predicates_core.proofs.Selection.{IsSelected, chosen_none}
+use Rattle.predicates_core.proofs.Shown.{not_empty, all_shown, none_shown}
+use Rattle.predicates_core.proofs.Thresholds.{is_like, decisive}
+use Rattle.predicates_core.proofs.Values.{needed_is, number_some}
 
--- what is known of a join where one part with the truth `decides` decides the whole
-record Decides (decides : Bool) : Type 0 where
-  pub passes : (x : Bool) → apply (decided_by decides) (not decides) x ≡ x
-  pub left : LeftDecides (apply (decided_by decides)) decides decides
-  pub right : RightDecides (apply (decided_by decides)) (not decides) decides
+-- the threshold that the join is: of one part where one that holds decides, else of all
+abbrev least : Bool → Formulas → ℕ
+least true fs = 1
+least false fs = number_of_parts fs
 
-decided : (decides : Bool) → Decides decides
-decided true = record { passes = λ x. refl; left = or_left; right = or_right }
-decided false = record { passes = λ x. refl; left = and_left; right = and_right }
+carried : (decides : Bool) (label : Label) (fs : Formulas) → Carries false (AtLeast (least decides fs) label fs) (Join (decided_by decides) label fs)
+carried true label fs = or_carries label fs
+carried false label fs = and_carries label fs
 
-not_itself : (b : Bool) → beq (not b) b ≡ false
-not_itself true = refl
-not_itself false = refl
-
-itself : (b : Bool) → beq b b ≡ true
-itself true = refl
-itself false = refl
-
-same_or_opposite : (a b : Bool) → (a ≡ b) ⊎ (a ≡ not b)
-same_or_opposite true true = inl refl
-same_or_opposite true false = inr refl
-same_or_opposite false true = inr refl
-same_or_opposite false false = inl refl
-
--- without a share no part is shown
-none_shown : (fs : Formulas) (x : Forest CaseNode) → ShowsParts false fs x [] → x ≡ empty
-unfolding Shows left_share right_share
-none_shown (one n f) x h = h
-none_shown (more n f fs) x h = h.1 ∙ none_shown fs h.0 h.2
-
--- a part with a share is shown
-part_shown : (f : Formula) (name S : List ℕ) (x rest : Forest CaseNode) → IsNonempty S → ShowsPart (Shows false f) name S x rest → (c : Tree CaseNode) × (x ≡ branch name c.root c.children rest) × Shows false f c S
-part_shown f name [] x rest some h = absurd some
-part_shown f name (k ∷ ks) x rest some h = h
-
-later : (b : Bool) (name : List ℕ) (f : Formula) (fs : Formulas) (o : Option (List ℕ × Formula)) → truth f ≡ not b → first_with b fs ≡ o → first_with b (more name f fs) ≡ o
-later b name f fs o d e = rw (d, not_itself b) e
+one_decides : (decides : Bool) (fs : Formulas) → decisive decides (least decides fs) fs ≡ 1
+one_decides true fs = needed_is 1 fs (omega arith) (number_some fs)
+one_decides false fs = let e = needed_is (number_of_parts fs) fs (number_some fs) (omega arith) in omega (arith, e)
 
 abbrev IsAlone : Bool → Formulas → Forest CaseNode → Type 0
 IsAlone b fs x = (name : List ℕ) × (f : Formula) × (c : Tree CaseNode) × (first_with b fs ≡ Some (name, f)) × (x ≡ branch name c.root c.children empty) × Explains f c
 
-alone : (b : Bool) (fs : Formulas) (name : List ℕ) (f : Formula) (S : List ℕ) (x : Forest CaseNode) → first_with b fs ≡ Some (name, f) → IsFirstReason f S → ShowsPart (Shows false f) name S x empty → IsAlone b fs x
-alone b fs name f S x is first h =
-    let shown = part_shown f name S x empty (not_empty f S first) h in
-    (name, f, shown.0, is, shown.1, record { leaves = S; first = first; shown = shown.2 })
+part_alone : (k : ℕ) (f : Formula) (name S : List ℕ) (x : Forest CaseNode) → IsFirstReason f S → ShowsPart (ShowsNumbered false k (Shows reasons f)) name S x empty → (c : Tree CaseNode) × (x ≡ branch name c.root c.children empty) × Explains f c
+part_alone k f name [] x first h = absurd (not_empty reasons f [] first)
+part_alone k f name (i ∷ S) x first h = (h.0, h.1, record { leaves = i ∷ S; first = first; shown = subst (λ z. Shows reasons f z (i ∷ S)) (sym h.2.1) h.2.2 })
 
-module _ (decides : Bool) (label : Label) where
-  abbrev IsShownAlone : Formulas → Type 0
-  IsShownAlone fs = (S : List ℕ) (x : Forest CaseNode) → truth (Join (decided_by decides) label fs) ≡ decides → IsFirstReason (Join (decided_by decides) label fs) S → ShowsParts false fs x S → IsAlone decides fs x
-
-  of_more : (n : List ℕ) (f : Formula) (fs : Formulas) → IsShownAlone fs → (truth f ≡ decides) ⊎ (truth f ≡ not decides) → IsShownAlone (more n f fs)
-  unfolding Shows
-  of_more n f fs below (inl d) S x e first h =
-      let r = first_reasons f in
-      let by_left : IsFirstReason (Join (decided_by decides) label (more n f fs)) r.0 = left_first (joins (decided_by decides) label n f fs) (rw d (left_whatever (decided decides).left)) r.0 r.1 in
-      let shown : ShowsParts false (more n f fs) x r.0 = subst (ShowsParts false (more n f fs) x) (first_unique _ S r.0 first by_left) h in
-      let numbers = numbers_of f r.0 r.1 in
-      let rest : shown.0 ≡ empty = none_shown fs shown.0 (subst (ShowsParts false fs shown.0) (right_share-alone (size f) r.0 numbers) shown.2) in
-      alone decides (more n f fs) n f r.0 x (rw (d, itself decides) refl) r.1 (subst (ShowsPart (Shows false f) n r.0 x) rest (subst (λ s. ShowsPart (Shows false f) n s x shown.0) (left_share-alone (size f) r.0 numbers) shown.1))
-  of_more n f fs below (inr d) S x e first h =
-      let others : truth (Join (decided_by decides) label fs) ≡ decides =
-      sym ((decided decides).passes _) ∙ ap (λ z. apply (decided_by decides) z (truth (Join (decided_by decides) label fs))) (sym d) ∙ sym (truth-more (decided_by decides) label n f fs) ∙ e in
-      let r = first_reasons (Join (decided_by decides) label fs) in
-      let by_right : IsFirstReason (Join (decided_by decides) label (more n f fs)) (shifted (size f) r.0) = right_first (joins (decided_by decides) label n f fs) (rw (d, others) (decided decides).right) r.0 r.1 in
-      let shown : ShowsParts false (more n f fs) x (shifted (size f) r.0) = subst (ShowsParts false (more n f fs) x) (first_unique _ S (shifted (size f) r.0) first by_right) h in
-      let same : x ≡ shown.0 = subst (λ s. ShowsPart (Shows false f) n s x shown.0) (left_share-shifted (size f) r.0) shown.1 in
-      let found = below r.0 shown.0 others r.1 (subst (ShowsParts false fs shown.0) (right_share-shifted (size f) r.0) shown.2) in
-      (found.0, found.1, found.2, later decides n f fs (Some (found.0, found.1)) d found.3, same ∙ found.4, found.5)
-
-  first_alone : (fs : Formulas) → IsShownAlone fs
-  unfolding Shows
-  first_alone (one n f) S x e first h = alone decides (one n f) n f S x (rw (sym (truth-one (decided_by decides) label n f) ∙ e, itself decides) refl) (same_first (same_symmetric (one_reasons (decided_by decides) label n f)) S first) h
-  first_alone (more n f fs) S x e first h = of_more n f fs (first_alone fs) (same_or_opposite (truth f) decides) S x e first h
+alone : (b : Bool) (k : ℕ) (fs : Formulas) (S : List ℕ) (x : Forest CaseNode) → IsSelected reasons (is_like b) 1 fs S → ShowsParts reasons false k fs x S → IsAlone b fs x
+unfolding Shows
+alone b k (one n f) S x s h = let p = part_alone k f n S x s.1 h in (n, f, p.0, rw s.0 refl, p.1, p.2)
+alone b k (more n f fs) S x s h =
+    let whole = subst (ShowsParts reasons false k (more n f fs) x) s.2 h in
+    let shown = λ (within : AreIncreasing 0 (size f) s.0). (all_shown (ShowsNumbered false k (Shows reasons f)) n (ShowsParts reasons false (suc k) fs) (size f) s.0 s.1 within x whole) in
+    ⊎_elim
+    (λ a.
+    let c = shown (first_numbers reasons f s.0 a.1) in
+    let none : c.0 ≡ empty = none_shown reasons false (suc k) fs c.0 (subst (ShowsParts reasons false (suc k) fs c.0) a.2 c.2) in
+    let p = part_alone k f n s.0 x a.1 (subst (ShowsPart (ShowsNumbered false k (Shows reasons f)) n s.0 x) none c.1) in
+    (n, f, p.0, rw a.0 refl, p.1, p.2))
+    (λ o.
+    let c = shown (chosen_none (size f) s.0 o.1) in
+    let same : x ≡ c.0 = subst (λ z. ShowsPart (ShowsNumbered false k (Shows reasons f)) n z x c.0) o.1 c.1 in
+    let p = alone b (suc k) fs s.1 c.0 o.2 c.2 in
+    (p.0, p.1, p.2, rw o.0 p.3, same ∙ p.4, p.5))
+    s.3
 
 pub one_child : OneChild
 unfolding Shows
 one_child decides label fs t e h =
-    let x = first_alone decides label fs h.leaves t.children e h.first h.shown.1 in
+    let c = carried decides label fs in
+    let is = sym (carried_truth c) ∙ e in
+    let s = selected_of_threshold decides (least decides fs) label fs is reasons (first_of_each reasons fs) in
+    let same = first_unique h.first (same_first reasons c s.0 (first_of_threshold decides (least decides fs) label fs is reasons s.0 s.1)) in
+    let x = alone decides 0 fs s.0 t.children (subst (λ m. IsSelected reasons (is_like decides) m fs s.0) (one_decides decides fs) s.1) (subst (ShowsParts reasons false 0 fs t.children) same h.shown.1) in
     record { name = x.0; part = x.1; case = x.2; is_first = x.3; alone = x.4; explained = x.5 }

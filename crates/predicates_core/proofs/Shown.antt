@@ -1,17 +1,18 @@
 -- How the children of a case show a first part and others, or one part.
-use Rattle.std.proofs.Common.{◌≡◌, ℕ, suc, ◌+◌, ◌-◌, ◌<◌, true, false, List, [], ◌∷◌, ◌++◌, refl, sym, ap, ◌∙◌, subst, arith, append-nil}
+use Rattle.std.proofs.Common.{◌≡◌, ℕ, suc, ◌+◌, ◌-◌, ◌<◌, Bool, true, false, List, [], ◌∷◌, ◌++◌, refl, ap, ◌∙◌, arith}
 use Rattle.std.specs.Prelude.{nat_lt, nat_le}
 use Rattle.std.proofs.lemmas.Bool.Decides.{nat_tests}
-use Rattle.predicates_core.specs.Formula.{Formula, size}
-use Rattle.predicates_core.specs.Reason.{AreIncreasing, IsFirstReason}
+use Rattle.predicates_core.specs.Formula.{Formula, Formulas, one, more}
+use Rattle.predicates_core.specs.Reason.{AreIncreasing}
+use Rattle.predicates_core.specs.Kinds.{Kind, First}
 use Rattle.predicates_core.specs.Tree.{Tree, Forest, empty, branch}
 use Rattle.predicates_core.specs.Describe.{CaseNode, with_product}
-use Rattle.predicates_core.specs.Shows.{left_share, right_share, with_index, ShowsPart}
+use Rattle.predicates_core.specs.Shows.{left_share, right_share, with_index, ShowsPart, Shows, ShowsParts}
 use Rattle.predicates_core.specs.Leaves.{IsShowing}
 use Rattle.std.specs.Fmt.{decimal}
 use Rattle.std.specs.Prelude.{codes, Some}
 use Rattle.predicates_core.proofs.Numbers.{shifted}
-use Rattle.predicates_core.proofs.FirstReason.{first_not_empty}
+use Rattle.predicates_core.proofs.BothKinds.{first_some}
 
 below_is_left : (n k : ℕ) → k < n → nat_lt k n ≡ true
 below_is_left n k h = grind (arith, nat_tests)
@@ -47,13 +48,6 @@ unfolding right_share AreIncreasing
 right_share-joined low n [] R h = right_share-shifted n R
 right_share-joined low n (k ∷ L) R h = rw (below_is_not_right n k h.1) (right_share-joined (suc k) n L R h.2)
 
--- leaves of the first part alone
-pub left_share-alone : (n : ℕ) (L : List ℕ) → AreIncreasing 0 n L → left_share n L ≡ L
-left_share-alone n L within = ap (left_share n) (sym (append-nil L)) ∙ left_share-joined 0 n L [] within
-
-pub right_share-alone : (n : ℕ) (L : List ℕ) → AreIncreasing 0 n L → right_share n L ≡ []
-right_share-alone n L within = ap (right_share n) (sym (append-nil L)) ∙ right_share-joined 0 n L [] within
-
 abbrev pub IsNonempty : List ℕ → Type 0
 IsNonempty [] = ⊥
 IsNonempty (k ∷ ks) = Unit {0}
@@ -62,11 +56,8 @@ nonempty : (ks : List ℕ) → (ks ≡ [] → ⊥) → IsNonempty ks
 nonempty [] h = h refl
 nonempty (k ∷ ks) h = tt
 
-pub not_empty : (f : Formula) (ks : List ℕ) → IsFirstReason f ks → IsNonempty ks
-not_empty f ks h = nonempty ks (first_not_empty f ks h)
-
-pub numbers_of : (f : Formula) (ks : List ℕ) → IsFirstReason f ks → AreIncreasing 0 (size f) ks
-numbers_of f ks h = h.minimal.reason.numbers
+pub not_empty : (q : Kind) (f : Formula) (ks : List ℕ) → First q f ks → IsNonempty ks
+not_empty q f ks h = nonempty ks (first_some q f ks h)
 
 -- a case that shows the number as its last product
 pub told : (k : ℕ) {c t : Tree CaseNode} → IsShowing (codes "index") (Some (decimal k)) c t → t ≡ with_index k c
@@ -78,21 +69,23 @@ module _ (showing : Tree CaseNode → List ℕ → Type 0) (name : List ℕ) (re
   shows_part (k ∷ ks) c some h = (c, refl, h)
 
 -- a first part under a name, which has the first n leaves, and the others
-module _ (first : Tree CaseNode → List ℕ → Type 0) (name : List ℕ) (others : Forest CaseNode → List ℕ → Type 0) (n : ℕ) where
-  abbrev ShowsAll : Forest CaseNode → List ℕ → Type 0
-  ShowsAll children s = (rest : Forest CaseNode) × ShowsPart first name (left_share n s) children rest × others rest (right_share n s)
+module _ (first : Tree CaseNode → List ℕ → Type 0) (name : List ℕ) (others : Forest CaseNode → List ℕ → Type 0) (n : ℕ) (ks ms : List ℕ) (within : AreIncreasing 0 n ks) where
+  abbrev ShowsAll : Forest CaseNode → List ℕ → List ℕ → Type 0
+  ShowsAll children ls rs = (rest : Forest CaseNode) × ShowsPart first name ls children rest × others rest rs
 
-  -- the first part has a share, and so may others
-  pub shows_both : (ks ms : List ℕ) (c : Tree CaseNode) (rest : Forest CaseNode) → AreIncreasing 0 n ks → IsNonempty ks → first c ks → others rest ms
-      → ShowsAll (branch name c.root c.children rest) (ks ++ shifted n ms)
-  shows_both ks ms c rest within some h g =
-      rw (left_share-joined 0 n ks ms within, right_share-joined 0 n ks ms within) (rest, shows_part first name rest ks c some h, g)
+  pub shows_all : (children rest : Forest CaseNode) → ShowsPart first name ks children rest → others rest ms → ShowsAll children (left_share n (ks ++ shifted n ms)) (right_share n (ks ++ shifted n ms))
+  shows_all children rest h g = rw (left_share-joined 0 n ks ms within, right_share-joined 0 n ks ms within) (rest, h, g)
 
-  -- the first part alone has one
-  pub shows_left : (ks : List ℕ) (c : Tree CaseNode) → AreIncreasing 0 n ks → IsNonempty ks → first c ks → others empty []
-      → ShowsAll (branch name c.root c.children empty) ks
-  shows_left ks c within some h none = subst (ShowsAll (branch name c.root c.children empty)) (append-nil ks) (shows_both ks [] c empty within some h none)
+  pub all_shown : (children : Forest CaseNode) → ShowsAll children (left_share n (ks ++ shifted n ms)) (right_share n (ks ++ shifted n ms)) → ShowsAll children ks ms
+  all_shown children h = rw (left_share-joined 0 n ks ms within, right_share-joined 0 n ks ms within) at h
 
-  -- others alone have one
-  pub shows_right : (ms : List ℕ) (rest : Forest CaseNode) → others rest ms → ShowsAll rest (shifted n ms)
-  shows_right ms rest g = rw (left_share-shifted n ms, right_share-shifted n ms) (rest, refl, g)
+-- none of the formulas is shown where none has a share
+pub shows_none : (q : Kind) (tells : Bool) (k : ℕ) (fs : Formulas) → ShowsParts q tells k fs empty []
+unfolding Shows left_share right_share
+shows_none q tells k (one name f) = refl
+shows_none q tells k (more name f fs) = (empty, refl, shows_none q tells (suc k) fs)
+
+pub none_shown : (q : Kind) (tells : Bool) (k : ℕ) (fs : Formulas) (x : Forest CaseNode) → ShowsParts q tells k fs x [] → x ≡ empty
+unfolding Shows left_share right_share
+none_shown q tells k (one n f) x h = h
+none_shown q tells k (more n f fs) x h = h.1 ∙ none_shown q tells (suc k) fs h.0 h.2

@@ -11,28 +11,24 @@ use Rattle.predicates_core.specs.Label.{Entry, plain, FitsEntry}
 use Rattle.predicates_core.specs.Formula.{Formula, Formulas, one, more, AtLeast, number_of_parts, needed, enough_of, actual_of_parts, truth, size, text_of, HasTruth}
 use Rattle.predicates_core.specs.Tree.{Tree, Forest, empty, branch, forest, add_last}
 use Rattle.predicates_core.specs.Describe.{CaseNode, with_child}
-use Rattle.predicates_core.specs.Shows.{ShowsPart, ShowsNumbered, numbered, tells_numbers, left_share, right_share, Shows, ShowsPlaces, Explains, IsCaseOf, IsAnswer, IsFound, IsNode}
+use Rattle.predicates_core.specs.Shows.{ShowsPart, ShowsNumbered, numbered, tells_numbers, Shows, ShowsParts, ExplainsBy, IsCaseOf, IsCaseBy, IsAnswer, IsFound, IsNode}
+use Rattle.predicates_core.specs.Kinds.{Kind, reasons, First}
 use Rattle.predicates_core.specs.Leaves.{IsExactly}
 use Rattle.predicates_core.specs.Asked.{shown_verdict}
 use Rattle.predicates_core.specs.Several.{AreOfEach, formulas_of, is_absent, IsNextCase, IsNodeWith}
 use Rattle.predicates_core.specs.Thresholds.{IsSettled, settled, IsOfThreshold, threshold_formula}
 use Rattle.predicates_core.specs.LeafLaws.{exactly_text_fits, one_exactly, fits_itself}
-use Rattle.predicates_core.proofs.Numbers.{shifted, equal_at_itself}
-use Rattle.predicates_core.proofs.Joins.{length-actual_of_parts}
-use Rattle.predicates_core.proofs.Thresholds.{like, either, one_like, FirstEnough, enough_none, enough_one, enough_with, enough_without, like-actual, like-one, decisive, truth_by_parts, threshold_first}
-use Rattle.predicates_core.proofs.Shown.{not_empty, numbers_of, shows_part, shows_both, shows_right}
+use Rattle.predicates_core.proofs.Numbers.{shifted, no_numbers}
+use Rattle.predicates_core.proofs.BothKinds.{first_numbers}
+use Rattle.predicates_core.proofs.Selection.{IsSelected}
+use Rattle.predicates_core.proofs.FirstOf.{quota, first_of_threshold}
+use Rattle.predicates_core.proofs.Thresholds.{like, is_like, either, one_like, like-actual, like-one, decisive, truth_by_parts}
+use Rattle.predicates_core.proofs.Shown.{not_empty, shows_part, shows_all, shows_none}
 use Rattle.predicates_core.proofs.CombinedLemmas.{node_fits}
-use Rattle.predicates_core.proofs.Values.{not-not}
+use Rattle.predicates_core.proofs.Values.{not-not, needed_is, beq_same, beq_other}
 use Rattle.predicates_core.proofs.Found.{no_formula, case_by_result, truth_found, case_found}
 use Rattle.predicates_core.proofs.Several.{forest-add_last, formula_at, HasOne, one_of_each, are_formulas}
 use Rattle.predicates_core.proofs.Leaves.{HasTruth-exactly}
-
--- as many as there are parts
-needed_is : (k : ℕ) (fs : Formulas) → 1 ≤ k → k ≤ number_of_parts fs → needed k fs ≡ k
-needed_is k (one n f) some within = omega (arith, some, within)
-needed_is zero (more n f fs) some within = absurd (omega (arith, some))
-needed_is (suc zero) (more n f fs) some within = refl
-needed_is (suc (suc k)) (more n f fs) some within = ap suc (needed_is (suc k) fs (omega arith) (omega (arith, within)))
 
 module _ {U : Type 0} (name : List ℕ) (has : U → Formula → Type 0) where
   pub number_of_each : (us : List U) (fs : Formulas) → AreOfEach name has us fs → number_of_parts fs ≡ length us
@@ -46,16 +42,6 @@ module _ {U : Type 0} (name : List ℕ) (has : U → Formula → Type 0) where
       let e = number_of_each us fs of in
       let n = needed_is k fs some (omega (arith, within, e)) in
       omega (arith, e, n)
-
--- a formula that is shown under its own name is shown under the name, with its number where it is told
-place_shown : (tells : Bool) (name n : List ℕ) (f : Formula) (c d : Tree CaseNode) (k : ℕ) (rest : Forest CaseNode) → n ≡ name → d ≡ numbered tells k c → (x : Explains f c) → ShowsPart (ShowsNumbered tells k (Shows false f)) n x.leaves (branch name d.root d.children rest) rest
-place_shown tells name n f c d k rest e told x = subst (λ z. ShowsPart (ShowsNumbered tells k (Shows false f)) n x.leaves (branch z d.root d.children rest) rest) e (shows_part (ShowsNumbered tells k (Shows false f)) n rest x.leaves d (not_empty f x.leaves x.first) (c, told, x.shown))
-
--- none of the formulas is shown where none has a share
-pub shows_no_place : (always tells : Bool) (k : ℕ) (fs : Formulas) → ShowsPlaces always tells k fs empty []
-unfolding Shows left_share right_share
-shows_no_place always tells k (one name f) = refl
-shows_no_place always tells k (more name f fs) = (empty, refl, shows_no_place always tells (suc k) fs)
 
 never_opposite : (a : Bool) → beq a (not a) ≡ true → ⊥
 never_opposite true e = cc
@@ -251,43 +237,74 @@ module _ (b : Bool) {U : Type 0} (has : U → Formula → Type 0) where
   front_none (u ∷ us) vs e = absurd (cc)
 
   -- the case of the member, with its number where numbers are told
-  abbrev pub IsOwnCase : Bool → ℕ → U → Tree CaseNode → Type 0
-  IsOwnCase tells k u d = (c : Tree CaseNode) × (d ≡ numbered tells k c) × IsCaseOf (has u) b c
+  abbrev pub IsOwn : Kind → Bool → ℕ → U → Tree CaseNode → Type 0
+  IsOwn q tells k u d = (c : Tree CaseNode) × (d ≡ numbered tells k c) × IsCaseBy q (has u) b c
 
-  -- the cases of the first members with the truth, whatever the other members are
-  sifted_shown : (tells : Bool) (name : List ℕ) (k : ℕ) (us vs : List U) (fs : Formulas) (cs : List (Tree CaseNode)) (t : ℕ) → AreOfEach name has (us ++ vs) fs → Sifted (IsOwnCase tells) k us cs t → (leaves : List ℕ) × FirstEnough b (length cs) fs leaves × ShowsPlaces false tells k fs (forest (map (λ c. (name, c)) cs)) leaves
+  module _ (q : Kind) (tells : Bool) (name : List ℕ) where
+    abbrev IsShownBy : ℕ → ℕ → Formulas → List (Tree CaseNode) → Type 0
+    IsShownBy k n fs cs = (leaves : List ℕ) × IsSelected q (is_like b) n fs leaves × ShowsParts q tells k fs (forest (map (λ c. (name, c)) (take n cs))) leaves
+
+    -- the part's case is shown under the name, with its number
+    part_shown : (k : ℕ) (n : List ℕ) (f : Formula) (u : U) (d : Tree CaseNode) (rest : Forest CaseNode) → n ≡ name → has u f → (own : IsOwn q tells k u d) → (S : List ℕ) × First q f S × ShowsPart (ShowsNumbered tells k (Shows q f)) n S (branch name d.root d.children rest) rest
+    part_shown k n f u d rest e of own =
+        let x = own.2.explains f of in
+        (x.leaves, x.first, subst (λ z. ShowsPart (ShowsNumbered tells k (Shows q f)) n x.leaves (branch z d.root d.children rest) rest) e (shows_part (ShowsNumbered tells k (Shows q f)) n rest x.leaves d (not_empty q f x.leaves x.first) (own.0, own.1, x.shown)))
+
+    -- the first n of the cases show the first n members with the truth, whatever the others are
+    sifted_shown : (k : ℕ) (us vs : List U) (fs : Formulas) (cs : List (Tree CaseNode)) (t n : ℕ) → AreOfEach name has (us ++ vs) fs → Sifted (IsOwn q tells) k us cs t → n ≤ length cs → IsShownBy k n fs cs
+    unfolding Shows
+    sifted_shown k us vs fs cs t zero of s within = ([], refl, shows_none q tells k fs)
+    sifted_shown k us vs fs [] t (suc n) of s within = absurd (omega (arith, within))
+    sifted_shown k [] vs fs (c ∷ cs) t (suc n) of s within = absurd s
+    sifted_shown k (u ∷ us) vs fs (c ∷ cs) zero (suc n) of s within = absurd s
+    sifted_shown k (u ∷ us) vs (one m f) (c ∷ []) (suc t) (suc n) of s within = ⊎_elim
+        (λ a. absurd (sifted_nothing (IsOwn q tells) (suc k) us c [] (suc t) (front_none us vs of.2) a.1))
+        (λ own. let p = part_shown k m f u c empty of.0 of.1 own.0.1 in let none : n ≡ 0 = omega (arith, within) in (p.0, (beq_same (truth f) b (own.0.0.at f of.1), p.1, none), rw none p.2))
+        s
+    sifted_shown k (u ∷ us) vs (one m f) (c ∷ d ∷ cs) (suc t) (suc n) of s within = ⊎_elim
+        (λ a. absurd (sifted_nothing (IsOwn q tells) (suc k) us c (d ∷ cs) (suc t) (front_none us vs of.2) a.1))
+        (λ own. absurd (sifted_nothing (IsOwn q tells) (suc k) us d cs t (front_none us vs of.2) own.1))
+        s
+    sifted_shown k (u ∷ us) vs (more m f fs) (c ∷ cs) (suc t) (suc n) of s within = ⊎_elim
+        (λ a.
+        let ih = sifted_shown (suc k) us vs fs (c ∷ cs) (suc t) (suc n) of.2 a.1 within in
+        let children = forest (map (λ d. (name, d)) (take (suc n) (c ∷ cs))) in (
+          shifted (size f) ih.0,
+          ([], ih.0, refl, inr (beq_other (truth f) b (a.0.at f of.1), refl, ih.1)),
+          shows_all (ShowsNumbered tells k (Shows q f)) m (ShowsParts q tells (suc k) fs) (size f) [] ih.0 (no_numbers (size f)) children children refl ih.2,
+        ))
+        (λ own.
+        let ih = sifted_shown (suc k) us vs fs cs t n of.2 own.1 (omega (arith, within)) in
+        let children = forest (map (λ d. (name, d)) (take n cs)) in
+        let p = part_shown k m f u c children of.0 of.1 own.0.1 in (
+          p.0 ++ shifted (size f) ih.0,
+          (p.0, ih.0, refl, inl (beq_same (truth f) b (own.0.0.at f of.1), p.1, ih.1)),
+          shows_all (ShowsNumbered tells k (Shows q f)) m (ShowsParts q tells (suc k) fs) (size f) p.0 ih.0 (first_numbers q f p.0 p.1) (branch name c.root c.children children) children p.2 ih.2,
+        ))
+        s
+
+  -- the node over the first n of the cases, where that is how many belong to it
+  pub case_by_sifted : (q : Kind) {text : Entry} {name : List ℕ} {us : List U} {t : Tree CaseNode} (cs : List (Tree CaseNode)) (kept j k n : ℕ) → 1 ≤ k → k ≤ length us → Sifted (IsOwn q (tells_numbers q b k (length us))) 0 (take j us) cs kept → n ≤ length cs → IsNode text b (map (λ d. (name, d)) (take n cs)) t
+      → ((fs : Formulas) → AreOfEach name has us fs → (truth (AtLeast k (plain text) fs) ≡ b) × (n ≡ quota q b k fs)) → IsCaseBy q (IsOfThreshold k text name has us) b t
   unfolding Shows
-  sifted_shown tells name k us vs fs [] t of s = ([], enough_none b fs, shows_no_place false tells k fs)
-  sifted_shown tells name k [] vs fs (c ∷ cs) t of s = absurd s
-  sifted_shown tells name k (u ∷ us) vs fs (c ∷ cs) zero of s = absurd s
-  sifted_shown tells name k (u ∷ us) vs (one n f) (c ∷ []) (suc t) of s = ⊎_elim
-      (λ a. absurd (sifted_nothing (IsOwnCase tells) (suc k) us c [] (suc t) (front_none us vs of.2) a.1))
-      (λ own.
-      let x = own.0.1.2.explains f of.1 in
-      (x.leaves, enough_one (own.0.0.at f of.1) x.leaves x.first, place_shown tells name n f own.0.1.0 c k empty of.0 own.0.1.1 x))
-      s
-  sifted_shown tells name k (u ∷ us) vs (one n f) (c ∷ d ∷ cs) (suc t) of s = ⊎_elim
-      (λ a. absurd (sifted_nothing (IsOwnCase tells) (suc k) us c (d ∷ cs) (suc t) (front_none us vs of.2) a.1))
-      (λ own. absurd (sifted_nothing (IsOwnCase tells) (suc k) us d cs t (front_none us vs of.2) own.1))
-      s
-  sifted_shown tells name k (u ∷ us) vs (more n f fs) (c ∷ cs) (suc t) of s = ⊎_elim
-      (λ a.
-      let ih = sifted_shown tells name (suc k) us vs fs (c ∷ cs) (suc t) of.2 a.1 in
-      let children = forest (map (λ d. (name, d)) (c ∷ cs)) in (
-        shifted (size f) ih.0,
-        enough_without (a.0.at f of.1) ih.0 ih.1,
-        shows_right (ShowsNumbered tells k (Shows false f)) n (ShowsPlaces false tells (suc k) fs) (size f) ih.0 children ih.2,
-      ))
-      (λ own.
-      let x = own.0.1.2.explains f of.1 in
-      let ih = sifted_shown tells name (suc k) us vs fs cs t of.2 own.1 in
-      let children = forest (map (λ d. (name, d)) cs) in (
-        x.leaves ++ shifted (size f) ih.0,
-        enough_with (own.0.0.at f of.1) x.leaves ih.0 x.first ih.1,
-        subst (λ z. ShowsPlaces false tells k (more n f fs) (branch z c.root c.children children) (x.leaves ++ shifted (size f) ih.0)) of.0
-            (shows_both (ShowsNumbered tells k (Shows false f)) n (ShowsPlaces false tells (suc k) fs) (size f) x.leaves ih.0 c children (numbers_of f x.leaves x.first) (not_empty f x.leaves x.first) (own.0.1.0, own.0.1.1, x.shown) ih.2),
-      ))
-      s
+  case_by_sifted q {text} {name} {us} {t} cs kept j k n some within s least node known =
+      let tells = tells_numbers q b k (length us) in
+      record {
+        truth = record { at = λ f p. let c = p.of_counted some within in ap truth c.is ∙ (known c.formulas c.of_each).0 };
+        explains = λ f p.
+            let c = p.of_counted some within in
+            let fs = c.formulas in
+            let x = sifted_shown q tells name 0 (take j us) (drop j us) fs cs kept n (subst (λ z. AreOfEach name has z fs) (sym (take-append-drop j us)) c.of_each) s least in
+            let holds = (known fs c.of_each).0 in
+            let each = number_of_each name has us fs c.of_each in
+            let needs = needed_is k fs some (omega (arith, within, each)) in
+            let told : tells ≡ tells_numbers q (truth (AtLeast k (plain text) fs)) (needed k fs) (number_of_parts fs) = sym (λ i. tells_numbers q (holds i) (needs i) (each i)) in
+            subst (λ g. ExplainsBy q g t) (sym c.is) (record {
+              leaves = x.0;
+              first = first_of_threshold b k (plain text) fs holds q x.0 (subst (λ m. IsSelected q (is_like b) m fs x.0) (known fs c.of_each).1 x.1);
+              shown = (node_fits text b _ _ t node holds, subst (λ z. ShowsParts q z 0 fs t.children x.0) told (subst (λ ch. ShowsParts q tells 0 fs ch x.0) (sym node.children) x.2));
+            });
+      }
 
   -- ---- the node over the cases
 
@@ -318,7 +335,7 @@ module _ (b : Bool) {U : Type 0} (has : U → Formula → Type 0) where
   pub record IsSifted (tells : Bool) (wanted : Option Bool) (text : Entry) (name : List ℕ) (us : List U) (node : Option (Tree CaseNode)) (t : ℕ) : Type 0 where
     pub cases : List (Tree CaseNode)
     pub over : IsOver text name cases node
-    pub are : Sifted (IsOwnCase tells) 0 us cases t
+    pub are : Sifted (IsOwn reasons tells) 0 us cases t
     pub all : shows_such wanted ≡ true → length cases ≡ t
     pub none : shows_such wanted ≡ false → cases ≡ []
 
@@ -326,7 +343,7 @@ module _ (b : Bool) {U : Type 0} (has : U → Formula → Type 0) where
   sift_none tells wanted = record { cases = []; over = tt; are = tt; all = λ e. refl; none = λ e. refl }
 
   pub sift_passed : {tells : Bool} {wanted : Option Bool} {text : Entry} {name : List ℕ} (us : List U) {k t : ℕ} {u : U} {node : Option (Tree CaseNode)} → k < length us → u ≡ get_or us k u → IsSifted tells wanted text name (take k us) node t → HasTruth (has u) (not b) → IsSifted tells wanted text name (take (k + 1) us) node t
-  sift_passed {tells = tells} us {t = t} within is s h = record { cases = s.cases; over = s.over; are = sifted_passed (IsOwnCase tells) us s.cases t within is s.are h; all = s.all; none = s.none }
+  sift_passed {tells = tells} us {t = t} within is s h = record { cases = s.cases; over = s.over; are = sifted_passed (IsOwn reasons tells) us s.cases t within is s.are h; all = s.all; none = s.none }
 
   over_next : (text : Entry) (name : List ℕ) (cs : List (Tree CaseNode)) (node : Option (Tree CaseNode)) (d t : Tree CaseNode) → IsOver text name cs node → IsNextCase b text name d node t → IsOver text name (cs ++ d ∷ []) (Some t)
   over_next text name [] None d t o n = n
@@ -339,7 +356,7 @@ module _ (b : Bool) {U : Type 0} (has : U → Formula → Type 0) where
   sift_next tells wanted us {k} {t} {u} fresh so_far None next grown within is s x some v e = record {
     cases = s.cases;
     over = subst (IsOver _ _ s.cases) (sym e) s.over;
-    are = subst (Sifted (IsOwnCase tells) 0 (take (k + 1) us) s.cases) (sym grown) (sifted_held (IsOwnCase tells) us s.cases t within is s.are (subst (HasTruth (has u)) v (truth_found wanted None x)));
+    are = subst (Sifted (IsOwn reasons tells) 0 (take (k + 1) us) s.cases) (sym grown) (sifted_held (IsOwn reasons tells) us s.cases t within is s.are (subst (HasTruth (has u)) v (truth_found reasons wanted None x)));
     all = λ is. absurd (never wanted some v is);
     none = s.none;
   }
@@ -349,14 +366,14 @@ module _ (b : Bool) {U : Type 0} (has : U → Formula → Type 0) where
       never (Some a) some v is = never_opposite a (subst (λ z. beq a z ≡ true) (sym v) is)
   sift_next tells wanted us fresh so_far (Some c) None grown within is s x some v e = absurd e
   sift_next tells wanted {text} {name} us {k} {t} {u} fresh so_far (Some c) (Some next) grown within is s x some v e =
-      let own : IsCaseOf (has u) b c = subst (λ z. IsCaseOf (has u) z c) v (case_found wanted c x) in
+      let own : IsCaseOf (has u) b c = subst (λ z. IsCaseOf (has u) z c) v (case_found reasons wanted c x) in
       let asked : shows_such wanted ≡ true = of_asked wanted v in
       let all : length s.cases ≡ t = s.all asked in
       let longer = length-append s.cases (numbered tells k c ∷ []) in
       record {
         cases = s.cases ++ numbered tells k c ∷ [];
         over = over_next text name s.cases so_far (numbered tells k c) next s.over e;
-        are = subst (Sifted (IsOwnCase tells) 0 (take (k + 1) us) (s.cases ++ numbered tells k c ∷ [])) (sym grown) (sifted_kept (IsOwnCase tells) us s.cases within is all s.are own.truth (c, refl, own));
+        are = subst (Sifted (IsOwn reasons tells) 0 (take (k + 1) us) (s.cases ++ numbered tells k c ∷ [])) (sym grown) (sifted_kept (IsOwn reasons tells) us s.cases within is all s.are own.truth (c, refl, own));
         all = λ same. omega (arith, longer, all, grown);
         none = λ other. absurd (both (shows_such wanted) asked other);
       }
@@ -370,42 +387,27 @@ module _ (b : Bool) {U : Type 0} (has : U → Formula → Type 0) where
       both false e f = cc
 
   -- the case of the whole, where enough of the members in front have the truth
-  case_of_sifted : {text : Entry} {name : List ℕ} {us : List U} {t : Tree CaseNode} (cs : List (Tree CaseNode)) (kept j k : ℕ) → 1 ≤ k → k ≤ length us → Sifted (IsOwnCase (tells_numbers false b k (length us))) 0 (take j us) cs kept → IsNode text b (map (λ d. (name, d)) cs) t → length cs ≡ enough_of b k (length us) → IsCaseOf (IsOfThreshold k text name has us) b t
-  unfolding Shows
+  case_of_sifted : {text : Entry} {name : List ℕ} {us : List U} {t : Tree CaseNode} (cs : List (Tree CaseNode)) (kept j k : ℕ) → 1 ≤ k → k ≤ length us → Sifted (IsOwn reasons (tells_numbers reasons b k (length us))) 0 (take j us) cs kept → IsNode text b (map (λ d. (name, d)) cs) t → length cs ≡ enough_of b k (length us) → IsCaseOf (IsOfThreshold k text name has us) b t
   case_of_sifted {text} {name} {us} {t} cs kept j k some within s node enough =
-      let tells = tells_numbers false b k (length us) in
-      let shown = λ (fs : Formulas) (of : AreOfEach name has us fs). sifted_shown tells name 0 (take j us) (drop j us) fs cs kept (subst (λ z. AreOfEach name has z fs) (sym (take-append-drop j us)) of) s in
-      let is = λ (fs : Formulas) (of : AreOfEach name has us fs). enough ∙ sym (decisive_is name has b k us fs of some within) in
-      let true_of = λ (fs : Formulas) (of : AreOfEach name has us fs).
-      (let h = (shown fs of).1.minimal.reason.enough (actual_of_parts fs) (length-actual_of_parts fs) (equal_at_itself (shown fs of).0 (actual_of_parts fs)) in
-      truth_by_parts b k (plain text) fs (subst (λ m. m ≤ like b fs (actual_of_parts fs)) (is fs of) h)) in
-      record {
-        truth = record { at = λ f p. let c = p.of_counted some within in ap truth c.is ∙ true_of c.formulas c.of_each };
-        explains = λ f p.
-            let c = p.of_counted some within in
-            let x = shown c.formulas c.of_each in
-            let holds = true_of c.formulas c.of_each in
-            let each = number_of_each name has us c.formulas c.of_each in
-            let needs = needed_is k c.formulas some (omega (arith, within, each)) in
-            let told : tells ≡ tells_numbers false (truth (AtLeast k (plain text) c.formulas)) (needed k c.formulas) (number_of_parts c.formulas) = sym (λ i. tells_numbers false (holds i) (needs i) (each i)) in
-            subst (λ g. Explains g t) (sym c.is) (record {
-              leaves = x.0;
-              first = threshold_first holds x.0 (subst (λ m. FirstEnough b m c.formulas x.0) (is c.formulas c.of_each) x.1);
-              shown = (node_fits text b _ _ t node holds, subst (λ z. ShowsPlaces false z 0 c.formulas t.children x.0) told (subst (λ ch. ShowsPlaces false tells 0 c.formulas ch x.0) (sym node.children) x.2));
-            });
-      }
+      case_by_sifted reasons cs kept j k (length cs) some within s (omega arith) (subst (λ z. IsNode text b (map (λ d. (name, d)) z) t) (sym (take_all (length cs) cs (omega arith))) node)
+      (λ fs of.
+      let own = IsOwn reasons (tells_numbers reasons b k (length us)) in
+      let d = decisive_is name has b k us fs of some within in
+      let l = among_like name us kept fs of (among_all us j kept (sifted_among own 0 (take j us) cs kept s)) in
+      let c = sifted_cases own 0 (take j us) cs kept s in
+      (truth_by_parts b k (plain text) fs (omega (arith, d, l, c, enough)), enough ∙ sym d))
 
   -- what is found of the whole, where enough of the members in front have the truth
   module _ (text : Entry) (name : List ℕ) (us : List U) (kept j k : ℕ) (some : 1 ≤ k) (within : k ≤ length us) (least : 1 ≤ enough_of b k (length us)) (enough : kept ≡ enough_of b k (length us)) where
-    case_enough : (wanted : Option Bool) (node : Option (Tree CaseNode)) → IsSifted (tells_numbers false b k (length us)) wanted text name (take j us) node kept → shows_such wanted ≡ true → (t : Tree CaseNode) × (node ≡ Some t) × IsCaseOf (IsOfThreshold k text name has us) b t
+    case_enough : (wanted : Option Bool) (node : Option (Tree CaseNode)) → IsSifted (tells_numbers reasons b k (length us)) wanted text name (take j us) node kept → shows_such wanted ≡ true → (t : Tree CaseNode) × (node ≡ Some t) × IsCaseOf (IsOfThreshold k text name has us) b t
     case_enough wanted None s asked = absurd (let l = s.all asked in let z = ap length (nothing_over text name s.cases s.over) in omega (arith, l, z, enough, least))
     case_enough wanted (Some t) s asked = (t, refl, case_of_sifted s.cases kept j k some within s.are (node_over text name t s.cases s.over) (s.all asked ∙ enough))
 
-    none_enough : (w : Bool) (node : Option (Tree CaseNode)) → IsSifted (tells_numbers false b k (length us)) (Some w) text name (take j us) node kept → w ≡ not b → IsFound (IsOfThreshold k text name has us) (Some w) node
-    none_enough w None s other = subst (HasTruth (IsOfThreshold k text name has us)) (sym (not-not b) ∙ ap not (sym other)) (HasTruth-sifted (IsOwnCase (tells_numbers false b k (length us))) s.cases j kept k some within s.are enough)
+    none_enough : (w : Bool) (node : Option (Tree CaseNode)) → IsSifted (tells_numbers reasons b k (length us)) (Some w) text name (take j us) node kept → w ≡ not b → IsFound (IsOfThreshold k text name has us) (Some w) node
+    none_enough w None s other = subst (HasTruth (IsOfThreshold k text name has us)) (sym (not-not b) ∙ ap not (sym other)) (HasTruth-sifted (IsOwn reasons (tells_numbers reasons b k (length us))) s.cases j kept k some within s.are enough)
     none_enough w (Some t) s other = absurd (over_nothing text name t s.cases (s.none (rw other (not_itself b))) s.over)
 
-    pub found_enough : (wanted : Option Bool) (node : Option (Tree CaseNode)) → IsSifted (tells_numbers false b k (length us)) wanted text name (take j us) node kept → IsFound (IsOfThreshold k text name has us) wanted node
+    pub found_enough : (wanted : Option Bool) (node : Option (Tree CaseNode)) → IsSifted (tells_numbers reasons b k (length us)) wanted text name (take j us) node kept → IsFound (IsOfThreshold k text name has us) wanted node
     found_enough None so_far s = let x = case_enough None so_far s refl in subst (IsFound (IsOfThreshold k text name has us) None) (sym x.1) (case_by_result x.2)
     found_enough (Some w) so_far s = ⊎_elim
         (λ is. let x = case_enough (Some w) so_far s (same_beq w b is) in subst (IsFound (IsOfThreshold k text name has us) (Some w)) (sym x.1) (subst (λ z. IsCaseOf (IsOfThreshold k text name has us) z x.0) (sym is) x.2))

@@ -1,40 +1,26 @@
 -- The cases that show what would turn a threshold, from those of its members.
-use Rattle.std.proofs.Common.{◌≡◌, ◌⊎◌, ℕ, zero, suc, ◌+◌, ◌-◌, ◌<◌, ◌≤◌, Bool, Some, None, get_or, inl, inr, length-append, true, false, Option, List, [], ◌∷◌, ◌++◌, map, length, take, refl, sym, ap, ◌∙◌, subst, arith, ⊎_elim}
+use Rattle.std.proofs.Common.{◌≡◌, ◌⊎◌, ℕ, suc, ◌+◌, ◌-◌, ◌<◌, ◌≤◌, Bool, Some, None, get_or, inl, inr, length-append, true, false, Option, List, [], ◌∷◌, ◌++◌, map, length, take, refl, sym, ap, ◌∙◌, subst, arith, ⊎_elim}
 use Rattle.std.specs.Prelude.{not, ◌&&◌, nat_lt, Result, IfOk}
 use Rattle.std.proofs.lemmas.Bool.{cases_lt}
 use Rattle.std.proofs.lemmas.Bool.Decides.{nat_tests}
 use Rattle.std.proofs.lemmas.List.{take_all}
 use Rattle.predicates_core.specs.Label.{Entry, plain}
-use Rattle.predicates_core.specs.Formula.{Formula, Formulas, one, more, AtLeast, number_of_parts, enough_of, actual_of_parts, truth, size, HasTruth}
-use Rattle.predicates_core.specs.Tree.{Tree, empty, branch, forest}
+use Rattle.predicates_core.specs.Formula.{Formula, Formulas, enough_of, actual_of_parts, truth, HasTruth}
+use Rattle.predicates_core.specs.Tree.{Tree}
 use Rattle.predicates_core.specs.Describe.{CaseNode, NamedCase}
-use Rattle.predicates_core.specs.Shows.{Shows, ShowsPart, ShowsPlaces, ShowsNumbered, with_index, IsFound, IsNode}
-use Rattle.predicates_core.specs.Change.{ExplainsChange, IsChangeOf, IsFoundChange}
+use Rattle.predicates_core.specs.Shows.{with_index, IsFound, IsNode}
+use Rattle.predicates_core.specs.Change.{IsChangeOf, IsFoundChange}
 use Rattle.predicates_core.specs.Asked.{is_other}
 use Rattle.predicates_core.specs.Turning.{asks_for, asked_of, IsChangeAsked, IsTurn, told_cases}
-use Rattle.predicates_core.proofs.Found.{truth_of_none}
+use Rattle.predicates_core.proofs.Found.{truth_of_none, case_wanted}
+use Rattle.predicates_core.specs.Kinds.{changes}
 use Rattle.predicates_core.specs.Leaves.{IsExactly}
 use Rattle.predicates_core.specs.Several.{AreOfEach}
 use Rattle.predicates_core.specs.Thresholds.{IsSettled, settled, IsOfThreshold}
-use Rattle.predicates_core.proofs.Numbers.{shifted}
-use Rattle.predicates_core.proofs.Values.{not-not, needed_within}
-use Rattle.predicates_core.proofs.Thresholds.{like, like_both, one_like, none_like, like-one, like-actual, decisive, truth_by_parts}
-use Rattle.predicates_core.proofs.TurnedThresholds.{BringsFirst, brings_none, brings_one, brings_beside, brings_with, threshold_change}
-use Rattle.predicates_core.proofs.ThresholdCases.{Sifted, sifted_nothing, sifted_short, sifted_cases, sifted_passed, sifted_held, sifted_kept, absent_counted, sifted_among, among_like, among_all, among_rest, number_of_each, decisive_is, shows_no_place}
-use Rattle.predicates_core.proofs.Shown.{shows_part, shows_both, shows_right}
-use Rattle.predicates_core.proofs.CombinedLemmas.{node_fits}
-use Rattle.predicates_core.proofs.ChangeCases.{change_numbers, some_change, exact_leaf, leaf_found, change_wanted}
+use Rattle.predicates_core.proofs.Thresholds.{like, like_all, truth_by_parts}
+use Rattle.predicates_core.proofs.ThresholdCases.{Sifted, IsOwn, case_by_sifted, sifted_short, sifted_cases, sifted_passed, sifted_held, sifted_kept, absent_counted, sifted_among, among_like, among_all, among_rest, number_of_each, decisive_is}
+use Rattle.predicates_core.proofs.ChangeCases.{exact_leaf, leaf_found}
 use Rattle.predicates_core.proofs.Fewer.{found_change_of_fewer}
-
--- one truth or the other of each part
-like_all : (b : Bool) (fs : Formulas) (w : List Bool) → like b fs w + like (not b) fs w ≡ number_of_parts fs
-like_all true fs w = like_both fs w
-like_all false fs w = let e = like_both fs w in omega (arith, e)
-
--- so many parts with the one truth decide, or more than the others with the other
-decisive_all : (b : Bool) (k : ℕ) (fs : Formulas) → decisive b k fs + decisive (not b) k fs ≡ suc (number_of_parts fs)
-decisive_all true k fs = let e = needed_within k fs in omega (arith, e)
-decisive_all false k fs = let e = needed_within k fs in omega (arith, e)
 
 -- one more than all members
 enough_both : (b : Bool) (k n : ℕ) → 1 ≤ k → k ≤ n → enough_of b k n + enough_of (not b) k n ≡ suc n
@@ -44,7 +30,7 @@ enough_both false k n some within = omega (arith, some, within)
 module _ (b : Bool) {U : Type 0} (name : List ℕ) (has : U → Formula → Type 0) where
   -- the change of the member, with its number
   abbrev pub IsOwnChange : ℕ → U → Tree CaseNode → Type 0
-  IsOwnChange k u d = (c : Tree CaseNode) × (d ≡ with_index k c) × IsChangeOf (has u) b c
+  IsOwnChange = IsOwn b has changes true
 
   abbrev named : List (Tree CaseNode) → List NamedCase
   named cs = map (λ c. (name, c)) cs
@@ -59,87 +45,14 @@ module _ (b : Bool) {U : Type 0} (name : List ℕ) (has : U → Formula → Type
       let each = number_of_each name has us fs of in
       omega (arith, short, such, others, all, each)
 
-  -- the first n of the cases show leaves that bring n parts more to the other truth
-  abbrev IsTurnedBy : ℕ → Formulas → List (Tree CaseNode) → ℕ → Type 0
-  IsTurnedBy k fs cs n = (leaves : List ℕ) × BringsFirst (not b) (like (not b) fs (actual_of_parts fs) + n) fs leaves × ShowsPlaces true true k fs (forest (named (take n cs))) leaves
-
-  turned_shown : (k : ℕ) (us : List U) (fs : Formulas) (cs : List (Tree CaseNode)) (t n : ℕ) → AreOfEach name has us fs → Sifted b has IsOwnChange k us cs t → n ≤ length cs → IsTurnedBy k fs cs n
-  unfolding Shows
-  turned_shown k us fs cs t zero of s within = ([], brings_none (not b) _ fs (omega arith), shows_no_place true true k fs)
-  turned_shown k [] fs cs t (suc n) of s within = absurd of
-  turned_shown k (u ∷ us) fs [] t (suc n) of s within = absurd (omega (arith, within))
-  turned_shown k (u ∷ us) fs (c ∷ cs) zero (suc n) of s within = absurd s
-  turned_shown k (u ∷ us) (one m f) (c ∷ []) (suc t) (suc zero) of s within = ⊎_elim
-      (λ a. absurd (sifted_nothing b has IsOwnChange (suc k) us c [] (suc t) of.2 a.1))
-      (λ own.
-      let x = own.0.1.2.explains f of.1 in
-      let is : truth f ≡ not (not b) = own.0.0.at f of.1 ∙ sym (not-not b) in
-      let e = like-one (not b) m f in
-      let z = none_like (truth f) (not b) is in
-      let number : 1 ≡ like (not b) (one m f) (actual_of_parts (one m f)) + 1 = omega (arith, e, z) in (
-        x.leaves,
-        subst (λ n. BringsFirst (not b) n (one m f) x.leaves) number (brings_one is x.leaves x.first),
-        subst (λ z. ShowsPart (ShowsNumbered true k (Shows true f)) m x.leaves (branch z c.root c.children empty) empty) of.0 (shows_part (ShowsNumbered true k (Shows true f)) m empty x.leaves c (some_change f x.leaves x.first) (own.0.1.0, own.0.1.1, x.shown)),
-      ))
-      s
-  turned_shown k (u ∷ us) (one m f) (c ∷ []) (suc t) (suc (suc n)) of s within = absurd (omega (arith, within))
-  turned_shown k (u ∷ us) (one m f) (c ∷ d ∷ cs) (suc t) (suc n) of s within = ⊎_elim
-      (λ a. absurd (sifted_nothing b has IsOwnChange (suc k) us c (d ∷ cs) (suc t) of.2 a.1))
-      (λ own. absurd (sifted_nothing b has IsOwnChange (suc k) us d cs t of.2 own.1))
-      s
-  turned_shown k (u ∷ us) (more m f fs) (c ∷ cs) (suc t) (suc n) of s within =
-      let e = like-actual (not b) m f fs in
-      ⊎_elim
-      (λ a.
-      let ih = turned_shown (suc k) us fs (c ∷ cs) (suc t) (suc n) of.2 a.1 within in
-      let children = forest (named (take (suc n) (c ∷ cs))) in
-      let is : truth f ≡ not b = a.0.at f of.1 in
-      let o = one_like (truth f) (not b) is in
-      let number : suc (like (not b) fs (actual_of_parts fs) + suc n) ≡ like (not b) (more m f fs) (actual_of_parts (more m f fs)) + suc n = omega (arith, e, o) in (
-        shifted (size f) ih.0,
-        subst (λ z. BringsFirst (not b) z (more m f fs) (shifted (size f) ih.0)) number (brings_beside (not b) _ m f fs is ih.0 ih.1),
-        shows_right (ShowsNumbered true k (Shows true f)) m (ShowsPlaces true true (suc k) fs) (size f) ih.0 children ih.2,
-      ))
-      (λ own.
-      let x = own.0.1.2.explains f of.1 in
-      let ih = turned_shown (suc k) us fs cs t n of.2 own.1 (omega (arith, within)) in
-      let children = forest (named (take n cs)) in
-      let is : truth f ≡ not (not b) = own.0.0.at f of.1 ∙ sym (not-not b) in
-      let z = none_like (truth f) (not b) is in
-      let number : suc (like (not b) fs (actual_of_parts fs) + n) ≡ like (not b) (more m f fs) (actual_of_parts (more m f fs)) + suc n = omega (arith, e, z) in (
-        x.leaves ++ shifted (size f) ih.0,
-        subst (λ z. BringsFirst (not b) z (more m f fs) (x.leaves ++ shifted (size f) ih.0)) number (brings_with (not b) _ m f fs is (omega arith) x.leaves ih.0 x.first ih.1),
-        subst (λ z. ShowsPlaces true true k (more m f fs) (branch z c.root c.children children) (x.leaves ++ shifted (size f) ih.0)) of.0
-            (shows_both (ShowsNumbered true k (Shows true f)) m (ShowsPlaces true true (suc k) fs) (size f) x.leaves ih.0 c children (change_numbers f x.leaves x.first) (some_change f x.leaves x.first) (own.0.1.0, own.0.1.1, x.shown) ih.2),
-      ))
-      s
-
   -- the node over as many of the cases as turn the whole
   pub change_of_sifted : {text : Entry} {us : List U} {t : Tree CaseNode} (k : ℕ) (cs : List (Tree CaseNode)) (m n : ℕ) → 1 ≤ k → k ≤ length us → Sifted b has IsOwnChange 0 us cs m → enough_of b k (length us) ≤ m → 1 ≤ enough_of b k (length us) → n ≡ m - enough_of b k (length us) + 1 → n ≤ length cs → IsNode text b (named (take n cs)) t → IsChangeOf (IsOfThreshold k text name has us) b t
-  unfolding Shows
   change_of_sifted {text} {us} {t} k cs m n some within s enough least is shows node =
-      let likes = λ (fs : Formulas) (of : AreOfEach name has us fs). sifted_like us fs cs m of s in
-      let decides = λ (fs : Formulas) (of : AreOfEach name has us fs). decisive_is name has b k us fs of some within in
-      let holds = λ (fs : Formulas) (of : AreOfEach name has us fs).
-      (let l = likes fs of in let d = decides fs of in truth_by_parts b k (plain text) fs (omega (arith, l, d, enough))) in
-      record {
-        truth = record { at = λ f p. let c = p.of_counted some within in ap truth c.is ∙ holds c.formulas c.of_each };
-        explains = λ f p.
-            let c = p.of_counted some within in
-            let fs = c.formulas in
-            let x = turned_shown 0 us fs cs m n c.of_each s shows in
-            let l = likes fs c.of_each in
-            let d = decides fs c.of_each in
-            let all = like_all b fs (actual_of_parts fs) in
-            let both = decisive_all b k fs in
-            let number : like (not b) fs (actual_of_parts fs) + n ≡ decisive (not b) k fs = omega (arith, is, l, d, all, both, enough) in
-            let turned : truth (AtLeast k (plain text) fs) ≡ not (not b) = holds fs c.of_each ∙ sym (not-not b) in
-            subst (λ g. ExplainsChange g t) (sym c.is) (record {
-              leaves = x.0;
-              first = threshold_change (not b) k (plain text) fs turned x.0 (subst (λ m. BringsFirst (not b) m fs x.0) number x.1);
-              shown = (node_fits text b _ _ t node (holds fs c.of_each), subst (λ ch. ShowsPlaces true true 0 fs ch x.0) (sym node.children) x.2);
-            });
-      }
+      case_by_sifted b has changes cs m (length us) k n some within (subst (λ z. Sifted b has IsOwnChange 0 z cs m) (sym (take_all (length us) us (omega arith))) s) shows node
+      (λ fs of.
+      let l = sifted_like us fs cs m of s in
+      let d = decisive_is name has b k us fs of some within in
+      (truth_by_parts b k (plain text) fs (omega (arith, l, d, enough)), omega (arith, is, l, d, enough)))
 
 -- ---- one member more
 
@@ -213,7 +126,7 @@ module _ (b : Bool) {U : Type 0} (name : List ℕ) (has : U → Formula → Type
       let both = enough_both b k (length us) some within in
       let few : others < enough_of (not b) k (length us) = omega (arith, both, sum, enough) in
       let shows : n ≤ length cs = ⊎_elim (λ same. omega (arith, same, is, least, enough)) (λ plenty. omega (arith, plenty, is, both, sum, enough)) (s.all w few) in
-      change_wanted wanted (change_of_sifted b name has k cs such n some within (subst (λ z. Sifted b has (IsOwnChange b name has) 0 z cs such) (take_all j us all) s.are) enough least is shows node) w
+      case_wanted wanted (change_of_sifted b name has k cs such n some within (subst (λ z. Sifted b has (IsOwnChange b name has) 0 z cs such) (take_all j us all) s.are) enough least is shows node) w
 
   -- so many of the members in front have the truth
   pub truth_of_turning : {text : Entry} (us : List U) (cs : List (Tree CaseNode)) (room j such others k : ℕ) → 1 ≤ k → k ≤ length us → IsTurning b name has wanted room (take j us) cs such others → enough_of b k (length us) ≤ such → HasTruth (IsOfThreshold k text name has us) b

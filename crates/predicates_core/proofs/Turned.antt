@@ -4,7 +4,8 @@ use Rattle.std.specs.List.{Contains}
 use Rattle.std.proofs.lemmas.List.{length-set, set-append_left, set-append_right, get_or_append_left, get_or-append-add, get_or-set_other}
 use Rattle.std.proofs.lemmas.List.Elements.{Contains-append_left, Contains-append_right, Contains-append_cases}
 use Rattle.predicates_core.specs.Reason.{AreIncreasing, AreEqualAt}
-use Rattle.predicates_core.specs.Change.{turned}
+use Rattle.predicates_core.specs.First.{AreAmong}
+use Rattle.predicates_core.specs.Kinds.{turned}
 use Rattle.predicates_core.proofs.Numbers.{shifted}
 use native.Mathlib.Decide.{ℕ_discrete}
 
@@ -38,10 +39,6 @@ turned-right n (k ∷ S) v w e =
     ap (turned (shifted n S)) here ∙ turned-right n S v (set w k (not (get_or w k false))) e
 
 -- ---- numbers of lists
-
--- the first list's numbers are among the second's
-abbrev pub AreAmong : List ℕ → List ℕ → Type 0
-AreAmong S T = (k : ℕ) → Contains S k → Contains T k
 
 pub contains_first : (x : ℕ) (S : List ℕ) → Contains (x ∷ S) x
 contains_first x S = (zero, omega arith, refl)
@@ -97,8 +94,12 @@ among_front S T X h k c = ⊎_elim (λ a. Contains-append_left T X k (h k a)) (�
 pub among_back : (X S T : List ℕ) → AreAmong S T → AreAmong (X ++ S) (X ++ T)
 among_back X S T h k c = ⊎_elim (λ a. Contains-append_left X T k a) (λ b. Contains-append_right X T k (h k b)) (Contains-append_cases X S k c)
 
-pub among_itself : (S : List ℕ) → AreAmong S S
-among_itself S k c = c
+pub none_of : (L : List ℕ) → AreAmong [] L
+none_of L k c = absurd (contains_none k c)
+
+-- of both parts, and of the others alone
+pub among_both : (n : ℕ) (L M R T : List ℕ) → AreAmong L M → AreAmong R T → AreAmong (L ++ shifted n R) (M ++ shifted n T)
+among_both n L M R T left right k c = among_back M (shifted n R) (shifted n T) (among_shifted n R T right) k (among_front L M (shifted n R) left k c)
 
 module _ (n m : ℕ) (L R L' R' : List ℕ) (l : AreIncreasing 0 n L) (l' : AreIncreasing 0 n L') (h : AreAmong (L' ++ shifted n R') (L ++ shifted n R)) where
   pub left_among : AreAmong L' L
@@ -113,6 +114,33 @@ module _ (n m : ℕ) (L R L' R' : List ℕ) (l : AreIncreasing 0 n L) (l' : AreI
       (λ b. shifted_contains n k R b)
       (Contains-append_cases L (shifted n R) (n + k) (h (n + k) (Contains-append_right L' (shifted n R') (n + k) (contains_shifted n k R' c))))
 
+above : (low high k : ℕ) (S : List ℕ) → AreIncreasing low high S → Contains S k → low ≤ k
+unfolding AreIncreasing
+above low high k [] i c = absurd (contains_none k c)
+above low high k (x ∷ S) i c = ⊎_elim (λ e. rw e i.0) (λ d. let h = above (suc x) high k S i.2 d in omega (arith, h, i.0)) (contains_cases x k S c)
+
+head_is : (low high x y : ℕ) (S T : List ℕ) → AreIncreasing low high (x ∷ S) → AreIncreasing low high (y ∷ T) → AreAmong (x ∷ S) (y ∷ T) → AreAmong (y ∷ T) (x ∷ S) → x ≡ y
+unfolding AreIncreasing
+head_is low high x y S T i j there back = ⊎_elim
+    (λ e. e)
+    (λ later. ⊎_elim
+    (λ e. sym e)
+    (λ sooner. absurd (let p = above (suc y) high x T j.2 later in let q = above (suc x) high y S i.2 sooner in omega (arith, p, q)))
+    (contains_cases x y S (back y (contains_first y T))))
+    (contains_cases y x T (there x (contains_first x S)))
+
+-- two lists of increasing numbers that are among one another are the same
+pub same_numbers : (low high : ℕ) (S T : List ℕ) → AreIncreasing low high S → AreIncreasing low high T → AreAmong S T → AreAmong T S → S ≡ T
+unfolding AreIncreasing
+same_numbers low high [] T i j there back = sym (none_among T back)
+same_numbers low high (x ∷ S) [] i j there back = none_among (x ∷ S) there
+same_numbers low high (x ∷ S) (y ∷ T) i j there back =
+    let e : x ≡ y = head_is low high x y S T i j there back in
+    let rest : S ≡ T = same_numbers (suc x) high S T i.2 (rw e j.2)
+    (λ k c. ⊎_elim (λ same. absurd (let p = above (suc x) high k S i.2 c in omega (arith, same, e, p))) (λ d. d) (contains_cases y k T (there k (contains_later x k S c))))
+    (λ k c. ⊎_elim (λ same. absurd (let p = above (suc y) high k T j.2 c in omega (arith, same, e, p))) (λ d. d) (contains_cases x k S (back k (contains_later y k T c)))) in
+    cc (e, rest)
+
 -- ---- places that turned
 
 -- a place that is none of the turned ones stays
@@ -123,7 +151,7 @@ stays (x ∷ S) w k none =
     stays S (set w x (not (get_or w x false))) k (λ c. none (contains_later x k S c))
     ∙ get_or-set_other w x k _ false (λ e. none (subst (Contains (x ∷ S)) (sym e) (contains_first x S)))
 
-contains_or_not : (S : List ℕ) (k : ℕ) → Contains S k ⊎ (Contains S k → ⊥)
+pub contains_or_not : (S : List ℕ) (k : ℕ) → Contains S k ⊎ (Contains S k → ⊥)
 contains_or_not [] k = inr (contains_none k)
 contains_or_not (x ∷ S) k = elim (ℕ_discrete k x) [
   | yes e ↦ inl (subst (Contains (x ∷ S)) (sym e) (contains_first x S))

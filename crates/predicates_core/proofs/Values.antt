@@ -1,5 +1,5 @@
 -- Values of formulas: the truth of each kind, and that a formula takes both values.
-use Rattle.std.proofs.Common.{◌≡◌, ℕ, List, [], ◌∷◌, ◌++◌, Bool, true, false, refl, length, ap, ◌∙◌, ◌+◌, ◌≤◌, zero, suc, arith, length-append}
+use Rattle.std.proofs.Common.{◌≡◌, ℕ, List, [], ◌∷◌, ◌++◌, Bool, true, false, refl, length, ap, ◌∙◌, subst, ◌+◌, ◌≤◌, zero, suc, arith, length-append}
 use Rattle.std.specs.Prelude.{not, nat_le}
 use Rattle.std.proofs.lemmas.Bool.Decides.{nat_tests}
 use Rattle.std.proofs.lemmas.List.{take_at, drop_at}
@@ -40,6 +40,13 @@ needed_within k (one name f) = omega arith
 needed_within zero (more name f fs) = omega arith
 needed_within (suc zero) (more name f fs) = omega arith
 needed_within (suc (suc k)) (more name f fs) = let ih = needed_within (suc k) fs in omega arith
+
+-- as many as there are parts
+pub needed_is : (k : ℕ) (fs : Formulas) → 1 ≤ k → k ≤ number_of_parts fs → needed k fs ≡ k
+needed_is k (one n f) some within = omega (arith, some, within)
+needed_is zero (more n f fs) some within = absurd (omega (arith, some))
+needed_is (suc zero) (more n f fs) some within = refl
+needed_is (suc (suc k)) (more n f fs) some within = ap suc (needed_is (suc k) fs (omega arith) (omega (arith, within)))
 
 -- all of them, or none
 abbrev all_if : Bool → ℕ → ℕ
@@ -151,3 +158,16 @@ other_truths true true e = absurd (cc)
 other_truths false false e = absurd (cc)
 other_truths true false e = refl
 other_truths false true e = refl
+
+pub beq_same : (a b : Bool) → a ≡ b → beq a b ≡ true
+beq_same a b e = subst (λ z. beq a z ≡ true) e (itself a)
+  where
+    itself : (a : Bool) → beq a a ≡ true
+    itself true = refl
+    itself false = refl
+
+pub beq_other : (a b : Bool) → a ≡ not b → beq a b ≡ false
+beq_other true true e = absurd (cc)
+beq_other true false e = refl
+beq_other false true e = refl
+beq_other false false e = absurd (cc)

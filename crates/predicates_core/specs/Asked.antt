@@ -5,7 +5,8 @@ use Rattle.predicates_core.specs.declared.custom.join.Operator.{Operator}
 use Rattle.predicates_core.specs.declared.custom.join.Operator.TheVariants.{And, Or, Xor}
 use Rattle.predicates_core.specs.Tree.{Tree}
 use Rattle.predicates_core.specs.Describe.{CaseNode}
-use Rattle.predicates_core.specs.Shows.{IsFound}
+use Rattle.predicates_core.specs.Kinds.{Kind}
+use Rattle.predicates_core.specs.Shows.{IsAnswerBy, IsFound}
 
 -- whether the right part counts where the left one has this truth
 abbrev pub asks : Operator → Bool → Bool
@@ -47,3 +48,8 @@ is_other None b = false
 abbrev pub IsFoundIf : Bool → (Formula → Type 0) → Option Bool → Option (Tree CaseNode) → Type 0
 IsFoundIf true F wanted found = IsFound F wanted found
 IsFoundIf false F wanted found = found ≡ None
+
+-- the case of a part that has the truth, where it belongs to the whole's
+abbrev pub IsAnswerIf : Kind → Bool → (Formula → Type 0) → Bool → Option (Tree CaseNode) → Type 0
+IsAnswerIf q true F b found = IsAnswerBy q F b found
+IsAnswerIf q false F b found = found ≡ None

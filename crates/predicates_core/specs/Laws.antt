@@ -1,27 +1,29 @@
--- Laws of formulas and of their first reasons.
-use Rattle.std.specs.Prelude.{◌≡◌, ◌≢◌, ℕ, List, [], Bool, true, false, cond, Option, Some, None, length}
+-- Laws of formulas, of their first reasons and changes, and of the cases that show these.
+use Rattle.std.specs.Prelude.{◌≡◌, ◌↔◌, ℕ, List, Bool, true, false, cond, Option, Some, None, length}
 use mathlib.Core.Bool.{beq}
 use Rattle.predicates_core.specs.Describe.{CaseNode}
 use Rattle.predicates_core.specs.Formula.{Formula, Formulas, one, more, Join, AtLeast, needed}
 use Rattle.predicates_core.specs.Formula.{number_of_parts, enough_of, truth}
+use Rattle.predicates_core.specs.First.{IsMinimal}
+use Rattle.predicates_core.specs.Kinds.{reasons, changes, HasOneFirst}
 use Rattle.predicates_core.specs.Label.{Label}
-use Rattle.predicates_core.specs.Reason.{IsFirstReason}
+use Rattle.predicates_core.specs.Reason.{IsReason, IsMinimalReason}
 use Rattle.predicates_core.specs.declared.custom.join.Operator.{Operator}
 use Rattle.predicates_core.specs.declared.custom.join.Operator.TheVariants.{And, Or}
 use Rattle.predicates_core.specs.Shows.{Explains}
 use Rattle.predicates_core.specs.Tree.{Tree, empty, branch, named_trees}
 
--- there is a first reason, and there is no other
-abbrev pub HasOneFirstReason : Formula → Type 0
-HasOneFirstReason f = (leaves : List ℕ) × IsFirstReason f leaves
-    × ((other : List ℕ) → IsFirstReason f other → other ≡ leaves)
-
+-- each formula has exactly one first reason and one first change
 abbrev pub FirstReasons : Type 0
-FirstReasons = (f : Formula) → HasOneFirstReason f
+FirstReasons = (f : Formula) → HasOneFirst reasons f
 
--- no first reason is empty, so a case shows a leaf at least
-abbrev pub NoneIsEmpty : Type 0
-NoneIsEmpty = (f : Formula) (leaves : List ℕ) → IsFirstReason f leaves → leaves ≢ []
+abbrev pub FirstChanges : Type 0
+FirstChanges = (f : Formula) → HasOneFirst changes f
+
+-- a reason from which no leaf can be dropped is one from which no leaves can
+abbrev pub MinimalReasons : Type 0
+MinimalReasons = (f : Formula) (leaves : List ℕ)
+    → IsMinimalReason f leaves ↔ IsMinimal (IsReason f) leaves
 
 -- the operator by which one part with the truth decides the whole
 abbrev pub decided_by : Bool → Operator

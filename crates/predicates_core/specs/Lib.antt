@@ -8,7 +8,9 @@ pub use Rattle.predicates_reflection.specs.Lines
 pub use Rattle.predicates_reflection.specs.CaseViews
 pub use Rattle.predicates_reflection.specs.Ownership
 pub mod Formula
+pub mod First
 pub mod Reason
+pub mod Kinds
 pub mod Shows
 pub mod Change
 pub mod Combined

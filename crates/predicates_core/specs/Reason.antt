@@ -1,6 +1,7 @@
 -- Which leaves explain a formula's truth: the first of all its minimal reasons.
-use Rattle.std.specs.Prelude.{◌≡◌, ◌≢◌, ◌⊎◌, ℕ, suc, ◌<◌, ◌≤◌, List, [], ◌∷◌, ◌++◌, Bool, false}
+use Rattle.std.specs.Prelude.{◌≡◌, ℕ, suc, ◌<◌, ◌≤◌, List, [], ◌∷◌, ◌++◌, Bool, false}
 use Rattle.std.specs.Prelude.{slice_index_or}
+use Rattle.predicates_core.specs.First.{IsFirst}
 use Rattle.predicates_core.specs.Formula.{Formula, size, IsValuation, value, actual, truth}
 
 -- the numbers increase, none is below `low`, and all are below `high`
@@ -27,16 +28,6 @@ pub record IsMinimalReason (f : Formula) (leaves : List ℕ) : Type 0 where
   pub needs_each : (front : List ℕ) (leaf : ℕ) (back : List ℕ) → leaves ≡ front ++ leaf ∷ back
       → IsReason f (front ++ back) → ⊥
 
--- the one list is a front of the other, or has the smaller number at the first place where they
--- differ
-unfoldable pub ComesBefore : List ℕ → List ℕ → Type 0
-ComesBefore [] [] = ⊥
-ComesBefore [] (y ∷ ys) = Unit {0}
-ComesBefore (x ∷ xs) [] = ⊥
-ComesBefore (x ∷ xs) (y ∷ ys) = (x < y) ⊎ ((x ≡ y) × ComesBefore xs ys)
-
 -- a minimal reason that comes before every other
-pub record IsFirstReason (f : Formula) (leaves : List ℕ) : Type 0 where
-  pub minimal : IsMinimalReason f leaves
-  pub before_others : (other : List ℕ) → IsMinimalReason f other → other ≢ leaves
-      → ComesBefore leaves other
+abbrev pub IsFirstReason : Formula → List ℕ → Type 0
+IsFirstReason f = IsFirst (IsMinimalReason f)

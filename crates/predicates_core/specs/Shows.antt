@@ -6,7 +6,7 @@ use Rattle.predicates_core.specs.Label.{Label, Entry, FitsText, FitsProducts}
 use Rattle.predicates_core.specs.Formula.{Formula, Leaf, Join, Not, Named, AtLeast}
 use Rattle.predicates_core.specs.Formula.{Formulas, one, more, size, truth, HasTruth}
 use Rattle.predicates_core.specs.Formula.{number_of_parts, needed, enough_of}
-use Rattle.predicates_core.specs.Reason.{IsFirstReason}
+use Rattle.predicates_core.specs.Kinds.{Kind, reasons, changes, First}
 use Rattle.predicates_core.specs.Tree.{Tree, Forest, empty, branch, forest}
 use Rattle.predicates_core.specs.Describe.{CaseNode, NamedCase, with_product}
 
@@ -47,62 +47,69 @@ ShowsNumbered tells k showing = λ c s. (part : Tree CaseNode) × (c ≡ numbere
     × showing part s
 
 -- whether the parts of a threshold tell their numbers, where k of n have to hold and it has the
--- truth b: always, or where some part is left out
-abbrev pub tells_numbers : Bool → Bool → ℕ → ℕ → Bool
-tells_numbers true b k n = true
-tells_numbers false b k n = nat_lt (enough_of b k n) n
+-- truth b: in a change always, in a reason where some part is left out
+abbrev pub tells_numbers : Kind → Bool → ℕ → ℕ → Bool
+tells_numbers reasons b k n = nat_lt (enough_of b k n) n
+tells_numbers changes b k n = true
 
--- the tree is the formula cut down to the leaves; the parts of its thresholds always tell their
--- numbers, or only where one is left out
+-- the tree is the formula cut down to the leaves, which are of the kind
 unfoldable mutual
-  pub Shows : Bool → Formula → Tree CaseNode → List ℕ → Type 0
-  Shows always (Leaf label own) t s = FitsNode label own t.root × (t.children ≡ empty) × (s ≡ 0 ∷ [])
-  Shows always (Join op label fs) t s = FitsNode label (truth (Join op label fs)) t.root
-      × ShowsParts always fs t.children s
-  Shows always (Not label f) t s = FitsNode label (truth (Not label f)) t.root
-      × ShowsPart (Shows always f) (codes "predicate") s t.children empty
-  Shows always (Named label name f) t s = FitsNode label (truth (Named label name f)) t.root
-      × ShowsPart (Shows always f) name s t.children empty
-  Shows always (AtLeast k label fs) t s = FitsNode label (truth (AtLeast k label fs)) t.root
-      × ShowsPlaces always (tells_numbers always (truth (AtLeast k label fs)) (needed k fs)
+  pub Shows : Kind → Formula → Tree CaseNode → List ℕ → Type 0
+  Shows q (Leaf label own) t s = FitsNode label own t.root × (t.children ≡ empty) × (s ≡ 0 ∷ [])
+  Shows q (Join op label fs) t s = FitsNode label (truth (Join op label fs)) t.root
+      × ShowsParts q false 0 fs t.children s
+  Shows q (Not label f) t s = FitsNode label (truth (Not label f)) t.root
+      × ShowsPart (Shows q f) (codes "predicate") s t.children empty
+  Shows q (Named label name f) t s = FitsNode label (truth (Named label name f)) t.root
+      × ShowsPart (Shows q f) name s t.children empty
+  Shows q (AtLeast k label fs) t s = FitsNode label (truth (AtLeast k label fs)) t.root
+      × ShowsParts q (tells_numbers q (truth (AtLeast k label fs)) (needed k fs)
       (number_of_parts fs)) 0 fs t.children s
 
-  -- the children are, in order, the parts with a share, each cut down to it
-  pub ShowsParts : Bool → Formulas → Forest CaseNode → List ℕ → Type 0
-  ShowsParts always (one name f) children s = ShowsPart (Shows always f) name s children empty
-  ShowsParts always (more name f fs) children s = (rest : Forest CaseNode)
-      × ShowsPart (Shows always f) name (left_share (size f) s) children rest
-      × ShowsParts always fs rest (right_share (size f) s)
+  -- the children are, in order, the parts with a share, each cut down to it; where numbers are
+  -- told, each tells its own, and the first part has the number k
+  pub ShowsParts : Kind → Bool → ℕ → Formulas → Forest CaseNode → List ℕ → Type 0
+  ShowsParts q tells k (one name f) children s =
+      ShowsPart (ShowsNumbered tells k (Shows q f)) name s children empty
+  ShowsParts q tells k (more name f fs) children s = (rest : Forest CaseNode)
+      × ShowsPart (ShowsNumbered tells k (Shows q f)) name (left_share (size f) s) children rest
+      × ShowsParts q tells (suc k) fs rest (right_share (size f) s)
 
-  -- so are they, and each tells its number where numbers are told; the first part has the number k
-  pub ShowsPlaces : Bool → Bool → ℕ → Formulas → Forest CaseNode → List ℕ → Type 0
-  ShowsPlaces always tells k (one name f) children s =
-      ShowsPart (ShowsNumbered tells k (Shows always f)) name s children empty
-  ShowsPlaces always tells k (more name f fs) children s = (rest : Forest CaseNode)
-      × ShowsPart (ShowsNumbered tells k (Shows always f)) name (left_share (size f) s) children rest
-      × ShowsPlaces always tells (suc k) fs rest (right_share (size f) s)
-
--- the case shows the formula cut down to its first reason, with numbers where a part is left out
-pub record Explains (f : Formula) (t : Tree CaseNode) : Type 0 where
+-- the case shows the formula cut down to its first leaves of the kind
+pub record ExplainsBy (q : Kind) (f : Formula) (t : Tree CaseNode) : Type 0 where
   pub leaves : List ℕ
-  pub first : IsFirstReason f leaves
-  pub shown : Shows false f t leaves
+  pub first : First q f leaves
+  pub shown : Shows q f t leaves
 
--- each formula of F has the truth b, and the case explains it
-pub record IsCaseOf (F : Formula → Type 0) (b : Bool) (t : Tree CaseNode) : Type 0 where
+-- each formula of F has the truth b, and the case shows it so
+pub record IsCaseBy (q : Kind) (F : Formula → Type 0) (b : Bool) (t : Tree CaseNode) : Type 0 where
   pub truth : HasTruth F b
-  pub explains : (f : Formula) → F f → Explains f t
+  pub explains : (f : Formula) → F f → ExplainsBy q f t
 
 -- what is to be answered where the truth is asked to be `expected`
-abbrev pub IsAnswer : (Formula → Type 0) → Bool → Option (Tree CaseNode) → Type 0
-IsAnswer F expected found = MatchOption found (HasTruth F (not expected)) (IsCaseOf F expected)
+abbrev pub IsAnswerBy : Kind → (Formula → Type 0) → Bool → Option (Tree CaseNode) → Type 0
+IsAnswerBy q F expected found =
+    MatchOption found (HasTruth F (not expected)) (IsCaseBy q F expected)
 
 -- what is to be answered where a truth is wanted, or the case of whichever the formulas have; none
 -- is found then only where there is no formula
+abbrev pub IsFoundBy : Kind → (Formula → Type 0) → Option Bool → Option (Tree CaseNode) → Type 0
+IsFoundBy q F (Some wanted) found = IsAnswerBy q F wanted found
+IsFoundBy q F None (Some t) = IsCaseBy q F t.root.result t
+IsFoundBy q F None None = (f : Formula) → F f → ⊥
+
+-- the same of reasons
+abbrev pub Explains : Formula → Tree CaseNode → Type 0
+Explains = ExplainsBy reasons
+
+abbrev pub IsCaseOf : (Formula → Type 0) → Bool → Tree CaseNode → Type 0
+IsCaseOf = IsCaseBy reasons
+
+abbrev pub IsAnswer : (Formula → Type 0) → Bool → Option (Tree CaseNode) → Type 0
+IsAnswer = IsAnswerBy reasons
+
 abbrev pub IsFound : (Formula → Type 0) → Option Bool → Option (Tree CaseNode) → Type 0
-IsFound F (Some wanted) found = IsAnswer F wanted found
-IsFound F None (Some t) = IsCaseOf F t.root.result t
-IsFound F None None = (f : Formula) → F f → ⊥
+IsFound = IsFoundBy reasons
 
 -- a tree with a text that fits the entry, the result, no products, and the parts
 pub record IsNode (entry : Entry) (b : Bool) (parts : List NamedCase) (t : Tree CaseNode) : Type 0

@@ -1,12 +1,13 @@
 -- What a join asks of its parts, where what would turn it is sought.
-use Rattle.std.specs.Prelude.{◌≡◌, ℕ, nat_lt, ◌&&◌, Bool, true, false, not, List, [], ◌∷◌, ◌++◌}
-use Rattle.std.specs.Prelude.{Option, Some, None, MatchOption}
+use Rattle.std.specs.Prelude.{ℕ, nat_lt, ◌&&◌, Bool, true, false, not, List, [], ◌∷◌, ◌++◌}
+use Rattle.std.specs.Prelude.{Option, Some, None}
 use Rattle.predicates_core.specs.Formula.{Formula, HasTruth}
 use Rattle.predicates_core.specs.declared.custom.join.Operator.{Operator}
 use Rattle.predicates_core.specs.declared.custom.join.Operator.TheVariants.{And, Or, Xor}
 use Rattle.predicates_core.specs.Tree.{Tree}
 use Rattle.predicates_core.specs.Describe.{CaseNode}
-use Rattle.predicates_core.specs.Asked.{is_other}
+use Rattle.predicates_core.specs.Kinds.{changes}
+use Rattle.predicates_core.specs.Asked.{IsAnswerIf, is_other}
 use Rattle.predicates_core.specs.Shows.{with_index}
 use Rattle.predicates_core.specs.Change.{IsChangeOf}
 
@@ -16,16 +17,11 @@ turns_right And right = not right
 turns_right Or right = right
 turns_right Xor right = false
 
--- the change of a part that has the truth, where it belongs to the whole's
-abbrev pub IsChangeIf : Bool → (Formula → Type 0) → Bool → Option (Tree CaseNode) → Type 0
-IsChangeIf true F b found = MatchOption found (HasTruth F (not b)) (IsChangeOf F b)
-IsChangeIf false F b found = found ≡ None
-
 -- the right part has the truth, and this is its change where that belongs to the whole's
 pub record IsRightChange (op : Operator) (F : Formula → Type 0) (b : Bool)
     (found : Option (Tree CaseNode)) : Type 0 where
   pub truth : HasTruth F b
-  pub change : IsChangeIf (turns_right op b) F b found
+  pub change : IsAnswerIf changes (turns_right op b) F b found
 
 -- a part with the truth is asked for its change: the truth may be wanted, fewer parts have it than
 -- may have to turn, and fewer have the other than decide

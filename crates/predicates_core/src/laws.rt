@@ -4,14 +4,21 @@
 //! // From here on a proof knows that each formula has exactly one first reason.
 //! laws::first_reasons();
 //! ```
-ghost use Rattle.predicates_core.specs.Change.{EachMeetsEach, FirstChanges, NoChangeIsEmpty};
-ghost use Rattle.predicates_core.specs.Laws.{EnoughChildren, FirstReasons, NoneIsEmpty, OneChild};
+ghost use Rattle.predicates_core.specs.Change.{EachMeetsEach};
+ghost use Rattle.predicates_core.specs.Kinds.{reasons, changes, NoneIsEmpty};
+ghost use Rattle.predicates_core.specs.Laws.{EnoughChildren, FirstChanges, FirstReasons, OneChild};
+ghost use Rattle.predicates_core.specs.Laws.{MinimalReasons};
 
 /// Each formula has exactly one first reason, and that has at least one leaf. So a case that is cut
 /// down to it always shows a leaf.
 pub fn first_reasons()
     ensures one { FirstReasons }
-    ensures some { NoneIsEmpty }
+    ensures some { NoneIsEmpty reasons }
+{}
+
+/// No leaf of a minimal reason can be dropped, and so neither can several at once.
+pub fn minimal_reasons()
+    ensures { MinimalReasons }
 {}
 
 /// Where one part decides a join, the case has exactly one child: that of the first part that does.
@@ -30,7 +37,7 @@ pub fn enough_children()
 /// verdict can always be shown.
 pub fn first_changes()
     ensures one { FirstChanges }
-    ensures some { NoChangeIsEmpty }
+    ensures some { NoneIsEmpty changes }
 {}
 
 /// Each reason of a formula has a leaf of each of its changes. So what leaves one reason as it is

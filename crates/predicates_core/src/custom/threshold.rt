@@ -5,6 +5,7 @@ ghost use Rattle.std.specs.Prelude.{⊤};
 ghost use Rattle.std.specs.Fmt.{decimal};
 ghost use Rattle.std.specs.List.{AllByRecursion};
 ghost use Rattle.predicates_core.specs.Formula.{enough_of, Leaf, HasTruth};
+ghost use Rattle.predicates_core.specs.Kinds.{reasons};
 ghost use Rattle.predicates_core.specs.Label.{Entry, showing};
 ghost use Rattle.predicates_core.specs.Leaves.{IsExactly, IsShowing};
 ghost use Rattle.predicates_core.specs.Several.{is_absent, IsNextCase, IsNodeWith};
@@ -273,7 +274,7 @@ pub fn node_with<W: fmt::Display>(
     requires some { 1 ≤ list.least }
     requires within { list.least ≤ number }
     ensures { IfOk result (IsNodeWith verdict
-        (tells_numbers false verdict list.entry.least number) (W.output list.entry.whole.now)
+        (tells_numbers reasons verdict list.entry.least number) (W.output list.entry.whole.now)
         list.entry.name.now index node found) }
 {
     match found {

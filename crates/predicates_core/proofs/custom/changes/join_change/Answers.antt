@@ -1,5 +1,5 @@
 use Rattle.std.proofs.Common.{rules, string_bytes}
-use Rattle.predicates_core.proofs.ChangeCases.{no_change_in_turn, change_in_turn}
+use Rattle.predicates_core.proofs.Asked.{no_change_in_turn, change_in_turn}
 use Rattle.predicates_core.proofs.custom.changes.join_change.Goals as goal
 
 pub returns-then-is_other : goal.returns-then-is_other
