@@ -5,9 +5,8 @@ use Rattle.predicates_core.specs.Label.{Fits}
 use Rattle.predicates_core.specs.Formula.{Formula, Leaf, Join, Not, Named, AtLeast, differ, truth, HasTruth}
 use Rattle.predicates_core.specs.Tree.{Tree}
 use Rattle.predicates_core.specs.Describe.{CaseNode}
-use Rattle.predicates_core.specs.Kinds.{Kind, reasons, changes}
+use Rattle.predicates_core.specs.Kinds.{Kind, reasons}
 use Rattle.predicates_core.specs.Shows.{Shows, IsCaseBy, IsFoundBy, IsAnswer, IsFound, IsNode}
-use Rattle.predicates_core.specs.Change.{IsFoundChange}
 use Rattle.predicates_core.specs.Combined.{IsNot, IsNamed}
 use Rattle.predicates_core.specs.Asked.{shown_verdict, is_other}
 use Rattle.predicates_core.proofs.BothKinds.{never_turned}
@@ -80,30 +79,41 @@ module _ (q : Kind) where
   -- ---- one part
 
   module _ (part : Formula → Type 0) (text : Option (List ℕ)) where
-    pub none_of_not : (w : Option Bool) → IsFoundBy q part (option_map not w) None → IsFoundBy q (IsNot text part) w None
-    none_of_not (Some e) x = HasTruth-not x (sym (not-not (not e)))
-    none_of_not None x = λ f h. x h.inner h.of_part
+    pub nothing_of_not : (w : Option Bool) → IsFoundBy q part (option_map not w) None → IsFoundBy q (IsNot text part) w None
+    nothing_of_not (Some e) x = HasTruth-not x (sym (not-not (not e)))
+    nothing_of_not None x = λ f h. x h.inner h.of_part
 
-    pub case_of_not : {bytes : List ℕ} {c t : Tree CaseNode} (w : Option Bool) → IsNode (Some bytes) (not c.root.result) ((codes "predicate", c) ∷ []) t → Fits text bytes → IsFoundBy q part (option_map not w) (Some c) → IsFoundBy q (IsNot text part) w (Some t)
-    case_of_not {c = c} {t = t} (Some e) written fits x = record {
+    pub found_of_not : {bytes : List ℕ} {c t : Tree CaseNode} (w : Option Bool) → IsNode (Some bytes) (not c.root.result) ((codes "predicate", c) ∷ []) t → Fits text bytes → IsFoundBy q part (option_map not w) (Some c) → IsFoundBy q (IsNot text part) w (Some t)
+    found_of_not {c = c} {t = t} (Some e) written fits x = record {
       truth = HasTruth-not x.truth (sym (not-not e));
       explains = (IsCaseOf-not {b = not c.root.result} written fits (subst (λ b. IsCaseBy q part b c) (sym (not-not c.root.result)) (case_by_result x))).explains;
     }
-    case_of_not {c = c} {t = t} None written fits x = case_by_result (IsCaseOf-not {b = not c.root.result} written fits (subst (λ b. IsCaseBy q part b c) (sym (not-not c.root.result)) x))
+    found_of_not {c = c} {t = t} None written fits x = case_by_result (IsCaseOf-not {b = not c.root.result} written fits (subst (λ b. IsCaseBy q part b c) (sym (not-not c.root.result)) x))
 
   module _ (part : Formula → Type 0) (name : List ℕ) where
-    pub none_of_named : (w : Option Bool) → IsFoundBy q part w None → IsFoundBy q (IsNamed name part) w None
-    none_of_named (Some e) x = HasTruth-named x
-    none_of_named None x = λ f h. x h.inner h.of_part
+    pub nothing_of_named : (w : Option Bool) → IsFoundBy q part w None → IsFoundBy q (IsNamed name part) w None
+    nothing_of_named (Some e) x = HasTruth-named x
+    nothing_of_named None x = λ f h. x h.inner h.of_part
 
-    pub case_of_named : {bytes : List ℕ} {c t : Tree CaseNode} (w : Option Bool) → IsNode (Some bytes) c.root.result ((name, c) ∷ []) t → Fits (Some name) bytes → IsFoundBy q part w (Some c) → IsFoundBy q (IsNamed name part) w (Some t)
-    case_of_named (Some e) written fits x = record { truth = HasTruth-named x.truth; explains = (IsCaseOf-named written fits (case_by_result x)).explains }
-    case_of_named None written fits x = case_by_result (IsCaseOf-named written fits x)
+    pub found_of_named : {bytes : List ℕ} {c t : Tree CaseNode} (w : Option Bool) → IsNode (Some bytes) c.root.result ((name, c) ∷ []) t → Fits (Some name) bytes → IsFoundBy q part w (Some c) → IsFoundBy q (IsNamed name part) w (Some t)
+    found_of_named (Some e) written fits x = record { truth = HasTruth-named x.truth; explains = (IsCaseOf-named written fits (case_by_result x)).explains }
+    found_of_named None written fits x = case_by_result (IsCaseOf-named written fits x)
 
--- ---- of reasons and of changes
+-- ---- of reasons
 
 pub none_wanted : {F : Formula → Type 0} (w : Option Bool) {h : Bool} → HasTruth F h → is_other w h ≡ true → IsFound F w None
 none_wanted = other_wanted reasons
 
-pub no_change_wanted : {F : Formula → Type 0} (w : Option Bool) {h : Bool} → HasTruth F h → is_other w h ≡ true → IsFoundChange F w None
-no_change_wanted = other_wanted changes
+module _ (part : Formula → Type 0) (text : Option (List ℕ)) where
+  pub none_of_not : (w : Option Bool) → IsFound part (option_map not w) None → IsFound (IsNot text part) w None
+  none_of_not = nothing_of_not reasons part text
+
+  pub case_of_not : {bytes : List ℕ} {c t : Tree CaseNode} (w : Option Bool) → IsNode (Some bytes) (not c.root.result) ((codes "predicate", c) ∷ []) t → Fits text bytes → IsFound part (option_map not w) (Some c) → IsFound (IsNot text part) w (Some t)
+  case_of_not = found_of_not reasons part text
+
+module _ (part : Formula → Type 0) (name : List ℕ) where
+  pub none_of_named : (w : Option Bool) → IsFound part w None → IsFound (IsNamed name part) w None
+  none_of_named = nothing_of_named reasons part name
+
+  pub case_of_named : {bytes : List ℕ} {c t : Tree CaseNode} (w : Option Bool) → IsNode (Some bytes) c.root.result ((name, c) ∷ []) t → Fits (Some name) bytes → IsFound part w (Some c) → IsFound (IsNamed name part) w (Some t)
+  case_of_named = found_of_named reasons part name

@@ -1,7 +1,7 @@
 use Rattle.std.proofs.Common.{arith, refl, subst, take, true, false, length, ◌≡◌, ◌+◌, ◌≤◌}
 use Rattle.predicates_core.specs.Asked.{is_other}
 use Rattle.predicates_core.specs.Turning.{IsChangeAsked}
-use Rattle.predicates_core.proofs.Found.{no_change_wanted}
+use Rattle.predicates_core.proofs.ChangeCases.{no_change_wanted}
 use Rattle.predicates_core.proofs.ThresholdCases.{enough_some}
 use Rattle.predicates_core.proofs.ThresholdChanges.{settled_change, turning_none, turning_passed, turning_next, asked_held, asked_failed, turn_absent, turn_told, absent_turn, truth_of_turning, change_of_turning, IsTurning, other_settled}
 use Rattle.predicates_core.proofs.custom.threshold_changes.counted_change.Goals.{then-turn-2+in_ok-held_cases+else-is_refuted, else-turn-2+in_ok-failed_cases+else-is_refuted-2}
