@@ -1,7 +1,7 @@
 -- What stands at the nodes of a case, and of the description of a child.
-use Rattle.std.specs.Prelude.{ℕ, List, ◌∷◌, [], ◌++◌, Option, Bool, refl}
+use Rattle.std.specs.Prelude.{ℕ, List, ◌∷◌, [], ◌++◌, take, Option, Bool, refl}
 use Rattle.std.specs.Coded.{Coded, code_by, coded×, coded_ℕ, coded_bool, coded_list, coded_option}
-use Rattle.predicates_reflection.specs.Tree.{Tree, empty, forest, add_last, coded_tree}
+use Rattle.predicates_reflection.specs.Tree.{Tree, empty, forest, named_trees, add_last, coded_tree}
 
 -- a name with bytes
 abbrev pub NamedBytes : Type 0
@@ -41,6 +41,10 @@ with_product t p = record t {
 -- the tree with one child more, the last, under a name
 abbrev pub with_child : Tree CaseNode → List ℕ → Tree CaseNode → Tree CaseNode
 with_child t name c = record t { children = add_last t.children name c }
+
+-- the tree with its first children alone, so many at most
+abbrev pub with_first_children : ℕ → Tree CaseNode → Tree CaseNode
+with_first_children n t = record t { children = forest (take n (named_trees t.children)) }
 
 -- A node of a description: a text, and parameters in order.
 pub record ChildNode : Type 0 where

@@ -5,10 +5,12 @@
 //!     println!(rt; "{name}: {}", case.result())?;
 //! }
 //! ```
-ghost use Rattle.std.specs.Prelude.{◌≡◌, ◌<◌, ◌^◌, length, IfOk, option_copied, string_bytes};
+ghost use Rattle.std.specs.Prelude.{◌≡◌, ◌<◌, ◌^◌, length, take, IfOk, option_copied, string_bytes};
 ghost use Rattle.std.specs.Prelude.{option_map};
 ghost use Rattle.predicates_reflection.specs.Tree.{named_trees, node_count};
 ghost use Rattle.predicates_reflection.specs.Describe.{leaf, with_product, with_child};
+ghost use Rattle.predicates_reflection.specs.Describe.{with_first_children};
+ghost use Rattle.predicates_reflection.specs.CaseFields.{trees, IsPreorder};
 
 use crate::reflection::Product;
 use crate::static_text::StaticText;
@@ -131,6 +133,22 @@ impl Case {
         Ok(Case { root, below })
     }
 
+    /// Drops the children of the root behind the first, so many of which stay. It takes no memory.
+    ///
+    /// ```
+    /// let part = Case::new(alloc, None, true);
+    /// let whole = Case::new(alloc, None, true).add_child("inner", part)?;
+    /// assert!(rt; whole.with_first_children(0).root().children().count() == 0);
+    /// ```
+    pub fn with_first_children(self, number: usize) -> Case
+        ensures { result ≡ with_first_children number self }
+    {
+        let Case { root, mut below } = self;
+        let end = end_of_first(below.as_slice(), number);
+        below.truncate(end);
+        Case { root, below }
+    }
+
     /// A view of the root. Views copy nothing and take no memory.
     ///
     /// ```
@@ -146,6 +164,22 @@ impl Case {
             below: self.below.as_slice(),
         }
     }
+}
+
+// Where the first trees end, so many at most.
+fn end_of_first(entries: &[Entry], number: usize) -> usize
+    requires { IsPreorder entries.now }
+    ensures preorder { IsPreorder (take result entries.now) }
+    ensures trees { named_trees (trees (take result entries.now))
+        ≡ take number (named_trees (trees entries.now)) }
+{
+    let mut end = 0usize;
+    let mut count = 0usize;
+    while count < number && end < entries.len() {
+        end += entries[end].size;
+        count += 1;
+    }
+    end
 }
 
 /// A view of a case, or of a part of one: of a node and what stands below it.
