@@ -10,7 +10,7 @@ use predicates::{Predicate, Total};
 use predicates_dynamic::{Check, EvaluateWith, Listed, View, Wording};
 use std::alloc::{AllocError, Global};
 use std::fmt;
-use std::test::Fail;
+use std::process::Abort;
 
 // A text that a node keeps; its parts are called so.
 #[derive(Drop)]
@@ -121,27 +121,27 @@ impl EvaluateWith<u32, Calls> for TestPredicate<Least> {
 
 type Rule = Check<TestPredicate<Least>, Digits, Titled>;
 
-fn with_title(alloc: Global, title: &str) -> Result<Titled, AllocError> {
-    let title = String::from_str(alloc, title)?;
-    Ok(Titled { title })
+fn with_title(rt: &impl Abort, alloc: Global, title: &str) -> Titled {
+    let title = String::from_str(alloc, title).expect(rt, "memory");
+    Titled { title }
 }
 
 // Each digit of the number is at least five, or the number is at least a thousand.
-fn rule(alloc: Global) -> Result<Rule, AllocError> {
-    let digit = Box::new(alloc, Check::Leaf(leaf(Least { least: 5 })))?;
-    let digits = Check::Quantified(with_title(alloc, "large digits")?, false, Digits, digit);
+fn rule(rt: &impl Abort, alloc: Global) -> Rule {
+    let digit = Box::new(alloc, Check::Leaf(leaf(Least { least: 5 }))).expect(rt, "memory");
+    let digits = Check::Quantified(with_title(rt, alloc, "large digits"), false, Digits, digit);
     let large = Check::Leaf(leaf(Least { least: 1000 }));
-    let parts = vec![in alloc; digits, large]?;
-    Ok(Check::Row(with_title(alloc, "large")?, true, parts))
+    let parts = vec![in alloc; digits, large].expect(rt, "memory");
+    Check::Row(with_title(rt, alloc, "large"), true, parts)
 }
 
 // The printed case of the verdict that the rule has on the number.
-fn shown<P: Predicate<u32>>(alloc: Global, rule: &P, item: u32) -> Result<String, AllocError>
+fn shown<P: Predicate<u32>>(rt: &impl Abort, alloc: Global, rule: &P, item: u32) -> String
     requires { P.lawful rule.now }
 {
-    match rule.explain(alloc, None, &item)? {
-        Some(case) => render(alloc, &case),
-        None => String::from_str(alloc, ""),
+    match rule.explain(alloc, None, &item).expect(rt, "memory") {
+        Some(case) => render(alloc, &case).expect(rt, "memory"),
+        None => String::from_str(alloc, "").expect(rt, "memory"),
     }
 }
 
@@ -175,21 +175,20 @@ large = false
 
 #[test]
 #[tactic(auto, using(predicates_dynamic::specs::Laws::all_leaves))]
-fn kept_texts_stand_in_place_of_computed_ones(rt: HostRuntime) -> Result<(), Fail> {
+fn kept_texts_stand_in_place_of_computed_ones(rt: HostRuntime) {
     let alloc = rt.alloc();
-    let rule = rule(alloc)?;
+    let rule = rule(&rt, alloc);
     let rows = [(75, DECIDED), (52, FAILED), (7, ONE_DIGIT)];
     for (item, lines) in rows {
-        assert!(rt; shown(alloc, &rule, item)?.as_str() == lines);
+        assert!(rt; shown(&rt, alloc, &rule, item).as_str() == lines);
     }
-    Ok(())
 }
 
 #[test]
 #[tactic(auto, using(predicates_dynamic::specs::Laws::all_leaves))]
-fn leaves_are_asked_with_what_the_run_keeps(rt: HostRuntime) -> Result<(), Fail> {
+fn leaves_are_asked_with_what_the_run_keeps(rt: HostRuntime) {
     let alloc = rt.alloc();
-    let rule = rule(alloc)?;
+    let rule = rule(&rt, alloc);
     let mut calls = Calls { number: 0 };
     for (item, holds, asked) in [
         (75, true, 2),
@@ -197,8 +196,11 @@ fn leaves_are_asked_with_what_the_run_keeps(rt: HostRuntime) -> Result<(), Fail>
         (7, false, 6),
         (1200, true, 9),
     ] {
-        assert!(rt; rule.eval_with(alloc, &mut calls, &item)? == holds);
+        assert!(rt;
+            rule.eval_with(alloc, &mut calls, &item)
+                .expect(&rt, "memory")
+                == holds
+        );
         assert!(rt; calls.number == asked);
     }
-    Ok(())
 }

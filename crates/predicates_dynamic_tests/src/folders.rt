@@ -10,7 +10,7 @@ use predicates_dynamic::{Check, Members};
 use predicates_testing::is_described;
 use std::alloc::{AllocError, Global};
 use std::fmt;
-use std::test::Fail;
+use std::process::Abort;
 
 // A file, or a folder with what lies in it.
 #[derive(Drop)]
@@ -115,62 +115,64 @@ fn read_word(alloc: Global, made: &mut Vec<Rule>, word: &str) -> Result<Option<R
 }
 
 // The rule that the words mean, each behind its parts.
-fn read_rule(alloc: Global, words: &str) -> Result<Option<Rule>, AllocError> {
+fn read_rule(rt: &impl Abort, alloc: Global, words: &str) -> Option<Rule> {
     let mut made = Vec::new(alloc);
     for word in words.split(' ') {
-        let Some(rule) = read_word(alloc, &mut made, word)? else {
-            return Ok(None);
+        let Some(rule) = read_word(alloc, &mut made, word).expect(rt, "memory") else {
+            return None;
         };
-        made.push(rule)?;
+        made.push(rule).expect(rt, "memory");
     }
     let rule = made.pop();
-    Ok(if made.is_empty() { rule } else { None })
+    if made.is_empty() { rule } else { None }
 }
 
 // A folder of files with the sizes.
-fn folder(alloc: Global, size: u32, sizes: &[u32]) -> Result<Entry, AllocError> {
+fn folder(rt: &impl Abort, alloc: Global, size: u32, sizes: &[u32]) -> Entry {
     let mut entries = Vec::new(alloc);
     for size in sizes {
-        entries.push(Entry {
-            size: *size,
-            entries: None,
-        })?;
+        entries
+            .push(Entry {
+                size: *size,
+                entries: None,
+            })
+            .expect(rt, "memory");
     }
-    Ok(Entry {
+    Entry {
         size,
         entries: Some(entries),
-    })
+    }
 }
 
 // A folder with a file and two folders, of which the second is empty.
-fn root(alloc: Global) -> Result<Entry, AllocError> {
+fn root(rt: &impl Abort, alloc: Global) -> Entry {
     let file = Entry {
         size: 30,
         entries: None,
     };
-    let first = folder(alloc, 50, &[20, 30])?;
-    let second = folder(alloc, 0, &[])?;
-    Ok(Entry {
+    let first = folder(rt, alloc, 50, &[20, 30]);
+    let second = folder(rt, alloc, 0, &[]);
+    Entry {
         size: 80,
-        entries: Some(vec![in alloc; file, first, second]?),
-    })
+        entries: Some(vec![in alloc; file, first, second].expect(rt, "memory")),
+    }
 }
 
 // The lines that say why the rule has its verdict.
-fn why<P: Total<Entry>>(alloc: Global, rule: &P, entry: &Entry) -> Result<String, AllocError> {
-    match rule.explain(alloc, None, entry)? {
-        Some(case) => render(alloc, &case),
-        None => Ok(String::new(alloc)),
+fn why<P: Total<Entry>>(rt: &impl Abort, alloc: Global, rule: &P, entry: &Entry) -> String {
+    match rule.explain(alloc, None, entry).expect(rt, "memory") {
+        Some(case) => render(alloc, &case).expect(rt, "memory"),
+        None => String::new(alloc),
     }
 }
 
 // Whether the words are a rule whose case on the root has the lines.
-fn is_explained(alloc: Global, words: &str, lines: &str) -> Result<bool, AllocError> {
-    let Some(rule) = read_rule(alloc, words)? else {
-        return Ok(false);
+fn is_explained(rt: &impl Abort, alloc: Global, words: &str, lines: &str) -> bool {
+    let Some(rule) = read_rule(rt, alloc, words) else {
+        return false;
     };
-    let root = root(alloc)?;
-    Ok(why(alloc, &rule, &root)?.as_str() == lines)
+    let root = root(rt, alloc);
+    why(rt, alloc, &rule, &root).as_str() == lines
 }
 
 // Each file of each folder.
@@ -213,14 +215,13 @@ const NONE_LARGE: &str = "\
 ";
 
 #[test]
-fn rules_over_members_are_explained(rt: HostRuntime) -> Result<(), Fail> {
+fn rules_over_members_are_explained(rt: HostRuntime) {
     let alloc = rt.alloc();
-    assert!(rt; is_explained(alloc, "25 any 30 or each", TOO_SMALL)?);
-    assert!(rt; is_explained(alloc, "30 two", TWO)?);
-    assert!(rt; is_explained(alloc, "20 each each", NO_FOLDER)?);
-    assert!(rt; is_explained(alloc, "60 any not", NONE_LARGE)?);
-    assert!(rt; !is_explained(alloc, "each", "")?);
-    Ok(())
+    assert!(rt; is_explained(&rt, alloc, "25 any 30 or each", TOO_SMALL));
+    assert!(rt; is_explained(&rt, alloc, "30 two", TWO));
+    assert!(rt; is_explained(&rt, alloc, "20 each each", NO_FOLDER));
+    assert!(rt; is_explained(&rt, alloc, "60 any not", NONE_LARGE));
+    assert!(rt; !is_explained(&rt, alloc, "each", ""));
 }
 
 // The text, and a line for each part.
@@ -231,17 +232,16 @@ item: at_least 2 entries(size >= 1)
 ";
 
 // Whether the words are a rule that describes itself by the lines.
-fn describes(alloc: Global, words: &str, lines: &str) -> Result<bool, AllocError> {
-    let Some(rule) = read_rule(alloc, words)? else {
-        return Ok(false);
+fn describes(rt: &impl Abort, alloc: Global, words: &str, lines: &str) -> bool {
+    let Some(rule) = read_rule(rt, alloc, words) else {
+        return false;
     };
-    is_described(alloc, &rule, lines)
+    is_described(alloc, &rule, lines).expect(rt, "memory")
 }
 
 #[test]
-fn rules_over_members_describe_their_parts(rt: HostRuntime) -> Result<(), Fail> {
-    assert!(rt; describes(rt.alloc(), "1 two each", DESCRIBED)?);
-    Ok(())
+fn rules_over_members_describe_their_parts(rt: HostRuntime) {
+    assert!(rt; describes(&rt, rt.alloc(), "1 two each", DESCRIBED));
 }
 
 // It takes at least 25 bytes.
@@ -252,43 +252,39 @@ fn large() -> Rule
 }
 
 #[test]
-fn check_of_leaf_beside_members(rt: HostRuntime) -> Result<(), Fail> {
+fn check_of_leaf_beside_members(rt: HostRuntime) {
     let alloc = rt.alloc();
-    let folder = folder(alloc, 50, &[20, 30])?;
+    let folder = folder(&rt, alloc, 50, &[20, 30]);
 
     let large: Check<TestPredicate<Size>, Entries> = Check::leaf_beside_members(leaf(Size {
         least: 25,
     }));
-    assert!(rt; large.eval(alloc, &folder)?);
-    Ok(())
+    assert!(rt; large.eval(alloc, &folder).expect(&rt, "memory"));
 }
 
 #[test]
-fn check_by_of_each(rt: HostRuntime) -> Result<(), Fail> {
+fn check_by_of_each(rt: HostRuntime) {
     let alloc = rt.alloc();
-    let folder = folder(alloc, 50, &[20, 30])?;
+    let folder = folder(&rt, alloc, 50, &[20, 30]);
 
-    let all_large = large().of_each(alloc, Entries)?;
-    assert!(rt; !all_large.eval(alloc, &folder)?);
-    Ok(())
+    let all_large = large().of_each(alloc, Entries).expect(&rt, "memory");
+    assert!(rt; !all_large.eval(alloc, &folder).expect(&rt, "memory"));
 }
 
 #[test]
-fn check_by_of_any(rt: HostRuntime) -> Result<(), Fail> {
+fn check_by_of_any(rt: HostRuntime) {
     let alloc = rt.alloc();
-    let folder = folder(alloc, 50, &[20, 30])?;
+    let folder = folder(&rt, alloc, 50, &[20, 30]);
 
-    let some_large = large().of_any(alloc, Entries)?;
-    assert!(rt; some_large.eval(alloc, &folder)?);
-    Ok(())
+    let some_large = large().of_any(alloc, Entries).expect(&rt, "memory");
+    assert!(rt; some_large.eval(alloc, &folder).expect(&rt, "memory"));
 }
 
 #[test]
-fn check_by_of_at_least(rt: HostRuntime) -> Result<(), Fail> {
+fn check_by_of_at_least(rt: HostRuntime) {
     let alloc = rt.alloc();
-    let folder = folder(alloc, 50, &[20, 30])?;
+    let folder = folder(&rt, alloc, 50, &[20, 30]);
 
-    let two_large = large().of_at_least(alloc, 2, Entries)?;
-    assert!(rt; !two_large.eval(alloc, &folder)?);
-    Ok(())
+    let two_large = large().of_at_least(alloc, 2, Entries).expect(&rt, "memory");
+    assert!(rt; !two_large.eval(alloc, &folder).expect(&rt, "memory"));
 }

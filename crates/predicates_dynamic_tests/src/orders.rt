@@ -7,7 +7,7 @@ use predicates::reflection::render;
 use predicates_dynamic::Check;
 use std::alloc::{AllocError, Global};
 use std::fmt;
-use std::test::Fail;
+use std::process::Abort;
 
 // What is ordered.
 #[derive(Debug, Clone, Copy)]
@@ -87,41 +87,36 @@ fn read_word(alloc: Global, made: &mut Vec<Rule>, word: &str) -> Result<Option<R
 }
 
 // The rule that the words mean, each behind its parts.
-fn read_rule(alloc: Global, words: &str) -> Result<Option<Rule>, AllocError> {
+fn read_rule(rt: &impl Abort, alloc: Global, words: &str) -> Option<Rule> {
     let mut made = Vec::new(alloc);
     for word in words.split(' ') {
-        let Some(rule) = read_word(alloc, &mut made, word)? else {
-            return Ok(None);
+        let Some(rule) = read_word(alloc, &mut made, word).expect(rt, "memory") else {
+            return None;
         };
-        made.push(rule)?;
+        made.push(rule).expect(rt, "memory");
     }
     let rule = made.pop();
-    Ok(if made.is_empty() { rule } else { None })
+    if made.is_empty() { rule } else { None }
 }
 
 // The lines that say why the check has its verdict on the order.
-fn why<P: Total<Order>>(alloc: Global, check: &P, order: &Order) -> Result<String, AllocError> {
-    match check.explain(alloc, None, order)? {
-        Some(case) => render(alloc, &case),
-        None => Ok(String::new(alloc)),
+fn why<P: Total<Order>>(rt: &impl Abort, alloc: Global, check: &P, order: &Order) -> String {
+    match check.explain(alloc, None, order).expect(rt, "memory") {
+        Some(case) => render(alloc, &case).expect(rt, "memory"),
+        None => String::new(alloc),
     }
 }
 
 // Whether the words are a rule with that case.
-fn is_explained(
-    alloc: Global,
-    words: &str,
-    order: &Order,
-    lines: &str,
-) -> Result<bool, AllocError> {
-    let Some(rule) = read_rule(alloc, words)? else {
-        return Ok(false);
+fn is_explained(rt: &impl Abort, alloc: Global, words: &str, order: &Order, lines: &str) -> bool {
+    let Some(rule) = read_rule(rt, alloc, words) else {
+        return false;
     };
-    Ok(why(alloc, &rule, order)?.as_str() == lines)
+    why(rt, alloc, &rule, order).as_str() == lines
 }
 
 #[test]
-fn a_rule_that_was_read_is_explained(rt: HostRuntime) -> Result<(), Fail> {
+fn a_rule_that_was_read_is_explained(rt: HostRuntime) {
     let lines = "\
 ((total >= 50 || lines >= 3) && (! lines >= 9)) = false
   left: (total >= 50 || lines >= 3) = false
@@ -135,7 +130,6 @@ fn a_rule_that_was_read_is_explained(rt: HostRuntime) -> Result<(), Fail> {
         lines: 2,
     };
     let words = "total:50 lines:3 or lines:9 not and";
-    assert!(rt; is_explained(rt.alloc(), words, &order, lines)?);
-    assert!(rt; !is_explained(rt.alloc(), "total:50 and", &order, "")?);
-    Ok(())
+    assert!(rt; is_explained(&rt, rt.alloc(), words, &order, lines));
+    assert!(rt; !is_explained(&rt, rt.alloc(), "total:50 and", &order, ""));
 }

@@ -8,11 +8,11 @@ use predicates_dynamic::{Check, Members};
 use predicates_testing::{
     ReferenceFormula, counted, explains, first_change, first_reason, is_described,
 };
-use std::alloc::{AllocError, Global};
+use std::alloc::Global;
 use std::cell::Cell;
 use std::fmt;
+use std::process::Abort;
 use std::rc::Rc;
-use std::test::Fail;
 
 // Prints its number, has the verdict, and counts how often it is asked.
 #[derive(Drop)]
@@ -82,22 +82,24 @@ struct Leaves {
 }
 
 impl Leaves {
-    fn next(&mut self, alloc: Global, verdict: bool) -> Result<Numbers, AllocError> {
+    fn next(&mut self, rt: &impl Abort, alloc: Global, verdict: bool) -> Numbers {
         let number = self.asked.len();
-        let asked = Rc::new(alloc, Cell::new(0))?;
-        self.asked.push(asked.clone()?)?;
-        Ok(Check::leaf_beside_members(leaf(Numbered {
+        let asked = Rc::new(alloc, Cell::new(0)).expect(rt, "memory");
+        self.asked
+            .push(asked.clone().expect(rt, "memory"))
+            .expect(rt, "memory");
+        Check::leaf_beside_members(leaf(Numbered {
             number,
             verdict,
             asked,
-        })))
+        }))
     }
 
-    fn both(&mut self, alloc: Global, verdict: bool) -> Result<Both, AllocError> {
-        Ok(Both {
-            check: self.next(alloc, verdict)?,
+    fn both(&mut self, rt: &impl Abort, alloc: Global, verdict: bool) -> Both {
+        Both {
+            check: self.next(rt, alloc, verdict),
             formula: ReferenceFormula::Leaf(verdict),
-        })
+        }
     }
 
     // The greatest count, where each is set to 0 again.
@@ -119,143 +121,153 @@ fn kind_of(code: &mut u32) -> u32 {
 }
 
 fn joined(
+    rt: &impl Abort,
     alloc: Global,
     kind: u32,
     left: ReferenceFormula,
     right: ReferenceFormula,
-) -> Result<ReferenceFormula, AllocError> {
-    let (left, right) = (Box::new(alloc, left)?, Box::new(alloc, right)?);
-    Ok(match kind {
+) -> ReferenceFormula {
+    let (left, right) = (
+        Box::new(alloc, left).expect(rt, "memory"),
+        Box::new(alloc, right).expect(rt, "memory"),
+    );
+    match kind {
         0 => ReferenceFormula::And(left, right),
         1 => ReferenceFormula::Or(left, right),
         _ => ReferenceFormula::Xor(left, right),
-    })
-}
-
-fn of_one(alloc: Global, is_named: bool, part: Both) -> Result<Both, AllocError> {
-    let formula = Box::new(alloc, part.formula)?;
-    if is_named {
-        return Ok(Both {
-            check: part.check.name(alloc, "named")?,
-            formula: ReferenceFormula::Named(formula),
-        });
     }
-    Ok(Both {
-        check: part.check.not(alloc)?,
+}
+
+fn of_one(rt: &impl Abort, alloc: Global, is_named: bool, part: Both) -> Both {
+    let formula = Box::new(alloc, part.formula).expect(rt, "memory");
+    if is_named {
+        return Both {
+            check: part.check.name(alloc, "named").expect(rt, "memory"),
+            formula: ReferenceFormula::Named(formula),
+        };
+    }
+    Both {
+        check: part.check.not(alloc).expect(rt, "memory"),
         formula: ReferenceFormula::Not(formula),
-    })
+    }
 }
 
-fn of_two(alloc: Global, kind: u32, left: Both, right: Both) -> Result<Both, AllocError> {
-    let formula = joined(alloc, kind, left.formula, right.formula)?;
+fn of_two(rt: &impl Abort, alloc: Global, kind: u32, left: Both, right: Both) -> Both {
+    let formula = joined(rt, alloc, kind, left.formula, right.formula);
     let check = match kind {
-        0 => left.check.and(alloc, right.check)?,
-        1 => left.check.or(alloc, right.check)?,
-        _ => left.check.xor(alloc, right.check)?,
+        0 => left.check.and(alloc, right.check).expect(rt, "memory"),
+        1 => left.check.or(alloc, right.check).expect(rt, "memory"),
+        _ => left.check.xor(alloc, right.check).expect(rt, "memory"),
     };
-    Ok(Both { check, formula })
+    Both { check, formula }
 }
 
-fn row(alloc: Global, is_any: bool, first: Both, second: Both) -> Result<Both, AllocError> {
+fn row(rt: &impl Abort, alloc: Global, is_any: bool, first: Both, second: Both) -> Both {
     let kind = if is_any { 1 } else { 0 };
     let rest = joined(
+        rt,
         alloc,
         kind,
         second.formula,
         ReferenceFormula::NoMore(!is_any),
-    )?;
-    let members = joined(alloc, kind, first.formula, rest)?;
-    let parts = vec![in alloc; first.check, second.check]?;
-    Ok(Both {
+    );
+    let members = joined(rt, alloc, kind, first.formula, rest);
+    let parts = vec![in alloc; first.check, second.check].expect(rt, "memory");
+    Both {
         check: if is_any {
             Check::any(parts)
         } else {
             Check::all(parts)
         },
-        formula: ReferenceFormula::Members(Box::new(alloc, members)?),
-    })
+        formula: ReferenceFormula::Members(Box::new(alloc, members).expect(rt, "memory")),
+    }
 }
 
 // At least two of the parts and a leaf with the verdict.
-fn two_of_three(alloc: Global, first: Both, second: Both, third: Both) -> Result<Both, AllocError> {
-    let parts = vec![in alloc; first.check, second.check, third.check]?;
-    let formulas = vec![in alloc; first.formula, second.formula, third.formula]?;
-    Ok(Both {
+fn two_of_three(rt: &impl Abort, alloc: Global, first: Both, second: Both, third: Both) -> Both {
+    let parts = vec![in alloc; first.check, second.check, third.check].expect(rt, "memory");
+    let formulas = vec![in alloc; first.formula, second.formula, third.formula].expect(
+        rt, "memory",
+    );
+    Both {
         check: Check::at_least(2, parts),
-        formula: counted(alloc, 2, formulas)?,
-    })
+        formula: counted(alloc, 2, formulas).expect(rt, "memory"),
+    }
 }
 
 // An odd number of the parts.
-fn odd_of_three(alloc: Global, first: Both, second: Both, third: Both) -> Result<Both, AllocError> {
+fn odd_of_three(rt: &impl Abort, alloc: Global, first: Both, second: Both, third: Both) -> Both {
     let none = ReferenceFormula::NoMore(false);
-    let last = joined(alloc, 2, third.formula, none)?;
-    let others = joined(alloc, 2, second.formula, last)?;
-    let members = joined(alloc, 2, first.formula, others)?;
-    let parts = vec![in alloc; first.check, second.check, third.check]?;
-    Ok(Both {
+    let last = joined(rt, alloc, 2, third.formula, none);
+    let others = joined(rt, alloc, 2, second.formula, last);
+    let members = joined(rt, alloc, 2, first.formula, others);
+    let parts = vec![in alloc; first.check, second.check, third.check].expect(rt, "memory");
+    Both {
         check: Check::odd(parts),
-        formula: ReferenceFormula::Members(Box::new(alloc, members)?),
-    })
+        formula: ReferenceFormula::Members(Box::new(alloc, members).expect(rt, "memory")),
+    }
 }
 
 // Of the one member: of each, of one, of at least one.
-fn of_members(alloc: Global, kind: u32, part: Both) -> Result<Both, AllocError> {
+fn of_members(rt: &impl Abort, alloc: Global, kind: u32, part: Both) -> Both {
     if kind == 2 {
-        return Ok(Both {
-            check: part.check.of_at_least(alloc, 1, Only)?,
-            formula: counted(alloc, 1, vec![in alloc; part.formula]?)?,
-        });
+        return Both {
+            check: part.check.of_at_least(alloc, 1, Only).expect(rt, "memory"),
+            formula: counted(alloc, 1, vec![in alloc; part.formula].expect(rt, "memory")).expect(
+                rt, "memory",
+            ),
+        };
     }
     let is_any = kind == 1;
-    let members = joined(alloc, kind, part.formula, ReferenceFormula::NoMore(!is_any))?;
-    Ok(Both {
+    let members = joined(
+        rt,
+        alloc,
+        kind,
+        part.formula,
+        ReferenceFormula::NoMore(!is_any),
+    );
+    Both {
         check: if is_any {
-            part.check.of_any(alloc, Only)?
+            part.check.of_any(alloc, Only).expect(rt, "memory")
         } else {
-            part.check.of_each(alloc, Only)?
+            part.check.of_each(alloc, Only).expect(rt, "memory")
         },
-        formula: ReferenceFormula::Members(Box::new(alloc, members)?),
-    })
+        formula: ReferenceFormula::Members(Box::new(alloc, members).expect(rt, "memory")),
+    }
 }
 
 // The check that the code means, of at most so many levels above the leaves.
-fn build(
-    alloc: Global,
-    leaves: &mut Leaves,
-    code: &mut u32,
-    depth: u32,
-) -> Result<Both, AllocError> {
+fn build(rt: &impl Abort, alloc: Global, leaves: &mut Leaves, code: &mut u32, depth: u32) -> Both {
     if depth == 0 {
         let verdict = *code % 2 == 1;
         *code /= 2;
-        return leaves.both(alloc, verdict);
+        return leaves.both(rt, alloc, verdict);
     }
     let kind = kind_of(code);
     if kind >= 10 {
-        return leaves.both(alloc, kind == 10);
+        return leaves.both(rt, alloc, kind == 10);
     }
-    let first = build(alloc, leaves, code, depth - 1)?;
+    let first = build(rt, alloc, leaves, code, depth - 1);
     if kind >= 8 {
-        return of_one(alloc, kind == 8, first);
+        return of_one(rt, alloc, kind == 8, first);
     }
-    let second = build(alloc, leaves, code, depth - 1)?;
+    let second = build(rt, alloc, leaves, code, depth - 1);
     if kind >= 5 {
-        let third = leaves.both(alloc, kind == 5)?;
+        let third = leaves.both(rt, alloc, kind == 5);
         return if kind == 7 {
-            odd_of_three(alloc, first, second, third)
+            odd_of_three(rt, alloc, first, second, third)
         } else {
-            two_of_three(alloc, first, second, third)
+            two_of_three(rt, alloc, first, second, third)
         };
     }
     if kind >= 3 {
-        return row(alloc, kind == 3, first, second);
+        return row(rt, alloc, kind == 3, first, second);
     }
-    of_two(alloc, kind, first, second)
+    of_two(rt, alloc, kind, first, second)
 }
 
 // The numbers of the leaves that the lines of a case show, in order.
-fn shown(alloc: Global, lines: &str) -> Result<Vec<usize>, AllocError> {
+fn shown(rt: &impl Abort, alloc: Global, lines: &str) -> Vec<usize> {
     let mut shown = Vec::new(alloc);
     for line in lines.lines() {
         let Some((head, _)) = line.split_once(" = ") else {
@@ -266,17 +278,17 @@ fn shown(alloc: Global, lines: &str) -> Result<Vec<usize>, AllocError> {
             None => head,
         };
         if let Ok(number) = text.parse() {
-            shown.push(number)?;
+            shown.push(number).expect(rt, "memory");
         }
     }
-    Ok(shown)
+    shown
 }
 
 // The lines of a case, and none where there is no case.
-fn lines_of(alloc: Global, case: Option<Case>) -> Result<String, AllocError> {
+fn lines_of(rt: &impl Abort, alloc: Global, case: Option<Case>) -> String {
     match case {
-        Some(case) => render(alloc, &case),
-        None => Ok(String::new(alloc)),
+        Some(case) => render(alloc, &case).expect(rt, "memory"),
+        None => String::new(alloc),
     }
 }
 
@@ -288,58 +300,95 @@ struct Told {
     other: String,
 }
 
-fn reasons<P: Total<u32>>(alloc: Global, check: &P, verdict: bool) -> Result<Told, AllocError> {
-    Ok(Told {
-        wanted: lines_of(alloc, check.find_case(alloc, verdict, &0)?)?,
-        whichever: lines_of(alloc, check.explain(alloc, None, &0)?)?,
-        other: lines_of(alloc, check.find_case(alloc, !verdict, &0)?)?,
-    })
+fn reasons<P: Total<u32>>(rt: &impl Abort, alloc: Global, check: &P, verdict: bool) -> Told {
+    Told {
+        wanted: lines_of(
+            rt,
+            alloc,
+            check.find_case(alloc, verdict, &0).expect(rt, "memory"),
+        ),
+        whichever: lines_of(
+            rt,
+            alloc,
+            check.explain(alloc, None, &0).expect(rt, "memory"),
+        ),
+        other: lines_of(
+            rt,
+            alloc,
+            check.find_case(alloc, !verdict, &0).expect(rt, "memory"),
+        ),
+    }
 }
 
 fn changes<P: Total<u32> + PredicateChange<u32>>(
+    rt: &impl Abort,
     alloc: Global,
     check: &P,
     verdict: bool,
-) -> Result<Told, AllocError> {
-    Ok(Told {
-        wanted: lines_of(alloc, check.find_change(alloc, Some(verdict), &0)?)?,
-        whichever: lines_of(alloc, check.find_change(alloc, None, &0)?)?,
-        other: lines_of(alloc, check.find_change(alloc, Some(!verdict), &0)?)?,
-    })
+) -> Told {
+    Told {
+        wanted: lines_of(
+            rt,
+            alloc,
+            check
+                .find_change(alloc, Some(verdict), &0)
+                .expect(rt, "memory"),
+        ),
+        whichever: lines_of(
+            rt,
+            alloc,
+            check.find_change(alloc, None, &0).expect(rt, "memory"),
+        ),
+        other: lines_of(
+            rt,
+            alloc,
+            check
+                .find_change(alloc, Some(!verdict), &0)
+                .expect(rt, "memory"),
+        ),
+    }
 }
 
 // Whether just these leaves are told, and nothing of the other verdict.
-fn are_told(alloc: Global, told: Told, leaves: Option<Vec<usize>>) -> Result<bool, AllocError> {
-    let shown = shown(alloc, told.wanted.as_str())?;
-    Ok(match leaves {
+fn are_told(rt: &impl Abort, alloc: Global, told: Told, leaves: Option<Vec<usize>>) -> bool {
+    let shown = shown(rt, alloc, told.wanted.as_str());
+    match leaves {
         Some(leaves) => {
             shown.as_slice() == leaves.as_slice()
                 && told.whichever.as_str() == told.wanted.as_str()
                 && told.other.is_empty()
         }
         None => false,
-    })
+    }
 }
 
-fn holds<P: Total<u32>>(alloc: Global, check: &P) -> Result<bool, AllocError> {
-    check.eval(alloc, &0)
+fn holds<P: Total<u32>>(rt: &impl Abort, alloc: Global, check: &P) -> bool {
+    check.eval(alloc, &0).expect(rt, "memory")
 }
 
 // Whether the check answers as the reference program does.
-fn agrees(alloc: Global, both: &Both) -> Result<bool, AllocError> {
+fn agrees(rt: &impl Abort, alloc: Global, both: &Both) -> bool {
     let verdict = both.formula.truth();
-    let reasons = reasons(alloc, &both.check, verdict)?;
-    let changes = changes(alloc, &both.check, verdict)?;
-    Ok(
-        holds(alloc, &both.check)? == verdict
-            && are_told(alloc, reasons, first_reason(alloc, &both.formula)?)?
-            && are_told(alloc, changes, first_change(alloc, &both.formula)?)?,
-    )
+    let reasons = reasons(rt, alloc, &both.check, verdict);
+    let changes = changes(rt, alloc, &both.check, verdict);
+    holds(rt, alloc, &both.check) == verdict
+        && are_told(
+            rt,
+            alloc,
+            reasons,
+            first_reason(alloc, &both.formula).expect(rt, "memory"),
+        )
+        && are_told(
+            rt,
+            alloc,
+            changes,
+            first_change(alloc, &both.formula).expect(rt, "memory"),
+        )
 }
 
 // All checks of up to two levels over leaves of each truth.
 #[test]
-fn checks_are_explained_as_the_reference_program_does(rt: HostRuntime) -> Result<(), Fail> {
+fn checks_are_explained_as_the_reference_program_does(rt: HostRuntime) {
     let alloc = rt.alloc();
     let mut tried = 0u32;
     for first in 0..27648u32 {
@@ -347,80 +396,99 @@ fn checks_are_explained_as_the_reference_program_does(rt: HostRuntime) -> Result
         let mut leaves = Leaves {
             asked: Vec::new(alloc),
         };
-        let both = build(alloc, &mut leaves, &mut code, 2)?;
+        let both = build(&rt, alloc, &mut leaves, &mut code, 2);
         if code == 0 {
-            assert!(rt; agrees(alloc, &both)?);
+            assert!(rt; agrees(&rt, alloc, &both));
             tried = tried.saturating_add(1);
         }
     }
     assert!(rt; tried > 3000);
-    Ok(())
 }
 
 // A check of one level, which the code means: as a check of members, with a leaf in a row, or
 // again as a check of members.
 fn above_members(
+    rt: &impl Abort,
     alloc: Global,
     leaves: &mut Leaves,
     code: &mut u32,
     kind: u32,
-) -> Result<Both, AllocError> {
-    let inner = build(alloc, leaves, code, 1)?;
-    let members = of_members(alloc, kind % 3, inner)?;
+) -> Both {
+    let inner = build(rt, alloc, leaves, code, 1);
+    let members = of_members(rt, alloc, kind % 3, inner);
     match kind / 3 {
-        0 => Ok(members),
+        0 => members,
         1 => {
-            let last = leaves.both(alloc, kind == 4)?;
-            row(alloc, kind == 5, members, last)
+            let last = leaves.both(rt, alloc, kind == 4);
+            row(rt, alloc, kind == 5, members, last)
         }
-        _ => of_members(alloc, kind % 2, members),
+        _ => of_members(rt, alloc, kind % 2, members),
     }
 }
 
 // Whether it answers as the reference program does, or the code means none.
-fn members_agree(alloc: Global, code: u32, kind: u32) -> Result<bool, AllocError> {
+fn members_agree(rt: &impl Abort, alloc: Global, code: u32, kind: u32) -> bool {
     let mut code = code;
     let mut leaves = Leaves {
         asked: Vec::new(alloc),
     };
-    let both = above_members(alloc, &mut leaves, &mut code, kind)?;
-    Ok(code != 0 || agrees(alloc, &both)?)
+    let both = above_members(rt, alloc, &mut leaves, &mut code, kind);
+    code != 0 || agrees(rt, alloc, &both)
 }
 
 #[test]
-fn checks_of_members_are_explained_as_the_reference_program_does(
-    rt: HostRuntime,
-) -> Result<(), Fail> {
+fn checks_of_members_are_explained_as_the_reference_program_does(rt: HostRuntime) {
     for code in 0..96u32 {
         for kind in 0..9u32 {
-            assert!(rt; members_agree(rt.alloc(), code, kind)?);
+            assert!(rt; members_agree(&rt, rt.alloc(), code, kind));
         }
     }
-    Ok(())
 }
 
 // A chain of so many combinators, each in turn, with a leaf beside the rest at most levels.
 fn chain(
+    rt: &impl Abort,
     alloc: Global,
     leaves: &mut Leaves,
     depth: u32,
     verdict: bool,
-) -> Result<Numbers, AllocError> {
-    let mut check = leaves.next(alloc, verdict)?;
+) -> Numbers {
+    let mut check = leaves.next(rt, alloc, verdict);
     for level in 0..depth {
-        let own = leaves.next(alloc, level % 2 == 0)?;
+        let own = leaves.next(rt, alloc, level % 2 == 0);
         check = match level % 11 {
-            0 => own.and(alloc, check)?,
-            1 => own.or(alloc, check)?,
-            2 => own.xor(alloc, check)?,
-            3 => check.not(alloc)?.name(alloc, "named")?,
-            4 => Check::at_least(2, vec![in alloc; own, check, leaves.next(alloc, true)?]?),
-            5 => own.or(alloc, check)?.of_each(alloc, Only)?,
-            6 => own.and(alloc, check)?.of_any(alloc, Only)?,
-            7 => own.or(alloc, check)?.of_at_least(alloc, 1, Only)?,
-            8 => Check::odd(vec![in alloc; own, check, leaves.next(alloc, true)?]?),
+            0 => own.and(alloc, check).expect(rt, "memory"),
+            1 => own.or(alloc, check).expect(rt, "memory"),
+            2 => own.xor(alloc, check).expect(rt, "memory"),
+            3 => check
+                .not(alloc)
+                .expect(rt, "memory")
+                .name(alloc, "named")
+                .expect(rt, "memory"),
+            4 => Check::at_least(
+                2,
+                vec![in alloc; own, check, leaves.next(rt, alloc, true)].expect(rt, "memory"),
+            ),
+            5 => own
+                .or(alloc, check)
+                .expect(rt, "memory")
+                .of_each(alloc, Only)
+                .expect(rt, "memory"),
+            6 => own
+                .and(alloc, check)
+                .expect(rt, "memory")
+                .of_any(alloc, Only)
+                .expect(rt, "memory"),
+            7 => own
+                .or(alloc, check)
+                .expect(rt, "memory")
+                .of_at_least(alloc, 1, Only)
+                .expect(rt, "memory"),
+            8 => Check::odd(vec![in alloc; own, check, leaves.next(rt, alloc, true)].expect(
+                rt, "memory",
+            )),
             kind => {
-                let parts = vec![in alloc; own, check]?;
+                let parts = vec![in alloc; own, check].expect(rt, "memory");
                 if kind == 9 {
                     Check::any(parts)
                 } else {
@@ -429,83 +497,97 @@ fn chain(
             }
         };
     }
-    Ok(check)
+    check
 }
 
 // How often one leaf is asked at most: by `eval`, by `find_case` of the verdict and of the other,
 // and by `explain`.
 fn most_asked<P: Total<u32>>(
+    rt: &impl Abort,
     alloc: Global,
     check: &P,
     leaves: &Leaves,
-) -> Result<(usize, usize, usize, usize), AllocError> {
-    let verdict = check.eval(alloc, &0)?;
+) -> (usize, usize, usize, usize) {
+    let verdict = check.eval(alloc, &0).expect(rt, "memory");
     let by_eval = leaves.greatest();
-    let has_case = check.find_case(alloc, verdict, &0)?.is_some();
+    let has_case = check
+        .find_case(alloc, verdict, &0)
+        .expect(rt, "memory")
+        .is_some();
     let by_case = leaves.greatest();
-    let has_other = check.find_case(alloc, !verdict, &0)?.is_some();
+    let has_other = check
+        .find_case(alloc, !verdict, &0)
+        .expect(rt, "memory")
+        .is_some();
     let by_other = leaves.greatest();
-    let is_explained = check.explain(alloc, None, &0)?.is_some();
+    let is_explained = check
+        .explain(alloc, None, &0)
+        .expect(rt, "memory")
+        .is_some();
     let by_explain = leaves.greatest();
     if !has_case || has_other || !is_explained {
-        return Ok((0, 0, 0, 0));
+        return (0, 0, 0, 0);
     }
-    Ok((by_eval, by_case, by_other, by_explain))
+    (by_eval, by_case, by_other, by_explain)
 }
 
 // The same by `find_change` of the verdict, and of whichever it is.
 fn most_asked_for_changes<P: Total<u32> + PredicateChange<u32>>(
+    rt: &impl Abort,
     alloc: Global,
     check: &P,
     leaves: &Leaves,
-) -> Result<(usize, usize), AllocError> {
-    let verdict = check.eval(alloc, &0)?;
+) -> (usize, usize) {
+    let verdict = check.eval(alloc, &0).expect(rt, "memory");
     let _ = leaves.greatest();
-    let has_change = check.find_change(alloc, Some(verdict), &0)?.is_some();
+    let has_change = check
+        .find_change(alloc, Some(verdict), &0)
+        .expect(rt, "memory")
+        .is_some();
     let by_change = leaves.greatest();
-    let is_changed = check.find_change(alloc, None, &0)?.is_some();
+    let is_changed = check
+        .find_change(alloc, None, &0)
+        .expect(rt, "memory")
+        .is_some();
     let by_whichever = leaves.greatest();
     if !has_change || !is_changed {
-        return Ok((0, 0));
+        return (0, 0);
     }
-    Ok((by_change, by_whichever))
+    (by_change, by_whichever)
 }
 
 #[test]
-fn each_leaf_is_asked_at_most_twice_at_depth_100(rt: HostRuntime) -> Result<(), Fail> {
+fn each_leaf_is_asked_at_most_twice_at_depth_100(rt: HostRuntime) {
     let alloc = rt.alloc();
     for verdict in [true, false] {
         let mut leaves = Leaves {
             asked: Vec::new(alloc),
         };
-        let check = chain(alloc, &mut leaves, 100, verdict)?;
-        assert!(rt; most_asked(alloc, &check, &leaves)? == (1, 2, 1, 1));
-        assert!(rt; most_asked_for_changes(alloc, &check, &leaves)? == (1, 1));
+        let check = chain(&rt, alloc, &mut leaves, 100, verdict);
+        assert!(rt; most_asked(&rt, alloc, &check, &leaves) == (1, 2, 1, 1));
+        assert!(rt; most_asked_for_changes(&rt, alloc, &check, &leaves) == (1, 1));
     }
-    Ok(())
 }
 
 #[test]
-fn a_check_of_one_leaf_asks_it_once(rt: HostRuntime) -> Result<(), Fail> {
+fn a_check_of_one_leaf_asks_it_once(rt: HostRuntime) {
     let alloc = rt.alloc();
     let mut leaves = Leaves {
         asked: Vec::new(alloc),
     };
-    let check = leaves.next(alloc, true)?;
-    assert!(rt; most_asked(alloc, &check, &leaves)? == (1, 1, 1, 1));
-    Ok(())
+    let check = leaves.next(&rt, alloc, true);
+    assert!(rt; most_asked(&rt, alloc, &check, &leaves) == (1, 1, 1, 1));
 }
 
 // A check is made and dropped without a stack frame a level.
 #[test]
-fn a_check_of_20_000_levels_is_dropped(rt: HostRuntime) -> Result<(), Fail> {
+fn a_check_of_20_000_levels_is_dropped(rt: HostRuntime) {
     let alloc = rt.alloc();
     let mut leaves = Leaves {
         asked: Vec::new(alloc),
     };
-    drop(chain(alloc, &mut leaves, 20_000, true)?);
+    drop(chain(&rt, alloc, &mut leaves, 20_000, true));
     assert!(rt; leaves.greatest() == 0);
-    Ok(())
 }
 
 // The text, and a line for each part.
@@ -531,34 +613,35 @@ all_of((! 0), named, (2 ^ any_of(3)), any_of()) = false
 ";
 
 // A row of checks, where the first parts hold.
-fn some_row(alloc: Global) -> Result<Numbers, AllocError> {
+fn some_row(rt: &impl Abort, alloc: Global) -> Numbers {
     let mut leaves = Leaves {
         asked: Vec::new(alloc),
     };
-    let opposite = leaves.next(alloc, false)?.not(alloc)?;
-    let named = leaves.next(alloc, true)?.name(alloc, "named")?;
-    let left = leaves.next(alloc, false)?;
-    let one = Check::any(vec![in alloc; leaves.next(alloc, true)?]?);
-    let exclusive = left.xor(alloc, one)?;
+    let opposite = leaves
+        .next(rt, alloc, false)
+        .not(alloc)
+        .expect(rt, "memory");
+    let named = leaves
+        .next(rt, alloc, true)
+        .name(alloc, "named")
+        .expect(rt, "memory");
+    let left = leaves.next(rt, alloc, false);
+    let one = Check::any(vec![in alloc; leaves.next(rt, alloc, true)].expect(rt, "memory"));
+    let exclusive = left.xor(alloc, one).expect(rt, "memory");
     let none = Check::any(Vec::new(alloc));
-    Ok(Check::all(vec![in alloc; opposite, named, exclusive, none]?))
+    Check::all(vec![in alloc; opposite, named, exclusive, none].expect(rt, "memory"))
 }
 
-fn explains_total<P: Total<u32>>(
-    alloc: Global,
-    check: &P,
-    lines: &str,
-) -> Result<bool, AllocError> {
-    explains(alloc, check, &0, lines)
+fn explains_total<P: Total<u32>>(rt: &impl Abort, alloc: Global, check: &P, lines: &str) -> bool {
+    explains(alloc, check, &0, lines).expect(rt, "memory")
 }
 
 #[test]
-fn rows_print_describe_and_explain_their_parts(rt: HostRuntime) -> Result<(), Fail> {
+fn rows_print_describe_and_explain_their_parts(rt: HostRuntime) {
     let alloc = rt.alloc();
-    let row = some_row(alloc)?;
-    assert!(rt; is_described(alloc, &row, DESCRIBED)?);
-    assert!(rt; explains_total(alloc, &row, EXPLAINED)?);
-    Ok(())
+    let row = some_row(&rt, alloc);
+    assert!(rt; is_described(alloc, &row, DESCRIBED).expect(&rt, "memory"));
+    assert!(rt; explains_total(&rt, alloc, &row, EXPLAINED));
 }
 
 // The text, and a line for each part.
@@ -589,34 +672,44 @@ at_least(2, 0) = false
 ";
 
 #[test]
-fn thresholds_print_describe_and_explain_their_parts(rt: HostRuntime) -> Result<(), Fail> {
+fn thresholds_print_describe_and_explain_their_parts(rt: HostRuntime) {
     let alloc = rt.alloc();
     let mut leaves = Leaves {
         asked: Vec::new(alloc),
     };
-    let first = leaves.next(alloc, true)?;
-    let second = leaves.next(alloc, false)?;
-    let third = leaves.next(alloc, false)?.not(alloc)?;
-    let check = Check::at_least(2, vec![in alloc; first, second, third]?);
-    assert!(rt; is_described(alloc, &check, COUNTED)?);
-    assert!(rt; explains_total(alloc, &check, ENOUGH)?);
-    Ok(())
+    let first = leaves.next(&rt, alloc, true);
+    let second = leaves.next(&rt, alloc, false);
+    let third = leaves
+        .next(&rt, alloc, false)
+        .not(alloc)
+        .expect(&rt, "memory");
+    let check = Check::at_least(
+        2,
+        vec![in alloc; first, second, third].expect(&rt, "memory"),
+    );
+    assert!(rt; is_described(alloc, &check, COUNTED).expect(&rt, "memory"));
+    assert!(rt; explains_total(&rt, alloc, &check, ENOUGH));
 }
 
 // Its parts are not asked.
 #[test]
-fn a_threshold_that_its_number_settles_is_a_leaf(rt: HostRuntime) -> Result<(), Fail> {
+fn a_threshold_that_its_number_settles_is_a_leaf(rt: HostRuntime) {
     let alloc = rt.alloc();
     let mut leaves = Leaves {
         asked: Vec::new(alloc),
     };
-    let few = Check::at_least(2, vec![in alloc; leaves.next(alloc, true)?]?);
-    assert!(rt; explains_total(alloc, &few, SETTLED)?);
-    assert!(rt; changes(alloc, &few, false)?.wanted.as_str() == SETTLED);
-    let none = Check::at_least(0, vec![in alloc; leaves.next(alloc, false)?]?);
-    assert!(rt; holds(alloc, &none)?);
+    let few = Check::at_least(
+        2,
+        vec![in alloc; leaves.next(&rt, alloc, true)].expect(&rt, "memory"),
+    );
+    assert!(rt; explains_total(&rt, alloc, &few, SETTLED));
+    assert!(rt; changes(&rt, alloc, &few, false).wanted.as_str() == SETTLED);
+    let none = Check::at_least(
+        0,
+        vec![in alloc; leaves.next(&rt, alloc, false)].expect(&rt, "memory"),
+    );
+    assert!(rt; holds(&rt, alloc, &none));
     assert!(rt; leaves.greatest() == 0);
-    Ok(())
 }
 
 // The text, and a line for each part.
@@ -653,22 +746,22 @@ odd_of() = false
 ";
 
 #[test]
-fn rows_of_an_odd_number_print_describe_and_explain_their_parts(
-    rt: HostRuntime,
-) -> Result<(), Fail> {
+fn rows_of_an_odd_number_print_describe_and_explain_their_parts(rt: HostRuntime) {
     let alloc = rt.alloc();
     let mut leaves = Leaves {
         asked: Vec::new(alloc),
     };
-    let first = leaves.next(alloc, true)?;
-    let second = leaves.next(alloc, false)?.not(alloc)?;
-    let third = leaves.next(alloc, false)?;
-    let check = Check::odd(vec![in alloc; first, second, third]?);
-    assert!(rt; is_described(alloc, &check, ODD)?);
-    assert!(rt; explains_total(alloc, &check, EVEN)?);
-    assert!(rt; changes(alloc, &check, false)?.whichever.as_str() == TURNED);
+    let first = leaves.next(&rt, alloc, true);
+    let second = leaves
+        .next(&rt, alloc, false)
+        .not(alloc)
+        .expect(&rt, "memory");
+    let third = leaves.next(&rt, alloc, false);
+    let check = Check::odd(vec![in alloc; first, second, third].expect(&rt, "memory"));
+    assert!(rt; is_described(alloc, &check, ODD).expect(&rt, "memory"));
+    assert!(rt; explains_total(&rt, alloc, &check, EVEN));
+    assert!(rt; changes(&rt, alloc, &check, false).whichever.as_str() == TURNED);
     let none: Numbers = Check::odd(Vec::new(alloc));
-    assert!(rt; explains_total(alloc, &none, NO_PART)?);
-    assert!(rt; changes(alloc, &none, false)?.wanted.as_str() == NO_PART);
-    Ok(())
+    assert!(rt; explains_total(&rt, alloc, &none, NO_PART));
+    assert!(rt; changes(&rt, alloc, &none, false).wanted.as_str() == NO_PART);
 }

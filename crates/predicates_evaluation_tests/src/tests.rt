@@ -6,9 +6,9 @@ mod shapes;
 
 use around::{Around, Asked};
 use shapes::counts_of;
-use std::alloc::{AllocError, Global};
+use std::alloc::Global;
 use std::cell::Cell;
-use std::test::Fail;
+use std::process::Abort;
 
 // A predicate, what stands around it, and how often its leaves and that beside it are evaluated: by
 // `eval`; `find_case` of true, of false; `explain` of either, of true, of false; `find_change` of
@@ -89,12 +89,7 @@ fn around_of(name: &str) -> Around {
 }
 
 // Whether the predicate is asked as often as the numbers say.
-fn has_counts(
-    alloc: Global,
-    name: &str,
-    around: Around,
-    numbers: &str,
-) -> Result<bool, AllocError> {
+fn has_counts(rt: &impl Abort, alloc: Global, name: &str, around: Around, numbers: &str) -> bool {
     let cell = Cell::new(0);
     let asked = Asked {
         cell: &cell,
@@ -102,30 +97,29 @@ fn has_counts(
         around,
         beside: true,
     };
-    let Some(counts) = counts_of(alloc, name, asked)? else {
-        return Ok(false);
+    let Some(counts) = counts_of(rt, alloc, name, asked) else {
+        return false;
     };
     let mut written = String::new(alloc);
     for count in counts {
-        write!(written, " {count}")?;
+        write!(written, " {count}").expect(rt, "memory");
     }
-    Ok(written.as_str().trim() == numbers)
+    written.as_str().trim() == numbers
 }
 
-fn is_row_right(alloc: Global, row: &str) -> Result<bool, AllocError> {
+fn is_row_right(rt: &impl Abort, alloc: Global, row: &str) -> bool {
     let Some((name, rest)) = row.split_once(' ') else {
-        return Ok(false);
+        return false;
     };
     let Some((around, numbers)) = rest.split_once(' ') else {
-        return Ok(false);
+        return false;
     };
-    has_counts(alloc, name, around_of(around), numbers)
+    has_counts(rt, alloc, name, around_of(around), numbers)
 }
 
 #[test]
-fn rows_of_counts(rt: HostRuntime) -> Result<(), Fail> {
+fn rows_of_counts(rt: HostRuntime) {
     for row in ROWS.lines() {
-        assert!(rt; is_row_right(rt.alloc(), row)?, "{row}");
+        assert!(rt; is_row_right(&rt, rt.alloc(), row), "{row}");
     }
-    Ok(())
 }

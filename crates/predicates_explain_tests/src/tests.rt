@@ -8,30 +8,33 @@ mod texts;
 mod words;
 
 use predicates_explain::TextCheck;
-use std::alloc::{AllocError, Global};
+use std::alloc::Global;
 use std::fmt;
-use std::test::Fail;
+use std::process::Abort;
 
 // The tokens as texts.
-fn texts_of(alloc: Global, tokens: &[&str]) -> Result<Vec<String>, AllocError> {
+fn texts_of(rt: &impl Abort, alloc: Global, tokens: &[&str]) -> Vec<String> {
     let mut words = Vec::new(alloc);
     for token in tokens {
-        words.push(String::from_str(alloc, token)?)?;
+        words
+            .push(String::from_str(alloc, token).expect(rt, "memory"))
+            .expect(rt, "memory");
     }
-    Ok(words)
+    words
 }
 
 // The one check that the tokens leave.
-fn read_check(alloc: Global, tokens: &[&str]) -> Result<TextCheck, Fail> {
-    Ok(TextCheck::from_words(alloc, &texts_of(alloc, tokens)?)?)
+fn read_check(rt: &impl Abort, alloc: Global, tokens: &[&str]) -> TextCheck {
+    TextCheck::from_words(alloc, &texts_of(rt, alloc, tokens)).expect(rt, "memory")
 }
 
 // Whether this is printed of the value.
 fn is_shown<T: fmt::Display + Drop>(
+    rt: &impl Abort,
     alloc: Global,
     value: T,
     expected: &str,
-) -> Result<bool, AllocError> {
-    let text = value.to_string(alloc)?;
-    Ok(text.as_str() == expected)
+) -> bool {
+    let text = value.to_string(alloc).expect(rt, "memory");
+    text.as_str() == expected
 }

@@ -8,51 +8,52 @@ use predicates_lines::{MAX_LINE, RunFault, write_bytes};
 use predicates_records::{Position, TakenRecord, next_record};
 use std::alloc::Global;
 use std::io::BufRead;
-use std::test::Fail;
+use std::process::Abort;
 
 // Takes one record, and writes it with `|` behind it; `#` for one that is too long, `[` for an
 // array that the input does not close, and `.` at the end, which is the answer.
 fn tell_one<R: BufRead>(
+    rt: &impl Abort,
     alloc: Global,
     input: &mut R,
     position: &mut Position,
     limit: u32,
     told: &mut Vec<u8>,
-) -> Result<bool, RunFault> {
+) -> bool {
     let mut value = Vec::new(alloc);
-    let taken = next_record(input, position, &mut value, limit)?;
+    let taken = next_record(input, position, &mut value, limit).expect(rt, "memory");
     let mark = match taken {
         TakenRecord::Record => {
-            write_bytes(told, &value)?;
+            write_bytes(told, &value).expect(rt, "memory");
             b"|"
         }
         TakenRecord::TooLong => b"#",
         TakenRecord::Unclosed => b"[",
         TakenRecord::End => b".",
     };
-    write_bytes(told, mark)?;
-    Ok(taken == TakenRecord::End)
+    write_bytes(told, mark).expect(rt, "memory");
+    taken == TakenRecord::End
 }
 
 // Tells the whole input.
-fn tell_all<R: BufRead>(alloc: Global, input: &mut R, limit: u32) -> Result<Vec<u8>, RunFault> {
+fn tell_all<R: BufRead>(rt: &impl Abort, alloc: Global, input: &mut R, limit: u32) -> Vec<u8> {
     let mut position = Position::Outside;
     let mut told = Vec::new(alloc);
     for _ in 0..u64::MAX {
-        if tell_one(alloc, input, &mut position, limit, &mut told)? {
+        if tell_one(rt, alloc, input, &mut position, limit, &mut told) {
             break;
         }
     }
-    Ok(told)
+    told
 }
 
 // Whether the input is told so, all at once and byte by byte.
-fn is_told(alloc: Global, bytes: &[u8], limit: u32, expected: &[u8]) -> Result<bool, RunFault> {
+fn is_told(rt: &impl Abort, alloc: Global, bytes: &[u8], limit: u32, expected: &[u8]) -> bool {
     let mut input = bytes;
-    let at_once = tell_all(alloc, &mut input, limit)?;
+    let at_once = tell_all(rt, alloc, &mut input, limit);
     let mut slow = Slow { bytes, end: None };
-    let by_bytes = tell_all(alloc, &mut slow, limit)?;
-    Ok(at_once.as_slice() == expected && by_bytes.as_slice() == expected)
+    let by_bytes = tell_all(rt, alloc, &mut slow, limit);
+    at_once.as_slice() == expected && by_bytes.as_slice() == expected
 }
 
 // An input, and how it is told.
@@ -93,14 +94,13 @@ const INPUTS: [(&[u8], &[u8]); 24] = [
 ];
 
 #[test]
-fn records_of_inputs(rt: HostRuntime) -> Result<(), Fail> {
+fn records_of_inputs(rt: HostRuntime) {
     for (input, expected) in INPUTS {
         assert!(rt;
-            is_told(rt.alloc(), input, MAX_LINE, expected)?,
+            is_told(&rt, rt.alloc(), input, MAX_LINE, expected),
             "{input:?}"
         );
     }
-    Ok(())
 }
 
 // An input that is cut short, and how it is told.
@@ -118,14 +118,13 @@ const CUT: [(&[u8], &[u8]); 10] = [
 ];
 
 #[test]
-fn inputs_that_are_cut_short(rt: HostRuntime) -> Result<(), Fail> {
+fn inputs_that_are_cut_short(rt: HostRuntime) {
     for (input, expected) in CUT {
         assert!(rt;
-            is_told(rt.alloc(), input, MAX_LINE, expected)?,
+            is_told(&rt, rt.alloc(), input, MAX_LINE, expected),
             "{input:?}"
         );
     }
-    Ok(())
 }
 
 // An input, how long a record may be, and how it is told.
@@ -141,9 +140,11 @@ const LIMITS: [(&[u8], u32, &[u8]); 8] = [
 ];
 
 #[test]
-fn records_up_to_a_length(rt: HostRuntime) -> Result<(), Fail> {
+fn records_up_to_a_length(rt: HostRuntime) {
     for (input, limit, expected) in LIMITS {
-        assert!(rt; is_told(rt.alloc(), input, limit, expected)?, "{input:?}");
+        assert!(rt;
+            is_told(&rt, rt.alloc(), input, limit, expected),
+            "{input:?}"
+        );
     }
-    Ok(())
 }

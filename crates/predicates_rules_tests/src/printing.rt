@@ -5,47 +5,46 @@ use predicates_rules::denied::Denied;
 use predicates_rules::expression::{Connective, Expression, HowMany};
 use predicates_rules::literal::Literal;
 use predicates_rules::rule::{Rule, read_rules, written_is_read};
-use std::alloc::{AllocError, Global};
+use std::alloc::Global;
 use std::process::Abort;
-use std::test::Fail;
 
 // The rules of one line, of which the text is the expression.
-fn read(alloc: Global, text: &str) -> Result<Vec<Rule>, AllocError> {
-    let line = format!(in alloc; "a: {text}")?;
+fn read(rt: &impl Abort, alloc: Global, text: &str) -> Vec<Rule> {
+    let line = format!(in alloc; "a: {text}").expect(rt, "memory");
     match read_rules(alloc, line.as_bytes()) {
-        Ok(rules) => Ok(rules),
-        Err(_) => Ok(Vec::new(alloc)),
+        Ok(rules) => rules,
+        Err(_) => Vec::new(alloc),
     }
 }
 
-fn printed_rules(alloc: Global, rules: &[Rule]) -> Result<String, AllocError> {
+fn printed_rules(rt: &impl Abort, alloc: Global, rules: &[Rule]) -> String {
     match rules {
-        [rule] => format!(in alloc; "{}", rule.expression),
-        _ => String::from_str(alloc, "no rule"),
+        [rule] => format!(in alloc; "{}", rule.expression).expect(rt, "memory"),
+        _ => String::from_str(alloc, "no rule").expect(rt, "memory"),
     }
 }
 
-fn shown_rules(alloc: Global, rules: &[Rule]) -> Result<String, AllocError> {
+fn shown_rules(rt: &impl Abort, alloc: Global, rules: &[Rule]) -> String {
     match rules {
-        [rule] => format!(in alloc; "{:?}", rule.expression),
-        _ => String::from_str(alloc, "no rule"),
+        [rule] => format!(in alloc; "{:?}", rule.expression).expect(rt, "memory"),
+        _ => String::from_str(alloc, "no rule").expect(rt, "memory"),
     }
 }
 
 // The expression of a text as it is printed.
-fn printed(alloc: Global, text: &str) -> Result<String, AllocError> {
-    let rules = read(alloc, text)?;
-    printed_rules(alloc, rules.as_slice())
+fn printed(rt: &impl Abort, alloc: Global, text: &str) -> String {
+    let rules = read(rt, alloc, text);
+    printed_rules(rt, alloc, rules.as_slice())
 }
 
 // The same as `Debug` shows it.
-fn shown(alloc: Global, text: &str) -> Result<String, AllocError> {
-    let rules = read(alloc, text)?;
-    shown_rules(alloc, rules.as_slice())
+fn shown(rt: &impl Abort, alloc: Global, text: &str) -> String {
+    let rules = read(rt, alloc, text);
+    shown_rules(rt, alloc, rules.as_slice())
 }
 
-fn prints(alloc: Global, text: &str, expected: &str) -> Result<bool, AllocError> {
-    Ok(printed(alloc, text)?.as_str() == expected)
+fn prints(rt: &impl Abort, alloc: Global, text: &str, expected: &str) -> bool {
+    printed(rt, alloc, text).as_str() == expected
 }
 
 // The expression of a rule, and how it is printed.
@@ -162,20 +161,19 @@ const PRINTED_IMPLICATIONS: [(&str, &str); 10] = [
     ),
 ];
 
-fn all_printed(rt: &impl Abort, alloc: Global, rows: &[(&str, &str)]) -> Result<(), Fail> {
+fn all_printed(rt: &impl Abort, alloc: Global, rows: &[(&str, &str)]) {
     for (text, expected) in rows {
-        let same = prints(alloc, text, expected)?;
+        let same = prints(rt, alloc, text, expected);
         assert!(rt; same, "{text}");
     }
-    Ok(())
 }
 
 #[test]
-fn prints_rules(rt: HostRuntime) -> Result<(), Fail> {
+fn prints_rules(rt: HostRuntime) {
     let alloc = rt.alloc();
-    all_printed(&rt, alloc, &PRINTED_COMPARISONS)?;
-    all_printed(&rt, alloc, &PRINTED_CONDITIONS)?;
-    all_printed(&rt, alloc, &PRINTED_JOINS)?;
+    all_printed(&rt, alloc, &PRINTED_COMPARISONS);
+    all_printed(&rt, alloc, &PRINTED_CONDITIONS);
+    all_printed(&rt, alloc, &PRINTED_JOINS);
     all_printed(&rt, alloc, &PRINTED_IMPLICATIONS)
 }
 
@@ -195,36 +193,41 @@ const BETWEEN: [(&str, &str, &str); 5] = [
     ("if (", ") then (", ")"),
 ];
 
-fn push_around(alloc: Global, texts: &mut Vec<String>, part: &str) -> Result<(), AllocError> {
+fn push_around(rt: &impl Abort, alloc: Global, texts: &mut Vec<String>, part: &str) {
     for (before, after) in &AROUND {
-        texts.push(format!(in alloc; "{before}{part}{after}")?)?;
+        texts
+            .push(format!(in alloc; "{before}{part}{after}").expect(rt, "memory"))
+            .expect(rt, "memory");
     }
-    Ok(())
 }
 
 fn push_between(
+    rt: &impl Abort,
     alloc: Global,
     texts: &mut Vec<String>,
     first: &str,
     second: &str,
-) -> Result<(), AllocError> {
+) {
     for (before, between, after) in &BETWEEN {
-        texts.push(format!(in alloc; "{before}{first}{between}{second}{after}")?)?;
+        texts
+            .push(format!(in alloc; "{before}{first}{between}{second}{after}").expect(rt, "memory"))
+            .expect(rt, "memory");
     }
-    Ok(())
 }
 
 // A test, and all expressions of one operator over the parts.
-fn grown(alloc: Global, parts: &[String]) -> Result<Vec<String>, AllocError> {
+fn grown(rt: &impl Abort, alloc: Global, parts: &[String]) -> Vec<String> {
     let mut texts = Vec::new(alloc);
-    texts.push(String::from_str(alloc, "/a exists")?)?;
+    texts
+        .push(String::from_str(alloc, "/a exists").expect(rt, "memory"))
+        .expect(rt, "memory");
     for first in parts {
-        push_around(alloc, &mut texts, first)?;
+        push_around(rt, alloc, &mut texts, first);
         for second in parts {
-            push_between(alloc, &mut texts, first, second)?;
+            push_between(rt, alloc, &mut texts, first, second);
         }
     }
-    Ok(texts)
+    texts
 }
 
 // Where the parenthesis at this place is closed.
@@ -245,68 +248,71 @@ fn closing(text: &[u8], open: usize) -> usize {
 }
 
 // The text with spaces in place of two of its bytes.
-fn without(alloc: Global, text: &str, open: usize, close: usize) -> Result<String, AllocError> {
+fn without(rt: &impl Abort, alloc: Global, text: &str, open: usize, close: usize) -> String {
     let mut out = String::new(alloc);
     for (i, c) in text.char_indices() {
-        out.push(if i == open || i == close { ' ' } else { c })?;
+        out.push(if i == open || i == close { ' ' } else { c })
+            .expect(rt, "memory");
     }
-    Ok(out)
+    out
 }
 
 // Whether no two parentheses can be left out.
-fn is_minimal(alloc: Global, text: &str, meaning: &str) -> Result<bool, AllocError> {
+fn is_minimal(rt: &impl Abort, alloc: Global, text: &str, meaning: &str) -> bool {
     for (open, c) in text.char_indices() {
         if c == '(' {
             let close = closing(text.as_bytes(), open);
-            let other = without(alloc, text, open, close)?;
-            if shown(alloc, &other)?.as_str() == meaning {
-                return Ok(false);
+            let other = without(rt, alloc, text, open, close);
+            if shown(rt, alloc, &other).as_str() == meaning {
+                return false;
             }
         }
     }
-    Ok(true)
+    true
 }
 
 // Whether the text is printed as one that says the same, with no parentheses that it does not need.
-fn is_read_again(alloc: Global, text: &str) -> Result<bool, AllocError> {
-    let meaning = shown(alloc, text)?;
-    let again = printed(alloc, text)?;
-    let same = shown(alloc, &again)?.as_str() == meaning.as_str();
-    Ok(same && meaning.as_str() != "no rule" && is_minimal(alloc, &again, &meaning)?)
+fn is_read_again(rt: &impl Abort, alloc: Global, text: &str) -> bool {
+    let meaning = shown(rt, alloc, text);
+    let again = printed(rt, alloc, text);
+    let same = shown(rt, alloc, &again).as_str() == meaning.as_str();
+    same && meaning.as_str() != "no rule" && is_minimal(rt, alloc, &again, &meaning)
 }
 
 #[test]
-fn reads_short_rules_again(rt: HostRuntime) -> Result<(), Fail> {
+fn reads_short_rules_again(rt: HostRuntime) {
     let none = Vec::new(rt.alloc());
-    let tests = grown(rt.alloc(), &none)?;
-    let joins = grown(rt.alloc(), &tests)?;
-    let texts = grown(rt.alloc(), &joins)?;
+    let tests = grown(&rt, rt.alloc(), &none);
+    let joins = grown(&rt, rt.alloc(), &tests);
+    let texts = grown(&rt, rt.alloc(), &joins);
     assert!(rt; texts.len() == 541);
     for text in &texts {
-        let same = is_read_again(rt.alloc(), text)?;
+        let same = is_read_again(&rt, rt.alloc(), text);
         assert!(rt; same, "{text}");
     }
     written_is_read();
-    Ok(())
 }
 
-fn is_shown(alloc: Global, expression: Expression, expected: &str) -> Result<bool, AllocError> {
-    Ok(format!(in alloc; "{expression}")?.as_str() == expected)
+fn is_shown(rt: &impl Abort, alloc: Global, expression: Expression, expected: &str) -> bool {
+    format!(in alloc; "{expression}")
+        .expect(rt, "memory")
+        .as_str()
+        == expected
 }
 
 // What denies each of the rules, on a line of its own.
-fn lines_of_denied(alloc: Global, rules: &[Rule]) -> Result<String, AllocError> {
+fn lines_of_denied(rt: &impl Abort, alloc: Global, rules: &[Rule]) -> String {
     let mut lines = String::new(alloc);
     for rule in rules {
-        writeln!(lines, "{}", Denied(&rule.expression))?;
+        writeln!(lines, "{}", Denied(&rule.expression)).expect(rt, "memory");
     }
-    Ok(lines)
+    lines
 }
 
-fn denies(alloc: Global, text: &str, expected: &str) -> Result<bool, AllocError> {
+fn denies(rt: &impl Abort, alloc: Global, text: &str, expected: &str) -> bool {
     match read_rules(alloc, text.as_bytes()) {
-        Ok(rules) => Ok(lines_of_denied(alloc, rules.as_slice())?.as_str() == expected),
-        Err(_) => Ok(false),
+        Ok(rules) => lines_of_denied(rt, alloc, rules.as_slice()).as_str() == expected,
+        Err(_) => false,
     }
 }
 
@@ -323,30 +329,30 @@ const DENIED: [(&str, &str); 2] = [
 ];
 
 #[test]
-fn prints_what_denies_a_rule(rt: HostRuntime) -> Result<(), Fail> {
+fn prints_what_denies_a_rule(rt: HostRuntime) {
     for (text, expected) in &DENIED {
-        assert!(rt; denies(rt.alloc(), text, expected)?, "{text}");
+        assert!(rt; denies(&rt, rt.alloc(), text, expected), "{text}");
     }
-    Ok(())
 }
 
 // What no rule says: a row of no part, or of one.
 #[test]
-fn prints_rows_that_no_rule_has(rt: HostRuntime) -> Result<(), Fail> {
+fn prints_rows_that_no_rule_has(rt: HostRuntime) {
     let none = Expression::Joined(Connective::Or, Vec::new(rt.alloc()));
-    assert!(rt; is_shown(rt.alloc(), none, "()")?);
+    assert!(rt; is_shown(&rt, rt.alloc(), none, "()"));
     let none = Expression::AtLeast(2, Vec::new(rt.alloc()));
-    assert!(rt; is_shown(rt.alloc(), none, "at least 2 of ()")?);
+    assert!(rt; is_shown(&rt, rt.alloc(), none, "at least 2 of ()"));
     let mut parts = Vec::new(rt.alloc());
-    let path = String::from_str(rt.alloc(), "/a b")?;
-    parts.push(Expression::Test(path, Condition::Is(State::Exists)))?;
+    let path = String::from_str(rt.alloc(), "/a b").expect(&rt, "memory");
+    parts
+        .push(Expression::Test(path, Condition::Is(State::Exists)))
+        .expect(&rt, "memory");
     let one = Expression::Joined(Connective::And, parts);
-    assert!(rt; is_shown(rt.alloc(), one, "/a b exists")?);
-    Ok(())
+    assert!(rt; is_shown(&rt, rt.alloc(), one, "/a b exists"));
 }
 
 #[test]
-fn prints_words(rt: HostRuntime) -> Result<(), Fail> {
+fn prints_words(rt: HostRuntime) {
     let words = format!(in rt.alloc();
         "{} {} {} {} {} {}",
         Connective::Xor,
@@ -355,14 +361,15 @@ fn prints_words(rt: HostRuntime) -> Result<(), Fail> {
         State::IsEmpty,
         Comparison::Unequal,
         Relation::Matches
-    )?;
+    )
+    .expect(&rt, "memory");
     assert!(rt; words.as_str() == "xor any at least 3 is_empty != matches");
     let values = format!(in rt.alloc();
         "{} {} {}",
         ValueKind::Boolean,
         ValueKind::Null,
         Literal::Negative(-1)
-    )?;
+    )
+    .expect(&rt, "memory");
     assert!(rt; values.as_str() == "bool null -1");
-    Ok(())
 }

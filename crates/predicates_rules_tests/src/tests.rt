@@ -4,41 +4,39 @@ use predicates_rules::error::{Reason, RulesError};
 use predicates_rules::expression::Expression;
 use predicates_rules::fault::Fault;
 use predicates_rules::rule::{Rule, read_faults, read_rules, without_mark};
-use std::alloc::{AllocError, Global};
+use std::alloc::Global;
 use std::process::Abort;
-use std::test::Fail;
 
 const SAMPLE: &str =
     "adult:  /age >= 18\nknown:  /name starts_with \"A\" or /name == \"Zoe\"\nseated: /seat exists and not /seat in [13, 17]\nlines:  each /lines (/quantity >= 1 and /sku matches \"^[A-Z]{3}$\")\n";
 
 // A line for each of the rules.
-fn lines_of(alloc: Global, rules: &[Rule]) -> Result<String, AllocError> {
+fn lines_of(rt: &impl Abort, alloc: Global, rules: &[Rule]) -> String {
     let mut out = String::new(alloc);
     for rule in rules {
-        writeln!(out, "{rule:?}")?;
+        writeln!(out, "{rule:?}").expect(rt, "memory");
     }
-    Ok(out)
+    out
 }
 
 // What the rules of a text are, or why there are none.
-fn shown(alloc: Global, text: &str) -> Result<String, AllocError> {
+fn shown(rt: &impl Abort, alloc: Global, text: &str) -> String {
     match read_rules(alloc, text.as_bytes()) {
-        Ok(rules) => lines_of(alloc, rules.as_slice()),
-        Err(error) => error.to_string(alloc),
+        Ok(rules) => lines_of(rt, alloc, rules.as_slice()),
+        Err(error) => error.to_string(alloc).expect(rt, "memory"),
     }
 }
 
-fn shows(alloc: Global, text: &str, expected: &str) -> Result<bool, AllocError> {
-    Ok(shown(alloc, text)?.as_str() == expected)
+fn shows(rt: &impl Abort, alloc: Global, text: &str, expected: &str) -> bool {
+    shown(rt, alloc, text).as_str() == expected
 }
 
 // Whether each text shows what stands beside it.
-fn all_shown(rt: &impl Abort, alloc: Global, rows: &[(&str, &str)]) -> Result<(), Fail> {
+fn all_shown(rt: &impl Abort, alloc: Global, rows: &[(&str, &str)]) {
     for (text, expected) in rows {
-        let same = shows(alloc, text, expected)?;
+        let same = shows(rt, alloc, text, expected);
         assert!(rt; same, "{text}");
     }
-    Ok(())
 }
 
 // A text, and the rules that it says, as `Debug` shows them: their lines and names.
@@ -68,7 +66,7 @@ const READ_LINES: [(&str, &str); 7] = [
 ];
 
 #[test]
-fn reads_rules(rt: HostRuntime) -> Result<(), Fail> {
+fn reads_rules(rt: HostRuntime) {
     all_shown(&rt, rt.alloc(), &READ_LINES)
 }
 
@@ -109,7 +107,7 @@ const READ_TESTS: [(&str, &str); 8] = [
 ];
 
 #[test]
-fn reads_tests_of_rules(rt: HostRuntime) -> Result<(), Fail> {
+fn reads_tests_of_rules(rt: HostRuntime) {
     all_shown(&rt, rt.alloc(), &READ_TESTS)
 }
 
@@ -154,7 +152,7 @@ const READ_JOINS: [(&str, &str); 9] = [
 ];
 
 #[test]
-fn reads_joins_of_rules(rt: HostRuntime) -> Result<(), Fail> {
+fn reads_joins_of_rules(rt: HostRuntime) {
     all_shown(&rt, rt.alloc(), &READ_JOINS)
 }
 
@@ -191,7 +189,7 @@ const REPEATED: [(&str, &str); 7] = [
 ];
 
 #[test]
-fn tells_both_lines_of_a_name(rt: HostRuntime) -> Result<(), Fail> {
+fn tells_both_lines_of_a_name(rt: HostRuntime) {
     all_shown(&rt, rt.alloc(), &REPEATED)
 }
 
@@ -510,28 +508,28 @@ const REFUSED_IMPLICATIONS: [(&str, &str); 9] = [
 ];
 
 #[test]
-fn says_what_was_expected(rt: HostRuntime) -> Result<(), Fail> {
-    all_shown(&rt, rt.alloc(), &REFUSED_NAMES)?;
+fn says_what_was_expected(rt: HostRuntime) {
+    all_shown(&rt, rt.alloc(), &REFUSED_NAMES);
     all_shown(&rt, rt.alloc(), &REFUSED_EXPRESSIONS)
 }
 
 #[test]
-fn says_what_was_expected_of_literals(rt: HostRuntime) -> Result<(), Fail> {
+fn says_what_was_expected_of_literals(rt: HostRuntime) {
     all_shown(&rt, rt.alloc(), &REFUSED_LITERALS)
 }
 
 #[test]
-fn says_what_was_expected_of_thresholds(rt: HostRuntime) -> Result<(), Fail> {
+fn says_what_was_expected_of_thresholds(rt: HostRuntime) {
     all_shown(&rt, rt.alloc(), &REFUSED_THRESHOLDS)
 }
 
 #[test]
-fn says_what_was_expected_of_conditions(rt: HostRuntime) -> Result<(), Fail> {
+fn says_what_was_expected_of_conditions(rt: HostRuntime) {
     all_shown(&rt, rt.alloc(), &REFUSED_CONDITIONS)
 }
 
 #[test]
-fn says_what_was_expected_of_implications(rt: HostRuntime) -> Result<(), Fail> {
+fn says_what_was_expected_of_implications(rt: HostRuntime) {
     all_shown(&rt, rt.alloc(), &REFUSED_IMPLICATIONS)
 }
 
@@ -604,7 +602,7 @@ const REFUSED_KEYS: [(&str, &str); 16] = [
 ];
 
 #[test]
-fn says_what_was_expected_of_keys(rt: HostRuntime) -> Result<(), Fail> {
+fn says_what_was_expected_of_keys(rt: HostRuntime) {
     all_shown(&rt, rt.alloc(), &REFUSED_KEYS)
 }
 
@@ -715,33 +713,34 @@ const SLIPS_OF_CONDITIONS: [(&str, &str); 16] = [
 ];
 
 // Whether the expression is refused at a place, for want of a token, and this is told behind it.
-fn tells(alloc: Global, text: &str, told: &str) -> Result<bool, AllocError> {
-    let line = format!(in alloc; "a: {text}")?;
-    let shown = shown(alloc, &line)?;
-    let end = format!(in alloc; ": expected a word, an operator, a path or a literal, {told}")?;
-    Ok(shown.starts_with("line 1, column ") && shown.ends_with(end.as_str()))
+fn tells(rt: &impl Abort, alloc: Global, text: &str, told: &str) -> bool {
+    let line = format!(in alloc; "a: {text}").expect(rt, "memory");
+    let shown = shown(rt, alloc, &line);
+    let end = format!(in alloc;
+        ": expected a word, an operator, a path or a literal, {told}"
+    ).expect(rt, "memory");
+    shown.starts_with("line 1, column ") && shown.ends_with(end.as_str())
 }
 
-fn all_told(rt: &impl Abort, alloc: Global, rows: &[(&str, &str)]) -> Result<(), Fail> {
+fn all_told(rt: &impl Abort, alloc: Global, rows: &[(&str, &str)]) {
     for (text, told) in rows {
-        assert!(rt; tells(alloc, text, told)?, "{text}");
+        assert!(rt; tells(rt, alloc, text, told), "{text}");
     }
-    Ok(())
 }
 
 #[test]
-fn tells_what_was_likely_meant(rt: HostRuntime) -> Result<(), Fail> {
+fn tells_what_was_likely_meant(rt: HostRuntime) {
     let alloc = rt.alloc();
-    all_told(&rt, alloc, &SLIPS_OF_OPERATORS)?;
-    all_told(&rt, alloc, &SLIPS_OF_WORDS)?;
+    all_told(&rt, alloc, &SLIPS_OF_OPERATORS);
+    all_told(&rt, alloc, &SLIPS_OF_WORDS);
     all_told(&rt, alloc, &SLIPS_OF_CONDITIONS)
 }
 
 // Whether this is why bytes have no rules, or they have some and it is `none`.
-fn has_fault(alloc: Global, text: &[u8], expected: &str) -> Result<bool, AllocError> {
+fn has_fault(rt: &impl Abort, alloc: Global, text: &[u8], expected: &str) -> bool {
     match read_rules(alloc, text) {
-        Ok(_) => Ok(expected == "none"),
-        Err(error) => Ok(error.to_string(alloc)?.as_str() == expected),
+        Ok(_) => expected == "none",
+        Err(error) => error.to_string(alloc).expect(rt, "memory").as_str() == expected,
     }
 }
 
@@ -795,21 +794,20 @@ const RAW: [(&[u8], &str); 13] = [
 ];
 
 #[test]
-fn escapes_what_does_not_print(rt: HostRuntime) -> Result<(), Fail> {
+fn escapes_what_does_not_print(rt: HostRuntime) {
     for (text, expected) in &RAW {
-        assert!(rt; has_fault(rt.alloc(), text, expected)?, "{expected}");
+        assert!(rt; has_fault(&rt, rt.alloc(), text, expected), "{expected}");
     }
-    Ok(())
 }
 
 // A rule of one text many times, and a test.
-fn repeated(alloc: Global, times: u32, part: &str) -> Result<String, AllocError> {
-    let mut text = String::from_str(alloc, "a: ")?;
+fn repeated(rt: &impl Abort, alloc: Global, times: u32, part: &str) -> String {
+    let mut text = String::from_str(alloc, "a: ").expect(rt, "memory");
     for _ in 0..times {
-        text.push_str(part)?;
+        text.push_str(part).expect(rt, "memory");
     }
-    text.push_str("/b exists")?;
-    Ok(text)
+    text.push_str("/b exists").expect(rt, "memory");
+    text
 }
 
 // How a rule of one text many times ends: the number of parts that it joins, or whether it is too
@@ -832,8 +830,8 @@ fn ending_of(rules: &[Rule]) -> Ending {
     }
 }
 
-fn ends_as(alloc: Global, times: u32, part: &str) -> Result<Ending, AllocError> {
-    let text = repeated(alloc, times, part)?;
+fn ends_as(rt: &impl Abort, alloc: Global, times: u32, part: &str) -> Ending {
+    let text = repeated(rt, alloc, times, part);
     let ending = match read_rules(alloc, text.as_bytes()) {
         Ok(rules) => ending_of(&rules),
         Err(RulesError::Unreadable(fault)) => match fault.reason {
@@ -842,7 +840,7 @@ fn ends_as(alloc: Global, times: u32, part: &str) -> Result<Ending, AllocError> 
         },
         Err(_) => Ending::Otherwise,
     };
-    Ok(ending)
+    ending
 }
 
 const SIZES: [(u32, &str, Ending); 16] = [
@@ -869,22 +867,21 @@ const SIZES: [(u32, &str, Ending); 16] = [
 ];
 
 #[test]
-fn reads_long_rules_and_refuses_deep_ones(rt: HostRuntime) -> Result<(), Fail> {
+fn reads_long_rules_and_refuses_deep_ones(rt: HostRuntime) {
     for (times, part, expected) in &SIZES {
-        let is_expected = ends_as(rt.alloc(), *times, part)? == *expected;
+        let is_expected = ends_as(&rt, rt.alloc(), *times, part) == *expected;
         assert!(rt; is_expected, "{times} times {part}");
     }
-    Ok(())
 }
 
 // The threshold of a list, with a test many times before the last one.
-fn threshold_text(alloc: Global, times: u32) -> Result<String, AllocError> {
-    let mut text = String::from_str(alloc, "a: at least 1 of (")?;
+fn threshold_text(rt: &impl Abort, alloc: Global, times: u32) -> String {
+    let mut text = String::from_str(alloc, "a: at least 1 of (").expect(rt, "memory");
     for _ in 0..times {
-        text.push_str("/c exists, ")?;
+        text.push_str("/c exists, ").expect(rt, "memory");
     }
-    text.push_str("/b exists)")?;
-    Ok(text)
+    text.push_str("/b exists)").expect(rt, "memory");
+    text
 }
 
 fn lists(rules: &[Rule], count: usize) -> bool {
@@ -898,21 +895,19 @@ fn lists(rules: &[Rule], count: usize) -> bool {
 }
 
 #[test]
-fn reads_long_thresholds(rt: HostRuntime) -> Result<(), Fail> {
-    let text = threshold_text(rt.alloc(), 10_000)?;
-    let rules = read_rules(rt.alloc(), text.as_bytes())?;
+fn reads_long_thresholds(rt: HostRuntime) {
+    let text = threshold_text(&rt, rt.alloc(), 10_000);
+    let rules = read_rules(rt.alloc(), text.as_bytes()).expect(&rt, "memory");
     assert!(rt; lists(&rules, 10_001));
-    Ok(())
 }
 
 const DEEP: &[u8] =
     b"a: /b exists\nb: ((((((((((((((((((((((((((((((((((((((((((((((((((((((((((((((((((((((((((((((((((((((((((((((((((((((";
 
 #[test]
-fn says_where_a_rule_is_too_deep(rt: HostRuntime) -> Result<(), Fail> {
+fn says_where_a_rule_is_too_deep(rt: HostRuntime) {
     let message = "line 2, column 105: nested more than 100 deep";
-    assert!(rt; has_fault(rt.alloc(), DEEP, message)?);
-    Ok(())
+    assert!(rt; has_fault(&rt, rt.alloc(), DEEP, message));
 }
 
 // Whether the front of the sample reads, or stops on its last line.
@@ -935,35 +930,33 @@ fn stops_on_the_last_line(alloc: Global, front: &[u8]) -> bool {
 }
 
 #[test]
-fn stops_within_each_front_of_the_sample(rt: HostRuntime) -> Result<(), Fail> {
+fn stops_within_each_front_of_the_sample(rt: HostRuntime) {
     let sample = SAMPLE.as_bytes();
     for len in 0..=sample.len() {
         let sound = stops_on_the_last_line(rt.alloc(), &sample[..len]);
         assert!(rt; sound, "{len} bytes");
     }
-    Ok(())
 }
 
 #[test]
-fn skips_a_byte_order_mark(rt: HostRuntime) -> Result<(), Fail> {
+fn skips_a_byte_order_mark(rt: HostRuntime) {
     assert!(rt; without_mark(b"\xef\xbb\xbfa: / exists") == b"a: / exists".as_slice());
     assert!(rt; without_mark(b"a: / exists") == b"a: / exists".as_slice());
     assert!(rt; without_mark(b"\xef\xbb") == b"\xef\xbb".as_slice());
-    Ok(())
 }
 
 // Each fault on a line of its own.
-fn lines_of_faults(alloc: Global, faults: &[Fault]) -> Result<String, AllocError> {
+fn lines_of_faults(rt: &impl Abort, alloc: Global, faults: &[Fault]) -> String {
     let mut lines = String::new(alloc);
     for fault in faults {
-        writeln!(lines, "{fault}")?;
+        writeln!(lines, "{fault}").expect(rt, "memory");
     }
-    Ok(lines)
+    lines
 }
 
-fn has_faults(alloc: Global, text: &str, expected: &str) -> Result<bool, AllocError> {
-    let faults = read_faults(alloc, text.as_bytes())?;
-    Ok(lines_of_faults(alloc, faults.as_slice())?.as_str() == expected)
+fn has_faults(rt: &impl Abort, alloc: Global, text: &str, expected: &str) -> bool {
+    let faults = read_faults(alloc, text.as_bytes()).expect(rt, "memory");
+    lines_of_faults(rt, alloc, faults.as_slice()).as_str() == expected
 }
 
 // A text, and all its faults.
@@ -983,31 +976,29 @@ const FAULTS: [(&str, &str); 3] = [
 ];
 
 #[test]
-fn reads_all_faults(rt: HostRuntime) -> Result<(), Fail> {
+fn reads_all_faults(rt: HostRuntime) {
     for (text, expected) in &FAULTS {
-        assert!(rt; has_faults(rt.alloc(), text, expected)?, "{text}");
+        assert!(rt; has_faults(&rt, rt.alloc(), text, expected), "{text}");
     }
-    Ok(())
 }
 
 // How many faults a text of so many faulty lines has, and the line of the last one.
-fn last_fault(alloc: Global, lines: u32) -> Result<(usize, usize), AllocError> {
+fn last_fault(rt: &impl Abort, alloc: Global, lines: u32) -> (usize, usize) {
     let mut text = String::new(alloc);
     for _ in 0..lines {
-        text.push_str("a: / exist\n# b\n")?;
+        text.push_str("a: / exist\n# b\n").expect(rt, "memory");
     }
-    let faults = read_faults(alloc, text.as_bytes())?;
+    let faults = read_faults(alloc, text.as_bytes()).expect(rt, "memory");
     let line = match faults.last() {
         Some(fault) => fault.line,
         None => 0,
     };
-    Ok((faults.len(), line))
+    (faults.len(), line)
 }
 
 #[test]
-fn reads_at_most_twenty_faults(rt: HostRuntime) -> Result<(), Fail> {
+fn reads_at_most_twenty_faults(rt: HostRuntime) {
     for (lines, expected) in [(0, (0, 0)), (19, (19, 37)), (20, (20, 39)), (30, (20, 39))] {
-        assert!(rt; last_fault(rt.alloc(), lines)? == expected, "{lines}");
+        assert!(rt; last_fault(&rt, rt.alloc(), lines) == expected, "{lines}");
     }
-    Ok(())
 }

@@ -6,19 +6,25 @@ mod reason;
 use predicates::path::{FileType, Snapshot};
 use predicates::reflection::{Case, render};
 use predicates_testing::text;
-use std::alloc::{AllocError, Global};
+use std::alloc::Global;
+use std::process::Abort;
 
 // A regular file with this path and content.
-fn file(alloc: Global, path: &str, content: &[u8]) -> Result<Snapshot, AllocError> {
-    let content = Vec::from_slice(alloc, content)?;
+fn file(rt: &impl Abort, alloc: Global, path: &str, content: &[u8]) -> Snapshot {
+    let content = Vec::from_slice(alloc, content).expect(rt, "memory");
     let kind = Ok(FileType::File);
-    Ok(Snapshot::from_parts(text(alloc, path)?, kind, kind, Ok(content)))
+    Snapshot::from_parts(
+        text(alloc, path).expect(rt, "memory"),
+        kind,
+        kind,
+        Ok(content),
+    )
 }
 
 // Whether there is a case, with these lines.
-fn has_lines(alloc: Global, found: Option<Case>, lines: &str) -> Result<bool, AllocError> {
+fn has_lines(rt: &impl Abort, alloc: Global, found: Option<Case>, lines: &str) -> bool {
     match found {
-        Some(case) => Ok(render(alloc, &case)?.as_str() == lines),
-        None => Ok(false),
+        Some(case) => render(alloc, &case).expect(rt, "memory").as_str() == lines,
+        None => false,
     }
 }

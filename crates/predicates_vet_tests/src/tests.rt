@@ -18,9 +18,8 @@ use predicates_vet::settings::{Report, Settings};
 use predicates_vet::{
     Counts, Job, ReadChecksError, RunFault, Streams, Tally, read_checks, run_records,
 };
-use std::alloc::{AllocError, Global};
+use std::alloc::Global;
 use std::process::Abort;
-use std::test::Fail;
 
 // What a run writes, its messages, and how it ends.
 type Run = (Vec<u8>, Vec<u8>, Result<Counts, RunFault>);
@@ -47,12 +46,12 @@ fn run_of(
 }
 
 // Settings with this path of the labels.
-fn settings_of(alloc: Global, report: Report, id: Option<&str>) -> Result<Settings, AllocError> {
+fn settings_of(rt: &impl Abort, alloc: Global, report: Report, id: Option<&str>) -> Settings {
     let id = match id {
-        Some(path) => Some(String::from_str(alloc, path)?),
+        Some(path) => Some(String::from_str(alloc, path).expect(rt, "memory")),
         None => None,
     };
-    Ok(Settings { report, id })
+    Settings { report, id }
 }
 
 // Rules and records, what a run over them writes, and how many records it reads, finds broken and
@@ -68,34 +67,35 @@ struct Expected<'a> {
 }
 
 // Whether the run does so.
-fn writes(alloc: Global, expected: Expected<'_>) -> Result<bool, AllocError> {
+fn writes(rt: &impl Abort, alloc: Global, expected: Expected<'_>) -> bool {
     let (records, failed, unreadable) = expected.counts;
     let counts = Counts {
         records,
         failed,
         unreadable,
     };
-    let settings = settings_of(alloc, expected.report, expected.id)?;
+    let settings = settings_of(rt, alloc, expected.report, expected.id);
     match run_of(
         alloc,
         &settings,
         expected.rules.as_bytes(),
         expected.records,
     ) {
-        Ok((output, _, ended)) => Ok(ended == Ok(counts) && output.as_slice() == expected.output),
-        Err(_) => Ok(false),
+        Ok((output, _, ended)) => ended == Ok(counts) && output.as_slice() == expected.output,
+        Err(_) => false,
     }
 }
 
 // Whether a run over the one record writes the block, which is empty where the record keeps the
 // rules.
 fn writes_block<'a>(
+    rt: &impl Abort,
     alloc: Global,
     report: Report,
     rules: &'a str,
     records: &'a [u8],
     output: &'a [u8],
-) -> Result<bool, AllocError> {
+) -> bool {
     let failed = if output.is_empty() { 0 } else { 1 };
     let expected = Expected {
         report,
@@ -105,34 +105,23 @@ fn writes_block<'a>(
         output,
         counts: (1, failed, 0),
     };
-    writes(alloc, expected)
+    writes(rt, alloc, expected)
 }
 
 // Whether a run with this report writes each block for its rule and record.
-fn all_written(
-    rt: &impl Abort,
-    alloc: Global,
-    report: Report,
-    rows: &[(&str, &[u8], &[u8])],
-) -> Result<(), Fail> {
+fn all_written(rt: &impl Abort, alloc: Global, report: Report, rows: &[(&str, &[u8], &[u8])]) {
     for (rule, record, block) in rows {
-        let told = writes_block(alloc, report, rule, record, block)?;
+        let told = writes_block(rt, alloc, report, rule, record, block);
         assert!(rt; told, "{rule}");
     }
-    Ok(())
 }
 
 // The same, with a report of its own for each.
-fn all_reported(
-    rt: &impl Abort,
-    alloc: Global,
-    rows: &[(Report, &str, &[u8], &[u8])],
-) -> Result<(), Fail> {
+fn all_reported(rt: &impl Abort, alloc: Global, rows: &[(Report, &str, &[u8], &[u8])]) {
     for (report, rule, record, block) in rows {
-        let told = writes_block(alloc, *report, rule, record, block)?;
+        let told = writes_block(rt, alloc, *report, rule, record, block);
         assert!(rt; told, "{report:?} {rule}");
     }
-    Ok(())
 }
 
 // A rule, a record, and the lines below the label of its block, or nothing where the record keeps
@@ -314,8 +303,8 @@ a = false
 ];
 
 #[test]
-fn blocks_of_records(rt: HostRuntime) -> Result<(), Fail> {
-    all_written(&rt, rt.alloc(), Report::First, &BLOCKS_OF_VALUES)?;
+fn blocks_of_records(rt: HostRuntime) {
+    all_written(&rt, rt.alloc(), Report::First, &BLOCKS_OF_VALUES);
     all_written(&rt, rt.alloc(), Report::First, &BLOCKS_OF_LISTS)
 }
 
@@ -472,7 +461,7 @@ a = false
 ];
 
 #[test]
-fn changes_of_records(rt: HostRuntime) -> Result<(), Fail> {
+fn changes_of_records(rt: HostRuntime) {
     all_written(&rt, rt.alloc(), Report::Change, &CHANGES)
 }
 
@@ -487,7 +476,7 @@ const LINES: [(&[u8], &[u8], &[u8], (u64, u64, u64)); 5] = [
 ];
 
 #[test]
-fn lines_by_their_rule(rt: HostRuntime) -> Result<(), Fail> {
+fn lines_by_their_rule(rt: HostRuntime) {
     for (records, failed, passed, counts) in LINES {
         for (report, output) in [
             (Report::Lines(false), failed),
@@ -501,10 +490,9 @@ fn lines_by_their_rule(rt: HostRuntime) -> Result<(), Fail> {
                 output,
                 counts,
             };
-            assert!(rt; writes(rt.alloc(), expected)?, "{records:?}");
+            assert!(rt; writes(&rt, rt.alloc(), expected), "{records:?}");
         }
     }
-    Ok(())
 }
 
 const PATTERNS: &str =
@@ -540,7 +528,7 @@ c = false
 
 // Each pattern of a run answers for itself, on each record.
 #[test]
-fn patterns_of_one_run(rt: HostRuntime) -> Result<(), Fail> {
+fn patterns_of_one_run(rt: HostRuntime) {
     let expected = Expected {
         report: Report::All,
         id: None,
@@ -549,8 +537,7 @@ fn patterns_of_one_run(rt: HostRuntime) -> Result<(), Fail> {
         output: UNMATCHED,
         counts: (4, 3, 0),
     };
-    assert!(rt; writes(rt.alloc(), expected)?);
-    Ok(())
+    assert!(rt; writes(&rt, rt.alloc(), expected));
 }
 
 const RULES: &str = "a: /x == 1\nb: /y == 2";
@@ -598,7 +585,7 @@ b = false
 ];
 
 #[test]
-fn reports_on_records(rt: HostRuntime) -> Result<(), Fail> {
+fn reports_on_records(rt: HostRuntime) {
     for (report, id, output) in REPORTS {
         let expected = Expected {
             report,
@@ -608,18 +595,17 @@ fn reports_on_records(rt: HostRuntime) -> Result<(), Fail> {
             output,
             counts: (2, 1, 0),
         };
-        assert!(rt; writes(rt.alloc(), expected)?, "{report:?}");
+        assert!(rt; writes(&rt, rt.alloc(), expected), "{report:?}");
     }
-    Ok(())
 }
 
 // Whether the rules are not read, for this reason.
-fn is_refused(alloc: Global, rules: &str, message: &str) -> Result<bool, AllocError> {
+fn is_refused(rt: &impl Abort, alloc: Global, rules: &str, message: &str) -> bool {
     match read_checks(alloc, rules.as_bytes()) {
-        Ok(_) => Ok(false),
+        Ok(_) => false,
         Err(error) => {
-            let found = format!(in alloc; "{error}")?;
-            Ok(found.as_str() == message)
+            let found = format!(in alloc; "{error}").expect(rt, "memory");
+            found.as_str() == message
         }
     }
 }
@@ -662,9 +648,8 @@ const REFUSED: [(&str, &str); 8] = [
 ];
 
 #[test]
-fn rules_that_are_refused(rt: HostRuntime) -> Result<(), Fail> {
+fn rules_that_are_refused(rt: HostRuntime) {
     for (rules, message) in REFUSED {
-        assert!(rt; is_refused(rt.alloc(), rules, message)?, "{rules}");
+        assert!(rt; is_refused(&rt, rt.alloc(), rules, message), "{rules}");
     }
-    Ok(())
 }

@@ -2,41 +2,47 @@
 use predicates::prelude::*;
 use predicates_core::reflection::Case;
 use predicates_testing::text;
-use std::alloc::{AllocError, Global};
-use std::test::Fail;
+use std::alloc::Global;
+use std::process::Abort;
 
 // Whether the case has these lines.
-fn has_lines(alloc: Global, case: Option<Case>, lines: &str) -> Result<bool, AllocError> {
+fn has_lines(rt: &impl Abort, alloc: Global, case: Option<Case>, lines: &str) -> bool {
     match case {
-        Some(case) => Ok(render(alloc, &case)?.as_str() == lines),
-        None => Ok(false),
+        Some(case) => render(alloc, &case).expect(rt, "memory").as_str() == lines,
+        None => false,
     }
 }
 
 // The reason's lines and those of the change, where the predicate is false of the item.
 fn is_told<P: PredicateChange<Item> + Drop, Item: Drop>(
+    rt: &impl Abort,
     alloc: Global,
     predicate: P,
     item: Item,
     lines: [&str; 2],
-) -> Result<bool, AllocError>
+) -> bool
     requires { P.lawful predicate }
 {
     let [reason, change] = lines;
-    let why = predicate.find_case(alloc, false, &item)?;
-    let what = predicate.find_change(alloc, Some(false), &item)?;
-    Ok(has_lines(alloc, why, reason)? && has_lines(alloc, what, change)?)
+    let why = predicate
+        .find_case(alloc, false, &item)
+        .expect(rt, "memory");
+    let what = predicate
+        .find_change(alloc, Some(false), &item)
+        .expect(rt, "memory");
+    has_lines(rt, alloc, why, reason) && has_lines(rt, alloc, what, change)
 }
 
-fn password(alloc: Global) -> Result<bool, AllocError> {
-    let digit = predicate::str::contains(text(alloc, "7")?);
-    let dash = predicate::str::contains(text(alloc, "-")?);
-    let start = predicate::str::starts_with(text(alloc, "x")?);
+fn password(rt: &impl Abort, alloc: Global) -> bool {
+    let digit = predicate::str::contains(text(alloc, "7").expect(rt, "memory"));
+    let dash = predicate::str::contains(text(alloc, "-").expect(rt, "memory"));
+    let start = predicate::str::starts_with(text(alloc, "x").expect(rt, "memory"));
     let policy = digit.or(dash).and(start);
     is_told(
+        rt,
         alloc,
         policy,
-        text(alloc, "abc")?,
+        text(alloc, "abc").expect(rt, "memory"),
         [
             "\
 ((var.contains(7) || var.contains(-)) && var.starts_with(\"x\")) = false
@@ -58,9 +64,10 @@ fn password(alloc: Global) -> Result<bool, AllocError> {
     )
 }
 
-fn first_and_not_fewest(alloc: Global) -> Result<bool, AllocError> {
+fn first_and_not_fewest(rt: &impl Abort, alloc: Global) -> bool {
     let policy = predicate::ge(10).and(predicate::ne(3)).or(predicate::eq(7));
     is_told(
+        rt,
         alloc,
         policy,
         3,
@@ -85,11 +92,12 @@ fn first_and_not_fewest(alloc: Global) -> Result<bool, AllocError> {
     )
 }
 
-fn members(alloc: Global) -> Result<bool, AllocError> {
+fn members(rt: &impl Abort, alloc: Global) -> bool {
     is_told(
+        rt,
         alloc,
         predicate::ge(18).of_each(),
-        vec![in alloc; 20, 17, 30, 16]?,
+        vec![in alloc; 20, 17, 30, 16].expect(rt, "memory"),
         [
             "\
 each(var >= 18) = false
@@ -111,9 +119,12 @@ each(var >= 18) = false
 }
 
 #[tactic(auto, using(predicates_core::proofs::Several::each_holds))]
-fn threshold(alloc: Global) -> Result<bool, AllocError> {
-    let rules = vec![in alloc; predicate::ge(1), predicate::ge(5), predicate::ge(9)]?;
+fn threshold(rt: &impl Abort, alloc: Global) -> bool {
+    let rules = vec![in alloc; predicate::ge(1), predicate::ge(5), predicate::ge(9)].expect(
+        rt, "memory",
+    );
     is_told(
+        rt,
         alloc,
         predicate::at_least(2, rules),
         4,
@@ -138,10 +149,9 @@ at_least(2, var >= 1, var >= 5, var >= 9) = false
 }
 
 #[test]
-fn reason_and_change(rt: HostRuntime) -> Result<(), Fail> {
-    assert!(rt; password(rt.alloc())?);
-    assert!(rt; first_and_not_fewest(rt.alloc())?);
-    assert!(rt; members(rt.alloc())?);
-    assert!(rt; threshold(rt.alloc())?);
-    Ok(())
+fn reason_and_change(rt: HostRuntime) {
+    assert!(rt; password(&rt, rt.alloc()));
+    assert!(rt; first_and_not_fewest(&rt, rt.alloc()));
+    assert!(rt; members(&rt, rt.alloc()));
+    assert!(rt; threshold(&rt, rt.alloc()));
 }

@@ -1,9 +1,10 @@
 //! How often a part is asked below what stands around it.
 use super::counting::{CountingLeaf, leaf_that_counts};
 use predicates::prelude::*;
-use std::alloc::{AllocError, Global};
+use std::alloc::Global;
 use std::cell::Cell;
 use std::fmt;
+use std::process::Abort;
 
 /// What stands around a part: nothing, a combinator of one, or one of two with a leaf behind the
 /// part, or before it.
@@ -44,28 +45,32 @@ const CALLS: [Call; 9] = [
 ];
 
 fn ask<P: PredicateChange<Item>, Item>(
+    rt: &impl Abort,
     alloc: Global,
     predicate: &P,
     item: &Item,
     call: Call,
-) -> Result<(), AllocError>
+)
     requires { P.lawful predicate.now }
 {
     match call {
         Call::Eval => {
-            predicate.eval(alloc, item)?;
+            predicate.eval(alloc, item).expect(rt, "memory");
         }
         Call::FindCase(expected) => {
-            predicate.find_case(alloc, expected, item)?;
+            predicate
+                .find_case(alloc, expected, item)
+                .expect(rt, "memory");
         }
         Call::Explain(wanted) => {
-            predicate.explain(alloc, wanted, item)?;
+            predicate.explain(alloc, wanted, item).expect(rt, "memory");
         }
         Call::FindChange(wanted) => {
-            predicate.find_change(alloc, wanted, item)?;
+            predicate
+                .find_change(alloc, wanted, item)
+                .expect(rt, "memory");
         }
     }
-    Ok(())
 }
 
 /// What is asked: a part whose leaves have a verdict, and what stands around it, with the verdict
@@ -92,41 +97,43 @@ impl<'a> Asked<'a> {
     /// How often the leaves are evaluated.
     pub fn counts<P: PredicateChange<Item> + Drop, Item: fmt::Debug + Drop>(
         self,
+        rt: &impl Abort,
         alloc: Global,
         part: P,
         item: Item,
-    ) -> Result<Counts, AllocError>
+    ) -> Counts
         requires { P.lawful part }
     {
         let beside = leaf_that_counts::<Item>(self.cell, self.beside);
         match self.around {
-            Around::Alone => self.of(alloc, part, &item),
-            Around::Not => self.of(alloc, part.not(), &item),
-            Around::Name => self.of(alloc, part.name("named"), &item),
-            Around::And => self.of(alloc, part.and(beside), &item),
-            Around::Or => self.of(alloc, part.or(beside), &item),
-            Around::Xor => self.of(alloc, part.xor(beside), &item),
-            Around::AfterXor => self.of(alloc, beside.xor(part), &item),
+            Around::Alone => self.of(rt, alloc, part, &item),
+            Around::Not => self.of(rt, alloc, part.not(), &item),
+            Around::Name => self.of(rt, alloc, part.name("named"), &item),
+            Around::And => self.of(rt, alloc, part.and(beside), &item),
+            Around::Or => self.of(rt, alloc, part.or(beside), &item),
+            Around::Xor => self.of(rt, alloc, part.xor(beside), &item),
+            Around::AfterXor => self.of(rt, alloc, beside.xor(part), &item),
         }
     }
 
     fn of<P: PredicateChange<Item> + Drop, Item>(
         self,
+        rt: &impl Abort,
         alloc: Global,
         predicate: P,
         item: &Item,
-    ) -> Result<Counts, AllocError>
+    ) -> Counts
         requires { P.lawful predicate }
     {
         let mut counts = [0; 10];
         for (place, call) in CALLS.into_iter().enumerate() {
             self.cell.set(0);
-            ask(alloc, &predicate, item, call)?;
+            ask(rt, alloc, &predicate, item, call);
             counts[place] = self.cell.get();
         }
         self.cell.set(0);
         let _unmet = require(alloc, &predicate, item);
         counts[9] = self.cell.get();
-        Ok(counts)
+        counts
     }
 }

@@ -6,26 +6,23 @@ mod rules;
 mod views;
 
 use super::around::{Asked, Counts};
-use std::alloc::{AllocError, Global};
+use std::alloc::Global;
+use std::process::Abort;
 
 /// How often each call asks the leaves of the predicate with the name; none where no predicate has
 /// it.
-pub fn counts_of(
-    alloc: Global,
-    name: &str,
-    asked: Asked<'_>,
-) -> Result<Option<Counts>, AllocError> {
-    if let Some(counts) = joins::counts_of(alloc, name, asked)? {
-        return Ok(Some(counts));
+pub fn counts_of(rt: &impl Abort, alloc: Global, name: &str, asked: Asked<'_>) -> Option<Counts> {
+    if let Some(counts) = joins::counts_of(rt, alloc, name, asked) {
+        return Some(counts);
     }
-    if let Some(counts) = views::counts_of(alloc, name, asked)? {
-        return Ok(Some(counts));
+    if let Some(counts) = views::counts_of(rt, alloc, name, asked) {
+        return Some(counts);
     }
-    if let Some(counts) = parts::counts_of(alloc, name, asked)? {
-        return Ok(Some(counts));
+    if let Some(counts) = parts::counts_of(rt, alloc, name, asked) {
+        return Some(counts);
     }
-    if let Some(counts) = lists::counts_of(alloc, name, asked)? {
-        return Ok(Some(counts));
+    if let Some(counts) = lists::counts_of(rt, alloc, name, asked) {
+        return Some(counts);
     }
-    rules::counts_of(alloc, name, asked)
+    rules::counts_of(rt, alloc, name, asked)
 }

@@ -5,24 +5,25 @@ use predicates::prelude::*;
 use predicates_explain::{Filtered, RunFault, filter_lines, filter_with_reasons};
 use predicates_fakes::FailingWriter;
 use predicates_testing::text;
-use std::alloc::{AllocError, Global};
+use std::alloc::Global;
 use std::io::ErrorKind;
-use std::test::Fail;
+use std::process::Abort;
 
 // Whether the lines of the input that contain `#`, or those that do not, are these, with the
 // counts.
 fn keeps(
+    rt: &impl Abort,
     alloc: Global,
     wanted: bool,
     input: &[u8],
     lines: &[u8],
     counts: Filtered,
-) -> Result<bool, AllocError> {
-    let marked = predicate::str::contains(text(alloc, "#")?);
+) -> bool {
+    let marked = predicate::str::contains(text(alloc, "#").expect(rt, "memory"));
     let mut reader = input;
     let mut output = Vec::new(alloc);
     let ended = filter_lines(alloc, &marked, wanted, &mut reader, &mut output);
-    Ok(ended == Ok(counts) && output.as_slice() == lines)
+    ended == Ok(counts) && output.as_slice() == lines
 }
 
 // The wanted verdict, the input, what is written, and how many lines are written and are no text.
@@ -36,15 +37,14 @@ const ROWS: [(bool, &[u8], &[u8], u64, u64); 6] = [
 ];
 
 #[test]
-fn lines_by_their_verdict(rt: HostRuntime) -> Result<(), Fail> {
+fn lines_by_their_verdict(rt: HostRuntime) {
     for (wanted, input, lines, written, not_utf8) in ROWS {
         let counts = Filtered { written, not_utf8 };
         assert!(rt;
-            keeps(rt.alloc(), wanted, input, lines, counts)?,
+            keeps(&rt, rt.alloc(), wanted, input, lines, counts),
             "{input:?}"
         );
     }
-    Ok(())
 }
 
 // What the filter that tells writes: the lines, and what it tells of the others.
@@ -56,13 +56,14 @@ struct Sifted<'a> {
 
 // Whether that filter writes these to its two writers.
 fn tells(
+    rt: &impl Abort,
     alloc: Global,
     words: &[&str],
     wanted: bool,
     input: &[u8],
     sifted: Sifted<'_>,
-) -> Result<bool, Fail> {
-    let check = read_check(alloc, words)?;
+) -> bool {
+    let check = read_check(rt, alloc, words);
     let mut reader = input;
     let (mut output, mut reasons) = (Vec::new(alloc), Vec::new(alloc));
     filter_with_reasons(
@@ -72,8 +73,9 @@ fn tells(
         &mut reader,
         &mut output,
         &mut reasons,
-    )?;
-    Ok(output.as_slice() == sifted.lines && reasons.as_slice() == sifted.told.as_bytes())
+    )
+    .expect(rt, "memory");
+    output.as_slice() == sifted.lines && reasons.as_slice() == sifted.told.as_bytes()
 }
 
 // The wanted verdict, the input, what is written, and what is told of the other lines, where lines
@@ -115,13 +117,12 @@ var.contains(#) = true
 ];
 
 #[test]
-fn reasons_of_the_lines_left_out(rt: HostRuntime) -> Result<(), Fail> {
+fn reasons_of_the_lines_left_out(rt: HostRuntime) {
     for (wanted, input, lines, told) in MARKED {
         let sifted = Sifted { lines, told };
-        let holds = tells(rt.alloc(), &["contains=#"], wanted, input, sifted)?;
+        let holds = tells(&rt, rt.alloc(), &["contains=#"], wanted, input, sifted);
         assert!(rt; holds, "{input:?}");
     }
-    Ok(())
 }
 
 // What is told of a comment, and of a line that is no text.
@@ -134,27 +135,26 @@ line 4: not UTF-8
 ";
 
 #[test]
-fn reasons_of_a_comment(rt: HostRuntime) -> Result<(), Fail> {
+fn reasons_of_a_comment(rt: HostRuntime) {
     let words = ["empty", "trim", "starts=#", "trim", "or", "not"];
     let input = b"one\n  # a note\ntwo\n\xff\n".as_slice();
     let sifted = Sifted {
         lines: b"one\ntwo\n",
         told: COMMENT,
     };
-    let holds = tells(rt.alloc(), &words, true, input, sifted)?;
+    let holds = tells(&rt, rt.alloc(), &words, true, input, sifted);
     assert!(rt; holds);
-    Ok(())
 }
 
 // Whether the filter over two lines that are left out and one that is written ends by the fault,
 // where the writer of the reasons fails after this many calls.
-fn ends_by(alloc: Global, calls: usize, kind: ErrorKind, fault: RunFault) -> Result<bool, Fail> {
-    let check = read_check(alloc, &["contains=#"])?;
+fn ends_by(rt: &impl Abort, alloc: Global, calls: usize, kind: ErrorKind, fault: RunFault) -> bool {
+    let check = read_check(rt, alloc, &["contains=#"]);
     let mut reader = b"a\n#\nb\n".as_slice();
     let mut output = Vec::new(alloc);
     let mut reasons = FailingWriter { calls, kind };
     let ended = filter_with_reasons(alloc, &check, true, &mut reader, &mut output, &mut reasons);
-    Ok(ended == Err(fault))
+    ended == Err(fault)
 }
 
 const FAULTS: [(ErrorKind, RunFault); 2] = [
@@ -164,14 +164,13 @@ const FAULTS: [(ErrorKind, RunFault); 2] = [
 
 // Each write of a reason in turn fails, and then the flush.
 #[test]
-fn failing_writes_of_reasons(rt: HostRuntime) -> Result<(), Fail> {
+fn failing_writes_of_reasons(rt: HostRuntime) {
     for (kind, fault) in FAULTS {
         for calls in 0..3usize {
             assert!(rt;
-                ends_by(rt.alloc(), calls, kind, fault)?,
+                ends_by(&rt, rt.alloc(), calls, kind, fault),
                 "{fault}, {calls}"
             );
         }
     }
-    Ok(())
 }

@@ -4,8 +4,8 @@ use predicates::Predicate;
 use predicates::prelude::*;
 use predicates_explain::{MAX_DEPTH, TextCheck, WordsError};
 use predicates_words::take_word;
-use std::alloc::{AllocError, Global};
-use std::test::Fail;
+use std::alloc::Global;
+use std::process::Abort;
 
 // Words, and the text of their error.
 const REJECTED: [(&[&str], &str); 6] = [
@@ -24,67 +24,72 @@ const REJECTED: [(&[&str], &str); 6] = [
 ];
 
 // The text of the words' error, or `read` where they are read.
-fn error_text(alloc: Global, words: &[String]) -> Result<String, AllocError> {
+fn error_text(rt: &impl Abort, alloc: Global, words: &[String]) -> String {
     match TextCheck::from_words(alloc, words) {
-        Ok(_) => String::from_str(alloc, "read"),
-        Err(error) => error.to_string(alloc),
+        Ok(_) => String::from_str(alloc, "read").expect(rt, "memory"),
+        Err(error) => error.to_string(alloc).expect(rt, "memory"),
     }
 }
 
 // Whether this is the text of the words' error.
-fn is_told(alloc: Global, words: Vec<String>, expected: &str) -> Result<bool, AllocError> {
-    let text = error_text(alloc, &words)?;
-    Ok(text.as_str() == expected)
+fn is_told(rt: &impl Abort, alloc: Global, words: Vec<String>, expected: &str) -> bool {
+    let text = error_text(rt, alloc, &words);
+    text.as_str() == expected
 }
 
 #[test]
-fn texts_of_errors(rt: HostRuntime) -> Result<(), Fail> {
+fn texts_of_errors(rt: HostRuntime) {
     let alloc = rt.alloc();
     for (tokens, expected) in REJECTED {
-        let right = is_told(alloc, texts_of(alloc, tokens)?, expected)?;
+        let right = is_told(&rt, alloc, texts_of(&rt, alloc, tokens), expected);
         assert!(rt; right, "{expected}");
     }
-    assert!(rt; is_shown(alloc, WordsError::NoMemory, "no memory")?);
-    Ok(())
+    assert!(rt; is_shown(&rt, alloc, WordsError::NoMemory, "no memory"));
 }
 
 #[test]
-fn check_that_the_words_leave(rt: HostRuntime) -> Result<(), Fail> {
+fn check_that_the_words_leave(rt: HostRuntime) {
     let alloc = rt.alloc();
-    let words = texts_of(alloc, &["empty", "trim", "not"])?;
-    let text = String::from_str(alloc, "a")?;
-    let check = TextCheck::from_words(alloc, &words)?; // `empty`, `trim`, `not`
-    assert!(rt; check.eval(alloc, &text)?);
-    Ok(())
+    let words = texts_of(&rt, alloc, &["empty", "trim", "not"]);
+    let text = String::from_str(alloc, "a").expect(&rt, "memory");
+    let check = TextCheck::from_words(alloc, &words).expect(&rt, "memory"); // `empty`, `trim`, `not`
+    assert!(rt; check.eval(alloc, &text).expect(&rt, "memory"));
 }
 
 #[test]
-fn words_are_taken_one_by_one(rt: HostRuntime) -> Result<(), Fail> {
+fn words_are_taken_one_by_one(rt: HostRuntime) {
     let alloc = rt.alloc();
     let mut checks = Vec::new(alloc);
     let mut depths = Vec::new(alloc);
-    assert!(rt; take_word(alloc, &mut checks, &mut depths, "empty")?.is_none());
+    assert!(rt;
+        take_word(alloc, &mut checks, &mut depths, "empty")
+            .expect(&rt, "memory")
+            .is_none()
+    );
     assert!(rt; checks.len() == 1);
-    Ok(())
 }
 
 // `empty`, and then the token so often, each time over a leaf of its own where it takes two checks.
-fn nested(alloc: Global, token: &str, levels: usize) -> Result<Vec<String>, AllocError> {
-    let mut words = texts_of(alloc, &["empty"])?;
+fn nested(rt: &impl Abort, alloc: Global, token: &str, levels: usize) -> Vec<String> {
+    let mut words = texts_of(rt, alloc, &["empty"]);
     for _ in 0..levels {
         if token == "or" {
-            words.push(String::from_str(alloc, "empty")?)?;
+            words
+                .push(String::from_str(alloc, "empty").expect(rt, "memory"))
+                .expect(rt, "memory");
         }
-        words.push(String::from_str(alloc, token)?)?;
+        words
+            .push(String::from_str(alloc, token).expect(rt, "memory"))
+            .expect(rt, "memory");
     }
-    Ok(words)
+    words
 }
 
 // Whether the deepest check that is read holds of no characters.
-fn deepest_holds(alloc: Global, token: &str) -> Result<bool, Fail> {
-    let words = nested(alloc, token, MAX_DEPTH)?;
-    let check = TextCheck::from_words(alloc, &words)?;
-    Ok(check.eval(alloc, &String::new(alloc))?)
+fn deepest_holds(rt: &impl Abort, alloc: Global, token: &str) -> bool {
+    let words = nested(rt, alloc, token, MAX_DEPTH);
+    let check = TextCheck::from_words(alloc, &words).expect(rt, "memory");
+    check.eval(alloc, &String::new(alloc)).expect(rt, "memory")
 }
 
 const TOO_DEEP: [(&str, &str); 2] = [
@@ -93,44 +98,51 @@ const TOO_DEEP: [(&str, &str); 2] = [
 ];
 
 #[test]
-fn limit_of_depth(rt: HostRuntime) -> Result<(), Fail> {
+fn limit_of_depth(rt: HostRuntime) {
     let alloc = rt.alloc();
     for (token, expected) in TOO_DEEP {
-        let is_read = is_told(alloc, nested(alloc, token, MAX_DEPTH)?, "read")?;
+        let is_read = is_told(&rt, alloc, nested(&rt, alloc, token, MAX_DEPTH), "read");
         assert!(rt; is_read, "{token}");
-        assert!(rt; deepest_holds(alloc, token)?, "{token}");
-        let is_refused = is_told(alloc, nested(alloc, token, MAX_DEPTH + 5)?, expected)?;
+        assert!(rt; deepest_holds(&rt, alloc, token), "{token}");
+        let is_refused = is_told(
+            &rt,
+            alloc,
+            nested(&rt, alloc, token, MAX_DEPTH + 5),
+            expected,
+        );
         assert!(rt; is_refused, "{token}");
     }
-    Ok(())
 }
 
 // Why the policy does not hold of the item, or `met`.
-fn outcome(alloc: Global, policy: &TextCheck, item: &str) -> Result<String, AllocError> {
-    match require(alloc, policy, &String::from_str(alloc, item)?) {
-        Ok(()) => String::from_str(alloc, "met"),
-        Err(unmet) => unmet.to_string(alloc),
+fn outcome(rt: &impl Abort, alloc: Global, policy: &TextCheck, item: &str) -> String {
+    match require(
+        alloc,
+        policy,
+        &String::from_str(alloc, item).expect(rt, "memory"),
+    ) {
+        Ok(()) => String::from_str(alloc, "met").expect(rt, "memory"),
+        Err(unmet) => unmet.to_string(alloc).expect(rt, "memory"),
     }
 }
 
 const POLICY: [&str; 6] = ["empty", "trim", "not", "contains=#", "not", "and"];
 
 // Whether this is said of the item.
-fn says(alloc: Global, item: &str, expected: &str) -> Result<bool, Fail> {
-    let policy = read_check(alloc, &POLICY)?;
-    let text = outcome(alloc, &policy, item)?;
-    Ok(text.as_str() == expected)
+fn says(rt: &impl Abort, alloc: Global, item: &str, expected: &str) -> bool {
+    let policy = read_check(rt, alloc, &POLICY);
+    let text = outcome(rt, alloc, &policy, item);
+    text.as_str() == expected
 }
 
 #[test]
-fn policies(rt: HostRuntime) -> Result<(), Fail> {
-    assert!(rt; says(rt.alloc(), "a line", "met")?);
+fn policies(rt: HostRuntime) {
+    assert!(rt; says(&rt, rt.alloc(), "a line", "met"));
     let lines = "\
 ((! var.is_empty()) && (! var.contains(#))) = false
   right: (! var.contains(#)) = false
     predicate: var.contains(#) = true
       - var: a # b
 ";
-    assert!(rt; says(rt.alloc(), "a # b", lines)?);
-    Ok(())
+    assert!(rt; says(&rt, rt.alloc(), "a # b", lines));
 }

@@ -6,9 +6,9 @@ use predicates::ord::{ge, le, lt};
 use predicates_explain::{RunFault, explain_one, explain_total, number, run_between};
 use predicates_fakes::{Narrow, Slow, Unflushed};
 use predicates_testing::keeps_text;
-use std::alloc::{AllocError, Global};
+use std::alloc::Global;
 use std::io::ErrorKind;
-use std::test::Fail;
+use std::process::Abort;
 
 /// The block of 7 between 5 and 10.
 pub const SEVEN: &str = "\
@@ -133,22 +133,27 @@ line 2: not a number
 
 // The writer passes on what it keeps back, also where a line was bad or none was read.
 #[test]
-fn flushed_at_each_end(rt: HostRuntime) -> Result<(), Fail> {
+fn flushed_at_each_end(rt: HostRuntime) {
     for input in ["", "x\n", "7\n"] {
         let mut reader = input.as_bytes();
         let answer = run_between(rt.alloc(), 5, 10, &mut reader, &mut Unflushed);
         assert_eq!(rt; answer, Err(RunFault::Output), "at {input:?}");
     }
-    Ok(())
 }
 
 #[test]
-fn flags_change_no_fault(rt: HostRuntime) -> Result<(), Fail> {
-    assert!(rt; is_shown(rt.alloc(), RunFault::Output, "output could not be written")?);
+fn flags_change_no_fault(rt: HostRuntime) {
+    assert!(rt;
+        is_shown(
+            &rt,
+            rt.alloc(),
+            RunFault::Output,
+            "output could not be written"
+        )
+    );
     for fault in [RunFault::NoMemory, RunFault::Input, RunFault::Output] {
-        assert!(rt; keeps_text(rt.alloc(), &fault)?);
+        assert!(rt; keeps_text(rt.alloc(), &fault).expect(&rt, "memory"));
     }
-    Ok(())
 }
 
 const LEAST_OF_ALL: &str = "\
@@ -210,26 +215,28 @@ fn bounds_that_hold_no_number_one_or_all(rt: HostRuntime) {
 
 /// Whether the block of the item under the label is this one.
 pub fn is_one<P: Total<i64> + Drop>(
+    rt: &impl Abort,
     alloc: Global,
     predicate: P,
     label: &str,
     item: i64,
     block: &str,
-) -> Result<bool, AllocError> {
-    let text = explain_one(alloc, &predicate, label, &item)?;
-    Ok(text.as_str() == block)
+) -> bool {
+    let text = explain_one(alloc, &predicate, label, &item).expect(rt, "memory");
+    text.as_str() == block
 }
 
 /// The same of the block that is always made.
 pub fn is_total<P: Total<i64> + Drop>(
+    rt: &impl Abort,
     alloc: Global,
     predicate: P,
     label: &str,
     item: i64,
     block: &str,
-) -> Result<bool, AllocError> {
-    let text = explain_total(alloc, &predicate, label, &item)?;
-    Ok(text.as_str() == block)
+) -> bool {
+    let text = explain_total(alloc, &predicate, label, &item).expect(rt, "memory");
+    text.as_str() == block
 }
 
 const OUTSIDE: &str = "\
@@ -241,12 +248,11 @@ line 3: true
 ";
 
 #[test]
-fn blocks_of_one_item(rt: HostRuntime) -> Result<(), Fail> {
+fn blocks_of_one_item(rt: HostRuntime) {
     let between = ge(5i64).and(le(10i64));
-    assert!(rt; is_one(rt.alloc(), between, "7", 7, SEVEN)?);
+    assert!(rt; is_one(&rt, rt.alloc(), between, "7", 7, SEVEN));
     let outside = lt(5i64).or(le(10i64).not());
-    assert!(rt; is_total(rt.alloc(), outside, "line 3", 11, OUTSIDE)?);
-    Ok(())
+    assert!(rt; is_total(&rt, rt.alloc(), outside, "line 3", 11, OUTSIDE));
 }
 
 const NUMBERS: [(&str, Option<i64>); 9] = [

@@ -4,8 +4,8 @@ mod process;
 mod sizes;
 
 use predicates_explain::{MAX_DEPTH, run_command_line};
-use std::alloc::{AllocError, Global};
-use std::test::Fail;
+use std::alloc::Global;
+use std::process::Abort;
 
 const USAGE: &str = "usage: explain between LO HI\nusage: explain text TOKEN..\n";
 
@@ -20,19 +20,19 @@ line 1: true
     - var: \n";
 
 // The words, parted by `|`.
-fn split_words(alloc: Global, line: &[u8]) -> Result<Vec<Vec<u8>>, AllocError> {
+fn split_words(rt: &impl Abort, alloc: Global, line: &[u8]) -> Vec<Vec<u8>> {
     let mut words = Vec::new(alloc);
     let mut word = Vec::new(alloc);
     for byte in line {
         if *byte == b'|' {
-            words.push(word)?;
+            words.push(word).expect(rt, "memory");
             word = Vec::new(alloc);
         } else {
-            word.push(*byte)?;
+            word.push(*byte).expect(rt, "memory");
         }
     }
-    words.push(word)?;
-    Ok(words)
+    words.push(word).expect(rt, "memory");
+    words
 }
 
 // Words, an input, the status and standard output.
@@ -90,8 +90,8 @@ struct End<'a> {
 }
 
 // Whether the words end so on the input, and the message could be written.
-fn ends(alloc: Global, line: &[u8], input: &[u8], wanted: End<'_>) -> Result<bool, AllocError> {
-    let words = split_words(alloc, line)?;
+fn ends(rt: &impl Abort, alloc: Global, line: &[u8], input: &[u8], wanted: End<'_>) -> bool {
+    let words = split_words(rt, alloc, line);
     let mut reader = input;
     let mut written = Vec::new(alloc);
     let mut messages = Vec::new(alloc);
@@ -108,74 +108,68 @@ fn ends(alloc: Global, line: &[u8], input: &[u8], wanted: End<'_>) -> Result<boo
     } else {
         input
     };
-    Ok(
-        end.status() == wanted.status
-            && message_written
-            && written.as_slice() == wanted.output.as_bytes()
-            && messages.as_slice() == wanted.message.as_bytes()
-            && reader == left,
-    )
+    end.status() == wanted.status
+        && message_written
+        && written.as_slice() == wanted.output.as_bytes()
+        && messages.as_slice() == wanted.message.as_bytes()
+        && reader == left
 }
 
 #[test]
-fn statuses_and_outputs_of_words(rt: HostRuntime) -> Result<(), Fail> {
+fn statuses_and_outputs_of_words(rt: HostRuntime) {
     for (line, input, status, output) in ROWS {
         let wanted = End {
             status,
             output,
             message: "",
         };
-        assert!(rt; ends(rt.alloc(), line, input, wanted)?, "at {line:?}");
+        assert!(rt; ends(&rt, rt.alloc(), line, input, wanted), "at {line:?}");
     }
-    Ok(())
 }
 
 // Whether the words are refused with the message, whatever the input.
-fn is_refused(alloc: Global, line: &[u8], message: &str) -> Result<bool, AllocError> {
+fn is_refused(rt: &impl Abort, alloc: Global, line: &[u8], message: &str) -> bool {
     let wanted = End {
         status: 2,
         output: "",
         message,
     };
-    ends(alloc, line, b"7", wanted)
+    ends(rt, alloc, line, b"7", wanted)
 }
 
 #[test]
-fn wrong_words(rt: HostRuntime) -> Result<(), Fail> {
+fn wrong_words(rt: HostRuntime) {
     for line in WRONG_WORDS {
-        assert!(rt; is_refused(rt.alloc(), line, USAGE)?, "at {line:?}");
+        assert!(rt; is_refused(&rt, rt.alloc(), line, USAGE), "at {line:?}");
     }
-    Ok(())
 }
 
 #[test]
-fn refused_patterns(rt: HostRuntime) -> Result<(), Fail> {
+fn refused_patterns(rt: HostRuntime) {
     for line in REFUSED_PATTERNS {
-        assert!(rt; is_refused(rt.alloc(), line, REFUSED)?, "at {line:?}");
+        assert!(rt; is_refused(&rt, rt.alloc(), line, REFUSED), "at {line:?}");
     }
-    Ok(())
 }
 
 // A check of one level past the limit, and then these words.
-fn deep_line(alloc: Global, end: &[u8]) -> Result<Vec<u8>, AllocError> {
-    let mut line = Vec::from_slice(alloc, b"text|empty")?;
+fn deep_line(rt: &impl Abort, alloc: Global, end: &[u8]) -> Vec<u8> {
+    let mut line = Vec::from_slice(alloc, b"text|empty").expect(rt, "memory");
     for _ in 0..=MAX_DEPTH {
-        line.extend_from_slice(b"|not")?;
+        line.extend_from_slice(b"|not").expect(rt, "memory");
     }
-    line.extend_from_slice(end)?;
-    Ok(line)
+    line.extend_from_slice(end).expect(rt, "memory");
+    line
 }
 
 // Whether such a check is rejected.
-fn is_too_deep(alloc: Global, end: &[u8]) -> Result<bool, AllocError> {
-    let line = deep_line(alloc, end)?;
-    is_refused(alloc, &line, DEEP)
+fn is_too_deep(rt: &impl Abort, alloc: Global, end: &[u8]) -> bool {
+    let line = deep_line(rt, alloc, end);
+    is_refused(rt, alloc, &line, DEEP)
 }
 
 // Also before a word that is wrong by itself.
 #[test]
-fn deep_checks(rt: HostRuntime) -> Result<(), Fail> {
-    assert!(rt; is_too_deep(rt.alloc(), b"")?);
-    assert!(rt; is_too_deep(rt.alloc(), b"|match=(")?);
-    Ok(())
+fn deep_checks(rt: HostRuntime) {
+    assert!(rt; is_too_deep(&rt, rt.alloc(), b""));
+    assert!(rt; is_too_deep(&rt, rt.alloc(), b"|match=("));
 }

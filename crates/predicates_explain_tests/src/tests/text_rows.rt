@@ -3,7 +3,7 @@ use predicates::BoxPredicate;
 use predicates::prelude::*;
 use predicates_explain::run_text;
 use std::alloc::Global;
-use std::test::Fail;
+use std::process::Abort;
 
 // Tokens, an input, what is written for it, and whether every line is a text.
 const ROWS: [(&[&str], &[u8], &str, bool); 7] = [
@@ -85,25 +85,25 @@ line 3: true
 
 // Whether the check of the tokens answers so.
 fn answers(
+    rt: &impl Abort,
     alloc: Global,
     tokens: &[&str],
     mut input: &[u8],
     expected: &str,
     all: bool,
-) -> Result<bool, Fail> {
-    let check = read_check(alloc, tokens)?;
+) -> bool {
+    let check = read_check(rt, alloc, tokens);
     let mut output = Vec::new(alloc);
     let answer = run_text(alloc, &check, &mut input, &mut output);
-    Ok(answer == Ok(all) && output.as_slice() == expected.as_bytes())
+    answer == Ok(all) && output.as_slice() == expected.as_bytes()
 }
 
 #[test]
-fn lines_of_checks_of_words(rt: HostRuntime) -> Result<(), Fail> {
+fn lines_of_checks_of_words(rt: HostRuntime) {
     for (tokens, input, expected, all) in ROWS {
-        let holds = answers(rt.alloc(), tokens, input, expected, all)?;
+        let holds = answers(&rt, rt.alloc(), tokens, input, expected, all);
         assert!(rt; holds, "for {expected:?}");
     }
-    Ok(())
 }
 
 const IN_A_BOX: &[u8] =
@@ -112,12 +112,16 @@ const IN_A_BOX: &[u8] =
 const OF_A_FUNCTION: &[u8] = b"line 1: true\nshort(var) = true\n";
 
 // Whether a predicate in a box answers true of `b`, and this is written.
-fn answers_in_a_box(alloc: Global) -> Result<bool, Fail> {
-    let boxed = BoxPredicate::new(alloc, Box::new(alloc, predicate::str::is_empty())?)?;
+fn answers_in_a_box(rt: &impl Abort, alloc: Global) -> bool {
+    let boxed = BoxPredicate::new(
+        alloc,
+        Box::new(alloc, predicate::str::is_empty()).expect(rt, "memory"),
+    )
+    .expect(rt, "memory");
     let mut reader = b"b".as_slice();
     let mut output = Vec::new(alloc);
     let answer = run_text(alloc, &boxed.not(), &mut reader, &mut output);
-    Ok(answer == Ok(true) && output.as_slice() == IN_A_BOX)
+    answer == Ok(true) && output.as_slice() == IN_A_BOX
 }
 
 // The same of one with a stored function.
@@ -131,8 +135,7 @@ fn answers_of_a_function(alloc: Global) -> bool {
 
 // Any predicate of texts will do: one in a box, and one with a stored function.
 #[test]
-fn other_predicates(rt: HostRuntime) -> Result<(), Fail> {
-    assert!(rt; answers_in_a_box(rt.alloc())?);
+fn other_predicates(rt: HostRuntime) {
+    assert!(rt; answers_in_a_box(&rt, rt.alloc()));
     assert!(rt; answers_of_a_function(rt.alloc()));
-    Ok(())
 }

@@ -3,67 +3,62 @@ use super::read_check;
 use predicates_explain::{RunFault, run_text};
 use predicates_fakes::Unflushed;
 use std::alloc::Global;
-use std::test::Fail;
+use std::process::Abort;
 
 // How a run over the input ends, where the writer passes nothing on.
-fn unflushed(alloc: Global, mut input: &[u8]) -> Result<Result<bool, RunFault>, Fail> {
-    let check = read_check(alloc, &["empty"])?;
-    Ok(run_text(alloc, &check, &mut input, &mut Unflushed))
+fn unflushed(rt: &impl Abort, alloc: Global, mut input: &[u8]) -> Result<bool, RunFault> {
+    let check = read_check(rt, alloc, &["empty"]);
+    run_text(alloc, &check, &mut input, &mut Unflushed)
 }
 
 // The writer passes on what it keeps back, also where a line was bad or none was read.
 #[test]
-fn flushed_at_each_end(rt: HostRuntime) -> Result<(), Fail> {
+fn flushed_at_each_end(rt: HostRuntime) {
     for input in [b"".as_slice(), b"\xff\n", b"7\n"] {
-        let answer = unflushed(rt.alloc(), input)?;
+        let answer = unflushed(&rt, rt.alloc(), input);
         assert_eq!(rt; answer, Err(RunFault::Output), "at {input:?}");
     }
-    Ok(())
 }
 
 // What `empty`, negated 200 times, writes of an empty line, where it answers true.
-fn write_negated(alloc: Global) -> Result<Vec<u8>, Fail> {
+fn write_negated(rt: &impl Abort, alloc: Global) -> Vec<u8> {
     let mut tokens = Vec::new(alloc);
-    tokens.push("empty")?;
-    tokens.resize(201, "not")?;
-    let check = read_check(alloc, tokens.as_slice())?;
+    tokens.push("empty").expect(rt, "memory");
+    tokens.resize(201, "not").expect(rt, "memory");
+    let check = read_check(rt, alloc, tokens.as_slice());
     let mut output = Vec::new(alloc);
     let mut reader = b"\n".as_slice();
-    if run_text(alloc, &check, &mut reader, &mut output) != Ok(true) {
-        return Err("another answer".into());
-    }
-    Ok(output)
+    assert!(rt; run_text(alloc, &check, &mut reader, &mut output) == Ok(true));
+    output
 }
 
 // The line, 200 levels deep.
-fn push_deep(text: &mut String, line: &str) -> Result<(), Fail> {
+fn push_deep(rt: &impl Abort, text: &mut String, line: &str) {
     for _ in 0..200 {
-        text.push_str("  ")?;
+        text.push_str("  ").expect(rt, "memory");
     }
-    text.push_str(line)?;
-    Ok(())
+    text.push_str(line).expect(rt, "memory");
 }
 
 // The last lines of the case: two of a node and its product.
-fn deep_end(alloc: Global) -> Result<String, Fail> {
-    let mut end = String::from_str(alloc, "\n")?;
-    push_deep(&mut end, "predicate: var.is_empty() = true\n")?;
-    push_deep(&mut end, "  - var: \n")?;
-    Ok(end)
+fn deep_end(rt: &impl Abort, alloc: Global) -> String {
+    let mut end = String::from_str(alloc, "\n").expect(rt, "memory");
+    push_deep(rt, &mut end, "predicate: var.is_empty() = true\n");
+    push_deep(rt, &mut end, "  - var: \n");
+    end
 }
 
 // How many lines are written, and whether they begin and end as they should.
-fn negated_lines(alloc: Global) -> Result<(usize, bool, bool), Fail> {
-    let end = deep_end(alloc)?;
-    let output = write_negated(alloc)?;
+fn negated_lines(rt: &impl Abort, alloc: Global) -> (usize, bool, bool) {
+    let end = deep_end(rt, alloc);
+    let output = write_negated(rt, alloc);
     let lines = output.iter().filter(|byte| **byte == b'\n').count();
     let begins = output.starts_with(b"line 1: true\n(! (! ");
-    Ok((lines, begins, output.ends_with(end.as_bytes())))
+    (lines, begins, output.ends_with(end.as_bytes()))
 }
 
 #[test]
-fn two_hundred_times_not(rt: HostRuntime) -> Result<(), Fail> {
+fn two_hundred_times_not(rt: HostRuntime) {
     // The label, 201 nodes, and the product of the last, which stands 200 levels deep.
-    assert_eq!(rt; negated_lines(rt.alloc())?, (203, true, true));
-    Ok(())
+    assert_eq!(rt; negated_lines(&rt, rt.alloc()), (203, true, true));
 }

@@ -3,50 +3,48 @@ use predicates::Predicate;
 use predicates::reflection::PredicateReflection;
 use predicates_explain::{TextCheck, Word, WordFault, apply_word, read_word};
 use predicates_testing::keeps_text;
-use std::alloc::{AllocError, Global};
-use std::test::Fail;
+use std::alloc::Global;
+use std::process::Abort;
 
 // Whether the token is this word.
-fn reads(alloc: Global, token: &str, word: Option<Word>) -> Result<bool, AllocError> {
-    Ok(read_word(alloc, token)? == word)
+fn reads(rt: &impl Abort, alloc: Global, token: &str, word: Option<Word>) -> bool {
+    read_word(alloc, token).expect(rt, "memory") == word
 }
 
 // Whether the token is the word of this text.
-fn reads_equals(alloc: Global, token: &str, text: &str) -> Result<bool, AllocError> {
-    let equals = Word::Equals(String::from_str(alloc, text)?);
-    reads(alloc, token, Some(equals))
+fn reads_equals(rt: &impl Abort, alloc: Global, token: &str, text: &str) -> bool {
+    let equals = Word::Equals(String::from_str(alloc, text).expect(rt, "memory"));
+    reads(rt, alloc, token, Some(equals))
 }
 
 // Whether the token is the word of this pattern.
-fn reads_matches(alloc: Global, token: &str, pattern: &str) -> Result<bool, AllocError> {
-    let matches = Word::Matches(String::from_str(alloc, pattern)?);
-    reads(alloc, token, Some(matches))
+fn reads_matches(rt: &impl Abort, alloc: Global, token: &str, pattern: &str) -> bool {
+    let matches = Word::Matches(String::from_str(alloc, pattern).expect(rt, "memory"));
+    reads(rt, alloc, token, Some(matches))
 }
 
 #[test]
-fn which_tokens_are_words(rt: HostRuntime) -> Result<(), Fail> {
+fn which_tokens_are_words(rt: HostRuntime) {
     let alloc = rt.alloc();
-    assert!(rt; reads_equals(alloc, "eq=a=b", "a=b")?);
-    assert!(rt; reads_equals(alloc, "eq=", "")?);
-    assert!(rt; reads_matches(alloc, "match=T[a-z]*", "T[a-z]*")?);
-    assert!(rt; reads(alloc, "normalize", Some(Word::Normalize))?);
-    assert!(rt; reads(alloc, "xor", Some(Word::Xor))?);
+    assert!(rt; reads_equals(&rt, alloc, "eq=a=b", "a=b"));
+    assert!(rt; reads_equals(&rt, alloc, "eq=", ""));
+    assert!(rt; reads_matches(&rt, alloc, "match=T[a-z]*", "T[a-z]*"));
+    assert!(rt; reads(&rt, alloc, "normalize", Some(Word::Normalize)));
+    assert!(rt; reads(&rt, alloc, "xor", Some(Word::Xor)));
     for token in ["eq", "empty=", "xors", "", "=", "Empty", "starts", "or "] {
-        assert!(rt; reads(alloc, token, None)?, "at {token:?}");
+        assert!(rt; reads(&rt, alloc, token, None), "at {token:?}");
     }
-    Ok(())
 }
 
 #[test]
-fn words_are_read_and_applied(rt: HostRuntime) -> Result<(), Fail> {
+fn words_are_read_and_applied(rt: HostRuntime) {
     let alloc = rt.alloc();
-    assert!(rt; read_word(alloc, "trim")? == Some(Word::Trim));
-    assert!(rt; read_word(alloc, "trimmed")?.is_none());
+    assert!(rt; read_word(alloc, "trim").expect(&rt, "memory") == Some(Word::Trim));
+    assert!(rt; read_word(alloc, "trimmed").expect(&rt, "memory").is_none());
     let mut stack = Vec::new(alloc);
-    apply_word(alloc, &mut stack, Word::Empty)?;
-    apply_word(alloc, &mut stack, Word::Trim)?;
+    apply_word(alloc, &mut stack, Word::Empty).expect(&rt, "memory");
+    apply_word(alloc, &mut stack, Word::Trim).expect(&rt, "memory");
     assert!(rt; stack.len() == 1);
-    Ok(())
 }
 
 // Takes the tokens in order, and answers the first fault.
@@ -78,18 +76,18 @@ const STEPS: [(&[&str], Result<(), WordFault>, usize); 10] = [
 ];
 
 // Whether the first check prints this text.
-fn prints(alloc: Global, stack: &[TextCheck], expected: &str) -> Result<bool, Fail> {
-    let check = stack.first().ok_or("no check")?;
-    let text = check.to_string(alloc)?;
-    Ok(text.as_str() == expected)
+fn prints(rt: &impl Abort, alloc: Global, stack: &[TextCheck], expected: &str) -> bool {
+    let check = stack.first().expect(rt, "no check");
+    let text = check.to_string(alloc).expect(rt, "memory");
+    text.as_str() == expected
 }
 
 // How many parameters and children the first check has.
-fn counts(alloc: Global, stack: &[TextCheck]) -> Result<(usize, usize), Fail> {
-    let check = stack.first().ok_or("no check")?;
-    let parameters = check.parameters(alloc)?.len();
-    let children = check.children(alloc)?.len();
-    Ok((parameters, children))
+fn counts(rt: &impl Abort, alloc: Global, stack: &[TextCheck]) -> (usize, usize) {
+    let check = stack.first().expect(rt, "no check");
+    let parameters = check.parameters(alloc).expect(rt, "memory").len();
+    let children = check.children(alloc).expect(rt, "memory").len();
+    (parameters, children)
 }
 
 // Whether the steps answer so, one after the other, on a stack that they leave.
@@ -104,17 +102,16 @@ fn steps_answer(alloc: Global, stack: &mut Vec<TextCheck>) -> bool {
 }
 
 #[test]
-fn words_that_lack_operands(rt: HostRuntime) -> Result<(), Fail> {
+fn words_that_lack_operands(rt: HostRuntime) {
     let alloc = rt.alloc();
     let mut stack = Vec::new(alloc);
     let right = steps_answer(alloc, &mut stack);
     let text = "(var.is_empty() && var.contains(a))";
-    let is_printed = prints(alloc, &stack, text)?;
-    let found = counts(alloc, &stack)?;
+    let is_printed = prints(&rt, alloc, &stack, text);
+    let found = counts(&rt, alloc, &stack);
     assert!(rt; right);
     assert!(rt; is_printed);
     assert_eq!(rt; found, (0, 0));
-    Ok(())
 }
 
 const EACH: [&str; 12] = [
@@ -133,13 +130,25 @@ const EACH: [&str; 12] = [
 ];
 
 // Whether the first check has this verdict on the text, and a case of it alone.
-fn is_found(alloc: Global, stack: &[TextCheck], text: &str, verdict: bool) -> Result<bool, Fail> {
-    let check = stack.first().ok_or("no check")?;
-    let item = String::from_str(alloc, text)?;
-    let found = check.eval(alloc, &item)?;
-    let is_explained = check.find_case(alloc, verdict, &item)?.is_some();
-    let is_denied = check.find_case(alloc, !verdict, &item)?.is_some();
-    Ok(found == verdict && is_explained && !is_denied)
+fn is_found(
+    rt: &impl Abort,
+    alloc: Global,
+    stack: &[TextCheck],
+    text: &str,
+    verdict: bool,
+) -> bool {
+    let check = stack.first().expect(rt, "no check");
+    let item = String::from_str(alloc, text).expect(rt, "memory");
+    let found = check.eval(alloc, &item).expect(rt, "memory");
+    let is_explained = check
+        .find_case(alloc, verdict, &item)
+        .expect(rt, "memory")
+        .is_some();
+    let is_denied = check
+        .find_case(alloc, !verdict, &item)
+        .expect(rt, "memory")
+        .is_some();
+    found == verdict && is_explained && !is_denied
 }
 
 // What the check of all these words prints.
@@ -154,25 +163,24 @@ fn stack_of_each(alloc: Global) -> Result<Vec<TextCheck>, WordFault> {
 }
 
 // Whether the words leave one check, which prints this.
-fn leaves_one(alloc: Global) -> Result<bool, Fail> {
-    let stack = stack_of_each(alloc).ok().ok_or("a fault")?;
-    let is_printed = prints(alloc, &stack, ALL)?;
-    Ok(is_printed && stack.len() == 1)
+fn leaves_one(rt: &impl Abort, alloc: Global) -> bool {
+    let stack = stack_of_each(alloc).ok().expect(rt, "a fault");
+    let is_printed = prints(rt, alloc, &stack, ALL);
+    is_printed && stack.len() == 1
 }
 
 // Whether the check that they leave has this verdict on the text.
-fn each_finds(alloc: Global, text: &str, verdict: bool) -> Result<bool, Fail> {
-    let stack = stack_of_each(alloc).ok().ok_or("a fault")?;
-    is_found(alloc, &stack, text, verdict)
+fn each_finds(rt: &impl Abort, alloc: Global, text: &str, verdict: bool) -> bool {
+    let stack = stack_of_each(alloc).ok().expect(rt, "a fault");
+    is_found(rt, alloc, &stack, text, verdict)
 }
 
 #[test]
-fn each_word(rt: HostRuntime) -> Result<(), Fail> {
-    assert!(rt; leaves_one(rt.alloc())?);
+fn each_word(rt: HostRuntime) {
+    assert!(rt; leaves_one(&rt, rt.alloc()));
     for (item, verdict) in [("Hello", true), (" Hello", false), ("lo", true)] {
-        assert!(rt; each_finds(rt.alloc(), item, verdict)?, "at {item}");
+        assert!(rt; each_finds(&rt, rt.alloc(), item, verdict), "at {item}");
     }
-    Ok(())
 }
 
 // How many checks are left of `empty` and so many times the tokens.
@@ -189,18 +197,16 @@ const LEVELS: [&[&str]; 3] = [&["not"], &["empty", "xor"], &["trim"]];
 
 // They have no limit by themselves, and drop without recursion.
 #[test]
-fn checks_of_20000_levels(rt: HostRuntime) -> Result<(), Fail> {
+fn checks_of_20000_levels(rt: HostRuntime) {
     for tokens in LEVELS {
         assert_eq!(rt; count_left(rt.alloc(), tokens, 20_000), Ok(1));
     }
-    Ok(())
 }
 
 #[test]
-fn flags_change_no_fault_of_words(rt: HostRuntime) -> Result<(), Fail> {
-    assert!(rt; is_shown(rt.alloc(), WordFault::Operand, "missing operand")?);
+fn flags_change_no_fault_of_words(rt: HostRuntime) {
+    assert!(rt; is_shown(&rt, rt.alloc(), WordFault::Operand, "missing operand"));
     for fault in [WordFault::Operand, WordFault::Pattern, WordFault::NoMemory] {
-        assert!(rt; keeps_text(rt.alloc(), &fault)?);
+        assert!(rt; keeps_text(rt.alloc(), &fault).expect(&rt, "memory"));
     }
-    Ok(())
 }

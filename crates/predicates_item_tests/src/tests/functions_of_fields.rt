@@ -2,8 +2,8 @@
 use predicates::boolean::PredicateBooleanExt;
 use predicates::function::function;
 use predicates_testing::{text, verdict};
-use std::alloc::{AllocError, Global};
-use std::test::Fail;
+use std::alloc::Global;
+use std::process::Abort;
 
 #[derive(Drop)]
 struct Greeting {
@@ -12,15 +12,15 @@ struct Greeting {
 }
 
 // The verdict of two functions; none where it has not just its own case.
-fn greets(alloc: Global, words: &str, number: i64) -> Result<Option<bool>, AllocError> {
+fn greets(rt: &impl Abort, alloc: Global, words: &str, number: i64) -> Option<bool> {
     let greeting = Greeting {
-        text: text(alloc, words)?,
+        text: text(alloc, words).expect(rt, "memory"),
         number,
     };
     let greets = function(|g: &Greeting| g.text.as_str() == "hello").and(function(
         |g: &Greeting| g.number == 42,
     ));
-    verdict(alloc, &greets, &greeting)
+    verdict(alloc, &greets, &greeting).expect(rt, "memory")
 }
 
 const GREETINGS: [(&str, i64, bool); 3] = [
@@ -30,12 +30,11 @@ const GREETINGS: [(&str, i64, bool); 3] = [
 ];
 
 #[test]
-fn functions_of_fields(rt: HostRuntime) -> Result<(), Fail> {
+fn functions_of_fields(rt: HostRuntime) {
     for (text, number, expected) in GREETINGS {
         assert!(rt;
-            greets(rt.alloc(), text, number)? == Some(expected),
+            greets(&rt, rt.alloc(), text, number) == Some(expected),
             "{text}, {number}"
         );
     }
-    Ok(())
 }

@@ -8,7 +8,7 @@ use predicates::reflection::render;
 use predicates_core::PredicateChange;
 use predicates_testing::{differ, is_described, verdict};
 use std::alloc::{AllocError, Global};
-use std::test::Fail;
+use std::process::Abort;
 
 // What a caller can prove of the kept members.
 fn of_vec(alloc: Global, members: Vec<i64>) -> Result<SameMembersPredicate<i64>, AllocError>
@@ -19,22 +19,25 @@ fn of_vec(alloc: Global, members: Vec<i64>) -> Result<SameMembersPredicate<i64>,
 
 // Whether the case for the truth has these lines, and that of the change as well.
 fn has_lines<P: PredicateChange<Vec<i64>>>(
+    rt: &impl Abort,
     alloc: Global,
     predicate: &P,
     list: &Vec<i64>,
     truth: bool,
     lines: &str,
-) -> Result<bool, AllocError>
+) -> bool
     requires { P.lawful predicate.now }
 {
-    let case = predicate.find_case(alloc, truth, list)?;
-    let change = predicate.find_change(alloc, Some(truth), list)?;
+    let case = predicate.find_case(alloc, truth, list).expect(rt, "memory");
+    let change = predicate
+        .find_change(alloc, Some(truth), list)
+        .expect(rt, "memory");
     match (case, change) {
         (Some(case), Some(change)) => {
-            let rendered = render(alloc, &case)?;
-            Ok(rendered.as_str() == lines && render(alloc, &change)? == rendered)
+            let rendered = render(alloc, &case).expect(rt, "memory");
+            rendered.as_str() == lines && render(alloc, &change).expect(rt, "memory") == rendered
         }
-        _ => Ok(false),
+        _ => false,
     }
 }
 
@@ -53,52 +56,61 @@ const ROWS: [Row; 9] = [
     (&[7, 7, 7, 8], &[8, 8, 7, 9, 8], "[7, 7]", "[8, 8, 9]"),
 ];
 
-fn is_right(alloc: Global, row: Row) -> Result<bool, AllocError> {
+fn is_right(rt: &impl Abort, alloc: Global, row: Row) -> bool {
     let (values, list, missing, extra) = row;
-    let same = of_vec(alloc, Vec::from_slice(alloc, values)?)?;
-    let list = Vec::from_slice(alloc, list)?;
+    let same = of_vec(alloc, Vec::from_slice(alloc, values).expect(rt, "memory")).expect(
+        rt, "memory",
+    );
+    let list = Vec::from_slice(alloc, list).expect(rt, "memory");
     let truth = missing == "[]" && extra == "[]";
     let lines = format!(in alloc;
         "var == values in any order = {truth}\n  - missing: {missing}\n  - extra: {extra}\n"
-    )?;
-    let found = verdict(alloc, &same, &list)?;
-    Ok(found == Some(truth) && has_lines(alloc, &same, &list, truth, lines.as_str())?)
+    ).expect(rt, "memory");
+    let found = verdict(alloc, &same, &list).expect(rt, "memory");
+    found == Some(truth) && has_lines(rt, alloc, &same, &list, truth, lines.as_str())
 }
 
 #[test]
-fn what_is_missing_and_what_is_extra(rt: HostRuntime) -> Result<(), Fail> {
+fn what_is_missing_and_what_is_extra(rt: HostRuntime) {
     for row in ROWS {
-        assert!(rt; is_right(rt.alloc(), row)?, "{:?} {:?}", row.0, row.1);
+        assert!(rt; is_right(&rt, rt.alloc(), row), "{:?} {:?}", row.0, row.1);
     }
-    Ok(())
 }
 
 #[test]
-fn members_in_ascending_order(rt: HostRuntime) -> Result<(), Fail> {
-    let same = of_vec(rt.alloc(), Vec::from_slice(rt.alloc(), &[3, 1, 3])?)?;
+fn members_in_ascending_order(rt: HostRuntime) {
+    let same = of_vec(
+        rt.alloc(),
+        Vec::from_slice(rt.alloc(), &[3, 1, 3]).expect(&rt, "memory"),
+    )
+    .expect(&rt, "memory");
     let lines = "var == values in any order\nvalues=[1, 3, 3]\n";
-    assert!(rt; is_described(rt.alloc(), &same, lines)?);
-    let other = same_members(rt.alloc(), [1i64, 3])?;
-    assert!(rt; differ(rt.alloc(), &same, &other)?);
-    Ok(())
+    assert!(rt; is_described(rt.alloc(), &same, lines).expect(&rt, "memory"));
+    let other = same_members(rt.alloc(), [1i64, 3]).expect(&rt, "memory");
+    assert!(rt; differ(rt.alloc(), &same, &other).expect(&rt, "memory"));
 }
 
 // The numbers below 101, in another order.
-fn reordered(alloc: Global) -> Result<Vec<u32>, AllocError> {
+fn reordered(rt: &impl Abort, alloc: Global) -> Vec<u32> {
     let mut list = Vec::new(alloc);
     for number in 0..101u32 {
-        list.push(number * 7 % 101)?;
+        list.push(number * 7 % 101).expect(rt, "memory");
     }
-    Ok(list)
+    list
 }
 
 // More members than are sorted in place.
 #[test]
-fn many_members(rt: HostRuntime) -> Result<(), Fail> {
-    let same = same_members(rt.alloc(), 0..101u32)?;
-    let mut list = reordered(rt.alloc())?;
-    assert_eq!(rt; verdict(rt.alloc(), &same, &list)?, Some(true));
-    list.push(0)?;
-    assert_eq!(rt; verdict(rt.alloc(), &same, &list)?, Some(false));
-    Ok(())
+fn many_members(rt: HostRuntime) {
+    let same = same_members(rt.alloc(), 0..101u32).expect(&rt, "memory");
+    let mut list = reordered(&rt, rt.alloc());
+    assert_eq!(rt;
+        verdict(rt.alloc(), &same, &list).expect(&rt, "memory"),
+        Some(true)
+    );
+    list.push(0).expect(&rt, "memory");
+    assert_eq!(rt;
+        verdict(rt.alloc(), &same, &list).expect(&rt, "memory"),
+        Some(false)
+    );
 }

@@ -1,8 +1,8 @@
 //! The leaves that a case keeps of each short formula, beside those of the reference program.
 use predicates_core::static_text::StaticText;
 use predicates_testing::{NumberWord, ReferenceFormula, answer_number, number_formula};
-use std::alloc::{AllocError, Global};
-use std::test::Fail;
+use std::alloc::Global;
+use std::process::Abort;
 
 // The item of every formula here.
 const ITEM: i64 = 4;
@@ -22,44 +22,45 @@ fn word(number: u64) -> NumberWord {
 
 // Whether the library explains the formula of the words as the reference program does.
 fn explains(
+    rt: &impl Abort,
     alloc: Global,
     words: Vec<NumberWord>,
     formula: &ReferenceFormula,
-) -> Result<bool, AllocError> {
-    match answer_number(alloc, words, ITEM)? {
-        Some(answers) => answers.explain(alloc, formula),
-        None => Ok(false),
+) -> bool {
+    match answer_number(alloc, words, ITEM).expect(rt, "memory") {
+        Some(answers) => answers.explain(alloc, formula).expect(rt, "memory"),
+        None => false,
     }
 }
 
 // The same of any words; none where they are no formula.
-fn is_explained(alloc: Global, words: Vec<NumberWord>) -> Result<Option<bool>, AllocError> {
-    match number_formula(alloc, words.as_slice(), ITEM)? {
-        Some(formula) => Ok(Some(explains(alloc, words, &formula)?)),
-        None => Ok(None),
+fn is_explained(rt: &impl Abort, alloc: Global, words: Vec<NumberWord>) -> Option<bool> {
+    match number_formula(alloc, words.as_slice(), ITEM).expect(rt, "memory") {
+        Some(formula) => Some(explains(rt, alloc, words, &formula)),
+        None => None,
     }
 }
 
 // The words that the number's digits stand for, the last one first.
-fn words_of(alloc: Global, number: u64, length: u64) -> Result<Vec<NumberWord>, AllocError> {
+fn words_of(rt: &impl Abort, alloc: Global, number: u64, length: u64) -> Vec<NumberWord> {
     let mut words = Vec::new(alloc);
     let mut rest = number;
     for _ in 0..length {
-        words.push(word(rest))?;
+        words.push(word(rest)).expect(rt, "memory");
         rest /= 7;
     }
-    Ok(words)
+    words
 }
 
 #[test]
-fn all_formulas_of_at_most_six_words(rt: HostRuntime) -> Result<(), Fail> {
+fn all_formulas_of_at_most_six_words(rt: HostRuntime) {
     let alloc = rt.alloc();
     let mut explained = 0_u64;
     let mut all = 1_u64;
     for length in 1..7_u64 {
         all = all.saturating_mul(7);
         for number in 0..all {
-            if let Some(right) = is_explained(alloc, words_of(alloc, number, length)?)? {
+            if let Some(right) = is_explained(&rt, alloc, words_of(&rt, alloc, number, length)) {
                 assert!(rt; right, "formula {number} of {length} words");
                 explained = explained.saturating_add(1);
             }
@@ -67,5 +68,4 @@ fn all_formulas_of_at_most_six_words(rt: HostRuntime) -> Result<(), Fail> {
     }
     // 2, 4, 20, 88, 464 and 2464 formulas of 1 to 6 words.
     assert_eq!(rt; explained, 3042);
-    Ok(())
 }

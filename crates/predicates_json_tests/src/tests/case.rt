@@ -3,18 +3,31 @@ use predicates::reflection::{Case, Product};
 use predicates_json::case_json;
 use predicates_testing::text;
 use serde_json::{Error, Value};
-use std::alloc::{AllocError, Global};
-use std::test::Fail;
+use std::alloc::Global;
+use std::process::Abort;
 
 // A node without a text, with two products, over a leaf and a node with a child of its own.
-fn four_nodes(alloc: Global) -> Result<Case, AllocError> {
-    let inner = Case::new(alloc, Some(text(alloc, "r")?), true);
-    let right = Case::new(alloc, Some(text(alloc, "(! r)")?), false).add_child("predicate", inner)?;
+fn four_nodes(rt: &impl Abort, alloc: Global) -> Case {
+    let inner = Case::new(alloc, Some(text(alloc, "r").expect(rt, "memory")), true);
+    let right = Case::new(
+        alloc,
+        Some(text(alloc, "(! r)").expect(rt, "memory")),
+        false,
+    )
+    .add_child("predicate", inner)
+    .expect(rt, "memory");
     Case::new(alloc, None, true)
-        .add_product(Product::new("a", text(alloc, "\"")?))?
-        .add_product(Product::new("b", text(alloc, "")?))?
-        .add_child("left", Case::new(alloc, Some(text(alloc, "l")?), true))?
+        .add_product(Product::new("a", text(alloc, "\"").expect(rt, "memory")))
+        .expect(rt, "memory")
+        .add_product(Product::new("b", text(alloc, "").expect(rt, "memory")))
+        .expect(rt, "memory")
+        .add_child(
+            "left",
+            Case::new(alloc, Some(text(alloc, "l").expect(rt, "memory")), true),
+        )
+        .expect(rt, "memory")
         .add_child("right", right)
+        .expect(rt, "memory")
 }
 
 const FOUR_NODES: &str = "{\"children\":[\
@@ -26,17 +39,16 @@ const FOUR_NODES: &str = "{\"children\":[\
 \"result\":true,\"text\":null}";
 
 // Whether the text is this one, and reads back as the value that it was written from.
-fn reads_back(alloc: Global, case: &Case, expected: &str) -> Result<bool, Error> {
-    let value = case_json(alloc, &case.root())?;
-    let written = value.to_string(alloc)?;
-    let read = Value::from_str(alloc, written.as_str())?;
-    Ok(written.as_str() == expected && read == value)
+fn reads_back(rt: &impl Abort, alloc: Global, case: &Case, expected: &str) -> bool {
+    let value = case_json(alloc, &case.root()).expect(rt, "memory");
+    let written = value.to_string(alloc).expect(rt, "memory");
+    let read = Value::from_str(alloc, written.as_str()).expect(rt, "memory");
+    written.as_str() == expected && read == value
 }
 
 #[test]
-fn writes_json(rt: HostRuntime) -> Result<(), Fail> {
+fn writes_json(rt: HostRuntime) {
     let alloc = rt.alloc();
-    let case = four_nodes(alloc)?;
-    assert!(rt; reads_back(alloc, &case, FOUR_NODES)?);
-    Ok(())
+    let case = four_nodes(&rt, alloc);
+    assert!(rt; reads_back(&rt, alloc, &case, FOUR_NODES));
 }

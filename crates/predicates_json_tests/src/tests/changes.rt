@@ -4,34 +4,38 @@ use predicates::prelude::*;
 use predicates_json::{PredicateJsonExt, has_pointer, is_null, lacks_pointer};
 use predicates_testing::{ReferenceFormula, is_explained, named_leaf, text};
 use serde_json::{Error, Value};
-use std::alloc::{AllocError, Global};
-use std::test::Fail;
+use std::alloc::Global;
+use std::process::Abort;
 
 // Whether reason and change keep the leaves that the search finds, for the value that the text is.
 fn is_turned<P: PredicateChange<Value>>(
+    rt: &impl Abort,
     alloc: Global,
     predicate: &P,
     json: &str,
     formula: &ReferenceFormula,
-) -> Result<bool, Error>
+) -> bool
     requires { P.lawful predicate.now }
 {
-    let value = Value::from_str(alloc, json)?;
-    Ok(is_explained(alloc, predicate, &value, formula)?)
+    let value = Value::from_str(alloc, json).expect(rt, "memory");
+    is_explained(alloc, predicate, &value, formula).expect(rt, "memory")
 }
 
 // The formula of the rule over a record, by the truths of its three leaves.
-fn record_formula(alloc: Global, truths: [bool; 3]) -> Result<ReferenceFormula, AllocError> {
+fn record_formula(rt: &impl Abort, alloc: Global, truths: [bool; 3]) -> ReferenceFormula {
     let [adult, titled, guarded] = truths;
-    let untitled = ReferenceFormula::Not(Box::new(alloc, named_leaf(alloc, titled)?)?);
+    let untitled = ReferenceFormula::Not(Box::new(
+        alloc,
+        named_leaf(alloc, titled).expect(rt, "memory"),
+    ).expect(rt, "memory"));
     let both = ReferenceFormula::And(
-        Box::new(alloc, named_leaf(alloc, adult)?)?,
-        Box::new(alloc, untitled)?,
+        Box::new(alloc, named_leaf(alloc, adult).expect(rt, "memory")).expect(rt, "memory"),
+        Box::new(alloc, untitled).expect(rt, "memory"),
     );
-    Ok(ReferenceFormula::Or(
-        Box::new(alloc, both)?,
-        Box::new(alloc, named_leaf(alloc, guarded)?)?,
-    ))
+    ReferenceFormula::Or(
+        Box::new(alloc, both).expect(rt, "memory"),
+        Box::new(alloc, named_leaf(alloc, guarded).expect(rt, "memory")).expect(rt, "memory"),
+    )
 }
 
 const RECORDS: [(&str, [bool; 3]); 5] = [
@@ -46,69 +50,72 @@ const RECORDS: [(&str, [bool; 3]); 5] = [
 ];
 
 // Whether the rule over a record is turned as the search finds it.
-fn turns_record(alloc: Global, json: &str, truths: [bool; 3]) -> Result<bool, Error> {
+fn turns_record(rt: &impl Abort, alloc: Global, json: &str, truths: [bool; 3]) -> bool {
     let adult = predicate::ge(18i64).of_number().of_pointer("/age");
-    let titled = predicate::str::starts_with(text(alloc, "A")?)
+    let titled = predicate::str::starts_with(text(alloc, "A").expect(rt, "memory"))
         .of_string()
         .of_pointer("/name");
     let guarded = has_pointer("/guardian").name("guarded");
     let rule = adult.and(titled.not()).or(guarded);
-    is_turned(alloc, &rule, json, &record_formula(alloc, truths)?)
+    is_turned(rt, alloc, &rule, json, &record_formula(rt, alloc, truths))
 }
 
 #[test]
-fn records(rt: HostRuntime) -> Result<(), Fail> {
+fn records(rt: HostRuntime) {
     for (json, truths) in RECORDS {
-        assert!(rt; turns_record(rt.alloc(), json, truths)?);
+        assert!(rt; turns_record(&rt, rt.alloc(), json, truths));
     }
-    Ok(())
 }
 
 // The formula of "each member", by the members' truths.
-fn each_formula(alloc: Global, truths: &[bool]) -> Result<ReferenceFormula, AllocError> {
+fn each_formula(rt: &impl Abort, alloc: Global, truths: &[bool]) -> ReferenceFormula {
     let mut members = ReferenceFormula::NoMore(true);
     for truth in truths.iter().rev() {
         members = ReferenceFormula::And(
-            Box::new(alloc, ReferenceFormula::Leaf(*truth))?,
-            Box::new(alloc, members)?,
+            Box::new(alloc, ReferenceFormula::Leaf(*truth)).expect(rt, "memory"),
+            Box::new(alloc, members).expect(rt, "memory"),
         );
     }
-    Ok(ReferenceFormula::Members(Box::new(alloc, members)?))
+    ReferenceFormula::Members(Box::new(alloc, members).expect(rt, "memory"))
 }
 
 // Whether "each number of the array is at least 18" is turned as the search finds it.
-fn turns_array(alloc: Global, json: &str, truths: &[bool]) -> Result<bool, Error> {
+fn turns_array(rt: &impl Abort, alloc: Global, json: &str, truths: &[bool]) -> bool {
     let adults = predicate::ge(18i64).of_number().of_each().of_array();
-    is_turned(alloc, &adults, json, &each_formula(alloc, truths)?)
+    is_turned(rt, alloc, &adults, json, &each_formula(rt, alloc, truths))
 }
 
 #[test]
-fn arrays(rt: HostRuntime) -> Result<(), Fail> {
-    assert!(rt; turns_array(rt.alloc(), "[18,19,20]", &[true, true, true])?);
-    assert!(rt; turns_array(rt.alloc(), "[18,17,\"a\",20]", &[true, false, false, true])?);
-    Ok(())
+fn arrays(rt: HostRuntime) {
+    assert!(rt; turns_array(&rt, rt.alloc(), "[18,19,20]", &[true, true, true]));
+    assert!(rt;
+        turns_array(
+            &rt,
+            rt.alloc(),
+            "[18,17,\"a\",20]",
+            &[true, false, false, true]
+        )
+    );
 }
 
 // Whether a leaf is turned of each of two values, of which it holds of the first alone.
 fn turns_leaf<P: PredicateChange<Value>>(
+    rt: &impl Abort,
     alloc: Global,
     leaf: &P,
     values: [&str; 2],
-) -> Result<bool, Error>
+) -> bool
     requires { P.lawful leaf.now }
 {
     let [held, failed] = values;
-    Ok(
-        is_turned(alloc, leaf, held, &ReferenceFormula::Leaf(true))?
-            && is_turned(alloc, leaf, failed, &ReferenceFormula::Leaf(false))?,
-    )
+    is_turned(rt, alloc, leaf, held, &ReferenceFormula::Leaf(true))
+        && is_turned(rt, alloc, leaf, failed, &ReferenceFormula::Leaf(false))
 }
 
 #[test]
-fn leaves(rt: HostRuntime) -> Result<(), Fail> {
+fn leaves(rt: HostRuntime) {
     let alloc = rt.alloc();
-    assert!(rt; turns_leaf(alloc, &is_null(), ["null", "0"])?);
-    assert!(rt; turns_leaf(alloc, &lacks_pointer("/a"), ["{}", "{\"a\":null}"])?);
-    assert!(rt; turns_leaf(alloc, &predicate::eq(true).of_bool(), ["true", "1"])?);
-    Ok(())
+    assert!(rt; turns_leaf(&rt, alloc, &is_null(), ["null", "0"]));
+    assert!(rt; turns_leaf(&rt, alloc, &lacks_pointer("/a"), ["{}", "{\"a\":null}"]));
+    assert!(rt; turns_leaf(&rt, alloc, &predicate::eq(true).of_bool(), ["true", "1"]));
 }

@@ -4,22 +4,25 @@ use predicates::prelude::*;
 use predicates_json::{PredicateJsonExt, has_pointer, is_null};
 use predicates_testing::{is_described, text};
 use serde_json::{Error, Value};
-use std::alloc::{AllocError, Global};
-use std::test::Fail;
+use std::alloc::Global;
+use std::process::Abort;
 
 // Whether a rule over a record explains its verdict on the JSON text by the lines.
-fn explains_record(alloc: Global, json: &str, lines: &str) -> Result<bool, Error> {
-    let (name, start) = (text(alloc, "/name")?, text(alloc, "A")?);
+fn explains_record(rt: &impl Abort, alloc: Global, json: &str, lines: &str) -> bool {
+    let (name, start) = (
+        text(alloc, "/name").expect(rt, "memory"),
+        text(alloc, "A").expect(rt, "memory"),
+    );
     let adult = predicate::ge(18i64).of_number().of_pointer("/age");
     let named = predicate::str::starts_with(start)
         .of_string()
         .of_pointer(name);
     let guarded = has_pointer("/guardian").name("guarded");
-    explains_json(alloc, &adult.and(named.not()).or(guarded), json, lines)
+    explains_json(rt, alloc, &adult.and(named.not()).or(guarded), json, lines)
 }
 
 #[test]
-fn records(rt: HostRuntime) -> Result<(), Fail> {
+fn records(rt: HostRuntime) {
     let lines = "\
 ((/age && (! /name)) || guarded) = false
   left: (/age && (! /name)) = false
@@ -30,7 +33,7 @@ fn records(rt: HostRuntime) -> Result<(), Fail> {
   right: guarded = false
     guarded: exists(/guardian) = false
 ";
-    assert!(rt; explains_record(rt.alloc(), "{\"age\":18,\"name\":\"Ann\"}", lines)?);
+    assert!(rt; explains_record(&rt, rt.alloc(), "{\"age\":18,\"name\":\"Ann\"}", lines));
     let lines = "\
 ((/age && (! /name)) || guarded) = true
   left: (/age && (! /name)) = true
@@ -42,54 +45,51 @@ fn records(rt: HostRuntime) -> Result<(), Fail> {
         value: var.starts_with(\"A\") = false
           - error: no value
 ";
-    assert!(rt; explains_record(rt.alloc(), "{\"age\":18}", lines)?);
-    Ok(())
+    assert!(rt; explains_record(&rt, rt.alloc(), "{\"age\":18}", lines));
 }
 
 // Whether a rule over a row explains its verdict on the JSON text by the lines.
-fn explains_row(alloc: Global, json: &str, lines: &str) -> Result<bool, Error> {
+fn explains_row(rt: &impl Abort, alloc: Global, json: &str, lines: &str) -> bool {
     let rule = is_null().of_pointer("/1").of_pointer("/rows");
-    explains_json(alloc, &rule, json, lines)
+    explains_json(rt, alloc, &rule, json, lines)
 }
 
 #[test]
-fn pointers_below_pointers(rt: HostRuntime) -> Result<(), Fail> {
+fn pointers_below_pointers(rt: HostRuntime) {
     let lines = "\
 /rows = false
   value: /1 = false
     value: var.is_null() = false
       - error: is a boolean
 ";
-    assert!(rt; explains_row(rt.alloc(), "{\"rows\":[null,true]}", lines)?);
+    assert!(rt; explains_row(&rt, rt.alloc(), "{\"rows\":[null,true]}", lines));
     let lines = "/rows = false\n  value: /1 = false\n    - error: no value\n";
-    assert!(rt; explains_row(rt.alloc(), "{}", lines)?);
-    Ok(())
+    assert!(rt; explains_row(&rt, rt.alloc(), "{}", lines));
 }
 
 // Whether the value at `/x` is the wanted one.
-fn is_wanted(alloc: Global, json: &str) -> Result<bool, Error> {
-    let wanted = Value::from_str(alloc, "{\"a\":[1,null],\"b\":0}")?;
-    let value = Value::from_str(alloc, json)?;
+fn is_wanted(rt: &impl Abort, alloc: Global, json: &str) -> bool {
+    let wanted = Value::from_str(alloc, "{\"a\":[1,null],\"b\":0}").expect(rt, "memory");
+    let value = Value::from_str(alloc, json).expect(rt, "memory");
     let same = predicate::eq(wanted).of_pointer("/x");
-    Ok(same.eval(alloc, &value)?)
+    same.eval(alloc, &value).expect(rt, "memory")
 }
 
 #[test]
-fn whole_values(rt: HostRuntime) -> Result<(), Fail> {
-    assert!(rt; is_wanted(rt.alloc(), "{\"x\":{\"b\":0,\"a\":[1,null]}}")?);
-    assert!(rt; !is_wanted(rt.alloc(), "{\"x\":{\"b\":0,\"a\":[null,1]}}")?);
-    Ok(())
+fn whole_values(rt: HostRuntime) {
+    assert!(rt; is_wanted(&rt, rt.alloc(), "{\"x\":{\"b\":0,\"a\":[1,null]}}"));
+    assert!(rt; !is_wanted(&rt, rt.alloc(), "{\"x\":{\"b\":0,\"a\":[null,1]}}"));
 }
 
 // Whether a rule of two values describes its parts by the lines.
-fn describes_parts(alloc: Global, lines: &str) -> Result<bool, AllocError> {
+fn describes_parts(rt: &impl Abort, alloc: Global, lines: &str) -> bool {
     let adult = predicate::ge(18u64).of_number().of_pointer("/age");
     let rule = adult.and(predicate::eq(true).of_bool());
-    is_described(alloc, &rule, lines)
+    is_described(alloc, &rule, lines).expect(rt, "memory")
 }
 
 #[test]
-fn parts(rt: HostRuntime) -> Result<(), Fail> {
+fn parts(rt: HostRuntime) {
     let lines = "\
 (/age && var == true)
 left: /age
@@ -98,6 +98,5 @@ left: /age
 right: var == true
   predicate: var == true
 ";
-    assert!(rt; describes_parts(rt.alloc(), lines)?);
-    Ok(())
+    assert!(rt; describes_parts(&rt, rt.alloc(), lines));
 }

@@ -4,7 +4,6 @@ use predicates::prelude::*;
 use predicates_json::{PredicateJsonExt, is_null};
 use predicates_testing::text;
 use serde_json::{Map, Value};
-use std::test::Fail;
 
 const SIGNED: [Row; 12] = [
     ("18", true, "var: 18"),
@@ -22,13 +21,12 @@ const SIGNED: [Row; 12] = [
 ];
 
 #[test]
-fn signed_numbers(rt: HostRuntime) -> Result<(), Fail> {
+fn signed_numbers(rt: HostRuntime) {
     let alloc = rt.alloc();
     let adult = predicate::ge(18i64).of_number();
     for row in &SIGNED {
-        assert!(rt; is_leaf(alloc, &adult, "var >= 18", *row)?);
+        assert!(rt; is_leaf(&rt, alloc, &adult, "var >= 18", *row));
     }
-    Ok(())
 }
 
 const UNSIGNED: [Row; 5] = [
@@ -40,13 +38,12 @@ const UNSIGNED: [Row; 5] = [
 ];
 
 #[test]
-fn unsigned_numbers(rt: HostRuntime) -> Result<(), Fail> {
+fn unsigned_numbers(rt: HostRuntime) {
     let alloc = rt.alloc();
     let adult = predicate::ge(18u64).of_number();
     for row in &UNSIGNED {
-        assert!(rt; is_leaf(alloc, &adult, "var >= 18", *row)?);
+        assert!(rt; is_leaf(&rt, alloc, &adult, "var >= 18", *row));
     }
-    Ok(())
 }
 
 const FLOATS: [Row; 5] = [
@@ -58,15 +55,14 @@ const FLOATS: [Row; 5] = [
 ];
 
 #[test]
-fn floats(rt: HostRuntime) -> Result<(), Fail> {
+fn floats(rt: HostRuntime) {
     let alloc = rt.alloc();
     let half = predicate::function(|number: &f64| *number >= 0.5)
         .fn_name("half")
         .of_number();
     for row in &FLOATS {
-        assert!(rt; is_leaf(alloc, &half, "half(var)", *row)?);
+        assert!(rt; is_leaf(&rt, alloc, &half, "half(var)", *row));
     }
-    Ok(())
 }
 
 const TEXTS: [Row; 4] = [
@@ -77,13 +73,12 @@ const TEXTS: [Row; 4] = [
 ];
 
 #[test]
-fn strings(rt: HostRuntime) -> Result<(), Fail> {
+fn strings(rt: HostRuntime) {
     let alloc = rt.alloc();
-    let named = predicate::str::starts_with(text(alloc, "A")?).of_string();
+    let named = predicate::str::starts_with(text(alloc, "A").expect(&rt, "memory")).of_string();
     for row in &TEXTS {
-        assert!(rt; is_leaf(alloc, &named, "var.starts_with(\"A\")", *row)?);
+        assert!(rt; is_leaf(&rt, alloc, &named, "var.starts_with(\"A\")", *row));
     }
-    Ok(())
 }
 
 const TRUTHS: [Row; 3] = [
@@ -93,13 +88,12 @@ const TRUTHS: [Row; 3] = [
 ];
 
 #[test]
-fn truths(rt: HostRuntime) -> Result<(), Fail> {
+fn truths(rt: HostRuntime) {
     let alloc = rt.alloc();
     let set = predicate::eq(true).of_bool();
     for row in &TRUTHS {
-        assert!(rt; is_leaf(alloc, &set, "var == true", *row)?);
+        assert!(rt; is_leaf(&rt, alloc, &set, "var == true", *row));
     }
-    Ok(())
 }
 
 const ARRAYS: [Row; 3] = [
@@ -109,15 +103,14 @@ const ARRAYS: [Row; 3] = [
 ];
 
 #[test]
-fn arrays(rt: HostRuntime) -> Result<(), Fail> {
+fn arrays(rt: HostRuntime) {
     let alloc = rt.alloc();
     let long = predicate::function(|items: &Vec<Value>| items.len() > 1)
         .fn_name("long")
         .of_array();
     for row in &ARRAYS {
-        assert!(rt; is_leaf(alloc, &long, "long(var)", *row)?);
+        assert!(rt; is_leaf(&rt, alloc, &long, "long(var)", *row));
     }
-    Ok(())
 }
 
 const OBJECTS: [Row; 3] = [
@@ -127,15 +120,14 @@ const OBJECTS: [Row; 3] = [
 ];
 
 #[test]
-fn objects(rt: HostRuntime) -> Result<(), Fail> {
+fn objects(rt: HostRuntime) {
     let alloc = rt.alloc();
     let some = predicate::function(|members: &Map<String, Value>| !members.is_empty())
         .fn_name("some")
         .of_object();
     for row in &OBJECTS {
-        assert!(rt; is_leaf(alloc, &some, "some(var)", *row)?);
+        assert!(rt; is_leaf(&rt, alloc, &some, "some(var)", *row));
     }
-    Ok(())
 }
 
 const NULLS: [Row; 6] = [
@@ -148,10 +140,9 @@ const NULLS: [Row; 6] = [
 ];
 
 #[test]
-fn nulls(rt: HostRuntime) -> Result<(), Fail> {
+fn nulls(rt: HostRuntime) {
     let alloc = rt.alloc();
     for row in &NULLS {
-        assert!(rt; is_leaf(alloc, &is_null(), "var.is_null()", *row)?);
+        assert!(rt; is_leaf(&rt, alloc, &is_null(), "var.is_null()", *row));
     }
-    Ok(())
 }

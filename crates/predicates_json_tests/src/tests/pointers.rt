@@ -5,7 +5,7 @@ use predicates_json::{PredicateJsonExt, has_pointer, is_pointer, lacks_pointer, 
 use predicates_testing::text;
 use serde_json::{Error, Value};
 use std::alloc::Global;
-use std::test::Fail;
+use std::process::Abort;
 
 const DOCUMENT: &str = "{\"foo\":[\"bar\",\"baz\"],\"\":0,\"a/b\":1,\"c%d\":2,\"e^f\":3,\"g|h\":4,\
 \"i\\\\j\":5,\"k\\\"l\":6,\" \":7,\"m~n\":8,\"~1\":9,\"o~\":10}";
@@ -42,35 +42,37 @@ const PLACES: [(&str, &str); 27] = [
 ];
 
 // Whether that stands there, and whether presence answers so.
-fn stands(alloc: Global, place: (&str, &str)) -> Result<bool, Error> {
+fn stands(rt: &impl Abort, alloc: Global, place: (&str, &str)) -> bool {
     let (pointer, expected) = place;
-    let document = Value::from_str(alloc, DOCUMENT)?;
-    let present = has_pointer(text(alloc, pointer)?).eval(alloc, &document)?;
-    let absent = lacks_pointer(text(alloc, pointer)?).eval(alloc, &document)?;
+    let document = Value::from_str(alloc, DOCUMENT).expect(rt, "memory");
+    let present = has_pointer(text(alloc, pointer).expect(rt, "memory"))
+        .eval(alloc, &document)
+        .expect(rt, "memory");
+    let absent = lacks_pointer(text(alloc, pointer).expect(rt, "memory"))
+        .eval(alloc, &document)
+        .expect(rt, "memory");
     match value_at(&document, pointer) {
         Some(found) => {
-            let written = found.to_string(alloc)?;
-            Ok(written.as_str() == expected && present && !absent)
+            let written = found.to_string(alloc).expect(rt, "memory");
+            written.as_str() == expected && present && !absent
         }
-        None => Ok(expected.is_empty() && !present && absent),
+        None => expected.is_empty() && !present && absent,
     }
 }
 
 #[test]
-fn places(rt: HostRuntime) -> Result<(), Fail> {
+fn places(rt: HostRuntime) {
     for place in &PLACES {
-        assert!(rt; stands(rt.alloc(), *place)?);
+        assert!(rt; stands(&rt, rt.alloc(), *place));
     }
-    Ok(())
 }
 
 #[test]
-fn the_whole_value(rt: HostRuntime) -> Result<(), Fail> {
+fn the_whole_value(rt: HostRuntime) {
     let alloc = rt.alloc();
-    let document = Value::from_str(alloc, DOCUMENT)?;
+    let document = Value::from_str(alloc, DOCUMENT).expect(&rt, "memory");
     let found = value_at(&document, "").is_some_and(|whole| *whole == document);
     assert!(rt; found);
-    Ok(())
 }
 
 // A pointer to the age, what is said of it, and the JSON text.
@@ -82,40 +84,40 @@ const AGES: [(&str, &str, &str); 4] = [
 ];
 
 // Whether the row is told of a pointer that was read at run time.
-fn tells_age(alloc: Global, row: (&str, &str, &str)) -> Result<bool, Error> {
+fn tells_age(rt: &impl Abort, alloc: Global, row: (&str, &str, &str)) -> bool {
     let (json, pointer, said) = row;
     let adult = predicate::ge(18i64)
         .of_number()
-        .of_pointer(text(alloc, pointer)?);
-    let lines = format!(in alloc; "{pointer} = false\n  value: var >= 18 = false\n    {said}\n")?;
-    explains_json(alloc, &adult, json, lines.as_str())
+        .of_pointer(text(alloc, pointer).expect(rt, "memory"));
+    let lines = format!(in alloc;
+        "{pointer} = false\n  value: var >= 18 = false\n    {said}\n"
+    ).expect(rt, "memory");
+    explains_json(rt, alloc, &adult, json, lines.as_str())
 }
 
 #[test]
-fn ages(rt: HostRuntime) -> Result<(), Fail> {
+fn ages(rt: HostRuntime) {
     for row in &AGES {
-        assert!(rt; tells_age(rt.alloc(), *row)?);
+        assert!(rt; tells_age(&rt, rt.alloc(), *row));
     }
-    Ok(())
 }
 
-fn explains_presence(alloc: Global, json: &str, lines: &str) -> Result<bool, Error> {
-    explains_json(alloc, &has_pointer("/seat"), json, lines)
+fn explains_presence(rt: &impl Abort, alloc: Global, json: &str, lines: &str) -> bool {
+    explains_json(rt, alloc, &has_pointer("/seat"), json, lines)
 }
 
-fn explains_absence(alloc: Global, json: &str, lines: &str) -> Result<bool, Error> {
+fn explains_absence(rt: &impl Abort, alloc: Global, json: &str, lines: &str) -> bool {
     let free = lacks_pointer(StaticText::new("/seat"));
-    explains_json(alloc, &free, json, lines)
+    explains_json(rt, alloc, &free, json, lines)
 }
 
 #[test]
-fn presence(rt: HostRuntime) -> Result<(), Fail> {
+fn presence(rt: HostRuntime) {
     let alloc = rt.alloc();
-    assert!(rt; explains_presence(alloc, "{\"seat\":null}", "exists(/seat) = true\n")?);
-    assert!(rt; explains_presence(alloc, "{}", "exists(/seat) = false\n")?);
-    assert!(rt; explains_absence(alloc, "{}", "missing(/seat) = true\n")?);
-    assert!(rt; explains_absence(alloc, "{\"seat\":13}", "missing(/seat) = false\n")?);
-    Ok(())
+    assert!(rt; explains_presence(&rt, alloc, "{\"seat\":null}", "exists(/seat) = true\n"));
+    assert!(rt; explains_presence(&rt, alloc, "{}", "exists(/seat) = false\n"));
+    assert!(rt; explains_absence(&rt, alloc, "{}", "missing(/seat) = true\n"));
+    assert!(rt; explains_absence(&rt, alloc, "{\"seat\":13}", "missing(/seat) = false\n"));
 }
 
 const TEXTS: [(&str, bool); 10] = [
@@ -132,9 +134,8 @@ const TEXTS: [(&str, bool); 10] = [
 ];
 
 #[test]
-fn texts_of_pointers(rt: HostRuntime) -> Result<(), Fail> {
+fn texts_of_pointers(rt: HostRuntime) {
     for (text, expected) in &TEXTS {
         assert_eq!(rt; is_pointer(text), *expected);
     }
-    Ok(())
 }

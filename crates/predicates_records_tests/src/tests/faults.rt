@@ -4,16 +4,17 @@ use predicates_lines::{MAX_LINE, RunFault};
 use predicates_records::{Position, TakenRecord, next_record};
 use std::alloc::Global;
 use std::io::ErrorKind;
-use std::test::Fail;
+use std::process::Abort;
 
 // Whether a read behind these bytes fails so, and the next call takes the rest of the record.
 fn goes_on(
+    rt: &impl Abort,
     alloc: Global,
     (front, rest): (&[u8], &[u8]),
     kind: ErrorKind,
     fault: RunFault,
     expected: &[u8],
-) -> Result<bool, RunFault> {
+) -> bool {
     let mut position = Position::Outside;
     let mut value = Vec::new(alloc);
     let mut input = Slow {
@@ -22,8 +23,8 @@ fn goes_on(
     };
     let failed = next_record(&mut input, &mut position, &mut value, MAX_LINE);
     let mut others = rest;
-    let taken = next_record(&mut others, &mut position, &mut value, MAX_LINE)?;
-    Ok(failed == Err(fault) && taken == TakenRecord::Record && value.as_slice() == expected)
+    let taken = next_record(&mut others, &mut position, &mut value, MAX_LINE).expect(rt, "memory");
+    failed == Err(fault) && taken == TakenRecord::Record && value.as_slice() == expected
 }
 
 // The bytes before the read that fails and behind it, and the rest of the record.
@@ -36,26 +37,27 @@ const REST: [(&[u8], &[u8], &[u8]); 5] = [
 ];
 
 #[test]
-fn reads_that_fail(rt: HostRuntime) -> Result<(), Fail> {
+fn reads_that_fail(rt: HostRuntime) {
     for (front, rest, expected) in REST {
         assert!(rt;
             goes_on(
+                &rt,
                 rt.alloc(),
                 (front, rest),
                 ErrorKind::Other,
                 RunFault::Input,
                 expected
-            )?
+            )
         );
         assert!(rt;
             goes_on(
+                &rt,
                 rt.alloc(),
                 (front, rest),
                 ErrorKind::OutOfMemory,
                 RunFault::NoMemory,
                 expected
-            )?
+            )
         );
     }
-    Ok(())
 }

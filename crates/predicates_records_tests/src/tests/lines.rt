@@ -1,6 +1,5 @@
 //! Lines within a length.
 use predicates_lines::{TakenLine, next_line_within};
-use std::test::Fail;
 
 // What is taken, one after another, and the line.
 const TAKEN: [(TakenLine, &[u8]); 6] = [
@@ -13,12 +12,11 @@ const TAKEN: [(TakenLine, &[u8]); 6] = [
 ];
 
 #[test]
-fn lines_of_four_bytes(rt: HostRuntime) -> Result<(), Fail> {
+fn lines_of_four_bytes(rt: HostRuntime) {
     let mut input = b"one\nfive\n\nsixteen\nfour".as_slice();
     let mut line = Vec::new(rt.alloc());
     for (taken, bytes) in TAKEN {
-        assert!(rt; next_line_within(&mut input, &mut line, 4)? == taken);
+        assert!(rt; next_line_within(&mut input, &mut line, 4).expect(&rt, "memory") == taken);
         assert!(rt; taken == TakenLine::TooLong || line.as_slice() == bytes);
     }
-    Ok(())
 }

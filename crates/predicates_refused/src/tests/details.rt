@@ -7,7 +7,6 @@ use predicates_core::reflection::{Parameter, Product};
 use predicates_sweep::{leaf, sweep_calls};
 use std::alloc::{AllocError, Global};
 use std::fmt;
-use std::test::Fail;
 
 // The test of the numbers that are no less than another. It shows how much is missing.
 #[derive(Clone, Copy)]
@@ -53,9 +52,9 @@ impl DetailedTest<u32> for Enough {
 }
 
 #[test]
-fn details(rt: HostRuntime) -> Result<(), Fail> {
+fn details(rt: HostRuntime) {
     let enough = detailed_leaf(Enough { least: 5 });
     let lines = "enough = false\n  - var: 3\n  - missing: 2\n";
     let row = leaf("detailed_leaf", false, lines).with_parameters("least=5\n");
-    sweep_calls(&rt, &enough, &3, row)
+    sweep_calls(&rt, &enough, &3, row).expect(&rt, "memory")
 }

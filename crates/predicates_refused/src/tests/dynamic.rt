@@ -15,7 +15,6 @@ use predicates_sweep::{
 use std::alloc::{AllocError, Global};
 use std::fmt;
 use std::process::Abort;
-use std::test::Fail;
 
 // The one member of each item.
 #[derive(Clone, Copy)]
@@ -138,14 +137,13 @@ const JOINING: [(&str, Joining, &str); 3] = [
 ];
 
 #[test]
-fn checks_over_parts(rt: HostRuntime) -> Result<(), Fail> {
+fn checks_over_parts(rt: HostRuntime) {
     for (name, call, expected) in OVER {
-        sweep(&rt, name, &call, expected, Taken)?;
+        sweep(&rt, name, &call, expected, Taken).expect(&rt, "memory");
     }
     for (name, call, expected) in JOINING {
-        sweep(&rt, name, &call, expected, Taken)?;
+        sweep(&rt, name, &call, expected, Taken).expect(&rt, "memory");
     }
-    Ok(())
 }
 
 // What was made without memory holds of the item. A check that is `Total` may be asked about it.
@@ -154,52 +152,58 @@ fn is_made<R: Abort + AllocGlobal + Print, P: Total<u32> + Drop>(
     begun: Without<'_>,
     check: P,
     item: u32,
-) -> Result<(), Fail> {
+) {
     holds(rt, begun, check, &item)
 }
 
 // Two parts of a row, which hold of 7.
-fn two_parts(alloc: Global) -> Result<Vec<Numbers>, AllocError> {
+fn two_parts(rt: &impl Abort, alloc: Global) -> Vec<Numbers> {
     let (low, high) = (
         Check::leaf_beside_members(ge(5)),
         Check::leaf_beside_members(le(9)),
     );
-    Ok(vec![in alloc; low, high]?)
+    vec![in alloc; low, high].expect(rt, "memory")
 }
 
 #[test]
-fn checks_without_memory(rt: HostRuntime) -> Result<(), Fail> {
+fn checks_without_memory(rt: HostRuntime) {
     let alloc = rt.alloc();
     is_made(
         &rt,
         refusing(alloc, "Check::leaf"),
         Check::leaf(ge(5u32)),
         7,
-    )?;
+    );
     let leaf: Numbers = Check::leaf_beside_members(ge(5));
-    is_made(&rt, refusing(alloc, "Check::leaf_beside_members"), leaf, 7)?;
-    let parts = two_parts(alloc)?;
-    is_made(&rt, refusing(alloc, "Check::all"), Check::all(parts), 7)?;
-    let parts = two_parts(alloc)?;
-    is_made(&rt, refusing(alloc, "Check::any"), Check::any(parts), 7)?;
-    let parts = two_parts(alloc)?;
+    is_made(&rt, refusing(alloc, "Check::leaf_beside_members"), leaf, 7);
+    let parts = two_parts(&rt, alloc);
+    is_made(&rt, refusing(alloc, "Check::all"), Check::all(parts), 7);
+    let parts = two_parts(&rt, alloc);
+    is_made(&rt, refusing(alloc, "Check::any"), Check::any(parts), 7);
+    let parts = two_parts(&rt, alloc);
     is_made(
         &rt,
         refusing(alloc, "Check::at_least"),
         Check::at_least(2, parts),
         7,
-    )?;
-    let parts = two_parts(alloc)?;
+    );
+    let parts = two_parts(&rt, alloc);
     is_made(&rt, refusing(alloc, "Check::odd"), Check::odd(parts), 3)
 }
 
 // A row of each form over parts, which holds of 7.
-fn row_of_joins(alloc: Global) -> Result<Numbers, AllocError> {
-    let denied = Check::leaf_beside_members(ge(10)).not(alloc)?;
-    let named = Check::leaf_beside_members(le(8)).name(alloc, "small")?;
-    let one = Check::any(vec![in alloc; Check::leaf_beside_members(ge(7))]?);
-    let exclusive = Check::leaf_beside_members(lt(3)).xor(alloc, one)?;
-    Ok(Check::all(vec![in alloc; denied, named, exclusive]?))
+fn row_of_joins(rt: &impl Abort, alloc: Global) -> Numbers {
+    let denied = Check::leaf_beside_members(ge(10))
+        .not(alloc)
+        .expect(rt, "memory");
+    let named = Check::leaf_beside_members(le(8))
+        .name(alloc, "small")
+        .expect(rt, "memory");
+    let one = Check::any(vec![in alloc; Check::leaf_beside_members(ge(7))].expect(rt, "memory"));
+    let exclusive = Check::leaf_beside_members(lt(3))
+        .xor(alloc, one)
+        .expect(rt, "memory");
+    Check::all(vec![in alloc; denied, named, exclusive].expect(rt, "memory"))
 }
 
 const JOINS: &str = "\
@@ -230,12 +234,18 @@ rule: (var < 3 ^ any_of(var >= 7))
 ";
 
 // A threshold over each form over members, which does not hold.
-fn threshold_of_members(alloc: Global) -> Result<Numbers, AllocError> {
-    let each = Check::leaf_beside_members(le(5)).of_each(alloc, Only)?;
-    let some = Check::leaf_beside_members(ge(9)).of_any(alloc, Only)?;
-    let two = Check::leaf_beside_members(ge(5)).of_at_least(alloc, 2, Only)?;
-    let odd = Check::odd(vec![in alloc; some, two]?);
-    Ok(Check::at_least(1, vec![in alloc; each, odd]?))
+fn threshold_of_members(rt: &impl Abort, alloc: Global) -> Numbers {
+    let each = Check::leaf_beside_members(le(5))
+        .of_each(alloc, Only)
+        .expect(rt, "memory");
+    let some = Check::leaf_beside_members(ge(9))
+        .of_any(alloc, Only)
+        .expect(rt, "memory");
+    let two = Check::leaf_beside_members(ge(5))
+        .of_at_least(alloc, 2, Only)
+        .expect(rt, "memory");
+    let odd = Check::odd(vec![in alloc; some, two].expect(rt, "memory"));
+    Check::at_least(1, vec![in alloc; each, odd].expect(rt, "memory"))
 }
 
 const MEMBERS: &str = "\
@@ -267,22 +277,22 @@ fn sweep_check<R: Abort + AllocGlobal + Print, P: Total<u32> + PredicateChange<u
     check: P,
     item: u32,
     row: Row<'_>,
-) -> Result<(), Fail> {
-    sweep_calls(rt, &check, &item, row)
+) {
+    sweep_calls(rt, &check, &item, row).expect(rt, "memory")
 }
 
 #[test]
-fn calls_of_checks(rt: HostRuntime) -> Result<(), Fail> {
+fn calls_of_checks(rt: HostRuntime) {
     let row = leaf("a Check of a leaf", true, "var >= 5 = true\n  - var: 7\n");
-    sweep_check(&rt, Check::leaf(ge(5u32)), 7, row)?;
-    let joins = row_of_joins(rt.alloc())?;
+    sweep_check(&rt, Check::leaf(ge(5u32)), 7, row);
+    let joins = row_of_joins(&rt, rt.alloc());
     sweep_check(
         &rt,
         joins,
         7,
         over("a Check of joins", true, JOINS, PARTS_OF_JOINS),
-    )?;
-    let members = threshold_of_members(rt.alloc())?;
+    );
+    let members = threshold_of_members(&rt, rt.alloc());
     let row = over("a Check of members", false, MEMBERS, PARTS_OF_MEMBERS);
     sweep_check(&rt, members, 3, row)
 }
@@ -308,8 +318,8 @@ impl Call for Printing<'_> {
 }
 
 #[test]
-fn texts_of_checks(rt: HostRuntime) -> Result<(), Fail> {
-    let check = row_of_joins(rt.alloc())?;
+fn texts_of_checks(rt: HostRuntime) {
+    let check = row_of_joins(&rt, rt.alloc());
     let expected = "all_of((! var >= 10), small, (var < 3 ^ any_of(var >= 7)))";
     sweep(
         &rt,
@@ -317,8 +327,9 @@ fn texts_of_checks(rt: HostRuntime) -> Result<(), Fail> {
         &Printing { check: &check },
         expected,
         Taken,
-    )?;
-    let check = threshold_of_members(rt.alloc())?;
+    )
+    .expect(&rt, "memory");
+    let check = threshold_of_members(&rt, rt.alloc());
     let expected = "at_least(1, each only (var <= 5), odd_of(any only (var >= 9), \
         at_least 2 only (var >= 5)))";
     sweep(
@@ -328,6 +339,7 @@ fn texts_of_checks(rt: HostRuntime) -> Result<(), Fail> {
         expected,
         Taken,
     )
+    .expect(&rt, "memory")
 }
 
 // The item, twice, in a list that is made for the call; 0 has none.
@@ -403,20 +415,20 @@ impl Call for Asking<'_> {
 }
 
 #[test]
-fn verdicts_over_lists_that_are_made(rt: HostRuntime) -> Result<(), Fail> {
+fn verdicts_over_lists_that_are_made(rt: HostRuntime) {
     let alloc = rt.alloc();
     let leaf: Listing = Check::leaf_beside_members(ge(5));
-    let check = leaf.of_each(alloc, Twice)?;
+    let check = leaf.of_each(alloc, Twice).expect(&rt, "memory");
     for (item, expected) in [(7, "true"), (4, "false")] {
         let asking = Asking {
             check: &check,
             item,
         };
-        sweep(&rt, "Check::eval_with", &asking, expected, Taken)?;
+        sweep(&rt, "Check::eval_with", &asking, expected, Taken).expect(&rt, "memory");
     }
     let asking = Asking {
         check: &check,
         item: 0,
     };
-    sweep(&rt, "Check::eval_with of no list", &asking, "false", Never)
+    sweep(&rt, "Check::eval_with of no list", &asking, "false", Never).expect(&rt, "memory")
 }

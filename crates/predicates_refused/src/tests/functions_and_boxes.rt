@@ -7,7 +7,6 @@ use predicates::function::function;
 use predicates::str::{contains, is_empty};
 use predicates_sweep::{leaf, over, sweep_calls};
 use predicates_testing::text;
-use std::test::Fail;
 
 /// Whether the number is 5 or more.
 pub fn is_big(number: &u8) -> bool
@@ -17,27 +16,33 @@ pub fn is_big(number: &u8) -> bool
 }
 
 #[test]
-fn functions(rt: HostRuntime) -> Result<(), Fail> {
+fn functions(rt: HostRuntime) {
     let small = leaf("function", false, "fn(var) = false\n");
-    sweep_calls(&rt, &function(is_big), &3, small)?;
+    sweep_calls(&rt, &function(is_big), &3, small).expect(&rt, "memory");
     let big = leaf("fn_name", true, "big(var) = true\n");
-    sweep_calls(&rt, &function(is_big).fn_name("big"), &7, big)
+    sweep_calls(&rt, &function(is_big).fn_name("big"), &7, big).expect(&rt, "memory")
 }
 
 #[test]
-fn a_box_over_a_leaf(rt: HostRuntime) -> Result<(), Fail> {
+fn a_box_over_a_leaf(rt: HostRuntime) {
     let alloc = rt.alloc();
-    let counted = contains(text(alloc, "a")?).count(2);
-    let boxed = BoxPredicate::new(alloc, Box::new(alloc, counted)?)?;
+    let counted = contains(text(alloc, "a").expect(&rt, "memory")).count(2);
+    let boxed = BoxPredicate::new(alloc, Box::new(alloc, counted).expect(&rt, "memory")).expect(
+        &rt, "memory",
+    );
     let lines = "var.contains(a) = true\n  - var: aa\n  - actual count: 2\n";
     let row = leaf("a box", true, lines).with_parameters("count=2\n");
-    sweep_calls(&rt, &boxed, &text(alloc, "aa")?, row)
+    sweep_calls(&rt, &boxed, &text(alloc, "aa").expect(&rt, "memory"), row).expect(&rt, "memory")
 }
 
 #[test]
-fn a_box_over_a_part(rt: HostRuntime) -> Result<(), Fail> {
+fn a_box_over_a_part(rt: HostRuntime) {
     let alloc = rt.alloc();
-    let boxed = BoxPredicate::new(alloc, Box::new(alloc, is_empty().not())?)?;
+    let boxed = BoxPredicate::new(
+        alloc,
+        Box::new(alloc, is_empty().not()).expect(&rt, "memory"),
+    )
+    .expect(&rt, "memory");
     let lines = "(! var.is_empty()) = true\n  predicate: var.is_empty() = false\n    - var: aa\n";
     let row = over(
         "a box over a part",
@@ -45,5 +50,5 @@ fn a_box_over_a_part(rt: HostRuntime) -> Result<(), Fail> {
         lines,
         "predicate: var.is_empty()\n",
     );
-    sweep_calls(&rt, &boxed, &text(alloc, "aa")?, row)
+    sweep_calls(&rt, &boxed, &text(alloc, "aa").expect(&rt, "memory"), row).expect(&rt, "memory")
 }

@@ -3,10 +3,9 @@ use predicates::laws;
 use predicates::ord::lt;
 use predicates::prelude::*;
 use predicates_sweep::refusing;
-use std::test::Fail;
 
 #[test]
-fn laws_of_predicates(rt: HostRuntime) -> Result<(), Fail> {
+fn laws_of_predicates(rt: HostRuntime) {
     let begun = refusing(rt.alloc(), "the laws");
     laws::double_negation(&lt(3i64), &9);
     laws::named(&lt(3i64), &9, "small");
@@ -23,5 +22,5 @@ fn laws_of_predicates(rt: HostRuntime) -> Result<(), Fail> {
     laws::complements(&5i64, &9);
     laws::memberships(&[3i64, 1, 3], &9);
     let right = lt(3i64).eval(rt.alloc(), &9) == Ok(false);
-    begun.end(&rt, right)
+    begun.end(&rt, right).expect(&rt, "memory")
 }

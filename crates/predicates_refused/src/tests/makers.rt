@@ -9,7 +9,6 @@ use predicates_testing::text;
 use predicates_text::{IsEmptyPredicate, RegexError, RegexPredicate, is_empty, is_match};
 use std::alloc::{AllocError, Global};
 use std::fs::Files;
-use std::test::Fail;
 
 // More members than are sorted in place.
 const MEMBERS: [i64; 24] = [
@@ -48,10 +47,10 @@ impl Call for Membership {
 }
 
 #[test]
-fn memberships(rt: HostRuntime) -> Result<(), Fail> {
-    sweep(&rt, "in_iter", &Membership::Listed, "true", GoesOn)?;
-    sweep(&rt, "in_hash", &Membership::Hashed, "false", GoesOn)?;
-    sweep(&rt, "sort", &Membership::Sorted, "true", Taken)?;
+fn memberships(rt: HostRuntime) {
+    sweep(&rt, "in_iter", &Membership::Listed, "true", GoesOn).expect(&rt, "memory");
+    sweep(&rt, "in_hash", &Membership::Hashed, "false", GoesOn).expect(&rt, "memory");
+    sweep(&rt, "sort", &Membership::Sorted, "true", Taken).expect(&rt, "memory");
     sweep(
         &rt,
         "same_members",
@@ -59,6 +58,7 @@ fn memberships(rt: HostRuntime) -> Result<(), Fail> {
         "true",
         GoesOn,
     )
+    .expect(&rt, "memory")
 }
 
 // A pattern that was made, or what is wrong with it.
@@ -107,7 +107,7 @@ impl Call for Pattern<'_> {
 }
 
 #[test]
-fn patterns(rt: HostRuntime) -> Result<(), Fail> {
+fn patterns(rt: HostRuntime) {
     for (name, pattern, expected) in [
         ("is_match", "T[a-z]*", "var.is_match(T[a-z]*) true"),
         ("is_match of nothing", "", "var.is_match() true"),
@@ -117,9 +117,8 @@ fn patterns(rt: HostRuntime) -> Result<(), Fail> {
             "regex parse error at 0..1: unclosed character class",
         ),
     ] {
-        sweep(&rt, name, &Pattern { pattern }, expected, GoesOn)?;
+        sweep(&rt, name, &Pattern { pattern }, expected, GoesOn).expect(&rt, "memory");
     }
-    Ok(())
 }
 
 #[derive(Drop)]
@@ -183,31 +182,32 @@ impl<R: Files + AllocGlobal> Call for Taking<'_, R> {
 }
 
 #[test]
-fn boxes_and_snapshots(rt: HostRuntime) -> Result<(), Fail> {
-    let item = text(rt.alloc(), "a")?;
+fn boxes_and_snapshots(rt: HostRuntime) {
+    let item = text(rt.alloc(), "a").expect(&rt, "memory");
     sweep(
         &rt,
         "BoxPredicate::new",
         &Boxed { item: &item },
         "true",
         Taken,
-    )?;
+    )
+    .expect(&rt, "memory");
     let folder = Taking {
         rt: &rt,
         path: "/proc/self",
     };
     let expected = "/proc/self Ok(Symlink) Ok(Dir) Err(NotRegular)";
-    sweep(&rt, "Snapshot::take of a link", &folder, expected, Taken)?;
+    sweep(&rt, "Snapshot::take of a link", &folder, expected, Taken).expect(&rt, "memory");
     let nothing = Taking {
         rt: &rt,
         path: "/proc/no such file",
     };
     let expected = "/proc/no such file Err(NotFound) Err(NotFound) Err(NotFound)";
-    sweep(&rt, "Snapshot::take of nothing", &nothing, expected, Taken)?;
+    sweep(&rt, "Snapshot::take of nothing", &nothing, expected, Taken).expect(&rt, "memory");
     let file = Taking {
         rt: &rt,
         path: "/proc/sys/kernel/ostype",
     };
     let expected = "/proc/sys/kernel/ostype Ok(File) Ok(File) Ok(6)";
-    sweep(&rt, "Snapshot::take of a file", &file, expected, Taken)
+    sweep(&rt, "Snapshot::take of a file", &file, expected, Taken).expect(&rt, "memory")
 }

@@ -4,7 +4,6 @@ ghost use Rattle.std.specs.Prelude.{◌≡◌};
 use predicates::ord::ge;
 use predicates::part::{Field, PredicatePartExt};
 use predicates_sweep::{over, sweep_calls};
-use std::test::Fail;
 
 #[derive(Drop)]
 struct Guest {
@@ -36,15 +35,15 @@ impl Field<Guest, u32> for Age {
 }
 
 #[test]
-fn fields(rt: HostRuntime) -> Result<(), Fail> {
+fn fields(rt: HostRuntime) {
     let (age, seat) = (17, None);
     let guest = Guest { age, seat };
     let lines = "age = false\n  age: var >= 18 = false\n    - var: 17\n";
     let children = "age: var >= 18\n";
     let adult = ge(18u32).of("age", |guest: &Guest| guest.age);
-    sweep_calls(&rt, &adult, &guest, over("of", false, lines, children))?;
+    sweep_calls(&rt, &adult, &guest, over("of", false, lines, children)).expect(&rt, "memory");
     let adult = ge(18u32).of_ref("age", age_of);
-    sweep_calls(&rt, &adult, &guest, over("of_ref", false, lines, children))?;
+    sweep_calls(&rt, &adult, &guest, over("of_ref", false, lines, children)).expect(&rt, "memory");
     let adult = ge(18u32).of_field("age", Age);
     sweep_calls(
         &rt,
@@ -52,30 +51,31 @@ fn fields(rt: HostRuntime) -> Result<(), Fail> {
         &guest,
         over("of_field", false, lines, children),
     )
+    .expect(&rt, "memory")
 }
 
 #[test]
-fn value_or_none(rt: HostRuntime) -> Result<(), Fail> {
+fn value_or_none(rt: HostRuntime) {
     let some = ge(18u32).of_some();
     let children = "predicate: var >= 18\n";
     let lines = "var >= 18 = true\n  - var: 18\n";
     let row = over("of_some on a value", true, lines, children);
-    sweep_calls(&rt, &some, &Some(18), row)?;
+    sweep_calls(&rt, &some, &Some(18), row).expect(&rt, "memory");
     let lines = "var >= 18 = false\n  - error: no value\n";
     let row = over("of_some on none", false, lines, children);
-    sweep_calls(&rt, &some, &None, row)
+    sweep_calls(&rt, &some, &None, row).expect(&rt, "memory")
 }
 
 #[test]
-fn value_or_none_in_a_field(rt: HostRuntime) -> Result<(), Fail> {
+fn value_or_none_in_a_field(rt: HostRuntime) {
     let seated = ge(18u32).of_some().of_ref("seat", seat_of);
     let children = "seat: var >= 18\n  predicate: var >= 18\n";
     let (age, seat) = (17, Some(18));
     let lines = "seat = true\n  seat: var >= 18 = true\n    - var: 18\n";
     let row = over("of_some in of_ref, on a value", true, lines, children);
-    sweep_calls(&rt, &seated, &Guest { age, seat }, row)?;
+    sweep_calls(&rt, &seated, &Guest { age, seat }, row).expect(&rt, "memory");
     let (age, seat) = (17, None);
     let lines = "seat = false\n  seat: var >= 18 = false\n    - error: no value\n";
     let row = over("of_some in of_ref, on none", false, lines, children);
-    sweep_calls(&rt, &seated, &Guest { age, seat }, row)
+    sweep_calls(&rt, &seated, &Guest { age, seat }, row).expect(&rt, "memory")
 }

@@ -4,10 +4,10 @@ use predicates_sweep::{Row, leaf, sweep_calls};
 use predicates_testing::text;
 use predicates_text::{RegexPredicate, is_match};
 use std::alloc::Global;
-use std::test::Fail;
+use std::process::Abort;
 
-fn pattern(alloc: Global, pattern: &str) -> Result<RegexPredicate, Fail> {
-    Ok(is_match(alloc, text(alloc, pattern)?)?)
+fn pattern(rt: &impl Abort, alloc: Global, pattern: &str) -> RegexPredicate {
+    is_match(alloc, text(alloc, pattern).expect(rt, "memory")).expect(rt, "memory")
 }
 
 // The row of a pattern that holds.
@@ -20,21 +20,27 @@ fn found<'a>(name: &'a str, lines: &'a str) -> Row<'a> {
 }
 
 #[test]
-fn matches(rt: HostRuntime) -> Result<(), Fail> {
+fn matches(rt: HostRuntime) {
     let alloc = rt.alloc();
-    let item = text(alloc, "One Two Three Two One")?;
-    let words = pattern(alloc, "T[a-z]*")?;
+    let item = text(alloc, "One Two Three Two One").expect(&rt, "memory");
+    let words = pattern(&rt, alloc, "T[a-z]*");
     let lines = "var.is_match(T[a-z]*) = true\n  - var: One Two Three Two One\n";
-    sweep_calls(&rt, &words, &item, found("is_match", lines))?;
+    sweep_calls(&rt, &words, &item, found("is_match", lines)).expect(&rt, "memory");
     let lines =
         "var.is_match(T[a-z]*) = true\n  - var: One Two Three Two One\n  - actual count: 3\n";
     let counted = found("a counted is_match", lines).with_parameters("count=3\n");
-    sweep_calls(&rt, &words.count(3), &item, counted)
+    sweep_calls(&rt, &words.count(3), &item, counted).expect(&rt, "memory")
 }
 
 #[test]
-fn the_empty_pattern(rt: HostRuntime) -> Result<(), Fail> {
+fn the_empty_pattern(rt: HostRuntime) {
     let alloc = rt.alloc();
     let row = found("is_match of nothing", "var.is_match() = true\n  - var: \n");
-    sweep_calls(&rt, &pattern(alloc, "")?, &text(alloc, "")?, row)
+    sweep_calls(
+        &rt,
+        &pattern(&rt, alloc, ""),
+        &text(alloc, "").expect(&rt, "memory"),
+        row,
+    )
+    .expect(&rt, "memory")
 }

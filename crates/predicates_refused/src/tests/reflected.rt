@@ -6,7 +6,6 @@ use predicates_sweep::{Answer, Call, sweep};
 use predicates_testing::text;
 use predicates_text::{case_folded, is_empty, lines_even, trimmed};
 use std::alloc::{AllocError, Global};
-use std::test::Fail;
 
 // A case without children, with a product.
 fn leaf(alloc: Global, label: &str) -> Result<Case, AllocError> {
@@ -64,9 +63,9 @@ impl Call for AddChild {
 }
 
 #[test]
-fn cases(rt: HostRuntime) -> Result<(), Fail> {
+fn cases(rt: HostRuntime) {
     let expected = "predicate = false\n  - var: 7\n";
-    sweep(&rt, "add_product", &AddProduct, expected, Taken)?;
+    sweep(&rt, "add_product", &AddProduct, expected, Taken).expect(&rt, "memory");
     let expected = "a = true\n  - var: 7\n  right: c = true\n    - var: 7\n";
     sweep(
         &rt,
@@ -74,7 +73,8 @@ fn cases(rt: HostRuntime) -> Result<(), Fail> {
         &AddChild { second: false },
         expected,
         Taken,
-    )?;
+    )
+    .expect(&rt, "memory");
     let expected = "\
 a = true
   - var: 7
@@ -94,6 +94,7 @@ a = true
         expected,
         Taken,
     )
+    .expect(&rt, "memory")
 }
 
 // The lines of a case alone, or after what a text holds.
@@ -123,7 +124,7 @@ impl Call for Rendering {
 }
 
 #[test]
-fn lines(rt: HostRuntime) -> Result<(), Fail> {
+fn lines(rt: HostRuntime) {
     let expected = "a = true\n  - var: 7\n  left: b = true\n    - var: 7\n";
     sweep(
         &rt,
@@ -131,7 +132,8 @@ fn lines(rt: HostRuntime) -> Result<(), Fail> {
         &Rendering { appends: false },
         expected,
         Taken,
-    )?;
+    )
+    .expect(&rt, "memory");
     sweep(
         &rt,
         "render_onto",
@@ -139,6 +141,7 @@ fn lines(rt: HostRuntime) -> Result<(), Fail> {
         expected,
         Taken,
     )
+    .expect(&rt, "memory")
 }
 
 #[derive(Clone, Copy)]
@@ -194,31 +197,31 @@ impl Call for View<'_> {
 }
 
 #[test]
-fn descriptions(rt: HostRuntime) -> Result<(), Fail> {
+fn descriptions(rt: HostRuntime) {
     let expected = "part: (! var.is_empty())\n  predicate: var.is_empty()\n";
-    sweep(&rt, "describe", &Describing, expected, Taken)
+    sweep(&rt, "describe", &Describing, expected, Taken).expect(&rt, "memory")
 }
 
 #[test]
-fn views(rt: HostRuntime) -> Result<(), Fail> {
+fn views(rt: HostRuntime) {
     let words = View {
         item: " a b ",
         kind: Kind::Trimmed,
     };
-    sweep(&rt, "trimmed", &words, "a b", Taken)?;
+    sweep(&rt, "trimmed", &words, "a b", Taken).expect(&rt, "memory");
     let blanks = View {
         item: "  ",
         kind: Kind::Trimmed,
     };
-    sweep(&rt, "trimmed of blanks", &blanks, "", Never)?;
+    sweep(&rt, "trimmed of blanks", &blanks, "", Never).expect(&rt, "memory");
     let lines = View {
         item: "a\r\nb\r",
         kind: Kind::LinesEven,
     };
-    sweep(&rt, "lines_even", &lines, "a\nb\n", Taken)?;
+    sweep(&rt, "lines_even", &lines, "a\nb\n", Taken).expect(&rt, "memory");
     let masse = View {
         item: "Maße",
         kind: Kind::CaseFolded,
     };
-    sweep(&rt, "case_folded", &masse, "masse", Taken)
+    sweep(&rt, "case_folded", &masse, "masse", Taken).expect(&rt, "memory")
 }

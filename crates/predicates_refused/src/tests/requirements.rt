@@ -9,7 +9,6 @@ use predicates_core::reflection::render_onto;
 use predicates_sweep::Memory::{Never, Taken};
 use predicates_sweep::{Answer, Call, sweep};
 use std::alloc::{AllocError, Global};
-use std::test::Fail;
 
 // A requirement, with a label or without, that the number is between 5 and 10.
 #[derive(Drop)]
@@ -49,7 +48,7 @@ fn answer_of(ended: Result<(), Unmet>) -> Result<Answer, AllocError> {
 const ELEVEN: &str = "(var >= 5 && var <= 10) = false\n  right: var <= 10 = false\n    - var: 11\n";
 
 #[test]
-fn requirements(rt: HostRuntime) -> Result<(), Fail> {
+fn requirements(rt: HostRuntime) {
     let (label, number) = (None, 7);
     sweep(
         &rt,
@@ -57,7 +56,8 @@ fn requirements(rt: HostRuntime) -> Result<(), Fail> {
         &Requiring { label, number },
         "true",
         Never,
-    )?;
+    )
+    .expect(&rt, "memory");
     let number = 11;
     sweep(
         &rt,
@@ -65,11 +65,12 @@ fn requirements(rt: HostRuntime) -> Result<(), Fail> {
         &Requiring { label, number },
         ELEVEN,
         Taken,
-    )?;
+    )
+    .expect(&rt, "memory");
     let label = Some("eleven");
-    let expected = format!(in rt.alloc(); "eleven: {ELEVEN}")?;
+    let expected = format!(in rt.alloc(); "eleven: {ELEVEN}").expect(&rt, "memory");
     let call = Requiring { label, number };
-    sweep(&rt, "require_as on 11", &call, expected.as_str(), Taken)
+    sweep(&rt, "require_as on 11", &call, expected.as_str(), Taken).expect(&rt, "memory")
 }
 
 // A requirement that each of three numbers is so great.
@@ -97,7 +98,7 @@ impl Call for RequiringAll {
 }
 
 #[test]
-fn requirements_of_all(rt: HostRuntime) -> Result<(), Fail> {
+fn requirements_of_all(rt: HostRuntime) {
     let least = 5;
     sweep(
         &rt,
@@ -105,7 +106,8 @@ fn requirements_of_all(rt: HostRuntime) -> Result<(), Fail> {
         &RequiringAll { least },
         "true",
         Never,
-    )?;
+    )
+    .expect(&rt, "memory");
     let least = 20;
     sweep(
         &rt,
@@ -114,6 +116,7 @@ fn requirements_of_all(rt: HostRuntime) -> Result<(), Fail> {
         "a: var >= 20 = false\n  - var: 10\nc: var >= 20 = false\n  - var: 7\n",
         Taken,
     )
+    .expect(&rt, "memory")
 }
 
 // What fails of some numbers, as the lines of the cases.
@@ -216,9 +219,8 @@ var <= 5 = false
 ];
 
 #[test]
-fn reports(rt: HostRuntime) -> Result<(), Fail> {
+fn reports(rt: HostRuntime) {
     for (name, call, expected) in FAILING {
-        sweep(&rt, name, &call, expected, Taken)?;
+        sweep(&rt, name, &call, expected, Taken).expect(&rt, "memory");
     }
-    Ok(())
 }

@@ -6,7 +6,6 @@ use predicates_testing::{
     read_text_words,
 };
 use std::process::Abort;
-use std::test::Fail;
 
 // Over numbers.
 const NUMBERS: [&str; 20] = [
@@ -74,13 +73,15 @@ fn sweep_words<R: Abort + AllocGlobal + Print, P: FromWords<W, Item>, W: Drop, I
     words: Option<Vec<W>>,
     item: &Item,
     row: &WrittenRow,
-) -> Result<(), Fail> {
+) {
     let Some(mut words) = words else {
-        return Err("an unknown word".into());
+        panic!(rt; "an unknown word");
     };
-    match P::from_words(rt.alloc(), &mut words)? {
-        Some(predicate) => { sweep_calls(rt, &predicate, item, row.row()?) }
-        None => Err("no predicate".into()),
+    match P::from_words(rt.alloc(), &mut words).expect(rt, "memory") {
+        Some(predicate) => {
+            sweep_calls(rt, &predicate, item, row.row().expect(rt, "memory")).expect(rt, "memory")
+        }
+        None => panic!(rt; "no predicate"),
     }
 }
 
@@ -91,36 +92,38 @@ type Texts = TextLevel<TextLevel<TextLeaf>>;
 type Bytes = Utf8Predicate<Texts>;
 
 #[test]
-fn calls_of_predicates_of_numbers(rt: HostRuntime) -> Result<(), Fail> {
+fn calls_of_predicates_of_numbers(rt: HostRuntime) {
     let alloc = rt.alloc();
     for row in NUMBERS {
-        let row = WrittenRow::read(alloc, row)?;
-        let item = row.item.as_str().parse::<i64>().ok().ok_or("no number")?;
-        let words = read_number_words(alloc, row.words.as_str())?;
-        sweep_words::<HostRuntime, Numbers, NumberWord, i64>(&rt, words, &item, &row)?;
+        let row = WrittenRow::read(alloc, row).expect(&rt, "memory");
+        let item = row
+            .item
+            .as_str()
+            .parse::<i64>()
+            .ok()
+            .expect(&rt, "no number");
+        let words = read_number_words(alloc, row.words.as_str()).expect(&rt, "memory");
+        sweep_words::<HostRuntime, Numbers, NumberWord, i64>(&rt, words, &item, &row);
     }
-    Ok(())
 }
 
 #[test]
-fn calls_of_predicates_of_texts(rt: HostRuntime) -> Result<(), Fail> {
+fn calls_of_predicates_of_texts(rt: HostRuntime) {
     let alloc = rt.alloc();
     for row in TEXTS {
-        let row = WrittenRow::read(alloc, row)?;
-        let words = read_text_words(alloc, row.words.as_str())?;
-        sweep_words::<HostRuntime, Texts, TextWord, String>(&rt, words, &row.item, &row)?;
+        let row = WrittenRow::read(alloc, row).expect(&rt, "memory");
+        let words = read_text_words(alloc, row.words.as_str()).expect(&rt, "memory");
+        sweep_words::<HostRuntime, Texts, TextWord, String>(&rt, words, &row.item, &row);
     }
-    Ok(())
 }
 
 #[test]
-fn calls_of_predicates_of_bytes(rt: HostRuntime) -> Result<(), Fail> {
+fn calls_of_predicates_of_bytes(rt: HostRuntime) {
     let alloc = rt.alloc();
     for (item, row) in BYTES {
-        let row = WrittenRow::read(alloc, row)?;
-        let words = read_text_words(alloc, row.words.as_str())?;
-        let item = Vec::from_slice(alloc, item)?;
-        sweep_words::<HostRuntime, Bytes, TextWord, Vec<u8>>(&rt, words, &item, &row)?;
+        let row = WrittenRow::read(alloc, row).expect(&rt, "memory");
+        let words = read_text_words(alloc, row.words.as_str()).expect(&rt, "memory");
+        let item = Vec::from_slice(alloc, item).expect(&rt, "memory");
+        sweep_words::<HostRuntime, Bytes, TextWord, Vec<u8>>(&rt, words, &item, &row);
     }
-    Ok(())
 }

@@ -5,7 +5,6 @@ use predicates_sweep::Memory::Taken;
 use predicates_sweep::{Answer, Call, sweep};
 use predicates_testing::text;
 use std::alloc::{AllocError, Global};
-use std::test::Fail;
 
 // The lines of a case in a style, alone or after what a text holds.
 #[derive(Clone, Copy)]
@@ -52,7 +51,7 @@ a\\n = \u{1b}[31mfalse\u{1b}[0m
 ";
 
 #[test]
-fn styles(rt: HostRuntime) -> Result<(), Fail> {
+fn styles(rt: HostRuntime) {
     let plain = Style::new();
     let cut = Style {
         children: Some(1),
@@ -65,7 +64,6 @@ fn styles(rt: HostRuntime) -> Result<(), Fail> {
         ("render_styled without a style", plain, false, PLAIN),
         ("render_styled_onto", cut, true, CUT),
     ] {
-        sweep(&rt, name, &Styling { style, appends }, expected, Taken)?;
+        sweep(&rt, name, &Styling { style, appends }, expected, Taken).expect(&rt, "memory");
     }
-    Ok(())
 }

@@ -2,7 +2,6 @@
 use super::words::check_of;
 use predicates_sweep::{WrittenRow, sweep_calls};
 use std::process::Abort;
-use std::test::Fail;
 
 // In the last the right part, which takes memory, is not asked.
 const CHECKS: [&str; 5] = [
@@ -14,19 +13,21 @@ const CHECKS: [&str; 5] = [
 ];
 
 // Sweeps over the calls of the check of the words.
-fn sweep_check<R: Abort + AllocGlobal + Print>(rt: &R, row: &WrittenRow) -> Result<(), Fail> {
+fn sweep_check<R: Abort + AllocGlobal + Print>(rt: &R, row: &WrittenRow) {
     let mut tokens = Vec::new(rt.alloc());
     for token in row.words.as_str().split(' ') {
-        tokens.push(token)?;
+        tokens.push(token).expect(rt, "memory");
     }
-    let check = check_of(rt.alloc(), tokens.as_slice())?;
-    sweep_calls(rt, &check, &row.item, row.row()?)
+    let check = check_of(rt, rt.alloc(), tokens.as_slice());
+    sweep_calls(rt, &check, &row.item, row.row().expect(rt, "memory")).expect(rt, "memory")
 }
 
 #[test]
-fn calls_of_checks_of_words(rt: HostRuntime) -> Result<(), Fail> {
+fn calls_of_checks_of_words(rt: HostRuntime) {
     for row in CHECKS {
-        sweep_check(&rt, &WrittenRow::read(rt.alloc(), row)?)?;
+        sweep_check(
+            &rt,
+            &WrittenRow::read(rt.alloc(), row).expect(&rt, "memory"),
+        );
     }
-    Ok(())
 }

@@ -7,7 +7,6 @@ use predicates_sweep::{Call, refusing, sweep};
 use predicates_vet::settings::{Report, Settings};
 use predicates_vet::{Job, Streams, Tally, junit, read_checks, run_records};
 use std::alloc::{AllocError, Global};
-use std::test::Fail;
 
 fn settings() -> Settings {
     Settings {
@@ -91,22 +90,22 @@ true
 ";
 
 #[test]
-fn documents(rt: HostRuntime) -> Result<(), Fail> {
+fn documents(rt: HostRuntime) {
     let (input, all_read) = (b"3\n[\n4\n".as_slice(), false);
     let call = Documenting { input, all_read };
-    sweep(&rt, "junit", &call, BROKEN, Taken)?;
+    sweep(&rt, "junit", &call, BROKEN, Taken).expect(&rt, "memory");
     let (input, all_read) = (b"1\n".as_slice(), true);
     let call = Documenting { input, all_read };
-    sweep(&rt, "junit of kept rules", &call, KEPT, Taken)
+    sweep(&rt, "junit of kept rules", &call, KEPT, Taken).expect(&rt, "memory")
 }
 
 #[test]
-fn jobs_and_tallies(rt: HostRuntime) -> Result<(), Fail> {
-    let rules = rules_of(rt.alloc())?;
+fn jobs_and_tallies(rt: HostRuntime) {
+    let rules = rules_of(rt.alloc()).expect(&rt, "memory");
     let begun = refusing(rt.alloc(), "Job::new and Tally::new");
     let settings = settings();
     let job = Job::new(&rules, &settings);
     let tally = Tally::new(rt.alloc(), Some(9));
     let right = job.rules.len() == 2 && tally.left == Some(9);
-    begun.end(&rt, right)
+    begun.end(&rt, right).expect(&rt, "memory")
 }

@@ -4,10 +4,9 @@ use super::runs::{NUMBERS, SEVEN};
 use super::words::check_of;
 use predicates_explain::{RunFault, TextCheck, filter_lines, run_between, run_text};
 use predicates_fakes::{Narrow, Slow};
-use std::alloc::{AllocError, Global};
+use std::alloc::Global;
 use std::io::ErrorKind;
 use std::process::Abort;
-use std::test::Fail;
 
 const BLANK: &str = "\
 line 1: true
@@ -76,7 +75,7 @@ fn ends_after(
 }
 
 // The run is right over one byte at a time, and where each write in turn fails it answers that.
-fn writes<R: Abort + AllocGlobal>(rt: &R, run: Run<'_>) -> Result<(), Fail> {
+fn writes<R: Abort + AllocGlobal>(rt: &R, run: Run<'_>) {
     let whole = run.whole.len();
     for (kind, _, fault) in KINDS {
         for room in 0..whole {
@@ -90,7 +89,6 @@ fn writes<R: Abort + AllocGlobal>(rt: &R, run: Run<'_>) -> Result<(), Fail> {
             "at {whole}"
         );
     }
-    Ok(())
 }
 
 // How many bytes are written for the lines that end within this many bytes of the input.
@@ -128,11 +126,7 @@ fn fails_behind(
 }
 
 // Where each read in turn fails, the run answers that, after the blocks of the lines that it read.
-fn reads<R: Abort + AllocGlobal>(
-    rt: &R,
-    run: Run<'_>,
-    lines: &[(usize, usize)],
-) -> Result<(), Fail> {
+fn reads<R: Abort + AllocGlobal>(rt: &R, run: Run<'_>, lines: &[(usize, usize)]) {
     for (kind, fault, _) in KINDS {
         for read in 0..=run.input.len() {
             let (prefix, written) = (&run.input[..read], answered(lines, read));
@@ -142,46 +136,45 @@ fn reads<R: Abort + AllocGlobal>(
             );
         }
     }
-    Ok(())
 }
 
 #[test]
-fn a_run_over_numbers(rt: HostRuntime) -> Result<(), Fail> {
+fn a_run_over_numbers(rt: HostRuntime) {
     let run = Run {
         check: None,
         wanted: None,
         input: b"7\n11\n4\n",
         whole: NUMBERS.as_bytes(),
     };
-    writes(&rt, run)?;
+    writes(&rt, run);
     // Where each line ends, and where its block does.
     reads(&rt, run, &[(2, 115), (5, 198), (7, 277)])
 }
 
 #[test]
-fn a_run_over_texts(rt: HostRuntime) -> Result<(), Fail> {
-    let check = check_of(rt.alloc(), &["empty", "trim", "contains=a", "or"])?;
+fn a_run_over_texts(rt: HostRuntime) {
+    let check = check_of(&rt, rt.alloc(), &["empty", "trim", "contains=a", "or"]);
     let run = Run {
         check: Some(&check),
         wanted: None,
         input: b"  \n",
         whole: BLANK.as_bytes(),
     };
-    writes(&rt, run)?;
+    writes(&rt, run);
     reads(&rt, run, &[(3, BLANK.len())])
 }
 
 // Of three lines, the last without its line feed, the first and the last hold an `a`.
 #[test]
-fn a_filter(rt: HostRuntime) -> Result<(), Fail> {
-    let check = check_of(rt.alloc(), &["contains=a"])?;
+fn a_filter(rt: HostRuntime) {
+    let check = check_of(&rt, rt.alloc(), &["contains=a"]);
     let run = Run {
         check: Some(&check),
         wanted: Some(true),
         input: b"ab\nb\r\na",
         whole: b"ab\na",
     };
-    writes(&rt, run)?;
+    writes(&rt, run);
     reads(&rt, run, &[(3, 3)])
 }
 
@@ -200,9 +193,9 @@ const PREFIXES: [(&[u8], &str, &str); 6] = [
 ];
 
 // Whether the run over the input ends well and writes both texts.
-fn writes_both(alloc: Global, input: &[u8], first: &str, second: &str) -> Result<bool, AllocError> {
-    let whole = format!(in alloc; "{first}{second}")?;
-    Ok(writes_whole(alloc, input, whole.as_bytes()))
+fn writes_both(rt: &impl Abort, alloc: Global, input: &[u8], first: &str, second: &str) -> bool {
+    let whole = format!(in alloc; "{first}{second}").expect(rt, "memory");
+    writes_whole(alloc, input, whole.as_bytes())
 }
 
 fn writes_whole<'a>(alloc: Global, input: &'a [u8], whole: &'a [u8]) -> bool {
@@ -216,9 +209,11 @@ fn writes_whole<'a>(alloc: Global, input: &'a [u8], whole: &'a [u8]) -> bool {
 }
 
 #[test]
-fn runs_over_each_prefix(rt: HostRuntime) -> Result<(), Fail> {
+fn runs_over_each_prefix(rt: HostRuntime) {
     for (input, first, second) in PREFIXES {
-        assert!(rt; writes_both(rt.alloc(), input, first, second)?, "{input:?}");
+        assert!(rt;
+            writes_both(&rt, rt.alloc(), input, first, second),
+            "{input:?}"
+        );
     }
-    Ok(())
 }

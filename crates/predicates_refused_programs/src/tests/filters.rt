@@ -5,7 +5,6 @@ use predicates_sweep::Memory::Taken;
 use predicates_sweep::{Answer, Call, sweep};
 use std::alloc::{AllocError, Global};
 use std::str;
-use std::test::Fail;
 
 // A filter by a check of texts, its counts, and what it tells.
 #[derive(Drop)]
@@ -45,8 +44,8 @@ impl Call for Filtering<'_> {
 }
 
 #[test]
-fn filters(rt: HostRuntime) -> Result<(), Fail> {
-    let check = check_of(rt.alloc(), &["starts=a", "trim"])?;
+fn filters(rt: HostRuntime) {
+    let check = check_of(&rt, rt.alloc(), &["starts=a", "trim"]);
     let check = &check;
     sweep(
         &rt,
@@ -57,7 +56,8 @@ fn filters(rt: HostRuntime) -> Result<(), Fail> {
         },
         "2 1\na\n a",
         Taken,
-    )?;
+    )
+    .expect(&rt, "memory");
     sweep(
         &rt,
         "filter_with_reasons",
@@ -65,4 +65,5 @@ fn filters(rt: HostRuntime) -> Result<(), Fail> {
         "2 1\na\n aline 2: false\nvar.starts_with(\"a\") = false\n  - var: b\nline 3: not UTF-8\n",
         Taken,
     )
+    .expect(&rt, "memory")
 }

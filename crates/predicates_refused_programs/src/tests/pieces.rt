@@ -5,7 +5,6 @@ use predicates_records::{Position, TakenRecord, next_record};
 use predicates_sweep::Memory::{self, Never, Taken};
 use predicates_sweep::{Call, sweep};
 use std::alloc::{AllocError, Global};
-use std::test::Fail;
 
 // How the first piece of an input is taken.
 #[derive(Clone, Copy)]
@@ -120,9 +119,8 @@ const PIECES: [(&str, Piece, &[u8], &str, Memory); 9] = [
 ];
 
 #[test]
-fn pieces_of_inputs(rt: HostRuntime) -> Result<(), Fail> {
+fn pieces_of_inputs(rt: HostRuntime) {
     for (name, piece, input, expected, memory) in PIECES {
-        sweep(&rt, name, &Taking { piece, input }, expected, memory)?;
+        sweep(&rt, name, &Taking { piece, input }, expected, memory).expect(&rt, "memory");
     }
-    Ok(())
 }

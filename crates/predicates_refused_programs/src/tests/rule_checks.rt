@@ -5,7 +5,6 @@ use predicates_sweep::{Row, sweep_calls};
 use predicates_vet::read_checks;
 use serde_json::Value;
 use std::alloc::{AllocError, Global};
-use std::test::Fail;
 
 // The first rule of the text.
 fn rule_of(alloc: Global, text: &[u8]) -> Result<RuleCheck, AllocError> {
@@ -31,9 +30,9 @@ fn row<'a>(name: &'a str, verdict: bool, lines: &'a str, memory: [Memory; 3]) ->
 }
 
 #[test]
-fn calls_of_checks_of_records(rt: HostRuntime) -> Result<(), Fail> {
-    let rule = rule_of(rt.alloc(), b"a: /x == 1 or /x == 2")?;
-    let record = Value::from_str(rt.alloc(), "{\"x\": 3}")?;
+fn calls_of_checks_of_records(rt: HostRuntime) {
+    let rule = rule_of(rt.alloc(), b"a: /x == 1 or /x == 2").expect(&rt, "memory");
+    let record = Value::from_str(rt.alloc(), "{\"x\": 3}").expect(&rt, "memory");
     let memory = [Never, Taken, Perhaps];
     let lines = "\
 /x == 1 or /x == 2 = false
@@ -47,7 +46,8 @@ fn calls_of_checks_of_records(rt: HostRuntime) -> Result<(), Fail> {
         &rule.check,
         &record,
         row("Check", false, lines, memory),
-    )?;
+    )
+    .expect(&rt, "memory");
     let lines = "\
 a = false
   rule: /x == 1 or /x == 2 = false
@@ -56,7 +56,7 @@ a = false
     part: /x == 2 = false
       - found: 3
 ";
-    sweep_calls(&rt, &rule, &record, row("RuleCheck", false, lines, memory))
+    sweep_calls(&rt, &rule, &record, row("RuleCheck", false, lines, memory)).expect(&rt, "memory")
 }
 
 // A name, a rule, a record, the verdict, the lines of the case, and what each call does with
@@ -86,11 +86,10 @@ a = false
 ];
 
 #[test]
-fn calls_of_checks_of_rules(rt: HostRuntime) -> Result<(), Fail> {
+fn calls_of_checks_of_rules(rt: HostRuntime) {
     for (name, rule, record, verdict, lines, memory) in RULES {
-        let rule = rule_of(rt.alloc(), rule)?;
-        let record = Value::from_str(rt.alloc(), record)?;
-        sweep_calls(&rt, &rule, &record, row(name, verdict, lines, memory))?;
+        let rule = rule_of(rt.alloc(), rule).expect(&rt, "memory");
+        let record = Value::from_str(rt.alloc(), record).expect(&rt, "memory");
+        sweep_calls(&rt, &rule, &record, row(name, verdict, lines, memory)).expect(&rt, "memory");
     }
-    Ok(())
 }

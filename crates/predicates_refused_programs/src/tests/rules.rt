@@ -5,7 +5,6 @@ use predicates_rules::rule::{Rule, read_faults, read_rules};
 use predicates_sweep::Memory::GoesOn;
 use predicates_sweep::{Call, Rendered, sweep};
 use std::alloc::{AllocError, Global};
-use std::test::Fail;
 
 // Rules that were read, or the fault.
 #[derive(Drop)]
@@ -119,11 +118,10 @@ a: /x >= 1.5 and (/y in [1, \"b\"] or not /z is text) # c
 ];
 
 #[test]
-fn texts_of_rules(rt: HostRuntime) -> Result<(), Fail> {
+fn texts_of_rules(rt: HostRuntime) {
     for (name, text, expected) in READ {
-        sweep(&rt, name, &Reading { text }, expected, GoesOn)?;
+        sweep(&rt, name, &Reading { text }, expected, GoesOn).expect(&rt, "memory");
     }
-    Ok(())
 }
 
 const FOUND: [(&str, &[u8], &str); 2] = [
@@ -140,9 +138,8 @@ line 3, column 6: expected a word, an operator, a path or a literal, found `exis
 ];
 
 #[test]
-fn faults_of_rules(rt: HostRuntime) -> Result<(), Fail> {
+fn faults_of_rules(rt: HostRuntime) {
     for (name, text, expected) in FOUND {
-        sweep(&rt, name, &Finding { text }, expected, GoesOn)?;
+        sweep(&rt, name, &Finding { text }, expected, GoesOn).expect(&rt, "memory");
     }
-    Ok(())
 }

@@ -7,7 +7,6 @@ use predicates_explain::{TextCheck, explain_one, explain_total, run_between, run
 use predicates_sweep::Memory::{self, GoesOn, Never, Perhaps, Taken};
 use predicates_sweep::{Answer, Call, sweep};
 use std::alloc::{AllocError, Global};
-use std::test::Fail;
 
 /// What is written for 7, 11 and 4 between 5 and 10.
 pub const NUMBERS: &str = "\
@@ -65,14 +64,15 @@ impl Call for Explaining {
 }
 
 #[test]
-fn blocks(rt: HostRuntime) -> Result<(), Fail> {
+fn blocks(rt: HostRuntime) {
     sweep(
         &rt,
         "explain_one",
         &Explaining { total: false },
         SEVEN,
         Taken,
-    )?;
+    )
+    .expect(&rt, "memory");
     sweep(
         &rt,
         "explain_total",
@@ -80,6 +80,7 @@ fn blocks(rt: HostRuntime) -> Result<(), Fail> {
         SEVEN,
         Taken,
     )
+    .expect(&rt, "memory")
 }
 
 // A run over numbers between 5 and 10, or over texts by the check.
@@ -110,16 +111,17 @@ impl Call for Run<'_> {
 }
 
 #[test]
-fn runs_over_numbers(rt: HostRuntime) -> Result<(), Fail> {
+fn runs_over_numbers(rt: HostRuntime) {
     let (check, input) = (None, b"7\n11\n4\n".as_slice());
-    let expected = format!(in rt.alloc(); "true\n{NUMBERS}")?;
+    let expected = format!(in rt.alloc(); "true\n{NUMBERS}").expect(&rt, "memory");
     sweep(
         &rt,
         "run_between",
         &Run { check, input },
         expected.as_str(),
         Taken,
-    )?;
+    )
+    .expect(&rt, "memory");
     let (expected, input) = ("false\nline 1: not a number\n", b"x\n".as_slice());
     sweep(
         &rt,
@@ -127,7 +129,8 @@ fn runs_over_numbers(rt: HostRuntime) -> Result<(), Fail> {
         &Run { check, input },
         expected,
         Taken,
-    )?;
+    )
+    .expect(&rt, "memory");
     let input = b"".as_slice();
     sweep(
         &rt,
@@ -136,6 +139,7 @@ fn runs_over_numbers(rt: HostRuntime) -> Result<(), Fail> {
         "true\n",
         Perhaps,
     )
+    .expect(&rt, "memory")
 }
 
 // The words of a check, the input, and what is answered and written.
@@ -162,12 +166,11 @@ line 1: true
 ];
 
 #[test]
-fn runs_over_texts(rt: HostRuntime) -> Result<(), Fail> {
+fn runs_over_texts(rt: HostRuntime) {
     for (words, input, expected, memory) in TEXTS {
-        let check = check_of(rt.alloc(), words)?;
+        let check = check_of(&rt, rt.alloc(), words);
         let check = Some(&check);
-        let name = format!(in rt.alloc(); "run_text of {words:?}")?;
-        sweep(&rt, name.as_str(), &Run { check, input }, expected, memory)?;
+        let name = format!(in rt.alloc(); "run_text of {words:?}").expect(&rt, "memory");
+        sweep(&rt, name.as_str(), &Run { check, input }, expected, memory).expect(&rt, "memory");
     }
-    Ok(())
 }

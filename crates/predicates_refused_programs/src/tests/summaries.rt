@@ -4,7 +4,6 @@ use predicates_sweep::Memory::Taken;
 use predicates_sweep::{Answer, Call, sweep};
 use predicates_vet::{read_checks, summary};
 use std::alloc::{AllocError, Global};
-use std::test::Fail;
 
 // The lines for two rules, of which none is broken, or the second by three records.
 #[derive(Clone, Copy)]
@@ -31,7 +30,7 @@ impl Call for Summing<'_> {
 }
 
 #[test]
-fn summaries(rt: HostRuntime) -> Result<(), Fail> {
+fn summaries(rt: HostRuntime) {
     let broken = [0, 3].as_slice();
     sweep(
         &rt,
@@ -39,7 +38,8 @@ fn summaries(rt: HostRuntime) -> Result<(), Fail> {
         &Summing { broken },
         "3\t###\tb\n0\t\ta\n",
         Taken,
-    )?;
+    )
+    .expect(&rt, "memory");
     let broken = [].as_slice();
     sweep(
         &rt,
@@ -48,4 +48,5 @@ fn summaries(rt: HostRuntime) -> Result<(), Fail> {
         "0\t\ta\n0\t\tb\n",
         Taken,
     )
+    .expect(&rt, "memory")
 }

@@ -6,7 +6,6 @@ use predicates_sweep::{Answer, Call, sweep};
 use predicates_vet::settings::{Report, Settings};
 use predicates_vet::{InputFormat, Job, ReadChecksError, Streams, Tally, read_checks, run_records};
 use std::alloc::{AllocError, Global};
-use std::test::Fail;
 
 // Rules that are read.
 #[derive(Clone, Copy)]
@@ -85,11 +84,10 @@ const RULES: [(&str, &[u8], &str, Memory); 6] = [
 ];
 
 #[test]
-fn rules_of_a_file(rt: HostRuntime) -> Result<(), Fail> {
+fn rules_of_a_file(rt: HostRuntime) {
     for (name, rules, expected, memory) in RULES {
-        sweep(&rt, name, &Reading { rules }, expected, memory)?;
+        sweep(&rt, name, &Reading { rules }, expected, memory).expect(&rt, "memory");
     }
-    Ok(())
 }
 
 // A run over records.
@@ -302,7 +300,7 @@ false
 ];
 
 #[test]
-fn runs_over_records(rt: HostRuntime) -> Result<(), Fail> {
+fn runs_over_records(rt: HostRuntime) {
     for (name, rules, report, id, input, expected, memory) in RUNS {
         let call = Running {
             rules,
@@ -311,9 +309,8 @@ fn runs_over_records(rt: HostRuntime) -> Result<(), Fail> {
             format: InputFormat::JsonLines,
             input,
         };
-        sweep(&rt, name, &call, expected, memory)?;
+        sweep(&rt, name, &call, expected, memory).expect(&rt, "memory");
     }
-    Ok(())
 }
 
 // Records that are values of JSON, and what is written of the kept ones, with the messages behind.
@@ -336,7 +333,7 @@ vet: record 3: not JSON: EOF while parsing at line 1 column 1
 ];
 
 #[test]
-fn runs_over_values(rt: HostRuntime) -> Result<(), Fail> {
+fn runs_over_values(rt: HostRuntime) {
     for (name, input, expected) in VALUES {
         let call = Running {
             rules: b"a: /x == 1 or /x == 2",
@@ -345,7 +342,6 @@ fn runs_over_values(rt: HostRuntime) -> Result<(), Fail> {
             format: InputFormat::Json,
             input,
         };
-        sweep(&rt, name, &call, expected, Taken)?;
+        sweep(&rt, name, &call, expected, Taken).expect(&rt, "memory");
     }
-    Ok(())
 }

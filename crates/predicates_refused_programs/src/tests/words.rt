@@ -3,7 +3,7 @@ use predicates_explain::{TextCheck, Word, WordFault, WordsError, apply_word, num
 use predicates_sweep::Memory::{GoesOn, Never, Taken};
 use predicates_sweep::{Answer, Call, Rendered, refusing, sweep};
 use std::alloc::{AllocError, Global};
-use std::test::Fail;
+use std::process::Abort;
 
 // The words as texts.
 fn texts_of(alloc: Global, words: &[&str]) -> Result<Vec<String>, AllocError> {
@@ -15,9 +15,9 @@ fn texts_of(alloc: Global, words: &[&str]) -> Result<Vec<String>, AllocError> {
 }
 
 /// The check of the words.
-pub fn check_of(alloc: Global, words: &[&str]) -> Result<TextCheck, WordsError> {
-    let texts = texts_of(alloc, words)?;
-    TextCheck::from_words(alloc, texts.as_slice())
+pub fn check_of(rt: &impl Abort, alloc: Global, words: &[&str]) -> TextCheck {
+    let texts = texts_of(alloc, words).expect(rt, "memory");
+    TextCheck::from_words(alloc, texts.as_slice()).expect(rt, "memory")
 }
 
 // A word that was read.
@@ -53,7 +53,7 @@ impl Call for Reading<'_> {
 }
 
 #[test]
-fn tokens(rt: HostRuntime) -> Result<(), Fail> {
+fn tokens(rt: HostRuntime) {
     for (token, expected, memory) in [
         ("empty", "Some(Empty)", Never),
         ("eq=a=b", "Some(Equals(\"a=b\"))", Taken),
@@ -70,10 +70,9 @@ fn tokens(rt: HostRuntime) -> Result<(), Fail> {
         ("xor", "Some(Xor)", Never),
         ("nor", "None", Never),
     ] {
-        let name = format!(in rt.alloc(); "read_word of {token}")?;
-        sweep(&rt, name.as_str(), &Reading { token }, expected, memory)?;
+        let name = format!(in rt.alloc(); "read_word of {token}").expect(&rt, "memory");
+        sweep(&rt, name.as_str(), &Reading { token }, expected, memory).expect(&rt, "memory");
     }
-    Ok(())
 }
 
 // The checks of the tokens, one each.
@@ -141,7 +140,7 @@ impl Call for Applying<'_> {
 }
 
 #[test]
-fn words_of_no_operands(rt: HostRuntime) -> Result<(), Fail> {
+fn words_of_no_operands(rt: HostRuntime) {
     for (token, expected, memory) in [
         ("empty", "var.is_empty()\n", Taken),
         ("eq=a", "var == \"a\"\n", Taken),
@@ -152,20 +151,20 @@ fn words_of_no_operands(rt: HostRuntime) -> Result<(), Fail> {
         ("match=", "var.is_match()\n", GoesOn),
         ("match=[", "another fault", GoesOn),
     ] {
-        let name = format!(in rt.alloc(); "apply_word of {token}")?;
+        let name = format!(in rt.alloc(); "apply_word of {token}").expect(&rt, "memory");
         sweep(
             &rt,
             name.as_str(),
             &Applying { before: &[], token },
             expected,
             memory,
-        )?;
+        )
+        .expect(&rt, "memory");
     }
-    Ok(())
 }
 
 #[test]
-fn words_over_checks(rt: HostRuntime) -> Result<(), Fail> {
+fn words_over_checks(rt: HostRuntime) {
     for (token, expected) in [
         ("trim", "var.is_empty()\nvar.contains(a)\n"),
         ("normalize", "var.is_empty()\nvar.contains(a)\n"),
@@ -174,26 +173,26 @@ fn words_over_checks(rt: HostRuntime) -> Result<(), Fail> {
         ("or", "(var.is_empty() || var.contains(a))\n"),
         ("xor", "(var.is_empty() ^ var.contains(a))\n"),
     ] {
-        let name = format!(in rt.alloc(); "apply_word of {token}")?;
+        let name = format!(in rt.alloc(); "apply_word of {token}").expect(&rt, "memory");
         let before = ["empty", "contains=a"];
         let applying = Applying {
             before: &before,
             token,
         };
-        sweep(&rt, name.as_str(), &applying, expected, Taken)?;
+        sweep(&rt, name.as_str(), &applying, expected, Taken).expect(&rt, "memory");
     }
-    Ok(())
 }
 
 // A word that lacks an operand is refused for that alone.
 #[test]
-fn missing_operands(rt: HostRuntime) -> Result<(), Fail> {
+fn missing_operands(rt: HostRuntime) {
     for token in ["trim", "normalize", "not", "and", "or", "xor"] {
-        let name = format!(in rt.alloc(); "apply_word of {token}, without an operand")?;
+        let name = format!(in rt.alloc(); "apply_word of {token}, without an operand").expect(
+            &rt, "memory",
+        );
         let applying = Applying { before: &[], token };
-        sweep(&rt, name.as_str(), &applying, "another fault", Never)?;
+        sweep(&rt, name.as_str(), &applying, "another fault", Never).expect(&rt, "memory");
     }
-    Ok(())
 }
 
 // A check that is made of words.
@@ -221,7 +220,7 @@ impl Call for FromWords<'_> {
 }
 
 #[test]
-fn checks_from_words(rt: HostRuntime) -> Result<(), Fail> {
+fn checks_from_words(rt: HostRuntime) {
     for (words, expected) in [
         (
             ["empty", "trim", "contains=a", "or"].as_slice(),
@@ -230,16 +229,16 @@ fn checks_from_words(rt: HostRuntime) -> Result<(), Fail> {
         (["empty", "foo"].as_slice(), "word 2, \"foo\": no such word"),
         (["empty", "empty"].as_slice(), "2 checks are left, not one"),
     ] {
-        sweep(&rt, expected, &FromWords { words }, expected, Taken)?;
+        sweep(&rt, expected, &FromWords { words }, expected, Taken).expect(&rt, "memory");
     }
     let words = ["empty", "match=["].as_slice();
     let expected = "word 2, \"match=[\": regular expression rejected";
-    sweep(&rt, expected, &FromWords { words }, expected, GoesOn)
+    sweep(&rt, expected, &FromWords { words }, expected, GoesOn).expect(&rt, "memory")
 }
 
 #[test]
-fn numbers(rt: HostRuntime) -> Result<(), Fail> {
+fn numbers(rt: HostRuntime) {
     let begun = refusing(rt.alloc(), "number");
     let right = number(b"-7") == Some(-7) && number(b"7 ") == None;
-    begun.end(&rt, right)
+    begun.end(&rt, right).expect(&rt, "memory")
 }

@@ -2,61 +2,61 @@ use predicates::prelude::*;
 use predicates::static_text::StaticText;
 use predicates::{BoxPredicate, TextPredicate};
 use predicates_testing::{explains, is_described, render_verdict, repeated, text};
-use std::alloc::{AllocError, Global};
-use std::test::Fail;
+use std::alloc::Global;
+use std::process::Abort;
 
 // A box over a leaf.
-fn is_empty(alloc: Global) -> Result<BoxPredicate, AllocError> {
-    BoxPredicate::new(alloc, Box::new(alloc, predicate::str::is_empty())?)
+fn is_empty(rt: &impl Abort, alloc: Global) -> BoxPredicate {
+    BoxPredicate::new(
+        alloc,
+        Box::new(alloc, predicate::str::is_empty()).expect(rt, "memory"),
+    )
+    .expect(rt, "memory")
 }
 
 // A box over a leaf with a pattern.
-fn contains_a(alloc: Global) -> Result<BoxPredicate, AllocError> {
-    let part = predicate::str::contains(text(alloc, "a")?);
-    BoxPredicate::new(alloc, Box::new(alloc, part)?)
+fn contains_a(rt: &impl Abort, alloc: Global) -> BoxPredicate {
+    let part = predicate::str::contains(text(alloc, "a").expect(rt, "memory"));
+    BoxPredicate::new(alloc, Box::new(alloc, part).expect(rt, "memory")).expect(rt, "memory")
 }
 
 // A box over a named constant.
-fn any(alloc: Global) -> Result<BoxPredicate, AllocError> {
+fn any(rt: &impl Abort, alloc: Global) -> BoxPredicate {
     let any = predicate::always().name(StaticText::new("any"));
-    BoxPredicate::new(alloc, Box::new(alloc, any)?)
+    BoxPredicate::new(alloc, Box::new(alloc, any).expect(rt, "memory")).expect(rt, "memory")
 }
 
 // Adds the box that was made.
-fn add_box(
-    boxes: &mut Vec<BoxPredicate>,
-    made: Result<BoxPredicate, AllocError>,
-) -> Result<(), AllocError> {
-    boxes.push(made?)?;
-    Ok(())
+fn add_box(rt: &impl Abort, boxes: &mut Vec<BoxPredicate>, made: BoxPredicate) {
+    boxes.push(made).expect(rt, "memory");
 }
 
-fn three_boxes(alloc: Global) -> Result<Vec<BoxPredicate>, AllocError> {
+fn three_boxes(rt: &impl Abort, alloc: Global) -> Vec<BoxPredicate> {
     let mut boxes = Vec::new(alloc);
-    add_box(&mut boxes, is_empty(alloc))?;
-    add_box(&mut boxes, contains_a(alloc))?;
-    add_box(&mut boxes, any(alloc))?;
-    Ok(boxes)
+    add_box(rt, &mut boxes, is_empty(rt, alloc));
+    add_box(rt, &mut boxes, contains_a(rt, alloc));
+    add_box(rt, &mut boxes, any(rt, alloc));
+    boxes
 }
 
 // The lines of the boxes' cases on the text, in order.
-fn lines_of(alloc: Global, boxes: &[BoxPredicate], item: &String) -> Result<String, AllocError> {
+fn lines_of(rt: &impl Abort, alloc: Global, boxes: &[BoxPredicate], item: &String) -> String {
     let mut out = String::new(alloc);
     for check in boxes {
-        render_verdict(alloc, &mut out, check, item)?;
+        render_verdict(alloc, &mut out, check, item).expect(rt, "memory");
     }
-    Ok(out)
+    out
 }
 
 // Whether the cases of three boxes on the text have these lines.
-fn explains_three(alloc: Global, item: &str, lines: &str) -> Result<bool, AllocError> {
-    let item = text(alloc, item)?;
-    let boxes = three_boxes(alloc)?;
-    Ok(lines_of(alloc, boxes.as_slice(), &item)?.as_str() == lines)
+fn explains_three(rt: &impl Abort, alloc: Global, item: &str, lines: &str) -> bool {
+    let item = text(alloc, item).expect(rt, "memory");
+    let boxes = three_boxes(rt, alloc);
+    lines_of(rt, alloc, boxes.as_slice(), &item).as_str() == lines
 }
 
 #[test]
-fn boxes_in_a_loop(rt: HostRuntime) -> Result<(), Fail> {
+fn boxes_in_a_loop(rt: HostRuntime) {
     let alloc = rt.alloc();
     let lines = "\
 var.is_empty() = false
@@ -66,57 +66,59 @@ var.contains(a) = false
 any = true
   any: true = true
 ";
-    assert!(rt; explains_three(alloc, "b", lines)?);
-    assert!(rt; is_described(alloc, &any(alloc)?, "any\nany: true\n  value=true\n")?);
-    Ok(())
+    assert!(rt; explains_three(&rt, alloc, "b", lines));
+    assert!(rt;
+        is_described(alloc, &any(&rt, alloc), "any\nany: true\n  value=true\n").expect(
+            &rt, "memory"
+        )
+    );
 }
 
 // A constant in a box.
-fn constant(alloc: Global) -> Result<BoxPredicate, AllocError> {
-    let made: Box<dyn TextPredicate> = Box::new(alloc, predicate::always())?;
-    BoxPredicate::new(alloc, made)
+fn constant(rt: &impl Abort, alloc: Global) -> BoxPredicate {
+    let made: Box<dyn TextPredicate> = Box::new(alloc, predicate::always()).expect(rt, "memory");
+    BoxPredicate::new(alloc, made).expect(rt, "memory")
 }
 
-fn explains_constant(alloc: Global) -> Result<bool, AllocError> {
-    let item = text(alloc, "b")?;
-    explains(alloc, &constant(alloc)?, &item, "true = true\n")
+fn explains_constant(rt: &impl Abort, alloc: Global) -> bool {
+    let item = text(alloc, "b").expect(rt, "memory");
+    explains(alloc, &constant(rt, alloc), &item, "true = true\n").expect(rt, "memory")
 }
 
-fn describes_constant(alloc: Global) -> Result<bool, AllocError> {
-    is_described(alloc, &constant(alloc)?, "true\nvalue=true\n")
+fn describes_constant(rt: &impl Abort, alloc: Global) -> bool {
+    is_described(alloc, &constant(rt, alloc), "true\nvalue=true\n").expect(rt, "memory")
 }
 
 // Whether it has the debug form of a box.
-fn is_constant_shown(alloc: Global) -> Result<bool, AllocError> {
-    let boxed = constant(alloc)?;
-    Ok(format!(in alloc; "{boxed:?}")?.as_str() == "BoxPredicate")
+fn is_constant_shown(rt: &impl Abort, alloc: Global) -> bool {
+    let boxed = constant(rt, alloc);
+    format!(in alloc; "{boxed:?}").expect(rt, "memory").as_str() == "BoxPredicate"
 }
 
 #[test]
-fn a_constant_in_a_box(rt: HostRuntime) -> Result<(), Fail> {
-    assert!(rt; explains_constant(rt.alloc())?);
-    assert!(rt; describes_constant(rt.alloc())?);
-    assert!(rt; is_constant_shown(rt.alloc())?);
-    Ok(())
+fn a_constant_in_a_box(rt: HostRuntime) {
+    assert!(rt; explains_constant(&rt, rt.alloc()));
+    assert!(rt; describes_constant(&rt, rt.alloc()));
+    assert!(rt; is_constant_shown(&rt, rt.alloc()));
 }
 
 // Whether a box under others is explained with the lines.
-fn explains_under_others(alloc: Global, lines: &str) -> Result<bool, AllocError> {
-    let item = text(alloc, "  ")?;
-    let part = contains_a(alloc)?;
-    let either = is_empty(alloc)?.trim().name("blank").or(part);
-    explains(alloc, &either, &item, lines)
+fn explains_under_others(rt: &impl Abort, alloc: Global, lines: &str) -> bool {
+    let item = text(alloc, "  ").expect(rt, "memory");
+    let part = contains_a(rt, alloc);
+    let either = is_empty(rt, alloc).trim().name("blank").or(part);
+    explains(alloc, &either, &item, lines).expect(rt, "memory")
 }
 
 // Whether it describes its parts so.
-fn describes_under_others(alloc: Global, lines: &str) -> Result<bool, AllocError> {
-    let part = contains_a(alloc)?;
-    let either = is_empty(alloc)?.trim().name("blank").or(part);
-    is_described(alloc, &either, lines)
+fn describes_under_others(rt: &impl Abort, alloc: Global, lines: &str) -> bool {
+    let part = contains_a(rt, alloc);
+    let either = is_empty(rt, alloc).trim().name("blank").or(part);
+    is_described(alloc, &either, lines).expect(rt, "memory")
 }
 
 #[test]
-fn a_box_under_others(rt: HostRuntime) -> Result<(), Fail> {
+fn a_box_under_others(rt: HostRuntime) {
     let lines = "\
 (blank || var.contains(a)) = true
   left: blank = true
@@ -129,27 +131,26 @@ left: blank
     predicate: var.is_empty()
 right: var.contains(a)
 ";
-    assert!(rt; explains_under_others(rt.alloc(), lines)?);
-    assert!(rt; describes_under_others(rt.alloc(), described)?);
-    Ok(())
+    assert!(rt; explains_under_others(&rt, rt.alloc(), lines));
+    assert!(rt; describes_under_others(&rt, rt.alloc(), described));
 }
 
 // `xor` under `trim` and a name, in a box.
-fn boxed_xor(alloc: Global) -> Result<BoxPredicate, AllocError> {
-    let part = predicate::str::contains(text(alloc, "a")?);
+fn boxed_xor(rt: &impl Abort, alloc: Global) -> BoxPredicate {
+    let part = predicate::str::contains(text(alloc, "a").expect(rt, "memory"));
     let either = predicate::str::is_empty().xor(part).trim();
     let named = either.name(StaticText::new("either"));
-    BoxPredicate::new(alloc, Box::new(alloc, named)?)
+    BoxPredicate::new(alloc, Box::new(alloc, named).expect(rt, "memory")).expect(rt, "memory")
 }
 
 // Whether it is explained by the lines.
-fn is_xor_boxed(alloc: Global, item: &str, lines: &str) -> Result<bool, AllocError> {
-    let item = text(alloc, item)?;
-    explains(alloc, &boxed_xor(alloc)?, &item, lines)
+fn is_xor_boxed(rt: &impl Abort, alloc: Global, item: &str, lines: &str) -> bool {
+    let item = text(alloc, item).expect(rt, "memory");
+    explains(alloc, &boxed_xor(rt, alloc), &item, lines).expect(rt, "memory")
 }
 
 #[test]
-fn xor_trimmed_named_and_boxed(rt: HostRuntime) -> Result<(), Fail> {
+fn xor_trimmed_named_and_boxed(rt: HostRuntime) {
     let lines = "\
 either = true
   either: (var.is_empty() ^ var.contains(a)) = true
@@ -158,67 +159,81 @@ either = true
     right: var.contains(a) = true
       - var: a
 ";
-    assert!(rt; is_xor_boxed(rt.alloc(), " a ", lines)?);
-    Ok(())
+    assert!(rt; is_xor_boxed(&rt, rt.alloc(), " a ", lines));
 }
 
 // Whether a comparison alone has the lines of its case on `4`.
-fn explains_alone(alloc: Global, lines: &str) -> Result<bool, AllocError> {
-    let item = text(alloc, "4")?;
-    explains(alloc, &predicate::gt(text(alloc, "5")?), &item, lines)
+fn explains_alone(rt: &impl Abort, alloc: Global, lines: &str) -> bool {
+    let item = text(alloc, "4").expect(rt, "memory");
+    explains(
+        alloc,
+        &predicate::gt(text(alloc, "5").expect(rt, "memory")),
+        &item,
+        lines,
+    )
+    .expect(rt, "memory")
 }
 
 // Whether it has them in a box.
-fn explains_boxed(alloc: Global, lines: &str) -> Result<bool, AllocError> {
-    let item = text(alloc, "4")?;
-    let alone = predicate::gt(text(alloc, "5")?);
-    let boxed = BoxPredicate::new(alloc, Box::new(alloc, alone)?)?;
-    explains(alloc, &boxed, &item, lines)
+fn explains_boxed(rt: &impl Abort, alloc: Global, lines: &str) -> bool {
+    let item = text(alloc, "4").expect(rt, "memory");
+    let alone = predicate::gt(text(alloc, "5").expect(rt, "memory"));
+    let boxed = BoxPredicate::new(alloc, Box::new(alloc, alone).expect(rt, "memory")).expect(
+        rt, "memory",
+    );
+    explains(alloc, &boxed, &item, lines).expect(rt, "memory")
 }
 
 #[test]
-fn explained_boxed_or_not(rt: HostRuntime) -> Result<(), Fail> {
+fn explained_boxed_or_not(rt: HostRuntime) {
     let lines = "var > \"5\" = false\n  - var: \"4\"\n";
-    assert!(rt; explains_alone(rt.alloc(), lines)?);
-    assert!(rt; explains_boxed(rt.alloc(), lines)?);
-    Ok(())
+    assert!(rt; explains_alone(&rt, rt.alloc(), lines));
+    assert!(rt; explains_boxed(&rt, rt.alloc(), lines));
 }
 
 // A boxed comparison with the letters.
-fn boxed_letters(alloc: Global, letters: &String) -> Result<BoxPredicate, AllocError> {
-    let is_letters = predicate::eq(letters.clone()?);
-    BoxPredicate::new(alloc, Box::new(alloc, is_letters)?)
+fn boxed_letters(rt: &impl Abort, alloc: Global, letters: &String) -> BoxPredicate {
+    let is_letters = predicate::eq(letters.clone().expect(rt, "memory"));
+    BoxPredicate::new(alloc, Box::new(alloc, is_letters).expect(rt, "memory")).expect(rt, "memory")
 }
 
 // Whether one with this many letters is explained on them.
-fn explains_letters(alloc: Global, length: u32) -> Result<bool, AllocError> {
-    let letters = repeated(alloc, "a", length, "")?;
-    let lines = format!(in alloc; "var == \"{letters}\" = true\n  - var: \"{letters}\"\n")?;
+fn explains_letters(rt: &impl Abort, alloc: Global, length: u32) -> bool {
+    let letters = repeated(alloc, "a", length, "").expect(rt, "memory");
+    let lines = format!(in alloc; "var == \"{letters}\" = true\n  - var: \"{letters}\"\n").expect(
+        rt, "memory",
+    );
     explains(
         alloc,
-        &boxed_letters(alloc, &letters)?,
+        &boxed_letters(rt, alloc, &letters),
         &letters,
         lines.as_str(),
     )
+    .expect(rt, "memory")
 }
 
 // Whether it is on `b`.
-fn explains_other(alloc: Global, length: u32) -> Result<bool, AllocError> {
-    let (letters, other) = (repeated(alloc, "a", length, "")?, text(alloc, "b")?);
-    let lines = format!(in alloc; "var == \"{letters}\" = false\n  - var: \"b\"\n")?;
+fn explains_other(rt: &impl Abort, alloc: Global, length: u32) -> bool {
+    let (letters, other) = (
+        repeated(alloc, "a", length, "").expect(rt, "memory"),
+        text(alloc, "b").expect(rt, "memory"),
+    );
+    let lines = format!(in alloc; "var == \"{letters}\" = false\n  - var: \"b\"\n").expect(
+        rt, "memory",
+    );
     explains(
         alloc,
-        &boxed_letters(alloc, &letters)?,
+        &boxed_letters(rt, alloc, &letters),
         &other,
         lines.as_str(),
     )
+    .expect(rt, "memory")
 }
 
 #[test]
-fn boxes_of_long_texts(rt: HostRuntime) -> Result<(), Fail> {
+fn boxes_of_long_texts(rt: HostRuntime) {
     for length in [0, 1, 300, 70_000] {
-        assert!(rt; explains_letters(rt.alloc(), length)?, "{length}");
-        assert!(rt; explains_other(rt.alloc(), length)?, "{length}");
+        assert!(rt; explains_letters(&rt, rt.alloc(), length), "{length}");
+        assert!(rt; explains_other(&rt, rt.alloc(), length), "{length}");
     }
-    Ok(())
 }

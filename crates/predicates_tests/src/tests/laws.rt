@@ -5,32 +5,28 @@ use predicates::laws;
 use predicates::ord::{eq, ge, gt, le, lt, ne};
 use predicates_core::Predicate;
 use predicates_testing::verdict;
-use std::alloc::{AllocError, Global};
-use std::test::Fail;
+use std::alloc::Global;
+use std::process::Abort;
 
 // What the predicate answers of the item, and ends here.
-fn holds<P: Predicate<i64> + Drop>(
-    alloc: Global,
-    predicate: P,
-    item: i64,
-) -> Result<bool, AllocError>
+fn holds<P: Predicate<i64> + Drop>(rt: &impl Abort, alloc: Global, predicate: P, item: i64) -> bool
     requires { P.lawful predicate }
 {
-    predicate.eval(alloc, &item)
+    predicate.eval(alloc, &item).expect(rt, "memory")
 }
 
 // What the comparisons with 5 answer: `lt`, `lt` denied, `ge`, `gt`, `le`, `eq` and `ne`.
-fn comparisons(alloc: Global, item: i64) -> Result<[bool; 7], AllocError> {
+fn comparisons(rt: &impl Abort, alloc: Global, item: i64) -> [bool; 7] {
     laws::complements(&5, &item);
-    Ok([
-        holds(alloc, lt(5i64), item)?,
-        holds(alloc, lt(5i64).not(), item)?,
-        holds(alloc, ge(5i64), item)?,
-        holds(alloc, gt(5i64), item)?,
-        holds(alloc, le(5i64), item)?,
-        holds(alloc, eq(5i64), item)?,
-        holds(alloc, ne(5i64), item)?,
-    ])
+    [
+        holds(rt, alloc, lt(5i64), item),
+        holds(rt, alloc, lt(5i64).not(), item),
+        holds(rt, alloc, ge(5i64), item),
+        holds(rt, alloc, gt(5i64), item),
+        holds(rt, alloc, le(5i64), item),
+        holds(rt, alloc, eq(5i64), item),
+        holds(rt, alloc, ne(5i64), item),
+    ]
 }
 
 const ITEMS: [(i64, [bool; 7]); 3] = [
@@ -40,39 +36,56 @@ const ITEMS: [(i64, [bool; 7]); 3] = [
 ];
 
 #[test]
-fn opposite_comparisons(rt: HostRuntime) -> Result<(), Fail> {
+fn opposite_comparisons(rt: HostRuntime) {
     for (item, expected) in &ITEMS {
-        assert!(rt; comparisons(rt.alloc(), *item)? == *expected, "{item}");
+        assert!(rt; comparisons(&rt, rt.alloc(), *item) == *expected, "{item}");
     }
-    Ok(())
 }
 
 const MEMBERS: [i64; 5] = [5, 1, 5, 3, 1];
 
-fn is_listed(alloc: Global, item: i64) -> Result<bool, AllocError> {
-    holds(alloc, in_iter(alloc, MEMBERS)?, item)
+fn is_listed(rt: &impl Abort, alloc: Global, item: i64) -> bool {
+    holds(
+        rt,
+        alloc,
+        in_iter(alloc, MEMBERS).expect(rt, "memory"),
+        item,
+    )
 }
 
-fn is_sorted(alloc: Global, item: i64) -> Result<bool, AllocError> {
-    holds(alloc, in_iter(alloc, MEMBERS)?.sort()?, item)
+fn is_sorted(rt: &impl Abort, alloc: Global, item: i64) -> bool {
+    holds(
+        rt,
+        alloc,
+        in_iter(alloc, MEMBERS)
+            .expect(rt, "memory")
+            .sort()
+            .expect(rt, "memory"),
+        item,
+    )
 }
 
-fn is_hashed(alloc: Global, item: i64) -> Result<bool, AllocError> {
-    holds(alloc, in_hash(alloc, MEMBERS)?, item)
+fn is_hashed(rt: &impl Abort, alloc: Global, item: i64) -> bool {
+    holds(
+        rt,
+        alloc,
+        in_hash(alloc, MEMBERS).expect(rt, "memory"),
+        item,
+    )
 }
 
 // What the list, the sorted list and the set of the members answer.
-fn among(alloc: Global, item: i64) -> Result<[bool; 3], AllocError> {
+fn among(rt: &impl Abort, alloc: Global, item: i64) -> [bool; 3] {
     laws::memberships(&MEMBERS, &item);
-    Ok([
-        is_listed(alloc, item)?,
-        is_sorted(alloc, item)?,
-        is_hashed(alloc, item)?,
-    ])
+    [
+        is_listed(rt, alloc, item),
+        is_sorted(rt, alloc, item),
+        is_hashed(rt, alloc, item),
+    ]
 }
 
 #[test]
-fn one_list_three_times(rt: HostRuntime) -> Result<(), Fail> {
+fn one_list_three_times(rt: HostRuntime) {
     for (item, expected) in [
         (0, false),
         (1, true),
@@ -81,9 +94,8 @@ fn one_list_three_times(rt: HostRuntime) -> Result<(), Fail> {
         (5, true),
         (6, false),
     ] {
-        assert!(rt; among(rt.alloc(), item)? == [expected; 3], "{item}");
+        assert!(rt; among(&rt, rt.alloc(), item) == [expected; 3], "{item}");
     }
-    Ok(())
 }
 
 fn call_laws_of_joins() {
@@ -108,11 +120,13 @@ fn call_law_of_functions() {
 
 // The tables show the verdicts and the kept leaves of these formulas.
 #[test]
-fn equal_functions(rt: HostRuntime) -> Result<(), Fail> {
+fn equal_functions(rt: HostRuntime) {
     call_laws_of_joins();
     call_laws_of_one();
     call_law_of_functions();
     let both = lt(3i64).and(lt(5i64));
-    assert_eq!(rt; verdict(rt.alloc(), &both, &4)?, Some(false));
-    Ok(())
+    assert_eq!(rt;
+        verdict(rt.alloc(), &both, &4).expect(&rt, "memory"),
+        Some(false)
+    );
 }

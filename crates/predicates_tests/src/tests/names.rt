@@ -4,8 +4,8 @@ use predicates::ord::{eq, lt};
 use predicates_core::default_find_case;
 use predicates_core::reflection::render;
 use predicates_testing::{explains, is_described};
-use std::alloc::{AllocError, Global};
-use std::test::Fail;
+use std::alloc::Global;
+use std::process::Abort;
 
 // A name of 300 bytes.
 const LONG: &str = "\
@@ -16,72 +16,75 @@ const LONG: &str = "\
 
 // Whether a comparison under the name shows it in its case on the item.
 fn explains_name(
+    rt: &impl Abort,
     alloc: Global,
     name: &'static str,
     item: i32,
     verdict: bool,
-) -> Result<bool, AllocError> {
+) -> bool {
     let lines = format!(in alloc;
         "{name} = {verdict}\n  {name}: var < 3 = {verdict}\n    - var: {item}\n"
-    )?;
-    explains(alloc, &lt(3i32).name(name), &item, lines.as_str())
+    ).expect(rt, "memory");
+    explains(alloc, &lt(3i32).name(name), &item, lines.as_str()).expect(rt, "memory")
 }
 
 // Whether a function of the name shows it in its case.
-fn explains_function(alloc: Global, name: &'static str) -> Result<bool, AllocError> {
+fn explains_function(rt: &impl Abort, alloc: Global, name: &'static str) -> bool {
     let named = function(|x: &i32| *x < 3).fn_name(name);
-    let lines = format!(in alloc; "{name}(var) = false\n")?;
-    explains(alloc, &named, &3, lines.as_str())
+    let lines = format!(in alloc; "{name}(var) = false\n").expect(rt, "memory");
+    explains(alloc, &named, &3, lines.as_str()).expect(rt, "memory")
 }
 
 // Whether a comparison under the name describes itself by it.
-fn describes_name(alloc: Global, name: &'static str) -> Result<bool, AllocError> {
-    let lines = format!(in alloc; "{name}\n{name}: var < 3\n")?;
-    is_described(alloc, &lt(3i32).name(name), lines.as_str())
+fn describes_name(rt: &impl Abort, alloc: Global, name: &'static str) -> bool {
+    let lines = format!(in alloc; "{name}\n{name}: var < 3\n").expect(rt, "memory");
+    is_described(alloc, &lt(3i32).name(name), lines.as_str()).expect(rt, "memory")
 }
 
 // Whether a comparison and a function of the name show it.
-fn is_shown(alloc: Global, name: &'static str) -> Result<[bool; 4], AllocError> {
-    Ok([
-        describes_name(alloc, name)?,
-        explains_name(alloc, name, 1, true)?,
-        explains_name(alloc, name, 3, false)?,
-        explains_function(alloc, name)?,
-    ])
+fn is_shown(rt: &impl Abort, alloc: Global, name: &'static str) -> [bool; 4] {
+    [
+        describes_name(rt, alloc, name),
+        explains_name(rt, alloc, name, 1, true),
+        explains_name(rt, alloc, name, 3, false),
+        explains_function(rt, alloc, name),
+    ]
 }
 
 #[test]
-fn names_of_no_bytes_and_of_300(rt: HostRuntime) -> Result<(), Fail> {
+fn names_of_no_bytes_and_of_300(rt: HostRuntime) {
     assert!(rt; LONG.len() == 300);
     for name in ["", LONG] {
-        assert!(rt; is_shown(rt.alloc(), name)? == [true; 4], "{name}");
+        assert!(rt; is_shown(&rt, rt.alloc(), name) == [true; 4], "{name}");
     }
-    Ok(())
 }
 
 // The lines of the case of the verdict that the item is the long text, or of none.
 fn lines_of_default_case(
+    rt: &impl Abort,
     alloc: Global,
     item: &'static str,
     verdict: bool,
-) -> Result<Option<String>, AllocError> {
-    match default_find_case(alloc, &eq(LONG), verdict, &item)? {
-        Some(case) => Ok(Some(render(alloc, &case)?)),
-        None => Ok(None),
+) -> Option<String> {
+    match default_find_case(alloc, &eq(LONG), verdict, &item).expect(rt, "memory") {
+        Some(case) => Some(render(alloc, &case).expect(rt, "memory")),
+        None => None,
     }
 }
 
 // Whether the case of the verdict has the lines, with none for the opposite.
-fn has_default_case(alloc: Global, item: &'static str, verdict: bool) -> Result<bool, AllocError> {
-    let is_none = lines_of_default_case(alloc, item, !verdict)?.is_none();
-    let lines = format!(in alloc; "var == {LONG:?} = {verdict}\n")?;
-    Ok(is_none && lines_of_default_case(alloc, item, verdict)? == Some(lines))
+fn has_default_case(rt: &impl Abort, alloc: Global, item: &'static str, verdict: bool) -> bool {
+    let is_none = lines_of_default_case(rt, alloc, item, !verdict).is_none();
+    let lines = format!(in alloc; "var == {LONG:?} = {verdict}\n").expect(rt, "memory");
+    is_none && lines_of_default_case(rt, alloc, item, verdict) == Some(lines)
 }
 
 #[test]
-fn bare_leaf_of_a_long_text(rt: HostRuntime) -> Result<(), Fail> {
+fn bare_leaf_of_a_long_text(rt: HostRuntime) {
     for (item, verdict) in [("", false), (LONG, true)] {
-        assert!(rt; has_default_case(rt.alloc(), item, verdict)?, "on {item:?}");
+        assert!(rt;
+            has_default_case(&rt, rt.alloc(), item, verdict),
+            "on {item:?}"
+        );
     }
-    Ok(())
 }

@@ -4,7 +4,6 @@ ghost use Rattle.std.specs.Prelude.{◌≡◌};
 
 use predicates_core::as_static_str::AsStaticStr;
 use predicates_core::static_text::StaticText;
-use std::test::Fail;
 
 // Two texts in one type argument, and `'static` in the generic callee's result.
 #[derive(Drop)]
@@ -45,14 +44,13 @@ fn reads_its_text(rt: HostRuntime) {
 }
 
 #[test]
-fn reads_it_once_moved(rt: HostRuntime) -> Result<(), Fail> {
+fn reads_it_once_moved(rt: HostRuntime) {
     let held = StaticText::new("abc");
     let mut names = Vec::new(rt.alloc());
-    names.push(held)?;
-    names.push(StaticText::new("defg"))?;
+    names.push(held).expect(&rt, "memory");
+    names.push(StaticText::new("defg")).expect(&rt, "memory");
     assert_eq!(rt; names[0].as_str(), "abc");
     assert_eq!(rt; names[1].as_str(), "defg");
-    Ok(())
 }
 
 #[test]

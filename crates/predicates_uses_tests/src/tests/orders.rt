@@ -1,37 +1,42 @@
 //! The policy over an order, and what it says of four that it does not allow.
 use predicates::check::Unmet;
 use predicates_uses::{Line, Order, allow_order};
-use std::alloc::{AllocError, Global};
+use std::alloc::Global;
 use std::collections::BTreeMap;
-use std::test::Fail;
+use std::process::Abort;
 
 // An order of two lines, of which the second has the quantity.
 fn order(
+    rt: &impl Abort,
     alloc: Global,
     customer: &str,
     quantity: u32,
     discount: Option<u32>,
     channel: Option<&str>,
-) -> Result<Order, AllocError> {
+) -> Order {
     let mut lines = Vec::new(alloc);
     for (item, quantity) in [("pen", 2), ("ink", quantity)] {
-        lines.push(Line {
-            item: String::from_str(alloc, item)?,
-            quantity,
-        })?;
+        lines
+            .push(Line {
+                item: String::from_str(alloc, item).expect(rt, "memory"),
+                quantity,
+            })
+            .expect(rt, "memory");
     }
     let mut notes = BTreeMap::new(alloc);
     if let Some(channel) = channel {
-        let key = String::from_str(alloc, "channel")?;
-        notes.insert(key, String::from_str(alloc, channel)?)?;
+        let key = String::from_str(alloc, "channel").expect(rt, "memory");
+        notes
+            .insert(key, String::from_str(alloc, channel).expect(rt, "memory"))
+            .expect(rt, "memory");
     }
-    Ok(Order {
-        customer: String::from_str(alloc, customer)?,
+    Order {
+        customer: String::from_str(alloc, customer).expect(rt, "memory"),
         lines,
         discount,
         notes,
         total: 900,
-    })
+    }
 }
 
 // What the policy says of an order that it does not allow.
@@ -104,13 +109,12 @@ fn is_rejected(alloc: Global, order: &Order, lines: &str) -> bool {
 }
 
 #[test]
-fn the_policy_allows_one_order_and_rejects_four(rt: HostRuntime) -> Result<(), Fail> {
+fn the_policy_allows_one_order_and_rejects_four(rt: HostRuntime) {
     let alloc = rt.alloc();
-    let allowed = order(alloc, "Ada", 1, None, Some("web/de"))?;
+    let allowed = order(&rt, alloc, "Ada", 1, None, Some("web/de"));
     assert!(rt; allow_order(alloc, &allowed).is_ok());
     for (customer, quantity, discount, channel, lines) in REASONS {
-        let rejected = order(alloc, customer, quantity, discount, channel)?;
+        let rejected = order(&rt, alloc, customer, quantity, discount, channel);
         assert!(rt; is_rejected(alloc, &rejected, lines), "{lines}");
     }
-    Ok(())
 }

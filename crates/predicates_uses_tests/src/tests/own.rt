@@ -6,81 +6,77 @@ use predicates::ord::OrdPredicate;
 use predicates::prelude::*;
 use predicates_testing::{describe, explains, is_described, render_verdict};
 use predicates_uses::{DivisibleBy, Either, IsTheAnswer, MultipleOf, RightFirst, is_known};
-use std::alloc::{AllocError, Global};
-use std::test::Fail;
+use std::alloc::Global;
+use std::process::Abort;
 
 // Writes the description, and the case of the verdict on 42 and on 41.
-fn append_row<P: Predicate<u32>>(
-    alloc: Global,
-    out: &mut String,
-    predicate: &P,
-) -> Result<(), AllocError>
+fn append_row<P: Predicate<u32>>(rt: &impl Abort, alloc: Global, out: &mut String, predicate: &P)
     requires { P.lawful predicate.now }
 {
-    describe(alloc, out, predicate)?;
-    render_verdict(alloc, out, predicate, &42)?;
-    render_verdict(alloc, out, predicate, &41)
+    describe(alloc, out, predicate).expect(rt, "memory");
+    render_verdict(alloc, out, predicate, &42).expect(rt, "memory");
+    render_verdict(alloc, out, predicate, &41).expect(rt, "memory")
 }
 
 // Whether these are all that it writes.
 fn has_row<P: Predicate<u32> + Drop>(
+    rt: &impl Abort,
     alloc: Global,
     predicate: P,
     lines: &str,
-) -> Result<bool, AllocError>
+) -> bool
     requires { P.lawful predicate }
 {
     let mut out = String::new(alloc);
-    append_row(alloc, &mut out, &predicate)?;
-    Ok(out.as_str() == lines)
+    append_row(rt, alloc, &mut out, &predicate);
+    out.as_str() == lines
 }
 
 // Whether the leaf, or a list beside it, is explained by the lines.
-fn explains_leaf_or_list(alloc: Global, number: u32, lines: &str) -> Result<bool, AllocError> {
-    let either = IsTheAnswer.or(predicate::in_iter(alloc, [41u32, 43])?);
-    explains(alloc, &either, &number, lines)
+fn explains_leaf_or_list(rt: &impl Abort, alloc: Global, number: u32, lines: &str) -> bool {
+    let either = IsTheAnswer.or(predicate::in_iter(alloc, [41u32, 43]).expect(rt, "memory"));
+    explains(alloc, &either, &number, lines).expect(rt, "memory")
 }
 
 #[test]
-fn a_leaf_of_the_callers_own(rt: HostRuntime) -> Result<(), Fail> {
+fn a_leaf_of_the_callers_own(rt: HostRuntime) {
     let alloc = rt.alloc();
     let lines = "\
 (var.is_the_answer() || var in values) = true
   right: var in values = true
     - var: 41
 ";
-    assert!(rt; explains_leaf_or_list(alloc, 41, lines)?);
+    assert!(rt; explains_leaf_or_list(&rt, alloc, 41, lines));
     let lines = "var.is_the_answer() = false\n  - var: 41\n";
-    assert!(rt; explains(alloc, &IsTheAnswer, &41, lines)?);
-    assert!(rt; is_described(alloc, &IsTheAnswer, "var.is_the_answer()\n")?);
-    Ok(())
+    assert!(rt; explains(alloc, &IsTheAnswer, &41, lines).expect(&rt, "memory"));
+    assert!(rt; is_described(alloc, &IsTheAnswer, "var.is_the_answer()\n").expect(&rt, "memory"));
 }
 
 type Own = Either<IsTheAnswer, InPredicate<u32>>;
 
 // The leaf, or a list, by a combinator of the caller's own.
-fn own(alloc: Global) -> Result<Own, AllocError> {
-    let list = predicate::in_iter(alloc, [41u32, 43])?;
-    Ok(Either::new(IsTheAnswer, list))
+fn own(rt: &impl Abort, alloc: Global) -> Own {
+    let list = predicate::in_iter(alloc, [41u32, 43]).expect(rt, "memory");
+    Either::new(IsTheAnswer, list)
 }
 
-fn explains_own(alloc: Global, number: u32, lines: &str) -> Result<bool, AllocError> {
-    explains(alloc, &own(alloc)?, &number, lines)
+fn explains_own(rt: &impl Abort, alloc: Global, number: u32, lines: &str) -> bool {
+    explains(alloc, &own(rt, alloc), &number, lines).expect(rt, "memory")
 }
 
-fn describes_own(alloc: Global, lines: &str) -> Result<bool, AllocError> {
-    is_described(alloc, &own(alloc)?, lines)
+fn describes_own(rt: &impl Abort, alloc: Global, lines: &str) -> bool {
+    is_described(alloc, &own(rt, alloc), lines).expect(rt, "memory")
 }
 
 #[test]
-fn a_combinator_of_the_callers_own(rt: HostRuntime) -> Result<(), Fail> {
+fn a_combinator_of_the_callers_own(rt: HostRuntime) {
     let alloc = rt.alloc();
     let lines = "\
 either(var.is_the_answer(), var in values) = true
   right: var in values = true
     - var: 41
 ";
-    assert!(rt; explains_own(alloc, 41, lines)?);
+    assert!(rt; explains_own(&rt, alloc, 41, lines));
     let lines = "\
 either(var.is_the_answer(), var in values) = false
   left: var.is_the_answer() = false
@@ -88,15 +84,14 @@ either(var.is_the_answer(), var in values) = false
   right: var in values = false
     - var: 40
 ";
-    assert!(rt; explains_own(alloc, 40, lines)?);
+    assert!(rt; explains_own(&rt, alloc, 40, lines));
     let lines = "\
 either(var.is_the_answer(), var in values)
 left: var.is_the_answer()
 right: var in values
   values=[41, 43]
 ";
-    assert!(rt; describes_own(alloc, lines)?);
-    Ok(())
+    assert!(rt; describes_own(&rt, alloc, lines));
 }
 
 const UNDER_NOT: [&str; 2] = [
@@ -163,24 +158,24 @@ fn answer_or_small() -> Either<IsTheAnswer, OrdPredicate<u32>> {
 }
 
 #[test]
-fn under_not_and_under_a_name(rt: HostRuntime) -> Result<(), Fail> {
+fn under_not_and_under_a_name(rt: HostRuntime) {
     let alloc = rt.alloc();
     let [leaf, either] = UNDER_NOT;
-    assert!(rt; has_row(alloc, IsTheAnswer.not(), leaf)?);
-    assert!(rt; has_row(alloc, answer_or_small().not(), either)?);
+    assert!(rt; has_row(&rt, alloc, IsTheAnswer.not(), leaf));
+    assert!(rt; has_row(&rt, alloc, answer_or_small().not(), either));
     let [leaf, either] = UNDER_A_NAME;
-    assert!(rt; has_row(alloc, IsTheAnswer.name("answer"), leaf)?);
-    assert!(rt; has_row(alloc, answer_or_small().name("answer"), either)?);
-    Ok(())
+    assert!(rt; has_row(&rt, alloc, IsTheAnswer.name("answer"), leaf));
+    assert!(rt; has_row(&rt, alloc, answer_or_small().name("answer"), either));
 }
 
-fn is_multiple(alloc: Global, lines: &str) -> Result<bool, AllocError> {
-    has_row(alloc, leaf(MultipleOf { divisor: 42 }), lines)
+fn is_multiple(rt: &impl Abort, alloc: Global, lines: &str) -> bool {
+    has_row(rt, alloc, leaf(MultipleOf { divisor: 42 }), lines)
 }
 
-fn is_multiple_or_greater(alloc: Global, lines: &str) -> Result<bool, AllocError> {
+fn is_multiple_or_greater(rt: &impl Abort, alloc: Global, lines: &str) -> bool {
     let multiple = leaf(MultipleOf { divisor: 42 });
     has_row(
+        rt,
         alloc,
         multiple.or(predicate::gt(41u32)).name("answer"),
         lines,
@@ -188,7 +183,7 @@ fn is_multiple_or_greater(alloc: Global, lines: &str) -> Result<bool, AllocError
 }
 
 #[test]
-fn a_leaf_made_of_a_test(rt: HostRuntime) -> Result<(), Fail> {
+fn a_leaf_made_of_a_test(rt: HostRuntime) {
     let lines = "\
 var % 42 == 0
 var % 42 == 0 = true
@@ -196,7 +191,7 @@ var % 42 == 0 = true
 var % 42 == 0 = false
   - var: 41
 ";
-    assert!(rt; is_multiple(rt.alloc(), lines)?);
+    assert!(rt; is_multiple(&rt, rt.alloc(), lines));
     let lines = "\
 answer
 answer: (var % 42 == 0 || var > 41)
@@ -213,47 +208,47 @@ answer = false
     right: var > 41 = false
       - var: 41
 ";
-    assert!(rt; is_multiple_or_greater(rt.alloc(), lines)?);
-    Ok(())
+    assert!(rt; is_multiple_or_greater(&rt, rt.alloc(), lines));
 }
 
 fn explains_divisible(
+    rt: &impl Abort,
     alloc: Global,
     divisor: u32,
     number: i64,
     lines: &str,
-) -> Result<bool, AllocError> {
+) -> bool {
     explains(
         alloc,
         &detailed_leaf(DivisibleBy { divisor }),
         &number,
         lines,
     )
+    .expect(rt, "memory")
 }
 
-fn describes_divisible(alloc: Global, lines: &str) -> Result<bool, AllocError> {
-    is_described(alloc, &detailed_leaf(DivisibleBy { divisor: 3 }), lines)
+fn describes_divisible(rt: &impl Abort, alloc: Global, lines: &str) -> bool {
+    is_described(alloc, &detailed_leaf(DivisibleBy { divisor: 3 }), lines).expect(rt, "memory")
 }
 
 // The remainder has the sign of the item, and 0 divides 0 alone.
 #[test]
-fn a_leaf_with_a_product_and_a_parameter_of_its_own(rt: HostRuntime) -> Result<(), Fail> {
+fn a_leaf_with_a_product_and_a_parameter_of_its_own(rt: HostRuntime) {
     let alloc = rt.alloc();
     let lines = "var % 3 == 0 = false\n  - var: -7\n  - remainder: -1\n";
-    assert!(rt; explains_divisible(alloc, 3, -7, lines)?);
+    assert!(rt; explains_divisible(&rt, alloc, 3, -7, lines));
     let lines = "var % 3 == 0 = true\n  - var: 9\n  - remainder: 0\n";
-    assert!(rt; explains_divisible(alloc, 3, 9, lines)?);
+    assert!(rt; explains_divisible(&rt, alloc, 3, 9, lines));
     let lines = "var % 0 == 0 = false\n  - var: 5\n  - remainder: 5\n";
-    assert!(rt; explains_divisible(alloc, 0, 5, lines)?);
+    assert!(rt; explains_divisible(&rt, alloc, 0, 5, lines));
     let lines = "var % 0 == 0 = true\n  - var: 0\n  - remainder: 0\n";
-    assert!(rt; explains_divisible(alloc, 0, 0, lines)?);
-    assert!(rt; describes_divisible(alloc, "var % 3 == 0\ndivisor=3\n")?);
-    Ok(())
+    assert!(rt; explains_divisible(&rt, alloc, 0, 0, lines));
+    assert!(rt; describes_divisible(&rt, alloc, "var % 3 == 0\ndivisor=3\n"));
 }
 
 // The parts are evaluated in the other order, and are shown in the same one.
 #[test]
-fn a_combinator_that_evaluates_its_right_part_first(rt: HostRuntime) -> Result<(), Fail> {
+fn a_combinator_that_evaluates_its_right_part_first(rt: HostRuntime) {
     let lines = "\
 either(var.is_the_answer(), var > 41)
 left: var.is_the_answer()
@@ -268,7 +263,7 @@ either(var.is_the_answer(), var > 41) = false
     - var: 41
 ";
     let greater = RightFirst::new(IsTheAnswer, predicate::gt(41u32));
-    assert!(rt; has_row(rt.alloc(), greater, lines)?);
+    assert!(rt; has_row(&rt, rt.alloc(), greater, lines));
     let lines = "\
 either(var.is_the_answer(), var < 42)
 left: var.is_the_answer()
@@ -281,25 +276,28 @@ either(var.is_the_answer(), var < 42) = true
     - var: 41
 ";
     let less = RightFirst::new(IsTheAnswer, predicate::lt(42u32));
-    assert!(rt; has_row(rt.alloc(), less, lines)?);
-    Ok(())
+    assert!(rt; has_row(&rt, rt.alloc(), less, lines));
 }
 
 #[test]
-fn known_numbers(rt: HostRuntime) -> Result<(), Fail> {
+fn known_numbers(rt: HostRuntime) {
     for (number, expected) in [(0, true), (9, true), (10, false), (41, false), (42, true)] {
-        assert_eq!(rt; is_known(rt.alloc(), &number)?, expected, "{number}");
+        assert_eq!(rt;
+            is_known(rt.alloc(), &number).expect(&rt, "memory"),
+            expected,
+            "{number}"
+        );
     }
-    Ok(())
 }
 
 // Of two leaves, by the operator, whether the case for the verdict has the lines.
 fn has_case_of_two(
+    rt: &impl Abort,
     alloc: Global,
     operator: Operator,
     verdict: bool,
     lines: &str,
-) -> Result<bool, AllocError> {
+) -> bool {
     let (low, small) = (predicate::lt(3), predicate::lt(5));
     let whole = IsTheAnswer;
     let join = Join {
@@ -308,27 +306,27 @@ fn has_case_of_two(
         left: &low,
         right: &small,
     };
-    let found = join_case(alloc, join, verdict, &4)?;
-    has_lines(alloc, found, lines)
+    let found = join_case(alloc, join, verdict, &4).expect(rt, "memory");
+    has_lines(rt, alloc, found, lines)
 }
 
 // By `not`.
-fn has_case_of_not(alloc: Global, lines: &str) -> Result<bool, AllocError> {
-    let found = not_case(alloc, &IsTheAnswer, &predicate::lt(3), true, &4)?;
-    has_lines(alloc, found, lines)
+fn has_case_of_not(rt: &impl Abort, alloc: Global, lines: &str) -> bool {
+    let found = not_case(alloc, &IsTheAnswer, &predicate::lt(3), true, &4).expect(rt, "memory");
+    has_lines(rt, alloc, found, lines)
 }
 
 // Bare, of the verdict alone.
-fn has_bare_case(alloc: Global, lines: &str) -> Result<[bool; 2], AllocError> {
-    let found = bare_case(alloc, &IsTheAnswer, true, Some(true))?;
-    let is_bare = has_lines(alloc, found, lines)?;
-    let found = bare_case(alloc, &IsTheAnswer, true, Some(false))?;
-    Ok([is_bare, found.is_none()])
+fn has_bare_case(rt: &impl Abort, alloc: Global, lines: &str) -> [bool; 2] {
+    let found = bare_case(alloc, &IsTheAnswer, true, Some(true)).expect(rt, "memory");
+    let is_bare = has_lines(rt, alloc, found, lines);
+    let found = bare_case(alloc, &IsTheAnswer, true, Some(false)).expect(rt, "memory");
+    [is_bare, found.is_none()]
 }
 
 // The calls that make a case for a custom predicate, under the text of the leaf.
 #[test]
-fn custom_cases(rt: HostRuntime) -> Result<(), Fail> {
+fn custom_cases(rt: HostRuntime) {
     let both = "var.is_the_answer() = false\n  left: var < 3 = false\n    - var: 4\n";
     let one = "\
 var.is_the_answer() = true
@@ -337,11 +335,10 @@ var.is_the_answer() = true
   right: var < 5 = true
     - var: 4
 ";
-    assert!(rt; has_case_of_two(rt.alloc(), Operator::And, false, both)?);
-    assert!(rt; has_case_of_two(rt.alloc(), Operator::Xor, true, one)?);
+    assert!(rt; has_case_of_two(&rt, rt.alloc(), Operator::And, false, both));
+    assert!(rt; has_case_of_two(&rt, rt.alloc(), Operator::Xor, true, one));
     let negated = "var.is_the_answer() = true\n  predicate: var < 3 = false\n    - var: 4\n";
     let bare = "var.is_the_answer() = true\n";
-    assert!(rt; has_case_of_not(rt.alloc(), negated)?);
-    assert_eq!(rt; has_bare_case(rt.alloc(), bare)?, [true; 2]);
-    Ok(())
+    assert!(rt; has_case_of_not(&rt, rt.alloc(), negated));
+    assert_eq!(rt; has_bare_case(&rt, rt.alloc(), bare), [true; 2]);
 }

@@ -1,7 +1,6 @@
 // What README puts into a crate of one's own.
 use predicates::prelude::*;
 use std::alloc::{AllocError, Global};
-use std::test::Fail;
 
 /// Why the number is not between 5 and 10; none where it is.
 pub fn why_not(alloc: Global, number: i64) -> Result<Option<String>, AllocError> {
@@ -13,13 +12,14 @@ pub fn why_not(alloc: Global, number: i64) -> Result<Option<String>, AllocError>
 }
 
 #[test]
-fn explains_why(rt: HostRuntime) -> Result<(), Fail> {
+fn explains_why(rt: HostRuntime) {
     let alloc = rt.alloc();
-    assert!(rt; why_not(alloc, 7)?.is_none());
-    let lines = why_not(alloc, 11)?.ok_or("it is")?;
+    assert!(rt; why_not(alloc, 7).expect(&rt, "memory").is_none());
+    let lines = why_not(alloc, 11)
+        .expect(&rt, "memory")
+        .expect(&rt, "it is");
     assert_eq!(rt;
         lines.as_str(),
         "(var >= 5 && var <= 10) = false\n  right: var <= 10 = false\n    - var: 11\n"
     );
-    Ok(())
 }

@@ -3,7 +3,6 @@ use predicates_fakes::Process;
 use predicates_vet_program::run_program;
 use std::alloc::Global;
 use std::process::Abort;
-use std::test::Fail;
 
 // Words, and the status, standard output and standard error.
 type Row = (&'static [&'static [u8]], u8, &'static str, &'static str);
@@ -312,11 +311,10 @@ fn all_end(rt: &impl Abort, alloc: Global, rows: &[Row]) {
 }
 
 #[test]
-fn formats(rt: HostRuntime) -> Result<(), Fail> {
+fn formats(rt: HostRuntime) {
     let alloc = rt.alloc();
     all_end(&rt, alloc, &ANNOTATIONS);
     all_end(&rt, alloc, &DOCUMENTS);
     all_end(&rt, alloc, &WRONG_WORDS);
     all_end(&rt, alloc, &WRONG_NAMES);
-    Ok(())
 }

@@ -1,10 +1,9 @@
 //! The whole program, over a process of the test's.
 use predicates_fakes::{Closed, Process};
 use predicates_vet_program::run_program;
-use std::alloc::{AllocError, Global};
+use std::alloc::Global;
 use std::io::ErrorKind;
 use std::process::Abort;
-use std::test::Fail;
 
 // Words, the rules, an input and the error at its end, the output that fails, and the status,
 // standard output and standard error.
@@ -676,32 +675,36 @@ fn clash(first: usize, second: usize) -> bool {
 }
 
 // What is told of two flags that can't stand together.
-fn refusal(alloc: Global, first: &[&[u8]], second: &[&[u8]]) -> Result<Vec<u8>, AllocError> {
+fn refusal(rt: &impl Abort, alloc: Global, first: &[&[u8]], second: &[&[u8]]) -> Vec<u8> {
     let mut line = Vec::new(alloc);
-    line.extend_from_slice(b"vet: the argument '")?;
+    line.extend_from_slice(b"vet: the argument '")
+        .expect(rt, "memory");
     for word in first {
-        line.extend_from_slice(word)?;
+        line.extend_from_slice(word).expect(rt, "memory");
     }
-    line.extend_from_slice(b"' cannot be used with '")?;
+    line.extend_from_slice(b"' cannot be used with '")
+        .expect(rt, "memory");
     for word in second {
-        line.extend_from_slice(word)?;
+        line.extend_from_slice(word).expect(rt, "memory");
     }
-    line.extend_from_slice(b"'; try --help\n")?;
-    Ok(line)
+    line.extend_from_slice(b"'; try --help\n")
+        .expect(rt, "memory");
+    line
 }
 
 // Whether the program ends so where these flags stand before the rules.
 fn pair_ends(
+    rt: &impl Abort,
     alloc: Global,
     first: &[&[u8]],
     second: &[&[u8]],
     clash: bool,
-) -> Result<bool, AllocError> {
+) -> bool {
     let mut words: Vec<&[u8]> = Vec::new(alloc);
-    words.push(b"vet")?;
-    words.extend_from_slice(first)?;
-    words.extend_from_slice(second)?;
-    words.push(b"rules")?;
+    words.push(b"vet").expect(rt, "memory");
+    words.extend_from_slice(first).expect(rt, "memory");
+    words.extend_from_slice(second).expect(rt, "memory");
+    words.push(b"rules").expect(rt, "memory");
     let (status, _, told) = run(
         alloc,
         words.as_slice(),
@@ -711,9 +714,9 @@ fn pair_ends(
         Closed::Neither,
     );
     if clash {
-        return Ok(status == 2 && told == refusal(alloc, first, second)?);
+        return status == 2 && told == refusal(rt, alloc, first, second);
     }
-    Ok(status == 0 && told.ends_with(b"1 record, 0 failed\n"))
+    status == 0 && told.ends_with(b"1 record, 0 failed\n")
 }
 
 fn all_end(rt: &impl Abort, alloc: Global, rows: &[Row]) {
@@ -723,7 +726,7 @@ fn all_end(rt: &impl Abort, alloc: Global, rows: &[Row]) {
 }
 
 #[test]
-fn statuses_and_messages(rt: HostRuntime) -> Result<(), Fail> {
+fn statuses_and_messages(rt: HostRuntime) {
     let alloc = rt.alloc();
     all_end(&rt, alloc, &VALUES);
     all_end(&rt, alloc, &REPORTS);
@@ -733,21 +736,19 @@ fn statuses_and_messages(rt: HostRuntime) -> Result<(), Fail> {
     all_end(&rt, alloc, &AMOUNTS);
     all_end(&rt, alloc, &FAULTS);
     all_end(&rt, alloc, &FILES);
-    Ok(())
 }
 
 #[test]
-fn every_pair_of_flags(rt: HostRuntime) -> Result<(), Fail> {
+fn every_pair_of_flags(rt: HostRuntime) {
     for (first, words) in FLAGS.iter().enumerate() {
         for (second, others) in FLAGS.iter().enumerate() {
             if first != second {
                 let clash = clash(first, second);
                 assert!(rt;
-                    pair_ends(rt.alloc(), words, others, clash)?,
+                    pair_ends(&rt, rt.alloc(), words, others, clash),
                     "{words:?} {others:?}"
                 );
             }
         }
     }
-    Ok(())
 }

@@ -7,7 +7,6 @@ use predicates_vet_program::run_program;
 use std::alloc::Global;
 use std::io::ErrorKind;
 use std::process::Abort;
-use std::test::Fail;
 
 // Words, the tick, what the file of standard input has, where it is one, standard input, and
 // standard error.
@@ -233,28 +232,25 @@ fn all_tell(rt: &impl Abort, alloc: Global, rows: &[Row]) {
 }
 
 #[test]
-fn lines(rt: HostRuntime) -> Result<(), Fail> {
+fn lines(rt: HostRuntime) {
     let alloc = rt.alloc();
     all_tell(&rt, alloc, &LINES);
     all_tell(&rt, alloc, &SHARES);
     all_tell(&rt, alloc, &MESSAGES);
-    Ok(())
 }
 
 #[test]
-fn faults(rt: HostRuntime) -> Result<(), Fail> {
+fn faults(rt: HostRuntime) {
     for fault in FAULTS {
         let messages = fault.2;
         assert!(rt; fault_tells(rt.alloc(), fault), "{messages:?}");
     }
-    Ok(())
 }
 
 #[test]
-fn silent_elsewhere(rt: HostRuntime) -> Result<(), Fail> {
+fn silent_elsewhere(rt: HostRuntime) {
     assert!(rt; is_silent(rt.alloc(), PLAIN, Some(100), false));
     assert!(rt; is_silent(rt.alloc(), &[b"vet", b"rules"], Some(100), true));
     // Without a clock.
     assert!(rt; is_silent(rt.alloc(), PLAIN, None, true));
-    Ok(())
 }

@@ -6,10 +6,9 @@ use super::reference::{
 use super::{Expected, writes};
 use predicates_vet::settings::Report;
 use serde_json::Value;
-use std::alloc::{AllocError, Global};
+use std::alloc::Global;
 use std::fmt::Write;
 use std::process::Abort;
-use std::test::Fail;
 
 const STATES: [Test<'static>; 5] = [
     ("/ exists", &[], "exists", Against::Nothing),
@@ -116,246 +115,261 @@ null
 {\"x\": \"\u{e9}\", \"l\": [{\"x\": \"\"}]}";
 
 // Two answers, in order.
-fn two(alloc: Global, left: Answer, right: Answer) -> Result<Vec<Answer>, AllocError> {
+fn two(rt: &impl Abort, alloc: Global, left: Answer, right: Answer) -> Vec<Answer> {
     let mut parts = Vec::new(alloc);
-    parts.push(left)?;
-    parts.push(right)?;
-    Ok(parts)
+    parts.push(left).expect(rt, "memory");
+    parts.push(right).expect(rt, "memory");
+    parts
 }
 
 // What two tests say of the value.
 fn parts_of(
+    rt: &impl Abort,
     alloc: Global,
     first: Test<'_>,
     second: Test<'_>,
     value: &Value,
-) -> Result<Vec<Answer>, AllocError> {
-    let left = tested(alloc, first, value)?;
-    let right = tested(alloc, second, value)?;
-    two(alloc, left, right)
+) -> Vec<Answer> {
+    let left = tested(rt, alloc, first, value);
+    let right = tested(rt, alloc, second, value);
+    two(rt, alloc, left, right)
 }
 
 // What is said of the value by two tests that the word joins.
 fn pair(
+    rt: &impl Abort,
     alloc: Global,
     word: &str,
     first: Test<'_>,
     second: Test<'_>,
     value: &Value,
-) -> Result<Answer, AllocError> {
+) -> Answer {
     let (left, right) = (first.0, second.0);
-    let text = format!(in alloc; "{left} {word} {right}")?;
-    let parts = parts_of(alloc, first, second, value)?;
-    joined(alloc, text, word, &parts)
+    let text = format!(in alloc; "{left} {word} {right}").expect(rt, "memory");
+    let parts = parts_of(rt, alloc, first, second, value);
+    joined(rt, alloc, text, word, &parts)
 }
 
 // What is said of each item.
 fn pairs(
+    rt: &impl Abort,
     alloc: Global,
     word: &str,
     first: Test<'_>,
     second: Test<'_>,
     found: Option<&Value>,
-) -> Result<Vec<Answer>, AllocError> {
+) -> Vec<Answer> {
     let mut parts = Vec::new(alloc);
     if let Some(Value::Array(items)) = found {
         for item in items {
-            parts.push(pair(alloc, word, first, second, item)?)?;
+            parts
+                .push(pair(rt, alloc, word, first, second, item))
+                .expect(rt, "memory");
         }
     }
     if let Some(Value::Object(members)) = found {
         for item in members.values() {
-            parts.push(pair(alloc, word, first, second, item)?)?;
+            parts
+                .push(pair(rt, alloc, word, first, second, item))
+                .expect(rt, "memory");
         }
     }
-    Ok(parts)
+    parts
 }
 
 // What is said of the items at `/l`.
 fn over_items(
+    rt: &impl Abort,
     alloc: Global,
     quantifier: &str,
     word: &str,
     (first, second): (Test<'_>, Test<'_>),
     value: &Value,
-) -> Result<Answer, AllocError> {
+) -> Answer {
     let (left, right) = (first.0, second.0);
-    let text = format!(in alloc; "{quantifier} /l ({left} {word} {right})")?;
+    let text = format!(in alloc; "{quantifier} /l ({left} {word} {right})").expect(rt, "memory");
     let found = value_of(value, &["l"]);
-    let parts = pairs(alloc, word, first, second, found)?;
-    ranged(alloc, text, quantifier, found, &parts)
+    let parts = pairs(rt, alloc, word, first, second, found);
+    ranged(rt, alloc, text, quantifier, found, &parts)
 }
 
-fn denied_row(alloc: Global, part: Answer) -> Result<Answer, AllocError> {
+fn denied_row(rt: &impl Abort, alloc: Global, part: Answer) -> Answer {
     let inner = part.text.as_str();
-    let text = format!(in alloc; "not ({inner})")?;
-    denied(alloc, text, &part)
+    let text = format!(in alloc; "not ({inner})").expect(rt, "memory");
+    denied(rt, alloc, text, &part)
 }
 
-fn denied_range(alloc: Global, part: Answer) -> Result<Answer, AllocError> {
+fn denied_range(rt: &impl Abort, alloc: Global, part: Answer) -> Answer {
     let inner = part.text.as_str();
-    let text = format!(in alloc; "not {inner}")?;
-    denied(alloc, text, &part)
+    let text = format!(in alloc; "not {inner}").expect(rt, "memory");
+    denied(rt, alloc, text, &part)
 }
 
 // Two parts that the word joins, of which the first may be joined itself.
 fn both(
+    rt: &impl Abort,
     alloc: Global,
     word: &str,
     is_row: bool,
     left: Answer,
     right: Answer,
-) -> Result<Answer, AllocError> {
+) -> Answer {
     let (open, close) = if is_row { ("(", ")") } else { ("", "") };
     let (a, b) = (left.text.as_str(), right.text.as_str());
-    let text = format!(in alloc; "{open}{a}{close} {word} {b}")?;
-    let parts = two(alloc, left, right)?;
-    joined(alloc, text, word, &parts)
+    let text = format!(in alloc; "{open}{a}{close} {word} {b}").expect(rt, "memory");
+    let parts = two(rt, alloc, left, right);
+    joined(rt, alloc, text, word, &parts)
 }
 
 // A range, joined with the opposite of another.
 fn both_ranges(
+    rt: &impl Abort,
     alloc: Global,
     first: Test<'_>,
     second: Test<'_>,
     value: &Value,
-) -> Result<Answer, AllocError> {
-    let right = over_items(alloc, "any", "xor", (first, second), value)?;
-    let right = denied_range(alloc, right)?;
-    let left = over_items(alloc, "any", "or", (first, second), value)?;
-    both(alloc, "xor", false, left, right)
+) -> Answer {
+    let right = over_items(rt, alloc, "any", "xor", (first, second), value);
+    let right = denied_range(rt, alloc, right);
+    let left = over_items(rt, alloc, "any", "or", (first, second), value);
+    both(rt, alloc, "xor", false, left, right)
 }
 
 // A row, joined with the opposite of another.
 fn both_rows(
+    rt: &impl Abort,
     alloc: Global,
     first: Test<'_>,
     second: Test<'_>,
     value: &Value,
-) -> Result<Answer, AllocError> {
-    let right = pair(alloc, "and", second, first, value)?;
-    let right = denied_row(alloc, right)?;
-    let left = pair(alloc, "or", first, second, value)?;
-    both(alloc, "and", true, left, right)
+) -> Answer {
+    let right = pair(rt, alloc, "and", second, first, value);
+    let right = denied_row(rt, alloc, right);
+    let left = pair(rt, alloc, "or", first, second, value);
+    both(rt, alloc, "and", true, left, right)
 }
 
 const NAMES: [&str; 10] = ["a", "b", "c", "d", "e", "f", "g", "h", "i", "j"];
 
 // What the rule of this name over two tests says of the value.
 fn said(
+    rt: &impl Abort,
     alloc: Global,
     name: &str,
     first: Test<'_>,
     second: Test<'_>,
     value: &Value,
-) -> Result<Answer, AllocError> {
+) -> Answer {
     match name {
-        "a" => pair(alloc, "and", first, second, value),
-        "b" => pair(alloc, "or", first, second, value),
-        "c" => pair(alloc, "xor", first, second, value),
-        "d" => denied_row(alloc, pair(alloc, "and", first, second, value)?),
-        "e" => denied_row(alloc, pair(alloc, "xor", first, second, value)?),
-        "f" => over_items(alloc, "each", "or", (first, second), value),
-        "g" => over_items(alloc, "any", "and", (first, second), value),
+        "a" => pair(rt, alloc, "and", first, second, value),
+        "b" => pair(rt, alloc, "or", first, second, value),
+        "c" => pair(rt, alloc, "xor", first, second, value),
+        "d" => denied_row(rt, alloc, pair(rt, alloc, "and", first, second, value)),
+        "e" => denied_row(rt, alloc, pair(rt, alloc, "xor", first, second, value)),
+        "f" => over_items(rt, alloc, "each", "or", (first, second), value),
+        "g" => over_items(rt, alloc, "any", "and", (first, second), value),
         "h" => {
-            let part = over_items(alloc, "each", "xor", (first, second), value)?;
-            denied_range(alloc, part)
+            let part = over_items(rt, alloc, "each", "xor", (first, second), value);
+            denied_range(rt, alloc, part)
         }
-        "i" => both_ranges(alloc, first, second, value),
-        _ => both_rows(alloc, first, second, value),
+        "i" => both_ranges(rt, alloc, first, second, value),
+        _ => both_rows(rt, alloc, first, second, value),
     }
 }
 
 // Writes the rule of this name.
-fn push_named(rules: &mut String, name: &str, text: &str) -> Result<(), AllocError> {
-    rules.push_str(name)?;
-    rules.push_str(": ")?;
-    rules.push_str(text)?;
-    rules.push_str("\n")
+fn push_named(rt: &impl Abort, rules: &mut String, name: &str, text: &str) {
+    rules.push_str(name).expect(rt, "memory");
+    rules.push_str(": ").expect(rt, "memory");
+    rules.push_str(text).expect(rt, "memory");
+    rules.push_str("\n").expect(rt, "memory")
 }
 
 // The file of these rules. A rule's text depends on no value.
-fn rules_of(alloc: Global, first: Test<'_>, second: Test<'_>) -> Result<String, AllocError> {
+fn rules_of(rt: &impl Abort, alloc: Global, first: Test<'_>, second: Test<'_>) -> String {
     let mut rules = String::new(alloc);
     for name in NAMES {
-        let rule = said(alloc, name, first, second, &Value::Null)?;
-        push_named(&mut rules, name, &rule.text)?;
+        let rule = said(rt, alloc, name, first, second, &Value::Null);
+        push_named(rt, &mut rules, name, &rule.text);
     }
-    Ok(rules)
+    rules
 }
 
 // Writes the lines of the rule where it does not hold, and keeps those of the first one.
 fn push_broken(
+    rt: &impl Abort,
     alloc: Global,
     all: &mut String,
     one: &mut String,
     name: &str,
     rule: &Answer,
-) -> Result<(), AllocError> {
+) {
     if rule.holds {
-        return Ok(());
+        return;
     }
-    push_rule(alloc, all, name, rule)?;
+    push_rule(rt, alloc, all, name, rule);
     if one.is_empty() {
-        one.push_str(all)?;
+        one.push_str(all).expect(rt, "memory");
     }
-    Ok(())
 }
 
 // The lines of the rules that the value breaks: of all, and of the first.
 fn broken(
+    rt: &impl Abort,
     alloc: Global,
     first: Test<'_>,
     second: Test<'_>,
     value: &Value,
-) -> Result<(String, String), AllocError> {
+) -> (String, String) {
     let mut all = String::new(alloc);
     let mut one = String::new(alloc);
     for name in NAMES {
-        let rule = said(alloc, name, first, second, value)?;
-        push_broken(alloc, &mut all, &mut one, name, &rule)?;
+        let rule = said(rt, alloc, name, first, second, value);
+        push_broken(rt, alloc, &mut all, &mut one, name, &rule);
     }
-    Ok((all, one))
+    (all, one)
 }
 
 // Writes the block of the record of this number.
-fn push_block(to: &mut String, number: usize, lines: &str) -> Result<(), AllocError> {
-    writeln!(to, "record {number}: false")?;
-    to.push_str(lines)
+fn push_block(rt: &impl Abort, to: &mut String, number: usize, lines: &str) {
+    writeln!(to, "record {number}: false").expect(rt, "memory");
+    to.push_str(lines).expect(rt, "memory")
 }
 
 // The blocks of all values, with all rules that they break, and with the first; and how many break
 // one.
 fn blocks(
+    rt: &impl Abort,
     alloc: Global,
     first: Test<'_>,
     second: Test<'_>,
     values: &[Value],
-) -> Result<(String, String, u64), AllocError> {
+) -> (String, String, u64) {
     let mut all = String::new(alloc);
     let mut one = String::new(alloc);
     let mut failed = 0u64;
     for (index, value) in values.iter().enumerate() {
-        let (lines, first_lines) = broken(alloc, first, second, value)?;
+        let (lines, first_lines) = broken(rt, alloc, first, second, value);
         if !lines.is_empty() {
             failed = failed.saturating_add(1);
             let number = index.saturating_add(1);
-            push_block(&mut all, number, &lines)?;
-            push_block(&mut one, number, &first_lines)?;
+            push_block(rt, &mut all, number, &lines);
+            push_block(rt, &mut one, number, &first_lines);
         }
     }
-    Ok((all, one, failed))
+    (all, one, failed)
 }
 
 // Whether the runs over all records write what the reference does.
 fn agrees(
+    rt: &impl Abort,
     alloc: Global,
     first: Test<'_>,
     second: Test<'_>,
     values: &[Value],
-) -> Result<bool, AllocError> {
-    let rules = rules_of(alloc, first, second)?;
-    let (all, one, failed) = blocks(alloc, first, second, values)?;
+) -> bool {
+    let rules = rules_of(rt, alloc, first, second);
+    let (all, one, failed) = blocks(rt, alloc, first, second, values);
     let whole = Expected {
         report: Report::All,
         id: None,
@@ -369,39 +383,35 @@ fn agrees(
         output: one.as_bytes(),
         ..whole
     };
-    Ok(writes(alloc, whole)? && writes(alloc, short)?)
+    writes(rt, alloc, whole) && writes(rt, alloc, short)
 }
 
 // The values of the records.
-fn values(alloc: Global) -> Result<Vec<Value>, Fail> {
+fn values(rt: &impl Abort, alloc: Global) -> Vec<Value> {
     let mut values = Vec::new(alloc);
     for line in RECORDS.split('\n') {
-        values.push(Value::from_str(alloc, line)?)?;
+        values
+            .push(Value::from_str(alloc, line).expect(rt, "memory"))
+            .expect(rt, "memory");
     }
-    Ok(values)
+    values
 }
 
-fn all_agree(
-    rt: &impl Abort,
-    alloc: Global,
-    tests: &[Test<'static>],
-    values: &[Value],
-) -> Result<(), Fail> {
+fn all_agree(rt: &impl Abort, alloc: Global, tests: &[Test<'static>], values: &[Value]) {
     for first in tests {
         for second in SECOND {
-            let same = agrees(alloc, *first, second, values)?;
+            let same = agrees(rt, alloc, *first, second, values);
             let (left, right) = (first.0, second.0);
             assert!(rt; same, "{left} and {right}");
         }
     }
-    Ok(())
 }
 
 #[test]
-fn pairs_of_tests(rt: HostRuntime) -> Result<(), Fail> {
-    let values = values(rt.alloc())?;
-    all_agree(&rt, rt.alloc(), &STATES, &values)?;
-    all_agree(&rt, rt.alloc(), &COMPARISONS, &values)?;
-    all_agree(&rt, rt.alloc(), &TEXTS, &values)?;
+fn pairs_of_tests(rt: HostRuntime) {
+    let values = values(&rt, rt.alloc());
+    all_agree(&rt, rt.alloc(), &STATES, &values);
+    all_agree(&rt, rt.alloc(), &COMPARISONS, &values);
+    all_agree(&rt, rt.alloc(), &TEXTS, &values);
     all_agree(&rt, rt.alloc(), &PATHS_AND_KINDS, &values)
 }

@@ -3,9 +3,9 @@
 use predicates_fakes::{Narrow, Slow};
 use predicates_vet::settings::{Report, Settings};
 use predicates_vet::{Counts, Job, RunFault, Streams, Tally, read_checks, run_records};
-use std::alloc::{AllocError, Global};
+use std::alloc::Global;
 use std::io::ErrorKind;
-use std::test::Fail;
+use std::process::Abort;
 
 const INPUT: &[u8] = b"{\"x\": 2}\n\xff\n1\n{\"x\": 1}\n{}";
 
@@ -42,16 +42,16 @@ const KINDS: [(ErrorKind, RunFault, RunFault); 3] = [
 ];
 
 // What is written before a fault behind this many bytes of the input: as answers, and as messages.
-fn written_by(alloc: Global, read: usize) -> Result<(Vec<u8>, Vec<u8>), AllocError> {
+fn written_by(rt: &impl Abort, alloc: Global, read: usize) -> (Vec<u8>, Vec<u8>) {
     let mut answers = Vec::new(alloc);
     let mut told = Vec::new(alloc);
     for (from, answer, message) in WRITTEN {
         if from <= read {
-            answers.extend_from_slice(answer)?;
-            told.extend_from_slice(message)?;
+            answers.extend_from_slice(answer).expect(rt, "memory");
+            told.extend_from_slice(message).expect(rt, "memory");
         }
     }
-    Ok((answers, told))
+    (answers, told)
 }
 
 // How a run ends, and what was written, as answers and as messages.
@@ -95,23 +95,24 @@ fn ran(
 // Whether the run over the front of the input, with a fault behind it, answers that fault, after
 // what stands for the lines in the front.
 fn fails_reading(
+    rt: &impl Abort,
     alloc: Global,
     read: usize,
     kind: ErrorKind,
     fault: RunFault,
-) -> Result<bool, AllocError> {
+) -> bool {
     let front = &INPUT[..read.min(INPUT.len())];
-    let (expected, messages) = written_by(alloc, read)?;
+    let (expected, messages) = written_by(rt, alloc, read);
     let input = Slow {
         bytes: front,
         end: Some(kind),
     };
-    Ok(match ran(alloc, input, (usize::MAX, usize::MAX), kind) {
+    match ran(alloc, input, (usize::MAX, usize::MAX), kind) {
         Some((ended, answers, told)) => {
             ended == Err(fault) && answers == expected && told == messages
         }
         None => false,
-    })
+    }
 }
 
 // Whether a run that has room for so many bytes in one place answers the fault after these bytes,
@@ -132,52 +133,50 @@ fn is_cut(ran: Ran, whole: &[u8], other_whole: &[u8], room: usize, fault: RunFau
 
 // Whether the run over the whole input does so, where this many bytes of answers are written.
 fn fails_writing(
+    rt: &impl Abort,
     alloc: Global,
     room: usize,
     kind: ErrorKind,
     fault: RunFault,
-) -> Result<bool, AllocError> {
-    let (whole, messages) = written_by(alloc, usize::MAX)?;
-    Ok(
-        match ran(
-            alloc,
-            Slow {
-                bytes: INPUT,
-                end: None,
-            },
-            (room, usize::MAX),
-            kind,
-        ) {
-            Some(ran) => is_cut(ran, &whole, &messages, room, fault),
-            None => false,
+) -> bool {
+    let (whole, messages) = written_by(rt, alloc, usize::MAX);
+    match ran(
+        alloc,
+        Slow {
+            bytes: INPUT,
+            end: None,
         },
-    )
+        (room, usize::MAX),
+        kind,
+    ) {
+        Some(ran) => is_cut(ran, &whole, &messages, room, fault),
+        None => false,
+    }
 }
 
 // The same where this many bytes of messages are written.
 fn fails_telling(
+    rt: &impl Abort,
     alloc: Global,
     room: usize,
     kind: ErrorKind,
     fault: RunFault,
-) -> Result<bool, AllocError> {
-    let (whole, messages) = written_by(alloc, usize::MAX)?;
-    Ok(
-        match ran(
-            alloc,
-            Slow {
-                bytes: INPUT,
-                end: None,
-            },
-            (usize::MAX, room),
-            kind,
-        ) {
-            Some((ended, answers, told)) => {
-                is_cut((ended, told, answers), &messages, &whole, room, fault)
-            }
-            None => false,
+) -> bool {
+    let (whole, messages) = written_by(rt, alloc, usize::MAX);
+    match ran(
+        alloc,
+        Slow {
+            bytes: INPUT,
+            end: None,
         },
-    )
+        (usize::MAX, room),
+        kind,
+    ) {
+        Some((ended, answers, told)) => {
+            is_cut((ended, told, answers), &messages, &whole, room, fault)
+        }
+        None => false,
+    }
 }
 
 const COUNTS: Counts = Counts {
@@ -187,34 +186,32 @@ const COUNTS: Counts = Counts {
 };
 
 #[test]
-fn reads_that_fail(rt: HostRuntime) -> Result<(), Fail> {
+fn reads_that_fail(rt: HostRuntime) {
     for (kind, fault, _) in KINDS {
         for read in 0..=INPUT.len() {
-            let right = fails_reading(rt.alloc(), read, kind, fault)?;
+            let right = fails_reading(&rt, rt.alloc(), read, kind, fault);
             assert!(rt; right, "{kind:?} behind {read} bytes");
         }
     }
-    Ok(())
 }
 
 // How many bytes of answers and of messages there are.
-fn lengths(alloc: Global) -> Result<(usize, usize), AllocError> {
-    let (whole, messages) = written_by(alloc, usize::MAX)?;
-    Ok((whole.len(), messages.len()))
+fn lengths(rt: &impl Abort, alloc: Global) -> (usize, usize) {
+    let (whole, messages) = written_by(rt, alloc, usize::MAX);
+    (whole.len(), messages.len())
 }
 
 #[test]
-fn writes_that_fail(rt: HostRuntime) -> Result<(), Fail> {
-    let (answers, messages) = lengths(rt.alloc())?;
+fn writes_that_fail(rt: HostRuntime) {
+    let (answers, messages) = lengths(&rt, rt.alloc());
     for (kind, _, fault) in KINDS {
         for room in 0..=answers {
-            let right = fails_writing(rt.alloc(), room, kind, fault)?;
+            let right = fails_writing(&rt, rt.alloc(), room, kind, fault);
             assert!(rt; right, "{kind:?} at {room}");
         }
         for room in 0..=messages {
-            let right = fails_telling(rt.alloc(), room, kind, fault)?;
+            let right = fails_telling(&rt, rt.alloc(), room, kind, fault);
             assert!(rt; right, "{kind:?} at {room} of the messages");
         }
     }
-    Ok(())
 }

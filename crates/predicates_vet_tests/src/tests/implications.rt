@@ -1,7 +1,6 @@
 //! Rules that say what follows from another condition.
 use super::all_reported;
 use predicates_vet::settings::Report;
-use std::test::Fail;
 
 // What is reported, a rule, a record, and what is written of it, or nothing where the record keeps
 // the rule.
@@ -117,6 +116,6 @@ a = false
 ];
 
 #[test]
-fn what_follows(rt: HostRuntime) -> Result<(), Fail> {
+fn what_follows(rt: HostRuntime) {
     all_reported(&rt, rt.alloc(), &ROWS)
 }

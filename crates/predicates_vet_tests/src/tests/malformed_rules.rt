@@ -2,29 +2,28 @@
 //! and the reason of the fault.
 use super::run_of;
 use predicates_vet::settings::{Report, Settings};
-use std::alloc::{AllocError, Global};
+use std::alloc::Global;
 use std::process::Abort;
 use std::str;
-use std::test::Fail;
 
 // The bytes as a text.
-fn text_of(alloc: Global, bytes: &[u8]) -> Result<String, AllocError> {
+fn text_of(rt: &impl Abort, alloc: Global, bytes: &[u8]) -> String {
     match str::from_utf8(bytes) {
-        Ok(text) => String::from_str(alloc, text),
-        Err(_) => String::from_str(alloc, "no text"),
+        Ok(text) => String::from_str(alloc, text).expect(rt, "memory"),
+        Err(_) => String::from_str(alloc, "no text").expect(rt, "memory"),
     }
 }
 
 // Why the rules are not read, or what is written of the record by them.
-fn told(alloc: Global, rules: &[u8], record: &[u8]) -> Result<String, AllocError> {
+fn told(rt: &impl Abort, alloc: Global, rules: &[u8], record: &[u8]) -> String {
     let settings = Settings {
         report: Report::All,
         id: None,
     };
     match run_of(alloc, &settings, rules, record) {
-        Ok((output, _, Ok(_))) => text_of(alloc, &output),
-        Ok(_) => String::from_str(alloc, "a fault"),
-        Err(error) => format!(in alloc; "{error}"),
+        Ok((output, _, Ok(_))) => text_of(rt, alloc, &output),
+        Ok(_) => String::from_str(alloc, "a fault").expect(rt, "memory"),
+        Err(error) => format!(in alloc; "{error}").expect(rt, "memory"),
     }
 }
 
@@ -110,50 +109,50 @@ a = false
 
 // Whether the front of this many bytes, behind a line that has no rule, is told so.
 fn front_is_told(
+    rt: &impl Abort,
     alloc: Global,
     len: usize,
     column: usize,
     expected: &str,
-) -> Result<bool, AllocError> {
+) -> bool {
     let mut rules = Vec::new(alloc);
-    rules.extend_from_slice(b" # before\n")?;
-    rules.extend_from_slice(&WHOLE[..len.min(WHOLE.len())])?;
-    let found = told(alloc, &rules, b"{\"x\": 1}")?;
+    rules.extend_from_slice(b" # before\n").expect(rt, "memory");
+    rules
+        .extend_from_slice(&WHOLE[..len.min(WHOLE.len())])
+        .expect(rt, "memory");
+    let found = told(rt, alloc, &rules, b"{\"x\": 1}");
     if expected.is_empty() || expected.starts_with("record") {
-        return Ok(found.as_str() == expected);
+        return found.as_str() == expected;
     }
     let place = if column == 0 {
         len.saturating_add(1)
     } else {
         column
     };
-    let message = format!(in alloc; "line 2, column {place}: expected {expected}, found ")?;
-    Ok(found.starts_with(&message))
+    let message = format!(in alloc; "line 2, column {place}: expected {expected}, found ").expect(
+        rt, "memory",
+    );
+    found.starts_with(&message)
 }
 
 // How many fronts the rows have, each of which is told so.
-fn fronts_told(
-    rt: &impl Abort,
-    alloc: Global,
-    rows: &[(usize, usize, usize, &str)],
-) -> Result<usize, Fail> {
+fn fronts_told(rt: &impl Abort, alloc: Global, rows: &[(usize, usize, usize, &str)]) -> usize {
     let mut count = 0usize;
     for (from, to, column, expected) in rows {
         for len in *from..=*to {
-            let right = front_is_told(alloc, len, *column, expected)?;
+            let right = front_is_told(rt, alloc, len, *column, expected);
             assert!(rt; right, "{len} bytes");
             count = count.saturating_add(1);
         }
     }
-    Ok(count)
+    count
 }
 
 #[test]
-fn rules_that_are_cut(rt: HostRuntime) -> Result<(), Fail> {
-    let cut = fronts_told(&rt, rt.alloc(), &CUT)?;
-    let rules = fronts_told(&rt, rt.alloc(), &CUT_TO_RULES)?;
+fn rules_that_are_cut(rt: HostRuntime) {
+    let cut = fronts_told(&rt, rt.alloc(), &CUT);
+    let rules = fronts_told(&rt, rt.alloc(), &CUT_TO_RULES);
     assert_eq!(rt; cut.saturating_add(rules), WHOLE.len().saturating_add(1));
-    Ok(())
 }
 
 const SHORT: &[u8] = b"a:/x<=9";
@@ -272,52 +271,52 @@ const CHANGED_LITERALS: [(usize, u8, usize, &str); 6] = [
 ];
 
 // The bytes with another one at the place, from 1.
-fn with_byte(alloc: Global, bytes: &[u8], place: usize, byte: u8) -> Result<Vec<u8>, AllocError> {
+fn with_byte(rt: &impl Abort, alloc: Global, bytes: &[u8], place: usize, byte: u8) -> Vec<u8> {
     let mut changed = Vec::new(alloc);
     for (index, old) in bytes.iter().enumerate() {
-        changed.push(if index + 1 == place { byte } else { *old })?;
+        changed
+            .push(if index + 1 == place { byte } else { *old })
+            .expect(rt, "memory");
     }
-    Ok(changed)
+    changed
 }
 
 fn change_is_told(
+    rt: &impl Abort,
     alloc: Global,
     place: usize,
     byte: u8,
     column: usize,
     expected: &str,
-) -> Result<bool, AllocError> {
-    let rules = with_byte(alloc, SHORT, place, byte)?;
-    let found = told(alloc, &rules, b"{\"x\": 10}")?;
+) -> bool {
+    let rules = with_byte(rt, alloc, SHORT, place, byte);
+    let found = told(rt, alloc, &rules, b"{\"x\": 10}");
     if column > 0 {
-        let message = format!(in alloc; "line 1, column {column}: expected {expected}, found ")?;
-        return Ok(found.starts_with(&message));
+        let message = format!(in alloc;
+            "line 1, column {column}: expected {expected}, found "
+        ).expect(rt, "memory");
+        return found.starts_with(&message);
     }
     let whole = if expected.is_empty() {
         String::new(alloc)
     } else {
-        format!(in alloc; "record 1: false\n{expected}")?
+        format!(in alloc; "record 1: false\n{expected}").expect(rt, "memory")
     };
-    Ok(found.as_str() == whole.as_str())
+    found.as_str() == whole.as_str()
 }
 
-fn all_changes_told(
-    rt: &impl Abort,
-    alloc: Global,
-    rows: &[(usize, u8, usize, &str)],
-) -> Result<(), Fail> {
+fn all_changes_told(rt: &impl Abort, alloc: Global, rows: &[(usize, u8, usize, &str)]) {
     for (place, byte, column, expected) in rows {
-        let right = change_is_told(alloc, *place, *byte, *column, expected)?;
+        let right = change_is_told(rt, alloc, *place, *byte, *column, expected);
         assert!(rt; right, "{byte} at {place}");
     }
-    Ok(())
 }
 
 #[test]
-fn rules_with_a_byte_changed(rt: HostRuntime) -> Result<(), Fail> {
-    all_changes_told(&rt, rt.alloc(), &CHANGED_NAMES)?;
-    all_changes_told(&rt, rt.alloc(), &CHANGED_PATHS)?;
-    all_changes_told(&rt, rt.alloc(), &CHANGED_OPERATORS)?;
+fn rules_with_a_byte_changed(rt: HostRuntime) {
+    all_changes_told(&rt, rt.alloc(), &CHANGED_NAMES);
+    all_changes_told(&rt, rt.alloc(), &CHANGED_PATHS);
+    all_changes_told(&rt, rt.alloc(), &CHANGED_OPERATORS);
     all_changes_told(&rt, rt.alloc(), &CHANGED_LITERALS)
 }
 
@@ -362,46 +361,47 @@ const BYTES: [u8; 8] = [b'#', b' ', b'"', b'0', b'(', b'a', b'/', 255];
 // Whether a file of the four rules, of which one is the changed one, is refused at its line, within
 // it, or else writes of the others what it wrote.
 fn others_stay(
+    rt: &impl Abort,
     alloc: Global,
     number: usize,
     changed: &[u8],
     refused: &mut usize,
-) -> Result<bool, AllocError> {
+) -> bool {
     let mut rules = Vec::new(alloc);
     let mut before = String::new(alloc);
     let mut after = String::new(alloc);
-    before.push_str("record 1: false\n")?;
+    before.push_str("record 1: false\n").expect(rt, "memory");
     for (index, (line, written)) in LINES.iter().enumerate() {
         if index < number {
-            before.push_str(written)?;
+            before.push_str(written).expect(rt, "memory");
         } else if index > number {
-            after.push_str(written)?;
+            after.push_str(written).expect(rt, "memory");
         }
-        rules.extend_from_slice(if index == number { changed } else { line })?;
+        rules
+            .extend_from_slice(if index == number { changed } else { line })
+            .expect(rt, "memory");
     }
-    let found = told(alloc, &rules, b"{}")?;
+    let found = told(rt, alloc, &rules, b"{}");
     let line = number.saturating_add(1);
-    let head = format!(in alloc; "line {line}, column ")?;
+    let head = format!(in alloc; "line {line}, column ").expect(rt, "memory");
     if found.starts_with(&head) {
         *refused = refused.saturating_add(1);
-        return Ok(true);
+        return true;
     }
-    Ok(
-        found.starts_with(&before)
-            && found.ends_with(&after)
-            && before.len().saturating_add(after.len()) <= found.len(),
-    )
+    found.starts_with(&before)
+        && found.ends_with(&after)
+        && before.len().saturating_add(after.len()) <= found.len()
 }
 
 #[test]
-fn a_changed_rule_leaves_the_others(rt: HostRuntime) -> Result<(), Fail> {
+fn a_changed_rule_leaves_the_others(rt: HostRuntime) {
     let alloc = rt.alloc();
     let (mut refused, mut all) = (0usize, 0usize);
     for (number, (line, _)) in LINES.iter().enumerate() {
         for place in 1..line.len() {
             for byte in BYTES {
-                let changed = with_byte(alloc, line, place, byte)?;
-                let right = others_stay(alloc, number, &changed, &mut refused)?;
+                let changed = with_byte(&rt, alloc, line, place, byte);
+                let right = others_stay(&rt, alloc, number, &changed, &mut refused);
                 assert!(rt; right, "{byte} at {place} of rule {number}");
                 all = all.saturating_add(1);
             }
@@ -412,5 +412,4 @@ fn a_changed_rule_leaves_the_others(rt: HostRuntime) -> Result<(), Fail> {
         refused > all / 2 && refused < all.saturating_sub(all / 10),
         "{refused} of {all}"
     );
-    Ok(())
 }

@@ -1,10 +1,9 @@
 //! Numbers in the order of their values: whole numbers exactly, any other as the nearest `f64`.
 use super::writes_block;
 use predicates_vet::settings::Report;
-use std::alloc::{AllocError, Global};
+use std::alloc::Global;
 use std::cmp::Ordering;
 use std::process::Abort;
-use std::test::Fail;
 
 // Numbers of JSON, and how many values of the table are below.
 const FAR_BELOW_ZERO: [(&str, u32); 15] = [
@@ -88,48 +87,42 @@ fn comparisons(order: Ordering) -> (&'static str, &'static str, &'static str) {
 }
 
 // Whether that one holds, and the others do not, of a number in a record and one in the rule.
-fn stand_so(alloc: Global, number: (&str, u32), other: (&str, u32)) -> Result<bool, AllocError> {
+fn stand_so(rt: &impl Abort, alloc: Global, number: (&str, u32), other: (&str, u32)) -> bool {
     let (left, right) = (number.0, other.0);
     let (holds, first, second) = comparisons(number.1.cmp(&other.1));
     let rule = format!(in alloc;
         "a: /x {holds} {right} and not /x {first} {right} and not /x {second} {right}"
-    )?;
-    let record = format!(in alloc; "{{\"x\": {left}}}")?;
-    writes_block(alloc, Report::First, &rule, record.as_bytes(), b"")
+    ).expect(rt, "memory");
+    let record = format!(in alloc; "{{\"x\": {left}}}").expect(rt, "memory");
+    writes_block(rt, alloc, Report::First, &rule, record.as_bytes(), b"")
 }
 
-fn pairs_stand_so(
-    rt: &impl Abort,
-    alloc: Global,
-    numbers: &[(&str, u32)],
-    others: &[(&str, u32)],
-) -> Result<(), Fail> {
+fn pairs_stand_so(rt: &impl Abort, alloc: Global, numbers: &[(&str, u32)], others: &[(&str, u32)]) {
     for number in numbers {
         for other in others {
             assert!(rt;
-                stand_so(alloc, *number, *other)?,
+                stand_so(rt, alloc, *number, *other),
                 "{} {}",
                 number.0,
                 other.0
             );
         }
     }
-    Ok(())
 }
 
 // The numbers beside all numbers.
-fn all_stand_so(rt: &impl Abort, alloc: Global, numbers: &[(&str, u32)]) -> Result<(), Fail> {
-    pairs_stand_so(rt, alloc, numbers, &FAR_BELOW_ZERO)?;
-    pairs_stand_so(rt, alloc, numbers, &AROUND_ZERO)?;
-    pairs_stand_so(rt, alloc, numbers, &FAR_ABOVE_ZERO)?;
+fn all_stand_so(rt: &impl Abort, alloc: Global, numbers: &[(&str, u32)]) {
+    pairs_stand_so(rt, alloc, numbers, &FAR_BELOW_ZERO);
+    pairs_stand_so(rt, alloc, numbers, &AROUND_ZERO);
+    pairs_stand_so(rt, alloc, numbers, &FAR_ABOVE_ZERO);
     pairs_stand_so(rt, alloc, numbers, &ABOVE_I64)
 }
 
 #[test]
-fn numbers_are_in_the_order_of_their_values(rt: HostRuntime) -> Result<(), Fail> {
+fn numbers_are_in_the_order_of_their_values(rt: HostRuntime) {
     let alloc = rt.alloc();
-    all_stand_so(&rt, alloc, &FAR_BELOW_ZERO)?;
-    all_stand_so(&rt, alloc, &AROUND_ZERO)?;
-    all_stand_so(&rt, alloc, &FAR_ABOVE_ZERO)?;
+    all_stand_so(&rt, alloc, &FAR_BELOW_ZERO);
+    all_stand_so(&rt, alloc, &AROUND_ZERO);
+    all_stand_so(&rt, alloc, &FAR_ABOVE_ZERO);
     all_stand_so(&rt, alloc, &ABOVE_I64)
 }

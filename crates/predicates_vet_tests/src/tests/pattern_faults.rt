@@ -1,18 +1,16 @@
 //! What is told of patterns that are no regular expressions.
 use predicates_rule_check::PatternFault;
-use std::test::Fail;
 
 #[test]
-fn faults_of_patterns(rt: HostRuntime) -> Result<(), Fail> {
+fn faults_of_patterns(rt: HostRuntime) {
     let alloc = rt.alloc();
-    let pattern = String::from_str(alloc, "[")?;
-    let reason = String::from_str(alloc, "unclosed character class")?;
+    let pattern = String::from_str(alloc, "[").expect(&rt, "memory");
+    let reason = String::from_str(alloc, "unclosed character class").expect(&rt, "memory");
     let fault = PatternFault {
         pattern,
         column: Some(1),
         reason,
     };
-    let text = format!(in alloc; "{fault}")?;
+    let text = format!(in alloc; "{fault}").expect(&rt, "memory");
     assert!(rt; text.as_str() == "unclosed character class at character 1");
-    Ok(())
 }

@@ -5,59 +5,70 @@ use predicates_rule_check::check_of;
 use predicates_rules::condition::{Comparison, Condition};
 use predicates_rules::expression::{Expression, HowMany};
 use serde_json::Value;
-use std::alloc::{AllocError, Global};
-use std::test::Fail;
+use std::alloc::Global;
+use std::process::Abort;
 
 // The expression `QUANTIFIER LIST (PATH == OTHER)`.
 fn over_list(
+    rt: &impl Abort,
     alloc: Global,
     quantifier: HowMany,
     list: &str,
     path: &str,
     other: &str,
-) -> Result<Expression, AllocError> {
-    let other = String::from_str(alloc, other)?;
+) -> Expression {
+    let other = String::from_str(alloc, other).expect(rt, "memory");
     let condition = Condition::CompareWith(Comparison::Equal, other);
-    let test = Expression::Test(String::from_str(alloc, path)?, condition);
-    let list = String::from_str(alloc, list)?;
-    Ok(Expression::Quantified(quantifier, list, Box::new(alloc, test)?))
+    let test = Expression::Test(
+        String::from_str(alloc, path).expect(rt, "memory"),
+        condition,
+    );
+    let list = String::from_str(alloc, list).expect(rt, "memory");
+    Expression::Quantified(quantifier, list, Box::new(alloc, test).expect(rt, "memory"))
 }
 
 // Each item of `/k` for each of `/l`: `each /l (QUANTIFIER LIST (PATH == OTHER))`.
-fn within_list(alloc: Global, inner: Expression) -> Result<Expression, AllocError> {
-    let list = String::from_str(alloc, "/l")?;
-    Ok(Expression::Quantified(HowMany::Each, list, Box::new(alloc, inner)?))
+fn within_list(rt: &impl Abort, alloc: Global, inner: Expression) -> Expression {
+    let list = String::from_str(alloc, "/l").expect(rt, "memory");
+    Expression::Quantified(
+        HowMany::Each,
+        list,
+        Box::new(alloc, inner).expect(rt, "memory"),
+    )
 }
 
-fn rendered(alloc: Global, found: Option<Case>) -> Result<String, AllocError> {
+fn rendered(rt: &impl Abort, alloc: Global, found: Option<Case>) -> String {
     match found {
-        Some(case) => render(alloc, &case),
-        None => String::from_str(alloc, ""),
+        Some(case) => render(alloc, &case).expect(rt, "memory"),
+        None => String::from_str(alloc, "").expect(rt, "memory"),
     }
 }
 
 // Whether the record breaks the expression, for the first reason and with the change of these
 // lines, or keeps it where there are none. The change is looked at where lines are given.
 fn breaks(
+    rt: &impl Abort,
     alloc: Global,
     expression: Expression,
     record: &str,
     reason: &str,
     change: Option<&str>,
-) -> Result<bool, Fail> {
-    let value = Value::from_str(alloc, record)?;
-    let check = check_of(alloc, expression)?;
-    let holds = check.eval(alloc, &value)?;
-    let case = check.find_case(alloc, false, &value)?;
-    let told = rendered(alloc, case)?.as_str() == reason;
+) -> bool {
+    let value = Value::from_str(alloc, record).expect(rt, "memory");
+    let check = check_of(alloc, expression).expect(rt, "memory");
+    let holds = check.eval(alloc, &value).expect(rt, "memory");
+    let case = check.find_case(alloc, false, &value).expect(rt, "memory");
+    let told = rendered(rt, alloc, case).as_str() == reason;
     let turned = match change {
         Some(lines) => {
-            let found = check.find_change(alloc, Some(false), &value)?;
-            rendered(alloc, found)?.as_str() == lines
+            let found = check
+                .find_change(alloc, Some(false), &value)
+                .expect(rt, "memory");
+            rendered(rt, alloc, found).as_str() == lines
         }
         None => true,
     };
-    Ok(told && turned && holds == reason.is_empty())
+    told && turned && holds == reason.is_empty()
 }
 
 // A list, a path and another, a record, and the reason for which it breaks the rule that each item
@@ -168,12 +179,14 @@ each ^/l (/ == ^/l/0) = false
 ];
 
 #[test]
-fn paths_from_the_record(rt: HostRuntime) -> Result<(), Fail> {
+fn paths_from_the_record(rt: HostRuntime) {
     for (list, path, other, record, reason) in ROWS {
-        let each = over_list(rt.alloc(), HowMany::Each, list, path, other)?;
-        assert!(rt; breaks(rt.alloc(), each, record, reason, None)?, "{record}");
+        let each = over_list(&rt, rt.alloc(), HowMany::Each, list, path, other);
+        assert!(rt;
+            breaks(&rt, rt.alloc(), each, record, reason, None),
+            "{record}"
+        );
     }
-    Ok(())
 }
 
 // A list that begins at the record, within another: a quantifier, a record, the reason, and the
@@ -238,14 +251,13 @@ each /l (at least 2 ^/k (/x == ^/c)) = false
 ];
 
 #[test]
-fn lists_from_the_record(rt: HostRuntime) -> Result<(), Fail> {
+fn lists_from_the_record(rt: HostRuntime) {
     for (quantifier, record, reason, change) in WITHIN {
-        let inner = over_list(rt.alloc(), quantifier, "^/k", "/x", "^/c")?;
-        let whole = within_list(rt.alloc(), inner)?;
+        let inner = over_list(&rt, rt.alloc(), quantifier, "^/k", "/x", "^/c");
+        let whole = within_list(&rt, rt.alloc(), inner);
         assert!(rt;
-            breaks(rt.alloc(), whole, record, reason, Some(change))?,
+            breaks(&rt, rt.alloc(), whole, record, reason, Some(change)),
             "{record}"
         );
     }
-    Ok(())
 }

@@ -1,8 +1,9 @@
 //! What a rule says of a value, worked out by plain steps over values of `serde_json`: its truth,
 //! and the lines that say why.
 use serde_json::{Map, Value};
-use std::alloc::{AllocError, Global};
+use std::alloc::Global;
 use std::cmp::Ordering;
+use std::process::Abort;
 
 /// What a test compares a value with.
 #[derive(Clone, Copy)]
@@ -159,17 +160,20 @@ fn misfit(against: Against<'_>) -> &'static str {
     }
 }
 
-fn of_one(alloc: Global, test: Test<'_>, value: &Value) -> Result<(bool, String), AllocError> {
+fn of_one(rt: &impl Abort, alloc: Global, test: Test<'_>, value: &Value) -> (bool, String) {
     let (_, _, word, against) = test;
-    let shown = value.to_string(alloc)?;
+    let shown = value.to_string(alloc).expect(rt, "memory");
     match verdict_of(word, against, value, &shown) {
-        Some(holds) => Ok((holds, format!(in alloc; "- found: {shown}\n")?)),
+        Some(holds) => (
+            holds,
+            format!(in alloc; "- found: {shown}\n").expect(rt, "memory"),
+        ),
         None => {
             let error = misfit(against);
-            Ok((
+            (
                 false,
-                format!(in alloc; "- found: {shown}\n- error: {error}\n")?,
-            ))
+                format!(in alloc; "- found: {shown}\n- error: {error}\n").expect(rt, "memory"),
+            )
         }
     }
 }
@@ -189,26 +193,29 @@ fn against_of<'a>(other: &'a Value, shown: &str) -> Against<'a> {
 }
 
 fn of_two(
+    rt: &impl Abort,
     alloc: Global,
     test: Test<'_>,
     value: &Value,
     other: Option<&Value>,
-) -> Result<(bool, String), AllocError> {
+) -> (bool, String) {
     let (text, _, word, _) = test;
     let path = text.split(' ').last().unwrap_or("");
-    let shown = value.to_string(alloc)?;
+    let shown = value.to_string(alloc).expect(rt, "memory");
     let Some(other) = other else {
-        let below = format!(in alloc; "- found: {shown}\n- error: nothing at {path}\n")?;
-        return Ok((false, below));
+        let below = format!(in alloc; "- found: {shown}\n- error: nothing at {path}\n").expect(
+            rt, "memory",
+        );
+        return (false, below);
     };
-    let second = other.to_string(alloc)?;
-    let both = format!(in alloc; "- found: {shown}\n- other: {second}\n")?;
+    let second = other.to_string(alloc).expect(rt, "memory");
+    let both = format!(in alloc; "- found: {shown}\n- other: {second}\n").expect(rt, "memory");
     match order(value, &shown, against_of(other, &second)) {
-        Some(order) => Ok((compares(word, order), both)),
-        None => Ok((
+        Some(order) => (compares(word, order), both),
+        None => (
             false,
-            format!(in alloc; "{both}- error: not comparable with {path}\n")?,
-        )),
+            format!(in alloc; "{both}- error: not comparable with {path}\n").expect(rt, "memory"),
+        ),
     }
 }
 
@@ -226,19 +233,20 @@ fn count_in(value: &Value) -> Option<usize> {
 }
 
 fn of_count(
+    rt: &impl Abort,
     alloc: Global,
     word: &str,
     value: &Value,
     number: usize,
-) -> Result<(bool, String), AllocError> {
-    let shown = value.to_string(alloc)?;
+) -> (bool, String) {
+    let shown = value.to_string(alloc).expect(rt, "memory");
     let Some(count) = count_in(value) else {
         let error = misfit(Against::Nothing);
-        let below = format!(in alloc; "- found: {shown}\n- error: {error}\n")?;
-        return Ok((false, below));
+        let below = format!(in alloc; "- found: {shown}\n- error: {error}\n").expect(rt, "memory");
+        return (false, below);
     };
-    let below = format!(in alloc; "- found: {shown}\n- len: {count}\n")?;
-    Ok((compares(word, count.cmp(&number)), below))
+    let below = format!(in alloc; "- found: {shown}\n- len: {count}\n").expect(rt, "memory");
+    (compares(word, count.cmp(&number)), below)
 }
 
 // Whether a value that is shown so is of the kind; each number of the records is whole, or has
@@ -255,10 +263,10 @@ fn is_of(kind: &str, shown: &str) -> bool {
     }
 }
 
-fn of_kind(alloc: Global, kind: &str, value: &Value) -> Result<(bool, String), AllocError> {
-    let shown = value.to_string(alloc)?;
-    let below = format!(in alloc; "- found: {shown}\n")?;
-    Ok((is_of(kind, &shown), below))
+fn of_kind(rt: &impl Abort, alloc: Global, kind: &str, value: &Value) -> (bool, String) {
+    let shown = value.to_string(alloc).expect(rt, "memory");
+    let below = format!(in alloc; "- found: {shown}\n").expect(rt, "memory");
+    (is_of(kind, &shown), below)
 }
 
 // The first key that is none of these.
@@ -272,133 +280,138 @@ fn other_key<'v>(members: &'v Map<String, Value>, keys: &[&str]) -> Option<&'v s
 }
 
 // No key of the records is one that JSON escapes.
-fn of_keys(alloc: Global, value: &Value, keys: &[&str]) -> Result<(bool, String), AllocError> {
-    let shown = value.to_string(alloc)?;
+fn of_keys(rt: &impl Abort, alloc: Global, value: &Value, keys: &[&str]) -> (bool, String) {
+    let shown = value.to_string(alloc).expect(rt, "memory");
     let Value::Object(members) = value else {
-        let below = format!(in alloc; "- found: {shown}\n- error: not an object\n")?;
-        return Ok((false, below));
+        let below = format!(in alloc; "- found: {shown}\n- error: not an object\n").expect(
+            rt, "memory",
+        );
+        return (false, below);
     };
     match other_key(members, keys) {
         Some(key) => {
-            let below = format!(in alloc; "- found: {shown}\n- other key: \"{key}\"\n")?;
-            Ok((false, below))
+            let below = format!(in alloc; "- found: {shown}\n- other key: \"{key}\"\n").expect(
+                rt, "memory",
+            );
+            (false, below)
         }
-        None => Ok((true, format!(in alloc; "- found: {shown}\n")?)),
+        None => (
+            true,
+            format!(in alloc; "- found: {shown}\n").expect(rt, "memory"),
+        ),
     }
 }
 
 fn of_found(
+    rt: &impl Abort,
     alloc: Global,
     test: Test<'_>,
     whole: &Value,
     value: &Value,
-) -> Result<(bool, String), AllocError> {
+) -> (bool, String) {
     let (_, _, word, against) = test;
     match against {
-        Against::Place(names) => of_two(alloc, test, value, value_of(whole, names)),
-        Against::Length(number) => of_count(alloc, word, value, number),
-        Against::Kind(kind) => of_kind(alloc, kind, value),
-        Against::Keys(keys) => of_keys(alloc, value, keys),
-        _ => of_one(alloc, test, value),
+        Against::Place(names) => of_two(rt, alloc, test, value, value_of(whole, names)),
+        Against::Length(number) => of_count(rt, alloc, word, value, number),
+        Against::Kind(kind) => of_kind(rt, alloc, kind, value),
+        Against::Keys(keys) => of_keys(rt, alloc, value, keys),
+        _ => of_one(rt, alloc, test, value),
     }
 }
 
-fn of_nothing(alloc: Global, test: Test<'_>) -> Result<(bool, String), AllocError> {
+fn of_nothing(rt: &impl Abort, alloc: Global, test: Test<'_>) -> (bool, String) {
     let (text, _, word, _) = test;
     match word {
-        "missing" => Ok((true, String::new(alloc))),
-        "exists" => Ok((false, String::new(alloc))),
+        "missing" => (true, String::new(alloc)),
+        "exists" => (false, String::new(alloc)),
         _ => {
             let test = text.strip_prefix("keys ").unwrap_or(text);
             let path = test.split(' ').next().unwrap_or("");
-            Ok((false, format!(in alloc; "- error: nothing at {path}\n")?))
+            (
+                false,
+                format!(in alloc; "- error: nothing at {path}\n").expect(rt, "memory"),
+            )
         }
     }
 }
 
 /// What a test says of the value.
-pub fn tested(alloc: Global, test: Test<'_>, value: &Value) -> Result<Answer, AllocError> {
+pub fn tested(rt: &impl Abort, alloc: Global, test: Test<'_>, value: &Value) -> Answer {
     let (text, names, _, _) = test;
     let (holds, below) = match value_of(value, names) {
-        Some(found) => of_found(alloc, test, value, found)?,
-        None => of_nothing(alloc, test)?,
+        Some(found) => of_found(rt, alloc, test, value, found),
+        None => of_nothing(rt, alloc, test),
     };
-    let text = String::from_str(alloc, text)?;
-    Ok(Answer { text, holds, below })
+    let text = String::from_str(alloc, text).expect(rt, "memory");
+    Answer { text, holds, below }
 }
 
 // Writes the line two places further in.
-fn push_line(to: &mut String, line: &str) -> Result<(), AllocError> {
-    to.push_str("  ")?;
-    to.push_str(line)?;
-    to.push_str("\n")
+fn push_line(rt: &impl Abort, to: &mut String, line: &str) {
+    to.push_str("  ").expect(rt, "memory");
+    to.push_str(line).expect(rt, "memory");
+    to.push_str("\n").expect(rt, "memory")
 }
 
 // Writes each of the lines so.
-fn push_within(to: &mut String, lines: &str) -> Result<(), AllocError> {
+fn push_within(rt: &impl Abort, to: &mut String, lines: &str) {
     for line in lines.split('\n') {
         if !line.is_empty() {
-            push_line(to, line)?;
+            push_line(rt, to, line);
         }
     }
-    Ok(())
 }
 
 // Writes them with the line that tells a number behind those of products.
-fn push_numbered(to: &mut String, lines: &str, number: &str) -> Result<(), AllocError> {
+fn push_numbered(rt: &impl Abort, to: &mut String, lines: &str, number: &str) {
     let mut is_told = false;
     for line in lines.split('\n') {
         if !is_told && !line.starts_with("- ") {
-            push_line(to, number)?;
+            push_line(rt, to, number);
             is_told = true;
         }
         if !line.is_empty() {
-            push_line(to, line)?;
+            push_line(rt, to, line);
         }
     }
-    Ok(())
 }
 
-fn push_truth(to: &mut String, text: &str, holds: bool) -> Result<(), AllocError> {
-    to.push_str(text)?;
+fn push_truth(rt: &impl Abort, to: &mut String, text: &str, holds: bool) {
+    to.push_str(text).expect(rt, "memory");
     to.push_str(if holds { " = true\n" } else { " = false\n" })
+        .expect(rt, "memory")
 }
 
 // Writes the line that a part has under the name.
-fn push_head(to: &mut String, name: &str, part: &Answer) -> Result<(), AllocError> {
-    to.push_str(name)?;
-    to.push_str(": ")?;
-    push_truth(to, &part.text, part.holds)
+fn push_head(rt: &impl Abort, to: &mut String, name: &str, part: &Answer) {
+    to.push_str(name).expect(rt, "memory");
+    to.push_str(": ").expect(rt, "memory");
+    push_truth(rt, to, &part.text, part.holds)
 }
 
 /// Writes the lines of a part under the name.
-pub fn push_part(to: &mut String, name: &str, part: &Answer) -> Result<(), AllocError> {
-    push_head(to, name, part)?;
-    push_within(to, &part.below)
+pub fn push_part(rt: &impl Abort, to: &mut String, name: &str, part: &Answer) {
+    push_head(rt, to, name, part);
+    push_within(rt, to, &part.below)
 }
 
 /// Writes the lines of a rule with this name.
-pub fn push_rule(
-    alloc: Global,
-    to: &mut String,
-    name: &str,
-    rule: &Answer,
-) -> Result<(), AllocError> {
-    push_truth(to, name, rule.holds)?;
+pub fn push_rule(rt: &impl Abort, alloc: Global, to: &mut String, name: &str, rule: &Answer) {
+    push_truth(rt, to, name, rule.holds);
     let mut below = String::new(alloc);
-    push_part(&mut below, "rule", rule)?;
-    push_within(to, &below)
+    push_part(rt, &mut below, "rule", rule);
+    push_within(rt, to, &below)
 }
 
 /// What the opposite of a rule says.
-pub fn denied(alloc: Global, text: String, part: &Answer) -> Result<Answer, AllocError> {
+pub fn denied(rt: &impl Abort, alloc: Global, text: String, part: &Answer) -> Answer {
     let mut below = String::new(alloc);
-    push_part(&mut below, "predicate", part)?;
-    Ok(Answer {
+    push_part(rt, &mut below, "predicate", part);
+    Answer {
         text,
         holds: !part.holds,
         below,
-    })
+    }
 }
 
 fn count_true(parts: &[Answer]) -> usize {
@@ -411,58 +424,57 @@ fn first_of(parts: &[Answer], truth: bool) -> Option<usize> {
 
 // The lines of the first part with this truth, which tells its number if there are others, or of
 // all parts where none has it.
-fn deciding(
-    alloc: Global,
-    name: &str,
-    parts: &[Answer],
-    truth: bool,
-) -> Result<String, AllocError> {
+fn deciding(rt: &impl Abort, alloc: Global, name: &str, parts: &[Answer], truth: bool) -> String {
     if parts.is_empty() {
-        return String::from_str(alloc, "- len: 0\n");
+        return String::from_str(alloc, "- len: 0\n").expect(rt, "memory");
     }
     let Some(index) = first_of(parts, truth) else {
-        return each_of(alloc, name, parts);
+        return each_of(rt, alloc, name, parts);
     };
     let mut below = String::new(alloc);
     if let Some(part) = parts.get(index) {
         if parts.len() == 1 {
-            push_part(&mut below, name, part)?;
+            push_part(rt, &mut below, name, part);
         } else {
-            let number = format!(in alloc; "- index: {index}")?;
-            push_head(&mut below, name, part)?;
-            push_numbered(&mut below, &part.below, &number)?;
+            let number = format!(in alloc; "- index: {index}").expect(rt, "memory");
+            push_head(rt, &mut below, name, part);
+            push_numbered(rt, &mut below, &part.below, &number);
         }
     }
-    Ok(below)
+    below
 }
 
-fn each_of(alloc: Global, name: &str, parts: &[Answer]) -> Result<String, AllocError> {
+fn each_of(rt: &impl Abort, alloc: Global, name: &str, parts: &[Answer]) -> String {
     let mut below = String::new(alloc);
     for part in parts {
-        push_part(&mut below, name, part)?;
+        push_part(rt, &mut below, name, part);
     }
-    Ok(below)
+    below
 }
 
 // Whether parts hold that the word joins, and their lines.
-fn join(alloc: Global, word: &str, parts: &[Answer]) -> Result<(bool, String), AllocError> {
+fn join(rt: &impl Abort, alloc: Global, word: &str, parts: &[Answer]) -> (bool, String) {
     let count = count_true(parts);
     match word {
-        "and" => Ok((count == parts.len(), deciding(alloc, "part", parts, false)?)),
-        "or" => Ok((count > 0, deciding(alloc, "part", parts, true)?)),
-        _ => Ok((count % 2 == 1, each_of(alloc, "part", parts)?)),
+        "and" => (
+            count == parts.len(),
+            deciding(rt, alloc, "part", parts, false),
+        ),
+        "or" => (count > 0, deciding(rt, alloc, "part", parts, true)),
+        _ => (count % 2 == 1, each_of(rt, alloc, "part", parts)),
     }
 }
 
 /// What parts say that the word joins.
 pub fn joined(
+    rt: &impl Abort,
     alloc: Global,
     text: String,
     word: &str,
     parts: &[Answer],
-) -> Result<Answer, AllocError> {
-    let (holds, below) = join(alloc, word, parts)?;
-    Ok(Answer { text, holds, below })
+) -> Answer {
+    let (holds, below) = join(rt, alloc, word, parts);
+    Answer { text, holds, below }
 }
 
 fn is_list(value: &Value) -> bool {
@@ -470,37 +482,45 @@ fn is_list(value: &Value) -> bool {
 }
 
 // What is said of a value that is no list.
-fn no_list(alloc: Global, value: &Value) -> Result<String, AllocError> {
-    let shown = value.to_string(alloc)?;
-    format!(in alloc; "- found: {shown}\n- error: not an array or an object\n")
+fn no_list(rt: &impl Abort, alloc: Global, value: &Value) -> String {
+    let shown = value.to_string(alloc).expect(rt, "memory");
+    format!(in alloc; "- found: {shown}\n- error: not an array or an object\n").expect(rt, "memory")
 }
 
 // Whether items of what was found hold as the word wants it, and their lines.
 fn range(
+    rt: &impl Abort,
     alloc: Global,
     word: &str,
     found: Option<&Value>,
     parts: &[Answer],
-) -> Result<(bool, String), AllocError> {
+) -> (bool, String) {
     let count = count_true(parts);
     match found {
-        Some(value) if !is_list(value) => Ok((false, no_list(alloc, value)?)),
+        Some(value) if !is_list(value) => (false, no_list(rt, alloc, value)),
         Some(_) if word == "each" => {
-            Ok((count == parts.len(), deciding(alloc, "item", parts, false)?))
+            (
+                count == parts.len(),
+                deciding(rt, alloc, "item", parts, false),
+            )
         }
-        Some(_) => Ok((count > 0, deciding(alloc, "item", parts, true)?)),
-        None => Ok((false, String::from_str(alloc, "- error: nothing at /l\n")?)),
+        Some(_) => (count > 0, deciding(rt, alloc, "item", parts, true)),
+        None => (
+            false,
+            String::from_str(alloc, "- error: nothing at /l\n").expect(rt, "memory"),
+        ),
     }
 }
 
 /// What the word says of the items of what was found, from what is said of each.
 pub fn ranged(
+    rt: &impl Abort,
     alloc: Global,
     text: String,
     word: &str,
     found: Option<&Value>,
     parts: &[Answer],
-) -> Result<Answer, AllocError> {
-    let (holds, below) = range(alloc, word, found, parts)?;
-    Ok(Answer { text, holds, below })
+) -> Answer {
+    let (holds, below) = range(rt, alloc, word, found, parts);
+    Answer { text, holds, below }
 }

@@ -7,8 +7,8 @@ use predicates_vet::{
     Counts, InputFormat, Job, ReadChecksError, RulesFault, Streams, Tally, read_checks,
     run_records, summary,
 };
-use std::alloc::{AllocError, Global};
-use std::test::Fail;
+use std::alloc::Global;
+use std::process::Abort;
 
 const RULES: &[u8] = b"a: /x == 1\nb: /y == 2\nc: /t matches \"^[a-c]*$\"";
 
@@ -151,10 +151,10 @@ const COUNTS: Counts = Counts {
 
 // Whether two runs over the records, one after the other, write this each, where there is room, and
 // count this.
-fn writes(alloc: Global, asked: Asked<'_>, told: Told<'_>) -> Result<bool, Fail> {
+fn writes(rt: &impl Abort, alloc: Global, asked: Asked<'_>, told: Told<'_>) -> bool {
     let (report, id, source, most) = asked;
-    let rules = read_checks(alloc, RULES)?;
-    let settings = settings_of(alloc, report, id)?;
+    let rules = read_checks(alloc, RULES).expect(rt, "memory");
+    let settings = settings_of(rt, alloc, report, id);
     let job = Job {
         rules: &rules,
         settings: &settings,
@@ -162,27 +162,24 @@ fn writes(alloc: Global, asked: Asked<'_>, told: Told<'_>) -> Result<bool, Fail>
         max_line: MAX_LINE,
         format: InputFormat::JsonLines,
     };
-    let mut tally = Tally::of_rules(alloc, &rules, most)?;
+    let mut tally = Tally::of_rules(alloc, &rules, most).expect(rt, "memory");
     let mut records = RECORDS;
     let mut streams = Streams {
         output: Vec::new(alloc),
         messages: Vec::new(alloc),
     };
-    run_records(alloc, &job, &mut tally, &mut records, &mut streams)?;
-    Ok(
-        streams.output.as_slice() == told.0
-            && streams.messages.as_slice() == told.1
-            && tally.counts == COUNTS
-            && tally.broken.as_slice() == [2, 2, 1].as_slice(),
-    )
+    run_records(alloc, &job, &mut tally, &mut records, &mut streams).expect(rt, "memory");
+    streams.output.as_slice() == told.0
+        && streams.messages.as_slice() == told.1
+        && tally.counts == COUNTS
+        && tally.broken.as_slice() == [2, 2, 1].as_slice()
 }
 
 #[test]
-fn reports_with_names_and_room(rt: HostRuntime) -> Result<(), Fail> {
+fn reports_with_names_and_room(rt: HostRuntime) {
     for (asked, told) in RUNS {
-        assert!(rt; writes(rt.alloc(), asked, told)?, "{asked:?}");
+        assert!(rt; writes(&rt, rt.alloc(), asked, told), "{asked:?}");
     }
-    Ok(())
 }
 
 // Lines of which the second and the fourth have ten bytes, and the others nine at most.
@@ -210,10 +207,10 @@ const LONG_COUNTS: Counts = Counts {
 };
 
 #[test]
-fn lines_that_are_too_long(rt: HostRuntime) -> Result<(), Fail> {
+fn lines_that_are_too_long(rt: HostRuntime) {
     let alloc = rt.alloc();
-    let rules = read_checks(alloc, b"a: /x == 1")?;
-    let settings = settings_of(alloc, Report::First, None)?;
+    let rules = read_checks(alloc, b"a: /x == 1").expect(&rt, "memory");
+    let settings = settings_of(&rt, alloc, Report::First, None);
     let mut job = Job::new(&rules, &settings);
     job.max_line = 9;
     let mut tally = Tally::new(alloc, None);
@@ -222,31 +219,30 @@ fn lines_that_are_too_long(rt: HostRuntime) -> Result<(), Fail> {
         output: Vec::new(alloc),
         messages: Vec::new(alloc),
     };
-    run_records(alloc, &job, &mut tally, &mut records, &mut streams)?;
+    run_records(alloc, &job, &mut tally, &mut records, &mut streams).expect(&rt, "memory");
     assert!(rt; streams.output.as_slice() == SHORT_TOLD);
     assert!(rt; streams.messages.as_slice() == LONG_TOLD);
     assert!(rt; tally.counts == LONG_COUNTS);
-    Ok(())
 }
 
 // The front of a text as JSON, with so many letters.
-fn front_of(alloc: Global, letters: usize) -> Result<String, AllocError> {
-    let mut text = String::from_str(alloc, "\"")?;
+fn front_of(rt: &impl Abort, alloc: Global, letters: usize) -> String {
+    let mut text = String::from_str(alloc, "\"").expect(rt, "memory");
     for _ in 0..letters {
-        text.push_str("a")?;
+        text.push_str("a").expect(rt, "memory");
     }
-    Ok(text)
+    text
 }
 
 // The whole of such a text.
-fn text_of(alloc: Global, letters: usize) -> Result<String, AllocError> {
-    let mut text = front_of(alloc, letters)?;
-    text.push_str("\"")?;
-    Ok(text)
+fn text_of(rt: &impl Abort, alloc: Global, letters: usize) -> String {
+    let mut text = front_of(rt, alloc, letters);
+    text.push_str("\"").expect(rt, "memory");
+    text
 }
 
 // Whether the block of the record, which is no number, shows this of what was found.
-fn shows(alloc: Global, record: &str, shown: &str) -> Result<bool, AllocError> {
+fn shows(rt: &impl Abort, alloc: Global, record: &str, shown: &str) -> bool {
     let block = format!(in alloc;
         "\
 record 1: false
@@ -255,20 +251,23 @@ a = false
     - found{shown}
     - error: not a number
 "
-    )?;
+    )
+    .expect(rt, "memory");
     let (rule, record) = ("a: / == 1", record.as_bytes());
-    writes_block(alloc, Report::First, rule, record, block.as_bytes())
+    writes_block(rt, alloc, Report::First, rule, record, block.as_bytes())
 }
 
 // Whether the object of the record has the whole of it.
-fn has_whole(alloc: Global, record: &str) -> Result<bool, AllocError> {
+fn has_whole(rt: &impl Abort, alloc: Global, record: &str) -> bool {
     let object = format!(in alloc;
         "{{\"record\":1,\"holds\":false,\"case\":{{\"text\":\"a\",\"result\":false,\"products\":[],\
          \"children\":[{{\"name\":\"rule\",\"case\":{{\"text\":\"/ == 1\",\"result\":false,\
          \"products\":[{{\"name\":\"found\",\"value\":{record}}},{{\"name\":\"error\",\
          \"value\":\"not a number\"}}],\"children\":[]}}}}]}}}}\n"
-    )?;
+    )
+    .expect(rt, "memory");
     writes_block(
+        rt,
         alloc,
         JSON,
         "a: / == 1",
@@ -278,15 +277,14 @@ fn has_whole(alloc: Global, record: &str) -> Result<bool, AllocError> {
 }
 
 #[test]
-fn long_values_are_cut(rt: HostRuntime) -> Result<(), Fail> {
+fn long_values_are_cut(rt: HostRuntime) {
     let alloc = rt.alloc();
-    let (short, long) = (text_of(alloc, 998)?, text_of(alloc, 999)?);
-    let whole = format!(in alloc; ": {short}")?;
-    let front = front_of(alloc, 999)?;
-    let cut = format!(in alloc; " (first 1000 of 1001 characters): {front}")?;
-    assert!(rt; shows(alloc, &short, &whole)? && shows(alloc, &long, &cut)?);
-    assert!(rt; has_whole(alloc, &long)?);
-    Ok(())
+    let (short, long) = (text_of(&rt, alloc, 998), text_of(&rt, alloc, 999));
+    let whole = format!(in alloc; ": {short}").expect(&rt, "memory");
+    let front = front_of(&rt, alloc, 999);
+    let cut = format!(in alloc; " (first 1000 of 1001 characters): {front}").expect(&rt, "memory");
+    assert!(rt; shows(&rt, alloc, &short, &whole) && shows(&rt, alloc, &long, &cut));
+    assert!(rt; has_whole(&rt, alloc, &long));
 }
 
 // How many records break each of the rules, and the lines that tell it.
@@ -302,16 +300,18 @@ const SUMMARIES: [(&[u64], &str); 4] = [
 ];
 
 #[test]
-fn summaries(rt: HostRuntime) -> Result<(), Fail> {
+fn summaries(rt: HostRuntime) {
     let alloc = rt.alloc();
-    let rules = read_checks(alloc, RULES)?;
+    let rules = read_checks(alloc, RULES).expect(&rt, "memory");
     for (broken, lines) in SUMMARIES {
         assert!(rt;
-            summary(alloc, &rules, broken)?.as_str() == lines,
+            summary(alloc, &rules, broken)
+                .expect(&rt, "memory")
+                .as_str()
+                == lines,
             "{broken:?}"
         );
     }
-    Ok(())
 }
 
 // Rules that are not read, and what is told of them.
@@ -348,52 +348,54 @@ vet: rules: line 6, rule e: no regular expression: unclosed group at character 1
 ];
 
 // Whether this is told of the rules.
-fn tells(alloc: Global, rules: &[u8], told: &str) -> Result<bool, AllocError> {
+fn tells(rt: &impl Abort, alloc: Global, rules: &[u8], told: &str) -> bool {
     match read_checks(alloc, rules) {
-        Ok(_) => Ok(false),
+        Ok(_) => false,
         Err(error) => {
             let path = "rules";
             let error = &error;
-            let found = format!(in alloc; "{}", RulesFault { path, error })?;
-            Ok(found.as_str() == told)
+            let found = format!(in alloc; "{}", RulesFault { path, error }).expect(rt, "memory");
+            found.as_str() == told
         }
     }
 }
 
 // Lines of which none is read, in turn for its pattern.
-fn bad_lines(alloc: Global, lines: usize) -> Result<Vec<u8>, AllocError> {
+fn bad_lines(rt: &impl Abort, alloc: Global, lines: usize) -> Vec<u8> {
     let mut text = Vec::new(alloc);
     for line in 0..lines {
         if line % 2 == 0 {
-            text.extend_from_slice(b"a: / matches \"(\"\n")?;
+            text.extend_from_slice(b"a: / matches \"(\"\n")
+                .expect(rt, "memory");
         } else {
-            text.extend_from_slice(b"a: / >=\n")?;
+            text.extend_from_slice(b"a: / >=\n").expect(rt, "memory");
         }
     }
-    Ok(text)
+    text
 }
 
 // How many faults are told of so many of them.
-fn number_of_faults(alloc: Global, lines: usize) -> Result<usize, AllocError> {
-    let text = bad_lines(alloc, lines)?;
+fn number_of_faults(rt: &impl Abort, alloc: Global, lines: usize) -> usize {
+    let text = bad_lines(rt, alloc, lines);
     match read_checks(alloc, &text) {
-        Err(ReadChecksError::Unreadable(faults)) => Ok(faults.len()),
-        _ => Ok(0),
+        Err(ReadChecksError::Unreadable(faults)) => faults.len(),
+        _ => 0,
     }
 }
 
 #[test]
-fn twenty_faults_at_most(rt: HostRuntime) -> Result<(), Fail> {
+fn twenty_faults_at_most(rt: HostRuntime) {
     for (lines, faults) in [(1, 1), (19, 19), (20, 20), (30, 20), (50, 20)] {
-        assert!(rt; number_of_faults(rt.alloc(), lines)? == faults, "{lines}");
+        assert!(rt;
+            number_of_faults(&rt, rt.alloc(), lines) == faults,
+            "{lines}"
+        );
     }
-    Ok(())
 }
 
 #[test]
-fn faults_of_rules(rt: HostRuntime) -> Result<(), Fail> {
+fn faults_of_rules(rt: HostRuntime) {
     for (rules, told) in FAULTS {
-        assert!(rt; tells(rt.alloc(), rules, told)?, "{rules:?}");
+        assert!(rt; tells(&rt, rt.alloc(), rules, told), "{rules:?}");
     }
-    Ok(())
 }

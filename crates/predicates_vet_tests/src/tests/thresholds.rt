@@ -1,7 +1,6 @@
 //! Rules that want at least so many of listed expressions, or of a list's items.
 use super::all_reported;
 use predicates_vet::settings::Report;
-use std::test::Fail;
 
 // What is reported, a rule, a record, and what is written of it, or nothing where the record keeps
 // the rule.
@@ -274,7 +273,7 @@ a = false
 ];
 
 #[test]
-fn thresholds_of_parts_and_of_items(rt: HostRuntime) -> Result<(), Fail> {
-    all_reported(&rt, rt.alloc(), &PARTS)?;
+fn thresholds_of_parts_and_of_items(rt: HostRuntime) {
+    all_reported(&rt, rt.alloc(), &PARTS);
     all_reported(&rt, rt.alloc(), &ITEMS)
 }

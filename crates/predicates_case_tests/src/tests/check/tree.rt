@@ -4,9 +4,8 @@ use predicates::check::Expectation;
 use predicates::path::{FileType, PathFault};
 use predicates::prelude::*;
 use predicates_testing::new_folder;
-use std::alloc::{AllocError, Global};
+use std::alloc::Global;
 use std::os::unix::fs::symlink;
-use std::test::Fail;
 use std::{fs, io};
 
 fn fill(rt: &HostRuntime, folder: &str) -> io::Result<()> {
@@ -24,61 +23,79 @@ fn expect_at<P: Drop>(
     folder: &str,
     name: &str,
     check: P,
-) -> Result<Expectation<Snapshot, P>, AllocError> {
+) -> Expectation<Snapshot, P> {
     let alloc = rt.alloc();
-    let path = format!(in alloc; "{folder}/{name}")?;
-    let found = Snapshot::take(rt, alloc, path.as_str())?;
-    expect(alloc, name, found, check)
+    let path = format!(in alloc; "{folder}/{name}").expect(rt, "memory");
+    let found = Snapshot::take(rt, alloc, path.as_str()).expect(rt, "memory");
+    expect(alloc, name, found, check).expect(rt, "memory")
 }
 
 const NAMES: [&str; 6] = ["run", "notes", "folder", "link", "lost", "gone"];
 
-fn kinds(rt: &HostRuntime, folder: &str) -> Result<String, AllocError> {
+fn kinds(rt: &HostRuntime, folder: &str) -> String {
     let alloc = rt.alloc();
     let mut expected = Vec::new(alloc);
     for name in NAMES {
         let file = predicate::path::is_file().follow_links(true);
-        expected.push(expect_at(rt, folder, name, file)?)?;
+        expected
+            .push(expect_at(rt, folder, name, file))
+            .expect(rt, "memory");
     }
-    render_failures(alloc, check_all(alloc, expected.as_slice())?.as_slice())
+    render_failures(
+        rt,
+        alloc,
+        check_all(alloc, expected.as_slice())
+            .expect(rt, "memory")
+            .as_slice(),
+    )
 }
 
-fn contents(rt: &HostRuntime, folder: &str) -> Result<String, AllocError> {
+fn contents(rt: &HostRuntime, folder: &str) -> String {
     let alloc = rt.alloc();
     let mut expected = Vec::new(alloc);
     for name in NAMES {
-        let mark = predicate::str::starts_with(String::from_str(alloc, "#!")?);
+        let mark = predicate::str::starts_with(String::from_str(alloc, "#!").expect(rt, "memory"));
         let script = mark.from_utf8().from_file_path();
-        expected.push(expect_at(rt, folder, name, script)?)?;
+        expected
+            .push(expect_at(rt, folder, name, script))
+            .expect(rt, "memory");
     }
     // A file that the tester may not read.
     let kept = Snapshot::from_parts(
-        format!(in alloc; "{folder}/kept")?,
+        format!(in alloc; "{folder}/kept").expect(rt, "memory"),
         Ok(FileType::File),
         Ok(FileType::File),
         Err(PathFault::PermissionDenied),
     );
-    let mark = predicate::str::starts_with(String::from_str(alloc, "#!")?);
+    let mark = predicate::str::starts_with(String::from_str(alloc, "#!").expect(rt, "memory"));
     let script = mark.from_utf8().from_file_path();
-    expected.push(expect(alloc, "kept", kept, script)?)?;
-    render_failures(alloc, check_all(alloc, expected.as_slice())?.as_slice())
+    expected
+        .push(expect(alloc, "kept", kept, script).expect(rt, "memory"))
+        .expect(rt, "memory");
+    render_failures(
+        rt,
+        alloc,
+        check_all(alloc, expected.as_slice())
+            .expect(rt, "memory")
+            .as_slice(),
+    )
 }
 
 // The folder, which is removed by now, and the failures of its kinds and of its contents.
-fn check_folder(rt: &HostRuntime) -> Result<[String; 3], Fail> {
-    let folder = new_folder(rt, "predicates_check")?;
-    fill(rt, folder.as_str())?;
-    let kinds = kinds(rt, folder.as_str());
-    let contents = contents(rt, folder.as_str());
-    fs::remove_dir_all(rt, folder.as_str())?;
-    Ok([folder, kinds?, contents?])
+fn check_folder(rt: &HostRuntime) -> [String; 3] {
+    let folder = new_folder(rt, "predicates_check").expect(rt, "memory");
+    fill(rt, folder.as_str()).expect(rt, "memory");
+    let found = kinds(rt, folder.as_str());
+    let read = contents(rt, folder.as_str());
+    fs::remove_dir_all(rt, folder.as_str()).expect(rt, "memory");
+    [folder, found, read]
 }
 
 #[test]
-fn checks_a_tree(rt: HostRuntime) -> Result<(), Fail> {
-    let [folder, kinds, contents] = check_folder(&rt)?;
+fn checks_a_tree(rt: HostRuntime) {
+    let [folder, found, read] = check_folder(&rt);
     assert_eq!(rt;
-        kinds.as_str(),
+        found.as_str(),
         "\
 folder: var is file = false
   - actual filetype: dir
@@ -107,7 +124,7 @@ kept: var.starts_with(\"#!\") = false
   - var: {folder}/kept
   - error: permission denied
 "
-    )?;
-    assert_eq!(rt; contents.as_str(), expected.as_str());
-    Ok(())
+    )
+    .expect(&rt, "memory");
+    assert_eq!(rt; read.as_str(), expected.as_str());
 }

@@ -4,7 +4,8 @@ use super::super::counting::CountingLeaf;
 use predicates::boolean::XorPredicate;
 use predicates::ord::EqPredicate;
 use predicates::prelude::*;
-use std::alloc::{AllocError, Global};
+use std::alloc::Global;
+use std::process::Abort;
 
 type Member<'a> = XorPredicate<CountingLeaf<'a, u32>, EqPredicate<u32>, u32>;
 
@@ -13,52 +14,53 @@ fn member(asked: Asked<'_>) -> Member<'_> {
     asked.leaf().xor(predicate::eq(1u32))
 }
 
-fn three(alloc: Global) -> Result<Vec<u32>, AllocError> {
-    Ok(vec![in alloc; 0, 1, 2]?)
+fn three(rt: &impl Abort, alloc: Global) -> Vec<u32> {
+    vec![in alloc; 0, 1, 2].expect(rt, "memory")
 }
 
-fn each(alloc: Global, asked: Asked<'_>) -> Result<Counts, AllocError> {
-    let item = three(alloc)?;
-    asked.counts(alloc, member(asked).of_each(), item)
+fn each(rt: &impl Abort, alloc: Global, asked: Asked<'_>) -> Counts {
+    let item = three(rt, alloc);
+    asked.counts(rt, alloc, member(asked).of_each(), item)
 }
 
-fn any(alloc: Global, asked: Asked<'_>) -> Result<Counts, AllocError> {
-    let item = three(alloc)?;
-    asked.counts(alloc, member(asked).of_any(), item)
+fn any(rt: &impl Abort, alloc: Global, asked: Asked<'_>) -> Counts {
+    let item = three(rt, alloc);
+    asked.counts(rt, alloc, member(asked).of_any(), item)
 }
 
-fn at_least(alloc: Global, asked: Asked<'_>) -> Result<Counts, AllocError> {
-    let item = three(alloc)?;
-    asked.counts(alloc, member(asked).of_at_least(2), item)
+fn at_least(rt: &impl Abort, alloc: Global, asked: Asked<'_>) -> Counts {
+    let item = three(rt, alloc);
+    asked.counts(rt, alloc, member(asked).of_at_least(2), item)
 }
 
-fn at_most(alloc: Global, asked: Asked<'_>) -> Result<Counts, AllocError> {
-    let item = three(alloc)?;
-    asked.counts(alloc, member(asked).of_at_most(1), item)
+fn at_most(rt: &impl Abort, alloc: Global, asked: Asked<'_>) -> Counts {
+    let item = three(rt, alloc);
+    asked.counts(rt, alloc, member(asked).of_at_most(1), item)
 }
 
-fn exactly(alloc: Global, asked: Asked<'_>) -> Result<Counts, AllocError> {
-    let item = three(alloc)?;
-    asked.counts(alloc, member(asked).of_exactly(2)?, item)
+fn exactly(rt: &impl Abort, alloc: Global, asked: Asked<'_>) -> Counts {
+    let item = three(rt, alloc);
+    asked.counts(
+        rt,
+        alloc,
+        member(asked).of_exactly(2).expect(rt, "memory"),
+        item,
+    )
 }
 
-fn length(alloc: Global, asked: Asked<'_>) -> Result<Counts, AllocError> {
-    let item = three(alloc)?;
-    asked.counts(alloc, asked.leaf::<usize>().of_len(), item)
+fn length(rt: &impl Abort, alloc: Global, asked: Asked<'_>) -> Counts {
+    let item = three(rt, alloc);
+    asked.counts(rt, alloc, asked.leaf::<usize>().of_len(), item)
 }
 
-pub fn counts_of(
-    alloc: Global,
-    name: &str,
-    asked: Asked<'_>,
-) -> Result<Option<Counts>, AllocError> {
-    Ok(Some(match name {
-        "each" => each(alloc, asked)?,
-        "any" => any(alloc, asked)?,
-        "of_at_least" => at_least(alloc, asked)?,
-        "of_at_most" => at_most(alloc, asked)?,
-        "of_exactly" => exactly(alloc, asked)?,
-        "of_len" => length(alloc, asked)?,
-        _ => return Ok(None),
-    }))
+pub fn counts_of(rt: &impl Abort, alloc: Global, name: &str, asked: Asked<'_>) -> Option<Counts> {
+    Some(match name {
+        "each" => each(rt, alloc, asked),
+        "any" => any(rt, alloc, asked),
+        "of_at_least" => at_least(rt, alloc, asked),
+        "of_at_most" => at_most(rt, alloc, asked),
+        "of_exactly" => exactly(rt, alloc, asked),
+        "of_len" => length(rt, alloc, asked),
+        _ => return None,
+    })
 }

@@ -6,7 +6,8 @@ use predicates::part::Field;
 use predicates::prelude::*;
 use predicates_json::PredicateJsonExt;
 use serde_json::Value;
-use std::alloc::{AllocError, Global};
+use std::alloc::Global;
+use std::process::Abort;
 
 #[derive(Debug, Drop)]
 struct Numbered {
@@ -50,71 +51,83 @@ impl Field<Numbered, u32> for TheNumber {
     }
 }
 
-fn of_value(alloc: Global, asked: Asked<'_>) -> Result<Counts, AllocError> {
-    asked.counts(alloc, asked.leaf::<u32>().of("n", number_by_value), five())
-}
-
-fn of_reference(alloc: Global, asked: Asked<'_>) -> Result<Counts, AllocError> {
-    asked.counts(alloc, asked.leaf::<u32>().of_ref("n", number_of), five())
-}
-
-fn of_field(alloc: Global, asked: Asked<'_>) -> Result<Counts, AllocError> {
-    asked.counts(alloc, asked.leaf::<u32>().of_field("n", TheNumber), five())
-}
-
-fn of_some_ref(alloc: Global, asked: Asked<'_>) -> Result<Counts, AllocError> {
-    let other = asked.leaf::<u32>().of_some().of_ref("other", other_of);
-    asked.counts(alloc, other, five())
-}
-
-fn of_some(alloc: Global, asked: Asked<'_>) -> Result<Counts, AllocError> {
-    asked.counts(alloc, asked.leaf::<u32>().of_some(), Some(5u32))
-}
-
-fn of_none(alloc: Global, asked: Asked<'_>) -> Result<Counts, AllocError> {
-    let none: Option<u32> = None;
-    asked.counts(alloc, asked.leaf::<u32>().of_some(), none)
-}
-
-fn of_ok(alloc: Global, asked: Asked<'_>) -> Result<Counts, AllocError> {
-    let item: Result<u32, u8> = Ok(5);
-    asked.counts(alloc, asked.leaf::<u32>().of_ok(), item)
-}
-
-fn of_err(alloc: Global, asked: Asked<'_>) -> Result<Counts, AllocError> {
-    let item: Result<u8, u32> = Err(5);
-    asked.counts(alloc, asked.leaf::<u32>().of_err(), item)
-}
-
-fn of_pointer(alloc: Global, asked: Asked<'_>) -> Result<Counts, AllocError> {
-    let item = vec![in alloc; Value::Bool(true)]?;
+fn of_value(rt: &impl Abort, alloc: Global, asked: Asked<'_>) -> Counts {
     asked.counts(
+        rt,
+        alloc,
+        asked.leaf::<u32>().of("n", number_by_value),
+        five(),
+    )
+}
+
+fn of_reference(rt: &impl Abort, alloc: Global, asked: Asked<'_>) -> Counts {
+    asked.counts(
+        rt,
+        alloc,
+        asked.leaf::<u32>().of_ref("n", number_of),
+        five(),
+    )
+}
+
+fn of_field(rt: &impl Abort, alloc: Global, asked: Asked<'_>) -> Counts {
+    asked.counts(
+        rt,
+        alloc,
+        asked.leaf::<u32>().of_field("n", TheNumber),
+        five(),
+    )
+}
+
+fn of_some_ref(rt: &impl Abort, alloc: Global, asked: Asked<'_>) -> Counts {
+    let other = asked.leaf::<u32>().of_some().of_ref("other", other_of);
+    asked.counts(rt, alloc, other, five())
+}
+
+fn of_some(rt: &impl Abort, alloc: Global, asked: Asked<'_>) -> Counts {
+    asked.counts(rt, alloc, asked.leaf::<u32>().of_some(), Some(5u32))
+}
+
+fn of_none(rt: &impl Abort, alloc: Global, asked: Asked<'_>) -> Counts {
+    let none: Option<u32> = None;
+    asked.counts(rt, alloc, asked.leaf::<u32>().of_some(), none)
+}
+
+fn of_ok(rt: &impl Abort, alloc: Global, asked: Asked<'_>) -> Counts {
+    let item: Result<u32, u8> = Ok(5);
+    asked.counts(rt, alloc, asked.leaf::<u32>().of_ok(), item)
+}
+
+fn of_err(rt: &impl Abort, alloc: Global, asked: Asked<'_>) -> Counts {
+    let item: Result<u8, u32> = Err(5);
+    asked.counts(rt, alloc, asked.leaf::<u32>().of_err(), item)
+}
+
+fn of_pointer(rt: &impl Abort, alloc: Global, asked: Asked<'_>) -> Counts {
+    let item = vec![in alloc; Value::Bool(true)].expect(rt, "memory");
+    asked.counts(
+        rt,
         alloc,
         asked.leaf::<Value>().of_pointer("/0"),
         Value::Array(item),
     )
 }
 
-fn of_bool(alloc: Global, asked: Asked<'_>) -> Result<Counts, AllocError> {
-    asked.counts(alloc, asked.leaf::<bool>().of_bool(), Value::Bool(true))
+fn of_bool(rt: &impl Abort, alloc: Global, asked: Asked<'_>) -> Counts {
+    asked.counts(rt, alloc, asked.leaf::<bool>().of_bool(), Value::Bool(true))
 }
 
-pub fn counts_of(
-    alloc: Global,
-    name: &str,
-    asked: Asked<'_>,
-) -> Result<Option<Counts>, AllocError> {
-    Ok(Some(match name {
-        "of" => of_value(alloc, asked)?,
-        "of_ref" => of_reference(alloc, asked)?,
-        "of_field" => of_field(alloc, asked)?,
-        "of_some_of_ref" => of_some_ref(alloc, asked)?,
-        "of_some" => of_some(alloc, asked)?,
-        "absent" => of_none(alloc, asked)?,
-        "of_ok" => of_ok(alloc, asked)?,
-        "of_err" => of_err(alloc, asked)?,
-        "of_pointer" => of_pointer(alloc, asked)?,
-        "of_bool" => of_bool(alloc, asked)?,
-        _ => return Ok(None),
-    }))
+pub fn counts_of(rt: &impl Abort, alloc: Global, name: &str, asked: Asked<'_>) -> Option<Counts> {
+    Some(match name {
+        "of" => of_value(rt, alloc, asked),
+        "of_ref" => of_reference(rt, alloc, asked),
+        "of_field" => of_field(rt, alloc, asked),
+        "of_some_of_ref" => of_some_ref(rt, alloc, asked),
+        "of_some" => of_some(rt, alloc, asked),
+        "absent" => of_none(rt, alloc, asked),
+        "of_ok" => of_ok(rt, alloc, asked),
+        "of_err" => of_err(rt, alloc, asked),
+        "of_pointer" => of_pointer(rt, alloc, asked),
+        "of_bool" => of_bool(rt, alloc, asked),
+        _ => return None,
+    })
 }

@@ -5,32 +5,33 @@ use super::super::around::{Asked, Counts};
 use predicates::path::FileType;
 use predicates::prelude::*;
 use predicates_testing::text;
-use std::alloc::{AllocError, Global};
+use std::alloc::Global;
 use std::fmt;
+use std::process::Abort;
 
-fn trimmed(alloc: Global, asked: Asked<'_>) -> Result<Counts, AllocError> {
-    let item = text(alloc, " a ")?;
-    asked.counts(alloc, asked.leaf::<String>().trim(), item)
+fn trimmed(rt: &impl Abort, alloc: Global, asked: Asked<'_>) -> Counts {
+    let item = text(alloc, " a ").expect(rt, "memory");
+    asked.counts(rt, alloc, asked.leaf::<String>().trim(), item)
 }
 
-fn normalized(alloc: Global, asked: Asked<'_>) -> Result<Counts, AllocError> {
-    let item = text(alloc, "a\r\n")?;
-    asked.counts(alloc, asked.leaf::<String>().normalize(), item)
+fn normalized(rt: &impl Abort, alloc: Global, asked: Asked<'_>) -> Counts {
+    let item = text(alloc, "a\r\n").expect(rt, "memory");
+    asked.counts(rt, alloc, asked.leaf::<String>().normalize(), item)
 }
 
-fn folded(alloc: Global, asked: Asked<'_>) -> Result<Counts, AllocError> {
-    let item = text(alloc, "A")?;
-    asked.counts(alloc, asked.leaf::<String>().fold_case(), item)
+fn folded(rt: &impl Abort, alloc: Global, asked: Asked<'_>) -> Counts {
+    let item = text(alloc, "A").expect(rt, "memory");
+    asked.counts(rt, alloc, asked.leaf::<String>().fold_case(), item)
 }
 
-fn decoded(alloc: Global, asked: Asked<'_>) -> Result<Counts, AllocError> {
-    let item = vec![in alloc; b'a']?;
-    asked.counts(alloc, asked.leaf::<String>().from_utf8(), item)
+fn decoded(rt: &impl Abort, alloc: Global, asked: Asked<'_>) -> Counts {
+    let item = vec![in alloc; b'a'].expect(rt, "memory");
+    asked.counts(rt, alloc, asked.leaf::<String>().from_utf8(), item)
 }
 
-fn undecoded(alloc: Global, asked: Asked<'_>) -> Result<Counts, AllocError> {
-    let item = vec![in alloc; 0xff]?;
-    asked.counts(alloc, asked.leaf::<String>().from_utf8(), item)
+fn undecoded(rt: &impl Abort, alloc: Global, asked: Asked<'_>) -> Counts {
+    let item = vec![in alloc; 0xff].expect(rt, "memory");
+    asked.counts(rt, alloc, asked.leaf::<String>().from_utf8(), item)
 }
 
 // What stands at a path, which is no `Debug`.
@@ -51,29 +52,30 @@ fn file_of(found: &Found) -> &Snapshot
     &found.file
 }
 
-fn of_file(alloc: Global, asked: Asked<'_>) -> Result<Counts, AllocError> {
-    let content = vec![in alloc; b'a']?;
+fn of_file(rt: &impl Abort, alloc: Global, asked: Asked<'_>) -> Counts {
+    let content = vec![in alloc; b'a'].expect(rt, "memory");
     let kind = Ok(FileType::File);
-    let file = Snapshot::from_parts(text(alloc, "a")?, kind, kind, Ok(content));
+    let file = Snapshot::from_parts(
+        text(alloc, "a").expect(rt, "memory"),
+        kind,
+        kind,
+        Ok(content),
+    );
     let in_file = asked
         .leaf::<Vec<u8>>()
         .from_file_path()
         .of_ref("file", file_of);
-    asked.counts(alloc, in_file, Found { file })
+    asked.counts(rt, alloc, in_file, Found { file })
 }
 
-pub fn counts_of(
-    alloc: Global,
-    name: &str,
-    asked: Asked<'_>,
-) -> Result<Option<Counts>, AllocError> {
-    Ok(Some(match name {
-        "trim" => trimmed(alloc, asked)?,
-        "normalize" => normalized(alloc, asked)?,
-        "fold_case" => folded(alloc, asked)?,
-        "from_utf8" => decoded(alloc, asked)?,
-        "no_text" => undecoded(alloc, asked)?,
-        "from_file_path" => of_file(alloc, asked)?,
-        _ => return Ok(None),
-    }))
+pub fn counts_of(rt: &impl Abort, alloc: Global, name: &str, asked: Asked<'_>) -> Option<Counts> {
+    Some(match name {
+        "trim" => trimmed(rt, alloc, asked),
+        "normalize" => normalized(rt, alloc, asked),
+        "fold_case" => folded(rt, alloc, asked),
+        "from_utf8" => decoded(rt, alloc, asked),
+        "no_text" => undecoded(rt, alloc, asked),
+        "from_file_path" => of_file(rt, alloc, asked),
+        _ => return None,
+    })
 }

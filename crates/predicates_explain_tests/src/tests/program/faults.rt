@@ -1,9 +1,9 @@
 use super::split_words;
 use predicates_explain::{Exit, run_command_line};
 use predicates_fakes::{FailingReader, FailingWriter};
-use std::alloc::{AllocError, Global};
+use std::alloc::Global;
 use std::io::{BufRead, ErrorKind, Write};
-use std::test::Fail;
+use std::process::Abort;
 
 const NO_MEMORY: &str = "explain: no memory\n";
 
@@ -19,53 +19,52 @@ const LINES: [&[u8]; 2] = [b"text|empty", b"between|5|10"];
 
 // Whether the words end with the message and the status of a fault, over this input and output.
 fn is_fault<R: BufRead + Drop, W: Write + Drop>(
+    rt: &impl Abort,
     alloc: Global,
     line: &[u8],
     mut reader: R,
     mut writer: W,
     message: &str,
-) -> Result<bool, AllocError> {
-    let words = split_words(alloc, line)?;
+) -> bool {
+    let words = split_words(rt, alloc, line);
     let mut messages = Vec::new(alloc);
     let (end, _) = run_command_line(alloc, &words, &mut reader, &mut writer, &mut messages);
-    Ok(end.status() == 3 && messages.as_slice() == message.as_bytes())
+    end.status() == 3 && messages.as_slice() == message.as_bytes()
 }
 
 // Each read in turn wants memory, or fails.
 #[test]
-fn failing_reads(rt: HostRuntime) -> Result<(), Fail> {
+fn failing_reads(rt: HostRuntime) {
     let (alloc, bytes) = (rt.alloc(), b"1\n2".as_slice());
     for line in LINES {
         for (kind, message) in KINDS {
             for calls in 0..4usize {
                 let reader = FailingReader { bytes, calls, kind };
-                let holds = is_fault(alloc, line, reader, Vec::new(alloc), message)?;
+                let holds = is_fault(&rt, alloc, line, reader, Vec::new(alloc), message);
                 assert!(rt; holds, "at {line:?}, {message}, {calls}");
             }
         }
     }
-    Ok(())
 }
 
 // Each write and the flush in turn want memory, or fail.
 #[test]
-fn failing_writes(rt: HostRuntime) -> Result<(), Fail> {
+fn failing_writes(rt: HostRuntime) {
     let (alloc, reader) = (rt.alloc(), b"1\n2".as_slice());
     for line in LINES {
         for (kind, message) in KINDS {
             for calls in 0..3usize {
                 let writer = FailingWriter { calls, kind };
-                let holds = is_fault(alloc, line, reader, writer, message)?;
+                let holds = is_fault(&rt, alloc, line, reader, writer, message);
                 assert!(rt; holds, "at {line:?}, {message}, {calls}");
             }
         }
     }
-    Ok(())
 }
 
 // How the words end where no message can be written, and how many bytes of output there are.
-fn ended_without_message(alloc: Global, line: &[u8]) -> Result<((Exit, bool), usize), AllocError> {
-    let words = split_words(alloc, line)?;
+fn ended_without_message(rt: &impl Abort, alloc: Global, line: &[u8]) -> ((Exit, bool), usize) {
+    let words = split_words(rt, alloc, line);
     let mut reader = b"1".as_slice();
     let mut written = Vec::new(alloc);
     let mut closed = FailingWriter {
@@ -73,13 +72,12 @@ fn ended_without_message(alloc: Global, line: &[u8]) -> Result<((Exit, bool), us
         kind: ErrorKind::BrokenPipe,
     };
     let ended = run_command_line(alloc, &words, &mut reader, &mut written, &mut closed);
-    Ok((ended, written.len()))
+    (ended, written.len())
 }
 
 // A message that can't be written leaves the status as it is.
 #[test]
-fn no_place_for_messages(rt: HostRuntime) -> Result<(), Fail> {
-    let ended = ended_without_message(rt.alloc(), b"text|and")?;
+fn no_place_for_messages(rt: HostRuntime) {
+    let ended = ended_without_message(&rt, rt.alloc(), b"text|and");
     assert_eq!(rt; ended, ((Exit::Usage, false), 0));
-    Ok(())
 }

@@ -2,8 +2,8 @@
 use super::{BLANK, REFUSED, USAGE};
 use predicates_explain::run_program;
 use predicates_fakes::{Closed, Process};
-use std::alloc::{AllocError, Global};
-use std::test::Fail;
+use std::alloc::Global;
+use std::process::Abort;
 
 // The status, standard output and standard error.
 fn run(alloc: Global, words: &[&[u8]], input: &[u8]) -> (u8, Vec<u8>, Vec<u8>) {
@@ -52,7 +52,7 @@ fn ends(alloc: Global, words: &[&[u8]], status: u8, output: &str, message: &str)
 }
 
 #[test]
-fn status_and_outputs_of_a_process(rt: HostRuntime) -> Result<(), Fail> {
+fn status_and_outputs_of_a_process(rt: HostRuntime) {
     assert!(rt; ends(rt.alloc(), &BLANK_WORDS, 0, BLANK, ""));
     assert!(rt; ends(rt.alloc(), &BETWEEN, 1, "line 1: not a number\n", ""));
     for words in WRONG_WORDS {
@@ -61,7 +61,6 @@ fn status_and_outputs_of_a_process(rt: HostRuntime) -> Result<(), Fail> {
     for words in REFUSED_PATTERNS {
         assert!(rt; ends(rt.alloc(), words, 2, "", REFUSED), "at {words:?}");
     }
-    Ok(())
 }
 
 // Whether the item holds the word, and, where it is not empty, the item less one letter does not.
@@ -80,22 +79,21 @@ fn is_read_whole(alloc: Global, word: &[u8], item: &[u8]) -> bool {
 }
 
 // Whether a word of this many letters is read whole.
-fn is_long_word_read(alloc: Global, size: usize) -> Result<bool, AllocError> {
+fn is_long_word_read(rt: &impl Abort, alloc: Global, size: usize) -> bool {
     let mut item = Vec::new(alloc);
-    item.resize(size, b'a')?;
+    item.resize(size, b'a').expect(rt, "memory");
     let mut word = Vec::new(alloc);
-    word.extend_from_slice(b"contains=")?;
-    word.extend_from_slice(&item)?;
-    Ok(is_read_whole(alloc, &word, &item))
+    word.extend_from_slice(b"contains=").expect(rt, "memory");
+    word.extend_from_slice(&item).expect(rt, "memory");
+    is_read_whole(alloc, &word, &item)
 }
 
 // A word is read whole, however long it is.
 #[test]
-fn long_words(rt: HostRuntime) -> Result<(), Fail> {
+fn long_words(rt: HostRuntime) {
     for size in [1usize, 246, 247, 248, 300, 70_000] {
-        assert!(rt; is_long_word_read(rt.alloc(), size)?, "at {size}");
+        assert!(rt; is_long_word_read(&rt, rt.alloc(), size), "at {size}");
     }
-    Ok(())
 }
 
 // The status of the words, the number of lines, and whether the first one says true.
@@ -107,45 +105,52 @@ fn count_lines(alloc: Global, words: &[&[u8]]) -> (u8, usize, bool) {
 
 // The words of this many checks, joined, and then one word more, if any.
 fn joined_words(
+    rt: &impl Abort,
     alloc: Global,
     count: usize,
     more: &[&'static [u8]],
-) -> Result<Vec<&'static [u8]>, AllocError> {
+) -> Vec<&'static [u8]> {
     let mut words = Vec::new(alloc);
-    words.extend_from_slice(&[b"explain".as_slice(), b"text"])?;
-    words.resize(count.saturating_add(2), b"empty")?;
-    words.resize(count.saturating_add(count).saturating_add(1), b"or")?;
-    words.extend_from_slice(more)?;
-    Ok(words)
+    words
+        .extend_from_slice(&[b"explain".as_slice(), b"text"])
+        .expect(rt, "memory");
+    words
+        .resize(count.saturating_add(2), b"empty")
+        .expect(rt, "memory");
+    words
+        .resize(count.saturating_add(count).saturating_add(1), b"or")
+        .expect(rt, "memory");
+    words.extend_from_slice(more).expect(rt, "memory");
+    words
 }
 
 // What is counted of such words.
 fn count_joined(
+    rt: &impl Abort,
     alloc: Global,
     count: usize,
     more: &[&'static [u8]],
-) -> Result<(u8, usize, bool), AllocError> {
-    let words = joined_words(alloc, count, more)?;
-    Ok(count_lines(alloc, &words))
+) -> (u8, usize, bool) {
+    let words = joined_words(rt, alloc, count, more);
+    count_lines(alloc, &words)
 }
 
 // Whether all of such words are read, and one that is too many is refused.
-fn are_read(alloc: Global, count: usize) -> Result<[bool; 2], AllocError> {
+fn are_read(rt: &impl Abort, alloc: Global, count: usize) -> [bool; 2] {
     // The label, the nodes that decide, and the product of the last.
     let lines = if count == 1 { 3 } else { 4 };
-    let is_whole = count_joined(alloc, count, &[])? == (0, lines, true);
-    let (status, _, _) = count_joined(alloc, count, &[b"and"])?;
-    Ok([is_whole, status == 2])
+    let is_whole = count_joined(rt, alloc, count, &[]) == (0, lines, true);
+    let (status, _, _) = count_joined(rt, alloc, count, &[b"and"]);
+    [is_whole, status == 2]
 }
 
 // Every word is read, however many there are; this many checks stand on the stack before they are
 // joined.
 #[test]
-fn many_words(rt: HostRuntime) -> Result<(), Fail> {
+fn many_words(rt: HostRuntime) {
     for count in [1usize, 8, 9, 300] {
-        assert!(rt; are_read(rt.alloc(), count)? == [true; 2], "at {count}");
+        assert!(rt; are_read(&rt, rt.alloc(), count) == [true; 2], "at {count}");
     }
-    Ok(())
 }
 
 // Whether the words end so on the line `7`, where an output fails and nothing is written to the
@@ -159,11 +164,10 @@ const BETWEEN: [&[u8]; 4] = [b"explain", b"between", b"5", b"10"];
 
 // A fault of standard output is reported, and one of standard error leaves the status as it is.
 #[test]
-fn closed_outputs(rt: HostRuntime) -> Result<(), Fail> {
+fn closed_outputs(rt: HostRuntime) {
     let message = b"explain: input or output fault\n";
     let holds = ends_closed(rt.alloc(), &BETWEEN, Closed::Output, 3, message);
     assert!(rt; holds, "of standard output");
     let holds = ends_closed(rt.alloc(), &BETWEEN[..2], Closed::Error, 2, b"");
     assert!(rt; holds, "of standard error");
-    Ok(())
 }

@@ -8,7 +8,6 @@ use std::fs::{Metadata, OpenOptions};
 use std::io;
 use std::io::ErrorKind;
 use std::rt::Files;
-use std::test::Fail;
 
 // A file system of one empty file, which counts its calls and fails at some of them.
 #[derive(Drop)]
@@ -143,39 +142,33 @@ const EMPTY: &str = "/dev/null";
 
 // Whether the fault stands for the error where `symlink_metadata` fails, where `metadata` does, and
 // where `open_file` does.
-fn are_faults(
-    rt: &HostRuntime,
-    kind: ErrorKind,
-    fault: PathFault,
-) -> Result<[bool; 3], AllocError> {
+fn are_faults(rt: &HostRuntime, kind: ErrorKind, fault: PathFault) -> [bool; 3] {
     let (file, failed) = (Ok(FileType::File), Err(kind));
     let calls = (failed, Ok(()), Ok(EMPTY));
-    let first = takes(rt, calls, (Err(fault), file, Ok(b"")), [1, 1, 1])?;
+    let first = takes(rt, calls, (Err(fault), file, Ok(b"")), [1, 1, 1]).expect(rt, "memory");
     let calls = (Ok(()), failed, Ok(EMPTY));
-    let second = takes(rt, calls, (file, Err(fault), Err(fault)), [1, 1, 0])?;
+    let second = takes(rt, calls, (file, Err(fault), Err(fault)), [1, 1, 0]).expect(rt, "memory");
     let calls = (Ok(()), Ok(()), Err(kind));
-    let third = takes(rt, calls, (file, file, Err(fault)), [1, 1, 1])?;
-    Ok([first, second, third])
+    let third = takes(rt, calls, (file, file, Err(fault)), [1, 1, 1]).expect(rt, "memory");
+    [first, second, third]
 }
 
 #[test]
-fn each_call_is_made_once(rt: HostRuntime) -> Result<(), Fail> {
+fn each_call_is_made_once(rt: HostRuntime) {
     let file = Ok(FileType::File);
     let calls = (Ok(()), Ok(()), Ok(EMPTY));
-    assert!(rt; takes(&rt, calls, (file, file, Ok(b"")), [1, 1, 1])?);
+    assert!(rt; takes(&rt, calls, (file, file, Ok(b"")), [1, 1, 1]).expect(&rt, "memory"));
     for (kind, fault) in KINDS {
-        assert!(rt; are_faults(&rt, kind, fault)? == [true; 3], "{kind:?}");
+        assert!(rt; are_faults(&rt, kind, fault) == [true; 3], "{kind:?}");
     }
-    Ok(())
 }
 
 // A folder is opened as a file is, and its first read fails.
 #[test]
-fn a_read_that_fails(rt: HostRuntime) -> Result<(), Fail> {
+fn a_read_that_fails(rt: HostRuntime) {
     let file = Ok(FileType::File);
     let calls = (Ok(()), Ok(()), Ok("/"));
-    assert!(rt; takes(&rt, calls, (file, file, Err(Other)), [1, 1, 1])?);
-    Ok(())
+    assert!(rt; takes(&rt, calls, (file, file, Err(Other)), [1, 1, 1]).expect(&rt, "memory"));
 }
 
 // Whether there is no snapshot where the calls answer so.
@@ -186,10 +179,9 @@ fn takes_nothing(rt: &HostRuntime, calls: Calls) -> bool {
 
 // A call that runs out of memory gives no snapshot.
 #[test]
-fn out_of_memory(rt: HostRuntime) -> Result<(), Fail> {
+fn out_of_memory(rt: HostRuntime) {
     let refused = ErrorKind::OutOfMemory;
     assert!(rt; takes_nothing(&rt, (Err(refused), Ok(()), Ok(EMPTY))));
     assert!(rt; takes_nothing(&rt, (Ok(()), Err(refused), Ok(EMPTY))));
     assert!(rt; takes_nothing(&rt, (Ok(()), Ok(()), Err(refused))));
-    Ok(())
 }

@@ -3,11 +3,11 @@ use super::helpers::{same_bytes, same_text};
 use predicates_core::Predicate;
 use predicates_path::{FileType, PathFault, PredicateFileContentExt, Snapshot};
 use predicates_testing::{print_in_combinators, print_under_flags};
-use std::alloc::{AllocError, Global};
-use std::test::Fail;
+use std::alloc::Global;
+use std::process::Abort;
 
 #[test]
-fn kinds_and_faults(rt: HostRuntime) -> Result<(), Fail> {
+fn kinds_and_faults(rt: HostRuntime) {
     let alloc = rt.alloc();
     let mut out = String::new(alloc);
     for kind in [
@@ -16,7 +16,7 @@ fn kinds_and_faults(rt: HostRuntime) -> Result<(), Fail> {
         FileType::Symlink,
         FileType::Other,
     ] {
-        print_under_flags(alloc, &mut out, &kind)?;
+        print_under_flags(alloc, &mut out, &kind).expect(&rt, "memory");
     }
     for fault in [
         PathFault::NotFound,
@@ -24,7 +24,7 @@ fn kinds_and_faults(rt: HostRuntime) -> Result<(), Fail> {
         PathFault::NotRegular,
         PathFault::Other,
     ] {
-        print_under_flags(alloc, &mut out, &fault)?;
+        print_under_flags(alloc, &mut out, &fault).expect(&rt, "memory");
     }
     assert_eq!(rt;
         out.as_str(),
@@ -39,24 +39,23 @@ not a regular file
 other fault
 "
     );
-    Ok(())
 }
 
 // Whether the predicate prints the path of its file, also in a combinator.
 fn prints_path<P: Predicate<Snapshot> + Drop>(
+    rt: &impl Abort,
     alloc: Global,
     predicate: P,
-) -> Result<bool, AllocError> {
+) -> bool {
     let mut out = String::new(alloc);
-    print_in_combinators(alloc, &mut out, predicate)?;
-    Ok(out.as_str() == "var is p\n")
+    print_in_combinators(alloc, &mut out, predicate).expect(rt, "memory");
+    out.as_str() == "var is p\n"
 }
 
 #[test]
-fn equal_files(rt: HostRuntime) -> Result<(), Fail> {
+fn equal_files(rt: HostRuntime) {
     let alloc = rt.alloc();
-    assert!(rt; prints_path(alloc, same_bytes(alloc, b"a")?)?);
-    assert!(rt; prints_path(alloc, same_text(alloc, b"a")?)?);
-    assert!(rt; prints_path(alloc, same_bytes(alloc, b"a")?.from_file_path())?);
-    Ok(())
+    assert!(rt; prints_path(&rt, alloc, same_bytes(&rt, alloc, b"a")));
+    assert!(rt; prints_path(&rt, alloc, same_text(&rt, alloc, b"a")));
+    assert!(rt; prints_path(&rt, alloc, same_bytes(&rt, alloc, b"a").from_file_path()));
 }

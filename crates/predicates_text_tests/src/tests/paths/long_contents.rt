@@ -5,21 +5,21 @@ use predicates::boolean::PredicateBooleanExt;
 use predicates::str::{PredicateStrExt, is_empty};
 use predicates_path::PredicateFileContentExt;
 use predicates_testing::repeated;
-use std::alloc::{AllocError, Global};
-use std::test::Fail;
+use std::alloc::Global;
+use std::process::Abort;
 
 const LENGTH: u32 = 69_999;
 
 // Whether nested predicates have these lines on the content.
-fn is_explained(alloc: Global, content: &[u8], lines: &str) -> Result<bool, AllocError> {
+fn is_explained(rt: &impl Abort, alloc: Global, content: &[u8], lines: &str) -> bool {
     let some = is_empty().not().normalize().from_utf8().from_file_path();
-    shows(alloc, some, file(alloc, content)?, lines)
+    shows(rt, alloc, some, file(rt, alloc, content), lines)
 }
 
-fn is_handed_on(alloc: Global) -> Result<bool, AllocError> {
-    let content = repeated(alloc, "a", LENGTH, "\r\n")?;
+fn is_handed_on(rt: &impl Abort, alloc: Global) -> bool {
+    let content = repeated(alloc, "a", LENGTH, "\r\n").expect(rt, "memory");
     let long = content.as_str();
-    let even = repeated(alloc, "a", LENGTH, "\n")?;
+    let even = repeated(alloc, "a", LENGTH, "\n").expect(rt, "memory");
     let lines = format!(in alloc;
         "\
 (! var.is_empty()) = true
@@ -28,26 +28,26 @@ fn is_handed_on(alloc: Global) -> Result<bool, AllocError> {
   predicate: var.is_empty() = false
     - var: {even}
 "
-    )?;
-    is_explained(alloc, long.as_bytes(), lines.as_str())
+    )
+    .expect(rt, "memory");
+    is_explained(rt, alloc, long.as_bytes(), lines.as_str())
 }
 
-fn is_refused(alloc: Global) -> Result<bool, AllocError> {
-    let content = repeated(alloc, "a", LENGTH, "\nä")?;
+fn is_refused(rt: &impl Abort, alloc: Global) -> bool {
+    let content = repeated(alloc, "a", LENGTH, "\nä").expect(rt, "memory");
     let Some((_, cut)) = content.as_str().as_bytes().split_last() else {
-        return Ok(false);
+        return false;
     };
     let lines = "\
 (! var.is_empty()) = false
   - error: Invalid UTF-8 string
   - var: p
 ";
-    is_explained(alloc, cut, lines)
+    is_explained(rt, alloc, cut, lines)
 }
 
 #[test]
-fn long_contents(rt: HostRuntime) -> Result<(), Fail> {
-    assert!(rt; is_handed_on(rt.alloc())?);
-    assert!(rt; is_refused(rt.alloc())?);
-    Ok(())
+fn long_contents(rt: HostRuntime) {
+    assert!(rt; is_handed_on(&rt, rt.alloc()));
+    assert!(rt; is_refused(&rt, rt.alloc()));
 }

@@ -5,8 +5,8 @@ use predicates_testing::{is_described, repeated, text};
 use predicates_text::{
     PredicateStrExt, case_folded, case_folded_view, eq_ignore_case, is_case_folded, search,
 };
-use std::alloc::{AllocError, Global};
-use std::test::Fail;
+use std::alloc::Global;
+use std::process::Abort;
 
 // A text and its folding.
 const FOLDED: [(&str, &str); 8] = [
@@ -21,13 +21,16 @@ const FOLDED: [(&str, &str); 8] = [
 ];
 
 #[test]
-fn foldings(rt: HostRuntime) -> Result<(), Fail> {
+fn foldings(rt: HostRuntime) {
     for (item, folded) in FOLDED {
-        assert_eq!(rt; case_folded(rt.alloc(), item)?.as_str(), folded, "{item}");
+        assert_eq!(rt;
+            case_folded(rt.alloc(), item).expect(&rt, "memory").as_str(),
+            folded,
+            "{item}"
+        );
         assert_eq!(rt; is_case_folded(item), item == folded, "{item}");
         assert!(rt; is_case_folded(folded), "{folded}");
     }
-    Ok(())
 }
 
 // Two texts, and whether they differ in case alone.
@@ -43,7 +46,7 @@ const PAIRS: [(&str, &str, bool); 8] = [
 ];
 
 #[test]
-fn texts_that_differ_in_case_alone(rt: HostRuntime) -> Result<(), Fail> {
+fn texts_that_differ_in_case_alone(rt: HostRuntime) {
     for (left, right, same) in PAIRS {
         assert!(rt;
             search::eq_ignore_case(left, right) == same,
@@ -54,7 +57,6 @@ fn texts_that_differ_in_case_alone(rt: HostRuntime) -> Result<(), Fail> {
             "{right} and {left}"
         );
     }
-    Ok(())
 }
 
 // What a folded text is to be, an item, and the lines of the case.
@@ -83,20 +85,25 @@ const VIEWED: [(&str, &str, &str); 6] = [
     ("", "", "var == \"\" = true\n  - var: \"\"\n"),
 ];
 
-fn shows_view(alloc: Global, wanted: &str, item: &str, lines: &str) -> Result<bool, AllocError> {
-    let equal = eq(text(alloc, wanted)?).fold_case();
-    shows(alloc, equal, text(alloc, item)?, lines)
+fn shows_view(rt: &impl Abort, alloc: Global, wanted: &str, item: &str, lines: &str) -> bool {
+    let equal = eq(text(alloc, wanted).expect(rt, "memory")).fold_case();
+    shows(
+        rt,
+        alloc,
+        equal,
+        text(alloc, item).expect(rt, "memory"),
+        lines,
+    )
 }
 
 #[test]
-fn the_case_shows_the_folded_text(rt: HostRuntime) -> Result<(), Fail> {
+fn the_case_shows_the_folded_text(rt: HostRuntime) {
     for (wanted, item, lines) in VIEWED {
         assert!(rt;
-            shows_view(rt.alloc(), wanted, item, lines)?,
+            shows_view(&rt, rt.alloc(), wanted, item, lines),
             "{wanted} and {item}"
         );
     }
-    Ok(())
 }
 
 // A text, an item, and the lines of the case.
@@ -119,46 +126,49 @@ const COMPARED: [(&str, &str, &str); 4] = [
     ("", "", "var.eq_ignore_case(\"\") = true\n  - var: \n"),
 ];
 
-fn shows_leaf(alloc: Global, other: &str, item: &str, lines: &str) -> Result<bool, AllocError> {
-    let same = eq_ignore_case(text(alloc, other)?);
-    shows(alloc, same, text(alloc, item)?, lines)
+fn shows_leaf(rt: &impl Abort, alloc: Global, other: &str, item: &str, lines: &str) -> bool {
+    let same = eq_ignore_case(text(alloc, other).expect(rt, "memory"));
+    shows(
+        rt,
+        alloc,
+        same,
+        text(alloc, item).expect(rt, "memory"),
+        lines,
+    )
 }
 
 #[test]
-fn the_case_shows_the_item_of_a_comparison(rt: HostRuntime) -> Result<(), Fail> {
+fn the_case_shows_the_item_of_a_comparison(rt: HostRuntime) {
     for (other, item, lines) in COMPARED {
         assert!(rt;
-            shows_leaf(rt.alloc(), other, item, lines)?,
+            shows_leaf(&rt, rt.alloc(), other, item, lines),
             "{other} and {item}"
         );
     }
-    Ok(())
 }
 
-fn is_described_by_its_part(alloc: Global) -> Result<bool, AllocError> {
-    let equal = eq(text(alloc, "a")?).fold_case();
-    is_described(alloc, &equal, "var == \"a\"\npredicate: var == \"a\"\n")
+fn is_described_by_its_part(rt: &impl Abort, alloc: Global) -> bool {
+    let equal = eq(text(alloc, "a").expect(rt, "memory")).fold_case();
+    is_described(alloc, &equal, "var == \"a\"\npredicate: var == \"a\"\n").expect(rt, "memory")
 }
 
 #[test]
-fn it_is_described_by_its_part(rt: HostRuntime) -> Result<(), Fail> {
-    assert!(rt; is_described_by_its_part(rt.alloc())?);
-    Ok(())
+fn it_is_described_by_its_part(rt: HostRuntime) {
+    assert!(rt; is_described_by_its_part(&rt, rt.alloc()));
 }
 
 // The number of bytes of the copy that the view of the text takes.
-fn copied(alloc: Global, item: &String) -> Result<usize, AllocError> {
+fn copied(rt: &impl Abort, alloc: Global, item: &String) -> usize {
     let mut copy = String::new(alloc);
-    case_folded_view(alloc, item, &mut copy)?;
-    Ok(copy.len())
+    case_folded_view(alloc, item, &mut copy).expect(rt, "memory");
+    copy.len()
 }
 
 #[test]
-fn long_texts_are_copied_where_they_change(rt: HostRuntime) -> Result<(), Fail> {
+fn long_texts_are_copied_where_they_change(rt: HostRuntime) {
     let alloc = rt.alloc();
-    let long = repeated(alloc, "aä", 3000, "")?;
-    assert_eq!(rt; copied(alloc, &long)?, 0);
-    let long = repeated(alloc, "aä", 3000, "ß")?;
-    assert_eq!(rt; copied(alloc, &long)?, 9002);
-    Ok(())
+    let long = repeated(alloc, "aä", 3000, "").expect(&rt, "memory");
+    assert_eq!(rt; copied(&rt, alloc, &long), 0);
+    let long = repeated(alloc, "aä", 3000, "ß").expect(&rt, "memory");
+    assert_eq!(rt; copied(&rt, alloc, &long), 9002);
 }

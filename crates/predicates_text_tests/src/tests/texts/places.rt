@@ -1,10 +1,9 @@
 //! Places, counts and views of texts, by the calls themselves.
 use predicates_testing::repeated;
 use predicates_text::{count, lines_even, search, trimmed};
-use std::test::Fail;
 
 #[test]
-fn places_of_patterns(rt: HostRuntime) -> Result<(), Fail> {
+fn places_of_patterns(rt: HostRuntime) {
     for pattern in ["", "Hello", "World", "lo Wo"] {
         assert!(rt; search::contains("Hello World", pattern), "{pattern}");
     }
@@ -13,21 +12,34 @@ fn places_of_patterns(rt: HostRuntime) -> Result<(), Fail> {
     assert!(rt; search::ends_with("Hello World", "World") && search::ends_with("ä", ""));
     assert!(rt; !search::ends_with("Hello World", "Hello") && !search::contains("a", "aa"));
     assert!(rt; search::is_empty("") && !search::is_empty(" "));
-    let long = repeated(rt.alloc(), "aä", 300, "")?;
+    let long = repeated(rt.alloc(), "aä", 300, "").expect(&rt, "memory");
     assert!(rt; !search::contains(&long, "b") && !search::contains(&long, "aa"));
-    let long = repeated(rt.alloc(), "aä", 300, "b")?;
+    let long = repeated(rt.alloc(), "aä", 300, "b").expect(&rt, "memory");
     for pattern in ["", "b", "äb", "aäa", "ä"] {
         assert!(rt; search::contains(&long, pattern), "{pattern}");
     }
-    Ok(())
 }
 
 // The tables ask these calls of many texts.
 #[test]
-fn counts_and_views(rt: HostRuntime) -> Result<(), Fail> {
+fn counts_and_views(rt: HostRuntime) {
     assert_eq!(rt; count::count("ababa", "aba"), 1);
-    assert_eq!(rt; trimmed(rt.alloc(), "\u{a0}a b\t")?.as_str(), "a b");
-    assert_eq!(rt; trimmed(rt.alloc(), "\u{a0}a\t")?.as_str(), "a");
-    assert_eq!(rt; lines_even(rt.alloc(), "a\rb\r\n")?.as_str(), "a\nb\n");
-    Ok(())
+    assert_eq!(rt;
+        trimmed(rt.alloc(), "\u{a0}a b\t")
+            .expect(&rt, "memory")
+            .as_str(),
+        "a b"
+    );
+    assert_eq!(rt;
+        trimmed(rt.alloc(), "\u{a0}a\t")
+            .expect(&rt, "memory")
+            .as_str(),
+        "a"
+    );
+    assert_eq!(rt;
+        lines_even(rt.alloc(), "a\rb\r\n")
+            .expect(&rt, "memory")
+            .as_str(),
+        "a\nb\n"
+    );
 }

@@ -1,8 +1,8 @@
 //! Which characters `trim` drops.
 use predicates_core::Predicate;
 use predicates_text::{PredicateStrExt, is_empty};
-use std::alloc::{AllocError, Global};
-use std::test::Fail;
+use std::alloc::Global;
+use std::process::Abort;
 
 // The first and the last of each row of characters with the property White_Space.
 const WHITE_SPACE: [(u32, u32); 10] = [
@@ -28,20 +28,19 @@ fn is_white_space(number: u32) -> bool {
 }
 
 // Whether nothing is left of the character alone.
-fn is_trimmed(alloc: Global, character: char) -> Result<bool, AllocError> {
+fn is_trimmed(rt: &impl Abort, alloc: Global, character: char) -> bool {
     let mut item = String::new(alloc);
-    item.push(character)?;
-    is_empty().trim().eval(alloc, &item)
+    item.push(character).expect(rt, "memory");
+    is_empty().trim().eval(alloc, &item).expect(rt, "memory")
 }
 
 #[test]
-fn trim_drops_white_space_alone(rt: HostRuntime) -> Result<(), Fail> {
+fn trim_drops_white_space_alone(rt: HostRuntime) {
     for number in 0..0x11_0000 {
         let Some(character) = char::from_u32(number) else {
             continue;
         };
-        let is_trimmed = is_trimmed(rt.alloc(), character)?;
+        let is_trimmed = is_trimmed(&rt, rt.alloc(), character);
         assert_eq!(rt; is_trimmed, is_white_space(number), "{number}");
     }
-    Ok(())
 }
