@@ -1,4 +1,0 @@
-mod case_children;
-mod cases;
-mod changes;
-mod check;

@@ -1,6 +1,0 @@
-//! Tests of `predicates_explain` and of the program, over readers, writers and processes of their
-//! own.
-#![tactic(auto)]
-
-#[cfg(test)]
-mod tests;

@@ -1,2 +1,0 @@
-//! The examples that stand at the calls that make predicates of one item, word for word.
-mod comparisons;

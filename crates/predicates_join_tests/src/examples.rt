@@ -1,2 +1,0 @@
-//! The examples that stand at the calls that join, deny and name predicates, word for word.
-mod combinators;

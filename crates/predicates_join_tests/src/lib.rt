@@ -1,7 +1,0 @@
-//! Tests of joined predicates: what they evaluate, and which leaves their cases keep.
-#![tactic(auto)]
-
-#[cfg(test)]
-mod examples;
-#[cfg(test)]
-mod tests;

@@ -1,4 +1,0 @@
-mod changes;
-mod evaluations;
-mod short_formulas;
-mod thresholds;

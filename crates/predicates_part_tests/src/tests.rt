@@ -1,3 +1,0 @@
-mod changes;
-mod lists;
-mod part;

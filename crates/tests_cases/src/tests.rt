@@ -1,0 +1,12 @@
+mod boxes;
+mod case_children;
+mod cases;
+mod changes;
+mod check;
+mod derives;
+mod flags;
+mod laws;
+mod names;
+mod prelude;
+mod static_text;
+mod uses;

@@ -1,0 +1,7 @@
+//! Tests of checks whose shape comes at run time, and of predicates of JSON values.
+#![tactic(auto)]
+
+#[cfg(test)]
+mod examples;
+#[cfg(test)]
+mod tests;

@@ -1,0 +1,5 @@
+mod checks;
+mod contexts;
+mod folders;
+mod json;
+mod orders;

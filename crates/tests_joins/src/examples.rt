@@ -1,0 +1,2 @@
+//! The examples that stand at the calls, word for word.
+mod combinators;

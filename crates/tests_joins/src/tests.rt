@@ -1,0 +1,5 @@
+mod changes;
+mod counts;
+mod evaluations;
+mod short_formulas;
+mod thresholds;

@@ -1,0 +1,9 @@
+//! Tests of comparisons, memberships, parts and lists.
+#![tactic(auto)]
+
+#[cfg(test)]
+mod examples;
+#[cfg(test)]
+mod guests;
+#[cfg(test)]
+mod tests;

@@ -1,0 +1,9 @@
+mod changes;
+mod counted;
+mod counting_member;
+mod functions;
+mod functions_of_fields;
+mod lists;
+mod memberships;
+mod part;
+mod same_members;

@@ -1,0 +1,3 @@
+//! The examples that stand at the calls, word for word.
+mod paths;
+mod texts;

@@ -1,0 +1,7 @@
+//! Tests of texts and paths.
+#![tactic(auto)]
+
+#[cfg(test)]
+mod examples;
+#[cfg(test)]
+mod tests;

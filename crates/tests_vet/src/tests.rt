@@ -1,0 +1,6 @@
+mod formats;
+mod program;
+mod progress;
+mod records;
+mod rules;
+mod runs;
