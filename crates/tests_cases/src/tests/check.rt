@@ -184,7 +184,7 @@ fn render_failures(rt: &impl Abort, alloc: Global, failures: &[Failure]) -> Stri
         out.push_str(": ").expect(rt, "memory");
         render_onto(&mut out, reason).expect(rt, "memory");
     }
-    Ok(out).expect(rt, "memory")
+    out
 }
 
 fn failures_of_names(rt: &impl Abort, alloc: Global) -> String {

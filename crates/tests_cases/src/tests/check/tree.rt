@@ -4,11 +4,12 @@ use predicates::check::Expectation;
 use predicates::path::{FileType, PathFault};
 use predicates::prelude::*;
 use predicates_testing::new_folder;
-use std::alloc::Global;
 use std::os::unix::fs::symlink;
+use std::process::Abort;
+use std::rt::{Env, Files};
 use std::{fs, io};
 
-fn fill(rt: &HostRuntime, folder: &str) -> io::Result<()> {
+fn fill<R: AllocGlobal + Files>(rt: &R, folder: &str) -> io::Result<()> {
     let alloc = rt.alloc();
     fs::write(rt, format!(in alloc; "{folder}/run")?, "#!/bin/sh\n")?;
     fs::write(rt, format!(in alloc; "{folder}/notes")?, "echo")?;
@@ -18,8 +19,8 @@ fn fill(rt: &HostRuntime, folder: &str) -> io::Result<()> {
 }
 
 // What stands at the name now, expected to be so; its label is the name.
-fn expect_at<P: Drop>(
-    rt: &HostRuntime,
+fn expect_at<R: Abort + AllocGlobal + Files, P: Drop>(
+    rt: &R,
     folder: &str,
     name: &str,
     check: P,
@@ -32,7 +33,7 @@ fn expect_at<P: Drop>(
 
 const NAMES: [&str; 6] = ["run", "notes", "folder", "link", "lost", "gone"];
 
-fn kinds(rt: &HostRuntime, folder: &str) -> String {
+fn kinds<R: Abort + AllocGlobal + Files>(rt: &R, folder: &str) -> String {
     let alloc = rt.alloc();
     let mut expected = Vec::new(alloc);
     for name in NAMES {
@@ -50,7 +51,7 @@ fn kinds(rt: &HostRuntime, folder: &str) -> String {
     )
 }
 
-fn contents(rt: &HostRuntime, folder: &str) -> String {
+fn contents<R: Abort + AllocGlobal + Files>(rt: &R, folder: &str) -> String {
     let alloc = rt.alloc();
     let mut expected = Vec::new(alloc);
     for name in NAMES {
@@ -82,12 +83,12 @@ fn contents(rt: &HostRuntime, folder: &str) -> String {
 }
 
 // The folder, which is removed by now, and the failures of its kinds and of its contents.
-fn check_folder(rt: &HostRuntime) -> [String; 3] {
-    let folder = new_folder(rt, "predicates_check").expect(rt, "memory");
-    fill(rt, folder.as_str()).expect(rt, "memory");
+fn check_folder<R: Abort + AllocGlobal + Env + Files>(rt: &R) -> [String; 3] {
+    let folder = new_folder(rt, "predicates_check").expect(rt, "files");
+    fill(rt, folder.as_str()).expect(rt, "files");
     let found = kinds(rt, folder.as_str());
     let read = contents(rt, folder.as_str());
-    fs::remove_dir_all(rt, folder.as_str()).expect(rt, "memory");
+    fs::remove_dir_all(rt, folder.as_str()).expect(rt, "files");
     [folder, found, read]
 }
 

@@ -142,15 +142,19 @@ const EMPTY: &str = "/dev/null";
 
 // Whether the fault stands for the error where `symlink_metadata` fails, where `metadata` does, and
 // where `open_file` does.
-fn are_faults(rt: &HostRuntime, kind: ErrorKind, fault: PathFault) -> [bool; 3] {
+fn are_faults(
+    rt: &HostRuntime,
+    kind: ErrorKind,
+    fault: PathFault,
+) -> Result<[bool; 3], AllocError> {
     let (file, failed) = (Ok(FileType::File), Err(kind));
     let calls = (failed, Ok(()), Ok(EMPTY));
-    let first = takes(rt, calls, (Err(fault), file, Ok(b"")), [1, 1, 1]).expect(rt, "memory");
+    let first = takes(rt, calls, (Err(fault), file, Ok(b"")), [1, 1, 1])?;
     let calls = (Ok(()), failed, Ok(EMPTY));
-    let second = takes(rt, calls, (file, Err(fault), Err(fault)), [1, 1, 0]).expect(rt, "memory");
+    let second = takes(rt, calls, (file, Err(fault), Err(fault)), [1, 1, 0])?;
     let calls = (Ok(()), Ok(()), Err(kind));
-    let third = takes(rt, calls, (file, file, Err(fault)), [1, 1, 1]).expect(rt, "memory");
-    [first, second, third]
+    let third = takes(rt, calls, (file, file, Err(fault)), [1, 1, 1])?;
+    Ok([first, second, third])
 }
 
 #[test]
@@ -159,7 +163,10 @@ fn each_call_is_made_once(rt: HostRuntime) {
     let calls = (Ok(()), Ok(()), Ok(EMPTY));
     assert!(rt; takes(&rt, calls, (file, file, Ok(b"")), [1, 1, 1]).expect(&rt, "memory"));
     for (kind, fault) in KINDS {
-        assert!(rt; are_faults(&rt, kind, fault) == [true; 3], "{kind:?}");
+        assert!(rt;
+            are_faults(&rt, kind, fault).expect(&rt, "memory") == [true; 3],
+            "{kind:?}"
+        );
     }
 }
 

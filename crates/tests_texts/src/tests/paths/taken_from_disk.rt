@@ -4,7 +4,7 @@ use predicates_path::FileType::{Dir, File, Other, Symlink};
 use predicates_path::PathFault::{NotFound, NotRegular, Other as Fault};
 use predicates_path::Snapshot;
 use predicates_testing::new_folder;
-use std::alloc::Global;
+use std::alloc::{AllocError, Global};
 use std::io::{Read, Write};
 use std::os::unix::fs::symlink;
 use std::os::unix::io::AsRawFd;
@@ -49,17 +49,17 @@ const LINKS: [(&str, &str); 5] = [
 ];
 
 // The path of the name in the folder.
-fn path_in(rt: &HostRuntime, folder: &str, name: &str) -> String {
-    format!(in rt.alloc(); "{folder}/{name}").expect(rt, "memory")
+fn path_in(rt: &HostRuntime, folder: &str, name: &str) -> Result<String, AllocError> {
+    format!(in rt.alloc(); "{folder}/{name}")
 }
 
 fn write_in(rt: &HostRuntime, folder: &str, name: &str, content: &[u8]) -> io::Result<()> {
-    let path = path_in(rt, folder, name);
+    let path = path_in(rt, folder, name)?;
     fs::write(rt, path.as_str(), content)
 }
 
 fn link_in(rt: &HostRuntime, folder: &str, name: &str, place: &str) -> io::Result<()> {
-    let path = path_in(rt, folder, name);
+    let path = path_in(rt, folder, name)?;
     symlink(rt, place, path.as_str())
 }
 
@@ -70,7 +70,7 @@ fn fill(rt: &HostRuntime, folder: &str) -> io::Result<()> {
     for (name, place) in LINKS {
         link_in(rt, folder, name, place)?;
     }
-    let path = path_in(rt, folder, "folder");
+    let path = path_in(rt, folder, "folder")?;
     fs::create_dir(rt, path.as_str())
 }
 
@@ -82,7 +82,7 @@ fn stands(rt: &HostRuntime, path: &str, parts: Parts<'_>) -> io::Result<bool> {
 
 // Whether what is taken under the name in the folder has these parts.
 fn stands_in(rt: &HostRuntime, folder: &str, name: &str, parts: Parts<'_>) -> io::Result<bool> {
-    let path = path_in(rt, folder, name);
+    let path = path_in(rt, folder, name)?;
     stands(rt, path.as_str(), parts)
 }
 
@@ -99,10 +99,10 @@ fn first_wrong(rt: &HostRuntime, folder: &str) -> io::Result<&'static str> {
 
 #[test]
 fn what_stands_in_a_folder(rt: HostRuntime) {
-    let folder = new_folder(&rt, "predicates_path").expect(&rt, "memory");
+    let folder = new_folder(&rt, "predicates_path").expect(&rt, "files");
     let wrong = first_wrong(&rt, folder.as_str());
-    fs::remove_dir_all(&rt, folder.as_str()).expect(&rt, "memory");
-    assert_eq!(rt; wrong.expect(&rt, "memory"), "none");
+    fs::remove_dir_all(&rt, folder.as_str()).expect(&rt, "files");
+    assert_eq!(rt; wrong.expect(&rt, "files"), "none");
 }
 
 // This many bytes, which repeat after 251.
@@ -123,22 +123,22 @@ fn is_kept(rt: &HostRuntime, folder: &str, content: &[u8]) -> io::Result<bool> {
 #[test]
 fn a_long_content(rt: HostRuntime) {
     let content = bytes(&rt, rt.alloc(), 70_001);
-    let folder = new_folder(&rt, "predicates_path").expect(&rt, "memory");
+    let folder = new_folder(&rt, "predicates_path").expect(&rt, "files");
     let kept = is_kept(&rt, folder.as_str(), content.as_slice());
-    fs::remove_dir_all(&rt, folder.as_str()).expect(&rt, "memory");
-    assert!(rt; kept.expect(&rt, "memory"));
+    fs::remove_dir_all(&rt, folder.as_str()).expect(&rt, "files");
+    assert!(rt; kept.expect(&rt, "files"));
 }
 
 #[test]
 fn an_empty_path(rt: HostRuntime) {
     let nothing = (Err(NotFound), Err(NotFound), Err(NotFound));
-    assert!(rt; stands(&rt, "", nothing).expect(&rt, "memory"));
+    assert!(rt; stands(&rt, "", nothing).expect(&rt, "files"));
 }
 
 #[test]
 fn a_device(rt: HostRuntime) {
     let device = (Ok(Other), Ok(Other), Err(NotRegular));
-    assert!(rt; stands(&rt, "/dev/null", device).expect(&rt, "memory"));
+    assert!(rt; stands(&rt, "/dev/null", device).expect(&rt, "files"));
 }
 
 // A pipe stands behind a link of the system's.
@@ -160,10 +160,10 @@ fn is_next<R: Read>(reader: &mut R, byte: u8) -> io::Result<bool> {
 // Reading a pipe would wait, as nothing is written yet.
 #[test]
 fn a_pipe_left_unread(rt: HostRuntime) {
-    let (mut reader, mut writer) = io::pipe(&rt).expect(&rt, "memory");
+    let (mut reader, mut writer) = io::pipe(&rt).expect(&rt, "files");
     let number = reader.as_raw_fd();
-    assert!(rt; is_pipe(&rt, number).expect(&rt, "memory"));
-    writer.write_all(b"a").expect(&rt, "memory");
-    assert!(rt; is_pipe(&rt, number).expect(&rt, "memory"));
-    assert!(rt; is_next(&mut reader, b'a').expect(&rt, "memory"));
+    assert!(rt; is_pipe(&rt, number).expect(&rt, "files"));
+    writer.write_all(b"a").expect(&rt, "files");
+    assert!(rt; is_pipe(&rt, number).expect(&rt, "files"));
+    assert!(rt; is_next(&mut reader, b'a').expect(&rt, "files"));
 }
