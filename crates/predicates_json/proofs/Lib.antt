@@ -2,6 +2,5 @@ pub mod Written
 pub mod Escapes
 pub mod Steps
 pub mod PointerCases
-pub mod PointerChanges
 pub mod NullCases
 pub mod Pointed
