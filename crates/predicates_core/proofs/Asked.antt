@@ -102,7 +102,7 @@ module _ (q : Kind) where
 
   module _ (op : Operator) (a b : Bool) (c d : Found) {text : Option (List ℕ)} {left right : Formula → Type 0} {e : Bool} {t : Tree CaseNode} {bytes : List ℕ} where
     -- the node over the cases of the parts that belong to it
-    pair_case : HasTruth (IsPair op text left right) e → HasTruth left a → IsTruthOfRight q op a right b → IsAnswerIf q (keeps op a b) left a c → IsAnswerIf q (right_counts q op a b) right b d → IsNode (Some bytes) e (found_parts c d) t → Fits text bytes → IsCaseBy q (IsPair op text left right) e t
+    pub pair_case : HasTruth (IsPair op text left right) e → HasTruth left a → IsTruthOfRight q op a right b → IsAnswerIf q (keeps op a b) left a c → IsAnswerIf q (right_counts q op a b) right b d → IsNode (Some bytes) e (found_parts c d) t → Fits text bytes → IsCaseBy q (IsPair op text left right) e t
     pair_case whole l r x y written fits = record {
       truth = whole;
       explains = λ f h.

@@ -2,17 +2,16 @@
 use Rattle.std.proofs.Common.{◌≡◌, refl, sym, ℕ, Bool, true, false, List, Option, None, Result, Ok, Err, Some, codes}
 use Rattle.predicates_core.specs.Label.{Entry}
 use Rattle.predicates_core.specs.Formula.{Formula, HasTruth, IsLeaf}
-use Rattle.predicates_core.specs.Shows.{IsCaseOf, IsFound}
-use Rattle.predicates_core.specs.Change.{IsFoundChange}
+use Rattle.predicates_core.specs.Kinds.{Kind}
+use Rattle.predicates_core.specs.Shows.{IsCaseOf, IsFound, IsFoundBy}
 use Rattle.predicates_core.specs.Tree.{Tree}
 use Rattle.predicates_core.specs.Describe.{CaseNode}
 use Rattle.predicates_core.specs.Leaves.{IsExactly, IsShowing}
 use Rattle.predicates_core.proofs.Leaves.{HasTruth-exactly}
 use Rattle.predicates_core.specs.Asked.{is_other}
-use Rattle.predicates_core.proofs.Added.{HasTruth-with_product, none_with_product, case_with_product}
-use Rattle.predicates_core.proofs.Fewer.{found_fewer, found_change_fewer}
+use Rattle.predicates_core.proofs.Added.{HasTruth-with_product, nothing_with_product, found_with_product}
+use Rattle.predicates_core.proofs.Fewer.{found_fewer, fewer_found}
 use Rattle.predicates_core.proofs.Found.{none_wanted, case_wanted}
-use Rattle.predicates_core.proofs.AddedChanges.{no_change_with_product, change_with_product}
 use Rattle.predicates_core.proofs.ChangeCases.{exact_leaf}
 use Rattle.predicates_path.specs.declared.fault.PathFault.{PathFault}
 use Rattle.predicates_path.specs.Snapshot.{Bytes}
@@ -29,24 +28,18 @@ module _ {text : Entry} {has : Bytes → Formula → Type 0} {path : List ℕ} {
   pub leaf_without_content : {fault : PathFault} → held ≡ Err fault → (f : Formula) → IsOfContent text has path held f → IsLeaf f
   leaf_without_content {fault} e f x = exact_leaf f (x.of_fault fault e)
 
--- what is found of them, and what would turn them
+-- what is found of them
 module _ (text : Entry) (has : Bytes → Formula → Type 0) (path : List ℕ) (held : Result Bytes PathFault) where
-  pub none_of_content : (w : Option Bool) (v : Bytes) → held ≡ Ok v → IsFound (has v) w None → IsFound (IsOfContent text has path held) w None
-  none_of_content w v e x = found_fewer w None (λ f p. p.of_bytes v e) (none_with_product _ _ _ w x)
+  pub none_of_content : (q : Kind) (w : Option Bool) (v : Bytes) → held ≡ Ok v → IsFoundBy q (has v) w None → IsFoundBy q (IsOfContent text has path held) w None
+  none_of_content q w v e x = fewer_found q w None (λ f p. p.of_bytes v e) (nothing_with_product q _ _ _ w x)
 
-  pub case_of_content : (w : Option Bool) (v : Bytes) {c t : Tree CaseNode} → held ≡ Ok v → IsShowing (codes "var") (Some path) c t → IsFound (has v) w (Some c) → IsFound (IsOfContent text has path held) w (Some t)
-  case_of_content w v {c} {t} e s x = found_fewer w (Some t) (λ f p. p.of_bytes v e) (case_with_product _ _ _ w s x)
+  pub case_of_content : (q : Kind) (w : Option Bool) (v : Bytes) {c t : Tree CaseNode} → held ≡ Ok v → IsShowing (codes "var") (Some path) c t → IsFoundBy q (has v) w (Some c) → IsFoundBy q (IsOfContent text has path held) w (Some t)
+  case_of_content q w v {c} {t} e s x = fewer_found q w (Some t) (λ f p. p.of_bytes v e) (found_with_product q _ _ _ w s x)
 
   pub none_without_content : (w : Option Bool) (fault : PathFault) → held ≡ Err fault → is_other w false ≡ true → IsFound (IsOfContent text has path held) w None
   none_without_content w fault e other = found_fewer w None (λ f p. p.of_fault fault e) (none_wanted w (HasTruth-exactly refl) other)
 
   pub case_without_content : (w : Option Bool) (fault : PathFault) {t : Tree CaseNode} → held ≡ Err fault → is_other w false ≡ false → IsCaseOf (IsExactly (without_content text path fault)) false t → IsFound (IsOfContent text has path held) w (Some t)
   case_without_content w fault {t} e same h = found_fewer w (Some t) (λ f p. p.of_fault fault e) (case_wanted w h same)
-
-  pub no_change_of_content : (w : Option Bool) (v : Bytes) → held ≡ Ok v → IsFoundChange (has v) w None → IsFoundChange (IsOfContent text has path held) w None
-  no_change_of_content w v e x = found_change_fewer w None (λ f p. p.of_bytes v e) (no_change_with_product _ _ _ w x)
-
-  pub change_of_content : (w : Option Bool) (v : Bytes) {c t : Tree CaseNode} → held ≡ Ok v → IsShowing (codes "var") (Some path) c t → IsFoundChange (has v) w (Some c) → IsFoundChange (IsOfContent text has path held) w (Some t)
-  change_of_content w v {c} {t} e s x = found_change_fewer w (Some t) (λ f p. p.of_bytes v e) (change_with_product _ _ _ w s x)
 
 pub ruleset content_cases = (HasTruth-content, HasTruth-no_content)

@@ -6,16 +6,16 @@ use Rattle.predicates_core.specs.Text.{Text}
 use Rattle.predicates_core.specs.Formula.{Formula, HasTruth}
 use Rattle.predicates_core.specs.Tree.{Tree}
 use Rattle.predicates_core.specs.Describe.{CaseNode}
-use Rattle.predicates_core.specs.Shows.{IsCaseOf, IsAnswer, IsFound}
+use Rattle.predicates_core.specs.Kinds.{Kind}
+use Rattle.predicates_core.specs.Shows.{IsCaseOf, IsAnswer, IsFound, IsFoundBy}
 use Rattle.predicates_core.specs.Change.{IsFoundChange}
 use Rattle.predicates_core.specs.Leaves.{IsExactly, IsShowing}
 use Rattle.predicates_core.specs.Asked.{is_other}
 use Rattle.predicates_core.proofs.Leaves.{HasTruth-exactly}
-use Rattle.predicates_core.proofs.Added.{HasTruth-with_product, IsCaseOf-with_product, none_with_product, case_with_product}
-use Rattle.predicates_core.proofs.Fewer.{found_fewer, found_of_fewer, change_of_fewer, found_change_fewer, found_change_of_fewer}
-use Rattle.predicates_core.proofs.Found.{none_wanted, case_wanted}
-use Rattle.predicates_core.proofs.AddedChanges.{no_change_with_product, change_with_product}
-use Rattle.predicates_core.proofs.ChangeCases.{exact_leaf, leaf_case, no_change_wanted, change_wanted}
+use Rattle.predicates_core.proofs.Added.{HasTruth-with_product, IsCaseOf-with_product, nothing_with_product, found_with_product}
+use Rattle.predicates_core.proofs.Fewer.{case_of_fewer, fewer_found, found_of_fewer, found_change_of_fewer}
+use Rattle.predicates_core.proofs.Found.{other_wanted, case_wanted}
+use Rattle.predicates_core.proofs.ChangeCases.{exact_leaf, leaf_case}
 use Rattle.predicates_text.specs.ViewFormulas.{IsOfEach, IsDecoded, undecoded}
 
 module _ {has : Text → Formula → Type 0} {viewed : Text → Type 0} where
@@ -64,31 +64,17 @@ module _ {text : Option (List ℕ)} {has : Text → Formula → Type 0} {bytes :
   IsCaseOf-undecoded n e h = record { truth = HasTruth-undecoded n e; explains = λ f p. h.explains f (p.of_other n) }
 
 -- what is found of them
-module _ (text : Option (List ℕ)) (has : Text → Formula → Type 0) (bytes : List ℕ) where
-  pub none_decoded : (w : Option Bool) (t : Text) → string_bytes t ≡ bytes → IsFound (has t) w None → IsFound (IsDecoded text has bytes) w None
-  none_decoded w t e x = found_fewer w None (λ f p. p.of_text t e) (none_with_product _ _ _ w x)
+module _ (q : Kind) (text : Option (List ℕ)) (has : Text → Formula → Type 0) (bytes : List ℕ) where
+  pub none_decoded : (w : Option Bool) (t : Text) → string_bytes t ≡ bytes → IsFoundBy q (has t) w None → IsFoundBy q (IsDecoded text has bytes) w None
+  none_decoded w t e x = fewer_found q w None (λ f p. p.of_text t e) (nothing_with_product q _ _ _ w x)
 
-  pub case_decoded : (w : Option Bool) (t : Text) {c d : Tree CaseNode} → string_bytes t ≡ bytes → IsShowing (codes "var as str") (Some (string_bytes t)) c d → IsFound (has t) w (Some c) → IsFound (IsDecoded text has bytes) w (Some d)
-  case_decoded w t {c} {d} e s x = found_fewer w (Some d) (λ f p. p.of_text t e) (case_with_product _ _ _ w (subst (λ bs. IsShowing (codes "var as str") (Some bs) c d) e s) x)
+  pub case_decoded : (w : Option Bool) (t : Text) {c d : Tree CaseNode} → string_bytes t ≡ bytes → IsShowing (codes "var as str") (Some (string_bytes t)) c d → IsFoundBy q (has t) w (Some c) → IsFoundBy q (IsDecoded text has bytes) w (Some d)
+  case_decoded w t {c} {d} e s x = fewer_found q w (Some d) (λ f p. p.of_text t e) (found_with_product q _ _ _ w (subst (λ bs. IsShowing (codes "var as str") (Some bs) c d) e s) x)
 
-  pub none_undecoded : (w : Option Bool) → ¬ (IsUtf8 bytes) → is_other w false ≡ true → IsFound (IsDecoded text has bytes) w None
-  none_undecoded w n = none_wanted w (HasTruth-undecoded n refl)
+  pub none_undecoded : (w : Option Bool) → ¬ (IsUtf8 bytes) → is_other w false ≡ true → IsFoundBy q (IsDecoded text has bytes) w None
+  none_undecoded w n = other_wanted q w (HasTruth-undecoded n refl)
 
-  pub case_undecoded : (w : Option Bool) {d : Tree CaseNode} → ¬ (IsUtf8 bytes) → is_other w false ≡ false → IsCaseOf (IsExactly (undecoded text)) false d → IsFound (IsDecoded text has bytes) w (Some d)
-  case_undecoded w n same h = case_wanted w (IsCaseOf-undecoded n refl h) same
-
--- what would turn them
-module _ (text : Option (List ℕ)) (has : Text → Formula → Type 0) (bytes : List ℕ) where
-  pub no_change_decoded : (w : Option Bool) (t : Text) → string_bytes t ≡ bytes → IsFoundChange (has t) w None → IsFoundChange (IsDecoded text has bytes) w None
-  no_change_decoded w t e x = found_change_fewer w None (λ f p. p.of_text t e) (no_change_with_product _ _ _ w x)
-
-  pub change_decoded : (w : Option Bool) (t : Text) {c d : Tree CaseNode} → string_bytes t ≡ bytes → IsShowing (codes "var as str") (Some (string_bytes t)) c d → IsFoundChange (has t) w (Some c) → IsFoundChange (IsDecoded text has bytes) w (Some d)
-  change_decoded w t {c} {d} e s x = found_change_fewer w (Some d) (λ f p. p.of_text t e) (change_with_product _ _ _ w (subst (λ bs. IsShowing (codes "var as str") (Some bs) c d) e s) x)
-
-  pub no_change_undecoded : (w : Option Bool) → ¬ (IsUtf8 bytes) → is_other w false ≡ true → IsFoundChange (IsDecoded text has bytes) w None
-  no_change_undecoded w n = no_change_wanted w (HasTruth-undecoded n refl)
-
-  pub change_undecoded : (w : Option Bool) {d : Tree CaseNode} → ¬ (IsUtf8 bytes) → is_other w false ≡ false → IsCaseOf (IsExactly (undecoded text)) false d → IsFoundChange (IsDecoded text has bytes) w (Some d)
-  change_undecoded w n same h = change_wanted w (change_of_fewer (λ f p. p.of_other n) (leaf_case exact_leaf h)) same
+  pub case_undecoded : (w : Option Bool) {d : Tree CaseNode} → ¬ (IsUtf8 bytes) → is_other w false ≡ false → IsCaseOf (IsExactly (undecoded text)) false d → IsFoundBy q (IsDecoded text has bytes) w (Some d)
+  case_undecoded w n same h = case_wanted {q = q} w (case_of_fewer (λ f p. p.of_other n) (leaf_case q exact_leaf h)) same
 
 pub ruleset decoding = (HasTruth-decoded, IsCaseOf-decoded, HasTruth-undecoded, IsCaseOf-undecoded)

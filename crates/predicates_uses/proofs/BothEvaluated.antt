@@ -1,5 +1,5 @@
 -- The truth of either part, where both were evaluated.
-use Rattle.std.proofs.Common.{◌≡◌, ℕ, Bool, true, false, List, [], ◌∷◌, codes, Option, Some, Less, Equal, Greater, Result, Ok, Err, IfOk, IsOk, refl, sym, subst, ap, ◌∙◌}
+use Rattle.std.proofs.Common.{◌≡◌, ℕ, Bool, true, false, List, [], ◌∷◌, codes, Option, Some, None, Less, Equal, Greater, Result, Ok, Err, IfOk, IsOk, refl, sym, subst, ap, ◌∙◌}
 use Rattle.std.specs.Prelude.{◌||◌, ◌==◌, not, cond, nat_lt}
 use Rattle.std.specs.Ordering.{is_lt, nat_cmp}
 use Rattle.predicates_core.specs.declared.custom.join.Operator.TheVariants.{Or}
@@ -11,8 +11,9 @@ use Rattle.predicates_core.specs.Label.{Label, plain, Fits}
 use Rattle.predicates_core.specs.Leaves.{IsExactly}
 use Rattle.predicates_core.specs.Combined.{IsPair}
 use Rattle.predicates_core.proofs.Values.{truth-Leaf, truth-pair}
-use Rattle.predicates_core.proofs.FirstReasonOf.{or_both, or_left, or_right}
-use Rattle.predicates_core.proofs.CombinedLemmas.{HasTruth-pair, HasTruth-left, case_of_both, case_of_left, case_of_right}
+use Rattle.predicates_core.specs.Kinds.{reasons}
+use Rattle.predicates_core.proofs.Asked.{pair_case}
+use Rattle.predicates_core.proofs.CombinedLemmas.{HasTruth-pair, HasTruth-left}
 
 module _ {text : Option (List ℕ)} {left right : Formula → Type 0} where
   pub HasTruth-or_both : {a b e : Bool} → HasTruth left a → HasTruth right b → e ≡ (a || b) → HasTruth (IsPair Or text left right) e
@@ -23,13 +24,16 @@ module _ {text : Option (List ℕ)} {left right : Formula → Type 0} where
 
 module _ {text : Option (List ℕ)} {left right : Formula → Type 0} {b : Bool} {t : Tree CaseNode} {bytes : List ℕ} where
   pub IsCaseOf-or_both : {c d : Tree CaseNode} → IsNode (Some bytes) b ((codes "left", c) ∷ (codes "right", d) ∷ []) t → Fits text bytes → IsCaseOf left b c → IsCaseOf right b d → b ≡ false → IsCaseOf (IsPair Or text left right) b t
-  IsCaseOf-or_both written fits x y e = case_of_both Or (rw e or_both) written fits x y (rw e refl)
+  IsCaseOf-or_both {c} {d} written fits x y e = subst (λ z. IsCaseOf (IsPair Or text left right) z t) (sym e)
+      (pair_case reasons Or false false (Some c) (Some d) (HasTruth-pair Or (rw e at x.truth) (rw e at y.truth)) (rw e at x.truth) (rw e at y.truth) (rw e at x) (rw e at y) (rw e at written) fits)
 
   pub IsCaseOf-or_left : {c : Tree CaseNode} → IsNode (Some bytes) b ((codes "left", c) ∷ []) t → Fits text bytes → IsCaseOf left b c → b ≡ true → IsCaseOf (IsPair Or text left right) b t
-  IsCaseOf-or_left written fits x e = case_of_left Or {y = true} (rw e or_left) written fits x (rw e refl)
+  IsCaseOf-or_left {c} written fits x e = subst (λ z. IsCaseOf (IsPair Or text left right) z t) (sym e)
+      (pair_case reasons Or true true (Some c) None (HasTruth-left Or (rw e at x.truth) refl (λ z. refl)) (rw e at x.truth) tt (rw e at x) refl (rw e at written) fits)
 
   pub IsCaseOf-or_right : {d : Tree CaseNode} → IsNode (Some bytes) b ((codes "right", d) ∷ []) t → Fits text bytes → HasTruth left (not b) → IsCaseOf right b d → b ≡ true → IsCaseOf (IsPair Or text left right) b t
-  IsCaseOf-or_right written fits x y e = case_of_right Or (rw e or_right) written fits x y (rw e refl)
+  IsCaseOf-or_right {d} written fits x y e = subst (λ z. IsCaseOf (IsPair Or text left right) z t) (sym e)
+      (pair_case reasons Or false true None (Some d) (HasTruth-pair Or (rw e at x) (rw e at y.truth)) (rw e at x) (rw e at y.truth) refl (rw e at y) (rw e at written) fits)
 
 -- the same of whichever truth the whole has, where those of the parts are read from their cases
 module _ {text : Option (List ℕ)} {left right : Formula → Type 0} {t : Tree CaseNode} {bytes : List ℕ} where

@@ -10,7 +10,7 @@ use Rattle.predicates_core.specs.Tree.{Tree}
 use Rattle.predicates_core.specs.Describe.{CaseNode}
 use Rattle.predicates_core.specs.Shows.{IsAnswer}
 use Rattle.predicates_core.proofs.Values.{truth-Leaf, truth-pair, truth-Named}
-use Rattle.predicates_core.proofs.FirstReasonOf.{with_product_truth}
+use Rattle.predicates_core.proofs.FirstOf.{with_product_truth}
 use Rattle.predicates_core.proofs.CombinedLemmas.{has_pair, has_named}
 use Rattle.predicates_text.specs.Places.{is_front}
 use Rattle.predicates_text.specs.ViewFormulas.{decoded, undecoded, decoded_formula}
