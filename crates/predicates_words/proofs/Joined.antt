@@ -33,7 +33,7 @@ module _ (part : Formula → Type 0) (text : Option (List ℕ)) where
   found_of_not Reason = case_of_not part text
   found_of_not Change = change_of_not part text
 
-module _ (op : Operator) (w : Option Bool) (c d : Option (Tree CaseNode)) (text : Option (List ℕ)) (left right : Formula → Type 0) {of_left : Option Bool} {a b h : Bool} where
+module _ (op : Operator) (w : Option Bool) (c d : Option (Tree CaseNode)) (text : Option (List ℕ)) (left right : Formula → Type 0) (b : Bool) {of_left : Option Bool} {a h : Bool} where
   pub nothing_in_turn : (s : Sought) → of_left ≡ left_wanted op w → Finds s left of_left c → a ≡ shown_verdict of_left c → FindsRight s op right w a b d → h ≡ apply op a b → is_other w h ≡ true → Finds s (IsPair op text left right) w None
   nothing_in_turn Reason lw x la y is other = none_in_turn op w c d text left right lw x la refl refl y.0 y.1 is other
   nothing_in_turn Change lw x la y is other = no_change_in_turn op w c d text left right of_left x la y is other

@@ -4,47 +4,35 @@ use Rattle.predicates_item.specs.Makers.{equal_to}
 use Rattle.predicates_text.specs.Patterns.{starts_pattern, ends_pattern, contains_pattern}
 use Rattle.predicates_text.specs.Expressions.{regex_text, IsReadFromText}
 use Rattle.predicates_words.specs.declared.word.Word.{Word}
-use Rattle.predicates_words.specs.declared.word.Word.TheVariants.{Empty, Equals, Starts}
-use Rattle.predicates_words.specs.declared.word.Word.TheVariants.{Ends, Contains, Matches}
-use Rattle.predicates_words.specs.declared.word.Word.TheVariants.{Trim, Normalize, Not, And}
-use Rattle.predicates_words.specs.declared.word.Word.TheVariants.{Or, Xor}
-use Rattle.predicates_words.specs.declared.check.TextCheck.{TextCheck, Empty as EmptyCheck}
-use Rattle.predicates_words.specs.declared.check.TextCheck.{Equals as EqualsCheck}
-use Rattle.predicates_words.specs.declared.check.TextCheck.{Starts as StartsCheck}
-use Rattle.predicates_words.specs.declared.check.TextCheck.{Ends as EndsCheck}
-use Rattle.predicates_words.specs.declared.check.TextCheck.{Contains as ContainsCheck}
-use Rattle.predicates_words.specs.declared.check.TextCheck.{Matches as MatchesCheck, Trim'}
-use Rattle.predicates_words.specs.declared.check.TextCheck.{Normalize', Not', And', Or', Xor'}
+use Rattle.predicates_words.specs.declared.word.Word.TheVariants as words
+use Rattle.predicates_words.specs.declared.check.TextCheck as checks
+use Rattle.predicates_words.specs.declared.check.TextCheck.{TextCheck}
 
 -- how many checks a word takes
 abbrev pub operand_count : Word → ℕ
-operand_count Empty = 0
-operand_count (Equals text) = 0
-operand_count (Starts text) = 0
-operand_count (Ends text) = 0
-operand_count (Contains text) = 0
-operand_count (Matches text) = 0
-operand_count Trim = 1
-operand_count Normalize = 1
-operand_count Not = 1
-operand_count And = 2
-operand_count Or = 2
-operand_count Xor = 2
+operand_count words.Trim = 1
+operand_count words.Normalize = 1
+operand_count words.Not = 1
+operand_count words.And = 2
+operand_count words.Or = 2
+operand_count words.Xor = 2
+operand_count _ = 0
 
 -- the check is that of the word over these operands, the earlier one first
 abbrev pub IsCheckOf : Word → List TextCheck → TextCheck → Type 0
-IsCheckOf Empty [] (EmptyCheck p) = Unit {0}
-IsCheckOf (Equals text) [] (EqualsCheck p) = p ≡ equal_to text
-IsCheckOf (Starts text) [] (StartsCheck p) = starts_pattern p ≡ string_bytes text
-IsCheckOf (Ends text) [] (EndsCheck p) = ends_pattern p ≡ string_bytes text
-IsCheckOf (Contains text) [] (ContainsCheck p) = contains_pattern p ≡ string_bytes text
-IsCheckOf (Matches text) [] (MatchesCheck p) = (regex_text p ≡ string_bytes text) × IsReadFromText p
-IsCheckOf Trim (operand ∷ []) (Trim' _ inner) = inner ≡ operand
-IsCheckOf Normalize (operand ∷ []) (Normalize' _ inner) = inner ≡ operand
-IsCheckOf Not (operand ∷ []) (Not' _ inner) = inner ≡ operand
-IsCheckOf And (left ∷ right ∷ []) (And' _ l _ r) = (l ≡ left) × (r ≡ right)
-IsCheckOf Or (left ∷ right ∷ []) (Or' _ l _ r) = (l ≡ left) × (r ≡ right)
-IsCheckOf Xor (left ∷ right ∷ []) (Xor' _ l _ r) = (l ≡ left) × (r ≡ right)
+IsCheckOf words.Empty [] (checks.Empty p) = Unit {0}
+IsCheckOf (words.Equals text) [] (checks.Equals p) = p ≡ equal_to text
+IsCheckOf (words.Starts text) [] (checks.Starts p) = starts_pattern p ≡ string_bytes text
+IsCheckOf (words.Ends text) [] (checks.Ends p) = ends_pattern p ≡ string_bytes text
+IsCheckOf (words.Contains text) [] (checks.Contains p) = contains_pattern p ≡ string_bytes text
+IsCheckOf (words.Matches text) [] (checks.Matches p) =
+    (regex_text p ≡ string_bytes text) × IsReadFromText p
+IsCheckOf words.Trim (operand ∷ []) (checks.Trim' _ inner) = inner ≡ operand
+IsCheckOf words.Normalize (operand ∷ []) (checks.Normalize' _ inner) = inner ≡ operand
+IsCheckOf words.Not (operand ∷ []) (checks.Not' _ inner) = inner ≡ operand
+IsCheckOf words.And (left ∷ right ∷ []) (checks.And' _ l _ r) = (l ≡ left) × (r ≡ right)
+IsCheckOf words.Or (left ∷ right ∷ []) (checks.Or' _ l _ r) = (l ≡ left) × (r ≡ right)
+IsCheckOf words.Xor (left ∷ right ∷ []) (checks.Xor' _ l _ r) = (l ≡ left) × (r ≡ right)
 IsCheckOf _ _ _ = ⊥
 
 -- the check is that of the word over the last of the old stack, and the others are left
@@ -62,5 +50,5 @@ pub record IsApplied (word : Word) (old new : List TextCheck) : Type 0 where
 
 -- the word holds a regular expression
 abbrev pub IsPattern : Word → Type 0
-IsPattern (Matches text) = Unit {0}
+IsPattern (words.Matches text) = Unit {0}
 IsPattern _ = ⊥

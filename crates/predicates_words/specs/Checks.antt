@@ -17,91 +17,88 @@ use Rattle.predicates_text.specs.LeafFormulas.{IsContainsLeaf}
 use Rattle.predicates_text.specs.Expressions.{match_text, match_formula, regex_text, regex_meaning}
 use Rattle.predicates_text.specs.ViewFormulas.{trimmed_bytes, even_bytes}
 use Rattle.predicates_item.specs.TextEquality.{text_equality_text, text_equality_formula}
-use Rattle.predicates_words.specs.declared.check.TextCheck.{TextCheck, Empty, Equals, Starts}
-use Rattle.predicates_words.specs.declared.check.TextCheck.{Ends, Contains, Matches, Trim'}
-use Rattle.predicates_words.specs.declared.check.TextCheck.{Normalize', Not' as NotCheck}
-use Rattle.predicates_words.specs.declared.check.TextCheck.{And' as AndCheck, Or' as OrCheck}
-use Rattle.predicates_words.specs.declared.check.TextCheck.{Xor' as XorCheck}
+use Rattle.predicates_words.specs.declared.check.TextCheck as checks
+use Rattle.predicates_words.specs.declared.check.TextCheck.{TextCheck}
 
 -- the operator of a check that joins two
 abbrev pub operator_of : TextCheck → Operator
-operator_of (OrCheck _ left _ right) = Or
-operator_of (XorCheck _ left _ right) = Xor
+operator_of (checks.Or' _ left _ right) = Or
+operator_of (checks.Xor' _ left _ right) = Xor
 operator_of _ = And
 
 -- the printed text
 abbrev pub check_text : TextCheck → Entry
-check_text (Empty p) = empty_text
-check_text (Equals p) = text_equality_text p
-check_text (Starts p) = starts_text (starts_pattern p)
-check_text (Ends p) = ends_text (ends_pattern p)
-check_text (Contains p) = contains_text (contains_pattern p)
-check_text (Matches p) = match_text (regex_text p)
-check_text (Trim' _ inner) = check_text inner
-check_text (Normalize' _ inner) = check_text inner
-check_text (NotCheck _ inner) = not_text (check_text inner)
-check_text (AndCheck _ left _ right) = infix_text (sign And) (check_text left)
+check_text (checks.Empty p) = empty_text
+check_text (checks.Equals p) = text_equality_text p
+check_text (checks.Starts p) = starts_text (starts_pattern p)
+check_text (checks.Ends p) = ends_text (ends_pattern p)
+check_text (checks.Contains p) = contains_text (contains_pattern p)
+check_text (checks.Matches p) = match_text (regex_text p)
+check_text (checks.Trim' _ inner) = check_text inner
+check_text (checks.Normalize' _ inner) = check_text inner
+check_text (checks.Not' _ inner) = not_text (check_text inner)
+check_text (checks.And' _ left _ right) = infix_text (sign And) (check_text left)
     (check_text right)
-check_text (OrCheck _ left _ right) = infix_text (sign Or) (check_text left) (check_text right)
-check_text (XorCheck _ left _ right) = infix_text (sign Xor) (check_text left) (check_text right)
+check_text (checks.Or' _ left _ right) = infix_text (sign Or) (check_text left) (check_text right)
+check_text (checks.Xor' _ left _ right) = infix_text (sign Xor) (check_text left) (check_text right)
 
 -- the formula on a text with the bytes
 abbrev pub HasFormula : TextCheck → List ℕ → Formula → Type 0
-HasFormula (Empty p) bytes = IsEmptyLeaf bytes
-HasFormula (Equals p) bytes = IsExactly (text_equality_formula p bytes)
-HasFormula (Starts p) bytes = IsStartsLeaf (starts_pattern p) bytes
-HasFormula (Ends p) bytes = IsEndsLeaf (ends_pattern p) bytes
-HasFormula (Contains p) bytes = IsContainsLeaf (contains_pattern p) bytes
-HasFormula (Matches p) bytes = IsExactly (match_formula (regex_text p) (regex_meaning p) bytes)
-HasFormula (Trim' _ inner) bytes = HasFormula inner (trimmed_bytes bytes)
-HasFormula (Normalize' _ inner) bytes = HasFormula inner (even_bytes bytes)
-HasFormula (NotCheck _ inner) bytes = IsNot (not_text (check_text inner)) (HasFormula inner bytes)
-HasFormula (AndCheck _ left _ right) bytes =
+HasFormula (checks.Empty p) bytes = IsEmptyLeaf bytes
+HasFormula (checks.Equals p) bytes = IsExactly (text_equality_formula p bytes)
+HasFormula (checks.Starts p) bytes = IsStartsLeaf (starts_pattern p) bytes
+HasFormula (checks.Ends p) bytes = IsEndsLeaf (ends_pattern p) bytes
+HasFormula (checks.Contains p) bytes = IsContainsLeaf (contains_pattern p) bytes
+HasFormula (checks.Matches p) bytes = IsExactly (match_formula (regex_text p) (regex_meaning p) bytes)
+HasFormula (checks.Trim' _ inner) bytes = HasFormula inner (trimmed_bytes bytes)
+HasFormula (checks.Normalize' _ inner) bytes = HasFormula inner (even_bytes bytes)
+HasFormula (checks.Not' _ inner) bytes = IsNot (not_text (check_text inner)) (HasFormula inner bytes)
+HasFormula (checks.And' _ left _ right) bytes =
     IsPair And (infix_text (sign And) (check_text left) (check_text right)) (HasFormula left bytes)
     (HasFormula right bytes)
-HasFormula (OrCheck _ left _ right) bytes =
+HasFormula (checks.Or' _ left _ right) bytes =
     IsPair Or (infix_text (sign Or) (check_text left) (check_text right)) (HasFormula left bytes)
     (HasFormula right bytes)
-HasFormula (XorCheck _ left _ right) bytes =
+HasFormula (checks.Xor' _ left _ right) bytes =
     IsPair Xor (infix_text (sign Xor) (check_text left) (check_text right)) (HasFormula left bytes)
     (HasFormula right bytes)
 
 -- the one such formula
 abbrev pub check_formula : TextCheck → List ℕ → Formula
-check_formula (Empty p) bytes = empty_formula bytes
-check_formula (Equals p) bytes = text_equality_formula p bytes
-check_formula (Starts p) bytes = starts_formula (starts_pattern p) bytes
-check_formula (Ends p) bytes = ends_formula (ends_pattern p) bytes
-check_formula (Contains p) bytes = contains_formula (contains_pattern p) bytes
-check_formula (Matches p) bytes = match_formula (regex_text p) (regex_meaning p) bytes
-check_formula (Trim' _ inner) bytes = check_formula inner (trimmed_bytes bytes)
-check_formula (Normalize' _ inner) bytes = check_formula inner (even_bytes bytes)
-check_formula (NotCheck _ inner) bytes = Not (plain (not_text (check_text inner)))
+check_formula (checks.Empty p) bytes = empty_formula bytes
+check_formula (checks.Equals p) bytes = text_equality_formula p bytes
+check_formula (checks.Starts p) bytes = starts_formula (starts_pattern p) bytes
+check_formula (checks.Ends p) bytes = ends_formula (ends_pattern p) bytes
+check_formula (checks.Contains p) bytes = contains_formula (contains_pattern p) bytes
+check_formula (checks.Matches p) bytes = match_formula (regex_text p) (regex_meaning p) bytes
+check_formula (checks.Trim' _ inner) bytes = check_formula inner (trimmed_bytes bytes)
+check_formula (checks.Normalize' _ inner) bytes = check_formula inner (even_bytes bytes)
+check_formula (checks.Not' _ inner) bytes = Not (plain (not_text (check_text inner)))
     (check_formula inner bytes)
-check_formula (AndCheck _ left _ right) bytes =
+check_formula (checks.And' _ left _ right) bytes =
     pair And (plain (infix_text (sign And) (check_text left) (check_text right)))
     (check_formula left bytes) (check_formula right bytes)
-check_formula (OrCheck _ left _ right) bytes =
+check_formula (checks.Or' _ left _ right) bytes =
     pair Or (plain (infix_text (sign Or) (check_text left) (check_text right)))
     (check_formula left bytes) (check_formula right bytes)
-check_formula (XorCheck _ left _ right) bytes =
+check_formula (checks.Xor' _ left _ right) bytes =
     pair Xor (plain (infix_text (sign Xor) (check_text left) (check_text right)))
     (check_formula left bytes) (check_formula right bytes)
 
 -- `eval` takes no memory
 abbrev pub IsInfallibleCheck : TextCheck → Type 0
-IsInfallibleCheck (Empty p) = Unit {0}
-IsInfallibleCheck (Equals p) = Unit {0}
-IsInfallibleCheck (Starts p) = Unit {0}
-IsInfallibleCheck (Ends p) = Unit {0}
-IsInfallibleCheck (Contains p) = Unit {0}
-IsInfallibleCheck (Matches p) = ⊥
-IsInfallibleCheck (Trim' _ inner) = ⊥
-IsInfallibleCheck (Normalize' _ inner) = ⊥
-IsInfallibleCheck (NotCheck _ inner) = IsInfallibleCheck inner
-IsInfallibleCheck (AndCheck _ left _ right) = IsInfallibleCheck left × IsInfallibleCheck right
-IsInfallibleCheck (OrCheck _ left _ right) = IsInfallibleCheck left × IsInfallibleCheck right
-IsInfallibleCheck (XorCheck _ left _ right) = IsInfallibleCheck left × IsInfallibleCheck right
+IsInfallibleCheck (checks.Empty p) = Unit {0}
+IsInfallibleCheck (checks.Equals p) = Unit {0}
+IsInfallibleCheck (checks.Starts p) = Unit {0}
+IsInfallibleCheck (checks.Ends p) = Unit {0}
+IsInfallibleCheck (checks.Contains p) = Unit {0}
+IsInfallibleCheck (checks.Matches p) = ⊥
+IsInfallibleCheck (checks.Trim' _ inner) = ⊥
+IsInfallibleCheck (checks.Normalize' _ inner) = ⊥
+IsInfallibleCheck (checks.Not' _ inner) = IsInfallibleCheck inner
+IsInfallibleCheck (checks.And' _ left _ right) = IsInfallibleCheck left × IsInfallibleCheck right
+IsInfallibleCheck (checks.Or' _ left _ right) = IsInfallibleCheck left × IsInfallibleCheck right
+IsInfallibleCheck (checks.Xor' _ left _ right) = IsInfallibleCheck left × IsInfallibleCheck right
 
 -- there is a case: a node over the parts, with the text of the check
 abbrev pub IsNodeOf : TextCheck → Bool → List NamedCase → Option (Tree CaseNode) → Type 0

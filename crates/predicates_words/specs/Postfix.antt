@@ -4,18 +4,14 @@ use Rattle.std.specs.Prelude.{map, string_bytes}
 use Rattle.predicates_core.specs.Text.{Text}
 use Rattle.predicates_words.specs.Applied.{IsApplied, IsMade, IsPattern, operand_count}
 use Rattle.predicates_words.specs.Tokens.{token_of}
-use Rattle.predicates_words.specs.declared.check.TextCheck.{TextCheck, Trim', Normalize', Not'}
-use Rattle.predicates_words.specs.declared.check.TextCheck.{And', Or', Xor'}
+use Rattle.predicates_words.specs.declared.check.TextCheck as checks
+use Rattle.predicates_words.specs.declared.check.TextCheck.{TextCheck}
 use Rattle.predicates_words.specs.declared.from_words.TheConstants.{MAX_DEPTH}
 use Rattle.predicates_words.specs.declared.word.Word.{Word}
 use Rattle.predicates_words.specs.declared.word_problem.WordProblem.{WordProblem}
-use Rattle.predicates_words.specs.declared.word_problem.WordProblem.TheVariants.{NoSuchWord}
-use Rattle.predicates_words.specs.declared.word_problem.WordProblem.TheVariants.{TooFewChecks}
-use Rattle.predicates_words.specs.declared.word_problem.WordProblem.TheVariants.{BadExpression}
-use Rattle.predicates_words.specs.declared.word_problem.WordProblem.TheVariants.{TooDeep}
+use Rattle.predicates_words.specs.declared.word_problem.WordProblem.TheVariants as problems
 use Rattle.predicates_words.specs.declared.words_error.WordsError.{WordsError}
-use Rattle.predicates_words.specs.declared.words_error.WordsError.TheVariants.{BadWord, NotOne}
-use Rattle.predicates_words.specs.declared.words_error.WordsError.TheVariants.{NoMemory}
+use Rattle.predicates_words.specs.declared.words_error.WordsError.TheVariants as errors
 
 -- the bytes of each word
 abbrev pub written : List Text → List (List ℕ)
@@ -54,12 +50,12 @@ HoldsPattern token = (word : Word) × (token ≡ token_of word) × IsPattern wor
 
 -- how many checks lie around the deepest leaf of a check
 abbrev pub depth : TextCheck → ℕ
-depth (Trim' _ inner) = suc (depth inner)
-depth (Normalize' _ inner) = suc (depth inner)
-depth (Not' _ inner) = suc (depth inner)
-depth (And' _ left _ right) = suc (max (depth left) (depth right))
-depth (Or' _ left _ right) = suc (max (depth left) (depth right))
-depth (Xor' _ left _ right) = suc (max (depth left) (depth right))
+depth (checks.Trim' _ inner) = suc (depth inner)
+depth (checks.Normalize' _ inner) = suc (depth inner)
+depth (checks.Not' _ inner) = suc (depth inner)
+depth (checks.And' _ left _ right) = suc (max (depth left) (depth right))
+depth (checks.Or' _ left _ right) = suc (max (depth left) (depth right))
+depth (checks.Xor' _ left _ right) = suc (max (depth left) (depth right))
 depth _ = 0
 
 -- no check is deeper than the limit
@@ -74,10 +70,10 @@ MakesTooDeep stack token = (word : Word) × (left : List TextCheck) × (check : 
 
 -- what a problem says of the token, on the stack of those before it
 abbrev pub IsProblem : WordProblem → List TextCheck → List ℕ → Type 0
-IsProblem NoSuchWord stack token = IsNoWord token
-IsProblem TooFewChecks stack token = TakesMore stack token
-IsProblem BadExpression stack token = HoldsPattern token
-IsProblem TooDeep stack token = MakesTooDeep stack token
+IsProblem problems.NoSuchWord stack token = IsNoWord token
+IsProblem problems.TooFewChecks stack token = TakesMore stack token
+IsProblem problems.BadExpression stack token = HoldsPattern token
+IsProblem problems.TooDeep stack token = MakesTooDeep stack token
 
 -- the token has the problem, and none before it made a check that is too deep
 abbrev pub IsFirstProblem : WordProblem → List TextCheck → List ℕ → Type 0
@@ -95,6 +91,6 @@ LeaveNotOne tokens count = (stack : List TextCheck) × Makes tokens [] stack × 
 
 -- what an error says of the tokens
 abbrev pub IsErrorOf : List (List ℕ) → WordsError → Type 0
-IsErrorOf tokens (BadWord place word problem) = HasBadWord tokens place (string_bytes word) problem
-IsErrorOf tokens (NotOne count) = LeaveNotOne tokens count
-IsErrorOf tokens NoMemory = Unit {0}
+IsErrorOf tokens (errors.BadWord place word problem) = HasBadWord tokens place (string_bytes word) problem
+IsErrorOf tokens (errors.NotOne count) = LeaveNotOne tokens count
+IsErrorOf tokens errors.NoMemory = Unit {0}
