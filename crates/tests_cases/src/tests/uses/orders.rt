@@ -26,9 +26,9 @@ fn order(
     let mut notes = BTreeMap::new(alloc);
     if let Some(channel) = channel {
         let key = String::from_str(alloc, "channel").expect(rt, "memory");
-        notes
-            .insert(key, String::from_str(alloc, channel).expect(rt, "memory"))
-            .expect(rt, "memory");
+        let channel = String::from_str(alloc, channel).expect(rt, "memory");
+        let replaced: Result<_, _> = notes.insert(key, channel);
+        replaced.expect(rt, "memory");
     }
     Order {
         customer: String::from_str(alloc, customer).expect(rt, "memory"),

@@ -6,7 +6,7 @@ use predicates_uses::Either;
 use std::alloc::Global;
 use std::process::Abort;
 
-fn three(rt: &impl Abort, alloc: Global, asked: Asked<'_>) -> Vec<CountingLeaf<'_, u32>> {
+fn three<'a>(rt: &impl Abort, alloc: Global, asked: Asked<'a>) -> Vec<CountingLeaf<'a, u32>> {
     vec![in alloc; asked.leaf(), asked.other(), asked.leaf()].expect(rt, "memory")
 }
 

@@ -1,0 +1,103 @@
+"""The examples of the comments and of the pages, and what stands around them (tools/frames.txt).
+
+An example is a block of code in a comment, or a `rust` block of a page that is neither a file nor made of items.
+"""
+import re
+import sys
+
+sys.dont_write_bytecode = True
+import sources
+
+FENCE = re.compile(r'^( *//[/!]) ```(\w*)$')
+# What only a proof can use: the contract of a call that does nothing.
+FOR_PROOFS = '// From here on a proof knows'
+ITEM = re.compile(r'^(?:pub )?(?:fn|struct|enum|impl|trait|type|#!?\[)\b', re.MULTILINE)
+USE = re.compile(r'^use [^;]*;$', re.MULTILINE)
+
+
+class Example:
+    """The code of a block, and the line that it begins on."""
+
+    def __init__(self, file, line, code):
+        self.file, self.line, self.code = file, line, code
+        self.text = '\n'.join(code)
+        self.crate = file.split('/')[1] if file.startswith('crates/') else 'docs'
+        self.why_not = 'for proofs' if self.text.startswith(FOR_PROOFS) else None
+        self.given = []
+
+    def name(self):
+        return re.sub(r'\W', '_', re.sub(r'^crates/|/src(?=/)|\.\w+$', '', self.file)).lower() + f'_{self.line}'
+
+    def makes(self, name):
+        return re.search(rf'\b(?:let|for|fn)\b[^=;]*?\b{name}\b', self.text)
+
+    def takes(self, name):
+        return re.search(rf'(?<![.\w]){name}\b(?!\s*(?:::|!|:[^:]))', self.text) and not self.makes(name)
+
+
+def of_comments():
+    """The examples of the comments of the libraries."""
+    for path in sorted(sources.TOP.glob('crates/*/src/**/*.rt')):
+        file = str(path.relative_to(sources.TOP))
+        begun = None
+        for number, line in enumerate(path.read_text(encoding='utf-8').splitlines(), 1):
+            fence = FENCE.match(line)
+            if fence and begun is None:
+                begun, kind, code = number + 1, fence[2], []
+            elif fence:
+                if not kind:
+                    yield Example(file, begun, code)
+                begun = None
+            elif begun is not None:
+                code.append(re.sub(r'^ *//[/!] ?', '', line))
+
+
+def of_pages():
+    """The blocks of pages that are made of statements alone."""
+    top = sources.TOP
+    for path in sorted([*top.glob('*.md'), *top.glob('docs/*.md'), *top.glob('crates/*/README.md')]):
+        lines, begun = path.read_text(encoding='utf-8').splitlines(), None
+        for number, line in enumerate(lines, 1):
+            if begun is None and re.match(r'^ *```rust$', line):
+                begun = number
+            elif begun is not None and re.match(r'^ *```$', line):
+                code = lines[begun:number - 1]
+                indent = min((len(it) - len(it.lstrip()) for it in code if it.strip()), default=0)
+                code = [it[indent:] for it in code]
+                text = USE.sub('', '\n'.join(code)).strip()
+                if text and not ITEM.search(text) and not re.search(r'\bself\b|^ghost ', text, re.MULTILINE):
+                    yield Example(str(path.relative_to(top)), begun + 1, code)
+                begun = None
+
+
+class Frame:
+    """What stands around the examples of a section: code above them, and values, each with its names."""
+
+    def __init__(self):
+        self.code, self.given = [], []
+
+
+def module_of(key):
+    return 'of_' + re.sub(r'\W', '_', key.removesuffix('.rt'))
+
+
+def frames(text):
+    """The frames by the name of a crate or of a file, and the examples that are not run."""
+    found, not_run, at = {}, [], None
+    for line in text.splitlines():
+        section = re.match(r'^\[(.*)\]$', line)
+        if section and section[1] == 'not run':
+            at = not_run
+        elif section:
+            at = Frame()
+            found.update(dict.fromkeys(section[1].split(), at))
+        elif at is not_run and line:
+            place, _, why = line.partition(': ')
+            file, _, word = place.partition(' ')
+            at.append((file if (sources.TOP / file).exists() else f'crates/{file}', word, why))
+        elif at is not None and at is not not_run and line.startswith('given '):
+            pattern = line[6:].partition('=')[0].partition(':')[0]
+            at.given.append((re.findall(r'\b(?!let\b|mut\b)[a-z]\w*', pattern), line[6:]))
+        elif at is not None and at is not not_run:
+            at.code.append(line)
+    return found, not_run
