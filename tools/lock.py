@@ -45,7 +45,9 @@ def imports_of(text):
 def with_imports(text, imports):
     """A text behind the imports that it names."""
     words = set(re.split(r'[\s(){}\[\],.;:<>«»]+', text))
-    return '\n'.join([*sorted(full for full, parts in imports if any(it in words or (not it.isidentifier() and it in text) for it in parts)), text])
+    def is_named(part):
+        return part in words or (not part.isidentifier() and part in text)
+    return '\n'.join([*sorted(full for full, parts in imports if any(map(is_named, parts))), text])
 
 
 class Source:
@@ -76,23 +78,29 @@ class Texts:
     def __init__(self, name):
         self.folder = TOP / 'crates' / name
         self.sources = [Source(self.folder, it) for it in sorted((self.folder / 'src').rglob('*.rt'))]
-        self.specs = {str(it.relative_to(self.folder / 'specs').with_suffix('')).replace('/', '.'): sum_of(str(it.relative_to(TOP)), it.read_text(encoding='utf-8'))
-                      for it in sorted((self.folder / 'specs').rglob('*.antt'))}
+        self.specs = {}
+        for it in sorted((self.folder / 'specs').rglob('*.antt')):
+            module = '.'.join(it.relative_to(self.folder / 'specs').with_suffix('').parts)
+            self.specs[module] = sum_of(f'{name}/specs/{module}', it.read_text(encoding='utf-8'))
         self.whole = sum_of(name, ' '.join([*(it.sum for it in self.sources), *self.specs.values()]))
 
     def all(self):
-        return {self.whole, *self.specs.values(), *(it for of in self.sources for it in (of.sum, of.items, *of.heads.values(), *of.whole.values()))}
+        of_sources = (it for of in self.sources for it in (of.sum, of.items, *of.heads.values(), *of.whole.values()))
+        return {self.whole, *self.specs.values(), *of_sources}
 
     @functools.lru_cache(maxsize=None)
     def homes(self, owner):
         """The module that states a type or a trait."""
         stated = re.compile(rf'^ *(?:pub(?:\([a-z]+\))? )?(?:struct|enum|trait) {re.escape(owner)}\b', re.MULTILINE)
-        return [module_of(it.file) for it in self.sources if stated.search((self.folder / it.file).read_text(encoding='utf-8'))][:1]
+        texts = {it.file: (self.folder / it.file).read_text(encoding='utf-8') for it in self.sources}
+        return [module_of(file) for file, text in texts.items() if stated.search(text)][:1]
 
     def of_path(self, path):
         """The sums of what a path names: functions, or what their file has beside bodies; none where it names nothing."""
-        found = [of.heads[it] for of in self.sources for it in of.functions
-                 if it.name in path and is_of(path, [module_of(of.file), *self.homes(it.owner.partition(' as ')[0])], it.owner, it.name)]
+        def is_named(of, it):
+            modules = [module_of(of.file), *self.homes(it.owner.partition(' as ')[0])]
+            return it.name in path and is_of(path, modules, it.owner, it.name)
+        found = [of.heads[it] for of in self.sources for it in of.functions if is_named(of, it)]
         if found:
             return found
         homes = [it for it in self.sources if f'{path}::'.startswith(f'{module_of(it.file)}::') and module_of(it.file)]
@@ -111,7 +119,8 @@ class Texts:
             known = [it for it in self.specs if f'{rest}.'.startswith(f'{it}.')]
             return [self.specs[max(known, key=len)]] if known else [self.whole]
         # (a lemma makes no wrong body right)
-        if any((self.folder / 'proofs' / f'{"/".join(steps[:it])}.antt').is_file() for it in range(1, len(steps) + 1)):
+        files = [self.folder / 'proofs' / f'{"/".join(steps[:it])}.antt' for it in range(1, len(steps) + 1)]
+        if any(it.is_file() for it in files):
             return []
         return self.of_path('::'.join(steps[:-1])) or [self.whole]
 

@@ -10,7 +10,7 @@ import sys
 sys.dont_write_bytecode = True
 
 # How often an answer whose names all stand is tried with the next name all the same.
-RETRIES = 2
+RETRIES = 3
 
 
 class Answer:
@@ -34,19 +34,18 @@ class Answer:
 
     def lose(self, name, offers):
         """Notes a name that it lost, for which the prover offers others."""
-        # A name that was tried is lost where its next one is due.
-        first = next((it for it, tried in self.names.items() if name in (it, tried[0])), None)
-        if first:
-            self.names[first] = self.names[first][1:]
-        else:
-            first, self.names[name] = name, offers
-        if not self.names[first]:
+        # A name that was tried is lost too where its next one is due.
+        tried = next((it for it, offered in self.names.items() if offered[0] == name), None)
+        first, offers = (tried, self.names[tried][1:]) if tried else (name, offers)
+        self.names[first] = offers
+        if not offers:
             del self.names[first]
             self.is_left_out = True
 
     def next_name(self):
-        """A name for which another is left to try."""
-        return next((it for it, offers in self.names.items() if len(offers) > 1), None) if self.retries < RETRIES else None
+        """A name for which another is left to try, the last that was lost."""
+        names = [it for it, offers in self.names.items() if len(offers) > 1]
+        return names[-1] if names and self.retries < RETRIES else None
 
     def retry(self):
         """Goes on to the next name."""
@@ -73,8 +72,10 @@ class Answers:
         answer = self.of(name)
         if answer:
             taken = {it.current() for it in self.all if not it.is_left_out}
-            answer.lose(lost, [it for it in offers if it not in taken])
-            if lost.startswith('.'):
+            # (a name that some answer had before is seldom the one that came in place of another)
+            offers = sorted((it for it in offers if it not in taken), key=lambda it: any(it in of.text for of in self.all))
+            answer.lose(lost, offers)
+            if lost.startswith('.') and offers:
                 # (the others that name the value lose it too)
                 for it in self.all:
                     if it is not answer and lost in it.text and lost not in it.names:

@@ -16,7 +16,8 @@ from sources import functions_of
 from wrong import Unread
 
 # What the prover says of a proof file that is no function's.
-UNREAD_PROOF = re.compile(r'(?:\./)?proofs/(\S+)/(?:Answers|Proof)\.antt: error(?:\[reserved-name\])?: rattle (?:does not read this file|generates the module)')
+UNREAD_PROOF = re.compile(r'(?:\./)?proofs/(\S+)/(?:Answers|Proof)\.antt: error(?:\[reserved-name\])?: '
+                          r'rattle (?:does not read this file|generates the module)')
 # How often an edit is tried with its answers mended anew.
 MENDS = 8
 
@@ -110,7 +111,8 @@ def try_round(crate, edits, kept, say):
         edits = [it for it in edits if it not in spoilers]
     uncompiled = next((it for it in lines if UNCOMPILED.search(it)), '') if edits else ''
     if edits and (uncompiled or code):
-        say(f'{crate.name}: a round of {len(edits)} says nothing, and each is tried by itself (status {code}): {uncompiled[:200]}')
+        say(f'{crate.name}: a round of {len(edits)} says nothing, and each is tried by itself (status {code}): '
+            f'{uncompiled[:200]}')
     return {}
 
 
