@@ -1,5 +1,5 @@
 -- Formulas that are explained alike.
-use Rattle.std.proofs.Common.{◌≡◌, ℕ, List, Bool, true, false, refl, sym}
+use Rattle.std.proofs.Common.{◌≡◌, ℕ, List, Bool, true, false, refl, sym, arith}
 use Rattle.std.specs.Prelude.{not, ◌&&◌, ◌||◌}
 use Rattle.predicates_core.specs.Label.{Label}
 use Rattle.predicates_core.specs.declared.custom.join.Operator.TheVariants.{And, Or, Xor}
@@ -25,12 +25,10 @@ pub named : (label : Label) (name : List ℕ) (f : Formula) → AreAlike (Named 
 named label name f = alike (carries_back (named_carries label name f))
 
 not_and : (a b : Bool) → not (a && b) ≡ (not a || not b)
-not_and true b = refl
-not_and false b = refl
+not_and a b = grind arith
 
 not_or : (a b : Bool) → not (a || b) ≡ (not a && not b)
-not_or true b = refl
-not_or false b = refl
+not_or a b = grind arith
 
 -- the opposite of both parts is one of their opposites
 pub negated_and : (a b c d e : Label) (f g : Formula) → AreAlike (Not a (pair And b f g)) (pair Or c (Not d f) (Not e g))
@@ -43,10 +41,7 @@ unfolding size value actual
 negated_or a b c d e f g = same_function (Not a (pair Or b f g)) (pair And c (Not d f) (Not e g)) (record { leaves = refl; values = λ w h. not_or (value f _) (value g _) })
 
 not_differ : (a b : Bool) → not (differ a b) ≡ differ (not a) b
-not_differ true true = refl
-not_differ true false = refl
-not_differ false true = refl
-not_differ false false = refl
+not_differ a b = grind arith
 
 -- the parts do not differ where the opposite of the left one differs from the right one
 pub negated_xor : (a b c d : Label) (f g : Formula) → AreAlike (Not a (pair Xor b f g)) (pair Xor c (Not d f) g)

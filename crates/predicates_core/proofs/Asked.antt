@@ -1,6 +1,6 @@
 -- What is found of two parts that are asked in turn.
-use Rattle.std.proofs.Common.{◌≡◌, ℕ, Bool, true, false, List, ◌++◌, Option, Some, None, cond, codes, refl, sym, ap, ◌∙◌, subst}
-use Rattle.std.specs.Prelude.{not}
+use Rattle.std.proofs.Common.{◌≡◌, ℕ, Bool, true, false, List, ◌++◌, Option, Some, None, cond, codes, refl, sym, ap, ◌∙◌, subst, arith}
+use Rattle.std.specs.Prelude.{not, ◌&&◌, ◌||◌}
 use mathlib.Core.Bool.{beq}
 use Rattle.predicates_core.specs.Label.{Fits, plain}
 use Rattle.predicates_core.specs.declared.custom.join.Operator.{Operator}
@@ -118,18 +118,31 @@ module _ (q : Kind) where
 
 -- ---- what was found of each
 
+-- the left part has not the truth of the whole
+not_left_of_and : (e b : Bool) → differ e (not e && b) ≡ false → (not (not e) || b) ≡ true → ⊥
+not_left_of_and e b same kept = grind arith
+
+not_left_of_or : (e b : Bool) → differ e (not e || b) ≡ false → (not e || not b) ≡ true → ⊥
+not_left_of_or e b same kept = grind arith
+
 -- the left part's case, where it belongs to that of the whole
 left_case : (q : Kind) (F : Formula → Type 0) (op : Operator) (w : Option Bool) (b : Bool) (c : Found) → IsFoundBy q F (left_wanted op w) c → is_other w (apply op (shown_verdict (left_wanted op w) c) b) ≡ false → keeps op (shown_verdict (left_wanted op w) c) b ≡ true → IsAnswerIf q true F (shown_verdict (left_wanted op w) c) c
 left_case q F op w b (Some t) x same kept = case_found q (left_wanted op w) t x
 left_case q F And None b None x same kept = truth_of_none x
 left_case q F Or None b None x same kept = truth_of_none x
 left_case q F Xor w b None x same kept = truth_of_none x
-left_case q F And (Some true) b None x same kept = absurd (cc)
-left_case q F And (Some false) true None x same kept = absurd (cc)
-left_case q F And (Some false) false None x same kept = absurd (cc)
-left_case q F Or (Some true) true None x same kept = absurd (cc)
-left_case q F Or (Some true) false None x same kept = absurd (cc)
-left_case q F Or (Some false) b None x same kept = absurd (cc)
+left_case q F And (Some e) b None x same kept = absurd (not_left_of_and e b same kept)
+left_case q F Or (Some e) b None x same kept = absurd (not_left_of_or e b same kept)
+
+-- and so the right one, where it was asked
+not_right_of_and : (e a : Bool) → differ e (a && not e) ≡ false → a ≡ true → ⊥
+not_right_of_and e a same asked = grind arith
+
+not_right_of_or : (e a : Bool) → differ e (a || not e) ≡ false → not a ≡ true → ⊥
+not_right_of_or e a same asked = grind arith
+
+not_right_of_xor : (e a : Bool) → differ e (differ a (not (differ e a))) ≡ false → ⊥
+not_right_of_xor e a same = grind arith
 
 -- the right part's case, where it was asked
 right_case : (F : Formula → Type 0) (op : Operator) (w : Option Bool) (a : Bool) (d : Found) → IsFound F (right_wanted op a w) d → is_other w (apply op a (shown_verdict (right_wanted op a w) d)) ≡ false → asks op a ≡ true → IsAnswerIf reasons true F (shown_verdict (right_wanted op a w) d) d
@@ -137,16 +150,9 @@ right_case F op w a (Some t) x same asked = case_found reasons (right_wanted op 
 right_case F And None a None x same asked = truth_of_none x
 right_case F Or None a None x same asked = truth_of_none x
 right_case F Xor None a None x same asked = truth_of_none x
-right_case F And (Some e) false None x same asked = absurd (cc)
-right_case F And (Some true) true None x same asked = absurd (cc)
-right_case F And (Some false) true None x same asked = absurd (cc)
-right_case F Or (Some e) true None x same asked = absurd (cc)
-right_case F Or (Some true) false None x same asked = absurd (cc)
-right_case F Or (Some false) false None x same asked = absurd (cc)
-right_case F Xor (Some true) true None x same asked = absurd (cc)
-right_case F Xor (Some true) false None x same asked = absurd (cc)
-right_case F Xor (Some false) true None x same asked = absurd (cc)
-right_case F Xor (Some false) false None x same asked = absurd (cc)
+right_case F And (Some e) a None x same asked = absurd (not_right_of_and e a same asked)
+right_case F Or (Some e) a None x same asked = absurd (not_right_of_or e a same asked)
+right_case F Xor (Some e) a None x same asked = absurd (not_right_of_xor e a same)
 
 module _ {text : Option (List ℕ)} {left right : Formula → Type 0} where
   truth_in_turn : (op : Operator) (a b : Bool) → HasTruth left a → IsTruthIf (asks op a) right b → HasTruth (IsPair op text left right) (apply op a b)
@@ -206,7 +212,4 @@ pub truth_of_pair : (op : Operator) (a b : Bool) {left right : Formula → Type 
 truth_of_pair op a b {left} {right} l r is text = subst (HasTruth (IsPair op text left right)) (sym is) (HasTruth-pair op l r)
 
 pub not_same : (a b : Bool) → not (beq a b) ≡ differ a b
-not_same true true = refl
-not_same true false = refl
-not_same false true = refl
-not_same false false = refl
+not_same a b = grind arith

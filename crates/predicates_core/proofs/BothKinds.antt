@@ -11,11 +11,10 @@ use Rattle.predicates_core.specs.Kinds.{turned, Kind, reasons, changes, Does, Fi
 use Rattle.predicates_core.proofs.Firsts.{first_alike, first_unique, first_of_both, less_by_dropping, minimal_by_dropping}
 use Rattle.predicates_core.proofs.Joins.{length-actual}
 use Rattle.predicates_core.proofs.Turned.{contains_first, contains_later, contains_cases, contains_none, length-turned}
-use Rattle.predicates_core.proofs.Values.{reaching, length-reaching, value-reaching}
+use Rattle.predicates_core.proofs.Reaching.{reaches}
 
 pub never_turned : (b : Bool) → b ≡ not b → ⊥
-never_turned true e = absurd (cc)
-never_turned false e = absurd (cc)
+never_turned b e = grind arith
 
 pub numbers : (q : Kind) (f : Formula) (S : List ℕ) → Does q f S → AreIncreasing 0 (size f) S
 numbers reasons f S h = h.numbers
@@ -25,9 +24,9 @@ numbers changes f S h = h.numbers
 pub some : (q : Kind) → NoneIsEmpty q
 unfolding AreEqualAt turned truth
 some reasons f S h e =
-    let always = λ (b : Bool). h.decides (reaching f b) (length-reaching f b) (rw e tt) in
-    let yes' : true ≡ truth f = sym (value-reaching f true) ∙ always true in
-    let no' : false ≡ truth f = sym (value-reaching f false) ∙ always false in
+    let always = λ (b : Bool). let r = reaches f b in (sym r.2 ∙ h.decides r.0 r.1 (rw e tt)) in
+    let yes' : true ≡ truth f = always true in
+    let no' : false ≡ truth f = always false in
     cc
 some changes f [] h e = never_turned (truth f) h.turns
 some changes f (k ∷ S) h e = absurd (cc)
@@ -76,13 +75,10 @@ pub record Carries (opposite : Bool) (f g : Formula) : Type 0 where
   pub values : (w : List Bool) → IsValuation f w → value g w ≡ differ opposite (value f w)
 
 differ_twice : (b x : Bool) → differ b (differ b x) ≡ x
-differ_twice true true = refl
-differ_twice true false = refl
-differ_twice false x = refl
+differ_twice b x = grind arith
 
 differ_not : (b x : Bool) → differ b (not x) ≡ not (differ b x)
-differ_not true x = refl
-differ_not false x = refl
+differ_not b x = grind arith
 
 module _ {b : Bool} {f g : Formula} (c : Carries b f g) where
   same_size : size f ≡ size g

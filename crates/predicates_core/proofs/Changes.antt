@@ -135,20 +135,13 @@ module _ (b : Bool) where
 -- ---- an odd join
 
 differ_turned : (a b : Bool) → differ (not a) b ≡ not (differ a b)
-differ_turned true true = refl
-differ_turned true false = refl
-differ_turned false b = refl
+differ_turned a b = grind arith
 
 differ_other : (a b : Bool) → differ a (not b) ≡ not (differ a b)
-differ_other true b = refl
-differ_other false b = refl
+differ_other a b = grind arith
 
 other_turned : (a b c : Bool) → differ a b ≡ not (differ a c) → b ≡ not c
-other_turned false b c e = e
-other_turned true true false e = refl
-other_turned true false true e = refl
-other_turned true true true e = absurd (cc)
-other_turned true false false e = absurd (cc)
+other_turned a b c e = grind arith
 
 module _ (label : Label) (n : List ℕ) (f : Formula) (fs : Formulas) where
   after_odd : (L R : List ℕ) → AreIncreasing 0 (size f) L → after (Join Xor label (more n f fs)) (L ++ shifted (size f) R) ≡ differ (after f L) (after (Join Xor label fs) R)

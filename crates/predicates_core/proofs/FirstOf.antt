@@ -10,9 +10,9 @@ use Rattle.predicates_core.specs.Kinds.{Kind, reasons, changes, Does, First, Has
 use Rattle.predicates_core.proofs.Numbers.{shifted}
 use Rattle.predicates_core.proofs.Firsts.{first_of_both}
 use Rattle.predicates_core.proofs.BothKinds.{numbers, weak, one_first, Carries, carried_truth, same_first, first-Leaf}
-use Rattle.predicates_core.proofs.Selection.{IsSelected, FirstOfEach, many, selected, first_selected, IsChosen, SomeChosen}
+use Rattle.predicates_core.proofs.Selection.{IsSelected, FirstOfEach, selected, first_selected, IsChosen, SomeChosen}
 use Rattle.predicates_core.proofs.Values.{number_some, needed_is}
-use Rattle.predicates_core.proofs.Thresholds.{is_like, many_like, decisive, decisive_some, decided_by_parts}
+use Rattle.predicates_core.proofs.Thresholds.{and_value, or_value, is_like, many, many_like, decisive, decisive_some, decided_by_parts}
 use Rattle.predicates_core.proofs.Reasons.{two, all, reason_by_chosen, chosen_by_reason, odd_reason, chosen_odd}
 use Rattle.predicates_core.proofs.Changes.{turning, change_by_chosen, chosen_by_change, odd_change, chosen_turned}
 
@@ -78,52 +78,13 @@ some_of_threshold q k label fs each =
 -- ---- joins
 
 -- an `and` is the threshold of all its parts, an `or` that of one
-holding_within : (fs : Formulas) (w : List Bool) → holding fs w ≤ number_of_parts fs
-unfolding value
-holding_within (one n f) w = one_within (value f w)
-  where
-    one_within : (x : Bool) → one_if x ≤ 1
-    one_within true = omega arith
-    one_within false = omega arith
-holding_within (more n f fs) w = let ih = holding_within fs (drop (size f) w) in let o = one_within (value f (take (size f) w)) in omega (arith, ih, o)
-  where
-    one_within : (x : Bool) → one_if x ≤ 1
-    one_within true = omega arith
-    one_within false = omega arith
-
-all_of : (fs : Formulas) (w : List Bool) → value_of_parts And fs w ≡ nat_le (number_of_parts fs) (holding fs w)
-unfolding value
-all_of (one n f) w = alone (value f w)
-  where
-    alone : (x : Bool) → x ≡ nat_le 1 (one_if x)
-    alone true = refl
-    alone false = refl
-all_of (more n f fs) w = ap (λ z. value f (take (size f) w) && z) (all_of fs (drop (size f) w)) ∙ further (value f (take (size f) w)) (number_of_parts fs) (holding fs (drop (size f) w)) (holding_within fs (drop (size f) w))
-  where
-    further : (x : Bool) (n h : ℕ) → h ≤ n → (x && nat_le n h) ≡ nat_le (suc n) (one_if x + h)
-    further true n h within = grind (arith, nat_tests)
-    further false n h within = grind (arith, nat_tests)
-
-one_of : (fs : Formulas) (w : List Bool) → value_of_parts Or fs w ≡ nat_le 1 (holding fs w)
-unfolding value
-one_of (one n f) w = alone (value f w)
-  where
-    alone : (x : Bool) → x ≡ nat_le 1 (one_if x)
-    alone true = refl
-    alone false = refl
-one_of (more n f fs) w = ap (λ z. value f (take (size f) w) || z) (one_of fs (drop (size f) w)) ∙ further (value f (take (size f) w)) (holding fs (drop (size f) w))
-  where
-    further : (x : Bool) (h : ℕ) → (x || nat_le 1 h) ≡ nat_le 1 (one_if x + h)
-    further true h = grind (arith, nat_tests)
-    further false h = grind (arith, nat_tests)
-
 pub and_carries : (label : Label) (fs : Formulas) → Carries false (AtLeast (number_of_parts fs) label fs) (Join And label fs)
-unfolding actual value
-and_carries label fs = record { leaves = refl; values = λ w e. all_of fs w ∙ ap (λ z. nat_le z (holding fs w)) (sym (needed_is (number_of_parts fs) fs (number_some fs) (omega arith))) }
+unfolding actual
+and_carries label fs = record { leaves = refl; values = λ w e. and_value label fs w }
 
 pub or_carries : (label : Label) (fs : Formulas) → Carries false (AtLeast 1 label fs) (Join Or label fs)
-unfolding actual value
-or_carries label fs = record { leaves = refl; values = λ w e. one_of fs w ∙ ap (λ z. nat_le z (holding fs w)) (sym (needed_is 1 fs (omega arith) (number_some fs))) }
+unfolding actual
+or_carries label fs = record { leaves = refl; values = λ w e. or_value label fs w }
 
 -- of an odd join both the first part and the others, or the first part alone
 abbrev both_or_one : Kind → ℕ

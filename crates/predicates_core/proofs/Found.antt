@@ -1,5 +1,5 @@
 -- What is found where a truth is wanted, or the case of whichever the formulas have.
-use Rattle.std.proofs.Common.{◌≡◌, ℕ, Bool, true, false, List, [], ◌∷◌, Option, Some, None, codes, option_map, refl, sym, ◌∙◌, subst}
+use Rattle.std.proofs.Common.{◌≡◌, ℕ, Bool, true, false, List, [], ◌∷◌, Option, Some, None, codes, option_map, refl, sym, ◌∙◌, subst, arith}
 use Rattle.std.specs.Prelude.{not}
 use Rattle.predicates_core.specs.Label.{Fits}
 use Rattle.predicates_core.specs.Formula.{Formula, Leaf, Join, Not, Named, AtLeast, differ, truth, HasTruth}
@@ -44,16 +44,10 @@ found_false None t x = no_formula t x
 found_false (Some case) t x = case_by_result x
 
 pub is_opposite : (e h : Bool) → differ e h ≡ true → h ≡ not e
-is_opposite true true e = absurd (cc)
-is_opposite true false e = refl
-is_opposite false true e = refl
-is_opposite false false e = absurd (cc)
+is_opposite e h is = grind arith
 
 pub is_same : (e h : Bool) → differ e h ≡ false → h ≡ e
-is_same true true e = refl
-is_same true false e = absurd (cc)
-is_same false true e = absurd (cc)
-is_same false false e = refl
+is_same e h is = grind arith
 
 -- the case is wanted
 pub case_wanted : {q : Kind} {F : Formula → Type 0} (w : Option Bool) {h : Bool} {t : Tree CaseNode} → IsCaseBy q F h t → is_other w h ≡ false → IsFoundBy q F w (Some t)

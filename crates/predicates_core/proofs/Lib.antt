@@ -7,6 +7,7 @@ pub mod Numbers
 pub mod Joins
 pub mod Values
 pub mod Firsts
+pub mod Reaching
 pub mod BothKinds
 pub mod Selection
 pub mod Reasons

@@ -1,5 +1,6 @@
 -- The first leaves of two parts that are joined, from those of the parts.
-use Rattle.std.proofs.Common.{◌≡◌, ℕ, ◌+◌, ◌-◌, List, [], ◌++◌, Bool, true, false, suc, refl, sym, ap, subst, ◌∙◌, codes, inl, inr}
+use Rattle.std.proofs.Common.{◌≡◌, ℕ, ◌+◌, ◌-◌, List, [], ◌++◌, Bool, true, false, suc, refl, sym, ap, arith, subst, ◌∙◌, codes, inl, inr}
+use Rattle.std.specs.Prelude.{◌&&◌, ◌||◌}
 use mathlib.Core.Bool.{beq}
 use Rattle.predicates_core.specs.Label.{Label}
 use Rattle.predicates_core.specs.declared.custom.join.Operator.{Operator}
@@ -45,25 +46,13 @@ record IsRow (q : Kind) (op : Operator) (k : ℕ) (a b h : Bool) : Type 0 where
   pub right : right_counts q op a b ≡ true → beq b h ≡ true
   pub number : quota_of_two q h k (one_if (beq a h) + one_if (beq b h)) ≡ one_if (keeps op a b) + one_if (right_counts q op a b)
 
-row_of_and : (q : Kind) (a b : Bool) → IsRow q And 2 a b (apply And a b)
-row_of_and reasons true true = record { left = refl; right = λ e. refl; number = refl }
-row_of_and reasons true false = record { left = refl; right = λ e. refl; number = refl }
-row_of_and reasons false true = record { left = refl; right = λ e. absurd (cc); number = refl }
-row_of_and reasons false false = record { left = refl; right = λ e. refl; number = refl }
-row_of_and changes true true = record { left = refl; right = λ e. refl; number = refl }
-row_of_and changes true false = record { left = refl; right = λ e. refl; number = refl }
-row_of_and changes false true = record { left = refl; right = λ e. absurd (cc); number = refl }
-row_of_and changes false false = record { left = refl; right = λ e. refl; number = refl }
+row_of_and : (q : Kind) (a b : Bool) → IsRow q And 2 a b (a && b)
+row_of_and reasons a b = record { left = grind arith; right = λ e. grind arith; number = grind arith }
+row_of_and changes a b = record { left = grind arith; right = λ e. grind arith; number = grind arith }
 
-row_of_or : (q : Kind) (a b : Bool) → IsRow q Or 1 a b (apply Or a b)
-row_of_or reasons true true = record { left = refl; right = λ e. refl; number = refl }
-row_of_or reasons true false = record { left = refl; right = λ e. absurd (cc); number = refl }
-row_of_or reasons false true = record { left = refl; right = λ e. refl; number = refl }
-row_of_or reasons false false = record { left = refl; right = λ e. refl; number = refl }
-row_of_or changes true true = record { left = refl; right = λ e. refl; number = refl }
-row_of_or changes true false = record { left = refl; right = λ e. absurd (cc); number = refl }
-row_of_or changes false true = record { left = refl; right = λ e. refl; number = refl }
-row_of_or changes false false = record { left = refl; right = λ e. refl; number = refl }
+row_of_or : (q : Kind) (a b : Bool) → IsRow q Or 1 a b (a || b)
+row_of_or reasons a b = record { left = grind arith; right = λ e. grind arith; number = grind arith }
+row_of_or changes a b = record { left = grind arith; right = λ e. grind arith; number = grind arith }
 
 module _ (q : Kind) (label : Label) (l r : Formula) (S T : List ℕ) (s : First q l S) (t : First q r T) where
   abbrev FirstOfPair : Operator → Type 0

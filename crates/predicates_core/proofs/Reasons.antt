@@ -146,17 +146,10 @@ module _ (b : Bool) where
 -- ---- an odd join
 
 differ_left : (x a b : Bool) → differ x b ≡ differ a b → x ≡ a
-differ_left true true b e = refl
-differ_left false false b e = refl
-differ_left true false b e = absurd (never_turned b (sym e))
-differ_left false true b e = absurd (never_turned b e)
+differ_left x a b e = grind arith
 
 differ_right : (a x b : Bool) → differ a x ≡ differ a b → x ≡ b
-differ_right false x b e = e
-differ_right true true true e = refl
-differ_right true false false e = refl
-differ_right true true false e = absurd (cc)
-differ_right true false true e = absurd (cc)
+differ_right a x b e = grind arith
 
 -- the first part, and the join of the others
 abbrev pub two : List ℕ → Formula → Formula → Formulas

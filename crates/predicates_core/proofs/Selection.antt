@@ -9,6 +9,7 @@ use Rattle.predicates_core.specs.Shows.{left_share, right_share}
 use Rattle.predicates_core.proofs.Numbers.{shifted, no_numbers, increasing_joined, before_joined, before_behind, before_shifted}
 use Rattle.predicates_core.proofs.Firsts.{same_list}
 use Rattle.predicates_core.proofs.BothKinds.{numbers, some, strong}
+use Rattle.predicates_core.proofs.Thresholds.{many}
 use Rattle.predicates_core.proofs.Shown.{left_share-joined, right_share-joined, right_share-shifted}
 use Rattle.predicates_core.proofs.Turned.{among_shifted, among_front, among_back, none_among, left_among, right_among, none_of, among_both}
 
@@ -34,11 +35,6 @@ before_right n (x ∷ L) X (k ∷ R) h some none = inl (omega (arith, h.1))
 -- no leaves
 pub chosen_none : (n : ℕ) (L : List ℕ) → L ≡ [] → AreIncreasing 0 n L
 chosen_none n L e = subst (AreIncreasing 0 n) (sym e) (no_numbers n)
-
--- how many parts are such
-abbrev pub many : (Formula → Bool) → Formulas → ℕ
-many such (one n f) = one_if (such f)
-many such (more n f fs) = one_if (such f) + many such fs
 
 abbrev pub FirstOfEach : Kind → Formulas → Type 0
 FirstOfEach q (one name f) = (S : List ℕ) × First q f S

@@ -1,24 +1,21 @@
 -- How many of several parts have a truth, and how many decide a threshold.
-use Rattle.std.proofs.Common.{◌≡◌, ◌⊎◌, ℕ, suc, ◌+◌, ◌<◌, ◌≤◌, List, ◌++◌, Bool, true, false, take, drop, refl, sym, ap, inl, inr, arith}
-use Rattle.std.specs.Prelude.{not}
+use Rattle.std.proofs.Common.{◌≡◌, ◌⊎◌, ℕ, suc, ◌+◌, ◌<◌, ◌≤◌, List, ◌++◌, Bool, true, false, take, drop, refl, sym, ap, ◌∙◌, inl, inr, arith}
+use Rattle.std.specs.Prelude.{not, nat_le, ◌&&◌, ◌||◌}
 use Rattle.std.proofs.lemmas.List.{take_at, drop_at}
 use Rattle.std.proofs.lemmas.Bool.Decides.{nat_tests}
 use mathlib.Core.Bool.{beq}
 use Rattle.predicates_core.specs.Label.{Label}
-use Rattle.predicates_core.specs.Formula.{Formula, Formulas, one, more, AtLeast, number_of_parts, needed, enough_of, one_if, size, IsValuation, value, holding, actual, actual_of_parts, truth}
+use Rattle.predicates_core.specs.declared.custom.join.Operator.TheVariants.{And, Or}
+use Rattle.predicates_core.specs.Formula.{Formula, Formulas, one, more, Join, AtLeast, number_of_parts, needed, enough_of, one_if, size, IsValuation, value, value_of_parts, holding, actual, actual_of_parts, truth}
 use Rattle.predicates_core.proofs.Joins.{length-actual}
-use Rattle.predicates_core.proofs.Selection.{many}
-use Rattle.predicates_core.proofs.Values.{needed_some, needed_within, beq_same, beq_other}
+use Rattle.predicates_core.proofs.Values.{needed_some, needed_within, needed_is, number_some, beq_same, beq_other}
 
 abbrev pub like : Bool → Formulas → List Bool → ℕ
 like b (one name f) w = one_if (beq (value f w) b)
 like b (more name f fs) w = one_if (beq (value f (take (size f) w)) b) + like b fs (drop (size f) w)
 
 pub either : (x b : Bool) → (x ≡ b) ⊎ (x ≡ not b)
-either true true = inl refl
-either true false = inr refl
-either false true = inr refl
-either false false = inl refl
+either x b = grind arith
 
 pub one_like : (x b : Bool) → x ≡ b → one_if (beq x b) ≡ 1
 one_like x b e = ap one_if (beq_same x b e)
@@ -27,25 +24,16 @@ pub none_like : (x b : Bool) → x ≡ not b → one_if (beq x b) ≡ 0
 none_like x b e = ap one_if (beq_other x b e)
 
 pub one_at_most : (x b : Bool) → one_if (beq x b) ≤ 1
-one_at_most true true = omega arith
-one_at_most true false = omega arith
-one_at_most false true = omega arith
-one_at_most false false = omega arith
+one_at_most x b = grind arith
 
 pub like_by_one : (x b : Bool) → 1 ≤ one_if (beq x b) → x ≡ b
-like_by_one true true h = refl
-like_by_one false false h = refl
-like_by_one true false h = absurd (omega (arith, h))
-like_by_one false true h = absurd (omega (arith, h))
+like_by_one x b h = grind arith
 
 pub like_joined : (b : Bool) (n : List ℕ) (f : Formula) (fs : Formulas) (v w : List Bool) → IsValuation f v → like b (more n f fs) (v ++ w) ≡ one_if (beq (value f v) b) + like b fs w
 like_joined b n f fs v w e = rw (take_at v w (size f) e, drop_at v w (size f) e) refl
 
 one_each : (b x : Bool) → one_if (beq x b) + one_if (beq x (not b)) ≡ 1
-one_each true true = refl
-one_each true false = refl
-one_each false true = refl
-one_each false false = refl
+one_each b x = grind arith
 
 -- each part has the truth or its opposite
 pub like_all : (b : Bool) (fs : Formulas) (w : List Bool) → like b fs w + like (not b) fs w ≡ number_of_parts fs
@@ -53,8 +41,7 @@ like_all b (one n f) w = one_each b (value f w)
 like_all b (more n f fs) w = let ih = like_all b fs (drop (size f) w) in let e = one_each b (value f (take (size f) w)) in omega (arith, ih, e)
 
 same_one : (x : Bool) → one_if (beq x true) ≡ one_if x
-same_one true = refl
-same_one false = refl
+same_one x = grind arith
 
 like-holding : (fs : Formulas) (w : List Bool) → like true fs w ≡ holding fs w
 unfolding value
@@ -68,6 +55,11 @@ like-one b n f = refl
 pub like-actual : (b : Bool) (n : List ℕ) (f : Formula) (fs : Formulas) → like b (more n f fs) (actual_of_parts (more n f fs)) ≡ one_if (beq (truth f) b) + like b fs (actual_of_parts fs)
 unfolding actual truth
 like-actual b n f fs = like_joined b n f fs (actual f) (actual_of_parts fs) (length-actual f)
+
+-- how many parts are such
+abbrev pub many : (Formula → Bool) → Formulas → ℕ
+many such (one n f) = one_if (such f)
+many such (more n f fs) = one_if (such f) + many such fs
 
 -- the part has the truth
 abbrev pub is_like : Bool → Formula → Bool
@@ -117,3 +109,39 @@ decided_by_parts b k label fs is = reached_by b k label fs (actual_of_parts fs) 
 pub truth_by_parts : (b : Bool) (k : ℕ) (label : Label) (fs : Formulas) → decisive b k fs ≤ like b fs (actual_of_parts fs) → truth (AtLeast k label fs) ≡ b
 unfolding actual truth
 truth_by_parts b k label fs h = by_reached b k label fs (actual_of_parts fs) h
+
+-- an `and` is the threshold of all its parts, an `or` that of one
+one_within : (x : Bool) → one_if x ≤ 1
+one_within x = grind arith
+
+alone : (x : Bool) → x ≡ nat_le 1 (one_if x)
+alone x = grind (arith, nat_tests)
+
+one_further : (x : Bool) (h : ℕ) → (x || nat_le 1 h) ≡ nat_le 1 (one_if x + h)
+one_further x h = grind (arith, nat_tests)
+
+all_further : (x : Bool) (n h : ℕ) → h ≤ n → (x && nat_le n h) ≡ nat_le (suc n) (one_if x + h)
+all_further x n h within = grind (arith, nat_tests)
+
+holding_within : (fs : Formulas) (w : List Bool) → holding fs w ≤ number_of_parts fs
+unfolding value
+holding_within (one n f) w = one_within (value f w)
+holding_within (more n f fs) w = let ih = holding_within fs (drop (size f) w) in let o = one_within (value f (take (size f) w)) in omega (arith, ih, o)
+
+all_of : (fs : Formulas) (w : List Bool) → value_of_parts And fs w ≡ nat_le (number_of_parts fs) (holding fs w)
+unfolding value
+all_of (one n f) w = alone (value f w)
+all_of (more n f fs) w = ap (λ z. value f (take (size f) w) && z) (all_of fs (drop (size f) w)) ∙ all_further (value f (take (size f) w)) (number_of_parts fs) (holding fs (drop (size f) w)) (holding_within fs (drop (size f) w))
+
+one_of : (fs : Formulas) (w : List Bool) → value_of_parts Or fs w ≡ nat_le 1 (holding fs w)
+unfolding value
+one_of (one n f) w = alone (value f w)
+one_of (more n f fs) w = ap (λ z. value f (take (size f) w) || z) (one_of fs (drop (size f) w)) ∙ one_further (value f (take (size f) w)) (holding fs (drop (size f) w))
+
+pub and_value : (label : Label) (fs : Formulas) (w : List Bool) → value (Join And label fs) w ≡ value (AtLeast (number_of_parts fs) label fs) w
+unfolding value
+and_value label fs w = all_of fs w ∙ ap (λ z. nat_le z (holding fs w)) (sym (needed_is (number_of_parts fs) fs (number_some fs) (omega arith)))
+
+pub or_value : (label : Label) (fs : Formulas) (w : List Bool) → value (Join Or label fs) w ≡ value (AtLeast 1 label fs) w
+unfolding value
+or_value label fs w = one_of fs w ∙ ap (λ z. nat_le z (holding fs w)) (sym (needed_is 1 fs (omega arith) (number_some fs)))
