@@ -1,5 +1,5 @@
 -- A check without parts is one leaf, so its case shows what would turn it.
-use Rattle.std.proofs.Common.{◌≡◌, ℕ, List, Bool, Option, Result, Ok, Err, sym, subst}
+use Rattle.std.proofs.Common.{ℕ, List, Bool, Option, Result, Ok, Err, sym, subst}
 use Rattle.std.specs.Prelude.{OnOk}
 use Rattle.predicates_core.specs.Describe.{CaseNode}
 use Rattle.predicates_core.specs.Formula.{Formula, IsLeaf}
@@ -11,7 +11,7 @@ use Rattle.predicates_words.specs.Checks.{HasFormula}
 use Rattle.predicates_words.specs.Weight.{IsLeafCheck}
 use Rattle.predicates_words.specs.declared.check.answer.Sought.{Sought}
 use Rattle.predicates_words.specs.declared.check.answer.Sought.TheVariants.{Reason, Change}
-use Rattle.predicates_words.specs.declared.check.TextCheck.{TextCheck, Empty, Equals, Starts, Ends, Contains, Matches, Trim', Normalize', Not', And', Or', Xor'}
+use Rattle.predicates_words.specs.declared.check.TextCheck.{TextCheck, Empty, Equals, Starts, Ends, Contains, Matches}
 
 leaf_of_check : (c : TextCheck) (bytes : List ℕ) → IsLeafCheck c → (f : Formula) → HasFormula c bytes f → IsLeaf f
 leaf_of_check (Empty p) bytes is f h = subst IsLeaf (sym h.is) tt
@@ -20,12 +20,7 @@ leaf_of_check (Starts p) bytes is f h = subst IsLeaf (sym h.is) tt
 leaf_of_check (Ends p) bytes is f h = subst IsLeaf (sym h.is) tt
 leaf_of_check (Contains p) bytes is f h = subst IsLeaf (sym h.is) tt
 leaf_of_check (Matches p) bytes is f h = subst IsLeaf (sym h.is) tt
-leaf_of_check (Trim' _ inner) bytes is f h = absurd is
-leaf_of_check (Normalize' _ inner) bytes is f h = absurd is
-leaf_of_check (Not' _ inner) bytes is f h = absurd is
-leaf_of_check (And' _ left _ right) bytes is f h = absurd is
-leaf_of_check (Or' _ left _ right) bytes is f h = absurd is
-leaf_of_check (Xor' _ left _ right) bytes is f h = absurd is
+leaf_of_check _ bytes is f h = absurd is
 
 pub answer_of_leaf : {A E : Type 0} (s : Sought) (c : TextCheck) (bytes : List ℕ) (w : Option Bool) (r : Result A E) (found : Option (Tree CaseNode)) → IsLeafCheck c
     → OnOk r (IsFound (HasFormula c bytes) w found) → OnOk r (Finds s (HasFormula c bytes) w found)

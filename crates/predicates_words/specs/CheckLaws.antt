@@ -15,11 +15,7 @@ use Rattle.predicates_words.specs.declared.check.TextCheck.{TextCheck}
 
 pub check_text_fits : (c : TextCheck) (bytes : List ℕ) (f : Formula) → HasFormula c bytes f
     → FitsEntry (text_of f) (check_text c)
-check_text_fits (checks.Empty p) bytes f h = text_leaf_fits h
 check_text_fits (checks.Equals p) bytes f h = exactly_text_fits h
-check_text_fits (checks.Starts p) bytes f h = text_leaf_fits h
-check_text_fits (checks.Ends p) bytes f h = text_leaf_fits h
-check_text_fits (checks.Contains p) bytes f h = text_leaf_fits h
 check_text_fits (checks.Matches p) bytes f h = exactly_text_fits h
 check_text_fits (checks.Trim' _ inner) bytes f h = check_text_fits inner (trimmed_bytes bytes) f h
 check_text_fits (checks.Normalize' _ inner) bytes f h = check_text_fits inner (even_bytes bytes) f h
@@ -27,14 +23,11 @@ check_text_fits (checks.Not' _ inner) bytes f h = not_text_fits h
 check_text_fits (checks.And' _ left _ right) bytes f h = pair_text_fits h
 check_text_fits (checks.Or' _ left _ right) bytes f h = pair_text_fits h
 check_text_fits (checks.Xor' _ left _ right) bytes f h = pair_text_fits h
+check_text_fits _ bytes f h = text_leaf_fits h
 
 pub one_check : (c : TextCheck) (bytes : List ℕ) (f g : Formula) → HasFormula c bytes f
     → HasFormula c bytes g → f ≡ g
-one_check (checks.Empty p) bytes f g h k = one_text_leaf h k
 one_check (checks.Equals p) bytes f g h k = one_exactly h k
-one_check (checks.Starts p) bytes f g h k = one_text_leaf h k
-one_check (checks.Ends p) bytes f g h k = one_text_leaf h k
-one_check (checks.Contains p) bytes f g h k = one_text_leaf h k
 one_check (checks.Matches p) bytes f g h k = one_exactly h k
 one_check (checks.Trim' _ inner) bytes f g h k = one_check inner (trimmed_bytes bytes) f g h k
 one_check (checks.Normalize' _ inner) bytes f g h k = one_check inner (even_bytes bytes) f g h k
@@ -45,6 +38,7 @@ one_check (checks.Or' _ left _ right) bytes f g h k = one_pair (one_check left b
     (one_check right bytes) h k
 one_check (checks.Xor' _ left _ right) bytes f g h k = one_pair (one_check left bytes)
     (one_check right bytes) h k
+one_check _ bytes f g h k = one_text_leaf h k
 
 pub has_check_formula : (c : TextCheck) (bytes : List ℕ)
     → HasFormula c bytes (check_formula c bytes)

@@ -87,11 +87,6 @@ check_formula (checks.Xor' _ left _ right) bytes =
 
 -- `eval` takes no memory
 abbrev pub IsInfallibleCheck : TextCheck → Type 0
-IsInfallibleCheck (checks.Empty p) = Unit {0}
-IsInfallibleCheck (checks.Equals p) = Unit {0}
-IsInfallibleCheck (checks.Starts p) = Unit {0}
-IsInfallibleCheck (checks.Ends p) = Unit {0}
-IsInfallibleCheck (checks.Contains p) = Unit {0}
 IsInfallibleCheck (checks.Matches p) = ⊥
 IsInfallibleCheck (checks.Trim' _ inner) = ⊥
 IsInfallibleCheck (checks.Normalize' _ inner) = ⊥
@@ -99,6 +94,7 @@ IsInfallibleCheck (checks.Not' _ inner) = IsInfallibleCheck inner
 IsInfallibleCheck (checks.And' _ left _ right) = IsInfallibleCheck left × IsInfallibleCheck right
 IsInfallibleCheck (checks.Or' _ left _ right) = IsInfallibleCheck left × IsInfallibleCheck right
 IsInfallibleCheck (checks.Xor' _ left _ right) = IsInfallibleCheck left × IsInfallibleCheck right
+IsInfallibleCheck _ = Unit {0}
 
 -- there is a case: a node over the parts, with the text of the check
 abbrev pub IsNodeOf : TextCheck → Bool → List NamedCase → Option (Tree CaseNode) → Type 0

@@ -1,4 +1,4 @@
-use Rattle.std.proofs.Common.{rules, string_bytes}
+use Rattle.std.proofs.Common.{string_bytes}
 use Rattle.predicates_words.specs.Checks.{check_text, HasFormula}
 use Rattle.predicates_words.proofs.Joined.{nothing_of_not, found_of_not, nothing_in_turn, found_in_turn, found_of_node}
 use Rattle.predicates_words.proofs.check.TextCheck.+answer.Goals as goal
