@@ -1,5 +1,5 @@
 -- The changes of a threshold and of an odd join are those of so many parts.
-use Rattle.std.proofs.Common.{◌≡◌, ℕ, zero, suc, ◌+◌, ◌-◌, ◌≤◌, List, [], ◌++◌, Bool, true, false, refl, sym, ap, subst, ◌∙◌, arith, ⊎_elim}
+use Rattle.std.proofs.Common.{◌≡◌, ℕ, zero, suc, ◌+◌, ◌-◌, ◌≤◌, List, [], ◌++◌, Bool, true, refl, sym, ap, subst, ◌∙◌, arith, ⊎_elim}
 use Rattle.std.specs.Prelude.{not}
 use mathlib.Core.Bool.{beq}
 use Rattle.predicates_core.specs.Label.{Label}
@@ -12,7 +12,7 @@ use Rattle.predicates_core.proofs.Numbers.{shifted, split, increasing_joined}
 use Rattle.predicates_core.proofs.Joins.{joins, joined_value, joined_truth, length-actual}
 use Rattle.predicates_core.proofs.Values.{not-not, beq_same, same_truths}
 use Rattle.predicates_core.proofs.BothKinds.{never_turned}
-use Rattle.predicates_core.proofs.Selection.{IsChosen, chosen_numbers, SomeChosen, chosen_others, chosen_both, chosen_none}
+use Rattle.predicates_core.proofs.Selection.{IsChosen, chosen_numbers, SomeChosen, IsMadeOf, chosen_others, chosen_both, chosen_none}
 use Rattle.predicates_core.proofs.Reasons.{two, all}
 use Rattle.predicates_core.proofs.Thresholds.{like, like_all, is_like, either, one_like, none_like, one_at_most, like_by_one, like_joined, like-actual, decisive, decisive_all, by_reached, reached_by}
 use Rattle.predicates_core.proofs.Turned.{none_of, length-turned, turned-append, turned-left, turned-right, some_turned}
@@ -121,16 +121,15 @@ module _ (b : Bool) where
         let enough = reached_by b k label fs (actual_of_parts fs) is in
         omega (arith, all, both, enough)
 
-    pub change_by_chosen : (S : List ℕ) → IsChosen changes (is_like b) (turning k fs) fs S → IsChange (AtLeast k label fs) S
+    pub made_of_threshold : IsMadeOf changes (is_like b) (turning k fs) fs (AtLeast k label fs)
     unfolding size actual
-    change_by_chosen S c = let e = after_chosen (turning k fs) fs S c in record {
-      numbers = chosen_numbers changes (is_like b) (turning k fs) fs S c;
-      turns = by_reached (not b) k label fs (turned S (actual_of_parts fs)) (omega (arith, e, number)) ∙ ap not (sym is);
+    made_of_threshold = record {
+      does = λ S c. let e = after_chosen (turning k fs) fs S c in record {
+        numbers = chosen_numbers changes (is_like b) (turning k fs) fs S c;
+        turns = by_reached (not b) k label fs (turned S (actual_of_parts fs)) (omega (arith, e, number)) ∙ ap not (sym is);
+      };
+      chosen = λ S c. let e = reached_by (not b) k label fs (turned S (actual_of_parts fs)) (c.turns ∙ ap not is) in chosen_by_turned (turning k fs) fs S c.numbers (omega (arith, e, number));
     }
-
-    pub chosen_by_change : (S : List ℕ) → IsChange (AtLeast k label fs) S → SomeChosen changes (is_like b) (turning k fs) fs S
-    unfolding size actual
-    chosen_by_change S c = let e = reached_by (not b) k label fs (turned S (actual_of_parts fs)) (c.turns ∙ ap not is) in chosen_by_turned (turning k fs) fs S c.numbers (omega (arith, e, number))
 
 -- ---- an odd join
 
@@ -156,14 +155,14 @@ module _ (label : Label) (n : List ℕ) (f : Formula) (fs : Formulas) where
     turns = ap (after (Join Xor label (more n f fs))) e ∙ after_odd L R il ∙ turns ∙ ap not (sym (joined_truth (joins Xor label n f fs)));
   }
 
-  pub odd_change : (S : List ℕ) → IsChosen changes all 1 (two n f (Join Xor label fs)) S → IsChange (Join Xor label (more n f fs)) S
+  odd_change : (S : List ℕ) → IsChosen changes all 1 (two n f (Join Xor label fs)) S → IsChange (Join Xor label (more n f fs)) S
   unfolding size
   odd_change S h = ⊎_elim
       (λ a. turned_odd S h.0 h.1 h.2 a.1.numbers (chosen_none (size_of_parts fs) h.1 a.2) (cc (a.1.turns, nothing_after (Join Xor label fs) h.1 a.2, differ_turned (truth f) (truth (Join Xor label fs)))))
       (λ x. turned_odd S h.0 h.1 h.2 (chosen_none (size f) h.0 x.0) x.1.1.numbers (cc (x.1.1.turns, nothing_after f h.0 x.0, differ_other (truth f) (truth (Join Xor label fs)))))
       h.3
 
-  pub chosen_turned : (S : List ℕ) → IsChange (Join Xor label (more n f fs)) S → SomeChosen changes all 1 (two n f (Join Xor label fs)) S
+  chosen_turned : (S : List ℕ) → IsChange (Join Xor label (more n f fs)) S → SomeChosen changes all 1 (two n f (Join Xor label fs)) S
   unfolding size
   chosen_turned S h =
       let s = split 0 (size f) (size_of_parts fs) S (omega arith) h.numbers in
@@ -174,3 +173,6 @@ module _ (label : Label) (n : List ℕ) (f : Formula) (fs : Formulas) where
       (s.1, (refl, record { numbers = s.4; turns = other_turned (truth f) (after (Join Xor label fs) s.1) (truth (Join Xor label fs)) (cc (same, turns)) }, refl), λ k c. c))
       (λ other. chosen_both changes all 0 n f (one n (Join Xor label fs)) S s.0 s.1 s.2 refl (record { numbers = s.3; turns = other }) ([], refl, none_of s.1))
       (either (after f s.0) (truth f))
+
+  pub made_of_odd : IsMadeOf changes all 1 (two n f (Join Xor label fs)) (Join Xor label (more n f fs))
+  made_of_odd = record { does = odd_change; chosen = chosen_turned }

@@ -1,20 +1,18 @@
 -- The first leaves of each kind of formula, from those of its parts, and that each has exactly one list.
-use Rattle.std.proofs.Common.{◌≡◌, ℕ, suc, ◌+◌, ◌≤◌, List, [], ◌++◌, Bool, true, false, take, drop, refl, sym, ap, ◌∙◌, arith, inl}
-use Rattle.std.specs.Prelude.{nat_le, ◌&&◌, ◌||◌}
-use Rattle.std.proofs.lemmas.Bool.Decides.{nat_tests}
+use Rattle.std.proofs.Common.{◌≡◌, ℕ, ◌≤◌, List, [], ◌++◌, Bool, true, false, refl, arith, inl}
 use Rattle.predicates_core.specs.Label.{Label, Product}
 use Rattle.predicates_core.specs.declared.custom.join.Operator.{Operator}
 use Rattle.predicates_core.specs.declared.custom.join.Operator.TheVariants.{And, Or, Xor}
-use Rattle.predicates_core.specs.Formula.{Formula, Formulas, one, more, Leaf, Join, Not, Named, AtLeast, number_of_parts, one_if, size, holding, value, value_of_parts, actual, truth, with_product}
-use Rattle.predicates_core.specs.Kinds.{Kind, reasons, changes, Does, First, HasOneFirst}
+use Rattle.predicates_core.specs.Formula.{Formula, Formulas, one, more, Leaf, Join, Not, Named, AtLeast, number_of_parts, size, value, actual, truth, with_product}
+use Rattle.predicates_core.specs.Kinds.{Kind, reasons, changes, First, HasOneFirst}
 use Rattle.predicates_core.proofs.Numbers.{shifted}
-use Rattle.predicates_core.proofs.Firsts.{first_of_both}
-use Rattle.predicates_core.proofs.BothKinds.{numbers, weak, one_first, Carries, carried_truth, same_first, first-Leaf}
-use Rattle.predicates_core.proofs.Selection.{IsSelected, FirstOfEach, selected, first_selected, IsChosen, SomeChosen}
-use Rattle.predicates_core.proofs.Values.{number_some, needed_is}
+use Rattle.predicates_core.proofs.BothKinds.{Carries, carried_truth, same_first, first-Leaf, first_unique}
+use Rattle.predicates_core.proofs.Selection.{IsSelected, FirstOfEach, selected, IsMadeOf, first_made}
 use Rattle.predicates_core.proofs.Thresholds.{and_value, or_value, is_like, many, many_like, decisive, decisive_some, decided_by_parts}
-use Rattle.predicates_core.proofs.Reasons.{two, all, reason_by_chosen, chosen_by_reason, odd_reason, chosen_odd}
-use Rattle.predicates_core.proofs.Changes.{turning, change_by_chosen, chosen_by_change, odd_change, chosen_turned}
+use Rattle.predicates_core.proofs.Reasons
+use Rattle.predicates_core.proofs.Reasons.{two, all}
+use Rattle.predicates_core.proofs.Changes
+use Rattle.predicates_core.proofs.Changes.{turning}
 
 -- ---- the same function of the same leaves, or its opposite
 
@@ -51,17 +49,13 @@ quota reasons b k fs = decisive b k fs
 quota changes b k fs = turning b k fs
 
 module _ (b : Bool) (k : ℕ) (label : Label) (fs : Formulas) (is : truth (AtLeast k label fs) ≡ b) where
-  does_chosen : (q : Kind) (S : List ℕ) → IsChosen q (is_like b) (quota q b k fs) fs S → Does q (AtLeast k label fs) S
-  does_chosen reasons = reason_by_chosen b k label fs is
-  does_chosen changes = change_by_chosen b k label fs is
-
-  chosen_does : (q : Kind) (S : List ℕ) → Does q (AtLeast k label fs) S → SomeChosen q (is_like b) (quota q b k fs) fs S
-  chosen_does reasons = chosen_by_reason b k label fs is
-  chosen_does changes = chosen_by_change b k label fs is
+  made_of_threshold : (q : Kind) → IsMadeOf q (is_like b) (quota q b k fs) fs (AtLeast k label fs)
+  made_of_threshold reasons = Reasons.made_of_threshold b k label fs is
+  made_of_threshold changes = Changes.made_of_threshold b k label fs is
 
   -- the first so many parts with its truth, each by its own first leaves
   pub first_of_threshold : (q : Kind) (S : List ℕ) → IsSelected q (is_like b) (quota q b k fs) fs S → First q (AtLeast k label fs) S
-  first_of_threshold q S h = weak q (AtLeast k label fs) S (first_of_both (size (AtLeast k label fs)) (IsChosen q (is_like b) (quota q b k fs) fs) (Does q (AtLeast k label fs)) (numbers q (AtLeast k label fs)) (does_chosen q) (chosen_does q) S (first_selected q (is_like b) (quota q b k fs) fs S h))
+  first_of_threshold q = first_made q (is_like b) (quota q b k fs) fs (AtLeast k label fs) (made_of_threshold q)
 
   quota_within : (q : Kind) → quota q b k fs ≤ many (is_like b) fs
   quota_within reasons = let m = many_like b fs in let h = decided_by_parts b k label fs is in omega (arith, m, h)
@@ -96,22 +90,16 @@ odd_leaves reasons n S T = S ++ shifted n T
 odd_leaves changes n S T = S ++ []
 
 module _ (label : Label) (n : List ℕ) (f : Formula) (fs : Formulas) where
-  does_odd : (q : Kind) (S : List ℕ) → IsChosen q all (both_or_one q) (two n f (Join Xor label fs)) S → Does q (Join Xor label (more n f fs)) S
-  does_odd reasons = odd_reason label n f fs
-  does_odd changes = odd_change label n f fs
-
-  odd_does : (q : Kind) (S : List ℕ) → Does q (Join Xor label (more n f fs)) S → SomeChosen q all (both_or_one q) (two n f (Join Xor label fs)) S
-  odd_does reasons = chosen_odd label n f fs
-  odd_does changes = chosen_turned label n f fs
+  made_of_odd : (q : Kind) → IsMadeOf q all (both_or_one q) (two n f (Join Xor label fs)) (Join Xor label (more n f fs))
+  made_of_odd reasons = Reasons.made_of_odd label n f fs
+  made_of_odd changes = Changes.made_of_odd label n f fs
 
   odd_selected : (q : Kind) (S T : List ℕ) → First q f S → First q (Join Xor label fs) T → IsSelected q all (both_or_one q) (two n f (Join Xor label fs)) (odd_leaves q (size f) S T)
   odd_selected reasons S T h g = (S, T, refl, inl (refl, h, (refl, g, refl)))
   odd_selected changes S T h g = (S, [], refl, inl (refl, h, refl))
 
   pub first_of_odd : (q : Kind) (S T : List ℕ) → First q f S → First q (Join Xor label fs) T → First q (Join Xor label (more n f fs)) (odd_leaves q (size f) S T)
-  first_of_odd q S T h g = weak q (Join Xor label (more n f fs)) (odd_leaves q (size f) S T)
-      (first_of_both (size (Join Xor label (more n f fs))) (IsChosen q all (both_or_one q) (two n f (Join Xor label fs))) (Does q (Join Xor label (more n f fs))) (numbers q (Join Xor label (more n f fs))) (does_odd q) (odd_does q) (odd_leaves q (size f) S T)
-      (first_selected q all (both_or_one q) (two n f (Join Xor label fs)) (odd_leaves q (size f) S T) (odd_selected q S T h g)))
+  first_of_odd q S T h g = first_made q all (both_or_one q) (two n f (Join Xor label fs)) (Join Xor label (more n f fs)) (made_of_odd q) (odd_leaves q (size f) S T) (odd_selected q S T h g)
 
 -- ---- each formula has exactly one
 
@@ -137,4 +125,4 @@ mutual
       (odd_leaves q (size f) a.0 b.0, first_of_odd label name f fs q a.0 b.0 a.1 b.1)
 
 pub one_list : (q : Kind) (f : Formula) → HasOneFirst q f
-one_list q f = let s = some_first q f in (s.0, s.1, λ other h. one_first q f other s.0 h s.1)
+one_list q f = let s = some_first q f in (s.0, s.1, λ other h. first_unique h s.1)

@@ -1,5 +1,5 @@
 -- What is found where a truth is wanted, or the case of whichever the formulas have.
-use Rattle.std.proofs.Common.{◌≡◌, ℕ, Bool, true, false, List, [], ◌∷◌, Option, Some, None, codes, option_map, refl, sym, ◌∙◌, subst, arith}
+use Rattle.std.proofs.Common.{◌≡◌, ℕ, Bool, true, false, List, [], ◌∷◌, Option, Some, None, codes, option_map, sym, ◌∙◌, subst, arith}
 use Rattle.std.specs.Prelude.{not}
 use Rattle.predicates_core.specs.Label.{Fits}
 use Rattle.predicates_core.specs.Formula.{Formula, Leaf, Join, Not, Named, AtLeast, differ, truth, HasTruth}

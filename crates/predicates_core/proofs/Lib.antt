@@ -6,14 +6,11 @@ pub use Rattle.predicates_reflection.proofs.StaticReads
 pub mod Numbers
 pub mod Joins
 pub mod Values
-pub mod Firsts
-pub mod Reaching
 pub mod BothKinds
 pub mod Selection
 pub mod Reasons
 pub mod Changes
 pub mod FirstOf
-pub mod Pairs
 pub mod Thresholds
 pub mod Shown
 pub mod CombinedLemmas
@@ -22,10 +19,9 @@ pub mod Details
 pub mod PresentCases
 pub mod Added
 pub mod Found
-pub mod EnoughChildren
+pub mod Children
 pub mod Alike
 pub mod OneCase
-pub mod OneChild
 pub mod Asked
 pub mod Fewer
 pub mod Several

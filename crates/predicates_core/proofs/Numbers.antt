@@ -1,9 +1,8 @@
--- Increasing lists of numbers, and places at which two valuations are equal.
-use Rattle.std.proofs.Common.{◌≡◌, ℕ, suc, ◌+◌, ◌-◌, ◌<◌, ◌≤◌, List, [], ◌∷◌, ◌++◌, Bool, false, length, get_or, refl, sym, ap, ◌∙◌, arith, inl, inr, ⊎_elim}
-use Rattle.std.proofs.lemmas.List.{get_or_append_left, get_or-append-add}
+-- Increasing lists of numbers, and which of two comes before the other.
+use Rattle.std.proofs.Common.{◌≡◌, ℕ, suc, ◌+◌, ◌-◌, ◌≤◌, List, [], ◌∷◌, ◌++◌, refl, ap, arith, inl, inr, ⊎_elim}
 use Rattle.std.proofs.lemmas.Bool.{cases_lt}
 use Rattle.predicates_core.specs.First.{ComesBefore}
-use Rattle.predicates_core.specs.Reason.{AreIncreasing, AreEqualAt}
+use Rattle.predicates_core.specs.Reason.{AreIncreasing}
 
 -- the numbers, each larger by n
 abbrev pub shifted : ℕ → List ℕ → List ℕ
@@ -50,56 +49,6 @@ split low n m (k ∷ rest) l h = ⊎_elim
     (λ below. let ih = split (suc k) n m rest below h.2 in (k ∷ ih.0, ih.1, ap (λ z. k ∷ z) ih.2, (h.0, below, ih.3), ih.4))
     (λ above. let r = unshifted 0 n m (k ∷ rest) (omega arith, h.1, h.2) in ([], r.0, r.1, tt, r.2))
     (cases_lt k n)
-
-pub equal_at_itself : (S : List ℕ) (w : List Bool) → AreEqualAt S w w
-unfolding AreEqualAt
-equal_at_itself [] w = tt
-equal_at_itself (k ∷ rest) w = (refl, equal_at_itself rest w)
-
-pub equal_at_both : (L R : List ℕ) (v w : List Bool) → AreEqualAt L v w → AreEqualAt R v w → AreEqualAt (L ++ R) v w
-unfolding AreEqualAt
-equal_at_both [] R v w hl hr = hr
-equal_at_both (k ∷ L) R v w hl hr = (hl.0, equal_at_both L R v w hl.1 hr)
-
-pub equal_at_first : (L R : List ℕ) (v w : List Bool) → AreEqualAt (L ++ R) v w → AreEqualAt L v w
-unfolding AreEqualAt
-equal_at_first [] R v w h = tt
-equal_at_first (k ∷ L) R v w h = (h.0, equal_at_first L R v w h.1)
-
-pub equal_at_second : (L R : List ℕ) (v w : List Bool) → AreEqualAt (L ++ R) v w → AreEqualAt R v w
-unfolding AreEqualAt
-equal_at_second [] R v w h = h
-equal_at_second (k ∷ L) R v w h = equal_at_second L R v w h.1
-
--- the left part's places are equal just where they are in the whole
-pub equal_at_left : (low : ℕ) (L : List ℕ) (v₁ v₂ w₁ w₂ : List Bool) → length w₁ ≡ length v₁ → AreIncreasing low (length v₁) L → AreEqualAt L v₁ w₁ → AreEqualAt L (v₁ ++ v₂) (w₁ ++ w₂)
-unfolding AreIncreasing AreEqualAt
-equal_at_left low [] v₁ v₂ w₁ w₂ e i h = tt
-equal_at_left low (k ∷ L) v₁ v₂ w₁ w₂ e i h =
-    let lw : k < length w₁ = omega (arith, i.1) in
-    (get_or_append_left v₁ v₂ false k i.1 ∙ h.0 ∙ sym (get_or_append_left w₁ w₂ false k lw), equal_at_left (suc k) L v₁ v₂ w₁ w₂ e i.2 h.1)
-
-pub left_equal_at : (low : ℕ) (L : List ℕ) (v₁ v₂ w₁ w₂ : List Bool) → length w₁ ≡ length v₁ → AreIncreasing low (length v₁) L → AreEqualAt L (v₁ ++ v₂) (w₁ ++ w₂) → AreEqualAt L v₁ w₁
-unfolding AreIncreasing AreEqualAt
-left_equal_at low [] v₁ v₂ w₁ w₂ e i h = tt
-left_equal_at low (k ∷ L) v₁ v₂ w₁ w₂ e i h =
-    let lw : k < length w₁ = omega (arith, i.1) in
-    (sym (get_or_append_left v₁ v₂ false k i.1) ∙ h.0 ∙ get_or_append_left w₁ w₂ false k lw, left_equal_at (suc k) L v₁ v₂ w₁ w₂ e i.2 h.1)
-
-at_right : (n : ℕ) (v₁ v₂ : List Bool) (k : ℕ) → length v₁ ≡ n → get_or (v₁ ++ v₂) (n + k) false ≡ get_or v₂ k false
-at_right n v₁ v₂ k e = rw (← e) (get_or-append-add v₁ v₂ k false)
-
-pub equal_at_right : (n : ℕ) (R : List ℕ) (v₁ v₂ w₁ w₂ : List Bool) → length v₁ ≡ n → length w₁ ≡ n → AreEqualAt R v₂ w₂ → AreEqualAt (shifted n R) (v₁ ++ v₂) (w₁ ++ w₂)
-unfolding AreEqualAt
-equal_at_right n [] v₁ v₂ w₁ w₂ ev ew h = tt
-equal_at_right n (k ∷ R) v₁ v₂ w₁ w₂ ev ew h =
-    (at_right n v₁ v₂ k ev ∙ h.0 ∙ sym (at_right n w₁ w₂ k ew), equal_at_right n R v₁ v₂ w₁ w₂ ev ew h.1)
-
-pub right_equal_at : (n : ℕ) (R : List ℕ) (v₁ v₂ w₁ w₂ : List Bool) → length v₁ ≡ n → length w₁ ≡ n → AreEqualAt (shifted n R) (v₁ ++ v₂) (w₁ ++ w₂) → AreEqualAt R v₂ w₂
-unfolding AreEqualAt
-right_equal_at n [] v₁ v₂ w₁ w₂ ev ew h = tt
-right_equal_at n (k ∷ R) v₁ v₂ w₁ w₂ ev ew h =
-    (sym (at_right n v₁ v₂ k ev) ∙ h.0 ∙ at_right n w₁ w₂ k ew, right_equal_at n R v₁ v₂ w₁ w₂ ev ew h.1)
 
 pub before_joined : (S T X Y : List ℕ) → ComesBefore S T → ((k : ℕ) (rest : List ℕ) → T ≡ S ++ k ∷ rest → ⊥) → ComesBefore (S ++ X) (T ++ Y)
 unfolding ComesBefore

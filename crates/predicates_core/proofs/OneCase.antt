@@ -9,7 +9,7 @@ use Rattle.predicates_core.specs.Formula.{Formula, Formulas, one, more, Leaf, Jo
 use Rattle.predicates_core.specs.Kinds.{Kind, reasons}
 use Rattle.predicates_core.specs.Shows.{FitsNode, ShowsPart, ShowsNumbered, numbered, tells_numbers, Shows, ShowsParts, Explains, left_share, right_share}
 use Rattle.predicates_core.specs.Alike.{IsStated, HasStatedLabels, HaveStatedLabels}
-use Rattle.predicates_core.proofs.Firsts.{first_unique}
+use Rattle.predicates_core.proofs.BothKinds.{first_unique}
 
 one_value : (entry : Entry) (x y : List ℕ) → IsSome entry → Fits entry x → Fits entry y → x ≡ y
 one_value None x y given fx fy = absurd (cc)

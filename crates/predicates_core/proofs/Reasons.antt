@@ -1,20 +1,22 @@
 -- The reasons of a threshold and of an odd join are those of so many parts.
 use Rattle.std.proofs.Common.{◌≡◌, ◌⊎◌, ℕ, zero, suc, ◌+◌, ◌≤◌, List, [], ◌∷◌, ◌++◌, Bool, true, false, length, take, drop, get_or, refl, sym, ap, subst, ◌∙◌, arith, inl, inr, ⊎_elim, length-append, length-drop}
 use Rattle.std.specs.Prelude.{not}
-use Rattle.std.proofs.lemmas.List.{take-append-drop, length-take-le, nil_from_length}
+use Rattle.std.specs.List.{Contains}
+use Rattle.std.proofs.lemmas.List.{take-append-drop, length-take-le, nil_from_length, get_or_append_left, get_or-append-add}
+use Rattle.std.proofs.lemmas.List.Elements.{Contains-append_left, Contains-append_right, Contains-append_cases}
 use mathlib.Core.Bool.{beq}
 use Rattle.predicates_core.specs.Label.{Label}
 use Rattle.predicates_core.specs.declared.custom.join.Operator.TheVariants.{Xor}
 use Rattle.predicates_core.specs.Formula.{Formula, Formulas, one, more, Join, AtLeast, one_if, differ, size, size_of_parts, IsValuation, value, actual, actual_of_parts, truth}
 use Rattle.predicates_core.specs.Reason.{AreIncreasing, AreEqualAt, IsReason}
 use Rattle.predicates_core.specs.Kinds.{reasons}
-use Rattle.predicates_core.proofs.Numbers.{shifted, split, increasing_joined, equal_at_itself, equal_at_both, equal_at_first, equal_at_second, equal_at_left, left_equal_at, equal_at_right, right_equal_at}
+use Rattle.predicates_core.proofs.Numbers.{shifted, split, increasing_joined}
 use Rattle.predicates_core.proofs.Joins.{joins, joined_value, joined_truth, length-actual, length-actual_of_parts}
 use Rattle.predicates_core.proofs.Values.{beq_same, same_truths}
 use Rattle.predicates_core.proofs.BothKinds.{never_turned}
-use Rattle.predicates_core.proofs.Selection.{IsChosen, chosen_numbers, SomeChosen, chosen_others, chosen_both, chosen_none}
+use Rattle.predicates_core.proofs.Selection.{IsChosen, chosen_numbers, SomeChosen, IsMadeOf, chosen_others, chosen_both, chosen_none}
 use Rattle.predicates_core.proofs.Thresholds.{like, is_like, either, one_like, none_like, one_at_most, like_by_one, like_joined, decisive, by_reached, reached_by}
-use Rattle.predicates_core.proofs.Turned.{none_of}
+use Rattle.predicates_core.proofs.Turned.{none_of, contained_below, contains_shifted, unshifted_contains, equal_there, equal_by, equal_at_itself}
 
 -- ---- whether leaves are a reason
 
@@ -61,24 +63,36 @@ reason_or_not f S i = ⊎_elim
 -- ---- a valuation of the first part and of the others
 
 module _ (f : Formula) (fs : Formulas) (L R : List ℕ) (il : AreIncreasing 0 (size f) L) where
+  left_value : (v w : List Bool) → IsValuation f v → (k : ℕ) → Contains L k → get_or (v ++ w) k false ≡ get_or v k false
+  left_value v w e k c = get_or_append_left v w false k (let below = contained_below 0 (size f) k L il c in omega (arith, below, e))
+
+  right_value : (v w : List Bool) → IsValuation f v → (k : ℕ) → get_or (v ++ w) (size f + k) false ≡ get_or w k false
+  right_value v w e k = rw (← e) (get_or-append-add v w k false)
+
+  abbrev of_left : (k : ℕ) → Contains L k → get_or (actual f ++ actual_of_parts fs) k false ≡ get_or (actual f) k false
+  of_left = left_value (actual f) (actual_of_parts fs) (length-actual f)
+
+  abbrev of_right : (k : ℕ) → get_or (actual f ++ actual_of_parts fs) (size f + k) false ≡ get_or (actual_of_parts fs) k false
+  of_right = right_value (actual f) (actual_of_parts fs) (length-actual f)
+
   cut_equal : (w : List Bool) → length w ≡ size f + size_of_parts fs → AreEqualAt (L ++ shifted (size f) R) w (actual f ++ actual_of_parts fs)
       → IsValuation f (take (size f) w) × (length (drop (size f) w) ≡ size_of_parts fs) × AreEqualAt L (take (size f) w) (actual f) × AreEqualAt R (drop (size f) w) (actual_of_parts fs)
   cut_equal w e same =
       let v₁ : List Bool = take (size f) w in
       let v₂ : List Bool = drop (size f) w in
       let e₁ : length v₁ ≡ size f = length-take-le (size f) w (omega arith) in
-      let e₂ : length v₂ ≡ size_of_parts fs = omega (arith, length-drop (size f) w) in
-      let cut : AreEqualAt (L ++ shifted (size f) R) (v₁ ++ v₂) (actual f ++ actual_of_parts fs) = rw (take-append-drop (size f) w) same in (
+      let at = λ (k : ℕ) (c : Contains (L ++ shifted (size f) R) k). (equal_there (L ++ shifted (size f) R) (v₁ ++ v₂) (actual f ++ actual_of_parts fs) k c (rw (take-append-drop (size f) w) same)) in (
         e₁,
-        e₂,
-        left_equal_at 0 L v₁ v₂ (actual f) (actual_of_parts fs) (length-actual f ∙ sym e₁) (rw e₁ il) (equal_at_first L (shifted (size f) R) (v₁ ++ v₂) (actual f ++ actual_of_parts fs) cut),
-        right_equal_at (size f) R v₁ v₂ (actual f) (actual_of_parts fs) e₁ (length-actual f) (equal_at_second L (shifted (size f) R) (v₁ ++ v₂) (actual f ++ actual_of_parts fs) cut),
+        omega (arith, length-drop (size f) w),
+        equal_by L v₁ (actual f) (λ k c. sym (left_value v₁ v₂ e₁ k c) ∙ at k (Contains-append_left L (shifted (size f) R) k c) ∙ of_left k c),
+        equal_by R v₂ (actual_of_parts fs) (λ k c. sym (right_value v₁ v₂ e₁ k) ∙ at (size f + k) (Contains-append_right L (shifted (size f) R) (size f + k) (contains_shifted (size f) k R c)) ∙ of_right k),
       )
 
   joined_equal : (v w : List Bool) → IsValuation f v → AreEqualAt L v (actual f) → AreEqualAt R w (actual_of_parts fs) → AreEqualAt (L ++ shifted (size f) R) (v ++ w) (actual f ++ actual_of_parts fs)
-  joined_equal v w e sv sw = equal_at_both L (shifted (size f) R) (v ++ w) (actual f ++ actual_of_parts fs)
-      (equal_at_left 0 L v w (actual f) (actual_of_parts fs) (length-actual f ∙ sym e) (rw e il) sv)
-      (equal_at_right (size f) R v w (actual f) (actual_of_parts fs) e (length-actual f) sw)
+  joined_equal v w e sv sw = equal_by (L ++ shifted (size f) R) (v ++ w) (actual f ++ actual_of_parts fs) (λ k c. ⊎_elim
+      (λ a. left_value v w e k a ∙ equal_there L v (actual f) k a sv ∙ sym (of_left k a))
+      (λ b. let u = unshifted_contains (size f) k R b in rw u.1 (right_value v w e u.0 ∙ equal_there R w (actual_of_parts fs) u.0 u.2 sw ∙ sym (of_right u.0)))
+      (Contains-append_cases L (shifted (size f) R) k c))
 
 -- ---- a threshold
 
@@ -131,17 +145,15 @@ module _ (b : Bool) where
       (λ is. others (chosen_by_enough (suc m) fs s.1 s.4 (λ w ew sw. let e = both (actual f) w (length-actual f) ew (equal_at_itself s.0 (actual f)) sw in let z = none_like (value f (actual f)) b is in omega (arith, e, z))))
       (either (truth f) b)
 
-  module _ (k : ℕ) (label : Label) (fs : Formulas) (is : truth (AtLeast k label fs) ≡ b) where
-    pub reason_by_chosen : (S : List ℕ) → IsChosen reasons (is_like b) (decisive b k fs) fs S → IsReason (AtLeast k label fs) S
-    unfolding size actual
-    reason_by_chosen S c = record {
+  pub made_of_threshold : (k : ℕ) (label : Label) (fs : Formulas) → truth (AtLeast k label fs) ≡ b → IsMadeOf reasons (is_like b) (decisive b k fs) fs (AtLeast k label fs)
+  unfolding size actual
+  made_of_threshold k label fs is = record {
+    does = λ S c. record {
       numbers = chosen_numbers reasons (is_like b) (decisive b k fs) fs S c;
       decides = λ w e same. by_reached b k label fs w (enough_by_chosen (decisive b k fs) fs S c w e same) ∙ sym is;
-    }
-
-    pub chosen_by_reason : (S : List ℕ) → IsReason (AtLeast k label fs) S → SomeChosen reasons (is_like b) (decisive b k fs) fs S
-    unfolding size actual
-    chosen_by_reason S r = chosen_by_enough (decisive b k fs) fs S r.numbers (λ w e same. reached_by b k label fs w (r.decides w e same ∙ is))
+    };
+    chosen = λ S r. chosen_by_enough (decisive b k fs) fs S r.numbers (λ w e same. reached_by b k label fs w (r.decides w e same ∙ is));
+  }
 
 -- ---- an odd join
 
@@ -159,7 +171,7 @@ abbrev pub all : Formula → Bool
 all f = true
 
 module _ (label : Label) (n : List ℕ) (f : Formula) (fs : Formulas) where
-  pub odd_reason : (S : List ℕ) → IsChosen reasons all 2 (two n f (Join Xor label fs)) S → IsReason (Join Xor label (more n f fs)) S
+  odd_reason : (S : List ℕ) → IsChosen reasons all 2 (two n f (Join Xor label fs)) S → IsReason (Join Xor label (more n f fs)) S
   unfolding size actual
   odd_reason S h = ⊎_elim
       (λ a. record {
@@ -173,7 +185,7 @@ module _ (label : Label) (n : List ℕ) (f : Formula) (fs : Formulas) where
       (λ x. absurd (omega (arith, x.1.2)))
       h.3
 
-  pub chosen_odd : (S : List ℕ) → IsReason (Join Xor label (more n f fs)) S → SomeChosen reasons all 2 (two n f (Join Xor label fs)) S
+  chosen_odd : (S : List ℕ) → IsReason (Join Xor label (more n f fs)) S → SomeChosen reasons all 2 (two n f (Join Xor label fs)) S
   unfolding size actual truth
   chosen_odd S h =
       let s = split 0 (size f) (size_of_parts fs) S (omega arith) h.numbers in
@@ -192,3 +204,6 @@ module _ (label : Label) (n : List ℕ) (f : Formula) (fs : Formulas) where
         ),
         λ k c. c,
       )
+
+  pub made_of_odd : IsMadeOf reasons all 2 (two n f (Join Xor label fs)) (Join Xor label (more n f fs))
+  made_of_odd = record { does = odd_reason; chosen = chosen_odd }

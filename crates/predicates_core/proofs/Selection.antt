@@ -7,8 +7,7 @@ use Rattle.predicates_core.specs.Reason.{AreIncreasing}
 use Rattle.predicates_core.specs.Kinds.{Kind, Does, First}
 use Rattle.predicates_core.specs.Shows.{left_share, right_share}
 use Rattle.predicates_core.proofs.Numbers.{shifted, no_numbers, increasing_joined, before_joined, before_behind, before_shifted}
-use Rattle.predicates_core.proofs.Firsts.{same_list}
-use Rattle.predicates_core.proofs.BothKinds.{numbers, some, strong}
+use Rattle.predicates_core.proofs.BothKinds.{numbers, some, strong, weak, same_list, first_of_both}
 use Rattle.predicates_core.proofs.Thresholds.{many}
 use Rattle.predicates_core.proofs.Shown.{left_share-joined, right_share-joined, right_share-shifted}
 use Rattle.predicates_core.proofs.Turned.{among_shifted, among_front, among_back, none_among, left_among, right_among, none_of, among_both}
@@ -223,3 +222,12 @@ module _ (q : Kind) (such : Formula → Bool) where
       (λ a. with_first m n f fs h.0 h.1 a.0 (strong q f h.0 a.1) (first_selected m fs h.1 a.2))
       (λ c. subst (λ z. IsFirst (IsMinimal (IsChosen (suc m) (more n f fs))) (z ++ shifted (size f) h.1)) (sym c.1) (without_first m n f fs h.1 c.0 (first_selected (suc m) fs h.1 c.2)))
       h.3)
+
+  -- the leaves that do it for the whole are just those of m such parts, and more
+  pub record IsMadeOf (m : ℕ) (fs : Formulas) (g : Formula) : Type 0 where
+    pub does : (S : List ℕ) → IsChosen m fs S → Does q g S
+    pub chosen : (S : List ℕ) → Does q g S → SomeChosen m fs S
+
+  -- so its first leaves are those of the first m such parts
+  pub first_made : (m : ℕ) (fs : Formulas) (g : Formula) → IsMadeOf m fs g → (S : List ℕ) → IsSelected m fs S → First q g S
+  first_made m fs g made S h = weak q g S (first_of_both (size g) (IsChosen m fs) (Does q g) (numbers q g) made.does made.chosen S (first_selected m fs S h))

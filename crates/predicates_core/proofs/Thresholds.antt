@@ -1,14 +1,14 @@
--- How many of several parts have a truth, and how many decide a threshold.
-use Rattle.std.proofs.Common.{◌≡◌, ◌⊎◌, ℕ, suc, ◌+◌, ◌<◌, ◌≤◌, List, ◌++◌, Bool, true, false, take, drop, refl, sym, ap, ◌∙◌, inl, inr, arith}
+-- How many of several parts have a truth, how many decide a threshold, and that a formula takes both values.
+use Rattle.std.proofs.Common.{◌≡◌, ◌⊎◌, ℕ, suc, ◌+◌, ◌<◌, ◌≤◌, List, ◌++◌, Bool, true, false, take, drop, refl, sym, ap, ◌∙◌, arith, [], ◌∷◌, length, length-append}
 use Rattle.std.specs.Prelude.{not, nat_le, ◌&&◌, ◌||◌}
 use Rattle.std.proofs.lemmas.List.{take_at, drop_at}
 use Rattle.std.proofs.lemmas.Bool.Decides.{nat_tests}
 use mathlib.Core.Bool.{beq}
 use Rattle.predicates_core.specs.Label.{Label}
-use Rattle.predicates_core.specs.declared.custom.join.Operator.TheVariants.{And, Or}
-use Rattle.predicates_core.specs.Formula.{Formula, Formulas, one, more, Join, AtLeast, number_of_parts, needed, enough_of, one_if, size, IsValuation, value, value_of_parts, holding, actual, actual_of_parts, truth}
-use Rattle.predicates_core.proofs.Joins.{length-actual}
-use Rattle.predicates_core.proofs.Values.{needed_some, needed_within, needed_is, number_some, beq_same, beq_other}
+use Rattle.predicates_core.specs.declared.custom.join.Operator.TheVariants.{And, Or, Xor}
+use Rattle.predicates_core.specs.Formula.{Formula, Formulas, one, more, Join, AtLeast, number_of_parts, needed, enough_of, one_if, size, IsValuation, value, value_of_parts, holding, actual, actual_of_parts, truth, Leaf, Not, Named, differ, size_of_parts}
+use Rattle.predicates_core.proofs.Joins.{length-actual, joins, joined_value}
+use Rattle.predicates_core.proofs.Values.{needed_some, needed_within, needed_is, number_some, beq_same, beq_other, not-not}
 
 abbrev pub like : Bool → Formulas → List Bool → ℕ
 like b (one name f) w = one_if (beq (value f w) b)
@@ -145,3 +145,49 @@ and_value label fs w = all_of fs w ∙ ap (λ z. nat_le z (holding fs w)) (sym (
 pub or_value : (label : Label) (fs : Formulas) (w : List Bool) → value (Join Or label fs) w ≡ value (AtLeast 1 label fs) w
 unfolding value
 or_value label fs w = one_of fs w ∙ ap (λ z. nat_le z (holding fs w)) (sym (needed_is 1 fs (omega arith) (number_some fs)))
+
+-- ---- a formula takes both values
+
+abbrev Reaches : Formula → Bool → Type 0
+Reaches f b = (w : List Bool) × IsValuation f w × (value f w ≡ b)
+
+-- each of the parts has the value
+abbrev EachReaches : Formulas → Bool → Type 0
+EachReaches fs b = (w : List Bool) × (length w ≡ size_of_parts fs) × (like b fs w ≡ number_of_parts fs)
+
+by_each : (k : ℕ) (label : Label) (fs : Formulas) (b : Bool) → EachReaches fs b → Reaches (AtLeast k label fs) b
+unfolding size
+by_each k label fs b e =
+    let all = decisive_all b k fs in
+    let some = decisive_some (not b) k fs in
+    (e.0, e.1, by_reached b k label fs e.0 (omega (arith, all, some, e.2)))
+
+differ_false : (b : Bool) → differ b false ≡ b
+differ_false b = grind arith
+
+mutual
+  unfolding size value
+
+  pub reaches : (f : Formula) (b : Bool) → Reaches f b
+  reaches (Leaf label t) b = (b ∷ [], refl, refl)
+  reaches (Join And label fs) b = let r = by_each (number_of_parts fs) label fs b (each_reaches fs b) in (r.0, r.1, and_value label fs r.0 ∙ r.2)
+  reaches (Join Or label fs) b = let r = by_each 1 label fs b (each_reaches fs b) in (r.0, r.1, or_value label fs r.0 ∙ r.2)
+  reaches (Join Xor label fs) b = odd_reaches label fs b
+  reaches (Not label f) b = let r = reaches f (not b) in (r.0, r.1, ap not r.2 ∙ not-not b)
+  reaches (Named label name f) b = reaches f b
+  reaches (AtLeast k label fs) b = by_each k label fs b (each_reaches fs b)
+
+  each_reaches : (fs : Formulas) (b : Bool) → EachReaches fs b
+  each_reaches (one n f) b = let r = reaches f b in (r.0, r.1, one_like (value f r.0) b r.2)
+  each_reaches (more n f fs) b =
+      let r = reaches f b in
+      let rs = each_reaches fs b in
+      let here = one_like (value f r.0) b r.2 in
+      (r.0 ++ rs.0, omega (arith, length-append r.0 rs.0, r.1, rs.1), let j = like_joined b n f fs r.0 rs.0 r.1 in omega (arith, j, here, rs.2))
+
+  odd_reaches : (label : Label) (fs : Formulas) (b : Bool) → Reaches (Join Xor label fs) b
+  odd_reaches label (one n f) b = reaches f b
+  odd_reaches label (more n f fs) b =
+      let r = reaches f b in
+      let rs = odd_reaches label fs false in
+      (r.0 ++ rs.0, omega (arith, length-append r.0 rs.0, r.1, rs.1), joined_value (joins Xor label n f fs) r.0 rs.0 r.1 ∙ cc (r.2, rs.2, differ_false b))

@@ -169,3 +169,18 @@ some_turned (k ∷ R) S w = ⊎_elim
     (λ e. inr (stays S w k n, e))
     (some_turned R S w))
     (contains_or_not S k)
+
+-- ---- places at which two valuations are equal
+
+pub equal_there : (S : List ℕ) (v w : List Bool) (k : ℕ) → Contains S k → AreEqualAt S v w → get_or v k false ≡ get_or w k false
+unfolding AreEqualAt
+equal_there [] v w k c h = absurd (contains_none k c)
+equal_there (x ∷ S) v w k c h = ⊎_elim (λ e. rw e h.0) (λ d. equal_there S v w k d h.1) (contains_cases x k S c)
+
+pub equal_by : (S : List ℕ) (v w : List Bool) → ((k : ℕ) → Contains S k → get_or v k false ≡ get_or w k false) → AreEqualAt S v w
+unfolding AreEqualAt
+equal_by [] v w h = tt
+equal_by (k ∷ S) v w h = (h k (contains_first k S), equal_by S v w (λ i c. h i (contains_later k i S c)))
+
+pub equal_at_itself : (S : List ℕ) (w : List Bool) → AreEqualAt S w w
+equal_at_itself S w = equal_by S w w (λ k c. refl)

@@ -4,7 +4,7 @@ use Rattle.std.specs.Prelude.{◌≡◌, ◌≢◌, ℕ, List, [], ◌∷◌, Bo
 use Rattle.std.specs.Prelude.{slice_index_or}
 use Rattle.predicates_core.specs.First.{IsMinimal, IsFirst}
 use Rattle.predicates_core.specs.Formula.{Formula, size, value, actual, truth}
-use Rattle.predicates_core.specs.Reason.{AreIncreasing, IsReason, IsFirstReason}
+use Rattle.predicates_core.specs.Reason.{AreIncreasing, IsReason, IsMinimalReason}
 
 -- the valuation with the truth at each of the places turned round
 unfoldable pub turned : List ℕ → List Bool → List Bool
@@ -36,10 +36,13 @@ abbrev pub Does : Kind → Formula → List ℕ → Type 0
 Does reasons = IsReason
 Does changes = IsChange
 
+abbrev pub Minimal : Kind → Formula → List ℕ → Type 0
+Minimal reasons = IsMinimalReason
+Minimal changes = IsMinimalChange
+
 -- the first of the minimal ones
 abbrev pub First : Kind → Formula → List ℕ → Type 0
-First reasons = IsFirstReason
-First changes = IsFirstChange
+First q f = IsFirst (Minimal q f)
 
 -- there is a first one, and there is no other
 abbrev pub HasOneFirst : Kind → Formula → Type 0
