@@ -1,5 +1,5 @@
 -- What does not change where the root's text is left open.
-use Rattle.std.proofs.Common.{◌≡◌, refl, sym, ap, ◌∙◌, ℕ, Bool, true, false, cond, List, Option, None, Some, Result, Ok, Err}
+use Rattle.std.proofs.Common.{◌≡◌, refl, sym, ap, ◌∙◌, subst, ℕ, Bool, true, false, cond, List, Option, None, Some, Result, Ok, Err}
 use Rattle.std.specs.Prelude.{not, IfOk, string_bytes}
 use Rattle.std.proofs.lemmas.Slice.Eq.{bytes_eq-Decides}
 use Rattle.predicates_core.specs.Label.{Label, Entry, Fits}
