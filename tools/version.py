@@ -1,11 +1,9 @@
-"""Which state of the repository this is, and which toolchain is here: the version that CHANGELOG begins with, the commit
-and its time."""
+"""Which state of the repository this is: the version that CHANGELOG begins with, the commit and its time, and the kit."""
 import os
 import re
 import subprocess
 import sys
 import time
-from pathlib import Path
 
 sys.dont_write_bytecode = True
 from sources import TOP
@@ -50,8 +48,3 @@ def number():
 def toolchain():
     """The line of `rt version`."""
     return subprocess.run(['rt', 'version'], stdout=subprocess.PIPE, text=True, check=True).stdout.strip()
-
-
-def kit():
-    """The folder of the toolchain."""
-    return Path(subprocess.run(['rt', 'doc'], stdout=subprocess.PIPE, text=True, check=True).stdout.strip()).parent
