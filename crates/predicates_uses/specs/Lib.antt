@@ -1,4 +1,5 @@
 pub mod Answer
+pub mod Bookings
 pub mod Either
 pub mod PlainCase
 pub mod RightFirst

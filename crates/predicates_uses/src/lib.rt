@@ -2,6 +2,7 @@
 #![tactic(auto)]
 
 mod answer;
+mod bookings;
 mod boxed;
 mod divisible;
 mod either;
@@ -12,6 +13,7 @@ mod plain_case;
 mod right_first;
 
 pub use answer::IsTheAnswer;
+pub use bookings::{Booking, BookingRule, allow_booking};
 pub use boxed::eval_boxed;
 pub use divisible::DivisibleBy;
 pub use either::{Either, alternatives};

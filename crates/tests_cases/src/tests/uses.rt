@@ -1,3 +1,4 @@
+mod bookings;
 mod callers;
 mod orders;
 mod own;
