@@ -28,6 +28,9 @@ pub mod Several
 pub mod Listing
 pub mod EachPart
 pub mod ThresholdCases
+pub mod Tally
+pub mod TallyAnswers
+pub mod Tallies
 pub mod Turned
 pub mod ChangeCases
 pub mod ThresholdChanges

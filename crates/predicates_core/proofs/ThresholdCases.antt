@@ -515,7 +515,7 @@ absent_found text name has us k some within at is (Some b) found e x = absurd (c
 -- ---- the printed text, and that there is one formula
 
 -- so many parts settle it, or they count
-settled_or_not : (k n : ℕ) → IsSettled k n ⊎ ((1 ≤ k) × (k ≤ n))
+pub settled_or_not : (k n : ℕ) → IsSettled k n ⊎ ((1 ≤ k) × (k ≤ n))
 settled_or_not zero n = inl (inl refl)
 settled_or_not (suc k) n = ⊎_elim (λ few. inl (inr few)) (λ within. inr (omega arith, within)) (cases_lt n (suc k))
 

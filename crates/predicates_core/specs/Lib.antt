@@ -23,6 +23,7 @@ pub mod Present
 pub mod Several
 pub mod Turning
 pub mod Thresholds
+pub mod Tally
 pub mod HowMany
 pub mod Laws
 pub mod Added

@@ -31,6 +31,7 @@ mod not;
 mod parts;
 mod present;
 mod quantifier;
+mod tally;
 mod test_predicate;
 mod threshold;
 mod threshold_changes;
@@ -48,6 +49,7 @@ pub use not::{not_case, not_explained, opposite_of};
 pub use parts::{each_child, parts_case, parts_change, parts_explained, parts_hold};
 pub use present::{present_case, present_change, present_explained, present_holds};
 pub use quantifier::{AtLeast, AtLeastOne, Every, HowMany, Quantifier};
+pub use tally::{Sought, Tally, Told};
 pub use test_predicate::{Test, TestPredicate, leaf};
 pub use threshold::{
     Counting, enough_of, is_absent, is_settled, node_with, settled_case, with_index,

@@ -1,0 +1,112 @@
+-- A tally of members, each with formulas of its own.
+use Rattle.std.proofs.Common.{◌≡◌, ◌⊎◌, ℕ, zero, suc, ◌+◌, ◌<◌, ◌≤◌, Bool, Option, List, [], ◌∷◌, ◌++◌, Some, None, length, length-append, take, drop, get_or, refl, sym, ap, ◌∙◌, subst, arith, inl, inr, ⊎_elim}
+use Rattle.std.specs.Prelude.{not, Result, Ok, Err, IfOk}
+use Rattle.std.proofs.lemmas.List.{take_more, take_all, take-append-drop}
+use Rattle.predicates_core.specs.Asked.{shown_verdict}
+use Rattle.predicates_core.specs.Formula.{Formula, AtLeast, HasTruth}
+use Rattle.predicates_core.specs.Kinds.{Kind}
+use Rattle.predicates_core.specs.Label.{Entry, plain}
+use Rattle.predicates_core.specs.Leaves.{IsExactly}
+use Rattle.predicates_core.specs.Several.{formulas_of}
+use Rattle.predicates_core.specs.Shows.{IsFoundBy}
+use Rattle.predicates_core.specs.Tally.{kind_of, IsDone, IsTally, Takes, Answers, AreOf, IsTallyOf}
+use Rattle.predicates_core.specs.Thresholds.{IsSettled, settled, IsOfThreshold}
+use Rattle.predicates_core.specs.declared.custom.tally.Sought.{Sought}
+use Rattle.predicates_core.specs.declared.custom.tally.Tally.{Tally}
+use Rattle.predicates_core.proofs.Fewer.{fewer_found}
+use Rattle.predicates_core.proofs.Found.{Found}
+use Rattle.predicates_core.proofs.Several.{are_formulas}
+use Rattle.predicates_core.proofs.TallyAnswers.{listed}
+use Rattle.predicates_core.proofs.ThresholdCases.{settled_or_not}
+use Rattle.predicates_core.proofs.Values.{not-not}
+
+-- a part whose truth alone was asked
+pub verdict_told : (q : Kind) {F : Formula → Type 0} {h : Bool} → HasTruth F h → IsFoundBy q F (Some (not h)) None
+verdict_told q {F} {h} t = subst (HasTruth F) (sym (not-not h)) t
+
+-- what is found of each formula is found of all
+found_of_each : (q : Kind) {F : Formula → Type 0} (w : Option Bool) (found : Found) → ((f : Formula) → F f → IsFoundBy q (IsExactly f) w found) → IsFoundBy q F w found
+found_of_each q (Some e) None each = record { at = λ f h. (each f h).at f (record { is = refl }) }
+found_of_each q (Some e) (Some t) each = record { truth = record { at = λ f h. (each f h).truth.at f (record { is = refl }) }; explains = λ f h. (each f h).explains f (record { is = refl }) }
+found_of_each q None None each = λ f h. each f h f (record { is = refl })
+found_of_each q None (Some t) each = record { truth = record { at = λ f h. (each f h).truth.at f (record { is = refl }) }; explains = λ f h. (each f h).explains f (record { is = refl }) }
+
+module _ {U : Type 0} (has : U → Formula → Type 0) where
+  none_of : (fs : List Formula) → AreOf has [] fs → fs ≡ []
+  none_of [] of = refl
+  none_of (f ∷ fs) of = absurd of
+
+  -- the formulas of some members and one more
+  split_last : (us : List U) (u : U) (fs : List Formula) → AreOf has (us ++ u ∷ []) fs → (gs : List Formula) × (f : Formula) × AreOf has us gs × has u f × (fs ≡ gs ++ f ∷ [])
+  split_last [] u [] of = absurd of
+  split_last [] u (f ∷ fs) of = ([], f, tt, of.0, ap (λ z. f ∷ z) (none_of fs of.1))
+  split_last (v ∷ us) u [] of = absurd of
+  split_last (v ∷ us) u (f ∷ fs) of = let ih = split_last us u fs of.1 in (f ∷ ih.0, ih.1, (of.0, ih.2), ih.3, ap (λ z. f ∷ z) ih.4)
+
+  front_of : (j : ℕ) (us : List U) (fs : List Formula) → AreOf has us fs → AreOf has (take j us) (take j fs)
+  front_of zero us fs of = tt
+  front_of (suc j) [] [] of = tt
+  front_of (suc j) [] (f ∷ fs) of = absurd of
+  front_of (suc j) (u ∷ us) [] of = absurd of
+  front_of (suc j) (u ∷ us) (f ∷ fs) of = (of.0, front_of j us fs of.1)
+
+  length_of : (us : List U) (fs : List Formula) → AreOf has us fs → length fs ≡ length us
+  length_of [] [] of = refl
+  length_of [] (f ∷ fs) of = absurd of
+  length_of (u ∷ us) [] of = absurd of
+  length_of (u ∷ us) (f ∷ fs) of = ap suc (length_of us fs of.1)
+
+  module _ (s : Sought) (text : Entry) (name : List ℕ) where
+    pub tally_none : (t : Tally) → t.sought ≡ s → t.seen ≡ 0 → IsTally text name [] t → IsTallyOf s text name has [] t
+    tally_none t sought seen h = record { sought_is = sought; seen = seen; at = λ fs of. subst (λ z. IsTally text name z t) (sym (none_of fs of)) h }
+
+    -- one member more, of which this was told
+    pub tally_next : (us : List U) {j : ℕ} {u : U} (old new : Tally) (asked : Option Bool) (found : Found) → j < length us → u ≡ get_or us j u → IsTallyOf s text name has (take j us) old → new.sought ≡ old.sought → new.seen ≡ suc old.seen → Takes text name asked found old new → IsFoundBy (kind_of s.turns) (has u) asked found → IsTallyOf s text name has (take (j + 1) us) new
+    tally_next us {j} {u} old new asked found before is h sought seen takes x =
+        let longer : take (j + 1) us ≡ take j us ++ u ∷ [] = take_more us j u before ∙ ap (λ z. take j us ++ z ∷ []) (sym is) in
+        record {
+          sought_is = sought ∙ h.sought_is;
+          seen = let l = ap length longer in let m = length-append (take j us) (u ∷ []) in let e = h.seen in omega (arith, l, m, e, seen);
+          at = λ fs of.
+              let p = split_last (take j us) u fs (subst (λ z. AreOf has z fs) longer of) in
+              subst (λ z. IsTally text name z new) (sym p.4) (takes p.0 p.1 (h.at p.0 p.2) (subst (λ z. IsFoundBy (kind_of z.turns) (IsExactly p.1) asked found) (sym h.sought_is) (fewer_found (kind_of s.turns) asked found (λ f e. subst (has u) (sym e.is) p.3) x)));
+        }
+
+    -- all members were seen
+    pub tally_full : (us : List U) (j : ℕ) (t : Tally) → length us ≡ s.number → length us ≤ j → IsTallyOf s text name has (take j us) t → IsDone t
+    tally_full us j t all full h =
+        let n = ap (λ z. z.number) h.sought_is in
+        let l = h.seen ∙ ap length (take_all j us full) in
+        inr (inl (omega (arith, n, l, all)))
+
+    -- what is found of the whole
+    pub tally_answer : {E : Type 0} (us : List U) (j : ℕ) (t : Tally) (r : Result Found E) → length us ≡ s.number → IsTallyOf s text name has (take j us) t
+        → (IsSettled t.sought.least t.sought.number → IfOk r (IsFoundBy (kind_of t.sought.turns) (IsExactly (settled text t.sought.least t.sought.number)) t.sought.wanted))
+        → IfOk r (Answers text name t) → IfOk r (IsFoundBy (kind_of s.turns) (IsOfThreshold s.least text name has us) s.wanted)
+    tally_answer us j t (Err e) all h by_number answers = tt
+    tally_answer us j t (Ok found) all h by_number answers = ⊎_elim
+        (λ is.
+        let x = subst (λ z. IsSettled z.least z.number → IsFoundBy (kind_of z.turns) (IsExactly (settled text z.least z.number)) z.wanted found) h.sought_is by_number is in
+        fewer_found (kind_of s.turns) s.wanted found (λ f p. subst (λ n. IsExactly (settled text s.least n) f) all (p.of_settled (subst (IsSettled s.least) (sym all) is))) x)
+        (λ c. counted us found all h answers c.0 c.1)
+        (settled_or_not s.least s.number)
+      where
+        exactly : (g : Formula) (gs : List Formula) (f : Formula) → s.least ≤ length (g ∷ gs) → f ≡ AtLeast s.least (plain text) (formulas_of name (λ f. f) g gs) → 1 ≤ s.least → IsOfThreshold s.least text name IsExactly (g ∷ gs) f
+        exactly g gs f within is some = record {
+          of_settled = λ settles. absurd (⊎_elim (λ none. omega (arith, none, some)) (λ less. omega (arith, less, within)) settles);
+          of_counted = λ some within. record { formulas = formulas_of name (λ f. f) g gs; of_each = are_formulas name IsExactly (λ f. f) g gs (λ f. record { is = refl }); is = is };
+        }
+
+        counted : (us : List U) (found : Found) → length us ≡ s.number → IsTallyOf s text name has (take j us) t → Answers text name t found → 1 ≤ s.least → s.least ≤ s.number → IsFoundBy (kind_of s.turns) (IsOfThreshold s.least text name has us) s.wanted found
+        counted [] found all h answers some within = absurd (omega (arith, all, some, within))
+        counted (u ∷ us) found all h answers some within = found_of_each (kind_of s.turns) s.wanted found (λ f p.
+            let c = p.of_counted some (omega (arith, within, all)) in
+            let x = listed name has u us c.formulas c.of_each in
+            let front = take j (x.0 ∷ x.1) in
+            let rest = drop j (x.0 ∷ x.1) in
+            let both : front ++ rest ≡ x.0 ∷ x.1 = take-append-drop j (x.0 ∷ x.1) in
+            let long : length (x.0 ∷ x.1) ≡ s.number = length_of (u ∷ us) (x.0 ∷ x.1) x.2 ∙ all in
+            let of_t = answers front rest (h.at front (front_of j (u ∷ us) (x.0 ∷ x.1) x.2)) (ap length both ∙ long ∙ ap (λ z. z.number) (sym h.sought_is)) in
+            let of_s = subst (λ z. IsFoundBy (kind_of z.turns) (IsOfThreshold z.least text name IsExactly (front ++ rest)) z.wanted found) h.sought_is of_t in
+            let of_all = subst (λ z. IsFoundBy (kind_of s.turns) (IsOfThreshold s.least text name IsExactly z) s.wanted found) both of_s in
+            fewer_found (kind_of s.turns) s.wanted found (λ g e. subst (IsOfThreshold s.least text name IsExactly (x.0 ∷ x.1)) (sym e.is) (exactly (x.0) x.1 f (omega (arith, within, long)) (c.is ∙ ap (AtLeast s.least (plain text)) x.3) some)) of_all)

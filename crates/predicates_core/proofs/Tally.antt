@@ -1,0 +1,260 @@
+-- A tally of parts: of one part more, and what is found of the whole.
+use Rattle.std.proofs.Common.{◌≡◌, ◌⊎◌, ℕ, zero, suc, ◌+◌, ◌-◌, ◌<◌, ◌≤◌, ◌^◌, Bool, true, false, Option, List, [], ◌∷◌, ◌++◌, Some, None, length-append, map, length, take, get_or, refl, sym, ap, ◌∙◌, subst, arith, inl, inr, ⊎_elim, append_assoc, append-nil}
+use Rattle.std.specs.Prelude.{not, ◌&&◌, ◌||◌, nat_lt, cond, option_map, Result, Ok, Err, IfOk}
+use Rattle.std.proofs.lemmas.Bool.{cases_lt}
+use Rattle.std.proofs.lemmas.Bool.Decides.{nat_tests}
+use Rattle.std.proofs.lemmas.List.{take_more, take_all, take-map, nil_from_length, map-append}
+use mathlib.Core.Bool.{beq}
+use Rattle.predicates_reflection.proofs.Forests.{named_trees-forest}
+use Rattle.predicates_core.specs.Label.{Entry, plain}
+use Rattle.predicates_core.specs.Formula.{Formula, Formulas, one, more, AtLeast, number_of_parts, needed, enough_of, actual_of_parts, truth, size, one_if, HasTruth}
+use Rattle.predicates_core.specs.Tree.{Tree, Forest, empty, branch, forest, named_trees, add_last}
+use Rattle.predicates_core.specs.Describe.{CaseNode, with_child, with_first_children}
+use Rattle.predicates_core.specs.Kinds.{Kind, reasons, changes}
+use Rattle.predicates_core.specs.Shows.{ShowsNumbered, numbered, tells_numbers, Shows, ShowsParts, ExplainsBy, IsFoundBy, IsCaseBy, IsNode}
+use Rattle.predicates_core.specs.Leaves.{IsExactly}
+use Rattle.predicates_core.specs.Asked.{shown_verdict, is_other}
+use Rattle.predicates_core.specs.Several.{AreOfEach, formulas_of, is_absent}
+use Rattle.predicates_core.specs.Thresholds.{IsSettled, settled, IsOfThreshold}
+use Rattle.predicates_core.specs.Tally.{kind_of, asks_for, asked_by, IsAsked, IsDecided, IsDone, IsOpen, count_like, AreShown, IsOver, IsNextCase, IsNodeWith, IsKept, IsTally, Takes, Answers, AreOf, IsTallyOf}
+use Rattle.predicates_core.specs.declared.custom.tally.Kept.{Kept}
+use Rattle.predicates_core.specs.declared.custom.tally.Sought.{Sought}
+use Rattle.predicates_core.specs.declared.custom.tally.Tally.{Tally}
+use Rattle.predicates_core.proofs.Numbers.{shifted, no_numbers}
+use Rattle.predicates_core.proofs.BothKinds.{first_numbers}
+use Rattle.predicates_core.proofs.Selection.{IsSelected, many}
+use Rattle.predicates_core.proofs.Thresholds.{like, is_like, many_like, either, one_like, none_like, decisive, truth_by_parts}
+use Rattle.predicates_core.proofs.FirstOf.{quota, first_of_threshold}
+use Rattle.predicates_core.proofs.Shown.{not_empty, shows_part, shows_all, shows_none}
+use Rattle.predicates_core.proofs.CombinedLemmas.{node_fits}
+use Rattle.predicates_core.proofs.Values.{needed_is, not-not, beq_same, beq_other}
+use Rattle.predicates_core.proofs.Found.{Found, truth_found, case_found, case_wanted, other_wanted}
+use Rattle.predicates_core.proofs.Several.{forest-add_last}
+
+-- ---- what a part with a formula told
+
+pub told_truth : (q : Kind) (f : Formula) (asked : Option Bool) (found : Found) → IsFoundBy q (IsExactly f) asked found → truth f ≡ shown_verdict asked found
+told_truth q f asked found x = (truth_found q asked found x).at f (record { is = refl })
+
+pub never_absent : (q : Kind) (f : Formula) (asked : Option Bool) (found : Found) → is_absent asked found ≡ true → IsFoundBy q (IsExactly f) asked found → ⊥
+never_absent q f None None e x = x f (record { is = refl })
+never_absent q f None (Some t) e x = cc
+never_absent q f (Some b) found e x = cc
+
+-- a case was told just where it was asked for
+abbrev IsToldIf : Bool → Found → Type 0
+IsToldIf true None = ⊥
+IsToldIf true (Some c) = Unit {0}
+IsToldIf false None = Unit {0}
+IsToldIf false (Some c) = ⊥
+
+told_if : (b h f : Bool) (asked : Option Bool) (found : Found) → IsAsked (asked_by h f) asked found → is_absent asked found ≡ false → shown_verdict asked found ≡ b → IsToldIf (cond b h f) found
+told_if true true f asked (Some c) e some v = tt
+told_if false h true asked (Some c) e some v = tt
+told_if true false f asked None e some v = tt
+told_if false h false asked None e some v = tt
+told_if true true true None None e some v = absurd (cc)
+told_if true true true (Some a) None e some v = absurd (cc)
+told_if true true false None None e some v = absurd (cc)
+told_if true true false (Some a) None e some v = absurd (cc)
+told_if false true true None None e some v = absurd (cc)
+told_if false true true (Some a) None e some v = absurd (cc)
+told_if false false true None None e some v = absurd (cc)
+told_if false false true (Some a) None e some v = absurd (cc)
+told_if true false true None (Some c) e some v = absurd (cc)
+told_if true false true (Some a) (Some c) e some v = absurd (cc)
+told_if true false false asked (Some c) e some v = absurd (cc)
+told_if false true false None (Some c) e some v = absurd (cc)
+told_if false true false (Some a) (Some c) e some v = absurd (cc)
+told_if false false false asked (Some c) e some v = absurd (cc)
+
+-- ---- how many formulas have a truth
+
+count_more : (b : Bool) (fs : List Formula) (f : Formula) → count_like b (fs ++ f ∷ []) ≡ count_like b fs + one_if (beq (truth f) b)
+count_more b [] f = omega arith
+count_more b (g ∷ fs) f = let ih = count_more b fs f in omega (arith, ih)
+
+count_with : (b : Bool) (fs : List Formula) (f : Formula) → truth f ≡ b → count_like b (fs ++ f ∷ []) ≡ suc (count_like b fs)
+count_with b fs f is = let e = count_more b fs f in let o = one_like (truth f) b is in omega (arith, e, o)
+
+count_without : (b : Bool) (fs : List Formula) (f : Formula) → truth f ≡ not b → count_like b (fs ++ f ∷ []) ≡ count_like b fs
+count_without b fs f is = let e = count_more b fs f in let o = none_like (truth f) b is in omega (arith, e, o)
+
+pub count_both : (b : Bool) (fs : List Formula) → count_like b fs + count_like (not b) fs ≡ length fs
+count_both b [] = refl
+count_both b (f ∷ fs) =
+    let ih = count_both b fs in
+    ⊎_elim
+    (λ is. let x = one_like (truth f) b is in let y = none_like (truth f) (not b) (is ∙ sym (not-not b)) in omega (arith, ih, x, y))
+    (λ is. let x = none_like (truth f) b is in let y = one_like (truth f) (not b) is in omega (arith, ih, x, y))
+    (either (truth f) b)
+
+-- ---- the cases of the first formulas with a truth
+
+module _ (q : Kind) (tells b : Bool) where
+  shown_short : (k : ℕ) (fs : List Formula) (cs : List (Tree CaseNode)) → AreShown q tells b k fs cs → length cs ≤ count_like b fs
+  shown_short k fs [] s = omega arith
+  shown_short k [] (c ∷ cs) s = absurd s
+  shown_short k (f ∷ fs) (c ∷ cs) s = ⊎_elim
+      (λ a. let ih = shown_short (suc k) fs (c ∷ cs) a.1 in omega (arith, ih))
+      (λ x. let ih = shown_short (suc k) fs cs x.2 in let o = one_like (truth f) b x.0 in omega (arith, ih, o))
+      s
+
+  pub shown_more : (k : ℕ) (fs gs : List Formula) (cs : List (Tree CaseNode)) → AreShown q tells b k fs cs → AreShown q tells b k (fs ++ gs) cs
+  shown_more k fs gs [] s = tt
+  shown_more k [] gs (c ∷ cs) s = absurd s
+  shown_more k (f ∷ fs) gs (c ∷ cs) s = ⊎_elim (λ a. inl (a.0, shown_more (suc k) fs gs (c ∷ cs) a.1)) (λ x. inr (x.0, x.1, shown_more (suc k) fs gs cs x.2)) s
+
+  -- one more has the truth, and all before it have their cases
+  shown_next : (k n : ℕ) (fs : List Formula) (f : Formula) (cs : List (Tree CaseNode)) (part : Tree CaseNode) → length cs ≡ count_like b fs → AreShown q tells b k fs cs → truth f ≡ b → n ≡ k + length fs → ExplainsBy q f part → AreShown q tells b k (fs ++ f ∷ []) (cs ++ numbered tells n part ∷ [])
+  shown_next k n [] f [] part all s is at x = inr (is, (part, ap (λ i. numbered tells i part) (let e : n ≡ k = omega (arith, at) in e), x), tt)
+  shown_next k n [] f (c ∷ cs) part all s is at x = absurd s
+  shown_next k n (g ∷ fs) f [] part all s is at x = ⊎_elim
+      (λ a. absurd (let o = one_like (truth g) b a in omega (arith, all, o)))
+      (λ a. let o = none_like (truth g) b a in inl (a, shown_next (suc k) n fs f [] part (omega (arith, all, o)) tt is (omega (arith, at)) x))
+      (either (truth g) b)
+  shown_next k n (g ∷ fs) f (c ∷ cs) part all s is at x = ⊎_elim
+      (λ a. let o = none_like (truth g) b a.0 in inl (a.0, shown_next (suc k) n fs f (c ∷ cs) part (omega (arith, all, o)) a.1 is (omega (arith, at)) x))
+      (λ y. let o = one_like (truth g) b y.0 in inr (y.0, y.1, shown_next (suc k) n fs f cs part (omega (arith, all, o)) y.2 is (omega (arith, at)) x))
+      s
+
+-- ---- the parts with one truth, of one part more
+
+over_next : (b : Bool) (text : Entry) (name : List ℕ) (cs : List (Tree CaseNode)) (node : Found) (d t : Tree CaseNode) → IsOver b text name cs node → IsNextCase b text name d node t → IsOver b text name (cs ++ d ∷ []) (Some t)
+over_next b text name [] None d t o n = n
+over_next b text name [] (Some w) d t o n = absurd o
+over_next b text name (c ∷ cs) None d t o n = absurd o
+over_next b text name (c ∷ cs) (Some w) d t o n = rw n (record {
+  text = o.text;
+  result = o.result;
+  products = o.products;
+  children = ap (λ f. add_last f name d) o.children ∙ forest-add_last (map (λ z. (name, z)) (c ∷ cs)) name d ∙ ap forest (sym (map-append (λ z. (name, z)) (c ∷ cs) (d ∷ [])));
+})
+
+all_pass : (x t y z : Bool) → (not x && (not t || (y && z))) ≡ true → (x ≡ false) × (t ≡ true → (y ≡ true) × (z ≡ true))
+all_pass false true true true e = (refl, λ t. (refl, refl))
+all_pass false false y z e = (refl, λ t. absurd (cc))
+all_pass false true true false e = absurd (cc)
+all_pass false true false z e = absurd (cc)
+all_pass true t y z e = absurd (cc)
+
+none_passes : (x t y z : Bool) → (not x && (not t || (y && z))) ≡ false → x ≡ false → z ≡ true → (t ≡ true) × (y ≡ false)
+none_passes false true false z e w l = (refl, refl)
+none_passes false true true true e w l = absurd (cc)
+none_passes false true true false e w l = absurd (cc)
+none_passes false false y z e w l = absurd (cc)
+none_passes true t y z e w l = absurd (cc)
+
+-- so many more parts with the truth may follow
+few_such : (b : Bool) (s : Sought) (such : ℕ) → (IsDecided b s such → ⊥) → s.turns ≡ false → such < enough_of b s.least s.number
+few_such b s such none e = ⊎_elim (λ less. less) (λ enough. absurd (none (record { enough = enough; other = λ t. absurd (cc) }))) (cases_lt such (enough_of b s.least s.number))
+
+pub either_way : (t : Bool) → (t ≡ true) ⊎ (t ≡ false)
+either_way true = inl refl
+either_way false = inr refl
+
+next_node : (b : Bool) (text : Entry) (name : List ℕ) (so_far : Found) (d : Tree CaseNode) (node : Found) → IsNodeWith b text name so_far (Some d) node → (t : Tree CaseNode) × (node ≡ Some t) × IsNextCase b text name d so_far t
+next_node b text name so_far d None h = absurd h
+next_node b text name so_far d (Some t) h = (t, refl, h)
+
+module _ (b : Bool) (s : Sought) (text : Entry) (name : List ℕ) where
+  abbrev room : ℕ
+  room = enough_of (not b) s.least s.number
+
+  -- a part with the other truth
+  pub kept_passed : (fs : List Formula) (f : Formula) (kept : Kept) (others fresh : ℕ) → IsKept b s text name fs kept others → truth f ≡ not b → fresh ≡ suc others → IsKept b s text name (fs ++ f ∷ []) kept fresh
+  kept_passed fs f kept others fresh h is grown = record {
+    cases = h.cases;
+    over = h.over;
+    shown = shown_more (kind_of s.turns) _ b 0 fs (f ∷ []) h.cases h.shown;
+    counted = h.counted ∙ sym (count_without b fs f is);
+    barely = h.barely;
+    all = λ w few. h.all w (omega (arith, few, grown));
+  }
+
+  not_asked : (such others : ℕ) → asks_for b s such others ≡ false → is_other s.wanted b ≡ false → others < room → (s.turns ≡ true) × (room ≤ such)
+  not_asked such others e w few =
+      let less : nat_lt others room ≡ true = grind (arith, nat_tests) in
+      let x = none_passes (is_other s.wanted b) s.turns (nat_lt such room) (nat_lt others room) e w less in
+      let enough : nat_lt such room ≡ false = x.1 in
+      (x.0, grind (arith, nat_tests))
+
+  so_asked : (such others : ℕ) → asks_for b s such others ≡ true → (is_other s.wanted b ≡ false) × (s.turns ≡ true → (such < room) × (others < room))
+  so_asked such others e =
+      let x = all_pass (is_other s.wanted b) s.turns (nat_lt such room) (nat_lt others room) e in
+      (x.0, λ t. let few : nat_lt such room ≡ true = (x.1 t).0 in let less : nat_lt others room ≡ true = (x.1 t).1 in (grind (arith, nat_tests), grind (arith, nat_tests)))
+
+  -- a part with the truth, of which a case was told where it was asked for
+  pub kept_more : (fs : List Formula) (f : Formula) (index : ℕ) (old new : Kept) (others : ℕ) (found : Found) → IsKept b s text name fs old others → truth f ≡ b → index ≡ length fs → ((c : Tree CaseNode) → found ≡ Some c → ExplainsBy (kind_of s.turns) f c) → IsToldIf (asks_for b s old.count others) found → (IsDecided b s old.count → ⊥) → (IsDecided (not b) s others → ⊥) → new.count ≡ suc old.count → IsNodeWith b text name old.node (option_map (numbered (tells_numbers (kind_of s.turns) b s.least s.number) index) found) new.node → IsKept b s text name (fs ++ f ∷ []) new others
+  kept_more fs f index old new others found h is at of_case told open_such open_others count node =
+      more found (asks_for b s old.count others) refl told node of_case
+    where
+      counts : new.count ≡ count_like b (fs ++ f ∷ [])
+      counts = let e = count_with b fs f is in let c = h.counted in omega (arith, count, e, c)
+
+      few : s.turns ≡ false → new.count ≤ enough_of b s.least s.number
+      few t = let l = few_such b s old.count open_such t in omega (arith, l, count)
+
+      more : (found : Found) (asks : Bool) → asks_for b s old.count others ≡ asks → IsToldIf asks found → IsNodeWith b text name old.node (option_map (numbered (tells_numbers (kind_of s.turns) b s.least s.number) index) found) new.node → ((c : Tree CaseNode) → found ≡ Some c → ExplainsBy (kind_of s.turns) f c) → IsKept b s text name (fs ++ f ∷ []) new others
+      more None true e told node of_case = absurd told
+      more (Some c) false e told node of_case = absurd told
+      more None false e told node of_case = record {
+        cases = h.cases;
+        over = subst (IsOver b text name h.cases) (sym node) h.over;
+        shown = shown_more (kind_of s.turns) _ b 0 fs (f ∷ []) h.cases h.shown;
+        counted = counts;
+        barely = few;
+        all = λ w less.
+            let x = not_asked old.count others e w less in
+            inr (x.0, ⊎_elim (λ same. let full = x.1 in omega (arith, same, full)) (λ plenty. plenty.1) (h.all w less));
+      }
+      more (Some c) true e told node of_case =
+          let tells = tells_numbers (kind_of s.turns) b s.least s.number in
+          let d : Tree CaseNode = numbered tells index c in
+          let a = so_asked old.count others e in
+          let less : others < room = ⊎_elim (λ t. (a.1 t).1) (λ t. few_such (not b) s others open_others t) (either_way s.turns) in
+          let short = shown_short (kind_of s.turns) tells b 0 fs h.cases h.shown in
+          let same : length h.cases ≡ old.count = ⊎_elim (λ same. same) (λ plenty. absurd (let l = (a.1 plenty.0).0 in let c = h.counted in let m = plenty.1 in omega (arith, short, l, c, m))) (h.all a.0 less) in
+          let x = next_node b text name old.node d new.node node in
+          let longer = length-append h.cases (d ∷ []) in
+          record {
+            cases = h.cases ++ d ∷ [];
+            over = subst (IsOver b text name (h.cases ++ d ∷ [])) (sym x.1) (over_next b text name h.cases old.node d x.0 h.over x.2);
+            shown = shown_next (kind_of s.turns) tells b 0 index fs f h.cases c (same ∙ h.counted) h.shown is (omega (arith, at)) (of_case c refl);
+            counted = counts;
+            barely = few;
+            all = λ w less. inl (omega (arith, longer, same, count));
+          }
+
+-- ---- one part more
+
+module _ (text : Entry) (name : List ℕ) (t : Tally) (may : IsOpen t) (asked : Option Bool) (found : Found) (as_asked : IsAsked (asked_by (asks_for true t.sought t.held.count t.failed.count) (asks_for false t.sought t.failed.count t.held.count)) asked found) (told : is_absent asked found ≡ false) where
+  case_of : (fs : List Formula) (f : Formula) → IsFoundBy (kind_of t.sought.turns) (IsExactly f) asked found → (c : Tree CaseNode) → found ≡ Some c → ExplainsBy (kind_of t.sought.turns) f c
+  case_of fs f x c is = (case_found (kind_of t.sought.turns) asked c (subst (IsFoundBy (kind_of t.sought.turns) (IsExactly f) asked) is x)).explains f (record { is = refl })
+
+  few_counted : (b : Bool) (fs : List Formula) (count seen : ℕ) → count ≡ count_like b fs → t.seen ≡ length fs → seen ≡ suc t.seen → seen < 2 ^ 64 → count + 1 < 2 ^ 64
+  few_counted b fs count seen e l next fits = let s = count_both b fs in omega (arith, s, e, l, next, fits)
+
+  pub takes_held : (held : Kept) (seen : ℕ) → shown_verdict asked found ≡ true → seen ≡ suc t.seen → seen < 2 ^ 64 → (t.held.count + 1 < 2 ^ 64 → held.count ≡ suc t.held.count)
+      → IsNodeWith true text name t.held.node (option_map (numbered (tells_numbers (kind_of t.sought.turns) true t.sought.least t.sought.number) t.seen) found) held.node → Takes text name asked found t (record t { seen = seen; held = held })
+  takes_held held seen v next fits count node fs f h x =
+      let is : truth f ≡ true = told_truth (kind_of t.sought.turns) f asked found x ∙ v in
+      let grown = count (few_counted true fs t.held.count seen h.held.counted h.seen next fits) in
+      record {
+        present = h.present;
+        seen = let l = length-append fs (f ∷ []) in let e = h.seen in omega (arith, l, e, next);
+        held = kept_more true t.sought text name fs f t.seen t.held held t.failed.count found h.held is h.seen (case_of fs f x) (told_if true _ _ asked found as_asked told v) may.held may.failed grown node;
+        failed = kept_passed false t.sought text name fs f t.failed t.held.count held.count h.failed is grown;
+      }
+
+  pub takes_failed : (failed : Kept) (seen : ℕ) → shown_verdict asked found ≡ false → seen ≡ suc t.seen → seen < 2 ^ 64 → (t.failed.count + 1 < 2 ^ 64 → failed.count ≡ suc t.failed.count)
+      → IsNodeWith false text name t.failed.node (option_map (numbered (tells_numbers (kind_of t.sought.turns) false t.sought.least t.sought.number) t.seen) found) failed.node → Takes text name asked found t (record t { seen = seen; failed = failed })
+  takes_failed failed seen v next fits count node fs f h x =
+      let is : truth f ≡ false = told_truth (kind_of t.sought.turns) f asked found x ∙ v in
+      let grown = count (few_counted false fs t.failed.count seen h.failed.counted h.seen next fits) in
+      record {
+        present = h.present;
+        seen = let l = length-append fs (f ∷ []) in let e = h.seen in omega (arith, l, e, next);
+        held = kept_passed true t.sought text name fs f t.held t.failed.count failed.count h.held is grown;
+        failed = kept_more false t.sought text name fs f t.seen t.failed failed t.held.count found h.failed is h.seen (case_of fs f x) (told_if false _ _ asked found as_asked told v) may.failed may.held grown node;
+      }
