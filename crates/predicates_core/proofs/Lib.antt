@@ -33,4 +33,3 @@ pub mod TallyAnswers
 pub mod Tallies
 pub mod Turned
 pub mod ChangeCases
-pub mod ThresholdChanges

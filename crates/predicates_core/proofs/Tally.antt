@@ -1,34 +1,26 @@
 -- A tally of parts: of one part more, and what is found of the whole.
-use Rattle.std.proofs.Common.{◌≡◌, ◌⊎◌, ℕ, zero, suc, ◌+◌, ◌-◌, ◌<◌, ◌≤◌, ◌^◌, Bool, true, false, Option, List, [], ◌∷◌, ◌++◌, Some, None, length-append, map, length, take, get_or, refl, sym, ap, ◌∙◌, subst, arith, inl, inr, ⊎_elim, append_assoc, append-nil}
-use Rattle.std.specs.Prelude.{not, ◌&&◌, ◌||◌, nat_lt, cond, option_map, Result, Ok, Err, IfOk}
+use Rattle.std.proofs.Common.{◌≡◌, ◌⊎◌, ℕ, suc, ◌+◌, ◌<◌, ◌≤◌, ◌^◌, Bool, true, false, Option, List, [], ◌∷◌, ◌++◌, Some, None, length-append, map, length, refl, sym, ap, ◌∙◌, subst, arith, inl, inr, ⊎_elim}
+use Rattle.std.specs.Prelude.{not, ◌&&◌, ◌||◌, nat_lt, cond, option_map}
 use Rattle.std.proofs.lemmas.Bool.{cases_lt}
 use Rattle.std.proofs.lemmas.Bool.Decides.{nat_tests}
-use Rattle.std.proofs.lemmas.List.{take_more, take_all, take-map, nil_from_length, map-append}
+use Rattle.std.proofs.lemmas.List.{map-append}
 use mathlib.Core.Bool.{beq}
-use Rattle.predicates_reflection.proofs.Forests.{named_trees-forest}
-use Rattle.predicates_core.specs.Label.{Entry, plain}
-use Rattle.predicates_core.specs.Formula.{Formula, Formulas, one, more, AtLeast, number_of_parts, needed, enough_of, actual_of_parts, truth, size, one_if, HasTruth}
-use Rattle.predicates_core.specs.Tree.{Tree, Forest, empty, branch, forest, named_trees, add_last}
-use Rattle.predicates_core.specs.Describe.{CaseNode, with_child, with_first_children}
-use Rattle.predicates_core.specs.Kinds.{Kind, reasons, changes}
-use Rattle.predicates_core.specs.Shows.{ShowsNumbered, numbered, tells_numbers, Shows, ShowsParts, ExplainsBy, IsFoundBy, IsCaseBy, IsNode}
+use Rattle.predicates_core.specs.Label.{Entry}
+use Rattle.predicates_core.specs.Formula.{Formula, enough_of, truth, one_if}
+use Rattle.predicates_core.specs.Tree.{Tree, forest, add_last}
+use Rattle.predicates_core.specs.Describe.{CaseNode}
+use Rattle.predicates_core.specs.Kinds.{Kind}
+use Rattle.predicates_core.specs.Shows.{numbered, tells_numbers, ExplainsBy, IsFoundBy}
 use Rattle.predicates_core.specs.Leaves.{IsExactly}
 use Rattle.predicates_core.specs.Asked.{shown_verdict, is_other}
-use Rattle.predicates_core.specs.Several.{AreOfEach, formulas_of, is_absent}
-use Rattle.predicates_core.specs.Thresholds.{IsSettled, settled, IsOfThreshold}
-use Rattle.predicates_core.specs.Tally.{kind_of, asks_for, asked_by, IsAsked, IsDecided, IsDone, IsOpen, count_like, AreShown, IsOver, IsNextCase, IsNodeWith, IsKept, IsTally, Takes, Answers, AreOf, IsTallyOf}
+use Rattle.predicates_core.specs.Several.{is_absent}
+use Rattle.predicates_core.specs.Tally.{kind_of, asks_for, asked_by, IsAsked, IsDecided, IsOpen, count_like, AreShown, IsOver, IsNextCase, IsNodeWith, IsKept, Takes}
 use Rattle.predicates_core.specs.declared.custom.tally.Kept.{Kept}
 use Rattle.predicates_core.specs.declared.custom.tally.Sought.{Sought}
 use Rattle.predicates_core.specs.declared.custom.tally.Tally.{Tally}
-use Rattle.predicates_core.proofs.Numbers.{shifted, no_numbers}
-use Rattle.predicates_core.proofs.BothKinds.{first_numbers}
-use Rattle.predicates_core.proofs.Selection.{IsSelected, many}
-use Rattle.predicates_core.proofs.Thresholds.{like, is_like, many_like, either, one_like, none_like, decisive, truth_by_parts}
-use Rattle.predicates_core.proofs.FirstOf.{quota, first_of_threshold}
-use Rattle.predicates_core.proofs.Shown.{not_empty, shows_part, shows_all, shows_none}
-use Rattle.predicates_core.proofs.CombinedLemmas.{node_fits}
-use Rattle.predicates_core.proofs.Values.{needed_is, not-not, beq_same, beq_other}
-use Rattle.predicates_core.proofs.Found.{Found, truth_found, case_found, case_wanted, other_wanted}
+use Rattle.predicates_core.proofs.Thresholds.{either, one_like, none_like}
+use Rattle.predicates_core.proofs.Values.{not-not}
+use Rattle.predicates_core.proofs.Found.{Found, truth_found, case_found}
 use Rattle.predicates_core.proofs.Several.{forest-add_last}
 
 -- ---- what a part with a formula told

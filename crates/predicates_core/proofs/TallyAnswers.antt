@@ -1,38 +1,35 @@
 -- What is found of a whole, from the tally of its parts.
-use Rattle.std.proofs.Common.{◌≡◌, ◌⊎◌, ℕ, zero, suc, ◌+◌, ◌-◌, ◌<◌, ◌≤◌, ◌^◌, Bool, true, false, Option, List, [], ◌∷◌, ◌++◌, Some, None, length-append, map, length, take, get_or, refl, sym, ap, ◌∙◌, subst, arith, inl, inr, ⊎_elim, append_assoc, append-nil}
-use Rattle.std.specs.Prelude.{not, ◌&&◌, ◌||◌, nat_lt, nat_le, cond, option_map, Result, Ok, Err, IfOk}
-use Rattle.std.proofs.lemmas.Bool.{cases_lt}
+use Rattle.std.proofs.Common.{◌≡◌, ℕ, zero, suc, ◌+◌, ◌-◌, ◌<◌, ◌≤◌, Bool, true, false, Option, List, [], ◌∷◌, ◌++◌, Some, None, length-append, map, length, take, refl, sym, ap, ◌∙◌, subst, arith, inl, inr, ⊎_elim, append-nil}
+use Rattle.std.specs.Prelude.{not, nat_le, option_map, Result, Ok, Err, IfOk}
 use Rattle.std.proofs.lemmas.Bool.Decides.{nat_tests}
-use Rattle.std.proofs.lemmas.List.{take_more, take_all, take-map, nil_from_length, map-append}
-use mathlib.Core.Bool.{beq}
+use Rattle.std.proofs.lemmas.List.{take_all, take-map, nil_from_length}
 use Rattle.predicates_reflection.proofs.Forests.{named_trees-forest}
 use Rattle.predicates_core.specs.Label.{Entry, plain}
-use Rattle.predicates_core.specs.Formula.{Formula, Formulas, one, more, AtLeast, number_of_parts, needed, enough_of, actual_of_parts, truth, size, one_if, HasTruth}
-use Rattle.predicates_core.specs.Tree.{Tree, Forest, empty, branch, forest, named_trees, add_last}
-use Rattle.predicates_core.specs.Describe.{CaseNode, with_child, with_first_children}
+use Rattle.predicates_core.specs.Formula.{Formula, Formulas, one, more, AtLeast, number_of_parts, needed, enough_of, actual_of_parts, truth, size, HasTruth}
+use Rattle.predicates_core.specs.Tree.{Tree, empty, branch, forest, named_trees}
+use Rattle.predicates_core.specs.Describe.{CaseNode, with_first_children}
 use Rattle.predicates_core.specs.Kinds.{Kind, reasons, changes}
-use Rattle.predicates_core.specs.Shows.{ShowsNumbered, numbered, tells_numbers, Shows, ShowsParts, ExplainsBy, IsFoundBy, IsCaseBy, IsNode}
+use Rattle.predicates_core.specs.Shows.{ShowsNumbered, tells_numbers, Shows, ShowsParts, ExplainsBy, IsFoundBy, IsCaseBy, IsNode}
 use Rattle.predicates_core.specs.Leaves.{IsExactly}
-use Rattle.predicates_core.specs.Asked.{shown_verdict, is_other}
-use Rattle.predicates_core.specs.Several.{AreOfEach, formulas_of, is_absent}
+use Rattle.predicates_core.specs.Asked.{is_other}
+use Rattle.predicates_core.specs.Several.{AreOfEach, formulas_of}
 use Rattle.predicates_core.specs.Thresholds.{IsSettled, settled, IsOfThreshold}
-use Rattle.predicates_core.specs.Tally.{kind_of, asks_for, asked_by, IsAsked, IsDecided, IsDone, IsOpen, count_like, AreShown, IsOver, IsNextCase, IsNodeWith, IsKept, IsTally, Takes, Answers, AreOf, IsTallyOf}
+use Rattle.predicates_core.specs.Tally.{kind_of, IsDecided, IsDone, count_like, AreShown, IsOver, IsKept, IsTally, Answers, AreOf}
 use Rattle.predicates_core.specs.declared.custom.tally.Kept.{Kept}
 use Rattle.predicates_core.specs.declared.custom.tally.Sought.{Sought}
 use Rattle.predicates_core.specs.declared.custom.tally.Tally.{Tally}
 use Rattle.predicates_core.proofs.Numbers.{shifted, no_numbers}
 use Rattle.predicates_core.proofs.BothKinds.{first_numbers}
 use Rattle.predicates_core.proofs.Selection.{IsSelected, many}
-use Rattle.predicates_core.proofs.Thresholds.{like, is_like, many_like, either, one_like, none_like, decisive, truth_by_parts}
+use Rattle.predicates_core.proofs.Thresholds.{like, is_like, many_like, decisive, truth_by_parts}
 use Rattle.predicates_core.proofs.FirstOf.{quota, first_of_threshold}
 use Rattle.predicates_core.proofs.Shown.{not_empty, shows_part, shows_all, shows_none}
 use Rattle.predicates_core.proofs.CombinedLemmas.{node_fits}
-use Rattle.predicates_core.proofs.Values.{needed_is, not-not, beq_same, beq_other}
+use Rattle.predicates_core.proofs.Values.{needed_is, beq_same, beq_other}
 use Rattle.predicates_core.proofs.Tally.{count_both, shown_more, either_way}
 use Rattle.predicates_core.proofs.Fewer.{fewer_found}
 use Rattle.predicates_core.proofs.ChangeCases.{leaf_found, exact_leaf}
-use Rattle.predicates_core.proofs.Found.{Found, truth_found, case_found, case_wanted, other_wanted}
-use Rattle.predicates_core.proofs.Several.{forest-add_last}
+use Rattle.predicates_core.proofs.Found.{Found, case_wanted, other_wanted}
 
 -- ---- what is found of the whole
 

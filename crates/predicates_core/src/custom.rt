@@ -34,7 +34,6 @@ mod quantifier;
 mod tally;
 mod test_predicate;
 mod threshold;
-mod threshold_changes;
 
 pub use changes::{join_change, leaf_change, named_change, not_change};
 pub use children::{one_child, two_children};
@@ -51,7 +50,4 @@ pub use present::{present_case, present_change, present_explained, present_holds
 pub use quantifier::{AtLeast, AtLeastOne, Every, HowMany, Quantifier};
 pub use tally::{Sought, Tally, Told};
 pub use test_predicate::{Test, TestPredicate, leaf};
-pub use threshold::{
-    Counting, enough_of, is_absent, is_settled, node_with, settled_case, with_index,
-};
-pub use threshold_changes::node_of_first;
+pub use threshold::{Counting, enough_of, is_absent, is_settled, settled_case, with_index};

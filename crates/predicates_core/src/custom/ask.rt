@@ -1,14 +1,45 @@
 //! How each of a list is asked: several predicates about one item, or one predicate about several.
-ghost use Rattle.std.specs.Prelude.{IfOk, IsOk};
-ghost use Rattle.predicates_core.specs.Change.{IsFoundChange};
+ghost use Rattle.std.specs.Prelude.{◌≡◌, Bool, true, false, IfOk, IsOk};
 ghost use Rattle.predicates_core.specs.Formula.{Formula, HasTruth};
-ghost use Rattle.predicates_core.specs.Shows.{IsFound};
+ghost use Rattle.predicates_core.specs.Shows.{IsFoundBy};
+ghost use Rattle.predicates_core.specs.Tally.{kind_of};
 
 use crate::reflection::Case;
 use crate::{Predicate, PredicateChange};
 use std::alloc::{AllocError, Global};
 
-// How a member of a list is asked, by what all of them have in common.
+// What is sought of the whole, and so of its members.
+pub(super) trait Seeks {
+    // Whether it is what would turn the verdict.
+    ghost turns: { Bool };
+
+    fn turns() -> bool
+        ensures { result ≡ turns };
+}
+
+// What the verdict comes from.
+pub(super) struct Reasons;
+
+// What would turn it.
+pub(super) struct Changes;
+
+impl Seeks for Reasons {
+    ghost turns = { false };
+
+    fn turns() -> bool {
+        false
+    }
+}
+
+impl Seeks for Changes {
+    ghost turns = { true };
+
+    fn turns() -> bool {
+        true
+    }
+}
+
+// How a member of a list is asked for its verdict, by what all of them have in common.
 pub(super) trait Ask<Common, Member> {
     ghost lawful_of: { Common → Member → Type 0 };
 
@@ -20,27 +51,19 @@ pub(super) trait Ask<Common, Member> {
         requires { lawful_of common.now member.now }
         ensures truth { IfOk result (HasTruth (formula_of common.now member.now)) }
         ensures infallible { infallible_of common.now member.now → IsOk result };
-
-    fn explain(
-        alloc: Global,
-        common: &Common,
-        wanted: Option<bool>,
-        member: &Member,
-    ) -> Result<Option<Case>, AllocError>
-        requires { lawful_of common.now member.now }
-        ensures { IfOk result (IsFound (formula_of common.now member.now) wanted) };
 }
 
-// The same, for what would turn its verdict.
-pub(super) trait AskChange<Common, Member>: Ask<Common, Member> {
-    fn find_change(
+// The same, for what is sought.
+pub(super) trait AskFor<K: Seeks, Common, Member>: Ask<Common, Member> {
+    fn find(
         alloc: Global,
         common: &Common,
         wanted: Option<bool>,
         member: &Member,
     ) -> Result<Option<Case>, AllocError>
         requires { Self.lawful_of common.now member.now }
-        ensures { IfOk result (IsFoundChange (Self.formula_of common.now member.now) wanted) };
+        ensures { IfOk result
+            (IsFoundBy (kind_of K.turns) (Self.formula_of common.now member.now) wanted) };
 }
 
 // Each member is a predicate, and is asked about the one item.
@@ -59,8 +82,10 @@ impl<P: Predicate<Item>, Item> Ask<Item, P> for OfItem {
     fn eval(alloc: Global, item: &Item, part: &P) -> Result<bool, AllocError> {
         part.eval(alloc, item)
     }
+}
 
-    fn explain(
+impl<P: Predicate<Item>, Item> AskFor<Reasons, Item, P> for OfItem {
+    fn find(
         alloc: Global,
         item: &Item,
         wanted: Option<bool>,
@@ -70,8 +95,8 @@ impl<P: Predicate<Item>, Item> Ask<Item, P> for OfItem {
     }
 }
 
-impl<P: PredicateChange<Item>, Item> AskChange<Item, P> for OfItem {
-    fn find_change(
+impl<P: PredicateChange<Item>, Item> AskFor<Changes, Item, P> for OfItem {
+    fn find(
         alloc: Global,
         item: &Item,
         wanted: Option<bool>,
@@ -91,8 +116,10 @@ impl<P: Predicate<Item>, Item> Ask<P, Item> for ByPredicate {
     fn eval(alloc: Global, part: &P, member: &Item) -> Result<bool, AllocError> {
         part.eval(alloc, member)
     }
+}
 
-    fn explain(
+impl<P: Predicate<Item>, Item> AskFor<Reasons, P, Item> for ByPredicate {
+    fn find(
         alloc: Global,
         part: &P,
         wanted: Option<bool>,
@@ -102,8 +129,8 @@ impl<P: Predicate<Item>, Item> Ask<P, Item> for ByPredicate {
     }
 }
 
-impl<P: PredicateChange<Item>, Item> AskChange<P, Item> for ByPredicate {
-    fn find_change(
+impl<P: PredicateChange<Item>, Item> AskFor<Changes, P, Item> for ByPredicate {
+    fn find(
         alloc: Global,
         part: &P,
         wanted: Option<bool>,

@@ -9,9 +9,8 @@ ghost use Rattle.predicates_core.specs.Shows.{IsAnswer, IsFound};
 ghost use Rattle.predicates_core.specs.Thresholds.{IsOfThreshold};
 ghost use Rattle.predicates_core.specs.Tree.{forest};
 
-use crate::custom::ask::OfItem;
-use crate::custom::threshold::{Counting, counted_case, counted_explained, counted_hold};
-use crate::custom::threshold_changes::counted_change;
+use crate::custom::ask::{Changes, OfItem, Reasons};
+use crate::custom::threshold::{Counting, counted_case, counted_found, counted_hold};
 use crate::reflection::{Case, Child, PredicateReflection, describe};
 use crate::{Predicate, PredicateChange};
 use std::alloc::{AllocError, Global};
@@ -68,7 +67,7 @@ pub fn parts_explained<W: fmt::Display, P: Predicate<Item>, Item>(
         (W.output list.entry.whole.now) list.entry.name.now
         (λ p. P.formula p item.now) parts.now) wanted) }
 {
-    counted_explained::<W, OfItem, Item, P>(alloc, list, item, wanted, parts)
+    counted_found::<Reasons, W, OfItem, Item, P>(alloc, list, item, wanted, parts)
 }
 
 /// The `find_change` of such a predicate. Of the parts with the whole's verdict, as many as turn it
@@ -86,7 +85,7 @@ pub fn parts_change<W: fmt::Display, P: PredicateChange<Item>, Item>(
         (W.output list.entry.whole.now) list.entry.name.now
         (λ p. P.formula p item.now) parts.now) wanted) }
 {
-    counted_change::<W, OfItem, Item, P>(alloc, list, item, wanted, parts)
+    counted_found::<Changes, W, OfItem, Item, P>(alloc, list, item, wanted, parts)
 }
 
 /// The descriptions of several parts under one name, for `children`.

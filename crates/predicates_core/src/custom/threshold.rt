@@ -5,16 +5,17 @@ ghost use Rattle.std.specs.Prelude.{⊤};
 ghost use Rattle.std.specs.Fmt.{decimal};
 ghost use Rattle.std.specs.List.{AllByRecursion};
 ghost use Rattle.predicates_core.specs.Formula.{enough_of, Leaf, HasTruth};
-ghost use Rattle.predicates_core.specs.Kinds.{reasons};
 ghost use Rattle.predicates_core.specs.Label.{Entry, showing};
 ghost use Rattle.predicates_core.specs.Leaves.{IsExactly, IsShowing};
-ghost use Rattle.predicates_core.specs.Several.{is_absent, IsNextCase, IsNodeWith};
+ghost use Rattle.predicates_core.specs.Several.{is_absent};
+ghost use Rattle.predicates_core.specs.Shows.{IsAnswer, IsFound, IsFoundBy};
+ghost use Rattle.predicates_core.specs.Tally.{IsAsked, kind_of};
 ghost use Rattle.predicates_core.specs.Thresholds.{IsSettled, settled, IsOfThreshold};
-ghost use Rattle.predicates_core.specs.Shows.{IsAnswer, IsFound, numbered, tells_numbers};
 
-use crate::custom::ask::Ask;
-use crate::custom::{is_other, shown_verdict};
-use crate::node::{leaf_node, printed, showing, unary_node};
+use crate::custom::ask::{Ask, AskFor, Reasons, Seeks};
+use crate::custom::is_other;
+use crate::custom::tally::{Sought, Tally, Told};
+use crate::node::{leaf_node, printed, showing};
 use crate::reflection::Case;
 use std::alloc::{AllocError, Global};
 use std::fmt;
@@ -106,7 +107,7 @@ pub(super) fn counted_hold<A: Ask<Common, Member>, Common, Member>(
 
 // The `find_case` of such a predicate. The node has the cases of the first members that decide,
 // each under the name. Where one member decides, no other one is asked for its case.
-pub(super) fn counted_case<W: fmt::Display, A: Ask<Common, Member>, Common, Member>(
+pub(super) fn counted_case<W: fmt::Display, A: AskFor<Reasons, Common, Member>, Common, Member>(
     alloc: Global,
     list: Counting<'_, W>,
     common: &Common,
@@ -123,11 +124,19 @@ pub(super) fn counted_case<W: fmt::Display, A: Ask<Common, Member>, Common, Memb
         return Ok(None);
     }
     let wanted = Some(expected);
-    counted_found::<W, A, Common, Member>(alloc, list, common, asking, wanted, members)
+    counted::<Reasons, W, A, Common, Member>(alloc, list, common, asking, wanted, members)
 }
 
-// The `explain` of such a predicate.
-pub(super) fn counted_explained<W: fmt::Display, A: Ask<Common, Member>, Common, Member>(
+// The `explain` of such a predicate, or its `find_change`. Where their number alone decides, no
+// member is asked; otherwise each is asked once, until the answer is known. Memory is taken for no
+// more changes than may have to be shown: of `each` that holds, for the first alone.
+pub(super) fn counted_found<
+    K: Seeks,
+    W: fmt::Display,
+    A: AskFor<K, Common, Member>,
+    Common,
+    Member,
+>(
     alloc: Global,
     list: Counting<'_, W>,
     common: &Common,
@@ -135,19 +144,19 @@ pub(super) fn counted_explained<W: fmt::Display, A: Ask<Common, Member>, Common,
     members: &[Member],
 ) -> Result<Option<Case>, AllocError>
     requires { AllByRecursion (A.lawful_of common.now) members.now }
-    ensures { IfOk result (IsFound (IsOfThreshold list.entry.least
+    ensures { IfOk result (IsFoundBy (kind_of K.turns) (IsOfThreshold list.entry.least
         (W.output list.entry.whole.now) list.entry.name.now
         (A.formula_of common.now) members.now) wanted) }
 {
-    let asking = Asking::ExplainAtOnce;
-    counted_found::<W, A, Common, Member>(alloc, list, common, asking, wanted, members)
+    let asking = Asking::AtOnce;
+    counted::<K, W, A, Common, Member>(alloc, list, common, asking, wanted, members)
 }
 
 // Whether a member is evaluated before it is asked for its case.
 #[derive(Clone, Copy)]
 enum Asking {
     EvaluateFirst,
-    ExplainAtOnce,
+    AtOnce,
 }
 
 // Where one member decides, each is evaluated first; otherwise the whole is.
@@ -156,7 +165,7 @@ fn asking_for(expected: bool, least: usize, number: usize) -> Asking {
     if least == one_decides {
         Asking::EvaluateFirst
     } else {
-        Asking::ExplainAtOnce
+        Asking::AtOnce
     }
 }
 
@@ -176,14 +185,14 @@ fn is_other_first<A: Ask<Common, Member>, Common, Member>(
 {
     match asking {
         Asking::EvaluateFirst => Ok(false),
-        Asking::ExplainAtOnce => {
+        Asking::AtOnce => {
             Ok(counted_hold::<A, Common, Member>(alloc, least, common, members)? != expected)
         }
     }
 }
 
 // What is found of a member.
-fn member_found<A: Ask<Common, Member>, Common, Member>(
+fn member_found<K: Seeks, A: AskFor<K, Common, Member>, Common, Member>(
     alloc: Global,
     asking: Asking,
     common: &Common,
@@ -191,16 +200,42 @@ fn member_found<A: Ask<Common, Member>, Common, Member>(
     member: &Member,
 ) -> Result<Option<Case>, AllocError>
     requires { A.lawful_of common.now member.now }
-    ensures { IfOk result (IsFound (A.formula_of common.now member.now) wanted) }
+    ensures { IfOk result
+        (IsFoundBy (kind_of K.turns) (A.formula_of common.now member.now) wanted) }
 {
     match (asking, wanted) {
         (Asking::EvaluateFirst, Some(expected)) => {
             if A::eval(alloc, common, member)? != expected {
                 return Ok(None);
             }
-            A::explain(alloc, common, wanted, member)
+            A::find(alloc, common, wanted, member)
         }
-        (_, _) => A::explain(alloc, common, wanted, member),
+        (_, _) => A::find(alloc, common, wanted, member),
+    }
+}
+
+// What a member tells that is asked for its case, or for its verdict alone.
+fn member_told<K: Seeks, A: AskFor<K, Common, Member>, Common, Member>(
+    alloc: Global,
+    asking: Asking,
+    common: &Common,
+    asks: Option<Option<bool>>,
+    member: &Member,
+) -> Result<Told, AllocError>
+    requires { A.lawful_of common.now member.now }
+    ensures asked { IfOk result (λ told. IsAsked asks told.asked told.found) }
+    ensures found { IfOk result (λ told. IsFoundBy (kind_of K.turns)
+        (A.formula_of common.now member.now) told.asked told.found) }
+{
+    match asks {
+        Some(asked) => {
+            let found = member_found::<K, A, Common, Member>(alloc, asking, common, asked, member)?;
+            Ok(Told { asked, found })
+        }
+        None => {
+            let holds = A::eval(alloc, common, member)?;
+            Ok(Told::verdict(holds))
+        }
     }
 }
 
@@ -214,9 +249,8 @@ pub fn is_absent(wanted: Option<bool>, found: &Option<Case>) -> bool
     }
 }
 
-// The case of the whole, where it has the wanted verdict, or whichever it has. Each member is asked
-// once, until enough of them have a verdict.
-fn counted_found<W: fmt::Display, A: Ask<Common, Member>, Common, Member>(
+// What is found of the whole.
+fn counted<K: Seeks, W: fmt::Display, A: AskFor<K, Common, Member>, Common, Member>(
     alloc: Global,
     list: Counting<'_, W>,
     common: &Common,
@@ -225,93 +259,25 @@ fn counted_found<W: fmt::Display, A: Ask<Common, Member>, Common, Member>(
     members: &[Member],
 ) -> Result<Option<Case>, AllocError>
     requires { AllByRecursion (A.lawful_of common.now) members.now }
-    ensures { IfOk result (IsFound (IsOfThreshold list.entry.least
+    ensures { IfOk result (IsFoundBy (kind_of K.turns) (IsOfThreshold list.entry.least
         (W.output list.entry.whole.now) list.entry.name.now
         (A.formula_of common.now) members.now) wanted) }
 {
-    if is_settled(list.least, members.len()) {
-        return settled_case(alloc, list.whole, list.least, members.len(), wanted);
-    }
-    let most = enough_of(false, list.least, members.len());
-    let mut held_node: Option<Case> = None;
-    let mut failed_node: Option<Case> = None;
-    let mut held = 0usize;
-    let mut failed = 0usize;
-    for (index, member) in members.iter().enumerate() {
-        let found = member_found::<A, Common, Member>(alloc, asking, common, wanted, member)?;
-        if is_absent(wanted, &found) {
-            return Ok(None);
+    let mut tally = Tally::new(Sought {
+        turns: K::turns(),
+        wanted,
+        least: list.least,
+        number: members.len(),
+    });
+    for member in members {
+        if tally.is_done() {
+            return tally.answer(alloc, list);
         }
-        if shown_verdict(wanted, &found) {
-            held_node = node_with(alloc, list, members.len(), true, index, held_node, found)?;
-            held += 1;
-            if held == list.least {
-                return Ok(held_node);
-            }
-        } else {
-            failed_node = node_with(alloc, list, members.len(), false, index, failed_node, found)?;
-            failed += 1;
-            if failed == most {
-                return Ok(failed_node);
-            }
-        }
+        let asks = tally.asks();
+        let told = member_told::<K, A, Common, Member>(alloc, asking, common, asks, member)?;
+        tally.take(alloc, list, told)?;
     }
-    Ok(None)
-}
-
-/// The node over the cases so far and the case that was found of one more of the parts, which tells
-/// its number where some part is left out. It takes memory for the node, for the first case its
-/// text, and for a number.
-pub fn node_with<W: fmt::Display>(
-    alloc: Global,
-    list: Counting<'_, W>,
-    number: usize,
-    verdict: bool,
-    index: usize,
-    node: Option<Case>,
-    found: Option<Case>,
-) -> Result<Option<Case>, AllocError>
-    requires some { 1 ≤ list.least }
-    requires within { list.least ≤ number }
-    ensures { IfOk result (IsNodeWith verdict
-        (tells_numbers reasons verdict list.entry.least number) (W.output list.entry.whole.now)
-        list.entry.name.now index node found) }
-{
-    match found {
-        None => Ok(node),
-        Some(case) => {
-            let tells = enough_of(verdict, list.least, number) < number;
-            let told = numbered(alloc, tells, index, case)?;
-            Ok(Some(next_case(alloc, list, verdict, node, told)?))
-        }
-    }
-}
-
-fn next_case<W: fmt::Display>(
-    alloc: Global,
-    list: Counting<'_, W>,
-    verdict: bool,
-    node: Option<Case>,
-    case: Case,
-) -> Result<Case, AllocError>
-    ensures { IfOk result (IsNextCase verdict (W.output list.entry.whole.now)
-        list.entry.name.now case node) }
-{
-    match node {
-        Some(whole) => whole.add_child(list.name, case),
-        None => unary_node(alloc, printed(alloc, list.whole)?, verdict, list.name, case),
-    }
-}
-
-// The case with its number, where numbers are told.
-fn numbered(alloc: Global, tells: bool, index: usize, case: Case) -> Result<Case, AllocError>
-    ensures { IfOk result (λ told. told ≡ numbered tells index case) }
-{
-    if tells {
-        with_index(alloc, index, case)
-    } else {
-        Ok(case)
-    }
+    tally.answer(alloc, list)
 }
 
 /// The case with a part's number, from 0, as the last of its products, `index`.
