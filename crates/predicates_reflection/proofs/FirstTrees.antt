@@ -1,12 +1,12 @@
 -- The first trees of a list of entries in preorder.
-use Rattle.std.proofs.Common.{◌≡◌, ◌+◌, ◌-◌, ◌<◌, ◌≤◌, ℕ, zero, suc, List, [], ◌∷◌, ◌++◌, refl, ap, sym, ◌∙◌, subst, arith, ⊎_elim, length, take, drop, get_or, length-append, append_assoc, append-nil}
-use Rattle.std.proofs.lemmas.List.{nil_from_length, get_or-append_right, take_at, take_all, take-append-le, take-append-drop, length-take-le}
+use Rattle.std.proofs.Common.{◌≡◌, ◌+◌, ◌-◌, ◌<◌, ◌≤◌, ℕ, List, [], ◌∷◌, ◌++◌, refl, ap, sym, ◌∙◌, subst, arith, ⊎_elim, length, take, drop, get_or, length-append, append_assoc, append-nil}
+use Rattle.std.proofs.lemmas.List.{nil_from_length, get_or-append_right, take_at, take_all, take-append-drop, length-take-le}
 use Rattle.std.proofs.lemmas.Bool.{cases_lt}
-use Rattle.predicates_reflection.specs.Tree.{Forest, empty, branch, forest, named_trees}
-use Rattle.predicates_reflection.specs.Describe.{CaseNode, NamedCase}
-use Rattle.predicates_reflection.specs.CaseFields.{node_of, trees, IsPreorder}
+use Rattle.predicates_reflection.specs.Tree.{Forest, empty, branch, named_trees}
+use Rattle.predicates_reflection.specs.Describe.{CaseNode}
+use Rattle.predicates_reflection.specs.CaseFields.{trees, IsPreorder}
 use Rattle.predicates_reflection.specs.declared.reflection.case.Entry.{Entry}
-use Rattle.predicates_reflection.proofs.Preorder.{IsFirst, first_entry, joined, trees-append, trees-one, preorder-append, preorder-one, trees-cons}
+use Rattle.predicates_reflection.proofs.Preorder.{first_entry, joined, trees-append, trees-one, preorder-append, preorder-one}
 
 named-joined : (f g : Forest CaseNode) → named_trees (joined f g) ≡ named_trees f ++ named_trees g
 named-joined empty g = refl
@@ -71,8 +71,3 @@ first_trees es k end n h le all =
         let end' = ap length h.both in
         let none : h.back ≡ [] = nil_from_length h.back (let a = all less in omega (arith, a, long, end', h.place)) in
         ap (λ z. take n (named_trees (trees h.front) ++ named_trees (trees z))) none ∙ ap (take n) (append-nil (named_trees (trees h.front))) ∙ take_all n (named_trees (trees h.front)) (omega (arith, h.number, le))
-
--- a forest is that of its trees
-pub forest-named : (f : Forest CaseNode) → forest (named_trees f) ≡ f
-forest-named empty = refl
-forest-named (branch name node below next) = ap (branch name node below) (forest-named next)

@@ -7,6 +7,10 @@ module _ {N : Type 0} where
   named_trees-forest [] = refl
   named_trees-forest (t ∷ ts) = ap (λ us. t ∷ us) (named_trees-forest ts)
 
+  pub forest-named_trees : (f : Forest N) → forest (named_trees f) ≡ f
+  forest-named_trees empty = refl
+  forest-named_trees (branch name node below next) = ap (branch name node below) (forest-named_trees next)
+
   -- how many nodes stand in a list of named trees
   abbrev total : List (List ℕ × Tree N) → ℕ
   total [] = 0
