@@ -20,8 +20,8 @@ use Rattle.predicates_core.specs.declared.custom.tally.Sought.{Sought}
 use Rattle.predicates_core.specs.declared.custom.tally.Tally.{Tally}
 use Rattle.predicates_core.proofs.Numbers.{shifted, no_numbers}
 use Rattle.predicates_core.proofs.BothKinds.{first_numbers}
-use Rattle.predicates_core.proofs.Selection.{IsSelected, many}
-use Rattle.predicates_core.proofs.Thresholds.{like, is_like, many_like, decisive, truth_by_parts}
+use Rattle.predicates_core.proofs.Selection.{IsSelected}
+use Rattle.predicates_core.proofs.Thresholds.{like, is_like, many, many_like, decisive, truth_by_parts}
 use Rattle.predicates_core.proofs.FirstOf.{quota, first_of_threshold}
 use Rattle.predicates_core.proofs.Shown.{not_empty, shows_part, shows_all, shows_none}
 use Rattle.predicates_core.proofs.CombinedLemmas.{node_fits}
