@@ -50,28 +50,41 @@ def is_own_proof(path, name, crate, own):
 
 
 class Lost:
-    """An answer that lost a name: where it stands, its own name, the name that it lost, and those that the prover offers."""
+    """An answer that lost a name: where it stands, its own name ('' of an import), the name that it lost, and those that the
+    prover offers; or one that waits for another that did."""
 
-    def __init__(self, found, lines):
-        self.folder, self.file, self.answer, text = found[1], found[2], found[3] or '', found[4]
-        field = re.search(r'has no field `([^`]+)`', text)
-        goal = re.search(r'`goal\.([^`]+)`: module', text)
-        self.name, self.offers = '', []
-        if field:
-            offered = re.search(r'\(nearest: ([^)]*)\)', text)
-            self.name = '.' + field[1]
-            self.offers = re.findall(r'\.[^\s,]+', offered[1]) if offered else []
-        elif goal:
-            self.name = goal[1]
-            asked = next((it for it in lines if it.startswith(f'help: `Goals` has no `{goal[1]}`; rattle asks for ')), '')
-            asked = re.findall(r'`([^`]+)`', asked.partition('asks for')[2].partition('; a `use`')[0])
-            self.offers = [it for it in asked if clause_of(it) == clause_of(goal[1])]
+    def __init__(self, folder, file, answer, name='', offers=(), waits=False):
+        self.folder, self.file, self.answer, self.name, self.offers, self.waits = folder, file, answer, name, offers, waits
+
+
+def offers_of(name, lines):
+    """The names that the prover offers in place of a goal's or of a way into a join."""
+    help = next((it for it in lines if it.startswith(f'help: `Goals` has no `{name}`; ')), '')
+    asked = re.findall(r'`([^`]+)`', help.partition(f'has no `{name}`; ')[2].partition('; a `use`')[0])
+    return [it for it in asked if clause_of(it) == clause_of(name)]
+
+
+def lost_by(folder, file, answer, said, lines):
+    """What one of the prover's lines says is lost."""
+    waiting = re.match(r'\d+ declarations? that depends? on .* not checked: (.*)', said)
+    if waiting:
+        return [Lost(folder, file, it.strip(), waits=True) for it in waiting[1].split('\n')[0].split(',')]
+    field = re.search(r'has no field `([^`]+)`', said)
+    if field:
+        offered = re.search(r'\(nearest: ([^)]*)\)', said)
+        return [Lost(folder, file, answer, f'.{field[1]}', re.findall(r'\.[^\s,]+', offered[1]) if offered else [])]
+    name = re.search(r'module `\S+` has no `([^`]+)`', said)
+    if not name:
+        return [Lost(folder, file, answer)]
+    more = [] if answer else re.findall(r'`([^`]+)`', said.partition('not found: ')[2].split('\n')[0])
+    return [Lost(folder, file, answer, it, offers_of(name[1], lines)) for it in (name[1], *more)]
 
 
 def lost_of(lines, crate, own):
-    """The answers of a function that lost a name."""
+    """The answers of a function that lost a name, and those that wait for one that did."""
     found = [it for line in lines if (it := IN_PROOF.match(line)) and it[3] != 'refused' and is_lost(it[4])]
-    return [Lost(it, lines) for it in found if is_own_proof(it[1], it[3] or '', crate, own)]
+    own_found = [it for it in found if is_own_proof(it[1], it[3] or '', crate, own)]
+    return [lost for it in own_found for lost in lost_by(it[1], it[2], it[3] or '', it[4], lines)]
 
 
 def is_counted(goal, lost):

@@ -4,6 +4,7 @@ The prover says of an answer which name it lost, a value's or its own goal's, an
 first. These are tried in turn. A body whose answers are all taken so keeps every clause. An answer for which no name is
 left to try is left out.
 """
+import difflib
 import re
 import sys
 
@@ -11,6 +12,11 @@ sys.dont_write_bytecode = True
 
 # How often an answer whose names all stand is tried with the next name all the same.
 RETRIES = 3
+
+
+def as_word(name):
+    """A name where it stands alone."""
+    return re.compile(rf'(?<![^\s(.,{{]){re.escape(name)}(?![^\s).,;}}])')
 
 
 class Answer:
@@ -28,8 +34,8 @@ class Answer:
     def mended(self):
         text = self.text
         for name, offers in self.names.items():
-            before = '' if name.startswith('.') else r'(?<![^\s(.])'
-            text = re.sub(rf'{before}{re.escape(name)}(?![^\s().,;{{}}])', lambda _: offers[0], text)
+            pattern = re.compile(rf'{re.escape(name)}(?![^\s().,;{{}}])') if name.startswith('.') else as_word(name)
+            text = pattern.sub(lambda _: offers[0], text)
         return text
 
     def lose(self, name, offers):
@@ -59,29 +65,43 @@ class Answers:
 
     def __init__(self, text):
         blocks = re.split(r'(?m)^(?=(?:pub )?\S+ :(?: |$))', text)
-        self.head, self.all = blocks[0], [Answer(it) for it in blocks[1:]]
+        # Names that all of them import are mended in all at once.
+        self.head, self.all, self.names = blocks[0], [Answer(it) for it in blocks[1:]], {}
 
     def text(self):
-        return self.head + ''.join(it.mended() for it in self.all if not it.is_left_out)
+        text = self.head + ''.join(it.mended() for it in self.all if not it.is_left_out)
+        for name, offers in self.names.items():
+            text = as_word(name).sub(lambda _: offers[0] if offers else '', text)
+        text = re.sub(r'\{(, )+', '{', re.sub(r'(, )+(?=, |\})', '', text))
+        return re.sub(r'(?m)^use \S+\.\{\}\n', '', text)
 
     def of(self, name):
         return next((it for it in self.all if it.current() == name and not it.is_left_out), None)
 
     def lose(self, name, lost, offers):
-        """Mends an answer that lost a name, or leaves all out where what they import is gone."""
+        """Mends an answer that lost a name, or all where it is one that they import."""
         answer = self.of(name)
-        if answer:
-            taken = {it.current() for it in self.all if not it.is_left_out}
-            # (a name that some answer had before is seldom the one that came in place of another)
-            offers = sorted((it for it in offers if it not in taken), key=lambda it: any(it in of.text for of in self.all))
-            answer.lose(lost, offers)
-            if lost.startswith('.') and offers:
-                # (the others that name the value lose it too)
-                for it in self.all:
-                    if it is not answer and lost in it.text and lost not in it.names:
-                        it.names[lost] = [*offers]
-        else:
+        if not answer:
+            self.lose_import(lost, offers)
+            return
+        taken = {it.current() for it in self.all if not it.is_left_out}
+        # (a name that some answer had before is seldom the one that came in place of another)
+        offers = sorted((it for it in offers if it not in taken), key=lambda it: any(it in of.text for of in self.all))
+        answer.lose(lost, offers)
+        if lost.startswith('.') and offers:
+            # (the others that name the value lose it too)
             for it in self.all:
+                if it is not answer and lost in it.text and lost not in it.names:
+                    it.names[lost] = [*offers]
+
+    def lose_import(self, lost, offers):
+        """Mends a name that is imported; where none is left to try, the answers that have it are left out."""
+        tried = next((it for it, offered in self.names.items() if offered and offered[0] == lost), None)
+        first = tried or lost
+        nearest = sorted(offers, key=lambda it: -difflib.SequenceMatcher(None, it, lost).ratio())
+        self.names[first] = self.names[first][1:] if tried else nearest
+        for it in self.all:
+            if not lost or (not self.names[first] and as_word(first).search(it.text)):
                 it.is_left_out = True
 
     def retried(self, goal):

@@ -28,18 +28,22 @@ PLANTED = [
     # A goal has another name, and its kept answer stands under the old one; one body keeps every clause, one does not.
     ('harmless_goal', 'is still proved', '', [(WITHIN, TAKEN, TAKEN.replace('if ', 'let ended = ', 1).replace(' {', '; if ended {'))]),
     ('wrong_goal', 'refused', '', [(WITHIN, TAKEN, TAKEN.replace('if ', 'let ended = ', 1).replace(' {', '; if !ended {'))]),
+    # The ways into a join, which all answers import, have other names.
+    ('harmless_join', 'is still proved', '', [
+        (WITHIN, 'let is_ended = end == 0 || shown[end - 1]', 'let is_empty = end == 0; let is_ended = is_empty || shown[end - 1]')]),
     ('name_alone', 'is refused for a name alone', '', [
         ('proofs/read/next_line/Answers.antt', 'c.clear.ensures.items', 'c.cleared.ensures.items')]),
     # A clause that its own function can't keep, and no other needs.
     ('by_its_function', 'refused', f'{WITHIN} len_through', [
         (WITHIN, 'ensures bound { result ≤ length shown.now }', 'ensures bound { result < length shown.now }')]),
-    ('by_another', 'is not refused in', f'{WITHIN} take_part', [(WITHIN, 'ensures most { result ≤ most }', 'ensures most { result < most }')]),
+    ('by_another', 'is not refused in', f'{WITHIN} take_part', [
+        (WITHIN, 'ensures most { result ≤ most }', 'ensures most { result < most }')]),
     ('flush_writes_again', 'is the same as flush_writes', '', [('src/write.rt', '        .flush()', '        .write_all(b"\\n")')]),
     ('nowhere', 'can\'t be applied', '', [('src/write.rt', '        .flushed()', '        .flush()')]),
-    ('no_such_name', 'can\'t be compiled', '', [('src/read.rt', 'match input.read_until(b\'\\n\', line) {', 'match input.read_unto(b\'\\n\', line) {')]),
+    ('no_such_name', 'can\'t be compiled', '', [('src/read.rt', 'match input.read_until(', 'match input.read_unto(')]),
 ]
 # How the planted edits stand in rounds, and which are tried over their module.
-ROUNDS, ALONE = [6, 1, 1, 1], ['name_alone']
+ROUNDS, ALONE = [7, 1, 1, 1], ['name_alone']
 # The edit that keeps every clause, for which a line is planted.
 KEEPER = 'harmless'
 

@@ -128,13 +128,13 @@ def answers_of(crate, edit):
 
 def mend(answers, lost, refused):
     """Mends the lost answers, and goes on to other names for those of these goals; whether any answer has changed."""
-    fits = [it for it in lost if it.file == 'Answers' and it.folder in answers]
-    for it in fits:
-        answers[it.folder].lose(it.answer, it.name, it.offers)
-    retried = [it for of in answers.values() for _, goals in refused for goal in goals if (it := of.retried(goal))]
-    for it in retried:
+    before = [it.text() for it in answers.values()]
+    for it in lost:
+        if it.file == 'Answers' and it.folder in answers and not it.waits:
+            answers[it.folder].lose(it.answer, it.name, it.offers)
+    for it in [it for of in answers.values() for _, goals in refused for goal in goals if (it := of.retried(goal))]:
         it.retry()
-    return bool(fits or retried)
+    return before != [it.text() for it in answers.values()]
 
 
 def counted(refused, answers):
