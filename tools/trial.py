@@ -138,11 +138,13 @@ def mend(answers, lost, refused):
 
 
 def counted(refused, answers):
-    """Of these goals those that show that the body is wrong: no other name is left to try in their answers, and none of their
-    clause was left out."""
+    """Of these goals those that show that the body is wrong: the answer of the goal is refused and no other name is left to
+    try in it, or the goal has none and no answer of its clause was left out, which might be its own."""
     unread = {clause_of(it) for of in answers.values() for it in of.unread()}
-    shown = [(name, [it for it in goals if clause_of(it) not in unread and not any(of.retried(it) for of in answers.values())])
-             for name, goals in refused]
+    def shows(goal):
+        answer = next((it for of in answers.values() if (it := of.of(goal))), None)
+        return not answer.next_name() if answer else clause_of(goal) not in unread
+    shown = [(name, [it for it in goals if shows(it)]) for name, goals in refused]
     return [(name, goals) for name, goals in shown if goals]
 
 
