@@ -2,9 +2,10 @@
 use Rattle.std.proofs.Common.{◌≡◌, ℕ, zero, suc, ◌+◌, ◌-◌, ◌<◌, ◌≤◌, List, [], ◌∷◌, ◌++◌, Bool, Option, Some, None, IfSome, Vec, Box, Global, arith, refl, sym, ap, ◌∙◌, subst}
 use Rattle.predicates_core.specs.declared.custom.join.Operator.{Operator}
 use Rattle.predicates_dynamic.specs.declared.check.Check.{Check}
-use Rattle.predicates_dynamic.specs.declared.check.Check.TheVariants.{Leaf, Not, Named, Pair, Row, AtLeast, Odd, Quantified, MembersAtLeast}
+use Rattle.predicates_dynamic.specs.declared.check.Check.TheVariants.{Leaf, Not, Named, Pair, Row, Members}
+use Rattle.predicates_dynamic.specs.declared.quota.Quota.{Quota}
 use Rattle.predicates_dynamic.specs.Trees.{computed}
-use Rattle.predicates_dynamic.proofs.Unrolled.{leaf_tree, not_tree, named_tree, pair_tree, row_tree, counted_tree, odd_tree, quantified_tree, members_tree}
+use Rattle.predicates_dynamic.proofs.Unrolled.{leaf_tree, not_tree, named_tree, pair_tree, row_tree, members_tree}
 use Rattle.predicates_dynamic.specs.Sizes.{tree_size, size_of, sizes_of, size_left, steps, left_of, left_over}
 
 grow : (n d m : ℕ) → m ≡ d + n → steps n ≤ steps m
@@ -45,20 +46,11 @@ module _ {L V S : Type 0} where
   pub pair_size : (s : S) (op : Operator) (a b : Box (Check L V S) Global) → size_of (Pair s op a b) ≡ suc (size_of a.value + size_of b.value)
   pair_size s op a b = ap tree_size (pair_tree (λ _. computed) s op a b)
 
-  pub quantified_size : (s : S) (decides : Bool) (view : V) (b : Box (Check L V S) Global) → size_of (Quantified s decides view b) ≡ suc (size_of b.value)
-  quantified_size s decides view b = ap tree_size (quantified_tree (λ _. computed) s decides view b)
+  pub row_size : (s : S) (q : Quota) (cs : Vec (Check L V S) Global) → size_of (Row s q cs) ≡ suc (sizes_of cs.items)
+  row_size s q cs = ap tree_size (row_tree (λ _. computed) s q cs)
 
-  pub members_size : (s : S) (least : ℕ) (view : V) (b : Box (Check L V S) Global) → size_of (MembersAtLeast s least view b) ≡ suc (size_of b.value)
-  members_size s least view b = ap tree_size (members_tree (λ _. computed) s least view b)
-
-  pub row_size : (s : S) (decides : Bool) (cs : Vec (Check L V S) Global) → size_of (Row s decides cs) ≡ suc (sizes_of cs.items)
-  row_size s decides cs = ap tree_size (row_tree (λ _. computed) s decides cs)
-
-  pub counted_size : (s : S) (least : ℕ) (cs : Vec (Check L V S) Global) → size_of (AtLeast s least cs) ≡ suc (sizes_of cs.items)
-  counted_size s least cs = ap tree_size (counted_tree (λ _. computed) s least cs)
-
-  pub odd_size : (s : S) (cs : Vec (Check L V S) Global) → size_of (Odd s cs) ≡ suc (sizes_of cs.items)
-  odd_size s cs = ap tree_size (odd_tree (λ _. computed) s cs)
+  pub members_size : (s : S) (q : Quota) (view : V) (b : Box (Check L V S) Global) → size_of (Members s q view b) ≡ suc (size_of b.value)
+  members_size s q view b = ap tree_size (members_tree (λ _. computed) s q view b)
 
   pub fewer : (a : Check L V S) (n : ℕ) (p q : Option (Check L V S)) → size_of a + size_left p < n + size_left q → left_over a p < left_of n q
   fewer a n p q h = fewer_left (size_of a + size_left p) (n + size_left q) (size_of a) n h (omega arith)

@@ -1,5 +1,8 @@
 pub mod Rows
-pub mod OddRows
+pub mod Counted
 pub mod Listing
 pub mod Dropping
 mod Unrolled
+pub mod Answered
+pub mod OddRows
+pub mod QuotaTallies

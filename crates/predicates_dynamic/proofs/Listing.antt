@@ -13,14 +13,14 @@ use Rattle.predicates_dynamic.specs.declared.check.Check.{Check}
 use Rattle.predicates_dynamic.specs.Trees.{Words, trees_of, tree_of}
 use Rattle.predicates_dynamic.specs.Formulas.{tree_texts, check_text}
 use Rattle.predicates_dynamic.specs.Described.{row_parts, check_parameters, check_parts}
-use Rattle.predicates_dynamic.specs.Listed.{joined_texts, row_text, text_at}
+use Rattle.predicates_dynamic.specs.Listed.{joined_texts, texts_behind, text_at}
 
 pub joined_last : (ts : List (Option (List ℕ))) (t : Option (List ℕ)) → joined_texts (ts ++ t ∷ []) ≡ joined_texts ts ++? text_at (length ts) t
 joined_last [] t = nothing_behind t ∙ sym (nothing_before t)
 joined_last (s ∷ ts) t = ap (λ z. s ++? z) (further_last ts t) ∙ sym (then_text_assoc s (further_texts ts) (Some (codes ", ") ++? t))
 
 -- the texts, apart from where the first one ends
-pub listed : (before : List ℕ) (ts : List (Option (List ℕ))) → listed_text before ts ≡ row_text before (joined_texts ts)
+pub listed : (before : List ℕ) (ts : List (Option (List ℕ))) → listed_text before ts ≡ texts_behind before (joined_texts ts)
 listed before [] = refl
 listed before (t ∷ ts) = ap (λ z. Some before ++? (Some (codes "(") ++? z)) (sym (then_text_assoc t (further_texts ts) (Some (codes ")"))))
 

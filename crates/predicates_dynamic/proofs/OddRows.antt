@@ -1,281 +1,258 @@
--- The truth of a row of which an odd number has to hold, the case that explains it and what would turn
--- it, from those of its parts.
-use Rattle.std.proofs.Common.{◌≡◌, ◌≢◌, ℕ, suc, ◌+◌, ◌<◌, Bool, true, false, List, [], ◌∷◌, ◌++◌, Option, Some, None, map, length, take, get_or, refl, sym, ap, ◌∙◌, subst, arith, codes, Result, IfOk}
-use Rattle.std.specs.Prelude.{not, ◌==◌, bytes_eq}
-use Rattle.std.specs.Fmt.{decimal}
-use Rattle.std.specs.List.{AllZip}
+-- What is found of several of which an odd number has to hold, from what was found of each.
+use Rattle.std.proofs.Common.{◌≡◌, ℕ, zero, suc, ◌+◌, ◌≤◌, ◌<◌, ◌⊎◌, Bool, true, false, List, [], ◌∷◌, ◌++◌, Option, Some, None, Ok, map, length, take, get_or, refl, sym, ap, ◌∙◌, subst, arith, inl, inr, ⊎_elim}
+use Rattle.std.specs.Prelude.{◌==◌, ◌%◌, ◌||◌}
+use Rattle.std.specs.declared.alloc.AllocError.{AllocError}
 use Rattle.std.proofs.lemmas.Bool.Decides.{nat_tests}
-use Rattle.std.proofs.lemmas.List.{take_more}
-use Rattle.std.proofs.lemmas.Slice.Eq.{bytes_eq-Decides}
-use mathlib.Core.Bool.{beq}
-use Rattle.predicates_core.specs.Label.{Label, Entry, Fits, plain}
+use Rattle.std.proofs.lemmas.List.{take_more, take_all, length-take-le, map-append}
+use Rattle.predicates_core.specs.Label.{Label, Entry, plain}
 use Rattle.predicates_core.specs.declared.custom.join.Operator.TheVariants.{Xor}
-use Rattle.predicates_core.specs.Formula.{Formula, Formulas, one, more, Join, differ, truth, size, HasTruth}
-use Rattle.predicates_core.specs.Reason.{IsFirstReason}
-use Rattle.predicates_core.specs.Tree.{Tree, Forest, empty, branch, forest}
-use Rattle.predicates_core.specs.Describe.{CaseNode, NamedCase}
-use Rattle.predicates_core.specs.Leaves.{IsExactly, IsShowing}
-use Rattle.predicates_core.specs.Shows.{FitsNode, ShowsPart, ShowsNumbered, Shows, ShowsParts, Explains, IsCaseOf, IsFound, IsNode, with_index}
-use Rattle.predicates_core.specs.ShowsChange.{ShowsChange, ShowsTurned, are_under, are_alike}
-use Rattle.predicates_core.specs.Change.{IsFirstChange, ExplainsChange, IsChangeOf, IsFoundChange}
-use Rattle.predicates_core.specs.Several.{AreOfEach, no_members}
+use Rattle.predicates_core.specs.Formula.{Formula, Formulas, one, more, Join, one_if, truth, size, HasTruth}
+use Rattle.predicates_core.specs.Kinds.{Kind, reasons, changes, First}
+use Rattle.predicates_core.specs.Tree.{Tree, Forest, empty, branch, forest, add_last}
+use Rattle.predicates_core.specs.Describe.{CaseNode, with_child}
+use Rattle.predicates_core.specs.Asked.{is_other, shown_verdict}
+use Rattle.predicates_core.specs.Leaves.{IsExactly}
+use Rattle.predicates_core.specs.Several.{AreOfEach, is_absent}
+use Rattle.predicates_core.specs.Shows.{ShowsPart, ShowsNumbered, Shows, ShowsParts, ExplainsBy, IsCaseBy, IsFound, IsFoundBy, IsNode}
+use Rattle.predicates_core.specs.Tally.{kind_of, IsAsked}
+use Rattle.predicates_core.specs.Thresholds.{settled}
+use Rattle.predicates_core.specs.declared.custom.tally.Sought.{Sought}
+use Rattle.predicates_core.proofs.BothKinds.{same_first, first_numbers}
+use Rattle.predicates_core.proofs.ChangeCases.{exact_leaf, leaf_found}
+use Rattle.predicates_core.proofs.CombinedLemmas.{node_fits}
+use Rattle.predicates_core.proofs.Fewer.{fewer_found}
+use Rattle.predicates_core.proofs.FirstOf.{one_carries, first_of_odd, one_list}
+use Rattle.predicates_core.proofs.Found.{truth_of_none, truth_found, case_found, other_wanted, case_wanted}
 use Rattle.predicates_core.proofs.Numbers.{shifted}
-use Rattle.predicates_core.proofs.Joins.{joins}
-use Rattle.predicates_core.proofs.Values.{truth-one, truth-more, truth-Leaf}
-use Rattle.predicates_core.proofs.FirstOfJoins.{both_first}
-use Rattle.predicates_core.proofs.FirstReasonOf.{first-one, xor_both}
-use Rattle.predicates_core.proofs.FirstChange.{left_first}
-use Rattle.predicates_core.proofs.FirstChangeOf.{change-one, xor_left}
-use Rattle.predicates_core.proofs.ChangeCases.{change_numbers, place_turned, shows_no_change, exact_leaf, leaf_found}
-use Rattle.predicates_core.proofs.Shown.{told, not_empty, numbers_of, shows_part, left_share-alone, right_share-alone, left_share-joined, right_share-joined}
-use Rattle.predicates_core.proofs.CombinedLemmas.{node_fits, node_of_text}
-use Rattle.predicates_core.proofs.Fewer.{found_of_fewer, found_change_of_fewer}
-use Rattle.predicates_core.proofs.Found.{truth_of_none}
-use Rattle.predicates_core.proofs.Leaves.{HasTruth-exactly}
-use Rattle.predicates_core.proofs.Several.{all_zip_last, formula_at, some_member}
-use Rattle.predicates_dynamic.specs.OddRows.{IsOfOddRow}
+use Rattle.predicates_core.proofs.Several.{forest-add_last, formula_at}
+use Rattle.predicates_core.proofs.Shown.{not_empty, shows_part, shows_all, shows_none}
+use Rattle.predicates_dynamic.specs.declared.odd.OddTally.{OddTally}
+use Rattle.predicates_dynamic.specs.declared.quota.Quota.TheVariants.{Odd}
+use Rattle.predicates_dynamic.specs.OddTallies.{odd_asks, with_found, OddTakes, OddAnswers}
+use Rattle.predicates_dynamic.specs.Quotas.{IsOfQuota}
+use Rattle.predicates_dynamic.proofs.Counted.{Counted, counted_more, met_truth}
 
--- whether an odd number of the truths holds
-abbrev pub parity : List Bool → Bool
-parity [] = false
-parity (b ∷ bs) = differ b (parity bs)
-
-differ_false : (b : Bool) → differ b false ≡ b
-differ_false true = refl
-differ_false false = refl
-
-differ_more : (a b c : Bool) → differ a (not (beq b c)) ≡ not (beq (differ a b) c)
-differ_more true true true = refl
-differ_more true true false = refl
-differ_more true false true = refl
-differ_more true false false = refl
-differ_more false b c = refl
-
-parity_more : (bs : List Bool) (b : Bool) → parity (bs ++ b ∷ []) ≡ not (beq (parity bs) b)
-parity_more [] true = refl
-parity_more [] false = refl
-parity_more (a ∷ bs) b = ap (differ a) (parity_more bs b) ∙ differ_more a (parity bs) b
-
-suc_not_zero : (n : ℕ) → (suc n == 0) ≡ false
-suc_not_zero n = grind (arith, nat_tests)
-
-pub some_of_length : {U : Type 0} (us : List U) → (length us == 0) ≡ false → us ≢ []
-some_of_length [] e is = absurd (let apart : true ≡ false = e in cc)
-some_of_length (u ∷ us) e is = cc
-
-pub none_of_length : {U : Type 0} (us : List U) → (length us == 0) ≡ true → us ≡ []
-none_of_length [] e = refl
-none_of_length (u ∷ us) e = absurd (let apart : false ≡ true = sym (suc_not_zero (length us)) ∙ e in cc)
-
-pub zip_more : {A B : Type 0} (R : A → B → Type 0) (us : List A) (ys : List B) (k : ℕ) (u : A) (y : B) → k < length us → u ≡ get_or us k u → AllZip R (take k us) ys → R u y → AllZip R (take (k + 1) us) (ys ++ y ∷ [])
-zip_more R us ys k u y within is h r = subst (λ z. AllZip R z (ys ++ y ∷ [])) (ap (λ z. take k us ++ z ∷ []) is ∙ sym (take_more us k u within)) (all_zip_last R (take k us) ys h r)
+-- one case more
+pub node_more : {text : Entry} {b : Bool} (name : List ℕ) (cs : List (Tree CaseNode)) (c : Tree CaseNode) {t s : Tree CaseNode} → IsNode text b (map (λ z. (name, z)) cs) t → s ≡ with_child t name c → IsNode text b (map (λ z. (name, z)) (cs ++ c ∷ [])) s
+node_more name cs c {t} {s} h e = rw e (record {
+  text = h.text;
+  result = h.result;
+  products = h.products;
+  children = ap (λ f. add_last f name c) h.children ∙ forest-add_last (map (λ z. (name, z)) cs) name c ∙ ap forest (sym (map-append (λ z. (name, z)) cs (c ∷ [])));
+})
 
 module _ {U : Type 0} (has : U → Formula → Type 0) where
-  -- ---- truths
+  -- ---- the cases so far: of each for a reason, of the first for a change
 
-  abbrev pub AreTruths : List U → List Bool → Type 0
-  AreTruths us bs = AllZip (λ u b. HasTruth (has u) b) us bs
+  abbrev pub HasCase : Kind → U → Tree CaseNode → Type 0
+  HasCase q u c = (b : Bool) × IsCaseBy q (has u) b c
 
-  -- the truths of the first parts, and whether an odd number of them holds
-  pub record IsParity (us : List U) (odd : Bool) : Type 0 where
-    pub truths : List Bool
-    pub are : AreTruths us truths
-    pub is : odd ≡ parity truths
+  abbrev pub HaveCases : Kind → List U → List (Tree CaseNode) → Type 0
+  HaveCases q [] cs = cs ≡ []
+  HaveCases q (u ∷ us) [] = ⊥
+  HaveCases reasons (u ∷ us) (c ∷ cs) = HasCase reasons u c × HaveCases reasons us cs
+  HaveCases changes (u ∷ us) (c ∷ cs) = HasCase changes u c × (cs ≡ [])
 
-  pub parity_none : IsParity [] false
-  parity_none = record { truths = []; are = tt; is = refl }
+  case_last : (us : List U) (cs : List (Tree CaseNode)) (u : U) (c : Tree CaseNode) → HasCase reasons u c → HaveCases reasons us cs → HaveCases reasons (us ++ u ∷ []) (cs ++ c ∷ [])
+  case_last [] [] u c h k = (h, refl)
+  case_last [] (d ∷ cs) u c h k = absurd (cc)
+  case_last (v ∷ us) [] u c h k = absurd k
+  case_last (v ∷ us) (d ∷ cs) u c h k = (k.0, case_last us cs u c h k.1)
 
-  pub parity_one_more : (us : List U) {k : ℕ} {u : U} {odd b : Bool} → k < length us → u ≡ get_or us k u → IsParity (take k us) odd → HasTruth (has u) b → IsParity (take (k + 1) us) (not (beq odd b))
-  parity_one_more us {k} {u} {odd} {b} within is p h = record {
-    truths = p.truths ++ b ∷ [];
-    are = zip_more (λ v c. HasTruth (has v) c) us p.truths k u b within is p.are h;
-    is = ap (λ z. not (beq z b)) p.is ∙ sym (parity_more p.truths b);
-  }
+  never_none : (asked : Option Bool) → asked ≡ None → is_absent asked None ≡ false → ⊥
+  never_none asked is some = let e : true ≡ false = subst (λ z. is_absent z None ≡ false) is some in absurd (cc)
 
-  no_truths : (us : List U) (bs : List Bool) → us ≡ [] → AreTruths us bs → bs ≡ []
-  no_truths [] [] e h = refl
-  no_truths [] (b ∷ bs) e h = absurd h
-  no_truths (u ∷ us) bs e h = absurd (cc)
+  of_found : (q : Kind) (u : U) (asked : Option Bool) (c : Tree CaseNode) → asked ≡ None → IsFoundBy q (has u) asked (Some c) → HasCase q u c
+  of_found q u asked c is x = (c.root.result, subst (λ z. IsFoundBy q (has u) z (Some c)) is x)
 
-  truth_of_parity : (name : List ℕ) (label : Label) (us : List U) (fs : Formulas) (bs : List Bool) → AreOfEach name has us fs → AreTruths us bs → truth (Join Xor label fs) ≡ parity bs
-  truth_of_parity name label [] fs bs of h = absurd of
-  truth_of_parity name label (u ∷ us) fs [] of h = absurd h
-  truth_of_parity name label (u ∷ us) (one n f) (b ∷ bs) of h =
-      truth-one Xor label n f ∙ h.0.at f of.1 ∙ sym (differ_false b) ∙ ap (λ z. differ b (parity z)) (sym (no_truths us bs of.2 h.1))
-  truth_of_parity name label (u ∷ us) (more n f fs) (b ∷ bs) of h =
-      truth-more Xor label n f fs ∙ ap (λ z. differ z (truth (Join Xor label fs))) (h.0.at f of.1) ∙ ap (differ b) (truth_of_parity name label us fs bs of.2 h.1)
-
-  pub odd_truth : (text : Entry) (name : List ℕ) (us : List U) {odd : Bool} → IsParity us odd → HasTruth (IsOfOddRow text name has us) odd
-  odd_truth text name [] {odd} p = record { at = λ f x. (HasTruth-exactly (ap parity (sym (no_truths [] p.truths refl p.are)) ∙ sym p.is)).at f (x.of_none refl) }
-  odd_truth text name (u ∷ us) {odd} p = record {
-    at = λ f x.
-        let s = x.of_some (λ e. cc) in
-        ap truth s.is ∙ truth_of_parity name (plain text) (u ∷ us) s.formulas p.truths s.of_each p.are ∙ sym p.is;
-  }
-
--- ---- cases
-
-module _ {U : Type 0} (has : U → Formula → Type 0) where
-  -- a case of a part, whichever its truth is
-  abbrev pub IsSomeCase : U → Tree CaseNode → Type 0
-  IsSomeCase u c = (b : Bool) × IsCaseOf (has u) b c
+  cases_next : (turns : Bool) (us : List U) (cs : List (Tree CaseNode)) (u : U) (asked : Option Bool) (found : Option (Tree CaseNode)) → IsAsked (odd_asks turns (length us)) asked found → IsFoundBy (kind_of turns) (has u) asked found → is_absent asked found ≡ false → HaveCases (kind_of turns) us cs → HaveCases (kind_of turns) (us ++ u ∷ []) (with_found cs found)
+  cases_next false us cs u asked None is x some h = absurd (never_none asked is some)
+  cases_next false us cs u asked (Some c) is x some h = case_last us cs u c (of_found reasons u asked c is x) h
+  cases_next true [] cs u asked None is x some h = absurd (never_none asked is some)
+  cases_next true [] [] u asked (Some c) is x some h = (of_found changes u asked c is x, refl)
+  cases_next true [] (d ∷ cs) u asked (Some c) is x some h = absurd (cc)
+  cases_next true (v ∷ us) [] u asked found is x some h = absurd h
+  cases_next true (v ∷ us) (d ∷ cs) u asked None is x some h = h
+  cases_next true (v ∷ us) (d ∷ cs) u asked (Some c) is x some h = absurd (cc)
 
 module _ {U : Type 0} (name : List ℕ) (has : U → Formula → Type 0) where
-  no_cases : (us : List U) (cs : List (Tree CaseNode)) → us ≡ [] → AllZip (IsSomeCase has) us cs → cs ≡ []
-  no_cases [] [] e h = refl
-  no_cases [] (c ∷ cs) e h = absurd h
+  -- ---- what they show
+
+  no_cases : (us : List U) (cs : List (Tree CaseNode)) → us ≡ [] → HaveCases has reasons us cs → cs ≡ []
+  no_cases [] cs e h = h
   no_cases (u ∷ us) cs e h = absurd (cc)
 
-  part_shown : {n : List ℕ} {f : Formula} {c : Tree CaseNode} (rest : Forest CaseNode) → n ≡ name → (x : Explains f c) → ShowsPart (Shows f) n x.leaves (branch name c.root c.children rest) rest
-  part_shown {n} {f} {c} rest e x = subst (λ z. ShowsPart (Shows f) n x.leaves (branch z c.root c.children rest) rest) e (shows_part (Shows f) n rest x.leaves c (not_empty f x.leaves x.first) x.shown)
+  place_shown : (q : Kind) (k : ℕ) {n : List ℕ} {f : Formula} {c : Tree CaseNode} (rest : Forest CaseNode) → n ≡ name → (x : ExplainsBy q f c) → ShowsPart (ShowsNumbered false k (Shows q f)) n x.leaves (branch name c.root c.children rest) rest
+  place_shown q k {n} {f} {c} rest e x = subst (λ z. ShowsPart (ShowsNumbered false k (Shows q f)) n x.leaves (branch z c.root c.children rest) rest) e (shows_part (ShowsNumbered false k (Shows q f)) n rest x.leaves c (not_empty q f x.leaves x.first) (c, refl, x.shown))
 
-  abbrev AreShown : Label → Formulas → List NamedCase → Type 0
-  AreShown label fs cases = (leaves : List ℕ) × IsFirstReason (Join Xor label fs) leaves × ShowsParts fs (forest cases) leaves
+  abbrev AreShown : Kind → ℕ → Label → Formulas → List (Tree CaseNode) → Type 0
+  AreShown q k label fs cs = (leaves : List ℕ) × First q (Join Xor label fs) leaves × ShowsParts q false k fs (forest (map (λ c. (name, c)) cs)) leaves
 
-  every_shown : (label : Label) (us : List U) (fs : Formulas) (cs : List (Tree CaseNode)) → AreOfEach name has us fs → AllZip (IsSomeCase has) us cs → AreShown label fs (map (λ c. (name, c)) cs)
+  every_shown : (k : ℕ) (label : Label) (us : List U) (fs : Formulas) (cs : List (Tree CaseNode)) → AreOfEach name has us fs → HaveCases has reasons us cs → AreShown reasons k label fs cs
   unfolding Shows
-  every_shown label [] fs cs of h = absurd of
-  every_shown label (u ∷ us) fs [] of h = absurd h
-  every_shown label (u ∷ us) (one n f) (c ∷ cs) of h =
+  every_shown k label [] fs cs of h = absurd of
+  every_shown k label (u ∷ us) fs [] of h = absurd h
+  every_shown k label (u ∷ us) (one n f) (c ∷ cs) of h =
       let x = h.0.1.explains f of.1 in
       let alone : forest (map (λ d. (name, d)) cs) ≡ empty = ap (λ ds. forest (map (λ d. (name, d)) ds)) (no_cases us cs of.2 h.1) in
-      (x.leaves, first-one Xor label n f x.leaves x.first, subst (λ rest. ShowsPart (Shows f) n x.leaves (branch name c.root c.children rest) empty) (sym alone) (part_shown empty of.0 x))
-  every_shown label (u ∷ us) (more n f fs) (c ∷ cs) of h =
+      (x.leaves, same_first reasons (one_carries Xor label n f) x.leaves x.first, subst (λ rest. ShowsPart (ShowsNumbered false k (Shows reasons f)) n x.leaves (branch name c.root c.children rest) empty) (sym alone) (place_shown reasons k empty of.0 x))
+  every_shown k label (u ∷ us) (more n f fs) (c ∷ cs) of h =
       let x = h.0.1.explains f of.1 in
-      let ih = every_shown label us fs cs of.2 h.1 in
-      let numbers = numbers_of f x.leaves x.first in
+      let ih = every_shown (suc k) label us fs cs of.2 h.1 in
       let children = forest (map (λ d. (name, d)) cs) in (
         x.leaves ++ shifted (size f) ih.0,
-        both_first (joins Xor label n f fs) (xor_both (truth f) (truth (Join Xor label fs))) x.leaves ih.0 x.first ih.1,
-        (
-          children,
-          subst (λ s. ShowsPart (Shows f) n s (branch name c.root c.children children) children) (sym (left_share-joined 0 (size f) x.leaves ih.0 numbers)) (part_shown children of.0 x),
-          subst (ShowsParts fs children) (sym (right_share-joined 0 (size f) x.leaves ih.0 numbers)) ih.2,
-        ),
+        first_of_odd label n f fs reasons x.leaves ih.0 x.first ih.1,
+        shows_all (ShowsNumbered false k (Shows reasons f)) n (ShowsParts reasons false (suc k) fs) (size f) x.leaves ih.0 (first_numbers reasons f x.leaves x.first) (branch name c.root c.children children) children (place_shown reasons k children of.0 x) ih.2,
       )
 
-  -- a node with the truth over the cases of the parts, in order
-  pub odd_case : (text : Entry) {b : Bool} {us : List U} {t : Tree CaseNode} (cs : List (Tree CaseNode)) → us ≢ [] → HasTruth (IsOfOddRow text name has us) b → AllZip (IsSomeCase has) us cs → IsNode text b (map (λ c. (name, c)) cs) t → IsCaseOf (IsOfOddRow text name has us) b t
+  first_shown : (label : Label) (us : List U) (fs : Formulas) (cs : List (Tree CaseNode)) → AreOfEach name has us fs → HaveCases has changes us cs → AreShown changes 0 label fs cs
   unfolding Shows
-  odd_case text {b} {us} {t} cs some h are node = record {
+  first_shown label [] fs cs of h = absurd of
+  first_shown label (u ∷ us) fs [] of h = absurd h
+  first_shown label (u ∷ us) (one n f) (c ∷ cs) of h =
+      let x = h.0.1.explains f of.1 in
+      let alone : forest (map (λ d. (name, d)) cs) ≡ empty = ap (λ ds. forest (map (λ d. (name, d)) ds)) h.1 in
+      (x.leaves, same_first changes (one_carries Xor label n f) x.leaves x.first, subst (λ rest. ShowsPart (ShowsNumbered false 0 (Shows changes f)) n x.leaves (branch name c.root c.children rest) empty) (sym alone) (place_shown changes 0 empty of.0 x))
+  first_shown label (u ∷ us) (more n f fs) (c ∷ cs) of h =
+      let x = h.0.1.explains f of.1 in
+      let others = one_list changes (Join Xor label fs) in
+      let alone : forest (map (λ d. (name, d)) cs) ≡ empty = ap (λ ds. forest (map (λ d. (name, d)) ds)) h.1 in
+      let leaves = x.leaves ++ [] in
+      let shown : ShowsParts changes false 0 (more n f fs) (branch name c.root c.children empty) leaves = shows_all (ShowsNumbered false 0 (Shows changes f)) n (ShowsParts changes false 1 fs) (size f) x.leaves [] (first_numbers changes f x.leaves x.first) (branch name c.root c.children empty) empty (place_shown changes 0 empty of.0 x) (shows_none changes false 1 fs) in (
+        leaves,
+        first_of_odd label n f fs changes x.leaves others.0 x.first others.1,
+        subst (λ rest. ShowsParts changes false 0 (more n f fs) (branch name c.root c.children rest) leaves) (sym alone) shown,
+      )
+
+  cases_shown : (q : Kind) (label : Label) (us : List U) (fs : Formulas) (cs : List (Tree CaseNode)) → AreOfEach name has us fs → HaveCases has q us cs → AreShown q 0 label fs cs
+  cases_shown reasons = every_shown 0
+  cases_shown changes = first_shown
+
+  -- a node with the truth over the cases
+  odd_case : (q : Kind) (text : Entry) {b : Bool} {us : List U} {t : Tree CaseNode} (cs : List (Tree CaseNode)) → 1 ≤ length us → HasTruth (IsOfQuota Odd text name has us) b → HaveCases has q us cs → IsNode text b (map (λ c. (name, c)) cs) t → IsCaseBy q (IsOfQuota Odd text name has us) b t
+  unfolding Shows
+  odd_case q text {b} {us} {t} cs some h are node = record {
     truth = h;
     explains = λ f x.
-        let s = x.of_some some in
-        let fs = s.formulas in
-        let shown = every_shown (plain text) us fs cs s.of_each are in
-        let fit : FitsNode (plain text) (truth (Join Xor (plain text) fs)) t.root = node_fits text b _ _ t node (ap truth (sym s.is) ∙ h.at f x) in
-        subst (λ g. Explains g t) (sym s.is) (record {
+        let o = x.of_number.of_counted (omega arith) some in
+        let fs = o.formulas in
+        let shown = cases_shown q (plain text) us fs cs o.of_each are in
+        let fits = node_fits text b (truth (Join Xor (plain text) fs)) (map (λ c. (name, c)) cs) t node (ap truth (sym o.is) ∙ h.at f x) in
+        subst (λ g. ExplainsBy q g t) (sym o.is) (record {
           leaves = shown.0;
           first = shown.1;
-          shown = (fit, subst (λ ch. ShowsParts fs ch shown.0) (sym node.children) shown.2);
+          shown = (fits, subst (λ ch. ShowsParts q false 0 fs ch shown.0) (sym node.children) shown.2);
         });
   }
 
--- ---- changes
+-- nothing was found of a part, whichever its truth: it has no formula
+no_formula : (q : Kind) (F : Formula → Type 0) (asked : Option Bool) (found : Option (Tree CaseNode)) → is_absent asked found ≡ true → IsFoundBy q F asked found → (f : Formula) → F f → ⊥
+no_formula q F None None e x = x
+no_formula q F None (Some c) e x = absurd (cc)
+no_formula q F (Some w) found e x = absurd (cc)
 
-differ_is : (a b : Bool) → differ a b ≡ not (beq a b)
-differ_is true true = refl
-differ_is true false = refl
-differ_is false true = refl
-differ_is false false = refl
+absent_or_not : (asked : Option Bool) (found : Option (Tree CaseNode)) → (is_absent asked found ≡ true) ⊎ (is_absent asked found ≡ false)
+absent_or_not None None = inl refl
+absent_or_not None (Some c) = inr refl
+absent_or_not (Some w) found = inr refl
 
-same_name : (name : List ℕ) → bytes_eq name name ≡ true
-same_name name = (bytes_eq-Decides name name).1 refl
+zero_told : (n : ℕ) → (n == 0) ≡ true → n ≡ 0
+zero_told n e = grind (arith, nat_tests)
 
-module _ {U : Type 0} (name : List ℕ) (has : U → Formula → Type 0) where
-  parts_under : (us : List U) (fs : Formulas) → AreOfEach name has us fs → are_under name fs ≡ true
-  parts_under [] fs of = absurd of
-  parts_under (u ∷ us) (one n f) of = rw of.0 (same_name name)
-  parts_under (u ∷ us) (more n f fs) of = rw (of.0, same_name name, parts_under us fs of.2) refl
+some_told : (n m : ℕ) → (n == 0) ≡ false → n ≡ m → 1 ≤ m
+some_told n m e is = grind (arith, nat_tests)
 
-  parts_alike : (us : List U) (fs : Formulas) → AreOfEach name has us fs → are_alike fs ≡ true
-  parts_alike [] fs of = absurd of
-  parts_alike (u ∷ us) (one n f) of = refl
-  parts_alike (u ∷ us) (more n f fs) of = rw of.0 (parts_under us fs of.2)
+-- what was found of the first k of all
+pub record IsOddOf {U : Type 0} (s : Sought) (name : List ℕ) (has : U → Formula → Type 0) (us : List U) (k : ℕ) (t : OddTally) : Type 0 where
+  pub sought_is : t.sought ≡ s
+  pub seen : t.seen ≡ k
+  pub counted : t.absent ≡ false → Counted has (take k us) t.held
+  pub cases : t.absent ≡ false → HaveCases has (kind_of s.turns) (take k us) t.cases.items
+  pub none : t.absent ≡ true → (fs : Formulas) → AreOfEach name has us fs → ⊥
 
-  -- the first part turns the whole
-  first_turns : (label : Label) (u : U) (us : List U) (fs : Formulas) {b : Bool} (c : Tree CaseNode) → AreOfEach name has (u ∷ us) fs → IsChangeOf (has u) b c → (leaves : List ℕ) × IsFirstChange (Join Xor label fs) leaves × ShowsTurned true 0 fs (forest ((name, with_index 0 c) ∷ [])) leaves
-  unfolding ShowsChange
-  first_turns label u us (one n f) c of h =
-      let x = h.explains f of.1 in
-      (x.leaves, change-one Xor label n f x.leaves x.first, place_turned name n f c (with_index 0 c) 0 empty of.0 refl x)
-  first_turns label u us (more n f fs) c of h =
-      let x = h.explains f of.1 in
-      let numbers = change_numbers f x.leaves x.first in (
-        x.leaves,
-        left_first (joins Xor label n f fs) (xor_left (truth f) (truth (Join Xor label fs))) x.leaves x.first,
-        (
-          empty,
-          subst (λ s. ShowsPart (ShowsNumbered 0 (ShowsChange f)) n s (forest ((name, with_index 0 c) ∷ [])) empty) (sym (left_share-alone (size f) x.leaves numbers)) (place_turned name n f c (with_index 0 c) 0 empty of.0 refl x),
-          subst (ShowsTurned true 1 fs empty) (sym (right_share-alone (size f) x.leaves numbers)) (shows_no_change 1 fs),
-        ),
-      )
+module _ {U : Type 0} (s : Sought) (name : List ℕ) (has : U → Formula → Type 0) (us : List U) where
+  pub odd_none : (t : OddTally) → (t.sought ≡ s) × (t.seen ≡ 0) × (t.held ≡ 0) × (t.cases.items ≡ []) × (t.absent ≡ false) → IsOddOf s name has us 0 t
+  odd_none t h = record {
+    sought_is = h.0;
+    seen = h.1;
+    counted = λ e. h.2;
+    cases = λ e. h.3;
+    none = λ e. absurd (let apart : true ≡ false = sym e ∙ h.4 in cc);
+  }
 
-  pub odd_change : (text : Entry) (us : List U) {u : U} {rest : List U} {b expected : Bool} {c d t : Tree CaseNode} {bytes : List ℕ} → us ≡ u ∷ rest → HasTruth (IsOfOddRow text name has us) expected → IsNode (Some bytes) expected ((name, d) ∷ []) t → Fits text bytes → IsChangeOf (has u) b c → IsShowing (codes "index") (Some (decimal 0)) c d → IsChangeOf (IsOfOddRow text name has us) expected t
-  unfolding ShowsChange
-  odd_change text us {u} {rest} {b} {expected} {c} {d} {t} e h written fits x tells =
-      let node : IsNode text expected ((name, d) ∷ []) t = node_of_text written fits in
-      let children : t.children ≡ forest ((name, with_index 0 c) ∷ []) = node.children ∙ ap (λ z. forest ((name, z) ∷ [])) (told 0 tells) in
-      let some : us ≢ [] = λ none. (let both : u ∷ rest ≡ [] = sym e ∙ none in absurd (cc)) in
-      record {
-        truth = h;
-        explains = λ f p.
-            let s = p.of_some some in
-            let fs = s.formulas in
-            let of = subst (λ z. AreOfEach name has z fs) e s.of_each in
-            let y = first_turns (plain text) u rest fs c of x in
-            let fit : FitsNode (plain text) (truth (Join Xor (plain text) fs)) t.root = node_fits text expected _ _ t node (ap truth (sym s.is) ∙ h.at f p) in
-            subst (λ g. ExplainsChange g t) (sym s.is) (record {
-              leaves = y.0;
-              first = y.1;
-              shown = (fit, subst (λ tells. ShowsTurned tells 0 fs t.children y.0) (sym (parts_alike (u ∷ rest) fs of)) (subst (λ ch. ShowsTurned true 0 fs ch y.0) (sym children) y.2));
-            });
+  pub odd_next : {k : ℕ} {u : U} (old new : OddTally) (asked : Option Bool) (found : Option (Tree CaseNode)) → k < length us → u ≡ get_or us k u → old.absent ≡ false → IsOddOf s name has us k old → IsAsked (odd_asks old.sought.turns old.seen) asked found → IsFoundBy (kind_of s.turns) (has u) asked found → OddTakes asked found old new → IsOddOf s name has us (k + 1) new
+  odd_next {k} {u} old new asked found within is present h asks x takes = ⊎_elim absent known (absent_or_not asked found)
+    where
+      longer : take (k + 1) us ≡ take k us ++ u ∷ []
+      longer = take_more us k u within ∙ ap (λ z. take k us ++ z ∷ []) (sym is)
+
+      absent : is_absent asked found ≡ true → IsOddOf s name has us (k + 1) new
+      absent e = record {
+        sought_is = takes.sought ∙ h.sought_is;
+        seen = let a = takes.seen in let b = h.seen in omega (arith, a, b);
+        counted = λ no. absurd (let apart : true ≡ false = sym (takes.absent e) ∙ no in cc);
+        cases = λ no. absurd (let apart : true ≡ false = sym (takes.absent e) ∙ no in cc);
+        none = λ _ fs of. let g = formula_at name has us k u fs within is of in no_formula (kind_of s.turns) (has u) asked found e x g.0 g.1;
       }
 
-  no_part_has : (text : Entry) (us : List U) → us ≡ [] → IsOfOddRow text name has us (no_members text false)
-  no_part_has text us e = record { of_none = λ _. record { is = refl }; of_some = λ some. absurd (some e) }
+      known : is_absent asked found ≡ false → IsOddOf s name has us (k + 1) new
+      known e = record {
+        sought_is = takes.sought ∙ h.sought_is;
+        seen = let a = takes.seen in let b = h.seen in omega (arith, a, b);
+        counted = λ no. counted_more has us k old.held new.held u (shown_verdict asked found) within is (h.counted present) (truth_found (kind_of s.turns) asked found x) (takes.held e);
+        cases = λ no. subst (HaveCases has (kind_of s.turns) (take (k + 1) us)) (sym (takes.cases e)) (subst (λ z. HaveCases has (kind_of s.turns) z (with_found old.cases.items found)) (sym longer) (cases_next has s.turns (take k us) old.cases.items u asked found asked_so x e (h.cases present)));
+        none = λ yes. absurd (let apart : true ≡ false = sym yes ∙ takes.present e ∙ present in cc);
+      }
+        where
+          front : length (take k us) ≡ k
+          front = length-take-le k us (omega (arith, within))
 
-  -- the truth of the whole, by those of the first part and of the others
-  pub truth_of_first : (text : Entry) (us : List U) {u : U} {rest : List U} {a b : Bool} → us ≡ u ∷ rest → HasTruth (has u) a → HasTruth (IsOfOddRow text name has rest) b → HasTruth (IsOfOddRow text name has us) (not (beq a b))
-  truth_of_first text us {u} {rest} {a} {b} e h k = record {
-    at = λ f p.
-        let some : us ≢ [] = λ none. (let both : u ∷ rest ≡ [] = sym e ∙ none in absurd (cc)) in
-        let s = p.of_some some in
-        ap truth s.is ∙ by_first s.formulas (subst (λ z. AreOfEach name has z s.formulas) e s.of_each) ∙ differ_is a b;
-  }
+          asked_so : IsAsked (odd_asks s.turns (length (take k us))) asked found
+          asked_so = subst (λ z. IsAsked (odd_asks s.turns z) asked found) (h.seen ∙ sym front) (subst (λ z. IsAsked (odd_asks z.turns old.seen) asked found) h.sought_is asks)
+
+  -- what is found of the whole
+  pub odd_found : (text : Entry) (k : ℕ) (t : OddTally) (found : Option (Tree CaseNode)) → s.number ≡ length us → IsOddOf s name has us k t → (t.absent ≡ true) ⊎ (t.sought.number ≤ t.seen) → k ≤ length us → OddAnswers text name t found → IsFoundBy (kind_of s.turns) (IsOfQuota Odd text name has us) s.wanted found
+  odd_found text k t found all h over within answers = by_number (t.sought.number == 0) refl
     where
-      others : (rs : List U) (n : List ℕ) (f : Formula) (fs : Formulas) → AreOfEach name has rs fs → rs ≡ rest → truth (Join Xor (plain text) fs) ≡ b
-      others [] n f fs of is = absurd of
-      others (r ∷ rs) n f fs of is = k.at (Join Xor (plain text) fs) (subst (λ z. IsOfOddRow text name has z (Join Xor (plain text) fs)) is (record {
-        of_none = λ none. absurd (cc);
-        of_some = λ some. record { formulas = fs; of_each = of; is = refl };
-      }))
+      wanted_is : t.sought.wanted ≡ s.wanted
+      wanted_is = ap (λ z. z.wanted) h.sought_is
 
-      by_first : (fs : Formulas) → AreOfEach name has (u ∷ rest) fs → truth (Join Xor (plain text) fs) ≡ differ a b
-      by_first (one n f) of =
-          let no : b ≡ false = sym (k.at (no_members text false) (no_part_has text rest of.2)) ∙ truth-Leaf _ false in
-          truth-one Xor (plain text) n f ∙ h.at f of.1 ∙ sym (differ_false a) ∙ ap (differ a) (sym no)
-      by_first (more n f fs) of = truth-more Xor (plain text) n f fs ∙ (λ i. differ (h.at f of.1 i) (others rest n f fs of.2 refl i))
+      number_is : t.sought.number ≡ length us
+      number_is = ap (λ z. z.number) h.sought_is ∙ all
 
-  -- ---- no part, and a part without a formula
+      leaf_by : (turns : Bool) → IsFound (IsExactly (settled text 1 0)) s.wanted found → IsFoundBy (kind_of turns) (IsExactly (settled text 1 0)) s.wanted found
+      leaf_by false x = x
+      leaf_by true x = leaf_found {E = AllocError} s.wanted (Ok found) exact_leaf x
 
-  pub found_without_parts : {E : Type 0} (text : Entry) (us : List U) (w : Option Bool) (r : Result (Option (Tree CaseNode)) E) → us ≡ [] → IfOk r (IsFound (IsExactly (no_members text false)) w) → IfOk r (IsFound (IsOfOddRow text name has us) w)
-  found_without_parts text us w r e h = found_of_fewer w r (λ f p. p.of_none e) h
+      no_whole : t.absent ≡ true → 1 ≤ length us → (f : Formula) → IsOfQuota Odd text name has us f → ⊥
+      no_whole e some f p = let o = p.of_number.of_counted (omega arith) some in h.none e o.formulas o.of_each
 
-  pub change_without_parts : {E : Type 0} (text : Entry) (us : List U) (w : Option Bool) (r : Result (Option (Tree CaseNode)) E) → us ≡ [] → IfOk r (IsFound (IsExactly (no_members text false)) w) → IfOk r (IsFoundChange (IsOfOddRow text name has us) w)
-  change_without_parts text us w r e h = found_change_of_fewer w r (λ f p. p.of_none e) (leaf_found w r exact_leaf h)
+      none_by : (w : Option Bool) → ((f : Formula) → IsOfQuota Odd text name has us f → ⊥) → IsFoundBy (kind_of s.turns) (IsOfQuota Odd text name has us) w None
+      none_by (Some e) never = truth_of_none never
+      none_by None never = never
 
-  -- a part of which there is no formula, and so none of the whole
-  no_whole : (text : Entry) (us : List U) {k : ℕ} {u : U} → k < length us → u ≡ get_or us k u → ((f : Formula) → has u f → ⊥) → (f : Formula) → IsOfOddRow text name has us f → ⊥
-  no_whole text us {k} {u} within is none f p =
-      let s = p.of_some (some_member within) in
-      let g = formula_at true name has us k u s.formulas within is s.of_each in
-      none g.0 g.1
+      by_absence : (a : Bool) → t.absent ≡ a → 1 ≤ length us → (t.sought.number == 0) ≡ false → IsFoundBy (kind_of s.turns) (IsOfQuota Odd text name has us) s.wanted found
+      by_absence true e some counts = subst (IsFoundBy (kind_of s.turns) (IsOfQuota Odd text name has us) s.wanted) (sym (answers.none counts (rw e refl))) (none_by s.wanted (no_whole e some))
+      by_absence false e some counts = by_other (is_other t.sought.wanted (t.held % 2 == 1)) refl
+        where
+          full : t.sought.number ≤ t.seen
+          full = ⊎_elim (λ yes. absurd (let apart : true ≡ false = sym yes ∙ e in cc)) (λ f. f) over
 
-  pub none_of_part : (text : Entry) (us : List U) {k : ℕ} {u : U} (w : Option Bool) → k < length us → u ≡ get_or us k u → ((f : Formula) → has u f → ⊥) → IsFound (IsOfOddRow text name has us) w None
-  none_of_part text us (Some e) within is none = truth_of_none (no_whole text us within is none)
-  none_of_part text us None within is none = no_whole text us within is none
+          whole : take k us ≡ us
+          whole = let a = h.seen in take_all k us (omega (arith, full, number_is, a))
 
-  pub no_change_of_part : (text : Entry) (us : List U) {u : U} {rest : List U} (w : Option Bool) → us ≡ u ∷ rest → ((f : Formula) → has u f → ⊥) → IsFoundChange (IsOfOddRow text name has us) w None
-  no_change_of_part text us {u} {rest} (Some e) is none = subst (λ z. IsFoundChange (IsOfOddRow text name has z) (Some e) None) (sym is) (truth_of_none (no_whole text (u ∷ rest) {k = 0} {u = u} (omega arith) refl none))
-  no_change_of_part text us {u} {rest} None is none = subst (λ z. IsFoundChange (IsOfOddRow text name has z) None None) (sym is) (no_whole text (u ∷ rest) {k = 0} {u = u} (omega arith) refl none)
+          met : HasTruth (IsOfQuota Odd text name has us) (t.held % 2 == 1)
+          met = met_truth has text name Odd us t.held (subst (λ z. Counted has z t.held) whole (h.counted e))
+
+          by_other : (o : Bool) → is_other t.sought.wanted (t.held % 2 == 1) ≡ o → IsFoundBy (kind_of s.turns) (IsOfQuota Odd text name has us) s.wanted found
+          by_other true o = subst (IsFoundBy (kind_of s.turns) (IsOfQuota Odd text name has us) s.wanted) (sym (answers.none counts (rw (e, o) refl))) (other_wanted (kind_of s.turns) s.wanted met (rw wanted_is at o))
+          by_other false o =
+              let x = answers.some counts (rw (e, o) refl) in
+              subst (IsFoundBy (kind_of s.turns) (IsOfQuota Odd text name has us) s.wanted) (sym x.1) (case_wanted s.wanted (odd_case name has (kind_of s.turns) text t.cases.items some met (subst (λ z. HaveCases has (kind_of s.turns) z t.cases.items) whole (h.cases e)) x.2) (rw wanted_is at o))
+
+      by_number : (b : Bool) → (t.sought.number == 0) ≡ b → IsFoundBy (kind_of s.turns) (IsOfQuota Odd text name has us) s.wanted found
+      by_number true e =
+          let none : length us ≡ 0 = sym number_is ∙ zero_told t.sought.number e in
+          let x = subst (λ w. IsFound (IsExactly (settled text 1 0)) w found) wanted_is (answers.settled e) in
+          fewer_found (kind_of s.turns) s.wanted found (λ f p. subst (λ n. IsExactly (settled text 1 n) f) none (p.of_number.of_settled (inr (omega (arith, none))))) (leaf_by s.turns x)
+      by_number false e = by_absence t.absent refl (some_told t.sought.number (length us) e number_is) e

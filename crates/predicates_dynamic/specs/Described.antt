@@ -4,8 +4,7 @@ use Rattle.predicates_core.specs.Label.{Entry, Product}
 use Rattle.predicates_core.specs.Parts.{Part, part, two_parts}
 use Rattle.predicates_core.specs.Tree.{Forest, empty, branch}
 use Rattle.predicates_dynamic.specs.declared.check.Check.{Check}
-use Rattle.predicates_dynamic.specs.Trees.{Tree, Trees, Leaf, Not, Named, Pair, Row, AtLeast}
-use Rattle.predicates_dynamic.specs.Trees.{Odd, Quantified, MembersAtLeast}
+use Rattle.predicates_dynamic.specs.Trees.{Tree, Trees, Leaf, Not, Named, Pair, Row, Members}
 use Rattle.predicates_dynamic.specs.Trees.{Words, nothing, also, tree_of}
 use Rattle.predicates_dynamic.specs.Formulas.{tree_text}
 
@@ -16,11 +15,8 @@ module _ {L V : Type 0} (parameters : L → List Product) where
   tree_parameters (Not w t) = []
   tree_parameters (Named name t) = []
   tree_parameters (Pair w op a b) = []
-  tree_parameters (Row w decides ts) = []
-  tree_parameters (AtLeast w least ts) = []
-  tree_parameters (Odd w ts) = []
-  tree_parameters (Quantified w decides view t) = []
-  tree_parameters (MembersAtLeast w least view t) = []
+  tree_parameters (Row w q ts) = []
+  tree_parameters (Members w q view t) = []
 
   abbrev pub check_parameters : {S : Type 0} → (S → Words) → Check L V S → List Product
   check_parameters words c = tree_parameters (tree_of words c)
@@ -38,12 +34,8 @@ module _ {L V : Type 0} (text : L → Entry) (view_text : V → Entry) (paramete
     tree_parts (Pair w op a b) = two_parts
         (codes "left") (tree_text text view_text a) (tree_parameters parameters a) (tree_parts a)
         (codes "right") (tree_text text view_text b) (tree_parameters parameters b) (tree_parts b)
-    tree_parts (Row w decides ts) = row_parts w.part ts
-    tree_parts (AtLeast w least ts) = row_parts w.part ts
-    tree_parts (Odd w ts) = row_parts w.part ts
-    tree_parts (Quantified w decides view t) = part (codes "item") (tree_text text view_text t)
-        (tree_parameters parameters t) (tree_parts t)
-    tree_parts (MembersAtLeast w least view t) = part (codes "item") (tree_text text view_text t)
+    tree_parts (Row w q ts) = row_parts w.part ts
+    tree_parts (Members w q view t) = part (codes "item") (tree_text text view_text t)
         (tree_parameters parameters t) (tree_parts t)
 
     -- those of a row, under the name

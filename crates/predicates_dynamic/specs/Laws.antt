@@ -1,72 +1,24 @@
 -- The laws of a check: its printed text fits its formulas, and it has one where each leaf has.
-use Rattle.std.specs.Prelude.{◌≡◌, refl, ℕ, suc, List, [], ◌∷◌, length, map, codes}
-use Rattle.std.specs.Prelude.{Bool, ◌&&◌, cond, nat_le, Option, Some, None, option_map}
-use Rattle.std.specs.List.{AllByRecursion}
-use Rattle.std.proofs.Common.{sym, ap, ◌∙◌, subst}
-use Rattle.std.proofs.lemmas.List.{length-map, map-id}
+use Rattle.std.specs.Prelude.{◌≡◌, refl, ℕ, suc, List, [], ◌∷◌, length, map, codes, Option, Some}
+use Rattle.std.specs.Prelude.{None, option_map}
+use Rattle.std.proofs.Common.{ap, ◌∙◌, sym, subst}
+use Rattle.std.proofs.lemmas.List.{map-id}
 use Rattle.predicates_core.specs.Label.{Entry, FitsEntry, Product}
-use Rattle.predicates_core.specs.Formula as formula
-use Rattle.predicates_core.specs.Formula.{Formula, Formulas, one, more, Join, text_of}
-use Rattle.predicates_core.specs.Label.{plain}
-use Rattle.predicates_core.specs.declared.custom.join.Operator.TheVariants.{Xor}
-use Rattle.predicates_core.specs.LeafLaws.{exactly_text_fits, one_exactly, fits_itself}
-use Rattle.predicates_core.specs.Several.{AreOfEach, decided_by, numbered, IsOfMembers}
-use Rattle.predicates_core.specs.Several.{members_formula, formulas_of}
-use Rattle.predicates_core.specs.Thresholds.{IsOfThreshold, threshold_formula, settled}
+use Rattle.predicates_core.specs.Formula.{Formula, Formulas, one, more, text_of}
+use Rattle.predicates_core.specs.Several.{AreOfEach}
 use Rattle.predicates_core.proofs.CombinedLemmas.{pair_text_fits, not_text_fits, named_text_fits}
 use Rattle.predicates_core.proofs.CombinedLemmas.{one_pair, one_not, one_named}
 use Rattle.predicates_core.proofs.CombinedLemmas.{has_pair, has_not, has_named}
-use Rattle.predicates_core.proofs.Several.{HasOne, each_holds, members_text_fits, one_members}
-use Rattle.predicates_core.proofs.Several.{has_members}
-use Rattle.predicates_core.proofs.ThresholdCases.{threshold_text_fits, one_by_threshold}
-use Rattle.predicates_core.proofs.ThresholdCases.{has_threshold}
-use Rattle.predicates_dynamic.specs.Trees.{Tree, Trees, Leaf, Not, Named, Pair, Row, AtLeast}
-use Rattle.predicates_dynamic.specs.Trees.{Odd, Quantified, MembersAtLeast}
-use Rattle.predicates_dynamic.specs.Trees.{Words, nothing, also, AllLeaves, AllOfTrees}
+use Rattle.predicates_core.proofs.Several.{HasOne, each_holds, one_of_each}
+use Rattle.predicates_dynamic.specs.Quotas.{IsOfNumber, IsOfQuota, quota_formula}
+use Rattle.predicates_dynamic.specs.QuotaLaws.{number_text_fits, one_by_number, has_quota}
+use Rattle.predicates_dynamic.specs.QuotaLaws.{quota_read}
+use Rattle.predicates_dynamic.specs.Trees.{Tree, Trees, Leaf, Not, Named, Pair, Row, Members}
+use Rattle.predicates_dynamic.specs.Trees.{nothing, also, AllLeaves, AllOfTrees}
 use Rattle.predicates_dynamic.specs.Viewed.{IsViewed, viewed_formula, viewed_text_fits}
 use Rattle.predicates_dynamic.specs.Viewed.{one_viewed, has_viewed}
 use Rattle.predicates_dynamic.specs.Formulas.{tree_text, HasFormula, AreFormulas}
-use Rattle.predicates_dynamic.specs.Formulas.{IsNothing, IsThresholdOf, number_of}
-use Rattle.predicates_dynamic.specs.Formulas.{tree_formula, tree_formulas, part_formulas}
-
-module _ {L V : Type 0} where
-  abbrev listed : Trees L V → List (Tree L V)
-  listed nothing = []
-  listed (also t ts) = t ∷ listed ts
-
-  no_trees : (ts : Trees L V) → IsNothing ts → listed ts ≡ []
-  no_trees nothing h = refl
-  no_trees (also t ts) h = absurd h
-
-  number_listed : (ts : Trees L V) → number_of ts ≡ length (listed ts)
-  number_listed nothing = refl
-  number_listed (also t ts) = ap suc (number_listed ts)
-
--- the formulas of the members, by what is read of each
-formulas_read : {U K : Type 0} (name : List ℕ) (read : U → K) (g : K → Formula) (u : U)
-    (us : List U)
-    → formulas_of name g (read u) (map read us) ≡ formulas_of name (λ w. g (read w)) u us
-formulas_read name read g u [] = refl
-formulas_read name read g u (w ∷ us) =
-    ap (more name (g (read u))) (formulas_read name read g w us)
-
-members_read : {U K : Type 0} (decides : Bool) (text : Entry) (name : List ℕ) (read : U → K)
-    (g : K → Formula) (us : List U) → members_formula decides text name (λ w. g (read w)) us
-    ≡ members_formula decides text name g (map read us)
-members_read decides text name read g [] = refl
-members_read decides text name read g (u ∷ us) =
-    ap (λ fs. Join (decided_by decides) (numbered text decides fs) fs)
-    (sym (formulas_read name read g u us))
-
-threshold_read : {U K : Type 0} (least : ℕ) (text : Entry) (name : List ℕ) (read : U → K)
-    (g : K → Formula) (us : List U) → threshold_formula least text name (λ w. g (read w)) us
-    ≡ threshold_formula least text name g (map read us)
-threshold_read least text name read g [] = refl
-threshold_read least text name read g (u ∷ us) =
-    let number : length (map read us) ≡ length us = length-map us read in
-    (λ i. cond (nat_le 1 least && nat_le least (suc (sym number i)))
-    (formula.AtLeast least (plain text) (sym (formulas_read name read g u us) i))
-    (settled text least (suc (sym number i))))
+use Rattle.predicates_dynamic.specs.Formulas.{IsNothing, number_of, tree_formula, tree_formulas}
 
 unread : {Item : Type 0} (held : Option (List Item)) → option_map (map (λ u. u)) held ≡ held
 unread None = refl
@@ -86,31 +38,6 @@ members_as_they_are members view v o is = unread o ∙ sym is
 module _ {L V Item : Type 0} (text : L → Entry) (view_text : V → Entry)
     (has : L → Item → Formula → Type 0) (gives : V → Item → Option (List Item) → Type 0)
     (absence : V → Item → List Product) where
-  are_of_each : (name : List ℕ) (v : Item) (ts : Trees L V) (fs : Formulas)
-      → AreFormulas text view_text has gives absence name v ts fs
-      → AreOfEach name (HasFormula text view_text has gives absence v) (listed ts) fs
-  are_of_each name v nothing fs h = h
-  are_of_each name v (also t ts) (one n f) h = (h.0, h.1, no_trees ts h.2)
-  are_of_each name v (also t ts) (more n f fs) h = (h.0, h.1, are_of_each name v ts fs h.2)
-
-  of_listed : (v : Item) (w : Words) (least : ℕ) (ts : Trees L V) (f : Formula)
-      → HasFormula text view_text has gives absence v (AtLeast w least ts) f
-      → IsOfThreshold least (tree_text text view_text (AtLeast w least ts)) w.part
-      (HasFormula text view_text has gives absence v) (listed ts) f
-  of_listed v w least ts f h =
-      let x = subst (λ n. IsThresholdOf least n (tree_text text view_text (AtLeast w least ts))
-      (AreFormulas text view_text has gives absence w.part v ts) f) (number_listed ts) h in
-      record {
-        of_settled = x.of_settled;
-        of_counted = λ some within.
-            let c = x.of_counted some within in
-            record {
-              formulas = c.formulas;
-              of_each = are_of_each w.part v ts c.formulas c.of_each;
-              is = c.is;
-            };
-      }
-
   module _ (fits : (l : L) (v : Item) (f : Formula) → has l v f → FitsEntry (text_of f) (text l))
       (given : (view : V) (v : Item) → (o : Option (List Item)) × gives view v o) where
     pub tree_text_fits : (v : Item) (t : Tree L V) (f : Formula)
@@ -120,21 +47,9 @@ module _ {L V Item : Type 0} (text : L → Entry) (view_text : V → Entry)
     tree_text_fits v (Not w t) f h = not_text_fits h
     tree_text_fits v (Named name t) f h = named_text_fits h
     tree_text_fits v (Pair w op a b) f h = pair_text_fits h
-    tree_text_fits v (Row w decides nothing) f h = exactly_text_fits h
-    tree_text_fits v (Row w decides (also t ts)) f h =
-        let own = tree_text text view_text (Row w decides (also t ts)) in
-        subst (λ entry. FitsEntry entry own) (sym (ap text_of h.is)) (fits_itself own)
-    tree_text_fits v (AtLeast w least ts) f h =
-        threshold_text_fits least (listed ts) (of_listed v w least ts f h)
-    tree_text_fits v (Odd w nothing) f h = exactly_text_fits h
-    tree_text_fits v (Odd w (also t ts)) f h =
-        let own = tree_text text view_text (Odd w (also t ts)) in
-        subst (λ entry. FitsEntry entry own) (sym (ap text_of h.is)) (fits_itself own)
-    tree_text_fits v (Quantified w decides view t) f h =
-        viewed_text_fits (given view v).0 (given view v).1 (λ us g x. members_text_fits us x) h
-    tree_text_fits v (MembersAtLeast w least view t) f h =
-        viewed_text_fits (given view v).0 (given view v).1
-        (λ us g x. threshold_text_fits least us x) h
+    tree_text_fits v (Row w q ts) f h = number_text_fits q (number_of ts) h
+    tree_text_fits v (Members w q view t) f h = viewed_text_fits (given view v).0 (given view v).1
+        (λ us g x. number_text_fits q (length us) x.of_number) h
 
   module _ (lawful : L → Type 0)
       (one_of : (l : L) (v : Item) (f g : Formula) → lawful l → has l v f → has l v g → f ≡ g)
@@ -148,34 +63,14 @@ module _ {L V Item : Type 0} (text : L → Entry) (view_text : V → Entry)
       one_tree v (Named name t) f g all h k = one_named (λ x y. one_tree v t x y all) h k
       one_tree v (Pair w op a b) f g all h k =
           one_pair (λ x y. one_tree v a x y all.0) (λ x y. one_tree v b x y all.1) h k
-      one_tree v (Row w decides nothing) f g all h k = one_exactly h k
-      one_tree v (Row w decides (also t ts)) f g all h k =
-          let own = tree_text text view_text (Row w decides (also t ts)) in
-          h.is ∙ ap (λ fs. Join (decided_by decides) (numbered own decides fs) fs)
-          (one_of_trees w.part v (also t ts) h.formulas k.formulas all h.of_each k.of_each)
-          ∙ sym k.is
-      one_tree v (AtLeast w least ts) f g all h k =
-          one_by_threshold least (listed ts) (each_one w.part v ts all)
-          (of_listed v w least ts f h) (of_listed v w least ts g k)
-      one_tree v (Odd w nothing) f g all h k = one_exactly h k
-      one_tree v (Odd w (also t ts)) f g all h k =
-          h.is ∙ ap (Join Xor (plain (tree_text text view_text (Odd w (also t ts)))))
-          (one_of_trees w.part v (also t ts) h.formulas k.formulas all h.of_each k.of_each)
-          ∙ sym k.is
-      one_tree v (Quantified w decides view t) f g all h k =
+      one_tree v (Row w q ts) f g all h k = one_by_number q (number_of ts)
+          (λ fs gs. one_of_trees w.part v ts fs gs all) h k
+      one_tree v (Members w q view t) f g all h k =
           one_viewed (given view v).0 (given view v).1
-          (λ us x y. one_members us (λ u z w. one_tree u t z w all)) h k
-      one_tree v (MembersAtLeast w least view t) f g all h k =
-          one_viewed (given view v).0 (given view v).1
-          (λ us x y. one_by_threshold least us
-          (each_holds us (λ u z w. one_tree u t z w all))) h k
-
-      each_one : (name : List ℕ) (v : Item) (ts : Trees L V) → AllOfTrees lawful ts
-          → AllByRecursion
-          (HasOne name (HasFormula text view_text has gives absence v)) (listed ts)
-      each_one name v nothing all = tt
-      each_one name v (also t ts) all =
-          (λ x y. one_tree v t x y all.0, each_one name v ts all.1)
+          (λ us x y m n. one_by_number q (length us)
+          (λ fs gs. one_of_each (codes "item")
+          (λ u. HasFormula text view_text has gives absence u t) us fs gs
+          (each_holds us (λ u z w. one_tree u t z w all))) m.of_number n.of_number) h k
 
       one_of_trees : (name : List ℕ) (v : Item) (ts : Trees L V) (fs gs : Formulas)
           → AllOfTrees lawful ts
@@ -206,10 +101,6 @@ module _ {L V Item : Type 0} (text : L → Entry) (view_text : V → Entry)
     formulas_at v ts =
         tree_formulas text view_text formula_of read_members read_absence (read v) ts
 
-    abbrev parts_at : List ℕ → Item → Formula → Trees L V → Formulas
-    parts_at name v f ts =
-        part_formulas text view_text formula_of read_members read_absence name (read v) f ts
-
     number_formed : (v : Item) (ts : Trees L V) → length (formulas_at v ts) ≡ number_of ts
     number_formed v nothing = refl
     number_formed v (also t ts) = ap suc (number_formed v ts)
@@ -236,54 +127,32 @@ module _ {L V Item : Type 0} (text : L → Entry) (view_text : V → Entry)
       has_tree v (Not w t) = has_not (has_tree v t)
       has_tree v (Named name t) = has_named (has_tree v t)
       has_tree v (Pair w op a b) = has_pair (has_tree v a) (has_tree v b)
-      has_tree v (Row w decides nothing) = record { is = refl }
-      has_tree v (Row w decides (also t ts)) = record {
-        formulas = parts_at w.part v (formula_at v t) ts;
-        of_each = have_trees w.part v t (formula_at v t) (has_tree v t) ts;
-        is = refl;
-      }
-      has_tree v (AtLeast w least ts) =
-          let h = has_threshold {name = w.part} {has = λ u f. u ≡ f} least (λ f. f)
-          (formulas_at v ts) (λ u. refl) in
-          subst (λ n. IsThresholdOf least n (tree_text text view_text (AtLeast w least ts))
+      has_tree v (Row w q ts) =
+          let h = has_quota {name = w.part} {has = λ u f. u ≡ f} q (λ f. f) (formulas_at v ts)
+          (λ u. refl) in
+          subst (λ n. IsOfNumber q n (tree_text text view_text (Row w q ts))
           (AreFormulas text view_text has gives absence w.part v ts)
-          (formula_at v (AtLeast w least ts)))
+          (formula_at v (Row w q ts)))
           (number_formed v ts) (record {
-            of_settled = h.of_settled;
+            of_settled = h.of_number.of_settled;
             of_counted = λ some within.
-                let c = h.of_counted some within in
+                let c = h.of_number.of_counted some within in
                 record {
                   formulas = c.formulas;
                   of_each = are_formed w.part v ts c.formulas c.of_each;
                   is = c.is;
                 };
           })
-      has_tree v (Odd w nothing) = record { is = refl }
-      has_tree v (Odd w (also t ts)) = record {
-        formulas = parts_at w.part v (formula_at v t) ts;
-        of_each = have_trees w.part v t (formula_at v t) (has_tree v t) ts;
-        is = refl;
-      }
-      has_tree v (Quantified w decides view t) =
-          let own = tree_text text view_text (Quantified w decides view t) in
-          has_of_view own view v (IsOfMembers decides own (codes "item")
+      has_tree v (Members w q view t) =
+          let own = tree_text text view_text (Members w q view t) in
+          has_of_view own view v (IsOfQuota q own (codes "item")
           (λ u. HasFormula text view_text has gives absence u t))
-          (members_formula decides own (codes "item")
+          (quota_formula q own (codes "item")
           (λ k. tree_formula text view_text formula_of read_members read_absence k t))
-          (λ us. subst (IsOfMembers decides own (codes "item")
+          (λ us. subst (IsOfQuota q own (codes "item")
           (λ u. HasFormula text view_text has gives absence u t) us)
-          (members_read decides _ (codes "item") read _ us)
-          (has_members (λ u. formula_at u t) us (λ u. has_tree u t)))
-      has_tree v (MembersAtLeast w least view t) =
-          let own = tree_text text view_text (MembersAtLeast w least view t) in
-          has_of_view own view v (IsOfThreshold least own (codes "item")
-          (λ u. HasFormula text view_text has gives absence u t))
-          (threshold_formula least own (codes "item")
-          (λ k. tree_formula text view_text formula_of read_members read_absence k t))
-          (λ us. subst (IsOfThreshold least own (codes "item")
-          (λ u. HasFormula text view_text has gives absence u t) us)
-          (threshold_read least _ (codes "item") read _ us)
-          (has_threshold least (λ u. formula_at u t) us (λ u. has_tree u t)))
+          (quota_read q _ (codes "item") read _ us)
+          (has_quota q (λ u. formula_at u t) us (λ u. has_tree u t)))
 
       are_formed : (name : List ℕ) (v : Item) (ts : Trees L V) (fs : Formulas)
           → AreOfEach name (λ u f. u ≡ f) (formulas_at v ts) fs
@@ -300,14 +169,6 @@ module _ {L V Item : Type 0} (text : L → Entry) (view_text : V → Entry)
         are_formed name v ts fs h.2,
       )
 
-      have_trees : (name : List ℕ) (v : Item) (t : Tree L V) (f : Formula)
-          → HasFormula text view_text has gives absence v t f → (ts : Trees L V)
-          → AreFormulas text view_text has gives absence name v (also t ts)
-          (parts_at name v f ts)
-      have_trees name v t f h nothing = (refl, h, tt)
-      have_trees name v t f h (also u us) =
-          (refl, h, have_trees name v u (formula_at v u) (has_tree v u) us)
-
 -- what holds of all leaves holds of those of a tree
 module _ {L V : Type 0} (fact : L → Type 0) (all : (l : L) → fact l) where
   mutual
@@ -316,11 +177,8 @@ module _ {L V : Type 0} (fact : L → Type 0) (all : (l : L) → fact l) where
     all_leaves (Not w t) = all_leaves t
     all_leaves (Named name t) = all_leaves t
     all_leaves (Pair w op a b) = (all_leaves a, all_leaves b)
-    all_leaves (Row w decides ts) = all_trees ts
-    all_leaves (AtLeast w least ts) = all_trees ts
-    all_leaves (Odd w ts) = all_trees ts
-    all_leaves (Quantified w decides view t) = all_leaves t
-    all_leaves (MembersAtLeast w least view t) = all_leaves t
+    all_leaves (Row w q ts) = all_trees ts
+    all_leaves (Members w q view t) = all_leaves t
 
     pub all_trees : (ts : Trees L V) → AllOfTrees fact ts
     all_trees nothing = tt

@@ -1,8 +1,12 @@
+pub mod Quotas
+pub mod QuotaLaws
 pub mod Trees
-pub mod OddRows
 pub mod Viewed
 pub mod Formulas
 pub mod Listed
 pub mod Described
 pub mod Laws
 pub mod Sizes
+pub mod Questions
+pub mod OddTallies
+pub mod QuotaTallies

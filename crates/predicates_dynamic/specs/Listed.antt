@@ -15,5 +15,5 @@ text_at zero t = t
 text_at (suc k) t = Some (codes ", ") ++? t
 
 -- the texts that stand behind a word, in parentheses
-abbrev pub row_text : List ℕ → Entry → Entry
-row_text before texts = Some before ++? Some (codes "(") ++? texts ++? Some (codes ")")
+abbrev pub texts_behind : List ℕ → Entry → Entry
+texts_behind before texts = Some before ++? Some (codes "(") ++? texts ++? Some (codes ")")

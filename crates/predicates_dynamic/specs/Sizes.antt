@@ -1,8 +1,7 @@
 -- How large a check is, and the measure of the loop that drops one.
 use Rattle.std.specs.Prelude.{ℕ, zero, suc, ◌+◌, List, Option, Some, None, map}
 use Rattle.predicates_dynamic.specs.declared.check.Check.{Check}
-use Rattle.predicates_dynamic.specs.Trees.{Tree, Trees, Leaf, Not, Named, Pair, Row, AtLeast}
-use Rattle.predicates_dynamic.specs.Trees.{Odd, Quantified, MembersAtLeast}
+use Rattle.predicates_dynamic.specs.Trees.{Tree, Trees, Leaf, Not, Named, Pair, Row, Members}
 use Rattle.predicates_dynamic.specs.Trees.{nothing, also, computed_tree, trees_of}
 
 module _ {L V : Type 0} where
@@ -13,11 +12,8 @@ module _ {L V : Type 0} where
     tree_size (Not w t) = suc (tree_size t)
     tree_size (Named name t) = suc (tree_size t)
     tree_size (Pair w op a b) = suc (tree_size a + tree_size b)
-    tree_size (Row w decides ts) = suc (tree_sizes ts)
-    tree_size (AtLeast w least ts) = suc (tree_sizes ts)
-    tree_size (Odd w ts) = suc (tree_sizes ts)
-    tree_size (Quantified w decides view t) = suc (tree_size t)
-    tree_size (MembersAtLeast w least view t) = suc (tree_size t)
+    tree_size (Row w q ts) = suc (tree_sizes ts)
+    tree_size (Members w q view t) = suc (tree_size t)
 
     pub tree_sizes : Trees L V → ℕ
     tree_sizes nothing = 0

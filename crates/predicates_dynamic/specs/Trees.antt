@@ -1,9 +1,10 @@
 -- What a check is, apart from where it lies in memory.
-use Rattle.std.specs.Prelude.{ℕ, List, [], ◌∷◌, Bool, Option, None, Some, box_value, codes}
+use Rattle.std.specs.Prelude.{ℕ, List, [], ◌∷◌, Option, None, Some, box_value, codes}
 use Rattle.std.specs.List.{AllByRecursion}
 use Rattle.predicates_core.specs.declared.custom.join.Operator.{Operator}
 use Rattle.predicates_dynamic.specs.declared.check.Check.{Check, fold-Check}
 use Rattle.predicates_dynamic.specs.declared.check.Check.TheOpen.{Check-F}
+use Rattle.predicates_dynamic.specs.declared.quota.Quota.{Quota}
 
 -- The words of a node: the text that it prints, where that is kept and not computed from its parts,
 -- and the name under which the parts of a row stand.
@@ -21,13 +22,8 @@ mutual
     Not : Words → Tree L V → Tree L V
     Named : List ℕ → Tree L V → Tree L V
     Pair : Words → Operator → Tree L V → Tree L V → Tree L V
-    Row : Words → Bool → Trees L V → Tree L V
-    AtLeast : Words → ℕ → Trees L V → Tree L V
-    -- an odd number of them hold
-    Odd : Words → Trees L V → Tree L V
-    -- over members: with true, one of them suffices
-    Quantified : Words → Bool → V → Tree L V → Tree L V
-    MembersAtLeast : Words → ℕ → V → Tree L V → Tree L V
+    Row : Words → Quota → Trees L V → Tree L V
+    Members : Words → Quota → V → Tree L V → Tree L V
 
   pub data Trees (L V : Type 0) : Type 0 where
     nothing : Trees L V
@@ -44,11 +40,8 @@ module _ {L V : Type 0} where
   node_words (Not w t) = w
   node_words (Named name t) = computed
   node_words (Pair w op a b) = w
-  node_words (Row w decides ts) = w
-  node_words (AtLeast w least ts) = w
-  node_words (Odd w ts) = w
-  node_words (Quantified w decides view t) = w
-  node_words (MembersAtLeast w least view t) = w
+  node_words (Row w q ts) = w
+  node_words (Members w q view t) = w
 
   module _ {S : Type 0} (words : S → Words) where
     -- one level, with each part already seen as its tree
@@ -57,13 +50,8 @@ module _ {L V : Type 0} where
     tree_step (Check-F.Not s t) = Not (words s) (box_value t)
     tree_step (Check-F.Named name t) = Named name (box_value t)
     tree_step (Check-F.Pair s op a b) = Pair (words s) op (box_value a) (box_value b)
-    tree_step (Check-F.Row s decides ts) = Row (words s) decides (trees_of ts.items)
-    tree_step (Check-F.AtLeast s least ts) = AtLeast (words s) least (trees_of ts.items)
-    tree_step (Check-F.Odd s ts) = Odd (words s) (trees_of ts.items)
-    tree_step (Check-F.Quantified s decides view t) =
-        Quantified (words s) decides view (box_value t)
-    tree_step (Check-F.MembersAtLeast s least view t) =
-        MembersAtLeast (words s) least view (box_value t)
+    tree_step (Check-F.Row s q ts) = Row (words s) q (trees_of ts.items)
+    tree_step (Check-F.Members s q view t) = Members (words s) q view (box_value t)
 
     abbrev pub tree_of : Check L V S → Tree L V
     tree_of = fold-Check L V S (Tree L V) tree_step
@@ -83,11 +71,8 @@ module _ {L V : Type 0} where
     AllLeaves fact (Not w t) = AllLeaves fact t
     AllLeaves fact (Named name t) = AllLeaves fact t
     AllLeaves fact (Pair w op a b) = AllLeaves fact a × AllLeaves fact b
-    AllLeaves fact (Row w decides ts) = AllOfTrees fact ts
-    AllLeaves fact (AtLeast w least ts) = AllOfTrees fact ts
-    AllLeaves fact (Odd w ts) = AllOfTrees fact ts
-    AllLeaves fact (Quantified w decides view t) = AllLeaves fact t
-    AllLeaves fact (MembersAtLeast w least view t) = AllLeaves fact t
+    AllLeaves fact (Row w q ts) = AllOfTrees fact ts
+    AllLeaves fact (Members w q view t) = AllLeaves fact t
 
     pub AllOfTrees : (L → Type 0) → Trees L V → Type 0
     AllOfTrees fact nothing = Unit {0}
@@ -106,12 +91,8 @@ module _ {L V Item : Type 0} (fact : L → Item → Type 0) (lends : V → Item 
     AllAsked v (Not w t) = AllAsked v t
     AllAsked v (Named name t) = AllAsked v t
     AllAsked v (Pair w op a b) = AllAsked v a × AllAsked v b
-    AllAsked v (Row w decides ts) = AllAskedOfTrees v ts
-    AllAsked v (AtLeast w least ts) = AllAskedOfTrees v ts
-    AllAsked v (Odd w ts) = AllAskedOfTrees v ts
-    AllAsked v (Quantified w decides view t) = lends view v × ((us : List Item)
-        → gives view v (Some us) → AllByRecursion (λ member. AllAsked member t) us)
-    AllAsked v (MembersAtLeast w least view t) = lends view v × ((us : List Item)
+    AllAsked v (Row w q ts) = AllAskedOfTrees v ts
+    AllAsked v (Members w q view t) = lends view v × ((us : List Item)
         → gives view v (Some us) → AllByRecursion (λ member. AllAsked member t) us)
 
     pub AllAskedOfTrees : Item → Trees L V → Type 0

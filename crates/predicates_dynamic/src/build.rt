@@ -1,20 +1,19 @@
 //! How checks are made.
-ghost use Rattle.std.specs.Prelude.{◌≡◌, true, false, IfOk, map};
+ghost use Rattle.std.specs.Prelude.{◌≡◌, IfOk, map};
 ghost use Rattle.predicates_core.specs.declared.custom.join.Operator.TheVariants.{And, Or, Xor};
-ghost use Rattle.predicates_dynamic.specs.Trees.{
-  computed,
-  computed_tree,
-  trees_of,
-  Leaf,
-  Not,
-  Named,
-  Pair,
+ghost use Rattle.predicates_core.specs.declared.custom.quantifier.HowMany.TheVariants.{
+  Every,
+  AtLeastOne,
+  AtLeast,
 };
-ghost use Rattle.predicates_dynamic.specs.Trees.{Row, AtLeast, Odd, Quantified, MembersAtLeast};
+ghost use Rattle.predicates_dynamic.specs.declared.quota.Quota.TheVariants.{Threshold, Odd};
+ghost use Rattle.predicates_dynamic.specs.Trees.{computed, computed_tree, trees_of};
+ghost use Rattle.predicates_dynamic.specs.Trees.{Leaf, Not, Named, Pair, Row, Members};
 
 use crate::check::Check;
+use crate::quota::Quota;
 use crate::wording::Computed;
-use predicates_core::custom::Operator;
+use predicates_core::custom::{HowMany, Operator};
 use predicates_core::static_text::StaticText;
 use std::alloc::{AllocError, Global};
 
@@ -141,10 +140,10 @@ impl<L: Drop, V: Drop> Check<L, V> {
     /// assert!(rt; !all.eval(alloc, &7)?);
     /// ```
     pub fn all(parts: Vec<Check<L, V>>) -> Check<L, V>
-        ensures { computed_tree result ≡ Row computed false (trees_of
+        ensures { computed_tree result ≡ Row computed (Threshold Every) (trees_of
             (map computed_tree parts.items)) }
     {
-        Check::Row(Computed, false, parts)
+        Check::Row(Computed, Quota::Threshold(HowMany::Every), parts)
     }
 
     /// Holds where one of the parts does, as `any_of`. It takes no memory.
@@ -157,10 +156,10 @@ impl<L: Drop, V: Drop> Check<L, V> {
     /// assert!(rt; !any.eval(alloc, &7)?);
     /// ```
     pub fn any(parts: Vec<Check<L, V>>) -> Check<L, V>
-        ensures { computed_tree result ≡ Row computed true (trees_of
+        ensures { computed_tree result ≡ Row computed (Threshold AtLeastOne) (trees_of
             (map computed_tree parts.items)) }
     {
-        Check::Row(Computed, true, parts)
+        Check::Row(Computed, Quota::Threshold(HowMany::AtLeastOne), parts)
     }
 
     /// Holds where at least so many of the parts do, as `at_least`. It takes no memory.
@@ -173,10 +172,10 @@ impl<L: Drop, V: Drop> Check<L, V> {
     /// assert!(rt; !two.eval(alloc, &11)?);
     /// ```
     pub fn at_least(least: usize, parts: Vec<Check<L, V>>) -> Check<L, V>
-        ensures { computed_tree result ≡ AtLeast computed least (trees_of
+        ensures { computed_tree result ≡ Row computed (Threshold (AtLeast least)) (trees_of
             (map computed_tree parts.items)) }
     {
-        Check::AtLeast(Computed, least, parts)
+        Check::Row(Computed, Quota::Threshold(HowMany::AtLeast(least)), parts)
     }
 
     /// Holds where an odd number of the parts do, as `xor` of two. It takes no memory.
@@ -190,9 +189,10 @@ impl<L: Drop, V: Drop> Check<L, V> {
     /// assert!(rt; !odd.eval(alloc, &11)?);
     /// ```
     pub fn odd(parts: Vec<Check<L, V>>) -> Check<L, V>
-        ensures { computed_tree result ≡ Odd computed (trees_of (map computed_tree parts.items)) }
+        ensures { computed_tree result ≡ Row computed Odd (trees_of
+            (map computed_tree parts.items)) }
     {
-        Check::Odd(Computed, parts)
+        Check::Row(Computed, Quota::Odd, parts)
     }
 
     /// Holds of an item where the check does of each of its members, as `of_each`; and not where
@@ -203,10 +203,11 @@ impl<L: Drop, V: Drop> Check<L, V> {
     /// assert!(rt; !all_large.eval(alloc, &folder)?);
     /// ```
     pub fn of_each(self, alloc: Global, view: V) -> Result<Check<L, V>, AllocError>
-        ensures { IfOk result (λ made. computed_tree made ≡ Quantified computed false view
+        ensures { IfOk result (λ made. computed_tree made ≡ Members computed (Threshold Every) view
             (computed_tree self)) }
     {
-        Ok(Check::Quantified(Computed, false, view, Box::new(alloc, self)?))
+        let inner = Box::new(alloc, self)?;
+        Ok(Check::Members(Computed, Quota::Threshold(HowMany::Every), view, inner))
     }
 
     /// Holds of an item where the check does of one of its members, as `of_any`; and not where the
@@ -217,10 +218,11 @@ impl<L: Drop, V: Drop> Check<L, V> {
     /// assert!(rt; some_large.eval(alloc, &folder)?);
     /// ```
     pub fn of_any(self, alloc: Global, view: V) -> Result<Check<L, V>, AllocError>
-        ensures { IfOk result (λ made. computed_tree made ≡ Quantified computed true view
+        ensures { IfOk result (λ made. computed_tree made ≡ Members computed (Threshold AtLeastOne) view
             (computed_tree self)) }
     {
-        Ok(Check::Quantified(Computed, true, view, Box::new(alloc, self)?))
+        let inner = Box::new(alloc, self)?;
+        Ok(Check::Members(Computed, Quota::Threshold(HowMany::AtLeastOne), view, inner))
     }
 
     /// Holds of an item where the check does of at least so many of its members, as `of_at_least`;
@@ -236,9 +238,15 @@ impl<L: Drop, V: Drop> Check<L, V> {
         least: usize,
         view: V,
     ) -> Result<Check<L, V>, AllocError>
-        ensures { IfOk result (λ made. computed_tree made ≡ MembersAtLeast computed least view
+        ensures { IfOk result (λ made. computed_tree made ≡ Members computed (Threshold (AtLeast least)) view
             (computed_tree self)) }
     {
-        Ok(Check::MembersAtLeast(Computed, least, view, Box::new(alloc, self)?))
+        let inner = Box::new(alloc, self)?;
+        Ok(Check::Members(
+            Computed,
+            Quota::Threshold(HowMany::AtLeast(least)),
+            view,
+            inner,
+        ))
     }
 }

@@ -7,25 +7,26 @@ ghost use Rattle.predicates_core.specs.Thresholds.{counted_text};
 ghost use Rattle.predicates_core.specs.Formula.{HasTruth};
 ghost use Rattle.predicates_core.specs.Label.{value_of};
 ghost use Rattle.predicates_dynamic.specs.Trees.{tree_of, words_of, AllOf, AsksAll};
-ghost use Rattle.predicates_dynamic.specs.Formulas.{check_text, own_text, Has, tree_formula, word};
-ghost use Rattle.predicates_dynamic.specs.Formulas.{member_word, quantified_text, members_text};
-ghost use Rattle.predicates_dynamic.specs.Formulas.{viewed_text};
+ghost use Rattle.predicates_dynamic.specs.Formulas.{check_text, own_text, Has, tree_formula};
+ghost use Rattle.predicates_dynamic.specs.Quotas.{row_text, member_words, members_text};
+ghost use Rattle.predicates_dynamic.specs.Quotas.{viewed_text};
 ghost use Rattle.predicates_dynamic.specs.Described.{check_parameters, check_parts};
-ghost use Rattle.predicates_dynamic.specs.Listed.{joined_texts, row_text, text_at};
+ghost use Rattle.predicates_dynamic.specs.Listed.{joined_texts, text_at};
 ghost use Rattle.predicates_dynamic.specs.Sizes.{left_over};
 ghost use Rattle.predicates_dynamic.specs.Laws.{tree_text_fits, one_tree, has_tree, all_leaves};
 ghost use Rattle.predicates_dynamic.specs.Laws.{members_as_they_are, none_read};
 
-use crate::change::changed;
+use crate::answer::{answered, found};
 use crate::describe::parts_of;
 use crate::evaluate::EvaluateWith;
-use crate::explain::{explained, found};
 use crate::hold::{holds, verdict};
 use crate::members::{Members, NoMembers};
+use crate::question::{Changes, Reasons};
+use crate::quota::Quota;
 use crate::take_apart::{left_first, parts_apart, resumed};
 use crate::view::View;
 use crate::wording::{Computed, Wording};
-use predicates_core::custom::Operator;
+use predicates_core::custom::{HowMany, Operator};
 use predicates_core::reflection::{Case, Child, Parameter, PredicateReflection};
 use predicates_core::static_text::StaticText;
 use predicates_core::{Content, Predicate, PredicateChange, ReadsContent, Total};
@@ -35,11 +36,12 @@ use std::fmt;
 /// A check of items whose shape comes at run time: a tree over leaves of one type `L`, which may be
 /// any predicate. `S` says what each node keeps of its words; `Computed`, the default, keeps none.
 ///
-/// It means, prints and explains what the library's own combinators do over the same parts: `not`,
-/// `name`, `and`, `or`, `xor`, for several parts `all_of`, `any_of` and `at_least`, and over the
-/// members that a view `V` gives of an item `of_each`, `of_any` and `of_at_least`. A row of which
-/// an odd number has to hold is a check's alone. Each leaf is evaluated at most twice on an item,
-/// however deep it stands.
+/// It means and explains what the library's own combinators do over the same parts: `not`, `name`,
+/// `and`, `or`, `xor`, for several parts `all_of`, `any_of` and `at_least`, and over the members
+/// that a view `V` gives of an item `of_each`, `of_any` and `of_at_least`. It prints the same, but
+/// for a view, which stands before what it is asked: `each VIEW(..)`. That an odd number of several
+/// has to hold is a check's alone. Each leaf is evaluated at most twice on an item, however deep it
+/// stands.
 ///
 /// A call takes up to five stack frames a level, as to print a row; making and dropping a check
 /// takes no more for a deep one.
@@ -52,16 +54,10 @@ pub enum Check<L, V = NoMembers, S = Computed> {
     Named(StaticText, Box<Check<L, V, S>>),
     /// Two parts that an operator joins.
     Pair(S, Operator, Box<Check<L, V, S>>, Box<Check<L, V, S>>),
-    /// A row that one part with the verdict decides: with `true` one has to hold, else each.
-    Row(S, bool, Vec<Check<L, V, S>>),
-    /// At least so many of the parts hold.
-    AtLeast(S, usize, Vec<Check<L, V, S>>),
-    /// An odd number of the parts hold.
-    Odd(S, Vec<Check<L, V, S>>),
-    /// The part holds of the members that the view gives: with `true` of one of them, else of each.
-    Quantified(S, bool, V, Box<Check<L, V, S>>),
-    /// The part holds of at least so many of the members that the view gives.
-    MembersAtLeast(S, usize, V, Box<Check<L, V, S>>),
+    /// As many of the parts hold as have to.
+    Row(S, Quota, Vec<Check<L, V, S>>),
+    /// The part holds of as many of the members that the view gives as have to hold.
+    Members(S, Quota, V, Box<Check<L, V, S>>),
 }
 
 impl<L: Drop, V: Drop, S: Drop> Check<L, V, S> {
@@ -85,10 +81,7 @@ impl<L: Drop, V: Drop, S: Drop> Check<L, V, S> {
                 Some(left_first(wording, operator, left, right, waiting))
             }
             Check::Row(wording, _, parts) => parts_apart(wording, parts, waiting),
-            Check::AtLeast(wording, _, parts) => parts_apart(wording, parts, waiting),
-            Check::Odd(wording, parts) => parts_apart(wording, parts, waiting),
-            Check::Quantified(_, _, _, inner) => Some((Box::into_inner(inner), waiting)),
-            Check::MembersAtLeast(_, _, _, inner) => Some((Box::into_inner(inner), waiting)),
+            Check::Members(_, _, _, inner) => Some((Box::into_inner(inner), waiting)),
         }
     }
 }
@@ -109,20 +102,6 @@ impl<L: Drop, V: Drop, S: Drop> Drop for Check<L, V, S> {
     }
 }
 
-// What is printed before the parts of a row.
-fn word_of(decides: bool) -> &'static str
-    ensures { result.now ≡ word decides }
-{
-    if decides { "any_of" } else { "all_of" }
-}
-
-// What is printed before a view of members.
-fn member_word_of(decides: bool) -> &'static str
-    ensures { result.now ≡ member_word decides }
-{
-    if decides { "any " } else { "each " }
-}
-
 impl<L, V, S: Wording> Check<L, V, S> {
     // The text that is kept for the check, if one is.
     fn kept_text(&self) -> Option<&str>
@@ -133,10 +112,7 @@ impl<L, V, S: Wording> Check<L, V, S> {
             Check::Not(wording, _)
             | Check::Pair(wording, _, _, _)
             | Check::Row(wording, _, _)
-            | Check::AtLeast(wording, _, _)
-            | Check::Odd(wording, _)
-            | Check::Quantified(wording, _, _, _)
-            | Check::MembersAtLeast(wording, _, _, _) => wording.text(),
+            | Check::Members(wording, _, _, _) => wording.text(),
         }
     }
 
@@ -149,10 +125,7 @@ impl<L, V, S: Wording> Check<L, V, S> {
             Check::Not(wording, _)
             | Check::Pair(wording, _, _, _)
             | Check::Row(wording, _, _)
-            | Check::AtLeast(wording, _, _)
-            | Check::Odd(wording, _)
-            | Check::Quantified(wording, _, _, _)
-            | Check::MembersAtLeast(wording, _, _, _) => wording.part(),
+            | Check::Members(wording, _, _, _) => wording.part(),
         }
     }
 }
@@ -162,24 +135,22 @@ impl<L: fmt::Display, V: fmt::Display, S: Wording> Check<L, V, S> {
     #[cycle(text)]
     fn fmt_row<W: fmt::Write>(
         parts: &[Check<L, V, S>],
-        decides: bool,
+        quota: Quota,
         f: &mut fmt::Formatter<W>,
     ) -> fmt::Result
         ensures { DisplaysOnOk W.write_str_gives f.old result
-            (listed_text (word decides) (map (check_text L.output V.output S.words) parts.now))
-            f.new }
+            (row_text quota (map (check_text L.output V.output S.words) parts.now)) f.new }
     {
-        Check::<L, V, S>::fmt_listed(parts, word_of(decides), f)
-    }
-
-    // A row of which an odd number has to hold.
-    #[cycle(text)]
-    fn fmt_odd<W: fmt::Write>(parts: &[Check<L, V, S>], f: &mut fmt::Formatter<W>) -> fmt::Result
-        ensures { DisplaysOnOk W.write_str_gives f.old result
-            (listed_text (codes "odd_of") (map (check_text L.output V.output S.words) parts.now))
-            f.new }
-    {
-        Check::<L, V, S>::fmt_listed(parts, "odd_of", f)
+        match quota {
+            Quota::Threshold(HowMany::Every) => Check::<L, V, S>::fmt_listed(parts, "all_of", f),
+            Quota::Threshold(HowMany::AtLeastOne) => {
+                Check::<L, V, S>::fmt_listed(parts, "any_of", f)
+            }
+            Quota::Threshold(HowMany::AtLeast(least)) => {
+                Check::<L, V, S>::fmt_counted(parts, least, f)
+            }
+            Quota::Odd => Check::<L, V, S>::fmt_listed(parts, "odd_of", f),
+        }
     }
 
     // The parts of a row in parentheses, behind the word.
@@ -190,9 +161,7 @@ impl<L: fmt::Display, V: fmt::Display, S: Wording> Check<L, V, S> {
         f: &mut fmt::Formatter<W>,
     ) -> fmt::Result
         ensures { DisplaysOnOk W.write_str_gives f.old result
-            (row_text word.now (joined_texts (map (check_text L.output V.output S.words)
-            parts.now)))
-            f.new }
+            (listed_text word.now (map (check_text L.output V.output S.words) parts.now)) f.new }
     {
         f.write_str(word)?;
         write!(f, "(")?;
@@ -231,7 +200,7 @@ impl<L: fmt::Display, V: fmt::Display, S: Wording> Check<L, V, S> {
 
     // Parts of which at least so many have to hold: the number and the parts in parentheses.
     #[cycle(text)]
-    fn fmt_threshold<W: fmt::Write>(
+    fn fmt_counted<W: fmt::Write>(
         parts: &[Check<L, V, S>],
         least: usize,
         f: &mut fmt::Formatter<W>,
@@ -260,34 +229,31 @@ impl<L: fmt::Display, V: fmt::Display, S: Wording> Check<L, V, S> {
     }
 }
 
+// What is printed before a view of members.
+fn fmt_member_words<W: fmt::Write>(quota: Quota, f: &mut fmt::Formatter<W>) -> fmt::Result
+    ensures { DisplaysOnOk W.write_str_gives f.old result (member_words quota) f.new }
+{
+    match quota {
+        Quota::Threshold(HowMany::Every) => f.write_str("each "),
+        Quota::Threshold(HowMany::AtLeastOne) => f.write_str("any "),
+        Quota::Threshold(HowMany::AtLeast(least)) => write!(f, "at_least {least} "),
+        Quota::Odd => f.write_str("odd "),
+    }
+}
+
 impl<L: fmt::Display, V: fmt::Display, S: Wording> Check<L, V, S> {
     // A check of members.
-    #[cycle(text)]
-    fn fmt_quantified<W: fmt::Write>(
-        inner: &Check<L, V, S>,
-        view: &V,
-        decides: bool,
-        f: &mut fmt::Formatter<W>,
-    ) -> fmt::Result
-        ensures { DisplaysOnOk W.write_str_gives f.old result (quantified_text decides
-            (V.output view.now) (check_text L.output V.output S.words inner.now)) f.new }
-    {
-        f.write_str(member_word_of(decides))?;
-        Check::<L, V, S>::fmt_viewed(inner, view, f)
-    }
-
-    // A check of which at least so many members have to hold.
     #[cycle(text)]
     fn fmt_members<W: fmt::Write>(
         inner: &Check<L, V, S>,
         view: &V,
-        least: usize,
+        quota: Quota,
         f: &mut fmt::Formatter<W>,
     ) -> fmt::Result
-        ensures { DisplaysOnOk W.write_str_gives f.old result (members_text least
+        ensures { DisplaysOnOk W.write_str_gives f.old result (members_text quota
             (V.output view.now) (check_text L.output V.output S.words inner.now)) f.new }
     {
-        write!(f, "at_least {least} ")?;
+        fmt_member_words(quota, f)?;
         Check::<L, V, S>::fmt_viewed(inner, view, f)
     }
 
@@ -330,14 +296,9 @@ impl<L: fmt::Display, V: fmt::Display, S: Wording> Check<L, V, S> {
                 fmt::Display::fmt(&**right, f)?;
                 write!(f, ")")
             }
-            Check::Row(_, decides, parts) => Check::<L, V, S>::fmt_row(parts, *decides, f),
-            Check::AtLeast(_, least, parts) => Check::<L, V, S>::fmt_threshold(parts, *least, f),
-            Check::Odd(_, parts) => Check::<L, V, S>::fmt_odd(parts, f),
-            Check::Quantified(_, decides, view, inner) => {
-                Check::<L, V, S>::fmt_quantified(inner, view, *decides, f)
-            }
-            Check::MembersAtLeast(_, least, view, inner) => {
-                Check::<L, V, S>::fmt_members(inner, view, *least, f)
+            Check::Row(_, quota, parts) => Check::<L, V, S>::fmt_row(parts, *quota, f),
+            Check::Members(_, quota, view, inner) => {
+                Check::<L, V, S>::fmt_members(inner, view, *quota, f)
             }
         }
     }
@@ -408,7 +369,7 @@ impl<L: Predicate<Item>, V: View<Item>, S: Wording, Item> Predicate<Item> for Ch
         wanted: Option<bool>,
         item: &Item,
     ) -> Result<Option<Case>, AllocError> {
-        explained(alloc, self, wanted, item)
+        answered::<Reasons, L, V, S, Item>(alloc, self, wanted, item)
     }
 }
 
@@ -446,7 +407,7 @@ impl<L: PredicateChange<Item>, V: View<Item>, S: Wording, Item> PredicateChange<
         wanted: Option<bool>,
         item: &Item,
     ) -> Result<Option<Case>, AllocError> {
-        changed(alloc, self, wanted, item)
+        answered::<Changes, L, V, S, Item>(alloc, self, wanted, item)
     }
 }
 

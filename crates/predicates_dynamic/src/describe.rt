@@ -36,10 +36,7 @@ pub(crate) fn parts_of<L: PredicateReflection, V: fmt::Display, S: Wording>(
             two_parts_of(alloc, right_part, left_part, left)
         }
         Check::Row(_, _, parts) => parts_children(alloc, parts, check),
-        Check::AtLeast(_, _, parts) => parts_children(alloc, parts, check),
-        Check::Odd(_, parts) => parts_children(alloc, parts, check),
-        Check::Quantified(_, _, _, inner) => one_part(alloc, inner, "item"),
-        Check::MembersAtLeast(_, _, _, inner) => one_part(alloc, inner, "item"),
+        Check::Members(_, _, _, inner) => one_part(alloc, inner, "item"),
     }
 }
 

@@ -3,23 +3,18 @@ ghost use Rattle.std.specs.Prelude.{◌≡◌, ℕ, List, IfOk, IsOk};
 ghost use Rattle.std.specs.List.{AllByRecursion};
 ghost use Rattle.predicates_core.specs.Formula.{HasTruth};
 ghost use Rattle.predicates_core.specs.Label.{Entry};
-ghost use Rattle.predicates_core.specs.Several.{IsOfMembers};
-ghost use Rattle.predicates_core.specs.Thresholds.{IsOfThreshold};
-ghost use Rattle.predicates_dynamic.specs.Trees.{AllOf, tree_of, Words};
-ghost use Rattle.predicates_dynamic.specs.Trees.{AsksAll, Not, Named, Pair};
-ghost use Rattle.predicates_dynamic.specs.Formulas.{Has, HasFormula};
+ghost use Rattle.predicates_dynamic.specs.Trees.{AllAsked, AllOf, tree_of, Words};
+ghost use Rattle.predicates_dynamic.specs.Trees.{AsksAll, Not, Named, Pair, Members};
+ghost use Rattle.predicates_dynamic.specs.Formulas.{Has, HasFormula, HasOn};
+ghost use Rattle.predicates_dynamic.specs.Quotas.{IsOfQuota};
 
-mod members;
-mod odd;
-
-use self::members::{Viewed, members_threshold_holds, quantified_holds};
-pub(crate) use self::odd::odd_parts_hold;
 use crate::check::Check;
 use crate::evaluate::{EvaluateWith, NoContext};
+use crate::quota::{Quota, counted};
 use crate::view::View;
 use crate::wording::Wording;
 use predicates_core::Predicate;
-use predicates_core::custom::{Operator, is_settled};
+use predicates_core::custom::Operator;
 use std::alloc::{AllocError, Global};
 
 // The `eval` of the check, with what a run keeps for its leaves.
@@ -51,14 +46,9 @@ pub(crate) fn holds<L: EvaluateWith<Item, C>, V: View<Item>, S: Wording, Item, C
             };
             pair_holds(alloc, right_part, context, left, item)
         }
-        Check::Row(_, decides, parts) => parts_hold(alloc, parts, context, *decides, item),
-        Check::AtLeast(_, least, parts) => threshold_holds(alloc, parts, context, *least, item),
-        Check::Odd(_, parts) => odd_parts_hold(alloc, parts, context, item),
-        Check::Quantified(_, decides, view, inner) => {
-            quantified_holds(alloc, inner, context, *decides, Viewed { view, item })
-        }
-        Check::MembersAtLeast(_, least, view, inner) => {
-            members_threshold_holds(alloc, inner, context, *least, Viewed { view, item })
+        Check::Row(_, quota, parts) => parts_hold(alloc, parts, context, *quota, item),
+        Check::Members(_, quota, view, inner) => {
+            viewed_hold(alloc, inner, context, *quota, Viewed { view, item })
         }
     }
 }
@@ -153,66 +143,91 @@ fn pair_holds<L: EvaluateWith<Item, C>, V: View<Item>, S: Wording, Item, C>(
     Ok(operator.apply(left.found, right_holds))
 }
 
-// The same of a row of checks, of which one with the verdict decides, as `custom::parts_hold`.
+// The same of a row of checks. It stops at the part that decides.
 #[cycle(hold)]
 fn parts_hold<L: EvaluateWith<Item, C>, V: View<Item>, S: Wording, Item, C>(
     alloc: Global,
     parts: &[Check<L, V, S>],
     context: &mut C,
-    decides: bool,
+    quota: Quota,
     item: &Item,
 ) -> Result<bool, AllocError>
     requires { AllByRecursion (AllOf L.lawful S.words) parts.now }
     ensures truth { IfOk result (λ held. (text : Entry) (name : List ℕ) → HasTruth
-        (IsOfMembers decides text name
+        (IsOfQuota quota text name
         (Has L.output V.output L.formula V.gives V.absence_of S.words item.now) parts.now)
         held) }
     ensures infallible { AllByRecursion
         (AsksAll L.infallible V.lends V.gives S.words item.now) parts.now → IsOk result }
 {
-    for part in parts {
-        if holds(alloc, part, context, item)? == decides {
-            return Ok(decides);
+    let mut held = 0usize;
+    for (index, part) in parts.iter().enumerate() {
+        if let Some(decided) = quota.decided(parts.len(), index, held) {
+            return Ok(decided);
         }
+        let verdict = holds(alloc, part, context, item)?;
+        held = counted(held, verdict);
     }
-    Ok(!decides)
+    Ok(quota.is_met(parts.len(), held))
 }
 
-// The same of checks of which at least so many have to hold, as `custom::threshold_holds`.
+// A view, and the item whose members it gives.
+#[derive(Drop)]
+struct Viewed<'a, V, Item> {
+    view: &'a V,
+    item: &'a Item,
+}
+
+// The same of a check of the members that a view gives.
 #[cycle(hold)]
-fn threshold_holds<L: EvaluateWith<Item, C>, V: View<Item>, S: Wording, Item, C>(
+fn viewed_hold<L: EvaluateWith<Item, C>, V: View<Item>, S: Wording, Item, C>(
     alloc: Global,
-    parts: &[Check<L, V, S>],
+    inner: &Check<L, V, S>,
     context: &mut C,
-    least: usize,
-    item: &Item,
+    quota: Quota,
+    viewed: Viewed<'_, V, Item>,
 ) -> Result<bool, AllocError>
-    requires { AllByRecursion (AllOf L.lawful S.words) parts.now }
-    ensures truth { IfOk result (λ held. (text : Entry) (name : List ℕ) → HasTruth
-        (IsOfThreshold least text name
-        (Has L.output V.output L.formula V.gives V.absence_of S.words item.now) parts.now)
-        held) }
-    ensures infallible { AllByRecursion
-        (AsksAll L.infallible V.lends V.gives S.words item.now) parts.now → IsOk result }
+    requires { AllOf L.lawful S.words inner.now }
+    ensures truth { IfOk result (λ held. (w : Words) → HasTruth
+        (HasFormula L.output V.output L.formula V.gives V.absence_of viewed.entry.item.now
+        (Members w quota viewed.entry.view.now (tree_of S.words inner.now))) held) }
+    ensures infallible { (w : Words) → AllAsked L.infallible V.lends V.gives
+        viewed.entry.item.now
+        (Members w quota viewed.entry.view.now (tree_of S.words inner.now)) → IsOk result }
 {
-    if is_settled(least, parts.len()) {
-        return Ok(least <= parts.len());
-    }
-    let spare = parts.len() - least;
-    let mut held = 0usize;
-    let mut failed = 0usize;
-    for part in parts {
-        if holds(alloc, part, context, item)? {
-            held += 1;
-            if held == least {
-                return Ok(true);
-            }
-        } else {
-            if failed == spare {
-                return Ok(false);
-            }
-            failed += 1;
+    match viewed.view.list(alloc, viewed.item)? {
+        Some(members) => {
+            let held = members_hold(alloc, inner, context, quota, members.as_slice())?;
+            Ok(held)
         }
+        None => Ok(false), // not even where each has to hold
     }
-    Ok(false)
+}
+
+// The same of the members. It stops at the one that decides.
+#[cycle(hold)]
+fn members_hold<L: EvaluateWith<Item, C>, V: View<Item>, S: Wording, Item, C>(
+    alloc: Global,
+    inner: &Check<L, V, S>,
+    context: &mut C,
+    quota: Quota,
+    members: &[Item],
+) -> Result<bool, AllocError>
+    requires { AllOf L.lawful S.words inner.now }
+    ensures truth { IfOk result (λ held. (text : Entry) (name : List ℕ) → HasTruth
+        (IsOfQuota quota text name
+        (HasOn L.output V.output L.formula V.gives V.absence_of S.words inner.now)
+        members.now) held) }
+    ensures infallible { AllByRecursion (λ member. AsksAll L.infallible V.lends V.gives
+        S.words member inner.now) members.now → IsOk result }
+{
+    let mut held = 0usize;
+    for (index, member) in members.iter().enumerate() {
+        if let Some(decided) = quota.decided(members.len(), index, held) {
+            return Ok(decided);
+        }
+        let verdict = holds(alloc, inner, context, member)?;
+        held = counted(held, verdict);
+    }
+    Ok(quota.is_met(members.len(), held))
 }

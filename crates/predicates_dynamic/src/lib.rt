@@ -7,15 +7,17 @@
 //! ```
 #![tactic(auto)]
 
-mod asked;
+mod answer;
 mod build;
-mod change;
 mod check;
 mod describe;
 mod evaluate;
-mod explain;
 mod hold;
 mod members;
+mod odd;
+mod question;
+mod quota;
+mod quota_tally;
 pub mod semantics;
 mod take_apart;
 mod view;
@@ -24,5 +26,6 @@ mod wording;
 pub use check::Check;
 pub use evaluate::{EvaluateWith, NoContext};
 pub use members::{Members, NoMembers};
+pub use quota::Quota;
 pub use view::{Items, Listed, NoItems, View};
 pub use wording::{Computed, Wording};

@@ -4,6 +4,7 @@ ghost use Rattle.std.specs.Prelude.{vec_len, vec_capacity, IfSome};
 ghost use Rattle.predicates_dynamic.specs.Sizes.{left_of, left_over, size_of, size_left, sizes_of};
 
 use crate::check::Check;
+use crate::quota::Quota;
 use predicates_core::custom::Operator;
 use std::mem;
 
@@ -75,7 +76,7 @@ fn last_first<L, V, S: Drop>(
         return (last, waiting);
     }
     let parts = with_waiting(parts, waiting);
-    (last, Some(Check::Row(wording, true, parts)))
+    (last, Some(Check::Row(wording, Quota::Odd, parts)))
 }
 
 // The parts, and before them what waits: so it waits until they are dropped, and is moved once.

@@ -5,14 +5,16 @@ use Rattle.serde_json.specs.Data.{Data, string}
 use Rattle.serde_json.specs.Find.{as_object}
 use Rattle.serde_json.specs.Written.{has_float, compact_text}
 use Rattle.predicates_core.specs.Label.{Entry, Product, Label, plain, showing, value_of, with_last}
+use Rattle.predicates_core.specs.declared.custom.quantifier.HowMany.TheVariants as many
 use Rattle.predicates_core.specs.Formula.{Formula, Leaf}
 use Rattle.predicates_core.specs.Leaves.{IsShowing}
 use Rattle.predicates_core.specs.Tree as cases
 use Rattle.predicates_core.specs.Describe.{CaseNode}
 use Rattle.predicates_dynamic.specs.declared.check.Check.{Check}
 use Rattle.predicates_dynamic.specs.Formulas.{tree_formula, tree_text}
-use Rattle.predicates_dynamic.specs.Trees.{Tree, Trees, Words, tree_of, Row, Odd, Quantified}
-use Rattle.predicates_dynamic.specs.Trees.{MembersAtLeast}
+use Rattle.predicates_dynamic.specs.declared.quota.Quota.{Quota}
+use Rattle.predicates_dynamic.specs.declared.quota.Quota.TheVariants.{Threshold, Odd}
+use Rattle.predicates_dynamic.specs.Trees.{Tree, Trees, Words, tree_of, Row, Members}
 use Rattle.predicates_rules.specs.declared.expression.Connective.{Connective}
 use Rattle.predicates_rules.specs.declared.expression.Connective.TheVariants.{Or, Xor, And}
 use Rattle.predicates_rules.specs.declared.expression.HowMany.{HowMany}
@@ -36,17 +38,17 @@ CheckTree = Tree PathTest Elements
 abbrev pub check_tree : Check PathTest Elements Written → CheckTree
 check_tree c = tree_of words_of_node c
 
--- what a connective joins
-abbrev pub joins : Connective → Words → Trees PathTest Elements → CheckTree
-joins Or w es = Row w true es
-joins Xor w es = Odd w es
-joins And w es = Row w false es
+-- how many of the parts have to hold that a connective joins
+abbrev pub joined_by : Connective → Quota
+joined_by Or = Threshold many.AtLeastOne
+joined_by Xor = Odd
+joined_by And = Threshold many.Every
 
--- what a quantifier is over
-abbrev pub ranges : HowMany → Words → Elements → CheckTree → CheckTree
-ranges Each w v e = Quantified w false v e
-ranges Any w v e = Quantified w true v e
-ranges (AtLeast k) w v e = MembersAtLeast w k v e
+-- how many items have to meet it
+abbrev pub wanted_by : HowMany → Quota
+wanted_by Each = Threshold many.Every
+wanted_by Any = Threshold many.AtLeastOne
+wanted_by (AtLeast k) = Threshold (many.AtLeast k)
 
 -- ---- leaves
 

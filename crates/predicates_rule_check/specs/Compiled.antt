@@ -1,5 +1,5 @@
 -- Which check a rule's expression is.
-use Rattle.std.specs.Prelude.{◌≡◌, ℕ, List, true, false}
+use Rattle.std.specs.Prelude.{◌≡◌, ℕ, List}
 use Rattle.regex.specs.Patterns.{Re}
 use Rattle.regex.specs.Strings.{regex_pattern}
 use Rattle.regex.specs.declared.string.regex.Regex.{Regex}
@@ -10,16 +10,15 @@ use Rattle.predicates_rules.specs.Conditions.{Condition, Is, Compare, CompareWit
 use Rattle.predicates_rules.specs.Conditions.{Relate, In, KeysIn}
 use Rattle.predicates_rules.specs.Trees.{Tree, Test, Not, Implies, Quantified, Joined, AtLeast}
 use Rattle.predicates_rules.specs.Trees.{Trees, none, more}
-use Rattle.predicates_rules.specs.declared.expression.Connective.TheVariants.{Or, Xor, And}
+use Rattle.predicates_rules.specs.declared.expression.Connective.TheVariants.{Or}
 use Rattle.predicates_rules.specs.declared.expression.HowMany.TheVariants as quantifiers
-use Rattle.predicates_rules.specs.declared.expression.HowMany.TheVariants.{Each, Any}
 use Rattle.predicates_rules.specs.Printing.{printed}
 use Rattle.predicates_dynamic.specs.Trees as dynamic
 use Rattle.predicates_rule_check.specs.declared.elements.Elements.{Elements}
 use Rattle.predicates_rule_check.specs.declared.path_test.PathTest.{PathTest}
 use Rattle.predicates_rule_check.specs.Nodes.{text_of_test, path_of_test, query_of_test}
 use Rattle.predicates_rule_check.specs.Nodes.{path_of_view, written}
-use Rattle.predicates_rule_check.specs.CheckTrees.{CheckTree}
+use Rattle.predicates_rule_check.specs.CheckTrees.{CheckTree, joined_by, wanted_by}
 use Rattle.predicates_rule_check.specs.Queries as queries
 use Rattle.predicates_rule_check.specs.Queries.{Query}
 
@@ -55,26 +54,15 @@ abbrev mutual
       × IsQuery t (query_of_test l)
   IsTreeOf (Not e) (dynamic.Not w p) = (w ≡ written (printed (Not e))) × IsTreeOf e p
   -- under the text of the whole, `not A or B`
-  IsTreeOf (Implies a b) (dynamic.Row w decides ps) = (w ≡ written (printed (Implies a b)))
-      × (decides ≡ true) × AreTreesOf (more (Not a) (more b none)) ps
-  IsTreeOf (Quantified Each path e) (dynamic.Quantified w decides v f) =
-      (w ≡ written (printed (Quantified Each path e))) × (decides ≡ false)
+  IsTreeOf (Implies a b) (dynamic.Row w q ps) = (w ≡ written (printed (Implies a b)))
+      × (q ≡ joined_by Or) × AreTreesOf (more (Not a) (more b none)) ps
+  IsTreeOf (Quantified many path e) (dynamic.Members w q v f) =
+      (w ≡ written (printed (Quantified many path e))) × (q ≡ wanted_by many)
       × (path_of_view v ≡ path) × IsTreeOf e f
-  IsTreeOf (Quantified Any path e) (dynamic.Quantified w decides v f) =
-      (w ≡ written (printed (Quantified Any path e))) × (decides ≡ true)
-      × (path_of_view v ≡ path) × IsTreeOf e f
-  IsTreeOf (Quantified (quantifiers.AtLeast k) path e) (dynamic.MembersAtLeast w j v f) =
-      (w ≡ written (printed (Quantified (quantifiers.AtLeast k) path e))) × (j ≡ k)
-      × (path_of_view v ≡ path) × IsTreeOf e f
-  IsTreeOf (Joined Or es) (dynamic.Row w decides ps) = (w ≡ written (printed (Joined Or es)))
-      × (decides ≡ true) × AreTreesOf es ps
-  IsTreeOf (Joined Xor es) (dynamic.Odd w ps) =
-      (w ≡ written (printed (Joined Xor es))) × AreTreesOf es ps
-  IsTreeOf (Joined And es) (dynamic.Row w decides ps) = (w ≡ written (printed (Joined And es)))
-      × (decides ≡ false) × AreTreesOf es ps
-  IsTreeOf (AtLeast k es) (dynamic.AtLeast w j ps) =
-      (w ≡ written (printed (AtLeast k es))) × (j ≡ k)
-      × AreTreesOf es ps
+  IsTreeOf (Joined c es) (dynamic.Row w q ps) = (w ≡ written (printed (Joined c es)))
+      × (q ≡ joined_by c) × AreTreesOf es ps
+  IsTreeOf (AtLeast k es) (dynamic.Row w q ps) = (w ≡ written (printed (AtLeast k es)))
+      × (q ≡ wanted_by (quantifiers.AtLeast k)) × AreTreesOf es ps
   IsTreeOf _ _ = ⊥
 
   pub AreTreesOf : Trees → CheckTrees → Type 0

@@ -72,10 +72,7 @@ fn text_of(tree: &Tree) -> &str
         Tree::Not(written, _)
         | Tree::Pair(written, _, _, _)
         | Tree::Row(written, _, _)
-        | Tree::AtLeast(written, _, _)
-        | Tree::Odd(written, _)
-        | Tree::Quantified(written, _, _, _)
-        | Tree::MembersAtLeast(written, _, _, _) => &written.text,
+        | Tree::Members(written, _, _, _) => &written.text,
     }
 }
 

@@ -1,6 +1,7 @@
 //! The check of a rule's expression.
-ghost use Rattle.std.specs.Prelude.{◌≡◌, IfOk, IfErr, map, string_bytes, true};
+ghost use Rattle.std.specs.Prelude.{◌≡◌, IfOk, IfErr, map, string_bytes};
 ghost use Rattle.predicates_dynamic.specs.Trees.{trees_of, Row, Not, nothing, also};
+ghost use Rattle.predicates_rules.specs.declared.expression.Connective.TheVariants.{Or};
 ghost use Rattle.predicates_rules.specs.Conditions.{condition_of, Relate};
 ghost use Rattle.predicates_rules.specs.Trees.{tree_of as read_tree, trees_of as read_trees};
 ghost use Rattle.predicates_rule_check.specs.Refusals.{IsFailure, IsPatternOf, IsPatternIn};
@@ -8,7 +9,7 @@ ghost use Rattle.predicates_rule_check.specs.Refusals.{IsPatternAmong};
 ghost use Rattle.predicates_rule_check.specs.Queries.{query_of};
 ghost use Rattle.predicates_rule_check.specs.Checks.{tree_of_check};
 ghost use Rattle.predicates_rule_check.specs.Nodes.{words_of_node};
-ghost use Rattle.predicates_rule_check.specs.CheckTrees.{check_tree, joins, ranges};
+ghost use Rattle.predicates_rule_check.specs.CheckTrees.{check_tree, joined_by, wanted_by};
 ghost use Rattle.predicates_rule_check.specs.Compiled.{IsTreeOf, AreTreesOf, IsQuery, IsRelation};
 
 use crate::check::{Check, Tree};
@@ -18,6 +19,8 @@ use crate::path_test::PathTest;
 use crate::pattern::Pattern;
 use crate::question::Question;
 use crate::written::Written;
+use predicates_core::custom::HowMany as Needed;
+use predicates_dynamic::Quota;
 use predicates_rules::condition::{Condition, Relation};
 use predicates_rules::denied::Denied;
 use predicates_rules::expression::{Connective, Expression, HowMany};
@@ -70,7 +73,7 @@ fn implication(
     premise: Tree,
     conclusion: Tree,
 ) -> Result<Tree, AllocError>
-    ensures { IfOk result (λ tree. check_tree tree ≡ Row (words_of_node written) true
+    ensures { IfOk result (λ tree. check_tree tree ≡ Row (words_of_node written) (joined_by Or)
         (also (Not (words_of_node denial) (check_tree premise))
         (also (check_tree conclusion) nothing))) }
 {
@@ -78,37 +81,28 @@ fn implication(
     let mut parts = Vec::with_capacity(alloc, 2)?;
     parts.push(denied)?;
     parts.push(conclusion)?;
-    Ok(Tree::Row(written, true, parts))
+    Ok(Tree::Row(written, joined_by(Connective::Or), parts))
 }
 
-// The parts that a connective joins.
-fn joined(written: Written, connective: Connective, parts: Vec<Tree>) -> Tree
-    ensures { check_tree result ≡ joins connective (words_of_node written)
-        (trees_of (map check_tree parts.items)) }
+// How many of the parts have to hold that a connective joins.
+fn joined_by(connective: Connective) -> Quota
+    ensures { result ≡ joined_by connective }
 {
     match connective {
-        Connective::Or => Tree::Row(written, true, parts),
-        Connective::Xor => Tree::Odd(written, parts),
-        Connective::And => Tree::Row(written, false, parts),
+        Connective::Or => Quota::Threshold(Needed::AtLeastOne),
+        Connective::Xor => Quota::Odd,
+        Connective::And => Quota::Threshold(Needed::Every),
     }
 }
 
-// The check of as many elements as are wanted.
-fn over_elements(
-    written: Written,
-    quantifier: HowMany,
-    elements: Elements,
-    inner: Box<Tree>,
-) -> Tree
-    ensures { check_tree result ≡ ranges quantifier (words_of_node written) elements
-        (check_tree inner.value) }
+// How many elements have to meet it.
+fn wanted_by(quantifier: HowMany) -> Quota
+    ensures { result ≡ wanted_by quantifier }
 {
     match quantifier {
-        HowMany::Each => Tree::Quantified(written, false, elements, inner),
-        HowMany::Any => Tree::Quantified(written, true, elements, inner),
-        HowMany::AtLeast(least) => {
-            Tree::MembersAtLeast(written, least as usize, elements, inner)
-        }
+        HowMany::Each => Quota::Threshold(Needed::Every),
+        HowMany::Any => Quota::Threshold(Needed::AtLeastOne),
+        HowMany::AtLeast(least) => Quota::Threshold(Needed::AtLeast(least as usize)),
     }
 }
 
@@ -146,15 +140,15 @@ fn tree_of(alloc: Global, expression: Expression) -> Result<Tree, CheckError>
         Expression::Quantified(quantifier, path, inner) => {
             let inner = tree_of(alloc, Box::into_inner(inner))?;
             let inner = Box::new(alloc, inner)?;
-            Ok(over_elements(written, quantifier, Elements { path }, inner))
+            Ok(Tree::Members(written, wanted_by(quantifier), Elements { path }, inner))
         }
         Expression::Joined(connective, parts) => {
             let parts = trees_of(alloc, parts)?;
-            Ok(joined(written, connective, parts))
+            Ok(Tree::Row(written, joined_by(connective), parts))
         }
         Expression::AtLeast(least, parts) => {
             let parts = trees_of(alloc, parts)?;
-            Ok(Tree::AtLeast(written, least as usize, parts))
+            Ok(Tree::Row(written, wanted_by(HowMany::AtLeast(least)), parts))
         }
     }
 }

@@ -32,13 +32,10 @@ fn pattern_in<'r>(tree: &'r Tree, source: &str) -> Option<&'r Pattern>
             }
             pattern_in(right, source)
         }
-        Tree::Row(_, _, parts) | Tree::AtLeast(_, _, parts) | Tree::Odd(_, parts) => {
-            pattern_among(parts, source)
+        Tree::Row(_, _, parts) => pattern_among(parts, source),
+        Tree::Not(_, inner) | Tree::Named(_, inner) | Tree::Members(_, _, _, inner) => {
+            pattern_in(inner, source)
         }
-        Tree::Not(_, inner)
-        | Tree::Named(_, inner)
-        | Tree::Quantified(_, _, _, inner)
-        | Tree::MembersAtLeast(_, _, _, inner) => pattern_in(inner, source),
     }
 }
 

@@ -5,14 +5,12 @@ use Rattle.std.proofs.Output.{displays_on_IsOk_append}
 use Rattle.predicates_core.specs.Several.{further_texts}
 use Rattle.predicates_dynamic.specs.Formulas.{check_text}
 use Rattle.predicates_dynamic.specs.Trees.{tree_of}
-use Rattle.predicates_dynamic.proofs.Unrolled.{row_tree, counted_tree, odd_tree}
+use Rattle.predicates_dynamic.proofs.Unrolled.{row_tree}
 use Rattle.predicates_dynamic.specs.Listed.{joined_texts, text_at}
+use Rattle.predicates_dynamic.specs.Quotas.{member_words, viewed_text}
 use Rattle.predicates_core.proofs.Listing.{nothing_written, one_text_more, further_last}
 use Rattle.predicates_dynamic.proofs.Listing.{text_behind, joined_last, listed, each_text}
 use Rattle.predicates_dynamic.proofs.check.+text.Goals as goal
-
-pub Check::fmt_row-returns : goal.Check::fmt_row-returns
-Check::fmt_row-returns g t c = rw (listed _ (map (check_text g.L.Display.output g.V.Display.output g.S.Wording.words) c.args.parts.now)) (rw c.word_of.ensures at c.fmt_listed.ensures)
 
 pub Check::fmt_part-returns-then-index-eq0 : goal.Check::fmt_part-returns-then-index-eq0
 Check::fmt_part-returns-then-index-eq0 g t c =
@@ -43,22 +41,16 @@ Check::fmt_further-loop-part-preserved g t c = one_text_more g.W.Write.write_str
 pub Check::fmt_further-returns : goal.Check::fmt_further-returns
 Check::fmt_further-returns g t c = subst (λ us. DisplaysOnOk g.W.Write.write_str_gives c.args.f.now (Ok tt) (further_texts (map (check_text g.L.Display.output g.V.Display.output g.S.Wording.words) us)) c.loop-part.f) (take_all c.loop-part.part-index c.args.parts.now (omega arith)) c.loop-part.invariant
 
-pub Check::fmt_odd-returns : goal.Check::fmt_odd-returns
-Check::fmt_odd-returns g t c = rw (listed _ (map (check_text g.L.Display.output g.V.Display.output g.S.Wording.words) c.args.parts.now)) c.fmt_listed.ensures
-
 pub Check::fmt_computed-returns-in-Row : goal.Check::fmt_computed-returns-in-Row
-Check::fmt_computed-returns-in-Row g t c = rw (ap (tree_of g.S.Wording.words) c.in-Row.is ∙ row_tree g.S.Wording.words c.in-Row.field-0 c.in-Row.decides c.in-Row.parts) (rw (each_text g.L.Display.output g.V.Display.output g.S.Wording.words c.in-Row.parts.items) (rw c.deref-in-Row.ensures.value at c.fmt_row.ensures))
-
-pub Check::fmt_computed-returns-in-AtLeast : goal.Check::fmt_computed-returns-in-AtLeast
-Check::fmt_computed-returns-in-AtLeast g t c = rw (ap (tree_of g.S.Wording.words) c.in-AtLeast.is ∙ counted_tree g.S.Wording.words c.in-AtLeast.field-0 c.in-AtLeast.least c.in-AtLeast.parts) (rw (each_text g.L.Display.output g.V.Display.output g.S.Wording.words c.in-AtLeast.parts.items) (rw c.deref-in-AtLeast.ensures.value at c.fmt_threshold.ensures))
-
-pub Check::fmt_computed-returns-in-Odd : goal.Check::fmt_computed-returns-in-Odd
-Check::fmt_computed-returns-in-Odd g t c = rw (ap (tree_of g.S.Wording.words) c.in-Odd.is ∙ odd_tree g.S.Wording.words c.in-Odd.field-0 c.in-Odd.parts) (rw (each_text g.L.Display.output g.V.Display.output g.S.Wording.words c.in-Odd.parts.items) (rw c.deref-in-Odd.ensures.value at c.fmt_odd.ensures))
+Check::fmt_computed-returns-in-Row g t c = rw (ap (tree_of g.S.Wording.words) c.in-Row.is ∙ row_tree g.S.Wording.words c.in-Row.field-0 c.in-Row.quota c.in-Row.parts) (rw (each_text g.L.Display.output g.V.Display.output g.S.Wording.words c.in-Row.parts.items) (rw c.deref-in-Row.ensures.value at c.fmt_row.ensures))
 
 pub Check::fmt_listed-returns : goal.Check::fmt_listed-returns
 Check::fmt_listed-returns g t c =
     let took = g.W.Write.write_str_gives in
     let texts = joined_texts (map (check_text g.L.Display.output g.V.Display.output g.S.Wording.words) c.args.parts.now) in
-    displays_on_IsOk_append took c.args.f.now c.write_str.new.self c.write-2.new.self (Ok tt) c.write-2.result (Some c.args.word.now) (Some (codes "(") ++? texts ++? Some (codes ")")) (λ ok. refl) c.in_ok-write_str.ensures.writes
+    rw (listed c.args.word.now (map (check_text g.L.Display.output g.V.Display.output g.S.Wording.words) c.args.parts.now)) (displays_on_IsOk_append took c.args.f.now c.write_str.new.self c.write-2.new.self (Ok tt) c.write-2.result (Some c.args.word.now) (Some (codes "(") ++? texts ++? Some (codes ")")) (λ ok. refl) c.in_ok-write_str.ensures.writes
     (displays_on_IsOk_append took c.write_str.new.self c.write.new.self c.write-2.new.self (Ok tt) c.write-2.result (Some (codes "(")) (texts ++? Some (codes ")")) (λ ok. refl) c.in_ok-write.ensures.writes
-    (displays_on_IsOk_append took c.write.new.self c.fmt_parts.new.f c.write-2.new.self (Ok tt) c.write-2.result texts (Some (codes ")")) (λ ok. refl) c.in_ok-fmt_parts.ensures c.write-2.ensures.writes))
+    (displays_on_IsOk_append took c.write.new.self c.fmt_parts.new.f c.write-2.new.self (Ok tt) c.write-2.result texts (Some (codes ")")) (λ ok. refl) c.in_ok-fmt_parts.ensures c.write-2.ensures.writes)))
+
+pub Check::fmt_members-returns : goal.Check::fmt_members-returns
+Check::fmt_members-returns g t c = displays_on_IsOk_append g.W.Write.write_str_gives c.args.f.now c.fmt_member_words.new.f c.fmt_viewed.new.f (Ok tt) c.fmt_viewed.result (member_words c.args.quota) (viewed_text (g.V.Display.output c.args.view.now) (check_text g.L.Display.output g.V.Display.output g.S.Wording.words c.args.inner.now)) (λ ok. refl) c.in_ok-fmt_member_words.ensures c.fmt_viewed.ensures

@@ -1,6 +1,6 @@
 use Rattle.std.proofs.Common.{◌≡◌, ◌+◌, suc, arith, ap, ◌∙◌}
 use Rattle.predicates_dynamic.specs.Sizes.{size_of, sizes_of}
-use Rattle.predicates_dynamic.proofs.Dropping.{leaf_size, not_size, named_size, pair_size, row_size, counted_size, odd_size, quantified_size, members_size, smaller, then_waiting}
+use Rattle.predicates_dynamic.proofs.Dropping.{leaf_size, not_size, named_size, pair_size, row_size, members_size, smaller, then_waiting}
 use Rattle.predicates_dynamic.proofs.check.Check.take_apart.Goals as goal
 
 pub returns-in-Leaf : goal.returns-in-Leaf
@@ -30,22 +30,7 @@ returns-in-Row g c =
     let is : size_of c.args.self ≡ suc (sizes_of c.in-Row.parts.items) = ap size_of c.in-Row.is ∙ row_size c.in-Row.wording c.in-Row.field-1 c.in-Row.parts in
     rw is c.parts_apart.ensures
 
-pub returns-in-AtLeast : goal.returns-in-AtLeast
-returns-in-AtLeast g c =
-    let is : size_of c.args.self ≡ suc (sizes_of c.in-AtLeast.parts.items) = ap size_of c.in-AtLeast.is ∙ counted_size c.in-AtLeast.wording c.in-AtLeast.field-1 c.in-AtLeast.parts in
-    rw is c.parts_apart-in-AtLeast.ensures
-
-pub returns-in-Odd : goal.returns-in-Odd
-returns-in-Odd g c =
-    let is : size_of c.args.self ≡ suc (sizes_of c.in-Odd.parts.items) = ap size_of c.in-Odd.is ∙ odd_size c.in-Odd.wording c.in-Odd.parts in
-    rw is c.parts_apart-in-Odd.ensures
-
-pub returns-in-Quantified : goal.returns-in-Quantified
-returns-in-Quantified g c =
-    let is : size_of c.args.self ≡ suc (size_of c.in-Quantified.inner.value) = ap size_of c.in-Quantified.is ∙ quantified_size c.in-Quantified.field-0 c.in-Quantified.field-1 c.in-Quantified.field-2 c.in-Quantified.inner in
-    rw c.into_inner-in-Quantified.ensures (smaller c.in-Quantified.inner.value (size_of c.args.self) c.args.waiting c.args.waiting (omega (arith, is)) (omega (arith, is)))
-
-pub returns-in-MembersAtLeast : goal.returns-in-MembersAtLeast
-returns-in-MembersAtLeast g c =
-    let is : size_of c.args.self ≡ suc (size_of c.in-MembersAtLeast.inner.value) = ap size_of c.in-MembersAtLeast.is ∙ members_size c.in-MembersAtLeast.field-0 c.in-MembersAtLeast.field-1 c.in-MembersAtLeast.field-2 c.in-MembersAtLeast.inner in
-    rw c.into_inner-in-MembersAtLeast.ensures (smaller c.in-MembersAtLeast.inner.value (size_of c.args.self) c.args.waiting c.args.waiting (omega (arith, is)) (omega (arith, is)))
+pub returns-in-Members : goal.returns-in-Members
+returns-in-Members g c =
+    let is : size_of c.args.self ≡ suc (size_of c.in-Members.inner.value) = ap size_of c.in-Members.is ∙ members_size c.in-Members.field-0 c.in-Members.field-1 c.in-Members.field-2 c.in-Members.inner in
+    rw c.into_inner-in-Members.ensures (smaller c.in-Members.inner.value (size_of c.args.self) c.args.waiting c.args.waiting (omega (arith, is)) (omega (arith, is)))
