@@ -17,3 +17,4 @@ pub use predicate_calls::{Row, leaf, over, sweep_calls};
 pub use refusals::sweep;
 pub use without::{Without, refusing};
 pub use written_row::WrittenRow;
+pub use wrong::Wrong;

@@ -2,10 +2,10 @@
 use crate::answer::Answer;
 use crate::call::{Call, Memory};
 use crate::refusals::sweep;
+use crate::wrong::Wrong;
 use predicates_core::PredicateChange;
 use predicates_core::reflection::render;
 use std::alloc::{AllocError, Global};
-use std::test::Fail;
 
 // One call of a predicate.
 #[derive(Clone, Copy)]
@@ -127,7 +127,7 @@ fn sweep_change<R: AllocGlobal + Print, P: PredicateChange<Item>, Item>(
     predicate: &P,
     item: &Item,
     row: Row<'_>,
-) -> Result<(), Fail>
+) -> Result<(), Wrong>
     requires { P.lawful predicate.now }
 {
     let lines = change_lines(rt.alloc(), predicate, item)?;
@@ -148,7 +148,7 @@ pub fn sweep_calls<R: AllocGlobal + Print, P: PredicateChange<Item>, Item>(
     predicate: &P,
     item: &Item,
     row: Row<'_>,
-) -> Result<(), Fail>
+) -> Result<(), Wrong>
     requires { P.lawful predicate.now }
 {
     let opposite = !row.verdict;

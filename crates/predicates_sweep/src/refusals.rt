@@ -1,9 +1,8 @@
 //! Refuses each request of a call in turn.
 use crate::allocator;
 use crate::call::{Call, Memory, Rendered};
-use crate::wrong::require;
+use crate::wrong::{Wrong, require};
 use std::alloc::{AllocError, Global};
-use std::test::Fail;
 
 // More requests than any of the calls makes.
 const MOST: u16 = 4_000;
@@ -38,7 +37,7 @@ fn run<R: AllocGlobal, C: Call>(
     expected: &str,
     nth: u16,
     alone: bool,
-) -> Result<Outcome, Fail>
+) -> Result<Outcome, Wrong>
     requires { C.ready call.now }
 {
     let alloc = rt.alloc();
@@ -86,7 +85,7 @@ fn refuse_each<R: AllocGlobal, C: Call>(
     expected: &str,
     alone: bool,
     mut counts: Counts,
-) -> Result<Counts, Fail>
+) -> Result<Counts, Wrong>
     requires { C.ready call.now }
 {
     for nth in 1..MOST {
@@ -120,7 +119,7 @@ pub fn sweep<R: AllocGlobal + Print, C: Call>(
     call: &C,
     expected: &str,
     memory: Memory,
-) -> Result<(), Fail>
+) -> Result<(), Wrong>
     requires { C.ready call.now }
 {
     let right = is_right(rt.alloc(), call, expected)?;
@@ -144,7 +143,7 @@ fn report<R: AllocGlobal + Print>(
     name: &str,
     counts: Counts,
     memory: Memory,
-) -> Result<(), Fail> {
+) -> Result<(), Wrong> {
     let Counts {
         requests,
         refusals,

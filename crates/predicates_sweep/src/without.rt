@@ -2,9 +2,8 @@
 ghost use Rattle.std.specs.Prelude.{◌≡◌, true, IfOk};
 
 use crate::allocator;
-use crate::wrong::require;
+use crate::wrong::{Wrong, require};
 use std::alloc::Global;
-use std::test::Fail;
 
 /// The time in which no request for memory may be made.
 #[derive(Drop)]
@@ -20,7 +19,7 @@ pub fn refusing(alloc: Global, name: &str) -> Without<'_> {
 
 impl Without<'_> {
     /// No request was made, and the answer is right.
-    pub fn end<R: AllocGlobal + Print>(self, rt: &R, right: bool) -> Result<(), Fail>
+    pub fn end<R: AllocGlobal + Print>(self, rt: &R, right: bool) -> Result<(), Wrong>
         ensures { IfOk result (λ _. right ≡ true) }
     {
         let alloc = rt.alloc();
