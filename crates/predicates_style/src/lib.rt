@@ -11,8 +11,6 @@
 
 mod character;
 mod style;
-#[cfg(test)]
-mod tests;
 mod text;
 
 pub use style::Style;

@@ -9,4 +9,5 @@ mod laws;
 mod names;
 mod prelude;
 mod static_text;
+mod styles;
 mod uses;

@@ -1,7 +1,7 @@
 //! The tree that explains an answer.
 //!
 //! ```
-//! for CaseChild { name, case } in case.root().children() {
+//! for CaseChild { name, case } in whole.root().children() {
 //!     println!(rt; "{name}: {}", case.result())?;
 //! }
 //! ```
@@ -313,37 +313,5 @@ impl<'a> Iterator for CaseChildren<'a> {
                 below,
             },
         })
-    }
-}
-
-#[cfg(test)]
-mod tests {
-    use super::*;
-    use std::test::Fail;
-
-    fn node(alloc: Global, text: &'static str) -> Result<Case, AllocError> {
-        Ok(Case::new(alloc, Some(String::from_str(alloc, text)?), true))
-    }
-
-    // The case of `always().and(always()).or(always())`.
-    fn both_or_one(alloc: Global) -> Result<Case, AllocError> {
-        let both = node(alloc, "(true && true)")?
-            .add_child("left", node(alloc, "true")?)?
-            .add_child("right", node(alloc, "true")?)?;
-        node(alloc, "((true && true) || true)")?.add_child("left", both)
-    }
-
-    // Three records stand in one list, each with the size of its subtree; the root's is 4.
-    #[test]
-    fn sizes_of_the_flat_list(rt: HostRuntime) -> Result<(), Fail> {
-        let alloc = rt.alloc();
-        let case = both_or_one(alloc)?;
-        let mut sizes = Vec::new(alloc);
-        for entry in case.below.as_slice() {
-            sizes.push(entry.size)?;
-        }
-        assert_eq!(rt; sizes.as_slice(), [3usize, 1, 1].as_slice());
-        assert_eq!(rt; case.below.len().saturating_add(1), 4usize);
-        Ok(())
     }
 }

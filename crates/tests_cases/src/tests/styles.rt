@@ -1,0 +1,181 @@
+//! Cases rendered in each style, against lines written by hand.
+use predicates::reflection::{Case, Product, render};
+use predicates_style::{Style, render_styled};
+use std::alloc::Global;
+use std::process::Abort;
+
+const TWELVE_LINES: &str = "any(var >= 5) = false
+  item: var >= 5 = false
+  item: var >= 5 = false
+  item: var >= 5 = false
+  item: var >= 5 = false
+  item: var >= 5 = false
+  item: var >= 5 = false
+  item: var >= 5 = false
+  item: var >= 5 = false
+  item: var >= 5 = false
+  item: var >= 5 = false
+  .. 99990 more
+";
+
+const ONE_CHILD_EACH: &str = "all = true
+  first: either = true
+    left: a = true
+    .. 1 more
+  .. 1 more
+";
+
+fn node(rt: &impl Abort, alloc: Global, text: &str, outcome: bool) -> Case {
+    Case::new(
+        alloc,
+        Some(String::from_str(alloc, text).expect(rt, "memory")),
+        outcome,
+    )
+}
+
+// A node with so many children, all leaves.
+fn flat(rt: &impl Abort, alloc: Global, members: usize) -> Case {
+    let mut case = node(rt, alloc, "any(var >= 5)", false);
+    for _ in 0..members {
+        case = case
+            .add_child("item", node(rt, alloc, "var >= 5", false))
+            .expect(rt, "memory");
+    }
+    case
+}
+
+// Two levels of two children each.
+fn nested(rt: &impl Abort, alloc: Global) -> Case {
+    let either = node(rt, alloc, "either", true)
+        .add_child("left", node(rt, alloc, "a", true))
+        .expect(rt, "memory")
+        .add_child("right", node(rt, alloc, "b", true))
+        .expect(rt, "memory");
+    node(rt, alloc, "all", true)
+        .add_child("first", either)
+        .expect(rt, "memory")
+        .add_child("second", node(rt, alloc, "c", true))
+        .expect(rt, "memory")
+}
+
+fn with_value(rt: &impl Abort, alloc: Global, name: &'static str, value: &str) -> Case {
+    let value = String::from_str(alloc, value).expect(rt, "memory");
+    node(rt, alloc, "var == \"a\nb\"", false)
+        .add_product(Product::new(name, value))
+        .expect(rt, "memory")
+}
+
+// Whether the case is rendered so in the style.
+fn renders(rt: &impl Abort, alloc: Global, style: Style, case: Case, expected: &str) -> bool {
+    let lines = render_styled(alloc, &style, &case).expect(rt, "memory");
+    lines.as_str() == expected
+}
+
+#[test]
+fn ten_children_of_many(rt: HostRuntime) {
+    let alloc = rt.alloc();
+    let style = Style {
+        children: Some(10),
+        ..Style::new()
+    };
+    assert!(rt; renders(&rt, alloc, style, flat(&rt, alloc, 100_000), TWELVE_LINES));
+}
+
+#[test]
+fn one_child_of_each_node(rt: HostRuntime) {
+    let alloc = rt.alloc();
+    let style = Style {
+        children: Some(1),
+        ..Style::new()
+    };
+    assert!(rt; renders(&rt, alloc, style, nested(&rt, alloc), ONE_CHILD_EACH));
+}
+
+#[test]
+fn values_cut_by_characters(rt: HostRuntime) {
+    let alloc = rt.alloc();
+    let style = Style {
+        characters: Some(4),
+        ..Style::new()
+    };
+    let cut = "var == \"a\nb\" = false\n  - var (first 4 of 6 characters): aäöü\n";
+    assert!(rt;
+        renders(
+            &rt,
+            alloc,
+            style,
+            with_value(&rt, alloc, "var", "aäöüßb"),
+            cut
+        )
+    );
+    let whole = "var == \"a\nb\" = false\n  - var: äöüß\n";
+    assert!(rt;
+        renders(
+            &rt,
+            alloc,
+            style,
+            with_value(&rt, alloc, "var", "äöüß"),
+            whole
+        )
+    );
+}
+
+#[test]
+fn control_characters_escaped(rt: HostRuntime) {
+    let alloc = rt.alloc();
+    let style = Style {
+        escapes: true,
+        ..Style::new()
+    };
+    let case = with_value(&rt, alloc, "v\ta", "\u{1b}[0m\r\u{7f}\u{85}\\ä\u{0}");
+    let lines = "var == \"a\\nb\" = false\n  - v\\ta: \\u{1b}[0m\\r\\u{7f}\\u{85}\\ä\\u{0}\n";
+    assert!(rt; renders(&rt, alloc, style, case, lines));
+}
+
+#[test]
+fn escapes_after_the_cut(rt: HostRuntime) {
+    let alloc = rt.alloc();
+    let style = Style {
+        characters: Some(2),
+        escapes: true,
+        ..Style::new()
+    };
+    let lines = "var == \"a\\nb\" = false\n  - var (first 2 of 3 characters): a\\n\n";
+    assert!(rt;
+        renders(
+            &rt,
+            alloc,
+            style,
+            with_value(&rt, alloc, "var", "a\nb"),
+            lines
+        )
+    );
+}
+
+#[test]
+fn results_in_colours(rt: HostRuntime) {
+    let alloc = rt.alloc();
+    let style = Style {
+        colours: true,
+        ..Style::new()
+    };
+    let green = "a = \u{1b}[32mtrue\u{1b}[0m\n";
+    assert!(rt; renders(&rt, alloc, style, node(&rt, alloc, "a", true), green));
+    let red = "a = \u{1b}[31mfalse\u{1b}[0m\n";
+    assert!(rt; renders(&rt, alloc, style, node(&rt, alloc, "a", false), red));
+}
+
+#[test]
+fn as_rendered_without_a_style(rt: HostRuntime) {
+    let alloc = rt.alloc();
+    let lines = render(alloc, &nested(&rt, alloc)).expect(&rt, "memory");
+    assert!(rt;
+        renders(
+            &rt,
+            alloc,
+            Style::default(),
+            nested(&rt, alloc),
+            lines.as_str()
+        )
+    );
+}
