@@ -13,6 +13,13 @@ FENCE = re.compile(r'^( *//[/!]) ```(\w*)$')
 FOR_PROOFS = '// From here on a proof knows'
 ITEM = re.compile(r'^(?:pub )?(?:fn|struct|enum|impl|trait|type|#!?\[)\b', re.MULTILINE)
 USE = re.compile(r'^use [^;]*;$', re.MULTILINE)
+STRING = re.compile(r'b?"(?:[^"\\]|\\.)*"', re.DOTALL)
+
+
+def bare(code):
+    """Code without its comments, and of its texts what they name in braces."""
+    code = STRING.sub(lambda text: ' '.join(re.findall(r'\{([a-z]\w*)', text[0])), code)
+    return re.sub(r'//.*', '', code)
 
 
 class Example:
@@ -21,6 +28,7 @@ class Example:
     def __init__(self, file, line, code):
         self.file, self.line, self.code = file, line, code
         self.text = '\n'.join(code)
+        self.bare = bare(self.text)
         self.crate = file.split('/')[1] if file.startswith('crates/') else 'docs'
         self.why_not = 'for proofs' if self.text.startswith(FOR_PROOFS) else None
         self.given = []
@@ -29,10 +37,10 @@ class Example:
         return re.sub(r'\W', '_', re.sub(r'^crates/|/src(?=/)|\.\w+$', '', self.file)).lower() + f'_{self.line}'
 
     def makes(self, name):
-        return re.search(rf'\b(?:let|for|fn)\b[^=;]*?\b{name}\b', self.text)
+        return re.search(rf'\blet\b[^=;]*?\b{name}\b|\bfor\b(?:(?!\bin\b)[^;])*?\b{name}\b|\bfn {name}\b', self.bare)
 
     def takes(self, name):
-        return re.search(rf'(?<![.\w]){name}\b(?!\s*(?:::|!|:[^:]))', self.text) and not self.makes(name)
+        return re.search(rf'(?<![.\w]){name}\b(?!\s*(?:::|!|:[^:]))', self.bare) and not self.makes(name)
 
 
 def of_comments():

@@ -43,7 +43,9 @@ pub fn expect<Item: Drop, P: Drop>(
 /// failures, their labels and their cases; where all are met, it takes what memory `eval` takes.
 ///
 /// ```
-/// assert!(rt; check_all(alloc, expected.as_slice())?.len() == 1);
+/// let found = Snapshot::take(&rt, alloc, "run.sh")?;
+/// let expected = [expect(alloc, "run.sh", found, predicate::path::is_file())?];
+/// assert!(rt; check_all(alloc, &expected)?.len() == 1);
 /// ```
 pub fn check_all<P: Predicate<Item>, Item>(
     alloc: Global,

@@ -17,6 +17,7 @@ use std::alloc::{AllocError, Global};
 /// let mut cases = Vec::new(alloc);
 /// add_failure(alloc, &mut cases, &adult, &guest)?;
 /// add_failure(alloc, &mut cases, &known, &guest)?;
+/// assert!(rt; cases.len() == 2);
 /// ```
 pub fn add_failure<P: Predicate<Item>, Item>(
     alloc: Global,

@@ -2,7 +2,7 @@
 //!
 //! ```
 //! let plain = predicate::eq(5).name("five");
-//! let boxed = predicate::always().name(StaticText::new("any"));
+//! let boxed = predicate::always::<i64>().name(StaticText::new("any"));
 //! ```
 
 ghost use Rattle.std.specs.Prelude.{◌≡◌, ℕ, List};

@@ -1,7 +1,7 @@
 //! Texts that are there for good, held without a lifetime.
 //!
 //! ```
-//! let any = predicate::always().name(StaticText::new("any"));
+//! let any = predicate::always::<i64>().name(StaticText::new("any"));
 //! ```
 
 ghost use Rattle.std.specs.Prelude.{◌≡◌, ℕ, List, length, ◌^◌, ◌<◌};

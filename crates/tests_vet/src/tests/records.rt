@@ -1,5 +1,5 @@
 //! The records of inputs, and their lines.
-mod examples;
+mod copied;
 mod faults;
 mod lines;
 

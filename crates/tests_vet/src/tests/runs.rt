@@ -1,7 +1,6 @@
 //! Rules and records, and what a run writes for them.
 mod combined;
 mod conditions;
-mod examples;
 mod faults;
 mod implications;
 mod malformed_records;

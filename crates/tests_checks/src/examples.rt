@@ -1,3 +1,0 @@
-//! The examples that stand at the calls, word for word.
-mod checks;
-mod json;

@@ -1,2 +1,0 @@
-//! The examples that stand at the calls, word for word.
-mod combinators;

@@ -1,4 +1,0 @@
-//! The examples that stand at the calls, word for word.
-mod comparisons;
-mod lists;
-mod parts;
