@@ -124,26 +124,17 @@ over_next b text name (c ∷ cs) (Some w) d t o n = rw n (record {
 })
 
 all_pass : (x t y z : Bool) → (not x && (not t || (y && z))) ≡ true → (x ≡ false) × (t ≡ true → (y ≡ true) × (z ≡ true))
-all_pass false true true true e = (refl, λ t. (refl, refl))
-all_pass false false y z e = (refl, λ t. absurd (cc))
-all_pass false true true false e = absurd (cc)
-all_pass false true false z e = absurd (cc)
-all_pass true t y z e = absurd (cc)
+all_pass x t y z e = (grind arith, λ t. (grind arith, grind arith))
 
 none_passes : (x t y z : Bool) → (not x && (not t || (y && z))) ≡ false → x ≡ false → z ≡ true → (t ≡ true) × (y ≡ false)
-none_passes false true false z e w l = (refl, refl)
-none_passes false true true true e w l = absurd (cc)
-none_passes false true true false e w l = absurd (cc)
-none_passes false false y z e w l = absurd (cc)
-none_passes true t y z e w l = absurd (cc)
+none_passes x t y z e w l = (grind arith, grind arith)
 
 -- so many more parts with the truth may follow
 few_such : (b : Bool) (s : Sought) (such : ℕ) → (IsDecided b s such → ⊥) → s.turns ≡ false → such < enough_of b s.least s.number
 few_such b s such none e = ⊎_elim (λ less. less) (λ enough. absurd (none (record { enough = enough; other = λ t. absurd (cc) }))) (cases_lt such (enough_of b s.least s.number))
 
 pub either_way : (t : Bool) → (t ≡ true) ⊎ (t ≡ false)
-either_way true = inl refl
-either_way false = inr refl
+either_way t = grind arith
 
 next_node : (b : Bool) (text : Entry) (name : List ℕ) (so_far : Found) (d : Tree CaseNode) (node : Found) → IsNodeWith b text name so_far (Some d) node → (t : Tree CaseNode) × (node ≡ Some t) × IsNextCase b text name d so_far t
 next_node b text name so_far d None h = absurd h
