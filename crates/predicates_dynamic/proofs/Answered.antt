@@ -1,8 +1,8 @@
 -- What is found of checks, whether why they have their verdicts or what would turn these.
-use Rattle.std.proofs.Common.{◌≡◌, Bool, true, false, Option, Some, None, codes, cond, option_map, List, [], ◌∷◌, ℕ, Result, Ok, Err, IfOk, refl, sym, subst}
-use Rattle.std.specs.Prelude.{not, ◌||◌}
+use Rattle.std.proofs.Common.{◌≡◌, Bool, true, false, Option, Some, None, cond, List, ℕ, Result, IfOk, refl, sym, subst}
+use Rattle.std.specs.Prelude.{◌||◌}
 use Rattle.predicates_core.specs.Label.{Entry, Product, Fits}
-use Rattle.predicates_core.specs.Formula.{Formula, apply, HasTruth}
+use Rattle.predicates_core.specs.Formula.{Formula, apply}
 use Rattle.predicates_core.specs.declared.custom.join.Operator.{Operator}
 use Rattle.predicates_core.specs.declared.custom.join.Operator.TheVariants.{And, Or, Xor}
 use Rattle.predicates_core.specs.Tree.{Tree}
@@ -14,7 +14,6 @@ use Rattle.predicates_core.specs.Kinds.{reasons, changes}
 use Rattle.predicates_core.specs.Leaves.{IsExactly}
 use Rattle.predicates_core.specs.Shows.{IsFound, IsFoundBy, IsNode, found_parts}
 use Rattle.predicates_core.specs.Turning.{IsRightChange}
-use Rattle.predicates_core.proofs.Values.{not-not}
 use Rattle.predicates_core.proofs.Found.{truth_found}
 use Rattle.predicates_core.proofs.Asked.{none_in_turn, case_in_turn, no_change_in_turn, change_in_turn}
 use Rattle.predicates_core.proofs.ChangeCases.{exact_leaf, leaf_found}

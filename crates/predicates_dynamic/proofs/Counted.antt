@@ -1,16 +1,16 @@
 -- How many of a list hold, and the verdict of what holds where as many of them do as have to.
-use Rattle.std.proofs.Common.{◌≡◌, ◌⊎◌, ℕ, zero, suc, ◌+◌, ◌-◌, ◌<◌, ◌≤◌, Bool, true, false, List, [], ◌∷◌, ◌++◌, Option, Some, None, length, take, drop, get_or, refl, sym, ap, ◌∙◌, subst, arith, inl, inr, ⊎_elim}
+use Rattle.std.proofs.Common.{◌≡◌, ◌⊎◌, ℕ, zero, suc, ◌+◌, ◌-◌, ◌<◌, ◌≤◌, Bool, true, false, List, [], ◌∷◌, ◌++◌, Some, None, length, take, get_or, refl, sym, ap, ◌∙◌, subst, arith, inl, inr, ⊎_elim}
 use Rattle.std.specs.Prelude.{not, ◌==◌, ◌%◌, nat_le, nat_lt, cond}
 use Rattle.std.proofs.lemmas.Bool.{cases_lt}
 use Rattle.std.proofs.lemmas.Bool.Decides.{nat_tests}
 use Rattle.std.proofs.lemmas.List.{take_more, take_all, length-take-le}
 use Rattle.predicates_core.specs.Label.{Label, Entry, plain}
 use Rattle.predicates_core.specs.declared.custom.join.Operator.TheVariants.{Xor}
-use Rattle.predicates_core.specs.Formula.{Formula, Formulas, one, more, Join, differ, one_if, truth, enough_of, HasTruth}
+use Rattle.predicates_core.specs.Formula.{Formula, Formulas, one, more, Join, differ, one_if, truth, HasTruth}
 use Rattle.predicates_core.specs.HowMany.{least_of}
 use Rattle.predicates_core.specs.declared.custom.quantifier.HowMany.{HowMany}
 use Rattle.predicates_core.specs.Several.{AreOfEach}
-use Rattle.predicates_core.specs.Thresholds.{IsSettled, IsOfThreshold}
+use Rattle.predicates_core.specs.Thresholds.{IsOfThreshold}
 use Rattle.predicates_core.proofs.Values.{truth-one, truth-more}
 use Rattle.predicates_core.proofs.Leaves.{HasTruth-exactly}
 use Rattle.predicates_core.proofs.ThresholdCases.{Among, among_all, HasTruth-among, HasTruth-settled}

@@ -1,12 +1,12 @@
 -- What is found of several of which an odd number has to hold, from what was found of each.
-use Rattle.std.proofs.Common.{◌≡◌, ℕ, zero, suc, ◌+◌, ◌≤◌, ◌<◌, ◌⊎◌, Bool, true, false, List, [], ◌∷◌, ◌++◌, Option, Some, None, Ok, map, length, take, get_or, refl, sym, ap, ◌∙◌, subst, arith, inl, inr, ⊎_elim}
-use Rattle.std.specs.Prelude.{◌==◌, ◌%◌, ◌||◌}
+use Rattle.std.proofs.Common.{◌≡◌, ℕ, suc, ◌+◌, ◌≤◌, ◌<◌, ◌⊎◌, Bool, true, false, List, [], ◌∷◌, ◌++◌, Option, Some, None, Ok, map, length, take, get_or, refl, sym, ap, ◌∙◌, subst, arith, inl, inr, ⊎_elim}
+use Rattle.std.specs.Prelude.{◌==◌, ◌%◌}
 use Rattle.std.specs.declared.alloc.AllocError.{AllocError}
 use Rattle.std.proofs.lemmas.Bool.Decides.{nat_tests}
 use Rattle.std.proofs.lemmas.List.{take_more, take_all, length-take-le, map-append}
 use Rattle.predicates_core.specs.Label.{Label, Entry, plain}
 use Rattle.predicates_core.specs.declared.custom.join.Operator.TheVariants.{Xor}
-use Rattle.predicates_core.specs.Formula.{Formula, Formulas, one, more, Join, one_if, truth, size, HasTruth}
+use Rattle.predicates_core.specs.Formula.{Formula, Formulas, one, more, Join, truth, size, HasTruth}
 use Rattle.predicates_core.specs.Kinds.{Kind, reasons, changes, First}
 use Rattle.predicates_core.specs.Tree.{Tree, Forest, empty, branch, forest, add_last}
 use Rattle.predicates_core.specs.Describe.{CaseNode, with_child}
@@ -22,7 +22,7 @@ use Rattle.predicates_core.proofs.ChangeCases.{exact_leaf, leaf_found}
 use Rattle.predicates_core.proofs.CombinedLemmas.{node_fits}
 use Rattle.predicates_core.proofs.Fewer.{fewer_found}
 use Rattle.predicates_core.proofs.FirstOf.{one_carries, first_of_odd, one_list}
-use Rattle.predicates_core.proofs.Found.{truth_of_none, truth_found, case_found, other_wanted, case_wanted}
+use Rattle.predicates_core.proofs.Found.{truth_of_none, truth_found, other_wanted, case_wanted}
 use Rattle.predicates_core.proofs.Numbers.{shifted}
 use Rattle.predicates_core.proofs.Several.{forest-add_last, formula_at}
 use Rattle.predicates_core.proofs.Shown.{not_empty, shows_part, shows_all, shows_none}

@@ -1,8 +1,7 @@
 -- A tally of several of which as many have to hold, by its quota.
-use Rattle.std.proofs.Common.{◌≡◌, ◌⊎◌, ℕ, suc, ◌+◌, ◌<◌, ◌≤◌, Bool, true, false, List, [], Option, Result, Ok, Err, IfOk, length, take, get_or, refl, sym, ap, ◌∙◌, subst, arith, inl, inr}
+use Rattle.std.proofs.Common.{◌≡◌, ℕ, ◌+◌, ◌<◌, ◌≤◌, Bool, List, Option, Result, Ok, Err, IfOk, length, take, get_or, refl, sym, ap, arith, inr}
 use Rattle.std.proofs.lemmas.List.{length-take-le}
 use Rattle.predicates_core.specs.Formula.{Formula}
-use Rattle.predicates_core.specs.HowMany.{least_of}
 use Rattle.predicates_core.specs.Tree.{Tree}
 use Rattle.predicates_core.specs.Describe.{CaseNode}
 use Rattle.predicates_core.specs.Label.{Entry}
@@ -17,8 +16,8 @@ use Rattle.predicates_dynamic.specs.declared.quota_tally.QuotaTally.{QuotaTally}
 use Rattle.predicates_dynamic.specs.declared.quota_tally.QuotaTally.TheVariants.{Threshold, Odd}
 use Rattle.predicates_dynamic.specs.QuotaTallies.{Starts, IsOver, IsOpenFor, HasRoom, quota_asks, TakesPart, QuotaAnswers}
 use Rattle.predicates_dynamic.specs.Questions.{sought_by}
-use Rattle.predicates_dynamic.specs.Quotas.{least, IsOfQuota}
-use Rattle.predicates_dynamic.proofs.Counted.{Counted, counted_within, of_threshold}
+use Rattle.predicates_dynamic.specs.Quotas.{IsOfQuota}
+use Rattle.predicates_dynamic.proofs.Counted.{counted_within, of_threshold}
 use Rattle.predicates_dynamic.proofs.OddRows.{IsOddOf, odd_none, odd_next, odd_found}
 
 -- the tally of the first k of all

@@ -1,5 +1,5 @@
 -- The laws of a check: its printed text fits its formulas, and it has one where each leaf has.
-use Rattle.std.specs.Prelude.{◌≡◌, refl, ℕ, suc, List, [], ◌∷◌, length, map, codes, Option, Some}
+use Rattle.std.specs.Prelude.{◌≡◌, refl, ℕ, suc, List, [], length, map, codes, Option, Some}
 use Rattle.std.specs.Prelude.{None, option_map}
 use Rattle.std.proofs.Common.{ap, ◌∙◌, sym, subst}
 use Rattle.std.proofs.lemmas.List.{map-id}
@@ -9,7 +9,7 @@ use Rattle.predicates_core.specs.Several.{AreOfEach}
 use Rattle.predicates_core.proofs.CombinedLemmas.{pair_text_fits, not_text_fits, named_text_fits}
 use Rattle.predicates_core.proofs.CombinedLemmas.{one_pair, one_not, one_named}
 use Rattle.predicates_core.proofs.CombinedLemmas.{has_pair, has_not, has_named}
-use Rattle.predicates_core.proofs.Several.{HasOne, each_holds, one_of_each}
+use Rattle.predicates_core.proofs.Several.{each_holds, one_of_each}
 use Rattle.predicates_dynamic.specs.Quotas.{IsOfNumber, IsOfQuota, quota_formula}
 use Rattle.predicates_dynamic.specs.QuotaLaws.{number_text_fits, one_by_number, has_quota}
 use Rattle.predicates_dynamic.specs.QuotaLaws.{quota_read}

@@ -9,7 +9,7 @@ use Rattle.predicates_core.specs.declared.custom.join.Operator.TheVariants.{Xor}
 use Rattle.predicates_core.specs.Formula.{Formula, Formulas, more, Join, AtLeast, text_of}
 use Rattle.predicates_core.specs.HowMany.{least_of}
 use Rattle.predicates_core.specs.LeafLaws.{exactly_text_fits, one_exactly, fits_itself}
-use Rattle.predicates_core.specs.Several.{AreOfEach, formulas_of}
+use Rattle.predicates_core.specs.Several.{formulas_of}
 use Rattle.predicates_core.specs.Thresholds.{IsSettled, settled, threshold_formula}
 use Rattle.predicates_core.proofs.Several.{are_formulas}
 use Rattle.predicates_core.proofs.ThresholdCases.{has_threshold}

@@ -1,5 +1,5 @@
 -- How many of several have to hold, and the formulas of what holds where they do.
-use Rattle.std.specs.Prelude.{◌≡◌, ℕ, suc, ◌+◌, ◌-◌, ◌%◌, ◌≤◌, nat_le, nat_lt, ◌==◌, Bool, true, false}
+use Rattle.std.specs.Prelude.{◌≡◌, ℕ, ◌+◌, ◌-◌, ◌%◌, ◌≤◌, nat_le, nat_lt, ◌==◌, Bool, true, false}
 use Rattle.std.specs.Prelude.{List, [], ◌∷◌, length, Option, Some, None, cond, codes}
 use Rattle.std.specs.Fmt.{decimal, ◌++?◌}
 use Rattle.predicates_core.specs.Label.{Entry, plain}

@@ -1,4 +1,4 @@
-use Rattle.std.proofs.Common.{◌≡◌, ◌∙◌, ap, Some, option_map, sym, rules, arith, subst, string_bytes, codes, refl, length}
+use Rattle.std.proofs.Common.{◌≡◌, ◌∙◌, ap, Some, option_map, sym, rules, arith, subst, string_bytes, refl, length}
 use Rattle.std.proofs.lemmas.Grind.{common_steps}
 use Rattle.predicates_core.specs.Label.{Fits}
 use Rattle.predicates_dynamic.specs.declared.check.Check.TheFolds.{the_lemmas}

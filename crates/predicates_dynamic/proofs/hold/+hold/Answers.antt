@@ -1,7 +1,6 @@
 use Rattle.std.proofs.Common.{◌≡◌, ◌∙◌, ap, Some, option_map, sym, rules, arith, subst, codes, true, false, take, refl}
 use Rattle.std.proofs.lemmas.Grind.{common_steps}
 use Rattle.std.proofs.lemmas.List.{take_all, length-take-le}
-use Rattle.predicates_core.specs.Formula.{HasTruth}
 use Rattle.predicates_core.proofs.Asked.{truth_of_pair}
 use Rattle.predicates_core.proofs.CombinedLemmas.{HasTruth-not, HasTruth-named}
 use Rattle.predicates_dynamic.specs.Trees.{AllAsked, AsksAll, tree_of}
