@@ -11,8 +11,8 @@
 pub use crate::{BoxPredicate, laws};
 pub use predicates_boolean::boolean::PredicateBooleanExt;
 pub use predicates_check::{
-    add_failure, check_all, expect, failures, require, require_all, require_as, required_change,
-    sift,
+    Unmet, add_failure, check_all, expect, failures, require, require_all, require_as,
+    required_change, sift,
 };
 pub use predicates_core::name::PredicateNameExt;
 pub use predicates_core::reflection::render;

@@ -2,10 +2,9 @@
 ghost use Rattle.std.specs.Prelude.{None};
 ghost use Rattle.predicates_uses.specs.Bookings.{keeps};
 
-use predicates::check::Unmet;
-use predicates::custom::{Test, leaf};
+use predicates::custom::{Test, TestPredicate, leaf};
 use predicates::prelude::*;
-use std::alloc::Global;
+use std::alloc::{AllocError, Global};
 use std::fmt;
 
 /// What is booked.
@@ -51,12 +50,17 @@ impl Test<Booking> for BookingRule {
     }
 }
 
-/// Whether a booking keeps every rule; the error has the lines that say which one it breaks.
-pub fn allow_booking(alloc: Global, booking: &Booking) -> Result<(), Unmet> {
+// What each booking has to keep.
+fn rules(alloc: Global) -> Result<Vec<TestPredicate<BookingRule>>, AllocError> {
     let rules = vec![in alloc;
         leaf(BookingRule::Guests(1)),
         leaf(BookingRule::Seated),
         leaf(BookingRule::UpTo(100)),
     ]?;
-    require(alloc, &predicate::all_of(rules), booking)
+    Ok(rules)
+}
+
+/// Whether a booking keeps every rule; the error has the lines that say which one it breaks.
+pub fn allow_booking(alloc: Global, booking: &Booking) -> Result<(), Unmet> {
+    require(alloc, &predicate::all_of(rules(alloc)?), booking)
 }

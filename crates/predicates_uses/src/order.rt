@@ -3,7 +3,6 @@ ghost use Rattle.std.specs.Prelude.{◌≡◌, option_copied, codes, IfOk, OnOk,
 ghost use Rattle.std.specs.BTreeMap.{get_by_text};
 ghost use Rattle.predicates_core.specs.Formula.{HasTruth};
 
-use predicates::check::Unmet;
 use predicates::prelude::*;
 use std::alloc::{AllocError, Global};
 use std::collections::BTreeMap;
