@@ -1,4 +1,4 @@
-"""Which state of the repository this is: the version that CHANGELOG begins with, the commit and its time, and the kit."""
+"""Which state of the repository this is: the version by CHANGELOG, the commit and its time, and the kit."""
 import os
 import re
 import subprocess
@@ -14,11 +14,18 @@ def git(*words):
     return subprocess.run(['git', *words], **how).stdout.strip()
 
 
+def headings():
+    return re.findall(r'(?m)^## (.*)$', (TOP / 'CHANGELOG.md').read_text(encoding='utf-8'))
+
+
 def released():
-    """The version that CHANGELOG begins with; nothing where it is unreleased."""
-    heading = re.search(r'(?m)^## (.*)$', (TOP / 'CHANGELOG.md').read_text(encoding='utf-8'))[1]
-    number = re.match(r'v?(\d[\w.]*)', heading)
-    return number[1] if number else ''
+    """The last version that CHANGELOG has."""
+    return next((it[0] for it in map(re.compile(r'\d[\w.]*').match, headings()) if it), '0')
+
+
+def is_released():
+    """Whether CHANGELOG begins with a version."""
+    return headings()[0].startswith(released())
 
 
 def commit():
@@ -36,13 +43,13 @@ def day(form='%Y-%m-%d'):
 
 
 def title():
-    """As `1.2.0 (commit 79d957af2b, 2026-11-30)`."""
-    return f'{released() or "unreleased"} (commit {commit()}, {day()})'
+    """As `0.1.0 (commit 79d957af2b, 2026-11-30)`; before that `later than` where CHANGELOG begins with what is unreleased."""
+    return f'{"" if is_released() else "later than "}{released()} (commit {commit()}, {day()})'
 
 
 def number():
-    """A version that packages compare: below each released one where this one is not."""
-    return released() or f'0~{day("%Y%m%d")}.{commit().replace("+", ".changed")}'
+    """The version as packages compare it."""
+    return released() if is_released() else f'{released()}+{day("%Y%m%d")}.{commit().replace("+", ".changed")}'
 
 
 def toolchain():
