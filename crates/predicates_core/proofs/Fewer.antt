@@ -24,13 +24,6 @@ pub fewer_found_of : (q : Kind) {A B : Formula → Type 0} {E : Type 0} (w : Opt
 fewer_found_of q w (Ok found) fewer h = fewer_found q w found fewer h
 fewer_found_of q w (Err e) fewer h = tt
 
-module _ {A B : Formula → Type 0} where
-  pub found_fewer : (w : Option Bool) (found : Option (Tree CaseNode)) → ((f : Formula) → B f → A f) → IsFound A w found → IsFound B w found
-  found_fewer = fewer_found reasons
-
-  pub found_change_fewer : (w : Option Bool) (found : Option (Tree CaseNode)) → ((f : Formula) → B f → A f) → IsFoundChange A w found → IsFoundChange B w found
-  found_change_fewer = fewer_found changes
-
 module _ {A B : Formula → Type 0} {E : Type 0} where
   pub found_of_fewer : (w : Option Bool) (r : Result (Option (Tree CaseNode)) E) → ((f : Formula) → B f → A f) → IfOk r (IsFound A w) → IfOk r (IsFound B w)
   found_of_fewer = fewer_found_of reasons

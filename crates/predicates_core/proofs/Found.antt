@@ -93,21 +93,5 @@ module _ (q : Kind) where
     found_of_named (Some e) written fits x = record { truth = HasTruth-named x.truth; explains = (IsCaseOf-named written fits (case_by_result x)).explains }
     found_of_named None written fits x = case_by_result (IsCaseOf-named written fits x)
 
--- ---- of reasons
-
 pub none_wanted : {F : Formula → Type 0} (w : Option Bool) {h : Bool} → HasTruth F h → is_other w h ≡ true → IsFound F w None
 none_wanted = other_wanted reasons
-
-module _ (part : Formula → Type 0) (text : Option (List ℕ)) where
-  pub none_of_not : (w : Option Bool) → IsFound part (option_map not w) None → IsFound (IsNot text part) w None
-  none_of_not = nothing_of_not reasons part text
-
-  pub case_of_not : {bytes : List ℕ} {c t : Tree CaseNode} (w : Option Bool) → IsNode (Some bytes) (not c.root.result) ((codes "predicate", c) ∷ []) t → Fits text bytes → IsFound part (option_map not w) (Some c) → IsFound (IsNot text part) w (Some t)
-  case_of_not = found_of_not reasons part text
-
-module _ (part : Formula → Type 0) (name : List ℕ) where
-  pub none_of_named : (w : Option Bool) → IsFound part w None → IsFound (IsNamed name part) w None
-  none_of_named = nothing_of_named reasons part name
-
-  pub case_of_named : {bytes : List ℕ} {c t : Tree CaseNode} (w : Option Bool) → IsNode (Some bytes) c.root.result ((name, c) ∷ []) t → Fits (Some name) bytes → IsFound part w (Some c) → IsFound (IsNamed name part) w (Some t)
-  case_of_named = found_of_named reasons part name

@@ -2,7 +2,7 @@
 use Rattle.std.proofs.Common.{◌≡◌, refl, sym, ℕ, Bool, true, false, List, Option, None, Result, Ok, Err, Some, codes}
 use Rattle.predicates_core.specs.Label.{Entry}
 use Rattle.predicates_core.specs.Formula.{Formula, HasTruth, IsLeaf}
-use Rattle.predicates_core.specs.Kinds.{Kind}
+use Rattle.predicates_core.specs.Kinds.{Kind, reasons}
 use Rattle.predicates_core.specs.Shows.{IsCaseOf, IsFound, IsFoundBy}
 use Rattle.predicates_core.specs.Tree.{Tree}
 use Rattle.predicates_core.specs.Describe.{CaseNode}
@@ -10,7 +10,7 @@ use Rattle.predicates_core.specs.Leaves.{IsExactly, IsShowing}
 use Rattle.predicates_core.proofs.Leaves.{HasTruth-exactly}
 use Rattle.predicates_core.specs.Asked.{is_other}
 use Rattle.predicates_core.proofs.Added.{HasTruth-with_product, nothing_with_product, found_with_product}
-use Rattle.predicates_core.proofs.Fewer.{found_fewer, fewer_found}
+use Rattle.predicates_core.proofs.Fewer.{fewer_found}
 use Rattle.predicates_core.proofs.Found.{none_wanted, case_wanted}
 use Rattle.predicates_core.proofs.ChangeCases.{exact_leaf}
 use Rattle.predicates_path.specs.declared.fault.PathFault.{PathFault}
@@ -37,9 +37,9 @@ module _ (text : Entry) (has : Bytes → Formula → Type 0) (path : List ℕ) (
   case_of_content q w v {c} {t} e s x = fewer_found q w (Some t) (λ f p. p.of_bytes v e) (found_with_product q _ _ _ w s x)
 
   pub none_without_content : (w : Option Bool) (fault : PathFault) → held ≡ Err fault → is_other w false ≡ true → IsFound (IsOfContent text has path held) w None
-  none_without_content w fault e other = found_fewer w None (λ f p. p.of_fault fault e) (none_wanted w (HasTruth-exactly refl) other)
+  none_without_content w fault e other = fewer_found reasons w None (λ f p. p.of_fault fault e) (none_wanted w (HasTruth-exactly refl) other)
 
   pub case_without_content : (w : Option Bool) (fault : PathFault) {t : Tree CaseNode} → held ≡ Err fault → is_other w false ≡ false → IsCaseOf (IsExactly (without_content text path fault)) false t → IsFound (IsOfContent text has path held) w (Some t)
-  case_without_content w fault {t} e same h = found_fewer w (Some t) (λ f p. p.of_fault fault e) (case_wanted w h same)
+  case_without_content w fault {t} e same h = fewer_found reasons w (Some t) (λ f p. p.of_fault fault e) (case_wanted w h same)
 
 pub ruleset content_cases = (HasTruth-content, HasTruth-no_content)

@@ -3,10 +3,11 @@ use Rattle.std.proofs.Common.{◌≡◌, Bool, Option, Some, option_map, map, re
 use Rattle.predicates_core.specs.Change.{IsFoundChange}
 use Rattle.predicates_core.specs.Describe.{CaseNode}
 use Rattle.predicates_core.specs.Formula.{Formula, HasTruth}
+use Rattle.predicates_core.specs.Kinds.{reasons, changes}
 use Rattle.predicates_core.specs.Leaves.{IsExactly}
 use Rattle.predicates_core.specs.Shows.{IsFound}
 use Rattle.predicates_core.specs.Tree.{Tree}
-use Rattle.predicates_core.proofs.Fewer.{truth_of_fewer, found_fewer, found_change_fewer}
+use Rattle.predicates_core.proofs.Fewer.{truth_of_fewer, fewer_found}
 use Rattle.predicates_dynamic.specs.Formulas.{HasFormula}
 use Rattle.predicates_dynamic.specs.Laws.{has_tree, all_leaves}
 use Rattle.predicates_dynamic.specs.Trees.{AllLeaves}
@@ -43,7 +44,7 @@ module _ (s : Scope) (e : CheckTree) where
   truth_of_check h = truth_of_fewer fewer h
 
   pub found_of_check : (w : Option Bool) (found : Option (Tree CaseNode)) → IsFound (HasCheckFormula s e) w found → IsFound (IsExactly (check_formula e (place_of s))) w found
-  found_of_check w found h = found_fewer w found fewer h
+  found_of_check w found h = fewer_found reasons w found fewer h
 
   pub change_of_check : (w : Option Bool) (found : Option (Tree CaseNode)) → IsFoundChange (HasCheckFormula s e) w found → IsFoundChange (IsExactly (check_formula e (place_of s))) w found
-  change_of_check w found h = found_change_fewer w found fewer h
+  change_of_check w found h = fewer_found changes w found fewer h

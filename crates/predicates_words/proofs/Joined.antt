@@ -9,9 +9,9 @@ use Rattle.predicates_core.specs.Label.{Fits}
 use Rattle.predicates_core.specs.Shows.{IsNode, found_parts}
 use Rattle.predicates_core.specs.Tree.{Tree}
 use Rattle.predicates_core.specs.declared.custom.join.Operator.{Operator}
-use Rattle.predicates_core.proofs.Asked.{none_in_turn, case_in_turn}
-use Rattle.predicates_core.proofs.ChangeCases.{no_change_of_not, change_of_not, no_change_in_turn, change_in_turn}
-use Rattle.predicates_core.proofs.Found.{none_of_not, case_of_not}
+use Rattle.predicates_core.specs.Kinds.{reasons, changes}
+use Rattle.predicates_core.proofs.Asked.{none_in_turn, case_in_turn, no_change_in_turn, change_in_turn}
+use Rattle.predicates_core.proofs.Found
 use Rattle.predicates_words.specs.Answers.{Finds, FindsRight}
 use Rattle.predicates_words.specs.Checks.{check_text, IsNodeOf}
 use Rattle.predicates_words.specs.declared.check.TextCheck.{TextCheck}
@@ -26,12 +26,12 @@ found_of_node s c holds parts F w (Some t) (bytes, fits, written) shown = shown 
 
 module _ (part : Formula → Type 0) (text : Option (List ℕ)) where
   pub nothing_of_not : (s : Sought) (w : Option Bool) → Finds s part (option_map not w) None → Finds s (IsNot text part) w None
-  nothing_of_not Reason = none_of_not part text
-  nothing_of_not Change = no_change_of_not part text
+  nothing_of_not Reason = Found.nothing_of_not reasons part text
+  nothing_of_not Change = Found.nothing_of_not changes part text
 
   pub found_of_not : (s : Sought) {bytes : List ℕ} {c t : Tree CaseNode} (w : Option Bool) → IsNode (Some bytes) (not c.root.result) ((codes "predicate", c) ∷ []) t → Fits text bytes → Finds s part (option_map not w) (Some c) → Finds s (IsNot text part) w (Some t)
-  found_of_not Reason = case_of_not part text
-  found_of_not Change = change_of_not part text
+  found_of_not Reason = Found.found_of_not reasons part text
+  found_of_not Change = Found.found_of_not changes part text
 
 module _ (op : Operator) (w : Option Bool) (c d : Option (Tree CaseNode)) (text : Option (List ℕ)) (left right : Formula → Type 0) (b : Bool) {of_left : Option Bool} {a h : Bool} where
   pub nothing_in_turn : (s : Sought) → of_left ≡ left_wanted op w → Finds s left of_left c → a ≡ shown_verdict of_left c → FindsRight s op right w a b d → h ≡ apply op a b → is_other w h ≡ true → Finds s (IsPair op text left right) w None
