@@ -8,7 +8,7 @@
 mod rewriting;
 
 pub use predicates_core::laws::{
-    each_meets_each, enough_children, first_changes, first_reasons, one_child,
+    each_meets_each, enough_children, first_changes, first_reasons, minimal_reasons, one_child,
 };
 pub use rewriting::{
     complements, de_morgan, double_negation, exclusive_or, memberships, named, one_case,

@@ -13,6 +13,7 @@ fn laws_of_predicates(rt: HostRuntime) {
     laws::exclusive_or(&lt(3i64), &lt(5), &4);
     laws::same_function(&lt(3i64), &lt(3).not().not(), &4);
     laws::first_reasons();
+    laws::minimal_reasons();
     laws::one_child();
     laws::enough_children();
     laws::first_changes();
