@@ -91,6 +91,7 @@ pub struct Tally {
 
 impl Tally {
     /// Of no part so far. It takes no memory.
+    #[inline]
     pub fn new(sought: Sought) -> Tally
         ensures sought { result.sought ≡ sought }
         ensures seen { result.seen ≡ 0 }
@@ -112,6 +113,7 @@ impl Tally {
     }
 
     /// Whether the whole's answer is known, so that no part has to be asked any more.
+    #[inline]
     pub fn is_done(&self) -> bool
         ensures done { result ≡ true → IsDone self.now }
         ensures open { result ≡ false → IsOpen self.now }
@@ -126,6 +128,7 @@ impl Tally {
 
     /// What the next part is asked: for its case if it has the verdict, or whichever, or its verdict
     /// alone.
+    #[inline]
     pub fn asks(&self) -> Option<Option<bool>>
         requires { IsOpen self.now }
         ensures { result ≡ asks self.now }
@@ -259,6 +262,7 @@ impl Sought {
 
 impl Kept {
     // One part more, and its case, where that was asked for.
+    #[inline(always)] // a call would copy the case
     fn add<W: fmt::Display>(
         &mut self,
         alloc: Global,
@@ -281,6 +285,7 @@ impl Kept {
     }
 
     // The node with the cases that are shown: of a change as many as have to turn.
+    #[inline(always)] // a call would copy the case
     fn answer(self, turns: bool, enough: usize) -> Option<Case>
         requires { 1 ≤ enough }
         ensures reason { turns ≡ false → result ≡ self.node }
@@ -298,6 +303,7 @@ impl Kept {
     }
 }
 
+#[inline(always)] // a call would copy the case
 fn next_case<W: fmt::Display>(
     alloc: Global,
     list: Counting<'_, W>,
@@ -315,6 +321,7 @@ fn next_case<W: fmt::Display>(
 }
 
 // The case that was found, with its number where numbers are told.
+#[inline(always)] // a call would copy the case
 fn numbered(
     alloc: Global,
     tells: bool,
