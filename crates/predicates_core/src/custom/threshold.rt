@@ -127,34 +127,9 @@ pub(super) fn counted_case<W: fmt::Display, A: AskFor<Reasons, Common, Member>, 
     counted::<Reasons, W, A, Common, Member>(alloc, list, common, asking, wanted, members)
 }
 
-// The `explain` of such a predicate, or its `find_change`. Where their number alone decides, no
-// member is asked; otherwise each is asked once, until the answer is known. Memory is taken for no
-// more changes than may have to be shown: of `each` that holds, for the first alone.
-pub(super) fn counted_found<
-    K: Seeks,
-    W: fmt::Display,
-    A: AskFor<K, Common, Member>,
-    Common,
-    Member,
->(
-    alloc: Global,
-    list: Counting<'_, W>,
-    common: &Common,
-    wanted: Option<bool>,
-    members: &[Member],
-) -> Result<Option<Case>, AllocError>
-    requires { AllByRecursion (A.lawful_of common.now) members.now }
-    ensures { IfOk result (IsFoundBy (kind_of K.turns) (IsOfThreshold list.entry.least
-        (W.output list.entry.whole.now) list.entry.name.now
-        (A.formula_of common.now) members.now) wanted) }
-{
-    let asking = Asking::AtOnce;
-    counted::<K, W, A, Common, Member>(alloc, list, common, asking, wanted, members)
-}
-
 // Whether a member is evaluated before it is asked for its case.
 #[derive(Clone, Copy)]
-enum Asking {
+pub(super) enum Asking {
     EvaluateFirst,
     AtOnce,
 }
@@ -249,8 +224,10 @@ pub fn is_absent(wanted: Option<bool>, found: &Option<Case>) -> bool
     }
 }
 
-// What is found of the whole.
-fn counted<K: Seeks, W: fmt::Display, A: AskFor<K, Common, Member>, Common, Member>(
+// The `explain` of such a predicate, or its `find_change`. Where their number alone decides, no
+// member is asked; otherwise each is asked once, until the answer is known. Memory is taken for no
+// more changes than may have to be shown: of `each` that holds, for the first alone.
+pub(super) fn counted<K: Seeks, W: fmt::Display, A: AskFor<K, Common, Member>, Common, Member>(
     alloc: Global,
     list: Counting<'_, W>,
     common: &Common,
