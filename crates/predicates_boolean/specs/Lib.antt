@@ -1,4 +1,3 @@
 pub mod Join
 pub mod Not
 pub mod Rules
-pub mod Threshold

@@ -1,5 +1,5 @@
 -- A predicate that is made of how many have to hold and a list of predicates.
-use Rattle.std.specs.Prelude.{ℕ, List, length, Option, codes}
+use Rattle.std.specs.Prelude.{ℕ, suc, List, length, Option, codes, cond, nat_lt}
 use Rattle.predicates_core.specs.HowMany.{least_of}
 use Rattle.predicates_core.specs.Several.{listed_text}
 use Rattle.predicates_core.specs.Thresholds.{counted_text}
@@ -21,6 +21,10 @@ least_of_rules how_many p = least_of (how_many p.quantifier) (length p.rules.ite
 -- the number of a threshold
 abbrev pub needed_of : {P : Type 0} → RulesPredicate AtLeast P → ℕ
 needed_of p = p.quantifier.least
+
+-- one more than the number, or the number itself where no `usize` is larger
+abbrev pub one_more : ℕ → ℕ
+one_more n = cond (nat_lt n 18446744073709551615) (suc n) n
 
 -- what is printed of rules with these texts
 abbrev pub rules_text : HowMany → List (Option (List ℕ)) → Option (List ℕ)

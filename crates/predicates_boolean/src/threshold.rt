@@ -8,8 +8,7 @@ ghost use Rattle.std.specs.Prelude.{◌≡◌, IfOk};
 ghost use Rattle.std.specs.List.{AllZip};
 ghost use Rattle.predicates_boolean.specs.Join.{left_of, right_of};
 ghost use Rattle.predicates_boolean.specs.Not.{inner_of};
-ghost use Rattle.predicates_boolean.specs.Rules.{needed_of, rules_of};
-ghost use Rattle.predicates_boolean.specs.Threshold.{one_more};
+ghost use Rattle.predicates_boolean.specs.Rules.{needed_of, one_more, rules_of};
 
 use crate::boolean::{AndPredicate, NotPredicate};
 use crate::rules::RulesPredicate;

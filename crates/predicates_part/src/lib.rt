@@ -26,7 +26,7 @@ ghost use Rattle.predicates_part.specs.Part.{inner_of, function_of, name_of};
 ghost use Rattle.predicates_part.specs.Length as Length;
 ghost use Rattle.predicates_boolean.specs.Join.{left_of, right_of};
 ghost use Rattle.predicates_boolean.specs.Not as Not;
-ghost use Rattle.predicates_boolean.specs.Threshold.{one_more};
+ghost use Rattle.predicates_boolean.specs.Rules.{one_more};
 ghost use Rattle.predicates_part.specs.Members as Members;
 ghost use Rattle.predicates_part.specs.Members.{applied_text};
 ghost use Rattle.predicates_part.specs.Optional as Optional;

@@ -3,14 +3,12 @@ use Rattle.std.proofs.Common.{ℕ, List, Bool, Option, Result, Ok, Err, sym, sub
 use Rattle.std.specs.Prelude.{OnOk}
 use Rattle.predicates_core.specs.Describe.{CaseNode}
 use Rattle.predicates_core.specs.Formula.{Formula, IsLeaf}
-use Rattle.predicates_core.specs.Shows.{IsFound}
+use Rattle.predicates_core.specs.Kinds.{Kind, reasons, changes}
+use Rattle.predicates_core.specs.Shows.{IsFound, IsFoundBy}
 use Rattle.predicates_core.specs.Tree.{Tree}
 use Rattle.predicates_core.proofs.ChangeCases.{leaf_found}
-use Rattle.predicates_words.specs.Answers.{Finds}
 use Rattle.predicates_words.specs.Checks.{HasFormula}
 use Rattle.predicates_words.specs.Weight.{IsLeafCheck}
-use Rattle.predicates_words.specs.declared.check.answer.Sought.{Sought}
-use Rattle.predicates_words.specs.declared.check.answer.Sought.TheVariants.{Reason, Change}
 use Rattle.predicates_words.specs.declared.check.TextCheck.{TextCheck, Empty, Equals, Starts, Ends, Contains, Matches}
 
 leaf_of_check : (c : TextCheck) (bytes : List ℕ) → IsLeafCheck c → (f : Formula) → HasFormula c bytes f → IsLeaf f
@@ -22,8 +20,8 @@ leaf_of_check (Contains p) bytes is f h = subst IsLeaf (sym h.is) tt
 leaf_of_check (Matches p) bytes is f h = subst IsLeaf (sym h.is) tt
 leaf_of_check _ bytes is f h = absurd is
 
-pub answer_of_leaf : {A E : Type 0} (s : Sought) (c : TextCheck) (bytes : List ℕ) (w : Option Bool) (r : Result A E) (found : Option (Tree CaseNode)) → IsLeafCheck c
-    → OnOk r (IsFound (HasFormula c bytes) w found) → OnOk r (Finds s (HasFormula c bytes) w found)
-answer_of_leaf Reason c bytes w r found is x = x
-answer_of_leaf {A} {E} Change c bytes w (Ok a) found is x = leaf_found {E = E} w (Ok found) (leaf_of_check c bytes is) x
-answer_of_leaf Change c bytes w (Err e) found is x = tt
+pub answer_of_leaf : {A E : Type 0} (q : Kind) (c : TextCheck) (bytes : List ℕ) (w : Option Bool) (r : Result A E) (found : Option (Tree CaseNode)) → IsLeafCheck c
+    → OnOk r (IsFound (HasFormula c bytes) w found) → OnOk r (IsFoundBy q (HasFormula c bytes) w found)
+answer_of_leaf reasons c bytes w r found is x = x
+answer_of_leaf {A} {E} changes c bytes w (Ok a) found is x = leaf_found {E = E} w (Ok found) (leaf_of_check c bytes is) x
+answer_of_leaf changes c bytes w (Err e) found is x = tt

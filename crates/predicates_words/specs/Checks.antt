@@ -1,9 +1,12 @@
 -- What a check of texts prints, and its formula on a text, by the word that it stands for.
-use Rattle.std.specs.Prelude.{ℕ, List, Bool, Option, Some, None}
+use Rattle.std.specs.Prelude.{◌≡◌, ℕ, List, Bool, Option, Some, None}
+use Rattle.predicates_core.specs.Asked.{asks, right_wanted, shown_verdict, IsFoundIf}
 use Rattle.predicates_core.specs.Describe.{CaseNode, NamedCase}
+use Rattle.predicates_core.specs.Kinds.{Kind, reasons, changes}
 use Rattle.predicates_core.specs.Label.{Entry, Fits, plain}
 use Rattle.predicates_core.specs.Shows.{IsNode}
 use Rattle.predicates_core.specs.Tree.{Tree}
+use Rattle.predicates_core.specs.Turning.{IsRightChange}
 use Rattle.predicates_core.specs.declared.custom.join.Operator.{Operator}
 use Rattle.predicates_core.specs.declared.custom.join.Operator.TheVariants.{And, Or, Xor}
 use Rattle.predicates_core.specs.Formula.{Formula, pair, Not}
@@ -101,3 +104,11 @@ abbrev pub IsNodeOf : TextCheck → Bool → List NamedCase → Option (Tree Cas
 IsNodeOf c holds parts None = ⊥
 IsNodeOf c holds parts (Some t) = (bytes : List ℕ) × Fits (check_text c) bytes
     × IsNode (Some bytes) holds parts t
+
+-- the right part has the truth, and this is its case where it may belong to the whole's
+abbrev pub FindsRight : Kind → Operator → (Formula → Type 0) → Option Bool → Bool → Bool
+    → Option (Tree CaseNode) → Type 0
+FindsRight reasons op F wanted left holds found =
+    IsFoundIf (asks op left) F (right_wanted op left wanted) found
+    × (holds ≡ shown_verdict (right_wanted op left wanted) found)
+FindsRight changes op F wanted left holds found = IsRightChange op F holds found

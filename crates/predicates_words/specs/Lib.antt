@@ -1,4 +1,3 @@
-pub mod Answers
 pub mod Applied
 pub mod CheckLaws
 pub mod Checks

@@ -14,7 +14,7 @@ ghost use Rattle.predicates_words.specs.Weight.{weight, IsLeafCheck};
 mod answer;
 mod rotate;
 
-use answer::{Question, Sought};
+use answer::Question;
 use predicates_core::custom::Operator;
 use predicates_core::reflection::{Case, Child, Parameter, PredicateReflection};
 use predicates_core::{Predicate, PredicateChange, ReadsContent, Total};
@@ -295,10 +295,9 @@ impl Predicate<String> for TextCheck {
         wanted: Option<bool>,
         item: &String,
     ) -> Result<Option<Case>, AllocError> {
-        let sought = Sought::Reason;
         let mut found = None;
         let question = Question {
-            sought,
+            turns: false,
             wanted,
             item,
         };
@@ -314,10 +313,9 @@ impl PredicateChange<String> for TextCheck {
         wanted: Option<bool>,
         item: &String,
     ) -> Result<Option<Case>, AllocError> {
-        let sought = Sought::Change;
         let mut found = None;
         let question = Question {
-            sought,
+            turns: true,
             wanted,
             item,
         };

@@ -5,9 +5,10 @@
 //! each level would copy it.
 ghost use Rattle.std.specs.Prelude.{◌≡◌, None, IfOk, OnOk, string_bytes};
 ghost use Rattle.predicates_core.specs.Combined.{IsNot, IsPair};
-ghost use Rattle.predicates_core.specs.Shows.{IsFound, found_parts};
-ghost use Rattle.predicates_words.specs.Answers.{Finds, FindsRight};
-ghost use Rattle.predicates_words.specs.Checks.{check_text, operator_of, HasFormula, IsNodeOf};
+ghost use Rattle.predicates_core.specs.Shows.{IsFound, IsFoundBy, found_parts};
+ghost use Rattle.predicates_core.specs.Tally.{kind_of};
+ghost use Rattle.predicates_words.specs.Checks.{check_text, operator_of, FindsRight, HasFormula};
+ghost use Rattle.predicates_words.specs.Checks.{IsNodeOf};
 ghost use Rattle.predicates_words.specs.Weight.{IsLeafCheck};
 
 use crate::check::TextCheck;
@@ -18,17 +19,11 @@ use predicates_core::reflection::Case;
 use predicates_text::{lines_even_view, trimmed_view};
 use std::alloc::{AllocError, Global};
 
-// Whether the case that explains is asked for, or that of what would turn the verdict.
-#[derive(Clone, Copy)]
-pub(crate) enum Sought {
-    Reason,
-    Change,
-}
-
-// What is asked: which case, about which item, and of which verdict, if only one is wanted.
+// What is asked: whether the case is of what would turn the verdict, and not of what explains it,
+// which verdict it has to have, if only one is wanted, and about which item.
 #[derive(Clone, Copy)]
 pub(crate) struct Question<'a> {
-    pub(crate) sought: Sought,
+    pub(crate) turns: bool,
     pub(crate) wanted: Option<bool>,
     pub(crate) item: &'a String,
 }
@@ -58,7 +53,8 @@ impl TextCheck {
     ) -> Result<(), AllocError>
         requires { found.old ≡ None }
         ensures { OnOk result
-            (Finds question.entry.sought (HasFormula self.now (string_bytes question.entry.item.now))
+            (IsFoundBy (kind_of question.entry.turns)
+            (HasFormula self.now (string_bytes question.entry.item.now))
             question.entry.wanted found.new) }
     {
         match self {
@@ -91,7 +87,8 @@ impl TextCheck {
     ) -> Result<(), AllocError>
         requires { IsLeafCheck self.now }
         ensures { OnOk result
-            (Finds question.entry.sought (HasFormula self.now (string_bytes question.entry.item.now))
+            (IsFoundBy (kind_of question.entry.turns)
+            (HasFormula self.now (string_bytes question.entry.item.now))
             question.entry.wanted found.new) }
     {
         self.explain_leaf(alloc, question, found)
@@ -134,7 +131,7 @@ impl TextCheck {
         found: &mut Option<Case>,
     ) -> Result<(), AllocError>
         requires { found.old ≡ None }
-        ensures { OnOk result (Finds question.entry.sought (IsNot (check_text self.now)
+        ensures { OnOk result (IsFoundBy (kind_of question.entry.turns) (IsNot (check_text self.now)
             (HasFormula inner.now (string_bytes question.entry.item.now)))
             question.entry.wanted found.new) }
     {
@@ -161,12 +158,12 @@ impl TextCheck {
         found: &mut Option<Case>,
     ) -> Result<bool, AllocError>
         requires { found.old ≡ None }
-        ensures { IfOk result (λ holds. FindsRight question.entry.sought operator
+        ensures { IfOk result (λ holds. FindsRight (kind_of question.entry.turns) operator
             (HasFormula self.now (string_bytes question.entry.item.now)) question.entry.wanted
             left_holds holds found.new) }
     {
-        match (question.sought, operator) {
-            (Sought::Reason, _) => {
+        match (question.turns, operator) {
+            (false, _) => {
                 let wanted = operator.right_wanted(question.wanted, left_holds);
                 if !operator.asks(left_holds) {
                     return Ok(shown_verdict(wanted, found));
@@ -174,17 +171,17 @@ impl TextCheck {
                 self.answer_into(alloc, Question { wanted, ..question }, found)?;
                 Ok(shown_verdict(wanted, found))
             }
-            (Sought::Change, Operator::And) => {
+            (true, Operator::And) => {
                 let wanted = Some(false);
                 self.answer_into(alloc, Question { wanted, ..question }, found)?;
                 Ok(found.is_none())
             }
-            (Sought::Change, Operator::Or) => {
+            (true, Operator::Or) => {
                 let wanted = Some(true);
                 self.answer_into(alloc, Question { wanted, ..question }, found)?;
                 Ok(found.is_some())
             }
-            (Sought::Change, Operator::Xor) => self.eval(alloc, question.item),
+            (true, Operator::Xor) => self.eval(alloc, question.item),
         }
     }
 
@@ -199,7 +196,7 @@ impl TextCheck {
         found: &mut Option<Case>,
     ) -> Result<(), AllocError>
         requires { found.old ≡ None }
-        ensures { OnOk result (Finds question.entry.sought
+        ensures { OnOk result (IsFoundBy (kind_of question.entry.turns)
             (IsPair (operator_of self.now) (check_text self.now)
             (HasFormula parts.entry.left.now (string_bytes question.entry.item.now))
             (HasFormula parts.entry.right.now (string_bytes question.entry.item.now)))
