@@ -166,29 +166,6 @@ fn is_other_first<A: Ask<Common, Member>, Common, Member>(
     }
 }
 
-// What is found of a member.
-fn member_found<K: Seeks, A: AskFor<K, Common, Member>, Common, Member>(
-    alloc: Global,
-    asking: Asking,
-    common: &Common,
-    wanted: Option<bool>,
-    member: &Member,
-) -> Result<Option<Case>, AllocError>
-    requires { A.lawful_of common.now member.now }
-    ensures { IfOk result
-        (IsFoundBy (kind_of K.turns) (A.formula_of common.now member.now) wanted) }
-{
-    match (asking, wanted) {
-        (Asking::EvaluateFirst, Some(expected)) => {
-            if A::eval(alloc, common, member)? != expected {
-                return Ok(None);
-            }
-            A::find(alloc, common, wanted, member)
-        }
-        (_, _) => A::find(alloc, common, wanted, member),
-    }
-}
-
 // What a member tells that is asked for its case, or for its verdict alone.
 fn member_told<K: Seeks, A: AskFor<K, Common, Member>, Common, Member>(
     alloc: Global,
@@ -202,14 +179,24 @@ fn member_told<K: Seeks, A: AskFor<K, Common, Member>, Common, Member>(
     ensures found { IfOk result (λ told. IsFoundBy (kind_of K.turns)
         (A.formula_of common.now member.now) told.asked told.found) }
 {
-    match asks {
-        Some(asked) => {
-            let found = member_found::<K, A, Common, Member>(alloc, asking, common, asked, member)?;
-            Ok(Told { asked, found })
-        }
-        None => {
+    match (asks, asking) {
+        (None, _) => {
             let holds = A::eval(alloc, common, member)?;
             Ok(Told::verdict(holds))
+        }
+        (Some(Some(expected)), Asking::EvaluateFirst) => {
+            if A::eval(alloc, common, member)? != expected {
+                return Ok(Told::verdict(!expected));
+            }
+            let found = A::find(alloc, common, Some(expected), member)?;
+            Ok(Told {
+                asked: Some(expected),
+                found,
+            })
+        }
+        (Some(asked), _) => {
+            let found = A::find(alloc, common, asked, member)?;
+            Ok(Told { asked, found })
         }
     }
 }
