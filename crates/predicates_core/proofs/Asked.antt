@@ -1,6 +1,6 @@
 -- What is found of two parts that are asked in turn.
 use Rattle.std.proofs.Common.{◌≡◌, ℕ, ◌+◌, ◌-◌, List, [], ◌++◌, Bool, true, false, suc, refl, sym, ap, arith, subst, ◌∙◌, codes, inl, inr, Option, Some, None, cond}
-use Rattle.std.specs.Prelude.{not, ◌&&◌, ◌||◌, Result, Ok, Err, IfOk}
+use Rattle.std.specs.Prelude.{not, ◌&&◌, ◌||◌}
 use mathlib.Core.Bool.{beq}
 use Rattle.predicates_core.specs.Label.{Label, Fits, plain}
 use Rattle.predicates_core.specs.declared.custom.join.Operator.{Operator}
@@ -280,11 +280,6 @@ module _ (op : Operator) (w : Option Bool) (c d : Found) (text : Option (List �
 
 pub truth_of_pair : (op : Operator) (a b : Bool) {left right : Formula → Type 0} → HasTruth left a → HasTruth right b → {h : Bool} → h ≡ apply op a b → (text : Option (List ℕ)) → HasTruth (IsPair op text left right) h
 truth_of_pair op a b {left} {right} l r is text = subst (HasTruth (IsPair op text left right)) (sym is) (HasTruth-pair op l r)
-
--- where the left part's truth leaves it to the right one
-pub whole_by_right : {E : Type 0} (op : Operator) {a : Bool} {left : Formula → Type 0} (right : Formula → Type 0) (r : Result Bool E) → HasTruth left a → ((b : Bool) → b ≡ apply op a b) → IfOk r (HasTruth right) → IfOk r (λ b. (text : Option (List ℕ)) → HasTruth (IsPair op text left right) b)
-whole_by_right op right (Ok b) l is r = truth_of_pair op _ b l r (is b)
-whole_by_right op right (Err e) l is r = tt
 
 pub not_same : (a b : Bool) → not (beq a b) ≡ differ a b
 not_same a b = grind arith

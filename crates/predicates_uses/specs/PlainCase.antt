@@ -2,6 +2,7 @@
 use Rattle.std.specs.Prelude.{◌≡◌, ℕ, Bool, not, List, Option, MatchOption}
 use Rattle.predicates_core.specs.Label.{Entry}
 use Rattle.predicates_core.specs.Formula.{Formula, truth}
+use Rattle.predicates_core.specs.Kinds.{reasons}
 use Rattle.predicates_core.specs.Reason.{IsFirstReason}
 use Rattle.predicates_core.specs.Tree.{Tree}
 use Rattle.predicates_core.specs.Describe.{CaseNode}
@@ -24,7 +25,7 @@ pub record HasTruthAs (F : Formula → Type 0) (as_written : Formula → Formula
 pub record ShowsReasonOf (as_written plain : Formula) (c : Tree CaseNode) : Type 0 where
   pub leaves : List ℕ
   pub first : IsFirstReason as_written leaves
-  pub shown : Shows plain c leaves
+  pub shown : Shows reasons plain c leaves
 
 pub record IsPlainCaseOf (F : Formula → Type 0) (as_written : Formula → Formula) (b : Bool)
     (c : Tree CaseNode) : Type 0 where

@@ -181,14 +181,8 @@ pub fn join_truth<P: Predicate<Item>, Q: Predicate<Item>, Item>(
         → IsOk result }
 {
     match operator {
-        Operator::And => match left_part.eval(alloc, item)? {
-            true => right_part.eval(alloc, item),
-            false => Ok(false),
-        },
-        Operator::Or => match left_part.eval(alloc, item)? {
-            true => Ok(true),
-            false => right_part.eval(alloc, item),
-        },
+        Operator::And => Ok(left_part.eval(alloc, item)? && right_part.eval(alloc, item)?),
+        Operator::Or => Ok(left_part.eval(alloc, item)? || right_part.eval(alloc, item)?),
         Operator::Xor => Ok(left_part.eval(alloc, item)? != right_part.eval(alloc, item)?),
     }
 }
