@@ -1,9 +1,9 @@
 -- What was read of lines is what they say.
-use Rattle.std.proofs.Common.{◌≡◌, ◌≢◌, ℕ, zero, suc, ◌+◌, ◌<◌, ◌≤◌, Bor, Bool, true, false, cond, List, [], ◌∷◌, ◌++◌, map, length, get_or, drop, Option, Some, None, option_map, Result, Ok, Err, refl, sym, ap, subst, ◌∙◌, ◌⊎◌, inl, inr, arith, append_assoc, string_bytes}
+use Rattle.std.proofs.Common.{◌≡◌, ◌≢◌, ℕ, zero, suc, ◌+◌, ◌<◌, ◌≤◌, Bor, Bool, true, false, cond, List, [], ◌∷◌, ◌++◌, map, length, get_or, drop, Option, Some, None, option_map, Result, Ok, Err, refl, sym, ap, subst, ◌∙◌, ◌⊎◌, inl, inr, arith, append_assoc, String, string_bytes}
 use Rattle.std.specs.Prelude.{IfOk, IfErr, Vec, slice_index_or}
 use Rattle.std.specs.declared.alloc.AllocError.{AllocError}
 use Rattle.std.specs.declared.alloc.Global.{Global}
-use Rattle.std.specs.List.{find}
+use Rattle.std.specs.Map.{lookup}
 use Rattle.std.specs.Str.{bytes_eq}
 use Rattle.std.proofs.lemmas.List.{append-nil, length-map, map-append}
 use Rattle.std.proofs.lemmas.Slice.Eq.{bytes_eq-Decides}
@@ -92,18 +92,18 @@ by_names : (b : Bool) (m : ℕ) (o : Option ℕ) → cond b (Some m) o ≡ None 
 by_names true m o e = absurd cc
 by_names false m o e = (refl, e)
 
-first_named : (name : List ℕ) (x : Placed) (rs : List Placed) → number_named name (x ∷ rs) ≡ cond (bytes_eq x.1.0 name) (Some x.0) (number_named name rs)
-first_named name x rs = by_condition (bytes_eq x.1.0 name) refl
+first_named : (name : List ℕ) (x : Placed) (rs : List Placed) → number_named name (x ∷ rs) ≡ cond (bytes_eq name x.1.0) (Some x.0) (number_named name rs)
+first_named name x rs = by_condition (bytes_eq name x.1.0) refl
   where
-    by_condition : (b : Bool) → bytes_eq x.1.0 name ≡ b → number_named name (x ∷ rs) ≡ cond b (Some x.0) (number_named name rs)
+    by_condition : (b : Bool) → bytes_eq name x.1.0 ≡ b → number_named name (x ∷ rs) ≡ cond b (Some x.0) (number_named name rs)
     by_condition true e = rw e refl
     by_condition false e = rw e refl
 
 none_named : (name : List ℕ) (rs : List Placed) → number_named name rs ≡ None → NoneNamed name (bare rs)
 none_named name [] e = tt
 none_named name (x ∷ rs) e =
-    let p = by_names (bytes_eq x.1.0 name) x.0 (number_named name rs) (sym (first_named name x rs) ∙ e) in
-    (λ same. let yes : bytes_eq x.1.0 name ≡ true = (bytes_eq-Decides x.1.0 name).1 (sym same) in let both : true ≡ false = sym yes ∙ p.0 in absurd cc, none_named name rs p.1)
+    let p = by_names (bytes_eq name x.1.0) x.0 (number_named name rs) (sym (first_named name x rs) ∙ e) in
+    (λ same. let yes : bytes_eq name x.1.0 ≡ true = (bytes_eq-Decides name x.1.0).1 same in let both : true ≡ false = sym yes ∙ p.0 in absurd cc, none_named name rs p.1)
 
 none_more : (name : List ℕ) (rs : List (List ℕ × Tree)) (r : List ℕ × Tree) → NoneNamed name rs → name ≢ r.0 → NoneNamed name (rs ++ r ∷ [])
 none_more name [] r h other = (other, tt)
@@ -119,10 +119,10 @@ none_inside name (q ∷ rs) us r h = none_inside name rs us r h.1
 
 named_again : (rs : List Placed) (r : List ℕ × Tree) (us : List (List ℕ × Tree)) (first : ℕ) → number_named r.0 rs ≡ Some first → AreApart (bare rs ++ r ∷ us) → ⊥
 named_again [] r us first e a = cc
-named_again (x ∷ rs) r us first e a = by_condition (bytes_eq x.1.0 r.0) refl (λ h. named_again rs r us first h a.1)
+named_again (x ∷ rs) r us first e a = by_condition (bytes_eq r.0 x.1.0) refl (λ h. named_again rs r us first h a.1)
   where
-    by_condition : (b : Bool) → bytes_eq x.1.0 r.0 ≡ b → (number_named r.0 rs ≡ Some first → ⊥) → ⊥
-    by_condition true same k = none_inside x.1.0 (bare rs) us r a.0 ((bytes_eq-Decides x.1.0 r.0).0 same)
+    by_condition : (b : Bool) → bytes_eq r.0 x.1.0 ≡ b → (number_named r.0 rs ≡ Some first → ⊥) → ⊥
+    by_condition true same k = none_inside x.1.0 (bare rs) us r a.0 (sym ((bytes_eq-Decides r.0 x.1.0).0 same))
     by_condition false other k = k (ap (λ (b : Bool). cond b (Some x.0) (number_named r.0 rs)) (sym other) ∙ sym (first_named r.0 x rs) ∙ e)
 
 -- ---- lines up to a fault
@@ -239,7 +239,7 @@ module _ (lines : List (List ℕ)) (findings : Findings) (h : HasFound 1 lines f
   rules_fault (Err NoMemory) o = tt
   rules_fault (Err (Unreadable f)) (others, e) = (h.0, rules_in findings, others, subst (λ (fs : List Fault). HasRead lines h.0 (rules_in findings) fs) e h.1)
 
-pub faults_found : (lines : List (List ℕ)) (findings : Findings) → HasFound 20 lines findings → HasFaults lines findings.faults.items
+pub faults_found : (lines : List (List ℕ)) (findings : Findings) → HasFound 21 lines findings → HasFaults lines findings.faults.items
 faults_found lines findings h = (h.0, rules_in findings, h.1, h.2)
 
 -- ---- what a line adds
@@ -247,15 +247,15 @@ faults_found lines findings h = (h.0, rules_in findings, h.1, h.2)
 abbrev pub WithFault : Findings → Fault → Findings → Type 0
 WithFault before f after = (after.rules ≡ before.rules) × (after.faults.items ≡ before.faults.items ++ f ∷ [])
 
-abbrev pub WithRule : Findings → Numbered → Findings → Type 0
-WithRule before n after = (after.faults ≡ before.faults) × (after.rules.items ≡ before.rules.items ++ n ∷ [])
+abbrev pub WithRule : Findings → Placed → Findings → Type 0
+WithRule before n after = (after.faults ≡ before.faults) × (rules_in after ≡ rules_in before ++ n ∷ [])
 
 module _ (number : ℕ) (line : List ℕ) (before : Findings) where
   pub nothing_added : IsLine max_depth line None → HasAdded number line before before
   nothing_added l = ([], [], nothing l, sym (append-nil (rules_in before)), sym (append-nil before.faults.items))
 
   same_rules : (after : Findings) → after.rules ≡ before.rules → rules_in after ≡ rules_in before ++ []
-  same_rules after e = ap (λ (v : Vec Numbered Global). map numbered_of v.items) e ∙ sym (append-nil (rules_in before))
+  same_rules after e = ap (λ m. map numbered_of m.entries) e ∙ sym (append-nil (rules_in before))
 
   pub fault_added : (f : Fault) (r : Result Findings AllocError) → IsUnread number line f → IfOk r (WithFault before f) → IfOk r (HasAdded number line before)
   fault_added f (Ok after) u h = ([], f ∷ [], no_line f u, same_rules after h.0, h.1)
@@ -266,27 +266,26 @@ module _ (number : ℕ) (line : List ℕ) (before : Findings) where
   repeat_added rule first f (Ok after) l old u h = ([], f ∷ [], a_repeat rule first f l old u, same_rules after h.0, h.1)
   repeat_added rule first f (Err e) l old u h = tt
 
-  pub rule_added : (n : Numbered) (r : Result Findings AllocError) → n.line ≡ number → IsLine max_depth line (Some (rule_of n.rule)) → number_named (rule_of n.rule).0 (rules_in before) ≡ None → IfOk r (WithRule before n) → IfOk r (HasAdded number line before)
-  rule_added n (Ok after) is l new h = (
-    (number, rule_of n.rule) ∷ [],
-    [],
-    a_rule (rule_of n.rule) l new,
-    ap (map numbered_of) h.1 ∙ map-append numbered_of before.rules.items (n ∷ []) ∙ ap (λ (m : ℕ). rules_in before ++ (m, rule_of n.rule) ∷ []) is,
-    ap (λ (v : Vec Fault Global). v.items) h.0 ∙ sym (append-nil before.faults.items),
-  )
-  rule_added n (Err e) is l new h = tt
+  pub rule_added : (rule : List ℕ × Tree) (r : Result Findings AllocError) → IsLine max_depth line (Some rule) → number_named rule.0 (rules_in before) ≡ None → IfOk r (WithRule before (number, rule)) → IfOk r (HasAdded number line before)
+  rule_added rule (Ok after) l new h = ((number, rule) ∷ [], [], a_rule rule l new, h.1, ap (λ (v : Vec Fault Global). v.items) h.0 ∙ sym (append-nil before.faults.items))
+  rule_added rule (Err e) l new h = tt
 
-pub number_found : (name : List ℕ) (rs : List Numbered) → option_map (λ (n : Numbered). n.line) (find (λ n. bytes_eq (string_bytes n.rule.name) name) rs) ≡ number_named name (map numbered_of rs)
-number_found name [] = refl
-number_found name (x ∷ rs) = by_condition (bytes_eq (string_bytes x.rule.name) name) refl (number_found name rs)
+-- the line of the rule that the map has for a name
+pub line_found : (name : List ℕ) (es : List (String Global × Numbered)) → option_map (λ (n : Numbered). n.line) (lookup (λ k. bytes_eq name (string_bytes k)) es) ≡ number_named name (map numbered_of es)
+line_found name [] = refl
+line_found name (e ∷ es) = by_condition (bytes_eq name (string_bytes e.0)) refl (line_found name es)
   where
-    by_condition : (b : Bool) → bytes_eq (string_bytes x.rule.name) name ≡ b → option_map (λ (n : Numbered). n.line) (find (λ n. bytes_eq (string_bytes n.rule.name) name) rs) ≡ number_named name (map numbered_of rs) → option_map (λ (n : Numbered). n.line) (find (λ n. bytes_eq (string_bytes n.rule.name) name) (x ∷ rs)) ≡ number_named name (map numbered_of (x ∷ rs))
-    by_condition true e h = rw e refl
-    by_condition false e h = rw e h
+    by_condition : (b : Bool) → bytes_eq name (string_bytes e.0) ≡ b → option_map (λ (n : Numbered). n.line) (lookup (λ k. bytes_eq name (string_bytes k)) es) ≡ number_named name (map numbered_of es)
+        → option_map (λ (n : Numbered). n.line) (lookup (λ k. bytes_eq name (string_bytes k)) (e ∷ es)) ≡ number_named name (map numbered_of (e ∷ es))
+    by_condition true is h = rw is refl
+    by_condition false is h = rw is h
 
-pub line_found : (name : List ℕ) (rs : List Numbered) (o : Option (Bor Numbered)) → option_map (λ (x : Bor Numbered). x.now) o ≡ find (λ n. bytes_eq (string_bytes n.rule.name) name) rs → option_map (λ (x : Bor Numbered). x.now.line) o ≡ number_named name (map numbered_of rs)
-line_found name rs None e = ap (option_map (λ (n : Numbered). n.line)) e ∙ number_found name rs
-line_found name rs (Some x) e = ap (option_map (λ (n : Numbered). n.line)) e ∙ number_found name rs
+none_mapped : (o : Option Numbered) → option_map (λ (n : Numbered). n.line) o ≡ None → o ≡ None
+none_mapped None e = refl
+none_mapped (Some n) e = absurd cc
+
+pub not_found : (name : List ℕ) (es : List (String Global × Numbered)) → number_named name (map numbered_of es) ≡ None → lookup (λ k. bytes_eq name (string_bytes k)) es ≡ None
+not_found name es e = none_mapped (lookup (λ k. bytes_eq name (string_bytes k)) es) (line_found name es ∙ e)
 
 pub more_read : (lines : List (Bor (List ℕ))) (i : ℕ) (d : Bor (List ℕ)) (before after : Findings) → i < length lines → HasRead (texts lines) i (rules_in before) before.faults.items → HasAdded (i + 1) (get_or lines i d).now before after
     → HasRead (texts lines) (i + 1) (rules_in after) after.faults.items
@@ -302,6 +301,6 @@ pub first_of : {A : Type 0} (xs : List A) (x : A) → 0 < length xs → x ≡ sl
 first_of [] x lt e = absurd (omega arith)
 first_of (y ∷ xs) x lt e = (xs, ap (λ z. z ∷ xs) (sym e))
 
-pub bare_rules : (ns : List Numbered) → map (λ n. rule_of n.rule) ns ≡ bare (map numbered_of ns)
+pub bare_rules : (ns : List (String Global × Numbered)) → map (λ n. (numbered_of n).1) ns ≡ bare (map numbered_of ns)
 bare_rules [] = refl
-bare_rules (n ∷ ns) = ap (λ (rs : List (List ℕ × Tree)). rule_of n.rule ∷ rs) (bare_rules ns)
+bare_rules (n ∷ ns) = ap (λ (rs : List (List ℕ × Tree)). (numbered_of n).1 ∷ rs) (bare_rules ns)

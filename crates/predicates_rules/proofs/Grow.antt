@@ -1,13 +1,14 @@
 -- More depth changes no answer but that it was too little. So each list of tokens spells one
 -- expression at most.
-use Rattle.std.proofs.Common.{◌≡◌, ℕ, zero, suc, ◌+◌, List, [], ◌∷◌, length, Option, Some, None, Result, Ok, Err, refl, sym, subst, ◌∙◌, ◌⊎◌, inl, inr, ◌≢◌, arith, add_comm, zero-add}
+use Rattle.std.proofs.Common.{◌≡◌, ℕ, zero, suc, ◌+◌, Bool, true, false, cond, List, [], ◌∷◌, length, Option, Some, None, Result, Ok, Err, refl, sym, subst, ◌∙◌, ◌⊎◌, inl, inr, ◌≢◌, arith, add_comm, zero-add}
 use Rattle.std.specs.Prelude.{IfErr}
 use Rattle.predicates_rules.specs.declared.expression.Connective.{Connective}
 use Rattle.predicates_rules.specs.declared.expression.Connective.TheVariants.{Or, Xor, And}
 use Rattle.predicates_rules.specs.declared.expression.HowMany.{HowMany}
 use Rattle.predicates_rules.specs.declared.expression.HowMany.TheVariants as quantifiers
-use Rattle.predicates_rules.specs.declared.parser.Separator.{Separator}
-use Rattle.predicates_rules.specs.declared.parser.Separator.TheVariants as separators
+use Rattle.predicates_rules.specs.declared.fixed.Fixed.{Fixed}
+use Rattle.predicates_rules.specs.declared.fixed.Fixed.TheVariants as fixed
+use Rattle.predicates_rules.specs.declared.error.Expected.{Expected}
 use Rattle.predicates_rules.specs.declared.error.Expected.TheVariants as expected
 use Rattle.predicates_rules.specs.declared.error.Reason.TheVariants.{TooDeep}
 use Rattle.predicates_rules.specs.declared.stop.Stop.{Stop}
@@ -17,10 +18,10 @@ use Rattle.predicates_rules.specs.declared.expression.Expression.{Expression}
 use Rattle.predicates_rules.specs.Signs as signs
 use Rattle.predicates_rules.specs.Signs.{Sign}
 use Rattle.predicates_rules.specs.Trees.{tree_of, Tree, Test, Not, Implies, Quantified, AtLeast}
-use Rattle.predicates_rules.specs.Trees.{Trees, more}
-use Rattle.predicates_rules.specs.Grammar.{Level, By, Single, Whole, Premise, IsSpelled}
+use Rattle.predicates_rules.specs.Trees.{trees_of}
+use Rattle.predicates_rules.specs.Grammar.{Level, By, Single, Whole, Premise, path_in, IsSpelled}
 use Rattle.predicates_rules.specs.Answers.{◌>>=◌, Gives, IsSyntax}
-use Rattle.predicates_rules.specs.Reading.{Answer, condition_at, keys_at, path_at, after_open, after_close, after_then, after_least, count_at, after_separator, with_next, parts_at, join, chain, listed, counted, threshold, single, loosest, implication, whole, at_level, below, ended, all_of}
+use Rattle.predicates_rules.specs.Reading.{Reader, Answer, next_word, after, one_at, count_at, with_next, parts_at, row_at, test_at, keys_at, join, chain, listed, counted_by, counted, threshold, begun_by, single, loosest, implication, begins, fails, whole_by, whole, at_level, below, ended, all_of}
 use Rattle.predicates_rules.specs.Reading as reading
 use Rattle.predicates_rules.proofs.Loop.{ok_is}
 use Rattle.predicates_rules.proofs.Complete.{spelled_again}
@@ -40,68 +41,71 @@ persists_then (Err e) s f g (inl p) h = inl p
 persists_then (Err e) s f g (inr p) h = inr (rw p refl)
 
 module _ (f g : List Sign → Answer) (h : (ts : List Sign) → Persists (f ts) (g ts)) where
-  next_persists : (go to : List Sign → Result (Trees × List Sign) Stop) → ((ts : List Sign) → Persists (go ts) (to ts)) → (ts : List Sign) (o : Option (List Sign)) → Persists (with_next f go ts o) (with_next g to ts o)
+  next_persists : (go to : Reader (List Tree)) → ((ts : List Sign) → Persists (go ts) (to ts)) → (ts : List Sign) (o : Option (List Sign)) → Persists (with_next f go ts o) (with_next g to ts o)
   next_persists go to p ts None = refl
   next_persists go to p ts (Some us) =
-      persists_then (f us) (g us) (λ a. go a.1 >>= λ x. Ok (more a.0 x.0, x.1)) (λ a. to a.1 >>= λ x. Ok (more a.0 x.0, x.1)) (h us)
-      (λ a. persists_then (go a.1) (to a.1) (λ x. Ok (more a.0 x.0, x.1)) (λ x. Ok (more a.0 x.0, x.1)) (p a.1) (λ x. refl))
+      persists_then (f us) (g us) (λ a. go a.1 >>= λ x. Ok (a.0 ∷ x.0, x.1)) (λ a. to a.1 >>= λ x. Ok (a.0 ∷ x.0, x.1)) (h us)
+      (λ a. persists_then (go a.1) (to a.1) (λ x. Ok (a.0 ∷ x.0, x.1)) (λ x. Ok (a.0 ∷ x.0, x.1)) (p a.1) (λ x. refl))
 
-  parts_persist : (s : Separator) (k : ℕ) (ts : List Sign) → Persists (parts_at k s f ts) (parts_at k s g ts)
+  parts_persist : (s : Fixed) (k : ℕ) (ts : List Sign) → Persists (parts_at k s f ts) (parts_at k s g ts)
   unfolding parts_at
   parts_persist s zero ts = refl
-  parts_persist s (suc k) ts = next_persists (parts_at k s f) (parts_at k s g) (parts_persist s k) ts (after_separator s ts)
+  parts_persist s (suc k) ts = next_persists (parts_at k s f) (parts_at k s g) (parts_persist s k) ts (next_word s ts)
 
   -- a part, the parts that follow, and what is made of them
-  row_persists : (s : Separator) (made : Tree → Trees × List Sign → Answer) (ts : List Sign) → Persists (f ts >>= λ a. parts_at (length a.1) s f a.1 >>= made a.0) (g ts >>= λ a. parts_at (length a.1) s g a.1 >>= made a.0)
+  row_persists : {B : Type 0} (s : Fixed) (made : Tree → List Tree × List Sign → Result B Stop) (ts : List Sign) → Persists (f ts >>= λ a. parts_at (length a.1) s f a.1 >>= made a.0) (g ts >>= λ a. parts_at (length a.1) s g a.1 >>= made a.0)
   row_persists s made ts =
       persists_then (f ts) (g ts) (λ a. parts_at (length a.1) s f a.1 >>= made a.0) (λ a. parts_at (length a.1) s g a.1 >>= made a.0) (h ts)
       (λ a. persists_then (parts_at (length a.1) s f a.1) (parts_at (length a.1) s g a.1) (made a.0) (made a.0) (parts_persist s (length a.1) a.1) (λ x. persists_same (made a.0 x)))
 
   chain_persists : (c : Connective) (ts : List Sign) → Persists (chain c f ts) (chain c g ts)
   unfolding chain
-  chain_persists c ts = row_persists (separators.Connective c) (λ e x. Ok (join c e x.0, x.1)) ts
+  chain_persists c ts = row_persists (fixed.Join c) (λ e x. Ok (join c e x.0, x.1)) ts
 
 module _ (d e : Level → List Sign → Answer) (h : (l : Level) (ts : List Sign) → Persists (d l ts) (e l ts)) where
   group_persists : (ts : List Sign) → Persists (reading.group d ts) (reading.group e ts)
   unfolding reading.group
-  group_persists ts = persists_then (d Whole ts) (e Whole ts) (λ y. after_close expected.Close y.1 >>= λ rest. Ok (y.0, rest)) (λ y. after_close expected.Close y.1 >>= λ rest. Ok (y.0, rest)) (h Whole ts)
-      (λ y. persists_same (after_close expected.Close y.1 >>= λ rest. Ok (y.0, rest)))
+  group_persists ts = persists_then (d Whole ts) (e Whole ts) (λ y. after fixed.Close expected.Close y.1 >>= λ rest. Ok (y.0, rest)) (λ y. after fixed.Close expected.Close y.1 >>= λ rest. Ok (y.0, rest)) (h Whole ts)
+      (λ y. persists_same (after fixed.Close expected.Close y.1 >>= λ rest. Ok (y.0, rest)))
 
-  quantified_persists : (q : HowMany) (ts : List Sign) → Persists (reading.quantified d q ts) (reading.quantified e q ts)
+  quantified_persists : (y : Expected) (q : HowMany) (ts : List Sign) → Persists (reading.quantified d y q ts) (reading.quantified e y q ts)
   unfolding reading.quantified
-  quantified_persists q ts =
-      persists_then (path_at ts) (path_at ts) (λ p. after_open p.1 >>= λ us. reading.group d us >>= λ y. Ok (Quantified q p.0 y.0, y.1)) (λ p. after_open p.1 >>= λ us. reading.group e us >>= λ y. Ok (Quantified q p.0 y.0, y.1)) (persists_same (path_at ts))
-      (λ p. persists_then (after_open p.1) (after_open p.1) (λ us. reading.group d us >>= λ y. Ok (Quantified q p.0 y.0, y.1)) (λ us. reading.group e us >>= λ y. Ok (Quantified q p.0 y.0, y.1)) (persists_same (after_open p.1))
-      (λ us. persists_then (reading.group d us) (reading.group e us) (λ y. Ok (Quantified q p.0 y.0, y.1)) (λ y. Ok (Quantified q p.0 y.0, y.1)) (group_persists us) (λ y. refl)))
+  quantified_persists y q ts =
+      persists_then (one_at path_in y ts) (one_at path_in y ts) (λ p. after fixed.Open expected.Open p.1 >>= λ us. reading.group d us >>= λ z. Ok (Quantified q p.0 z.0, z.1)) (λ p. after fixed.Open expected.Open p.1 >>= λ us. reading.group e us >>= λ z. Ok (Quantified q p.0 z.0, z.1)) (persists_same (one_at path_in y ts))
+      (λ p. persists_then (after fixed.Open expected.Open p.1) (after fixed.Open expected.Open p.1) (λ us. reading.group d us >>= λ z. Ok (Quantified q p.0 z.0, z.1)) (λ us. reading.group e us >>= λ z. Ok (Quantified q p.0 z.0, z.1)) (persists_same (after fixed.Open expected.Open p.1))
+      (λ us. persists_then (reading.group d us) (reading.group e us) (λ z. Ok (Quantified q p.0 z.0, z.1)) (λ z. Ok (Quantified q p.0 z.0, z.1)) (group_persists us) (λ z. refl)))
 
   listed_persists : (k : ℕ) (ts : List Sign) → Persists (listed d k ts) (listed e k ts)
-  unfolding listed
-  listed_persists k ts = row_persists (d Whole) (e Whole) (h Whole) separators.Comma (λ f x. after_close expected.PartsGoOn x.1 >>= λ rest. Ok (AtLeast k (more f x.0), rest)) ts
+  unfolding listed row_at
+  listed_persists k ts =
+      persists_then (after fixed.Open expected.Open ts) (after fixed.Open expected.Open ts) (λ us. row_at fixed.Close expected.PartsGoOn (d Whole) us >>= λ x. Ok (AtLeast k (trees_of x.0), x.1)) (λ us. row_at fixed.Close expected.PartsGoOn (e Whole) us >>= λ x. Ok (AtLeast k (trees_of x.0), x.1)) (persists_same (after fixed.Open expected.Open ts))
+      (λ us. persists_then (row_at fixed.Close expected.PartsGoOn (d Whole) us) (row_at fixed.Close expected.PartsGoOn (e Whole) us) (λ x. Ok (AtLeast k (trees_of x.0), x.1)) (λ x. Ok (AtLeast k (trees_of x.0), x.1))
+      (row_persists (d Whole) (e Whole) (h Whole) fixed.Comma (λ f x. after fixed.Close expected.PartsGoOn x.1 >>= λ rest. Ok (f ∷ x.0, rest)) us) (λ x. refl))
 
-  counted_persists : (k : ℕ) (ts : List Sign) → Persists (counted d k ts) (counted e k ts)
-  unfolding counted
-  counted_persists k (signs.Of ∷ ts) = persists_then (after_open ts) (after_open ts) (listed d k) (listed e k) (persists_same (after_open ts)) (listed_persists k)
-  counted_persists k (signs.Path path ∷ ts) = quantified_persists (quantifiers.AtLeast k) (signs.Path path ∷ ts)
-  counted_persists k [] = inr refl
-  counted_persists k (t ∷ ts) = inr refl
+  counted_persists : (k : ℕ) (ts : List Sign) (o : Option (List Sign)) → Persists (counted_by d k ts o) (counted_by e k ts o)
+  counted_persists k ts (Some us) = listed_persists k us
+  counted_persists k ts None = quantified_persists expected.Counted (quantifiers.AtLeast k) ts
 
   threshold_persists : (ts : List Sign) → Persists (threshold d ts) (threshold e ts)
-  unfolding threshold
+  unfolding threshold counted
   threshold_persists ts =
-      persists_then (after_least ts) (after_least ts) (λ us. count_at us >>= λ k. counted d k.0 k.1) (λ us. count_at us >>= λ k. counted e k.0 k.1) (persists_same (after_least ts))
-      (λ us. persists_then (count_at us) (count_at us) (λ k. counted d k.0 k.1) (λ k. counted e k.0 k.1) (persists_same (count_at us)) (λ k. counted_persists k.0 k.1))
+      persists_then (after fixed.Least expected.Least ts) (after fixed.Least expected.Least ts) (λ us. count_at us >>= λ k. counted d k.0 k.1) (λ us. count_at us >>= λ k. counted e k.0 k.1) (persists_same (after fixed.Least expected.Least ts))
+      (λ us. persists_then (count_at us) (count_at us) (λ k. counted d k.0 k.1) (λ k. counted e k.0 k.1) (persists_same (count_at us)) (λ k. counted_persists k.0 k.1 (next_word fixed.Of k.1)))
+
+  begun_persists : (f : Fixed) (ts : List Sign) → Persists (begun_by d f ts) (begun_by e f ts)
+  unfolding begun_by
+  begun_persists fixed.Not ts = persists_then (d Single ts) (e Single ts) (λ y. Ok (Not y.0, y.1)) (λ y. Ok (Not y.0, y.1)) (h Single ts) (λ y. refl)
+  begun_persists fixed.Open ts = group_persists ts
+  begun_persists fixed.Each ts = quantified_persists expected.Path quantifiers.Each ts
+  begun_persists fixed.Any ts = quantified_persists expected.Path quantifiers.Any ts
+  begun_persists fixed.At ts = threshold_persists ts
+  begun_persists fixed.Keys ts = persists_same (keys_at ts)
+  begun_persists f ts = inr refl
 
   single_persists : (ts : List Sign) → Persists (single d ts) (single e ts)
   unfolding single
-  single_persists (signs.Not ∷ ts) = persists_then (d Single ts) (e Single ts) (λ y. Ok (Not y.0, y.1)) (λ y. Ok (Not y.0, y.1)) (h Single ts) (λ y. refl)
-  single_persists (signs.Open ∷ ts) = group_persists ts
-  single_persists (signs.Each ∷ ts) = quantified_persists quantifiers.Each ts
-  single_persists (signs.Any ∷ ts) = quantified_persists quantifiers.Any ts
-  single_persists (signs.At ∷ ts) = threshold_persists ts
-  single_persists (signs.Keys ∷ ts) = persists_same (keys_at ts)
-  single_persists (signs.Path path ∷ ts) = persists_same (condition_at ts >>= λ x. Ok (Test path x.0, x.1))
-  single_persists [] = inr refl
-  single_persists (t ∷ ts) = inr refl
+  single_persists (signs.Word f ∷ ts) = begun_persists f ts
+  single_persists ts = persists_same (test_at ts)
 
   loosest_persists : (ts : List Sign) → Persists (loosest d ts) (loosest e ts)
   loosest_persists = chain_persists (chain Xor (chain And (single d))) (chain Xor (chain And (single e))) (chain_persists (chain And (single d)) (chain And (single e)) (chain_persists (single d) (single e) single_persists And) Xor) Or
@@ -109,22 +113,21 @@ module _ (d e : Level → List Sign → Answer) (h : (l : Level) (ts : List Sign
   implication_persists : (ts : List Sign) → Persists (implication d ts) (implication e ts)
   unfolding implication
   implication_persists ts =
-      persists_then (d Premise ts) (e Premise ts) (λ y. after_then y.1 >>= λ us. d Whole us >>= λ z. Ok (Implies y.0 z.0, z.1)) (λ y. after_then y.1 >>= λ us. e Whole us >>= λ z. Ok (Implies y.0 z.0, z.1)) (h Premise ts)
-      (λ y. persists_then (after_then y.1) (after_then y.1) (λ us. d Whole us >>= λ z. Ok (Implies y.0 z.0, z.1)) (λ us. e Whole us >>= λ z. Ok (Implies y.0 z.0, z.1)) (persists_same (after_then y.1))
+      persists_then (d Premise ts) (e Premise ts) (λ y. after fixed.Then expected.Then y.1 >>= λ us. d Whole us >>= λ z. Ok (Implies y.0 z.0, z.1)) (λ y. after fixed.Then expected.Then y.1 >>= λ us. e Whole us >>= λ z. Ok (Implies y.0 z.0, z.1)) (h Premise ts)
+      (λ y. persists_then (after fixed.Then expected.Then y.1) (after fixed.Then expected.Then y.1) (λ us. d Whole us >>= λ z. Ok (Implies y.0 z.0, z.1)) (λ us. e Whole us >>= λ z. Ok (Implies y.0 z.0, z.1)) (persists_same (after fixed.Then expected.Then y.1))
       (λ us. persists_then (d Whole us) (e Whole us) (λ z. Ok (Implies y.0 z.0, z.1)) (λ z. Ok (Implies y.0 z.0, z.1)) (h Whole us) (λ z. refl)))
+
+  whole_by_persists : (ts : List Sign) (o : Option (List Sign)) → Persists (whole_by d ts o) (whole_by e ts o)
+  whole_by_persists ts (Some us) = implication_persists us
+  whole_by_persists ts None = by_front (begins ts)
+    where
+      by_front : (b : Bool) → Persists (cond b (loosest d ts) (fails expected.Whole ts)) (cond b (loosest e ts) (fails expected.Whole ts))
+      by_front true = loosest_persists ts
+      by_front false = inr refl
 
   whole_persists : (ts : List Sign) → Persists (whole d ts) (whole e ts)
   unfolding whole
-  whole_persists (signs.If ∷ ts) = implication_persists ts
-  whole_persists (signs.Path path ∷ ts) = loosest_persists (signs.Path path ∷ ts)
-  whole_persists (signs.Not ∷ ts) = loosest_persists (signs.Not ∷ ts)
-  whole_persists (signs.Open ∷ ts) = loosest_persists (signs.Open ∷ ts)
-  whole_persists (signs.Each ∷ ts) = loosest_persists (signs.Each ∷ ts)
-  whole_persists (signs.Any ∷ ts) = loosest_persists (signs.Any ∷ ts)
-  whole_persists (signs.At ∷ ts) = loosest_persists (signs.At ∷ ts)
-  whole_persists (signs.Keys ∷ ts) = loosest_persists (signs.Keys ∷ ts)
-  whole_persists [] = inr refl
-  whole_persists (t ∷ ts) = inr refl
+  whole_persists ts = whole_by_persists ts (next_word fixed.If ts)
 
   level_persists : (l : Level) (ts : List Sign) → Persists (at_level d l ts) (at_level e l ts)
   unfolding at_level

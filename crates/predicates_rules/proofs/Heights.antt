@@ -7,14 +7,14 @@ use Rattle.predicates_rules.specs.declared.parser.Separator.TheVariants as separ
 use Rattle.predicates_rules.specs.Grammar.{Level, By, Single, Whole, Premise, tighter}
 
 abbrev pub height : Connective → ℕ
-height And = 8
-height Xor = 12
-height Or = 16
+height And = 9
+height Xor = 13
+height Or = 17
 
 abbrev pub level_height : Level → ℕ
-level_height Single = 7
+level_height Single = 8
 level_height (By c) = height c + 3
-level_height Whole = 21
+level_height Whole = 22
 level_height Premise = 1
 
 abbrev pub row_height : Separator → ℕ

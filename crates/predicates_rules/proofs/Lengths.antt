@@ -1,27 +1,28 @@
 -- A phrase takes tokens from the front.
-use Rattle.std.proofs.Common.{ℕ, ◌<◌, ◌≤◌, List, length, arith}
+use Rattle.std.proofs.Common.{ℕ, ◌<◌, ◌≤◌, List, Option, length, arith}
 use Rattle.predicates_rules.specs.declared.expression.HowMany.{HowMany}
 use Rattle.predicates_rules.specs.declared.parser.Separator.{Separator}
-use Rattle.predicates_rules.specs.Literals.{Literal}
 use Rattle.predicates_rules.specs.Signs.{Sign}
 use Rattle.predicates_rules.specs.Conditions.{Condition}
 use Rattle.predicates_rules.specs.Trees.{Tree, Trees}
-use Rattle.predicates_rules.specs.Grammar.{Level, Items, last, another, IsCondition, word, compare, compare_with, has_length, of_kind, of_null, relate, among_none, among, IsQuantifier, each, any, at_least_items, Spells, test, keys, denied, group, quantified, at_least, alone, joined, no_if, implied, premise, Follow, no_more, and_more}
+use Rattle.predicates_rules.specs.Grammar.{Level, Items, last, another, IsList, no_items, items, IsCondition, word, compare, compare_with, has_length, of_kind, relate, among, IsQuantifier, each, any, at_least_items, Spells, test, keys, denied, group, quantified, at_least, alone, joined, no_if, implied, premise, Follow, no_more, and_more}
 
-items_shorten : {ts : List Sign} {vs : List Literal} {rest : List Sign} → Items ts vs rest → length rest < length ts
-items_shorten last = omega arith
-items_shorten (another i) = omega (arith, items_shorten i)
+items_shorten : {A : Type 0} {seen : Sign → Option A} {ts : List Sign} {vs : List A} {rest : List Sign} → Items seen ts vs rest → length rest < length ts
+items_shorten (last h) = omega arith
+items_shorten (another h i) = omega (arith, items_shorten i)
+
+list_shortens : {A : Type 0} {seen : Sign → Option A} {ts : List Sign} {vs : List A} {rest : List Sign} → IsList seen ts vs rest → length rest < length ts
+list_shortens no_items = omega arith
+list_shortens (items i) = omega (arith, items_shorten i)
 
 condition_shortens : {ts : List Sign} {t : Condition} {rest : List Sign} → IsCondition ts t rest → length rest < length ts
 condition_shortens word = omega arith
-condition_shortens compare = omega arith
+condition_shortens (compare h) = omega arith
 condition_shortens compare_with = omega arith
 condition_shortens has_length = omega arith
 condition_shortens of_kind = omega arith
-condition_shortens of_null = omega arith
-condition_shortens relate = omega arith
-condition_shortens among_none = omega arith
-condition_shortens (among i) = omega (arith, items_shorten i)
+condition_shortens (relate h) = omega arith
+condition_shortens (among l) = omega (arith, list_shortens l)
 
 quantifier_shortens : {ts : List Sign} {q : HowMany} {rest : List Sign} → IsQuantifier ts q rest → length rest < length ts
 quantifier_shortens each = omega arith
@@ -30,11 +31,11 @@ quantifier_shortens at_least_items = omega arith
 
 mutual
   pub spells_shortens : {n : ℕ} {l : Level} {ts : List Sign} {e : Tree} {rest : List Sign} → Spells n l ts e rest → length rest < length ts
-  spells_shortens (test t) = omega (arith, condition_shortens t)
-  spells_shortens (keys t) = omega (arith, condition_shortens t)
+  spells_shortens (test h t) = omega (arith, condition_shortens t)
+  spells_shortens (keys h l) = omega (arith, list_shortens l)
   spells_shortens (denied d) = omega (arith, spells_shortens d)
   spells_shortens (group d) = omega (arith, spells_shortens d)
-  spells_shortens (quantified q d) = omega (arith, quantifier_shortens q, spells_shortens d)
+  spells_shortens (quantified h q d) = omega (arith, quantifier_shortens q, spells_shortens d)
   spells_shortens (at_least d f) = omega (arith, spells_shortens d, follow_shortens f)
   spells_shortens (alone d) = spells_shortens d
   spells_shortens (joined d f) = omega (arith, spells_shortens d, follow_shortens f)

@@ -8,7 +8,6 @@ use Rattle.std.proofs.lemmas.Slice.Eq.{bytes_eq-Decides}
 use Rattle.serde_json.specs.Data.{Num, unsigned, negative, float, Data, null, boolean, number, string, array, object}
 use Rattle.serde_json.specs.Read.{read}
 use Rattle.predicates_rules.specs.declared.fixed.Fixed.{Fixed}
-use Rattle.predicates_rules.specs.declared.fixed.Fixed.TheVariants as fixed
 use Rattle.predicates_rules.specs.declared.lexer.Class.{Class}
 use Rattle.predicates_rules.specs.declared.lexer.Class.TheVariants.{Letter, Digit, Symbol, Mark, Slash, Quote, Space, Name, Other}
 use Rattle.predicates_rules.specs.declared.error.Expected.{Expected}
@@ -19,9 +18,10 @@ use Rattle.predicates_rules.specs.Literals.{Null}
 use Rattle.predicates_rules.specs.Signs as signs
 use Rattle.predicates_rules.specs.Signs.{Sign}
 use Rattle.predicates_rules.specs.Answers.{◌>>=◌}
-use Rattle.predicates_rules.specs.Lexemes.{text_of, sign_of_fixed, all_fixed, fixed_at, class_of, continues, text_end, class_len, cut, data_of, IsTextOf, begins_literal, is_hidden, is_shown, is_path, pointer, IsWritten, fixed_text, literal, path}
+use Rattle.predicates_rules.specs.Lexemes.{text_of, all_fixed, fixed_at, class_of, continues, text_end, class_len, cut, data_of, IsTextOf, begins_literal, is_hidden, is_shown, is_path, pointer, IsWritten, fixed_text, literal, path}
 use Rattle.predicates_rules.specs.Scanning.{number_in, literal_in, literal_from, sign_or, literal_or, path_or, front_class, sign_in, with_word, token_at}
 use Rattle.predicates_rules.proofs.Loop.{ok_is}
+use Rattle.predicates_rules.proofs.Words.{read_back}
 
 bytes_is : (a b : List ℕ) → bytes_eq a b ≡ true → a ≡ b
 bytes_is a b h = (bytes_eq-Decides a b).0 h
@@ -107,51 +107,6 @@ pub no_text_shows : (word : List ℕ) → (IsUtf8 word → ⊥) → is_shown wor
 unfolding is_shown
 no_text_shows word h = rw (utf8_is_false word h) refl
 
-fixed_again : (left : ℕ) (f : Fixed) → sign_in (front_class (text_of f)) left (text_of f) ≡ Ok (sign_of_fixed f)
-unfolding sign_in fixed_at
-fixed_again left fixed.Or = refl
-fixed_again left fixed.Xor = refl
-fixed_again left fixed.And = refl
-fixed_again left fixed.Not = refl
-fixed_again left fixed.If = refl
-fixed_again left fixed.Then = refl
-fixed_again left fixed.Each = refl
-fixed_again left fixed.Any = refl
-fixed_again left fixed.At = refl
-fixed_again left fixed.Keys = refl
-fixed_again left fixed.Least = refl
-fixed_again left fixed.Of = refl
-fixed_again left fixed.StartsWith = refl
-fixed_again left fixed.EndsWith = refl
-fixed_again left fixed.Contains = refl
-fixed_again left fixed.Matches = refl
-fixed_again left fixed.In = refl
-fixed_again left fixed.Exists = refl
-fixed_again left fixed.Missing = refl
-fixed_again left fixed.IsEmpty = refl
-fixed_again left fixed.Length = refl
-fixed_again left fixed.Is = refl
-fixed_again left fixed.Text = refl
-fixed_again left fixed.Number = refl
-fixed_again left fixed.Whole = refl
-fixed_again left fixed.Bool = refl
-fixed_again left fixed.Array = refl
-fixed_again left fixed.Object = refl
-fixed_again left fixed.True = refl
-fixed_again left fixed.False = refl
-fixed_again left fixed.Null = refl
-fixed_again left fixed.Equal = refl
-fixed_again left fixed.Unequal = refl
-fixed_again left fixed.Below = refl
-fixed_again left fixed.AtMost = refl
-fixed_again left fixed.Above = refl
-fixed_again left fixed.AtLeast = refl
-fixed_again left fixed.Open = refl
-fixed_again left fixed.Close = refl
-fixed_again left fixed.OpenList = refl
-fixed_again left fixed.CloseList = refl
-fixed_again left fixed.Comma = refl
-
 literal_token : (c : Class) (left : ℕ) (word : List ℕ) (v : Literal) → begins_literal c ≡ true → literal_from word ≡ Some v → sign_in c left word ≡ Ok (signs.Literal v)
 unfolding sign_in
 literal_token Digit left word v h e = rw e refl
@@ -167,7 +122,7 @@ path_in c left word s p u = rw s (by_conditions (is_path word) (is_shown word) p
     by_conditions is shows i h = absurd cc
 
 written_again : (left : ℕ) {t : Sign} {word : List ℕ} → IsWritten t word → sign_in (front_class word) left word ≡ Ok t
-written_again left (fixed_text f) = fixed_again left f
+written_again left (fixed_text f) = (read_back f).2 left
 written_again left (literal b bytes v h u r t) = literal_token (class_of b) left (b ∷ bytes) v h (value_found (b ∷ bytes) v u r t)
 written_again left (path b bytes s p u) = path_in (class_of b) left (b ∷ bytes) s p u
 
@@ -186,7 +141,7 @@ fixed_is word f h = bytes_is (text_of f) word (find_passes (λ g. bytes_eq (text
 word_is : (left : ℕ) (word : List ℕ) (t : Sign) (o : Option Fixed) → fixed_at word ≡ o → sign_or left o ≡ Ok t → IsWritten t word
 word_is left word t None e h = absurd cc
 word_is left word t (Some f) e h =
-    subst (λ (s : Sign). IsWritten s word) (ok_is (sign_of_fixed f) t h) (subst (λ (w : List ℕ). IsWritten (sign_of_fixed f) w) (fixed_is word f e) (fixed_text f))
+    subst (λ (s : Sign). IsWritten s word) (ok_is (signs.Word f) t h) (subst (λ (w : List ℕ). IsWritten (signs.Word f) w) (fixed_is word f e) (fixed_text f))
 
 literal_is : (x : Expected) (left b : ℕ) (bytes : List ℕ) (t : Sign) (o : Option Literal) → begins_literal (class_of b) ≡ true → literal_from (b ∷ bytes) ≡ o → literal_or x left o ≡ Ok t → IsWritten t (b ∷ bytes)
 literal_is x left b bytes t None c e h = absurd cc
@@ -294,12 +249,6 @@ end_goes text i escaped next total lt p q h =
     let one : i + 1 ≡ suc i = omega arith in
     let step : text_end escaped (drop i text) ≡ option_map suc (text_end next (drop (suc i) text)) = end_step text i escaped lt ∙ rw (p, q) refl in
     subst (λ (k : ℕ). option_map (λ n. k + n) (text_end next (drop k text)) ≡ total) (sym one) (sym (move_on i (text_end next (drop (suc i) text))) ∙ ap (option_map (λ n. i + n)) (sym step) ∙ h)
-
-pub end_found : (text : List ℕ) (i : ℕ) (escaped : Bool) (total : Option ℕ) → i < length text → (not escaped && (get_or text i 0 == 34)) ≡ true
-    → option_map (λ n. i + n) (text_end escaped (drop i text)) ≡ total → Some (i + 1) ≡ total
-end_found text i escaped total lt p h =
-    let step : text_end escaped (drop i text) ≡ Some 1 = end_step text i escaped lt ∙ rw p refl in
-    ap (option_map (λ n. i + n)) (sym step) ∙ h
 
 -- ---- a byte that begins no token
 

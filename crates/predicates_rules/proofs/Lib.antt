@@ -1,4 +1,5 @@
 pub mod Heights
+pub mod Words
 pub mod Loop
 pub mod Steps
 pub mod Lengths
@@ -11,12 +12,12 @@ pub mod LexLoop
 pub mod Lines
 pub mod Readings
 pub mod Files
+pub mod Bare
 pub mod Printed
 pub mod Spaced
 pub mod Said
-pub mod Laid
 pub mod Escaped
-pub mod Further
+pub mod Laying
 pub mod Contents
 pub mod Readable
 pub mod Quotation

@@ -1,74 +1,59 @@
 -- Reading parts one after the other, as a loop does.
-use Rattle.std.proofs.Common.{◌≡◌, ℕ, zero, suc, ◌<◌, ◌≤◌, List, [], ◌∷◌, ◌++◌, length, Some, None, Result, Ok, Err, refl, sym, ap, ◌∙◌, arith}
-use Rattle.predicates_rules.specs.declared.parser.Separator.{Separator}
+use Rattle.std.proofs.Common.{◌≡◌, ℕ, zero, suc, ◌<◌, ◌≤◌, List, [], ◌∷◌, ◌++◌, length, Some, None, Result, Ok, Err, refl, sym, ap, ◌∙◌, arith, append_assoc, append-nil}
+use Rattle.predicates_rules.specs.declared.fixed.Fixed.{Fixed}
 use Rattle.predicates_rules.specs.declared.stop.Stop.{Stop}
 use Rattle.predicates_rules.specs.declared.stop.ReadError.{ReadError}
 use Rattle.predicates_rules.specs.declared.stop.ReadError.TheVariants as errors
 use Rattle.predicates_rules.specs.Signs.{Sign}
-use Rattle.predicates_rules.specs.Trees.{Tree, Trees, none, more, trees_of}
 use Rattle.predicates_rules.specs.Answers.{◌>>=◌, Fails}
-use Rattle.predicates_rules.specs.Reading.{Answer, after_separator, parts_at}
-use Rattle.predicates_rules.proofs.Steps.{separator_is}
-
-abbrev pub put_front : List Tree → Trees → Trees
-put_front [] es = es
-put_front (e ∷ front) es = more e (put_front front es)
+use Rattle.predicates_rules.specs.Reading.{Reader, next_word, parts_at}
+use Rattle.predicates_rules.proofs.Words.{next_is}
 
 -- what was read before, and what is still read
-abbrev pub after_parts : List Tree → Result (Trees × List Sign) Stop → Result (Trees × List Sign) Stop
-after_parts front read = read >>= λ x. Ok (put_front front x.0, x.1)
+abbrev pub after_parts : {A : Type 0} → List A → Result (List A × List Sign) Stop → Result (List A × List Sign) Stop
+after_parts front read = read >>= λ x. Ok (front ++ x.0, x.1)
 
-none_behind : (front : List Tree) → put_front front none ≡ trees_of front
-none_behind [] = refl
-none_behind (e ∷ front) = ap (more e) (none_behind front)
-
-one_behind : (front : List Tree) (e : Tree) (es : Trees) → put_front (front ++ e ∷ []) es ≡ put_front front (more e es)
-one_behind [] e es = refl
-one_behind (f ∷ front) e es = ap (more f) (one_behind front e es)
-
-regroup : (front : List Tree) (e : Tree) (read : Result (Trees × List Sign) Stop) → after_parts front (read >>= λ x. Ok (more e x.0, x.1)) ≡ after_parts (front ++ e ∷ []) read
-regroup front e (Ok x) = ap (λ (es : Trees). Ok (es, x.1)) (sym (one_behind front e x.0))
+regroup : {A : Type 0} (front : List A) (e : A) (read : Result (List A × List Sign) Stop) → after_parts front (read >>= λ x. Ok (e ∷ x.0, x.1)) ≡ after_parts (front ++ e ∷ []) read
+regroup front e (Ok x) = ap (λ es. Ok (es, x.1)) (simp append_assoc)
 regroup front e (Err f) = refl
 
-step : (k : ℕ) (s : Separator) (part : List Sign → Answer) (ts us rest : List Sign) (e : Tree) → after_separator s ts ≡ Some us → part us ≡ Ok (e, rest) → parts_at (suc k) s part ts ≡ (parts_at k s part rest >>= λ x. Ok (more e x.0, x.1))
-unfolding parts_at
-step k s part ts us rest e p q = rw (p, q) refl
+pub next_shortens : (w : Fixed) (ts us : List Sign) → next_word w ts ≡ Some us → length us < length ts
+next_shortens w ts us p = omega (arith, ap length (next_is w ts us p))
 
-failed : (k : ℕ) (s : Separator) (part : List Sign → Answer) (ts us : List Sign) (f : Stop) → after_separator s ts ≡ Some us → part us ≡ Err f → parts_at (suc k) s part ts ≡ Err f
-unfolding parts_at
-failed k s part ts us f p q = rw (p, q) refl
+module _ {A : Type 0} (w : Fixed) (part : Reader A) where
+  pub no_parts : (k : ℕ) (ts : List Sign) → next_word w ts ≡ None → parts_at k w part ts ≡ Ok ([], ts)
+  unfolding parts_at
+  no_parts zero ts p = refl
+  no_parts (suc k) ts p = rw p refl
 
-finished : (k : ℕ) (s : Separator) (part : List Sign → Answer) (ts : List Sign) → after_separator s ts ≡ None → parts_at k s part ts ≡ Ok (none, ts)
-unfolding parts_at
-finished zero s part ts p = refl
-finished (suc k) s part ts p = rw p refl
+  step : (k : ℕ) (ts us rest : List Sign) (e : A) → next_word w ts ≡ Some us → part us ≡ Ok (e, rest) → parts_at (suc k) w part ts ≡ (parts_at k w part rest >>= λ x. Ok (e ∷ x.0, x.1))
+  unfolding parts_at
+  step k ts us rest e p q = rw (p, q) refl
 
--- parts were read, and for what is left there are turns enough
-abbrev pub Reads : Separator → (List Sign → Answer) → List Tree → List Sign → Result (Trees × List Sign) Stop → Type 0
-Reads s part front ts total = (k : ℕ) × (length ts ≤ k) × (after_parts front (parts_at k s part ts) ≡ total)
+  failed : (k : ℕ) (ts us : List Sign) (f : Stop) → next_word w ts ≡ Some us → part us ≡ Err f → parts_at (suc k) w part ts ≡ Err f
+  unfolding parts_at
+  failed k ts us f p q = rw (p, q) refl
 
-pub starts : (s : Separator) (part : List Sign → Answer) (ts : List Sign) → Reads s part [] ts (parts_at (length ts) s part ts)
-starts s part ts = (length ts, omega arith, same (parts_at (length ts) s part ts))
-  where
-    same : (read : Result (Trees × List Sign) Stop) → after_parts [] read ≡ read
-    same (Ok x) = refl
-    same (Err f) = refl
+  -- parts were read, and for what is left there are turns enough
+  abbrev pub Reads : List A → List Sign → Result (List A × List Sign) Stop → Type 0
+  Reads front ts total = (k : ℕ) × (length ts ≤ k) × (after_parts front (parts_at k w part ts) ≡ total)
 
-pub separator_shortens : (s : Separator) (ts us : List Sign) → after_separator s ts ≡ Some us → length us < length ts
-separator_shortens s ts us p = omega (arith, ap length (separator_is s ts us p))
+  pub starts : (ts : List Sign) → Reads [] ts (parts_at (length ts) w part ts)
+  starts ts = (length ts, omega arith, same (parts_at (length ts) w part ts))
+    where
+      same : (read : Result (List A × List Sign) Stop) → after_parts [] read ≡ read
+      same (Ok x) = refl
+      same (Err f) = refl
 
-pub goes_on : (s : Separator) (part : List Sign → Answer) (front : List Tree) (ts us rest : List Sign) (e : Tree) (total : Result (Trees × List Sign) Stop) → after_separator s ts ≡ Some us → part us ≡ Ok (e, rest) → length rest < length us
-    → Reads s part front ts total → Reads s part (front ++ e ∷ []) rest total
-goes_on s part front ts us rest e total p q lt (zero, le, so_far) = absurd (omega (arith, separator_shortens s ts us p))
-goes_on s part front ts us rest e total p q lt (suc k, le, so_far) =
-    (k, omega (arith, separator_shortens s ts us p), sym (regroup front e (parts_at k s part rest)) ∙ ap (after_parts front) (sym (step k s part ts us rest e p q)) ∙ so_far)
+  pub goes_on : (front : List A) (ts us rest : List Sign) (e : A) (total : Result (List A × List Sign) Stop) → next_word w ts ≡ Some us → part us ≡ Ok (e, rest) → length rest < length us → Reads front ts total → Reads (front ++ e ∷ []) rest total
+  goes_on front ts us rest e total p q lt (zero, le, so_far) = absurd (omega (arith, next_shortens w ts us p))
+  goes_on front ts us rest e total p q lt (suc k, le, so_far) =
+      (k, omega (arith, next_shortens w ts us p), sym (regroup front e (parts_at k w part rest)) ∙ ap (after_parts front) (sym (step k ts us rest e p q)) ∙ so_far)
 
-pub is_done : (s : Separator) (part : List Sign → Answer) (front : List Tree) (ts : List Sign) (total : Result (Trees × List Sign) Stop) → after_separator s ts ≡ None → Reads s part front ts total → total ≡ Ok (trees_of front, ts)
-is_done s part front ts total p r =
-    sym r.2 ∙ ap (after_parts front) (finished r.0 s part ts p) ∙ ap (λ (es : Trees). Ok (es, ts)) (none_behind front)
+  pub is_done : (front : List A) (ts : List Sign) (total : Result (List A × List Sign) Stop) → next_word w ts ≡ None → Reads front ts total → total ≡ Ok (front, ts)
+  is_done front ts total p r = sym r.2 ∙ ap (after_parts front) (no_parts r.0 ts p) ∙ ap (λ (es : List A). Ok (es, ts)) (append-nil front)
 
-pub no_part : (e : ReadError) (s : Separator) (part : List Sign → Answer) (front : List Tree) (ts us : List Sign) (total : Result (Trees × List Sign) Stop) → after_separator s ts ≡ Some us → Fails e (part us) → Reads s part front ts total → Fails e total
-no_part errors.Memory s part front ts us total p h r = tt
-no_part (errors.Stopped f) s part front ts us total p h (zero, le, so_far) = absurd (omega (arith, separator_shortens s ts us p))
-no_part (errors.Stopped f) s part front ts us total p h (suc k, le, so_far) =
-    sym so_far ∙ ap (after_parts front) (failed k s part ts us f p h)
+  pub no_part : (e : ReadError) (front : List A) (ts us : List Sign) (total : Result (List A × List Sign) Stop) → next_word w ts ≡ Some us → Fails e (part us) → Reads front ts total → Fails e total
+  no_part errors.Memory front ts us total p h r = tt
+  no_part (errors.Stopped f) front ts us total p h (zero, le, so_far) = absurd (omega (arith, next_shortens w ts us p))
+  no_part (errors.Stopped f) front ts us total p h (suc k, le, so_far) = sym so_far ∙ ap (after_parts front) (failed k ts us f p h)

@@ -1,8 +1,9 @@
 -- What is read can be written.
 use Rattle.std.proofs.Common.{◌≡◌, ℕ, zero, suc, ◌+◌, ◌<◌, ◌≤◌, ◌^◌, pos, negsuc, Bool, true, false, cond, List, [], ◌∷◌, map, length, take, drop, Option, Some, None, option_map, inl, inr, ◌⊎◌, refl, sym, ap, ◌∙◌, subst, arith, IsUtf8}
-use Rattle.std.specs.Prelude.{Float, neg_ℤ, ◌&&◌, ◌||◌, ◌==◌, nat_lt, nat_le, nat_eq, ◌-◌, slice_index, option_and_then}
-use Rattle.std.specs.List.{prefix_len, list_all, starts_with}
-use Rattle.std.specs.Str.{is_utf8}
+use Rattle.std.specs.Prelude.{Float, neg_ℤ, not, ◌&&◌, ◌||◌, ◌==◌, nat_lt, nat_le, nat_eq, ◌-◌, slice_index, option_and_then}
+use Rattle.std.specs.List.{prefix_len, list_all, list_any, starts_with}
+use Rattle.std.specs.Str.{is_utf8, chars}
+use Rattle.std.proofs.lemmas.Option.{cond_some}
 use Rattle.std.specs.Float.{binary64, float_is_finite}
 use Rattle.std.proofs.lemmas.Bool.{ltb-true, leb-true, eqb-true, ne_eqb, and_parts}
 use Rattle.std.proofs.lemmas.Str.{IsUtf8-from_is_utf8}
@@ -18,17 +19,20 @@ use Rattle.serde_json.specs.Data.{Num, unsigned, negative, float, Data, number, 
 use Rattle.serde_json.specs.Read.{read, of_json, of_items, of_members, number_of, number_from, float_of, is_integer, max_depth}
 use Rattle.predicates_rules.specs.declared.lexer.Class.{Class}
 use Rattle.predicates_rules.specs.declared.lexer.Class.TheVariants.{Letter, Digit, Symbol, Mark, Slash, Quote, Other}
-use Rattle.predicates_rules.specs.declared.fixed.Fixed.{Fixed}
+use Rattle.predicates_rules.specs.declared.condition.ValueKind.TheVariants as value_kinds
 use Rattle.predicates_rules.specs.declared.fixed.Fixed.TheVariants as fixed
 use Rattle.predicates_rules.specs.Literals.{Literal, Natural, Negative, Decimal, Text, Boolean}
 use Rattle.predicates_rules.specs.Literals.{Null}
 use Rattle.predicates_rules.specs.Signs as signs
 use Rattle.predicates_rules.specs.Signs.{Sign}
-use Rattle.predicates_rules.specs.Lexemes.{sign_of_fixed, is_letter, is_digit, is_symbol, is_mark, class_of, continues, class_len, cut, is_shown, is_path, data_of, IsTextOf, begins_literal, pointer, IsWritten, fixed_text, literal, path, IsLexed, over, space, token}
-use Rattle.predicates_rules.specs.Printing.{IsPath, IsDecimal, IsLiteral}
+use Rattle.predicates_rules.specs.Lexemes.{is_hidden, is_letter, is_digit, is_symbol, is_mark, class_of, continues, class_len, cut, is_shown, is_path, data_of, IsTextOf, begins_literal, pointer, IsWritten, fixed_text, literal, path, IsLexed, over, space, token}
+use Rattle.predicates_rules.specs.Printing.{is_bare, IsPath, IsBarePath, IsDecimal, IsLiteral}
+use Rattle.predicates_rules.specs.Grammar.{path_in, value_in, text_in}
 use Rattle.predicates_rules.proofs.Lexed.{some_is}
 use Rattle.predicates_rules.proofs.Contents.{content_text, past_ascii}
-use Rattle.predicates_rules.proofs.Spaced.{is_run, run_len, or_parted}
+use Rattle.predicates_rules.proofs.Words.{is_run}
+use Rattle.predicates_rules.proofs.Spaced.{run_len, or_parted}
+use Rattle.predicates_rules.proofs.Bare.{nothing_is_bare, caret_is_bare}
 
 -- ---- numbers that JSON reads
 
@@ -283,66 +287,53 @@ cut_bytes c (x ∷ xs) b bytes rest r is e =
     run_bytes c b xs bytes rest r (subst (λ (k : Class). cut_with (b ∷ xs) (class_len k xs) ≡ Some (b ∷ bytes, rest)) is (subst (λ (y : ℕ). cut_with (y ∷ xs) (class_len (class_of y) xs) ≡ Some (b ∷ bytes, rest)) first e))
 
 abbrev pub IsPlainSign : Sign → Type 0
-IsPlainSign (signs.Path p) = IsPath p
+IsPlainSign (signs.Path p) = IsBarePath p
 IsPlainSign (signs.Literal v) = IsLiteral v
 IsPlainSign t = Unit {0}
-
-fixed_plain : (f : Fixed) → IsPlainSign (sign_of_fixed f)
-fixed_plain fixed.Or = tt
-fixed_plain fixed.Xor = tt
-fixed_plain fixed.And = tt
-fixed_plain fixed.Not = tt
-fixed_plain fixed.If = tt
-fixed_plain fixed.Then = tt
-fixed_plain fixed.Each = tt
-fixed_plain fixed.Any = tt
-fixed_plain fixed.At = tt
-fixed_plain fixed.Keys = tt
-fixed_plain fixed.Least = tt
-fixed_plain fixed.Of = tt
-fixed_plain fixed.StartsWith = tt
-fixed_plain fixed.EndsWith = tt
-fixed_plain fixed.Contains = tt
-fixed_plain fixed.Matches = tt
-fixed_plain fixed.In = tt
-fixed_plain fixed.Exists = tt
-fixed_plain fixed.Missing = tt
-fixed_plain fixed.IsEmpty = tt
-fixed_plain fixed.Length = tt
-fixed_plain fixed.Is = tt
-fixed_plain fixed.Text = tt
-fixed_plain fixed.Number = tt
-fixed_plain fixed.Whole = tt
-fixed_plain fixed.Bool = tt
-fixed_plain fixed.Array = tt
-fixed_plain fixed.Object = tt
-fixed_plain fixed.True = tt
-fixed_plain fixed.False = tt
-fixed_plain fixed.Null = tt
-fixed_plain fixed.Equal = tt
-fixed_plain fixed.Unequal = tt
-fixed_plain fixed.Below = tt
-fixed_plain fixed.AtMost = tt
-fixed_plain fixed.Above = tt
-fixed_plain fixed.AtLeast = tt
-fixed_plain fixed.Open = tt
-fixed_plain fixed.Close = tt
-fixed_plain fixed.OpenList = tt
-fixed_plain fixed.CloseList = tt
-fixed_plain fixed.Comma = tt
 
 -- how what is a path begins
 begins_by : (b c : ℕ) → (b == 47 || b == 94 && c == 47) ≡ true → (b ≡ 47) ⊎ (b ≡ 94) × (c ≡ 47)
 begins_by b c = or_parted (b == 47) (b == 94 && c == 47) (λ e. inl (eqb-true b 47 e)) (λ e. let p = and_parts (b == 94) (c == 47) e in inr (eqb-true b 94 p.0, eqb-true c 47 p.1))
 
-short_path : (b c : ℕ) (t : Bool) → (b == 94 && c == 47) ≡ t → (b == 47 || b == 94 && c == 47) ≡ true → list_all (continues Slash) (c ∷ []) ≡ true → is_shown (b ∷ c ∷ []) ≡ true → IsPath (cond t (b ∷ []) (b ∷ c ∷ []))
-short_path b c true e h all shown = eqb-true b 94 (and_parts (b == 94) (c == 47) e).0
-short_path b c false e h all shown = (or_parted (b == 47) (b == 94 && c == 47) (eqb-true b 47) (λ k. let both : true ≡ false = sym k ∙ e in absurd cc) h, all, shown)
+short_path : (b c : ℕ) (t : Bool) → (b == 94 && c == 47) ≡ t → (b == 47 || b == 94 && c == 47) ≡ true → IsUtf8 (b ∷ c ∷ []) → IsPath (cond t (b ∷ []) (b ∷ c ∷ []))
+short_path b c true e h u = eqb-true b 94 (and_parts (b == 94) (c == 47) e).0
+short_path b c false e h u = (or_parted (b == 47) (b == 94 && c == 47) (eqb-true b 47) (λ k. let both : true ≡ false = sym k ∙ e in absurd cc) h, u)
 
-path_plain : (b : ℕ) (bytes : List ℕ) → is_path (b ∷ bytes) ≡ true → list_all (continues Slash) bytes ≡ true → is_shown (b ∷ bytes) ≡ true → IsPath (pointer (b ∷ bytes))
-path_plain b [] h all shown = tt
-path_plain b (c ∷ []) h all shown = short_path b c (b == 94 && c == 47) refl h all shown
-path_plain b (c ∷ d ∷ bytes) h all shown = (begins_by b c h, all, shown)
+-- a path can be written, at least in quotes
+pointer_is : (text : List ℕ) → is_path text ≡ true → IsUtf8 text → IsPath (pointer text)
+pointer_is [] h u = absurd cc
+pointer_is (b ∷ []) h u = tt
+pointer_is (b ∷ c ∷ []) h u = short_path b c (b == 94 && c == 47) refl h u
+pointer_is (b ∷ c ∷ d ∷ bytes) h u = (begins_by b c h, u)
+
+bare_by : (shown all : Bool) → all ≡ true → shown ≡ true → (all && shown) ≡ true
+bare_by true true a s = refl
+bare_by shown all a s = absurd cc
+
+is_bare_from : (p : List ℕ) → list_all (continues Slash) p ≡ true → is_shown p ≡ true → is_bare p ≡ true
+unfolding is_bare
+is_bare_from p a s = bare_by (is_shown p) (list_all (continues Slash) p) a s
+
+slash_goes_on : (b : ℕ) (bytes : List ℕ) → (b ≡ 47) ⊎ (b ≡ 94) → list_all (continues Slash) bytes ≡ true → list_all (continues Slash) (b ∷ bytes) ≡ true
+slash_goes_on b bytes (inl e) h = rw e h
+slash_goes_on b bytes (inr e) h = rw e h
+
+front_by : (b c : ℕ) → (b == 47 || b == 94 && c == 47) ≡ true → (b ≡ 47) ⊎ (b ≡ 94)
+front_by b c = or_parted (b == 47) (b == 94 && c == 47) (λ e. inl (eqb-true b 47 e)) (λ e. inr (eqb-true b 94 (and_parts (b == 94) (c == 47) e).0))
+
+bare_short : (b c : ℕ) (t : Bool) → (b == 94 && c == 47) ≡ t → (b == 47 || b == 94 && c == 47) ≡ true → list_all (continues Slash) (c ∷ []) ≡ true → is_shown (b ∷ c ∷ []) ≡ true → is_bare (cond t (b ∷ []) (b ∷ c ∷ [])) ≡ true
+bare_short b c true e h all shown = rw (eqb-true b 94 (and_parts (b == 94) (c == 47) e).0) caret_is_bare
+bare_short b c false e h all shown = is_bare_from (b ∷ c ∷ []) (slash_goes_on b (c ∷ []) (front_by b c h) all) shown
+
+-- a word is a path with no quotes
+pointer_bare : (b : ℕ) (bytes : List ℕ) → is_path (b ∷ bytes) ≡ true → list_all (continues Slash) bytes ≡ true → is_shown (b ∷ bytes) ≡ true → is_bare (pointer (b ∷ bytes)) ≡ true
+pointer_bare b [] h all shown = nothing_is_bare
+pointer_bare b (c ∷ []) h all shown = bare_short b c (b == 94 && c == 47) refl h all shown
+pointer_bare b (c ∷ d ∷ bytes) h all shown = is_bare_from (b ∷ c ∷ d ∷ bytes) (slash_goes_on b (c ∷ d ∷ bytes) (front_by b c h) all) shown
+
+shown_utf8 : (word : List ℕ) → is_shown word ≡ true → IsUtf8 word
+unfolding is_shown
+shown_utf8 word h = IsUtf8-from_is_utf8 word (and_parts (is_utf8 word) (not (list_any is_hidden (chars word))) h).0
 
 literal_plain : (v : Literal) (b : ℕ) (bytes : List ℕ) → (class_of b ≡ Digit) ⊎ (class_of b ≡ Quote) → (class_of b ≡ Digit → list_all (continues Digit) bytes ≡ true) → is_utf8 (b ∷ bytes) ≡ true → read (b ∷ bytes) ≡ Some (data_of v) → IsTextOf v (b ∷ bytes) → IsLiteral v
 literal_plain (Natural n) b bytes c all u r same = read_number (b ∷ bytes) (unsigned n) r
@@ -356,9 +347,27 @@ literal_plain (Boolean t) b bytes c all u r same = tt
 literal_plain Null b bytes c all u r same = tt
 
 word_plain : (text rest : List ℕ) {t : Sign} {w : List ℕ} → cut text ≡ Some (w, rest) → IsWritten t w → IsPlainSign t
-word_plain text rest c (fixed_text f) = fixed_plain f
+word_plain text rest c (fixed_text f) = tt
 word_plain text rest c (literal b bytes v h u r same) = literal_plain v b bytes (literal_class (class_of b) h) (λ digit. cut_bytes Digit text b bytes rest refl digit c) u r same
-word_plain text rest c (path b bytes h is shown) = path_plain b bytes is (cut_bytes Slash text b bytes rest refl h c) shown
+word_plain text rest c (path b bytes h is shown) =
+    (pointer_is (b ∷ bytes) is (shown_utf8 (b ∷ bytes) shown), pointer_bare b bytes is (cut_bytes Slash text b bytes rest refl h c) shown)
+
+-- what a token is, can be written
+pub path_plain : (t : Sign) (p : List ℕ) → path_in t ≡ Some p → IsPlainSign t → IsPath p
+path_plain (signs.Word f) p h a = absurd cc
+path_plain (signs.Path q) p h a = subst IsPath (some_is q p h) a.0
+path_plain (signs.Literal (Text text)) p h a = let q = cond_some (is_path text) (pointer text) p h in subst IsPath q.1 (pointer_is text q.0 a)
+path_plain t p h a = absurd cc
+
+pub value_plain : (t : Sign) (v : Literal) → value_in t ≡ Some v → IsPlainSign t → IsLiteral v
+value_plain (signs.Literal w) v h a = subst IsLiteral (some_is w v h) a
+value_plain (signs.Word (fixed.Boolean b)) v h a = subst IsLiteral (some_is (Boolean b) v h) tt
+value_plain (signs.Word (fixed.ValueKind value_kinds.Null)) v h a = subst IsLiteral (some_is Null v h) tt
+value_plain t v h a = absurd cc
+
+pub text_plain : (t : Sign) (text : List ℕ) → text_in t ≡ Some text → IsPlainSign t → IsUtf8 text
+text_plain (signs.Literal (Text s)) text h a = subst IsUtf8 (some_is s text h) a
+text_plain t text h a = absurd cc
 
 abbrev pub ArePlainSigns : List Sign → Type 0
 ArePlainSigns [] = Unit {0}

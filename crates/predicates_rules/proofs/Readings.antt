@@ -46,14 +46,6 @@ spelled n text ts e d (us, c, s) = subst (λ (vs : List Sign). IsSpelled n vs e)
 pub said_only : (n : ℕ) (text : List ℕ) (ts : List Token) (r : Result Expression ReadError) → IsLexed text (map placed ts) → ((e : Tree) → IsSpelled n (signs ts) e → Gives tree_of r (Ok e)) → (e : Tree) → Says n text e → Gives tree_of r (Ok e)
 said_only n text ts r d h e s = h e (spelled n text ts e d s)
 
-pub not_lexed : (e : ReadError) {n : ℕ} {text : List ℕ} {t : Tree} → ((us : List (Sign × ℕ)) → IsLexed text us → Fails {Y = List (Sign × ℕ)} e (Ok us)) → Says n text t → Fails {Y = Tree} e (Ok t)
-not_lexed errors.Memory h s = tt
-not_lexed (errors.Stopped f) h s = let bad = h s.0 s.1 in absurd cc
-
-pub never_lexed : (e : ReadError) (text : List ℕ) → ((us : List (Sign × ℕ)) → IsLexed text us → Fails {Y = List (Sign × ℕ)} e (Ok us)) → IsSyntax e → (n : ℕ) (t : Tree) → Says n text t → ⊥
-never_lexed errors.Memory text h x n t s = absurd x
-never_lexed (errors.Stopped f) text h x n t s = let bad = h s.0 s.1 in cc
-
 pub token_fault : (e : ReadError) (text : List ℕ) → IsStop (NoToken text) e → IsStop (IsFault text) e
 token_fault errors.Memory text h = tt
 token_fault (errors.Stopped s) text h = no_token h

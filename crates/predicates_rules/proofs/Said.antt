@@ -1,20 +1,20 @@
 -- What is read can be written again, and nests no deeper then.
 use Rattle.std.specs.Prelude.{◌&&◌, max}
-use Rattle.std.proofs.Common.{◌≡◌, ℕ, suc, ◌≤◌, Bool, true, false, cond, List, refl, arith}
+use Rattle.std.proofs.Common.{◌≡◌, ℕ, suc, ◌≤◌, Bool, true, false, cond, List, [], ◌∷◌, map, Option, Some, refl, arith, IsUtf8}
 use Rattle.predicates_rules.specs.declared.expression.Connective.{Connective}
 use Rattle.predicates_rules.specs.declared.expression.Connective.TheVariants.{Or, Xor, And}
 use Rattle.predicates_rules.specs.declared.expression.HowMany.{HowMany}
 use Rattle.predicates_rules.specs.declared.parser.Separator.{Separator}
 use Rattle.predicates_rules.specs.declared.parser.Separator.TheVariants as separators
-use Rattle.predicates_rules.specs.Literals.{Literal}
+use Rattle.predicates_rules.specs.Literals.{Literal, Text}
 use Rattle.predicates_rules.specs.Signs.{Sign}
 use Rattle.predicates_rules.specs.Conditions.{Condition}
 use Rattle.predicates_rules.specs.Trees.{Tree, Test, Not, Implies, Quantified, Joined, AtLeast}
 use Rattle.predicates_rules.specs.Trees.{Trees, more}
-use Rattle.predicates_rules.specs.Grammar.{Level, By, Single, Whole, Premise, tighter, Items, last, another, IsCondition, word, compare, compare_with, has_length, of_kind, of_null, relate, among_none, among, IsQuantifier, each, any, at_least_items, Spells, test, keys, denied, group, quantified, at_least, alone, joined, no_if, implied, premise, Follow, no_more, and_more}
+use Rattle.predicates_rules.specs.Grammar.{Level, By, Single, Whole, Premise, tighter, value_in, text_in, Items, last, another, IsList, no_items, items, IsCondition, word, compare, compare_with, has_length, of_kind, relate, among, IsQuantifier, each, any, at_least_items, Spells, test, keys, denied, group, quantified, at_least, alone, joined, no_if, implied, premise, Follow, no_more, and_more}
 use Rattle.predicates_rules.specs.Rules.{Says}
-use Rattle.predicates_rules.specs.Printing.{fits, takes_if, has_parts, stands_at, nesting_at, parts_nesting, IsProper, AreProper, AreLiterals, IsPlainCondition, IsPlainQuantifier, IsPlain, ArePlain, printed}
-use Rattle.predicates_rules.proofs.Readable.{ArePlainSigns, lexed_plain}
+use Rattle.predicates_rules.specs.Printing.{fits, takes_if, has_parts, stands_at, nesting_at, parts_nesting, IsProper, AreProper, IsLiteral, AreLiterals, IsPlainCondition, IsPlainQuantifier, IsPlain, ArePlain, printed}
+use Rattle.predicates_rules.proofs.Readable.{IsPlainSign, ArePlainSigns, path_plain, value_plain, text_plain, lexed_plain}
 use Rattle.predicates_rules.proofs.Spaced.{printed_says}
 
 by_fits : (a b : Bool) (k : ℕ) → cond a k (suc k) ≤ suc (cond b k (suc k))
@@ -88,11 +88,11 @@ joined_nests c k n le = rw (fits_itself c) le
 
 mutual
   pub spells_proper : {n : ℕ} {l : Level} {ts : List Sign} {e : Tree} {rest : List Sign} → Spells n l ts e rest → IsProper e × (nesting_at l e ≤ n)
-  spells_proper (test t) = (tt, omega arith)
-  spells_proper (keys t) = (tt, omega arith)
+  spells_proper (test h t) = (tt, omega arith)
+  spells_proper (keys h l) = (tt, omega arith)
   spells_proper (denied d) = let p = spells_proper d in (p.0, omega (arith, p.1))
   spells_proper (group {e = e} d) = let p = spells_proper d in (p.0, omega (arith, p.1, in_parentheses Single e))
-  spells_proper (quantified q d) = let p = spells_proper d in (p.0, omega (arith, p.1))
+  spells_proper (quantified h q d) = let p = spells_proper d in (p.0, omega (arith, p.1))
   spells_proper (at_least d g) =
       let p = spells_proper d in
       let q = follow_proper g in
@@ -118,20 +118,35 @@ mutual
 
 -- ---- what is read can be written
 
-items_plain : {ts : List Sign} {vs : List Literal} {rest : List Sign} → Items ts vs rest → ArePlainSigns ts → AreLiterals vs × ArePlainSigns rest
-items_plain last a = ((a.0, tt), a.1.1)
-items_plain (another i) a = let p = items_plain i a.1.1 in ((a.0, p.0), p.1)
+module _ {A : Type 0} (seen : Sign → Option A) (IsPlain : A → Type 0) (each_plain : (t : Sign) (v : A) → seen t ≡ Some v → IsPlainSign t → IsPlain v) where
+  abbrev ArePlainItems : List A → Type 0
+  ArePlainItems [] = Unit {0}
+  ArePlainItems (v ∷ vs) = IsPlain v × ArePlainItems vs
+
+  items_plain : {ts : List Sign} {vs : List A} {rest : List Sign} → Items seen ts vs rest → ArePlainSigns ts → ArePlainItems vs × ArePlainSigns rest
+  items_plain (last {t = t} {v = v} h) a = ((each_plain t v h a.0, tt), a.1.1)
+  items_plain (another {t = t} {v = v} h i) a = let p = items_plain i a.1.1 in ((each_plain t v h a.0, p.0), p.1)
+
+  list_plain : {ts : List Sign} {vs : List A} {rest : List Sign} → IsList seen ts vs rest → ArePlainSigns ts → ArePlainItems vs × ArePlainSigns rest
+  list_plain no_items a = (tt, a.1.1)
+  list_plain (items i) a = items_plain i a.1
+
+are_literals : (vs : List Literal) → ArePlainItems value_in IsLiteral value_plain vs → AreLiterals vs
+are_literals [] h = tt
+are_literals (v ∷ vs) h = (h.0, are_literals vs h.1)
+
+are_texts : (texts : List (List ℕ)) → ArePlainItems text_in IsUtf8 text_plain texts → AreLiterals (map Text texts)
+are_texts [] h = tt
+are_texts (text ∷ texts) h = (h.0, are_texts texts h.1)
 
 condition_plain : {ts : List Sign} {t : Condition} {rest : List Sign} → IsCondition ts t rest → ArePlainSigns ts → IsPlainCondition t × ArePlainSigns rest
 condition_plain word a = (tt, a.1)
-condition_plain compare a = (a.1.0, a.1.1)
+condition_plain (compare {t = t} {v = v} h) a = (value_plain t v h a.1.0, a.1.1)
 condition_plain compare_with a = (a.1.0, a.1.1)
 condition_plain has_length a = (a.1.1.0, a.1.1.1)
 condition_plain of_kind a = (tt, a.1.1)
-condition_plain of_null a = (tt, a.1.1)
-condition_plain relate a = (a.1.0, a.1.1)
-condition_plain among_none a = (tt, a.1.1.1)
-condition_plain (among i) a = items_plain i a.1.1
+condition_plain (relate {t = t} {text = text} h) a = (text_plain t text h a.1.0, a.1.1)
+condition_plain (among {vs = vs} l) a = let p = list_plain value_in IsLiteral value_plain l a.1 in (are_literals vs p.0, p.1)
 
 quantifier_plain : {ts : List Sign} {q : HowMany} {rest : List Sign} → IsQuantifier ts q rest → ArePlainSigns ts → IsPlainQuantifier q × ArePlainSigns rest
 quantifier_plain each a = (tt, a.1)
@@ -140,14 +155,16 @@ quantifier_plain at_least_items a = (a.1.1.0, a.1.1.1)
 
 mutual
   spells_plain : {n : ℕ} {l : Level} {ts : List Sign} {e : Tree} {rest : List Sign} → Spells n l ts e rest → ArePlainSigns ts → IsPlain e × ArePlainSigns rest
-  spells_plain (test t) a = let p = condition_plain t a.1 in ((a.0, p.0), p.1)
-  spells_plain (keys t) a = let p = condition_plain t a.1.1 in ((a.1.0, p.0), p.1)
+  spells_plain (test {p = p} {path = path} h t) a = let q = condition_plain t a.1 in ((path_plain p path h a.0, q.0), q.1)
+  spells_plain (keys {p = p} {path = path} {texts = texts} h l) a =
+      let q = list_plain text_in IsUtf8 text_plain l a.1.1.1 in
+      ((path_plain p path h a.1.0, are_texts texts q.0), q.1)
   spells_plain (denied d) a = spells_plain d a.1
   spells_plain (group d) a = let p = spells_plain d a.1 in (p.0, p.1.1)
-  spells_plain (quantified q d) a =
+  spells_plain (quantified {p = p} {path = path} h q d) a =
       let c = quantifier_plain q a in
-      let p = spells_plain d c.1.1.1 in
-      ((c.1.0, p.0, c.0), p.1.1)
+      let b = spells_plain d c.1.1.1 in
+      ((path_plain p path h c.1.0, b.0, c.0), b.1.1)
   spells_plain (at_least d g) a =
       let p = spells_plain d a.1.1.1.1.1 in
       let q = follow_plain g p.1 in

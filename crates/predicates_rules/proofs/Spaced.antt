@@ -11,7 +11,7 @@ use Rattle.std.proofs.lemmas.Str.{chars-IsAscii, is_utf8-from_IsUtf8, IsUtf8-fro
 use Rattle.std.proofs.lemmas.Str.Ascii.{IsAscii-cons, IsAscii-nil}
 use Rattle.std.proofs.lemmas.Str.Parse.{digit_from_value}
 use Rattle.std.proofs.lemmas.Fmt.{decimal_is_IsNumeral, IsAscii-decimal, IsAscii-signed}
-use Rattle.std.proofs.lemmas.Bool.{ltb-true, eqb-true}
+use Rattle.std.proofs.lemmas.Bool.{ltb-true, eqb-true, and_parts}
 use Rattle.std.proofs.lemmas.Bool.Decides.{nat_tests}
 use Rattle.std.proofs.lemmas.List.{take_at, drop_at}
 use Rattle.json.specs.Token.{Token}
@@ -28,19 +28,10 @@ use Rattle.serde_json.specs.Read.{read, of_json}
 use Rattle.serde_json.proofs.Numbers.{number_of-decimal, number_of-negative}
 use Rattle.predicates_rules.specs.declared.lexer.Class.{Class}
 use Rattle.predicates_rules.specs.declared.lexer.Class.TheVariants.{Letter, Digit, Symbol, Mark, Slash}
-use Rattle.predicates_rules.specs.declared.expression.Connective.{Connective}
-use Rattle.predicates_rules.specs.declared.expression.Connective.TheVariants.{Or, Xor, And}
 use Rattle.predicates_rules.specs.declared.expression.HowMany.{HowMany}
 use Rattle.predicates_rules.specs.declared.expression.HowMany.TheVariants as quantifiers
 use Rattle.predicates_rules.specs.declared.parser.Separator.{Separator}
 use Rattle.predicates_rules.specs.declared.parser.Separator.TheVariants as separators
-use Rattle.predicates_rules.specs.declared.condition.Comparison.{Comparison}
-use Rattle.predicates_rules.specs.declared.condition.Comparison.TheVariants as comparisons
-use Rattle.predicates_rules.specs.declared.condition.Relation.{Relation}
-use Rattle.predicates_rules.specs.declared.condition.Relation.TheVariants as relations
-use Rattle.predicates_rules.specs.declared.condition.State.{State}
-use Rattle.predicates_rules.specs.declared.condition.State.TheVariants as states
-use Rattle.predicates_rules.specs.declared.condition.ValueKind.{ValueKind}
 use Rattle.predicates_rules.specs.declared.condition.ValueKind.TheVariants as value_kinds
 use Rattle.predicates_rules.specs.declared.fixed.Fixed.{Fixed}
 use Rattle.predicates_rules.specs.declared.fixed.Fixed.TheVariants as fixed
@@ -52,12 +43,14 @@ use Rattle.predicates_rules.specs.Conditions.{Condition, Is, Compare, CompareWit
 use Rattle.predicates_rules.specs.Conditions.{Relate, In, KeysIn}
 use Rattle.predicates_rules.specs.Trees.{Tree, Test, Not, Implies, Quantified, Joined, AtLeast}
 use Rattle.predicates_rules.specs.Trees.{Trees, none, more}
-use Rattle.predicates_rules.specs.Grammar.{Level, Single, Whole, separator_sign, part_level, IsSpelled}
-use Rattle.predicates_rules.specs.Lexemes.{text_of, sign_of_fixed, is_space, is_mark, class_of, continues, text_end, class_len, token_len, cut, begins_literal, is_shown, is_path, pointer, IsWritten, fixed_text, literal, path, IsLexed, over, space, token}
+use Rattle.predicates_rules.specs.Grammar.{Level, Single, Whole, separator_word, part_level, IsSpelled}
+use Rattle.predicates_rules.specs.Lexemes.{text_of, is_space, is_mark, class_of, continues, text_end, class_len, token_len, cut, begins_literal, is_shown, is_path, pointer, IsWritten, fixed_text, literal, path, IsLexed, over, space, token}
 use Rattle.predicates_rules.specs.Rules.{Says}
-use Rattle.predicates_rules.specs.Printing.{items_signs, kind_sign, among_signs, lead_signs, condition_signs, quantifier_signs, in_parentheses, stands_at, takes_if, signs_at, part_signs, follow_signs, nesting_at, IsProper, path_text, word_of, opens, closes, gap, laid_behind, laid, printed, IsDecimal, IsPath, IsLiteral, AreLiterals, IsPlainCondition, IsPlainQuantifier, IsPlain, ArePlain}
+use Rattle.predicates_rules.specs.Printing.{is_bare, path_sign, literal_sign, text_sign, following, row_signs, among_signs, subject_signs, condition_signs, threshold_signs, quantifier_signs, in_parentheses, stands_at, takes_if, signs_at, part_signs, follow_signs, nesting_at, IsProper, path_text, word_of, opens, closes, laid_from, printed, IsDecimal, IsPath, IsLiteral, AreLiterals, IsPlainCondition, IsPlainQuantifier, IsPlain, ArePlain}
 use Rattle.predicates_rules.proofs.Printed.{printed as printed_spelled}
 use Rattle.predicates_rules.proofs.Lines.{run_is}
+use Rattle.predicates_rules.proofs.Words.{is_run, IsRun, read_back}
+use Rattle.predicates_rules.proofs.Bare.{slash_shows, caret_shows, nothing_is_bare, caret_is_bare}
 
 -- ---- JSON reads what it writes
 
@@ -89,14 +82,6 @@ read_negative n lt = read_number (signed_decimal (negsuc n)) (number (negative (
 abbrev is_apart : List ℕ → Bool
 is_apart [] = true
 is_apart (b ∷ text) = is_space b || is_mark b
-
-abbrev pub is_run : Class → Bool
-is_run Letter = true
-is_run Digit = true
-is_run Symbol = true
-is_run Mark = true
-is_run Slash = true
-is_run c = false
 
 pub run_len : (c : Class) (text : List ℕ) → is_run c ≡ true → class_len c text ≡ Some (suc (prefix_len (continues c) text))
 run_len Letter text h = refl
@@ -135,11 +120,6 @@ apart_run c b r h = absurd cc
 run_stops : (c : Class) (text : List ℕ) → is_run c ≡ true → is_apart text ≡ true → prefix_len (continues c) text ≡ 0
 run_stops c [] r h = refl
 run_stops c (b ∷ text) r h = let stops : continues c b ≡ false = apart_run c b r h in rw stops refl
-
--- bytes that are one word
-abbrev IsRun : List ℕ → Type 0
-IsRun [] = ⊥
-IsRun (b ∷ word) = (is_run (class_of b) ≡ true) × (list_all (continues (class_of b)) word ≡ true)
 
 cut_at : (b : ℕ) (word rest : List ℕ) → token_len ((b ∷ word) ++ rest) ≡ Some (suc (length word)) → cut ((b ∷ word) ++ rest) ≡ Some (b ∷ word, rest)
 unfolding cut
@@ -280,78 +260,22 @@ text_word s u =
 
 -- ---- words of their own, and paths
 
-fixed_run : (f : Fixed) → IsRun (text_of f)
-fixed_run fixed.Or = (refl, refl)
-fixed_run fixed.Xor = (refl, refl)
-fixed_run fixed.And = (refl, refl)
-fixed_run fixed.Not = (refl, refl)
-fixed_run fixed.If = (refl, refl)
-fixed_run fixed.Then = (refl, refl)
-fixed_run fixed.Each = (refl, refl)
-fixed_run fixed.Any = (refl, refl)
-fixed_run fixed.At = (refl, refl)
-fixed_run fixed.Keys = (refl, refl)
-fixed_run fixed.Least = (refl, refl)
-fixed_run fixed.Of = (refl, refl)
-fixed_run fixed.StartsWith = (refl, refl)
-fixed_run fixed.EndsWith = (refl, refl)
-fixed_run fixed.Contains = (refl, refl)
-fixed_run fixed.Matches = (refl, refl)
-fixed_run fixed.In = (refl, refl)
-fixed_run fixed.Exists = (refl, refl)
-fixed_run fixed.Missing = (refl, refl)
-fixed_run fixed.IsEmpty = (refl, refl)
-fixed_run fixed.Length = (refl, refl)
-fixed_run fixed.Is = (refl, refl)
-fixed_run fixed.Text = (refl, refl)
-fixed_run fixed.Number = (refl, refl)
-fixed_run fixed.Whole = (refl, refl)
-fixed_run fixed.Bool = (refl, refl)
-fixed_run fixed.Array = (refl, refl)
-fixed_run fixed.Object = (refl, refl)
-fixed_run fixed.True = (refl, refl)
-fixed_run fixed.False = (refl, refl)
-fixed_run fixed.Null = (refl, refl)
-fixed_run fixed.Equal = (refl, refl)
-fixed_run fixed.Unequal = (refl, refl)
-fixed_run fixed.Below = (refl, refl)
-fixed_run fixed.AtMost = (refl, refl)
-fixed_run fixed.Above = (refl, refl)
-fixed_run fixed.AtLeast = (refl, refl)
-fixed_run fixed.Open = (refl, refl)
-fixed_run fixed.Close = (refl, refl)
-fixed_run fixed.OpenList = (refl, refl)
-fixed_run fixed.CloseList = (refl, refl)
-fixed_run fixed.Comma = (refl, refl)
-
-fixed_word : (f : Fixed) → opens (sign_of_fixed f) ≡ false → IsWord (sign_of_fixed f) (text_of f)
-fixed_word f o = (fixed_text f, λ rest h. cut_run (text_of f) rest (fixed_run f) (ap (λ (b : Bool). b || is_apart rest) (sym o) ∙ h))
+fixed_word : (f : Fixed) → opens (signs.Word f) ≡ false → IsWord (signs.Word f) (text_of f)
+fixed_word f o = (fixed_text f, λ rest h. cut_run (text_of f) rest (read_back f).0 (ap (λ (b : Bool). b || is_apart rest) (sym o) ∙ h))
 
 -- behind an opening mark anything may stand
 mark_stops : (text : List ℕ) → prefix_len (continues Mark) text ≡ 0
 mark_stops [] = refl
 mark_stops (b ∷ text) = refl
 
-open_word : IsWord signs.Open (text_of fixed.Open)
+open_word : IsWord (signs.Word fixed.Open) (text_of fixed.Open)
 open_word = (fixed_text fixed.Open, λ rest h. cut_at 40 [] rest (ap (λ (k : ℕ). Some (suc k)) (mark_stops rest)))
 
-open_list_word : IsWord signs.OpenList (text_of fixed.OpenList)
+open_list_word : IsWord (signs.Word fixed.OpenList) (text_of fixed.OpenList)
 open_list_word = (fixed_text fixed.OpenList, λ rest h. cut_at 91 [] rest (ap (λ (k : ℕ). Some (suc k)) (mark_stops rest)))
-
-slash_shows : is_shown (47 ∷ []) ≡ true
-unfolding is_shown
-slash_shows =
-    let a : IsAscii (47 ∷ []) = IsAscii-cons 47 [] (omega arith) IsAscii-nil in
-    rw (is_utf8-from_IsUtf8 (47 ∷ []) (IsUtf8-from_ascii (47 ∷ []) a), chars-IsAscii (47 ∷ []) a) refl
 
 slash_class : class_of 47 ≡ Slash
 slash_class = refl
-
-caret_shows : is_shown (94 ∷ 47 ∷ []) ≡ true
-unfolding is_shown
-caret_shows =
-    let a : IsAscii (94 ∷ 47 ∷ []) = IsAscii-cons 94 (47 ∷ []) (omega arith) (IsAscii-cons 47 [] (omega arith) IsAscii-nil) in
-    rw (is_utf8-from_IsUtf8 (94 ∷ 47 ∷ []) (IsUtf8-from_ascii (94 ∷ 47 ∷ []) a), chars-IsAscii (94 ∷ 47 ∷ []) a) refl
 
 caret_class : class_of 94 ≡ Slash
 caret_class = refl
@@ -364,59 +288,47 @@ long_word : (b : ℕ) (bytes : List ℕ) → class_of b ≡ Slash → is_path (b
 long_word b bytes c is p all shown =
     (subst (λ (w : List ℕ). IsWritten (signs.Path w) (b ∷ bytes)) p (path b bytes c is shown), λ rest. cut_run (b ∷ bytes) rest (run_of Slash b bytes c refl all))
 
-path_word : (p : List ℕ) → IsPath p → IsWord (signs.Path p) (path_text p)
-path_word [] h = (path 47 [] slash_class refl slash_shows, λ rest. cut_run (47 ∷ []) rest (refl, refl))
-path_word (b ∷ []) h = subst (λ (x : ℕ). IsWord (signs.Path (x ∷ [])) (path_text (x ∷ []))) (sym h) record_word
-path_word (b ∷ c ∷ []) (h, all, shown) = long_word b (c ∷ []) (ap class_of h ∙ slash_class) (rw h refl) (rw h refl) all shown
-path_word (b ∷ c ∷ d ∷ bytes) (inl h, all, shown) = long_word b (c ∷ d ∷ bytes) (ap class_of h ∙ slash_class) (rw h refl) refl all shown
-path_word (b ∷ c ∷ d ∷ bytes) (inr (h, k), all, shown) = long_word b (c ∷ d ∷ bytes) (ap class_of h ∙ caret_class) (rw (h, k) refl) refl all shown
+bare_parts : (p : List ℕ) → is_bare p ≡ true → (list_all (continues Slash) p ≡ true) × (is_shown p ≡ true)
+unfolding is_bare
+bare_parts p h = and_parts (list_all (continues Slash) p) (is_shown p) h
 
-literal_word : (v : Literal) → IsLiteral v → IsWord (signs.Literal v) (word_of (signs.Literal v))
+path_word : (p : List ℕ) → IsPath p → is_bare p ≡ true → IsWord (signs.Path p) (path_text p)
+path_word [] h bare = (path 47 [] slash_class refl slash_shows, λ rest. cut_run (47 ∷ []) rest (refl, refl))
+path_word (b ∷ []) h bare = subst (λ (x : ℕ). IsWord (signs.Path (x ∷ [])) (path_text (x ∷ []))) (sym h) record_word
+path_word (b ∷ c ∷ []) (h, u) bare =
+    let q = bare_parts (b ∷ c ∷ []) bare in
+    long_word b (c ∷ []) (ap class_of h ∙ slash_class) (rw h refl) (rw h refl) (and_parts (continues Slash b) (list_all (continues Slash) (c ∷ [])) q.0).1 q.1
+path_word (b ∷ c ∷ d ∷ bytes) (inl h, u) bare =
+    let q = bare_parts (b ∷ c ∷ d ∷ bytes) bare in
+    long_word b (c ∷ d ∷ bytes) (ap class_of h ∙ slash_class) (rw h refl) refl (and_parts (continues Slash b) (list_all (continues Slash) (c ∷ d ∷ bytes)) q.0).1 q.1
+path_word (b ∷ c ∷ d ∷ bytes) (inr (h, k), u) bare =
+    let q = bare_parts (b ∷ c ∷ d ∷ bytes) bare in
+    long_word b (c ∷ d ∷ bytes) (ap class_of h ∙ caret_class) (rw (h, k) refl) refl (and_parts (continues Slash b) (list_all (continues Slash) (c ∷ d ∷ bytes)) q.0).1 q.1
+
+path_utf8 : (p : List ℕ) → IsPath p → is_bare p ≡ false → IsUtf8 p
+path_utf8 [] h bare = absurd (true≢false (sym nothing_is_bare ∙ bare))
+path_utf8 (b ∷ []) h bare = absurd (true≢false (sym (subst (λ (x : ℕ). is_bare (x ∷ []) ≡ true) (sym h) caret_is_bare) ∙ bare))
+path_utf8 (b ∷ c ∷ bytes) h bare = h.1
+
+subject_word : (p : List ℕ) → IsPath p → IsWord (path_sign p) (word_of (path_sign p))
+subject_word p h = by_condition (is_bare p) refl
+  where
+    by_condition : (b : Bool) → is_bare p ≡ b → IsWord (cond b (signs.Path p) (text_sign p)) (word_of (cond b (signs.Path p) (text_sign p)))
+    by_condition true e = path_word p h e
+    by_condition false e = text_word p (path_utf8 p h e)
+
+literal_word : (v : Literal) → IsLiteral v → IsWord (literal_sign v) (word_of (literal_sign v))
 literal_word (Natural n) h = natural_word (decimal n) n h refl (decimal_is_IsNumeral n h).0
 literal_word (Negative (pos n)) h = absurd h
 literal_word (Negative (negsuc n)) h = negative_word n h
 literal_word (Decimal text x) h = decimal_word text x h
 literal_word (Text s) h = text_word s h
-literal_word (Boolean true) h = fixed_word fixed.True refl
-literal_word (Boolean false) h = fixed_word fixed.False refl
-literal_word Null h = fixed_word fixed.Null refl
+literal_word (Boolean b) h = fixed_word (fixed.Boolean b) refl
+literal_word Null h = fixed_word (fixed.ValueKind value_kinds.Null) refl
 
-join_word : (c : Connective) → IsWord (signs.Join c) (word_of (signs.Join c))
-join_word Or = fixed_word fixed.Or refl
-join_word Xor = fixed_word fixed.Xor refl
-join_word And = fixed_word fixed.And refl
-
-separator_word : (s : Separator) → IsWord (separator_sign s) (word_of (separator_sign s))
-separator_word (separators.Connective c) = join_word c
-separator_word separators.Comma = fixed_word fixed.Comma refl
-
-comparison_word : (o : Comparison) → IsWord (signs.Comparison o) (word_of (signs.Comparison o))
-comparison_word comparisons.Equal = fixed_word fixed.Equal refl
-comparison_word comparisons.Unequal = fixed_word fixed.Unequal refl
-comparison_word comparisons.Below = fixed_word fixed.Below refl
-comparison_word comparisons.AtMost = fixed_word fixed.AtMost refl
-comparison_word comparisons.Above = fixed_word fixed.Above refl
-comparison_word comparisons.AtLeast = fixed_word fixed.AtLeast refl
-
-relation_word : (r : Relation) → IsWord (signs.Relation r) (word_of (signs.Relation r))
-relation_word relations.StartsWith = fixed_word fixed.StartsWith refl
-relation_word relations.EndsWith = fixed_word fixed.EndsWith refl
-relation_word relations.Contains = fixed_word fixed.Contains refl
-relation_word relations.Matches = fixed_word fixed.Matches refl
-
-state_word : (s : State) → IsWord (signs.State s) (word_of (signs.State s))
-state_word states.Exists = fixed_word fixed.Exists refl
-state_word states.Missing = fixed_word fixed.Missing refl
-state_word states.IsEmpty = fixed_word fixed.IsEmpty refl
-
-kind_word : (k : ValueKind) → IsWord (kind_sign k) (word_of (kind_sign k))
-kind_word value_kinds.Text = fixed_word fixed.Text refl
-kind_word value_kinds.Number = fixed_word fixed.Number refl
-kind_word value_kinds.Whole = fixed_word fixed.Whole refl
-kind_word value_kinds.Boolean = fixed_word fixed.Bool refl
-kind_word value_kinds.Array = fixed_word fixed.Array refl
-kind_word value_kinds.Object = fixed_word fixed.Object refl
-kind_word value_kinds.Null = fixed_word fixed.Null refl
+separator_opens : (s : Separator) → IsWord (signs.Word (separator_word s)) (text_of (separator_word s))
+separator_opens (separators.Connective c) = fixed_word (fixed.Join c) refl
+separator_opens separators.Comma = fixed_word fixed.Comma refl
 
 -- ---- the tokens of an expression
 
@@ -429,34 +341,48 @@ both_words [] us a b = b
 both_words (t ∷ ts) us a b = (a.0, both_words ts us a.1 b)
 
 closed_words : (ts : List Sign) → AreWords ts → AreWords (in_parentheses ts)
-closed_words ts a = (open_word, both_words ts (signs.Close ∷ []) a (fixed_word fixed.Close refl, tt))
+closed_words ts a = (open_word, both_words ts (signs.Word fixed.Close ∷ []) a (fixed_word fixed.Close refl, tt))
 
-items_words : (vs : List Literal) → AreLiterals vs → AreWords (items_signs vs)
-items_words [] h = (fixed_word fixed.CloseList refl, tt)
-items_words (v ∷ []) h = (literal_word v h.0, (fixed_word fixed.CloseList refl, tt))
-items_words (v ∷ w ∷ vs) h = (literal_word v h.0, (fixed_word fixed.Comma refl, items_words (w ∷ vs) h.1))
+following_words : (ts : List Sign) → AreWords ts → AreWords (following ts)
+following_words [] a = tt
+following_words (t ∷ ts) a = (fixed_word fixed.Comma refl, (a.0, following_words ts a.1))
 
-among_words : (vs : List Literal) → AreLiterals vs → AreWords (among_signs vs)
-among_words vs h = (fixed_word fixed.In refl, (open_list_word, items_words vs h))
+row_words : (ts : List Sign) → AreWords ts → AreWords (row_signs ts)
+row_words [] a = tt
+row_words (t ∷ ts) a = (a.0, following_words ts a.1)
+
+among_words : (ts : List Sign) → AreWords ts → AreWords (among_signs ts)
+among_words ts a = (fixed_word fixed.In refl, (open_list_word, both_words (row_signs ts) (signs.Word fixed.CloseList ∷ []) (row_words ts a) (fixed_word fixed.CloseList refl, tt)))
+
+literal_words : (vs : List Literal) → AreLiterals vs → AreWords (map literal_sign vs)
+literal_words [] h = tt
+literal_words (v ∷ vs) h = (literal_word v h.0, literal_words vs h.1)
+
+texts_words : (texts : List (List ℕ)) → AreLiterals (map Text texts) → AreWords (map text_sign texts)
+texts_words [] h = tt
+texts_words (text ∷ texts) h = (text_word text h.0, texts_words texts h.1)
 
 condition_words : (t : Condition) → IsPlainCondition t → AreWords (condition_signs t)
-condition_words (Is s) h = (state_word s, tt)
-condition_words (Compare o v) h = (comparison_word o, (literal_word v h, tt))
-condition_words (CompareWith o other) h = (comparison_word o, (path_word other h, tt))
-condition_words (Length o n) h = (fixed_word fixed.Length refl, (comparison_word o, (literal_word (Natural n) h, tt)))
-condition_words (IsOf k) h = (fixed_word fixed.Is refl, (kind_word k, tt))
-condition_words (Relate r text) h = (relation_word r, (text_word text h, tt))
-condition_words (In vs) h = among_words vs h
-condition_words (KeysIn texts) h = among_words (map Text texts) h
+condition_words (Is s) h = (fixed_word (fixed.State s) refl, tt)
+condition_words (Compare o v) h = (fixed_word (fixed.Comparison o) refl, (literal_word v h, tt))
+condition_words (CompareWith o other) h = (fixed_word (fixed.Comparison o) refl, (path_word other h.0 h.1, tt))
+condition_words (Length o n) h = (fixed_word fixed.Length refl, (fixed_word (fixed.Comparison o) refl, (literal_word (Natural n) h, tt)))
+condition_words (IsOf k) h = (fixed_word fixed.Is refl, (fixed_word (fixed.ValueKind k) refl, tt))
+condition_words (Relate r text) h = (fixed_word (fixed.Relation r) refl, (text_word text h, tt))
+condition_words (In vs) h = among_words (map literal_sign vs) (literal_words vs h)
+condition_words (KeysIn texts) h = among_words (map text_sign texts) (texts_words texts h)
 
-at_words : (p : List ℕ) (t : Condition) → IsPath p → IsPlainCondition t → AreWords (lead_signs t ++ signs.Path p ∷ condition_signs t)
-at_words p (KeysIn texts) a b = (fixed_word fixed.Keys refl, (path_word p a, condition_words (KeysIn texts) b))
-at_words p t a b = (path_word p a, condition_words t b)
+subject_words : (p : List ℕ) (t : Condition) → IsPath p → AreWords (subject_signs p t)
+subject_words p (KeysIn texts) h = (fixed_word fixed.Keys refl, (subject_word p h, tt))
+subject_words p t h = (subject_word p h, tt)
+
+threshold_words : (k : ℕ) → IsLiteral (Natural k) → AreWords (threshold_signs k)
+threshold_words k h = (fixed_word fixed.At refl, (fixed_word fixed.Least refl, (literal_word (Natural k) h, tt)))
 
 quantifier_words : (q : HowMany) → IsPlainQuantifier q → AreWords (quantifier_signs q)
 quantifier_words quantifiers.Each h = (fixed_word fixed.Each refl, tt)
 quantifier_words quantifiers.Any h = (fixed_word fixed.Any refl, tt)
-quantifier_words (quantifiers.AtLeast k) h = (fixed_word fixed.At refl, (fixed_word fixed.Least refl, (literal_word (Natural k) h, tt)))
+quantifier_words (quantifiers.AtLeast k) h = threshold_words k h
 
 placed_words : (b : Bool) (ts : List Sign) → AreWords ts → AreWords (cond b ts (in_parentheses ts))
 placed_words true ts a = a
@@ -464,15 +390,15 @@ placed_words false ts a = closed_words ts a
 
 mutual
   tree_words : (e : Tree) (l : Level) → IsPlain e → AreWords (signs_at l e)
-  tree_words (Test p t) l h = at_words p t h.0 h.1
+  tree_words (Test p t) l h = both_words (subject_signs p t) (condition_signs t) (subject_words p t h.0) (condition_words t h.1)
   tree_words (Not e) l h = (fixed_word fixed.Not refl, tree_words e Single h)
   tree_words (Implies a b) l h =
-      placed_words (takes_if l) (signs.If ∷ (signs_at Whole a ++ signs.Then ∷ signs_at Whole b)) (fixed_word fixed.If refl, both_words (signs_at Whole a) (signs.Then ∷ signs_at Whole b) (tree_words a Whole h.0) (fixed_word fixed.Then refl, tree_words b Whole h.1))
+      placed_words (takes_if l) (signs.Word fixed.If ∷ (signs_at Whole a ++ signs.Word fixed.Then ∷ signs_at Whole b)) (fixed_word fixed.If refl, both_words (signs_at Whole a) (signs.Word fixed.Then ∷ signs_at Whole b) (tree_words a Whole h.0) (fixed_word fixed.Then refl, tree_words b Whole h.1))
   tree_words (Quantified q p e) l h =
-      both_words (quantifier_signs q) (signs.Path p ∷ in_parentheses (signs_at Whole e)) (quantifier_words q h.2) (path_word p h.0, closed_words (signs_at Whole e) (tree_words e Whole h.1))
+      both_words (quantifier_signs q) (path_sign p ∷ in_parentheses (signs_at Whole e)) (quantifier_words q h.2) (subject_word p h.0, closed_words (signs_at Whole e) (tree_words e Whole h.1))
   tree_words (Joined c es) l h = placed_words (stands_at l c es) (part_signs (separators.Connective c) es) (part_words es (separators.Connective c) h)
   tree_words (AtLeast k es) l h =
-      (fixed_word fixed.At refl, (fixed_word fixed.Least refl, (literal_word (Natural k) h.0, (fixed_word fixed.Of refl, closed_words (part_signs separators.Comma es) (part_words es separators.Comma h.1)))))
+      both_words (threshold_signs k) (signs.Word fixed.Of ∷ in_parentheses (part_signs separators.Comma es)) (threshold_words k h.0) (fixed_word fixed.Of refl, closed_words (part_signs separators.Comma es) (part_words es separators.Comma h.1))
 
   part_words : (es : Trees) (s : Separator) → ArePlain es → AreWords (part_signs s es)
   part_words none s h = tt
@@ -480,7 +406,7 @@ mutual
 
   follow_words : (es : Trees) (s : Separator) → ArePlain es → AreWords (follow_signs s es)
   follow_words none s h = tt
-  follow_words (more e es) s h = (separator_word s, both_words (signs_at (part_level s) e) (follow_signs s es) (tree_words e (part_level s) h.0) (follow_words es s h.1))
+  follow_words (more e es) s h = (separator_opens s, both_words (signs_at (part_level s) e) (follow_signs s es) (tree_words e (part_level s) h.0) (follow_words es s h.1))
 
 -- ---- their layout
 
@@ -498,9 +424,9 @@ nothing_follows false = refl
 
 -- what closes is a mark
 close_apart : (t : Sign) (text : List ℕ) → closes t ≡ true → is_apart (word_of t ++ text) ≡ true
-close_apart signs.Close text h = refl
-close_apart signs.CloseList text h = refl
-close_apart signs.Comma text h = refl
+close_apart (signs.Word fixed.Close) text h = refl
+close_apart (signs.Word fixed.CloseList) text h = refl
+close_apart (signs.Word fixed.Comma) text h = refl
 close_apart t text h = absurd cc
 
 gap_apart : (opening closing : Bool) (text : List ℕ) → (closing ≡ true → is_apart text ≡ true) → (opening || is_apart (cond (opening || closing) [] (32 ∷ []) ++ text)) ≡ true
@@ -508,21 +434,18 @@ gap_apart true closing text h = refl
 gap_apart false true text h = h refl
 gap_apart false false text h = refl
 
-lexed_from : (ts : List Sign) (t : Sign) → AreWords (t ∷ ts) → Reads (word_of t ++ laid_behind t ts) (t ∷ ts)
-lexed_from [] t a = ((t, length (word_of t ++ [])) ∷ (signs.End, 0) ∷ [], refl, token (a.0.1 [] (nothing_follows (opens t))) a.0.0 (over refl))
-lexed_from (u ∷ ts) t a =
-    let next : List ℕ = word_of u ++ laid_behind u ts in
-    let o = past_space (opens t || closes u) next (u ∷ ts) (lexed_from ts u a.1) in (
-      (t, length (word_of t ++ laid_behind t (u ∷ ts))) ∷ o.0,
-      ap (λ (vs : List Sign). t ∷ vs) o.1,
-      token (a.0.1 (gap t u ++ next) (gap_apart (opens t) (closes u) next (close_apart u (laid_behind u ts)))) a.0.0 o.2,
-    )
+follows_apart : (b : Bool) (ts : List Sign) → (b || is_apart (laid_from b ts)) ≡ true
+follows_apart b [] = nothing_follows b
+follows_apart b (t ∷ ts) = gap_apart b (closes t) (word_of t ++ laid_from (opens t) ts) (close_apart t (laid_from (opens t) ts))
 
-lexed : (ts : List Sign) → AreWords ts → Reads (laid ts) ts
-lexed [] a = ((signs.End, 0) ∷ [], refl, over refl)
-lexed (t ∷ ts) a = lexed_from ts t a
+lexed_from : (b : Bool) (ts : List Sign) → AreWords ts → Reads (laid_from b ts) ts
+lexed_from b [] a = ((signs.End, 0) ∷ [], refl, over refl)
+lexed_from b (t ∷ ts) a =
+    let behind : List ℕ = laid_from (opens t) ts in
+    let o = lexed_from (opens t) ts a.1 in
+    past_space (b || closes t) (word_of t ++ behind) (t ∷ ts) ((t, length (word_of t ++ behind)) ∷ o.0, ap (λ (vs : List Sign). t ∷ vs) o.1, token (a.0.1 behind (follows_apart (opens t) ts)) a.0.0 o.2)
 
 pub printed_says : (n : ℕ) (e : Tree) → IsProper e → IsPlain e → nesting_at Whole e ≤ n → Says n (printed e) e
 printed_says n e p h le =
-    let o = lexed (signs_at Whole e) (tree_words e Whole h) in
-    (o.0, o.2, subst (λ (vs : List Sign). IsSpelled n vs e) (sym o.1) (printed_spelled n e p le))
+    let o = lexed_from true (signs_at Whole e) (tree_words e Whole h) in
+    (o.0, o.2, subst (λ (vs : List Sign). IsSpelled n vs e) (sym o.1) (printed_spelled n e p h le))

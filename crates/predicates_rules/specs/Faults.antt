@@ -114,7 +114,7 @@ bare rs = map (λ (x : Placed). x.1) rs
 -- the line of the rule with this name
 abbrev pub number_named : List ℕ → List Placed → Option ℕ
 number_named name rs =
-    option_map (λ (x : Placed). x.0) (find (λ (x : Placed). bytes_eq x.1.0 name) rs)
+    option_map (λ (x : Placed). x.0) (find (λ (x : Placed). bytes_eq name x.1.0) rs)
 
 -- the fault of the line with this number, whose rule has the name of the one on the first line
 abbrev pub IsRepeatAt : ℕ → ℕ → List ℕ → List ℕ → Fault → Type 0
@@ -154,7 +154,7 @@ IsSyntaxError NoMemory = ⊥
 IsSyntaxError (Unreadable f) = f.reason ≢ TooDeep
 
 abbrev pub most_faults : ℕ
-most_faults = 20
+most_faults = 21
 
 -- the faults of all lines, or so many that no more are told
 abbrev pub HasFaults : List (List ℕ) → List Fault → Type 0

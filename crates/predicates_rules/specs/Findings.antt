@@ -1,6 +1,6 @@
 -- What was found in lines so far.
-use Rattle.std.specs.Prelude.{◌≡◌, ℕ, ◌<◌, ◌≤◌, List, [], ◌∷◌, ◌++◌, map, length, Vec, Result, Ok}
-use Rattle.std.specs.Prelude.{Err}
+use Rattle.std.specs.Prelude.{◌≡◌, ℕ, ◌<◌, ◌≤◌, List, [], ◌∷◌, ◌++◌, map, length, Vec, String, string_bytes}
+use Rattle.std.specs.Prelude.{Result, Ok, Err}
 use Rattle.std.specs.declared.alloc.Global.{Global}
 use Rattle.predicates_rules.specs.declared.fault.Fault.{Fault}
 use Rattle.predicates_rules.specs.declared.findings.Numbered.{Numbered}
@@ -8,14 +8,15 @@ use Rattle.predicates_rules.specs.declared.findings.Findings.{Findings}
 use Rattle.predicates_rules.specs.declared.rule.Rule.{Rule}
 use Rattle.predicates_rules.specs.declared.error.RulesError.{RulesError}
 use Rattle.predicates_rules.specs.declared.error.RulesError.TheVariants.{NoMemory, Unreadable}
+use Rattle.predicates_rules.specs.Trees.{tree_of}
 use Rattle.predicates_rules.specs.Rules.{rule_of}
 use Rattle.predicates_rules.specs.Faults.{Placed, bare, Adds, HasRead}
 
-abbrev pub numbered_of : Numbered → Placed
-numbered_of n = (n.line, rule_of n.rule)
+abbrev pub numbered_of : String Global × Numbered → Placed
+numbered_of n = (n.1.line, (string_bytes n.0, tree_of n.1.expression))
 
 abbrev pub rules_in : Findings → List Placed
-rules_in findings = map numbered_of findings.rules.items
+rules_in findings = map numbered_of findings.rules.entries
 
 -- with what a line adds
 abbrev pub HasAdded : ℕ → List ℕ → Findings → Findings → Type 0

@@ -1,5 +1,5 @@
 -- Which tokens spell which expression.
-use Rattle.std.specs.Prelude.{ℕ, suc, List, [], ◌∷◌, map}
+use Rattle.std.specs.Prelude.{◌≡◌, ℕ, suc, List, [], ◌∷◌, Option, Some, None, if◌then◌else◌}
 use Rattle.predicates_rules.specs.declared.expression.Connective.{Connective}
 use Rattle.predicates_rules.specs.declared.expression.Connective.TheVariants.{Or, Xor, And}
 use Rattle.predicates_rules.specs.declared.expression.HowMany.{HowMany}
@@ -11,9 +11,12 @@ use Rattle.predicates_rules.specs.declared.condition.Relation.{Relation}
 use Rattle.predicates_rules.specs.declared.condition.State.{State}
 use Rattle.predicates_rules.specs.declared.condition.ValueKind.{ValueKind}
 use Rattle.predicates_rules.specs.declared.condition.ValueKind.TheVariants as value_kinds
-use Rattle.predicates_rules.specs.Literals.{Literal, Natural, Text, Null}
+use Rattle.predicates_rules.specs.declared.fixed.Fixed.{Fixed}
+use Rattle.predicates_rules.specs.declared.fixed.Fixed.TheVariants as fixed
+use Rattle.predicates_rules.specs.Literals.{Literal, Natural, Text, Boolean, Null}
 use Rattle.predicates_rules.specs.Signs as signs
 use Rattle.predicates_rules.specs.Signs.{Sign}
+use Rattle.predicates_rules.specs.Lexemes.{is_path, pointer}
 use Rattle.predicates_rules.specs.Conditions.{Condition, Is, Compare, CompareWith, Length, IsOf}
 use Rattle.predicates_rules.specs.Conditions.{Relate, In, KeysIn}
 use Rattle.predicates_rules.specs.Trees.{Tree, Test, Not, Implies, Quantified, Joined, AtLeast}
@@ -36,63 +39,86 @@ tighter And = Single
 
 -- What parts the expressions of a row: the connective that joins them, or a comma. Behind a comma
 -- stands any expression.
-abbrev pub separator_sign : Separator → Sign
-separator_sign (separators.Connective c) = signs.Join c
-separator_sign separators.Comma = signs.Comma
+abbrev pub separator_word : Separator → Fixed
+separator_word (separators.Connective c) = fixed.Join c
+separator_word separators.Comma = fixed.Comma
 
 abbrev pub part_level : Separator → Level
 part_level (separators.Connective c) = tighter c
 part_level separators.Comma = Whole
 
+-- the path that a token is, as it is or as a text in quotes
+abbrev pub path_in : Sign → Option (List ℕ)
+path_in (signs.Path path) = Some path
+path_in (signs.Literal (Text text)) = if is_path text then Some (pointer text) else None
+path_in t = None
+
+-- the literal that it is
+abbrev pub value_in : Sign → Option Literal
+value_in (signs.Literal v) = Some v
+value_in (signs.Word (fixed.Boolean b)) = Some (Boolean b)
+value_in (signs.Word (fixed.ValueKind value_kinds.Null)) = Some Null
+value_in t = None
+
+-- the text that it is
+abbrev pub text_in : Sign → Option (List ℕ)
+text_in (signs.Literal (Text text)) = Some text
+text_in t = None
+
 -- In each relation the first list is the tokens, and the last one what is left of them behind the
 -- phrase.
 
 -- v , .. , v ]
-pub data Items : List Sign → List Literal → List Sign → Type 0 where
-  last : {v : Literal} {rest : List Sign}
-      → Items (signs.Literal v ∷ signs.CloseList ∷ rest) (v ∷ []) rest
-  another : {v : Literal} {ts rest : List Sign} {vs : List Literal} → Items ts vs rest
-      → Items (signs.Literal v ∷ signs.Comma ∷ ts) (v ∷ vs) rest
+pub data Items {A : Type 0} (seen : Sign → Option A) : List Sign → List A → List Sign → Type 0 where
+  last : {t : Sign} {v : A} {rest : List Sign} → seen t ≡ Some v
+      → Items seen (t ∷ signs.Word fixed.CloseList ∷ rest) (v ∷ []) rest
+  another : {t : Sign} {v : A} {ts rest : List Sign} {vs : List A} → seen t ≡ Some v
+      → Items seen ts vs rest → Items seen (t ∷ signs.Word fixed.Comma ∷ ts) (v ∷ vs) rest
+
+-- [ v , .. , v ]
+pub data IsList {A : Type 0} (seen : Sign → Option A) : List Sign → List A → List Sign → Type 0
+  where
+    no_items : {rest : List Sign}
+        → IsList seen (signs.Word fixed.OpenList ∷ signs.Word fixed.CloseList ∷ rest) [] rest
+    items : {ts rest : List Sign} {vs : List A} → Items seen ts vs rest
+        → IsList seen (signs.Word fixed.OpenList ∷ ts) vs rest
 
 -- what is said of the value at a path
 pub data IsCondition : List Sign → Condition → List Sign → Type 0 where
   -- WORD
-  word : {s : State} {rest : List Sign} → IsCondition (signs.State s ∷ rest) (Is s) rest
+  word : {s : State} {rest : List Sign}
+      → IsCondition (signs.Word (fixed.State s) ∷ rest) (Is s) rest
   -- OPERATOR LITERAL
-  compare : {o : Comparison} {v : Literal} {rest : List Sign}
-      → IsCondition (signs.Comparison o ∷ signs.Literal v ∷ rest) (Compare o v) rest
+  compare : {o : Comparison} {t : Sign} {v : Literal} {rest : List Sign}
+      → value_in t ≡ Some v
+      → IsCondition (signs.Word (fixed.Comparison o) ∷ t ∷ rest) (Compare o v) rest
   -- OPERATOR PATH
   compare_with : {o : Comparison} {path : List ℕ} {rest : List Sign}
-      → IsCondition (signs.Comparison o ∷ signs.Path path ∷ rest) (CompareWith o path) rest
+      → IsCondition (signs.Word (fixed.Comparison o) ∷ signs.Path path ∷ rest) (CompareWith o path)
+      rest
   -- length OPERATOR NUMBER
-  has_length : {o : Comparison} {n : ℕ} {rest : List Sign}
-      → IsCondition (signs.Length ∷ signs.Comparison o ∷ signs.Literal (Natural n) ∷ rest)
-      (Length o n) rest
+  has_length : {o : Comparison} {n : ℕ} {rest : List Sign} → IsCondition (signs.Word fixed.Length
+      ∷ signs.Word (fixed.Comparison o) ∷ signs.Literal (Natural n) ∷ rest) (Length o n) rest
   -- is KIND
   of_kind : {k : ValueKind} {rest : List Sign}
-      → IsCondition (signs.Is ∷ signs.ValueKind k ∷ rest) (IsOf k) rest
-  -- is null
-  of_null : {rest : List Sign}
-      → IsCondition (signs.Is ∷ signs.Literal Null ∷ rest) (IsOf value_kinds.Null) rest
+      → IsCondition (signs.Word fixed.Is ∷ signs.Word (fixed.ValueKind k) ∷ rest) (IsOf k) rest
   -- OPERATOR TEXT
-  relate : {r : Relation} {text : List ℕ} {rest : List Sign}
-      → IsCondition (signs.Relation r ∷ signs.Literal (Text text) ∷ rest) (Relate r text) rest
-  -- in [ ]
-  among_none : {rest : List Sign}
-      → IsCondition (signs.In ∷ signs.OpenList ∷ signs.CloseList ∷ rest) (In []) rest
+  relate : {r : Relation} {t : Sign} {text : List ℕ} {rest : List Sign}
+      → text_in t ≡ Some text
+      → IsCondition (signs.Word (fixed.Relation r) ∷ t ∷ rest) (Relate r text) rest
   -- in [ v , .. , v ]
-  among : {ts rest : List Sign} {vs : List Literal} → Items ts vs rest
-      → IsCondition (signs.In ∷ signs.OpenList ∷ ts) (In vs) rest
+  among : {ts rest : List Sign} {vs : List Literal} → IsList value_in ts vs rest
+      → IsCondition (signs.Word fixed.In ∷ ts) (In vs) rest
 
 -- how many items have to meet an expression
 pub data IsQuantifier : List Sign → HowMany → List Sign → Type 0 where
   -- each
-  each : {rest : List Sign} → IsQuantifier (signs.Each ∷ rest) quantifiers.Each rest
+  each : {rest : List Sign} → IsQuantifier (signs.Word fixed.Each ∷ rest) quantifiers.Each rest
   -- any
-  any : {rest : List Sign} → IsQuantifier (signs.Any ∷ rest) quantifiers.Any rest
+  any : {rest : List Sign} → IsQuantifier (signs.Word fixed.Any ∷ rest) quantifiers.Any rest
   -- at least K
-  at_least_items : {k : ℕ} {rest : List Sign}
-      → IsQuantifier (signs.At ∷ signs.Least ∷ signs.Literal (Natural k) ∷ rest)
+  at_least_items : {k : ℕ} {rest : List Sign} → IsQuantifier
+      (signs.Word fixed.At ∷ signs.Word fixed.Least ∷ signs.Literal (Natural k) ∷ rest)
       (quantifiers.AtLeast k) rest
 
 mutual
@@ -101,28 +127,32 @@ mutual
   -- joined or listed is not.
   pub data Spells : ℕ → Level → List Sign → Tree → List Sign → Type 0 where
     -- PATH ..
-    test : {n : ℕ} {path : List ℕ} {t : Condition} {ts rest : List Sign} → IsCondition ts t rest
-        → Spells n Single (signs.Path path ∷ ts) (Test path t) rest
+    test : {n : ℕ} {p : Sign} {path : List ℕ} {t : Condition} {ts rest : List Sign}
+        → path_in p ≡ Some path → IsCondition ts t rest
+        → Spells n Single (p ∷ ts) (Test path t) rest
     -- keys PATH in [ T , .. , T ]
-    keys : {n : ℕ} {path : List ℕ} {texts : List (List ℕ)} {ts rest : List Sign}
-        → IsCondition ts (In (map Text texts)) rest
-        → Spells n Single (signs.Keys ∷ signs.Path path ∷ ts) (Test path (KeysIn texts)) rest
+    keys : {n : ℕ} {p : Sign} {path : List ℕ} {texts : List (List ℕ)} {ts rest : List Sign}
+        → path_in p ≡ Some path → IsList text_in ts texts rest
+        → Spells n Single (signs.Word fixed.Keys ∷ p ∷ signs.Word fixed.In ∷ ts)
+        (Test path (KeysIn texts)) rest
     -- not E
     denied : {n : ℕ} {e : Tree} {ts rest : List Sign} → Spells n Single ts e rest
-        → Spells (suc n) Single (signs.Not ∷ ts) (Not e) rest
+        → Spells (suc n) Single (signs.Word fixed.Not ∷ ts) (Not e) rest
     -- ( E )
-    group : {n : ℕ} {e : Tree} {ts rest : List Sign} → Spells n Whole ts e (signs.Close ∷ rest)
-        → Spells (suc n) Single (signs.Open ∷ ts) e rest
+    group : {n : ℕ} {e : Tree} {ts rest : List Sign}
+        → Spells n Whole ts e (signs.Word fixed.Close ∷ rest)
+        → Spells (suc n) Single (signs.Word fixed.Open ∷ ts) e rest
     -- each PATH ( E )    any PATH ( E )    at least K PATH ( E )
-    quantified : {n : ℕ} {q : HowMany} {path : List ℕ} {e : Tree} {ts us rest : List Sign}
-        → IsQuantifier ts q (signs.Path path ∷ signs.Open ∷ us)
-        → Spells n Whole us e (signs.Close ∷ rest)
+    quantified : {n : ℕ} {q : HowMany} {p : Sign} {path : List ℕ} {e : Tree}
+        {ts us rest : List Sign} → path_in p ≡ Some path
+        → IsQuantifier ts q (p ∷ signs.Word fixed.Open ∷ us)
+        → Spells n Whole us e (signs.Word fixed.Close ∷ rest)
         → Spells (suc n) Single ts (Quantified q path e) rest
     -- at least K of ( E , .. , E )
     at_least : {n k : ℕ} {e : Tree} {es : Trees} {ts us rest : List Sign} → Spells n Whole ts e us
-        → Follow n separators.Comma us es (signs.Close ∷ rest)
-        → Spells (suc n) Single
-        (signs.At ∷ signs.Least ∷ signs.Literal (Natural k) ∷ signs.Of ∷ signs.Open ∷ ts)
+        → Follow n separators.Comma us es (signs.Word fixed.Close ∷ rest)
+        → Spells (suc n) Single (signs.Word fixed.At ∷ signs.Word fixed.Least
+        ∷ signs.Literal (Natural k) ∷ signs.Word fixed.Of ∷ signs.Word fixed.Open ∷ ts)
         (AtLeast k (more e es)) rest
     -- what binds tighter, alone
     alone : {n : ℕ} {c : Connective} {e : Tree} {ts rest : List Sign}
@@ -136,8 +166,8 @@ mutual
         → Spells n Whole ts e rest
     -- if E then E
     implied : {n : ℕ} {a b : Tree} {ts us rest : List Sign}
-        → Spells n Premise ts a (signs.Then ∷ us) → Spells n Whole us b rest
-        → Spells (suc n) Whole (signs.If ∷ ts) (Implies a b) rest
+        → Spells n Premise ts a (signs.Word fixed.Then ∷ us) → Spells n Whole us b rest
+        → Spells (suc n) Whole (signs.Word fixed.If ∷ ts) (Implies a b) rest
     -- what stands behind an `if`
     premise : {n : ℕ} {e : Tree} {ts rest : List Sign} → Spells n Whole ts e rest
         → Spells (suc n) Premise ts e rest
@@ -147,7 +177,7 @@ mutual
     no_more : {n : ℕ} {s : Separator} {rest : List Sign} → Follow n s rest none rest
     and_more : {n : ℕ} {s : Separator} {e : Tree} {es : Trees} {ts us rest : List Sign}
         → Spells n (part_level s) ts e us → Follow n s us es rest
-        → Follow n s (separator_sign s ∷ ts) (more e es) rest
+        → Follow n s (signs.Word (separator_word s) ∷ ts) (more e es) rest
 
 -- how deep a rule may nest
 abbrev pub max_depth : ℕ

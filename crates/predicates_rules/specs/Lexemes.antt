@@ -25,9 +25,9 @@ use Rattle.predicates_rules.specs.Signs.{Sign}
 -- ---- tokens with a text of their own
 
 abbrev pub text_of : Fixed → List ℕ
-text_of fixed.Or = codes "or"
-text_of fixed.Xor = codes "xor"
-text_of fixed.And = codes "and"
+text_of (fixed.Join connectives.Or) = codes "or"
+text_of (fixed.Join connectives.Xor) = codes "xor"
+text_of (fixed.Join connectives.And) = codes "and"
 text_of fixed.Not = codes "not"
 text_of fixed.If = codes "if"
 text_of fixed.Then = codes "then"
@@ -37,88 +37,51 @@ text_of fixed.At = codes "at"
 text_of fixed.Keys = codes "keys"
 text_of fixed.Least = codes "least"
 text_of fixed.Of = codes "of"
-text_of fixed.StartsWith = codes "starts_with"
-text_of fixed.EndsWith = codes "ends_with"
-text_of fixed.Contains = codes "contains"
-text_of fixed.Matches = codes "matches"
+text_of (fixed.Relation relations.StartsWith) = codes "starts_with"
+text_of (fixed.Relation relations.EndsWith) = codes "ends_with"
+text_of (fixed.Relation relations.Contains) = codes "contains"
+text_of (fixed.Relation relations.Matches) = codes "matches"
 text_of fixed.In = codes "in"
-text_of fixed.Exists = codes "exists"
-text_of fixed.Missing = codes "missing"
-text_of fixed.IsEmpty = codes "is_empty"
+text_of (fixed.State states.Exists) = codes "exists"
+text_of (fixed.State states.Missing) = codes "missing"
+text_of (fixed.State states.IsEmpty) = codes "is_empty"
 text_of fixed.Length = codes "length"
 text_of fixed.Is = codes "is"
-text_of fixed.Text = codes "text"
-text_of fixed.Number = codes "number"
-text_of fixed.Whole = codes "whole"
-text_of fixed.Bool = codes "bool"
-text_of fixed.Array = codes "array"
-text_of fixed.Object = codes "object"
-text_of fixed.True = codes "true"
-text_of fixed.False = codes "false"
-text_of fixed.Null = codes "null"
-text_of fixed.Equal = codes "=="
-text_of fixed.Unequal = codes "!="
-text_of fixed.Below = codes "<"
-text_of fixed.AtMost = codes "<="
-text_of fixed.Above = codes ">"
-text_of fixed.AtLeast = codes ">="
+text_of (fixed.ValueKind value_kinds.Text) = codes "text"
+text_of (fixed.ValueKind value_kinds.Number) = codes "number"
+text_of (fixed.ValueKind value_kinds.Whole) = codes "whole"
+text_of (fixed.ValueKind value_kinds.Boolean) = codes "bool"
+text_of (fixed.ValueKind value_kinds.Array) = codes "array"
+text_of (fixed.ValueKind value_kinds.Object) = codes "object"
+text_of (fixed.ValueKind value_kinds.Null) = codes "null"
+text_of (fixed.Boolean true) = codes "true"
+text_of (fixed.Boolean false) = codes "false"
+text_of (fixed.Comparison comparisons.Equal) = codes "=="
+text_of (fixed.Comparison comparisons.Unequal) = codes "!="
+text_of (fixed.Comparison comparisons.Below) = codes "<"
+text_of (fixed.Comparison comparisons.AtMost) = codes "<="
+text_of (fixed.Comparison comparisons.Above) = codes ">"
+text_of (fixed.Comparison comparisons.AtLeast) = codes ">="
 text_of fixed.Open = codes "("
 text_of fixed.Close = codes ")"
 text_of fixed.OpenList = codes "["
 text_of fixed.CloseList = codes "]"
 text_of fixed.Comma = codes ","
 
-abbrev pub sign_of_fixed : Fixed → Sign
-sign_of_fixed fixed.Or = signs.Join connectives.Or
-sign_of_fixed fixed.Xor = signs.Join connectives.Xor
-sign_of_fixed fixed.And = signs.Join connectives.And
-sign_of_fixed fixed.Not = signs.Not
-sign_of_fixed fixed.If = signs.If
-sign_of_fixed fixed.Then = signs.Then
-sign_of_fixed fixed.Each = signs.Each
-sign_of_fixed fixed.Any = signs.Any
-sign_of_fixed fixed.At = signs.At
-sign_of_fixed fixed.Keys = signs.Keys
-sign_of_fixed fixed.Least = signs.Least
-sign_of_fixed fixed.Of = signs.Of
-sign_of_fixed fixed.StartsWith = signs.Relation relations.StartsWith
-sign_of_fixed fixed.EndsWith = signs.Relation relations.EndsWith
-sign_of_fixed fixed.Contains = signs.Relation relations.Contains
-sign_of_fixed fixed.Matches = signs.Relation relations.Matches
-sign_of_fixed fixed.In = signs.In
-sign_of_fixed fixed.Exists = signs.State states.Exists
-sign_of_fixed fixed.Missing = signs.State states.Missing
-sign_of_fixed fixed.IsEmpty = signs.State states.IsEmpty
-sign_of_fixed fixed.Length = signs.Length
-sign_of_fixed fixed.Is = signs.Is
-sign_of_fixed fixed.Text = signs.ValueKind value_kinds.Text
-sign_of_fixed fixed.Number = signs.ValueKind value_kinds.Number
-sign_of_fixed fixed.Whole = signs.ValueKind value_kinds.Whole
-sign_of_fixed fixed.Bool = signs.ValueKind value_kinds.Boolean
-sign_of_fixed fixed.Array = signs.ValueKind value_kinds.Array
-sign_of_fixed fixed.Object = signs.ValueKind value_kinds.Object
-sign_of_fixed fixed.True = signs.Literal (Boolean true)
-sign_of_fixed fixed.False = signs.Literal (Boolean false)
-sign_of_fixed fixed.Null = signs.Literal Null
-sign_of_fixed fixed.Equal = signs.Comparison comparisons.Equal
-sign_of_fixed fixed.Unequal = signs.Comparison comparisons.Unequal
-sign_of_fixed fixed.Below = signs.Comparison comparisons.Below
-sign_of_fixed fixed.AtMost = signs.Comparison comparisons.AtMost
-sign_of_fixed fixed.Above = signs.Comparison comparisons.Above
-sign_of_fixed fixed.AtLeast = signs.Comparison comparisons.AtLeast
-sign_of_fixed fixed.Open = signs.Open
-sign_of_fixed fixed.Close = signs.Close
-sign_of_fixed fixed.OpenList = signs.OpenList
-sign_of_fixed fixed.CloseList = signs.CloseList
-sign_of_fixed fixed.Comma = signs.Comma
-
 abbrev pub all_fixed : List Fixed
-all_fixed = fixed.Or ∷ fixed.Xor ∷ fixed.And ∷ fixed.Not ∷ fixed.If ∷ fixed.Then ∷ fixed.Each
-    ∷ fixed.Any ∷ fixed.At ∷ fixed.Keys ∷ fixed.Least ∷ fixed.Of ∷ fixed.StartsWith
-    ∷ fixed.EndsWith ∷ fixed.Contains ∷ fixed.Matches ∷ fixed.In ∷ fixed.Exists ∷ fixed.Missing
-    ∷ fixed.IsEmpty ∷ fixed.Length ∷ fixed.Is ∷ fixed.Text ∷ fixed.Number ∷ fixed.Whole
-    ∷ fixed.Bool ∷ fixed.Array ∷ fixed.Object ∷ fixed.True ∷ fixed.False ∷ fixed.Null ∷ fixed.Equal
-    ∷ fixed.Unequal ∷ fixed.Below ∷ fixed.AtMost ∷ fixed.Above ∷ fixed.AtLeast ∷ fixed.Open
+all_fixed = fixed.Join connectives.Or ∷ fixed.Join connectives.Xor ∷ fixed.Join connectives.And
+    ∷ fixed.Not ∷ fixed.If ∷ fixed.Then ∷ fixed.Each ∷ fixed.Any ∷ fixed.At ∷ fixed.Keys
+    ∷ fixed.Least ∷ fixed.Of ∷ fixed.Relation relations.StartsWith
+    ∷ fixed.Relation relations.EndsWith ∷ fixed.Relation relations.Contains
+    ∷ fixed.Relation relations.Matches ∷ fixed.In ∷ fixed.State states.Exists
+    ∷ fixed.State states.Missing ∷ fixed.State states.IsEmpty ∷ fixed.Length ∷ fixed.Is
+    ∷ fixed.ValueKind value_kinds.Text ∷ fixed.ValueKind value_kinds.Number
+    ∷ fixed.ValueKind value_kinds.Whole ∷ fixed.ValueKind value_kinds.Boolean
+    ∷ fixed.ValueKind value_kinds.Array ∷ fixed.ValueKind value_kinds.Object
+    ∷ fixed.ValueKind value_kinds.Null ∷ fixed.Boolean true ∷ fixed.Boolean false
+    ∷ fixed.Comparison comparisons.Equal ∷ fixed.Comparison comparisons.Unequal
+    ∷ fixed.Comparison comparisons.Below ∷ fixed.Comparison comparisons.AtMost
+    ∷ fixed.Comparison comparisons.Above ∷ fixed.Comparison comparisons.AtLeast ∷ fixed.Open
     ∷ fixed.Close ∷ fixed.OpenList ∷ fixed.CloseList ∷ fixed.Comma ∷ []
 
 unfoldable pub fixed_at : List ℕ → Option Fixed
@@ -252,7 +215,7 @@ pointer word = word
 -- a token as it is written
 pub data IsWritten : Sign → List ℕ → Type 0 where
   -- a word, an operator or a mark
-  fixed_text : (f : Fixed) → IsWritten (sign_of_fixed f) (text_of f)
+  fixed_text : (f : Fixed) → IsWritten (signs.Word f) (text_of f)
   -- a number or a text in quotes: what JSON reads there
   literal : (b : ℕ) (bytes : List ℕ) (v : Literal) → begins_literal (class_of b) ≡ true
       → is_utf8 (b ∷ bytes) ≡ true → read (b ∷ bytes) ≡ Some (data_of v) → IsTextOf v (b ∷ bytes)

@@ -13,6 +13,5 @@ pub mod Heading
 pub mod Faults
 pub mod Findings
 pub mod Printing
-pub mod Writing
 pub mod Quoting
 pub mod Messages

@@ -52,10 +52,7 @@ reason_text (reasons.Repeated line) =
 
 abbrev pub hint_text : Hint → List ℕ
 hint_text (hints.Meant word) = codes "did you mean `" ++ (word.now ++ codes "`?")
-hint_text hints.Path = codes "a path begins with `/`"
-hint_text hints.Text = codes "a text stands in double quotes"
-hint_text hints.Parentheses = codes "`if` needs parentheses here"
-hint_text hints.KeysFirst = codes "`keys` stands before the path"
+hint_text (hints.Advice text) = text.now
 
 -- what was found, in words or quoted
 abbrev pub found_text : List ℕ → Option (List ℕ)

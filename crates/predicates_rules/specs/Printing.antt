@@ -1,7 +1,9 @@
 -- How an expression is written, with no more parentheses than it needs.
-use Rattle.std.specs.Prelude.{◌≡◌, ◌⊎◌, ◌==◌, ℕ, suc, Some, ◌<◌, ◌^◌, max, pos, negsuc, Float, Bool}
+use Rattle.std.specs.Prelude.{◌≡◌, ◌⊎◌, ◌==◌, ℕ, zero, suc, Ok, Some, ◌<◌, ◌^◌, max, pos, negsuc, Float, Bool}
 use Rattle.std.specs.Prelude.{true, false, ◌&&◌, ◌||◌, List, [], ◌∷◌, ◌++◌, map, if◌then◌else◌}
 use Rattle.std.specs.List.{list_all}
+use Rattle.std.specs.Fmt.{DisplaysOnOk}
+use Rattle.std.specs.declared.fmt.Formatter.{Formatter}
 use Rattle.std.specs.Str.{IsUtf8, is_utf8}
 use Rattle.serde_json.specs.Data.{number, float}
 use Rattle.serde_json.specs.Read.{read}
@@ -12,65 +14,85 @@ use Rattle.predicates_rules.specs.declared.expression.HowMany.{HowMany}
 use Rattle.predicates_rules.specs.declared.expression.HowMany.TheVariants as quantifiers
 use Rattle.predicates_rules.specs.declared.parser.Separator.{Separator}
 use Rattle.predicates_rules.specs.declared.parser.Separator.TheVariants as separators
-use Rattle.predicates_rules.specs.declared.condition.Comparison.TheVariants as comparisons
-use Rattle.predicates_rules.specs.declared.condition.Relation.TheVariants as relations
-use Rattle.predicates_rules.specs.declared.condition.State.TheVariants as states
-use Rattle.predicates_rules.specs.declared.condition.ValueKind.{ValueKind}
 use Rattle.predicates_rules.specs.declared.condition.ValueKind.TheVariants as value_kinds
+use Rattle.predicates_rules.specs.declared.fixed.Fixed.{Fixed}
 use Rattle.predicates_rules.specs.declared.fixed.Fixed.TheVariants as fixed
+use Rattle.predicates_rules.specs.declared.layout.Written.{Written}
+use Rattle.predicates_rules.specs.declared.layout.Written.TheVariants as writtens
 use Rattle.predicates_rules.specs.declared.lexer.Class.TheVariants.{Digit, Slash}
 use Rattle.predicates_rules.specs.Literals.{Literal, Natural, Negative, Decimal, Text, Boolean}
-use Rattle.predicates_rules.specs.Literals.{Null}
+use Rattle.predicates_rules.specs.Literals.{Null, literal_of}
 use Rattle.predicates_rules.specs.Signs as signs
 use Rattle.predicates_rules.specs.Signs.{Sign}
 use Rattle.predicates_rules.specs.Conditions.{Condition, Is, Compare, CompareWith, Length, IsOf}
 use Rattle.predicates_rules.specs.Conditions.{Relate, In, KeysIn}
 use Rattle.predicates_rules.specs.Trees.{Tree, Test, Not, Implies, Quantified, Joined, AtLeast}
 use Rattle.predicates_rules.specs.Trees.{Trees, none, more}
-use Rattle.predicates_rules.specs.Grammar.{Level, By, Single, Whole, Premise, separator_sign}
+use Rattle.predicates_rules.specs.Grammar.{Level, By, Single, Whole, Premise, separator_word}
 use Rattle.predicates_rules.specs.Grammar.{part_level}
 use Rattle.predicates_rules.specs.Lexemes.{class_of, continues, is_shown, text_of, data_of}
 
 -- ---- the tokens of an expression
 
--- v , .. , v ]
-abbrev pub items_signs : List Literal → List Sign
-items_signs [] = signs.CloseList ∷ []
-items_signs (v ∷ []) = signs.Literal v ∷ signs.CloseList ∷ []
-items_signs (v ∷ w ∷ vs) = signs.Literal v ∷ signs.Comma ∷ items_signs (w ∷ vs)
+abbrev pub literal_sign : Literal → Sign
+literal_sign (Boolean b) = signs.Word (fixed.Boolean b)
+literal_sign Null = signs.Word (fixed.ValueKind value_kinds.Null)
+literal_sign v = signs.Literal v
 
--- a kind of value, of which null is a literal
-abbrev pub kind_sign : ValueKind → Sign
-kind_sign value_kinds.Null = signs.Literal Null
-kind_sign k = signs.ValueKind k
+abbrev pub text_sign : List ℕ → Sign
+text_sign text = signs.Literal (Text text)
 
--- in [ v , .. , v ]
-abbrev pub among_signs : List Literal → List Sign
-among_signs vs = signs.In ∷ signs.OpenList ∷ items_signs vs
+-- whether a path can be written as it is
+unfoldable pub is_bare : List ℕ → Bool
+is_bare path = list_all (continues Slash) path && is_shown path
 
--- what stands before the path of a test
-abbrev pub lead_signs : Condition → List Sign
-lead_signs (KeysIn texts) = signs.Keys ∷ []
-lead_signs t = []
+-- a path as it is, or else as a text in quotes
+abbrev pub path_sign : List ℕ → Sign
+path_sign path = if is_bare path then signs.Path path else text_sign path
+
+-- , t .. , t
+abbrev pub following : List Sign → List Sign
+following [] = []
+following (t ∷ ts) = signs.Word fixed.Comma ∷ t ∷ following ts
+
+-- t , .. , t
+abbrev pub row_signs : List Sign → List Sign
+row_signs [] = []
+row_signs (t ∷ ts) = t ∷ following ts
+
+-- in [ t , .. , t ]
+abbrev pub among_signs : List Sign → List Sign
+among_signs ts = signs.Word fixed.In ∷ signs.Word fixed.OpenList
+    ∷ (row_signs ts ++ signs.Word fixed.CloseList ∷ [])
+
+-- the path of a test, and what stands before it
+abbrev pub subject_signs : List ℕ → Condition → List Sign
+subject_signs path (KeysIn texts) = signs.Word fixed.Keys ∷ path_sign path ∷ []
+subject_signs path t = path_sign path ∷ []
 
 -- and behind it
 abbrev pub condition_signs : Condition → List Sign
-condition_signs (Is s) = signs.State s ∷ []
-condition_signs (Compare o v) = signs.Comparison o ∷ signs.Literal v ∷ []
-condition_signs (CompareWith o path) = signs.Comparison o ∷ signs.Path path ∷ []
-condition_signs (Length o n) = signs.Length ∷ signs.Comparison o ∷ signs.Literal (Natural n) ∷ []
-condition_signs (IsOf k) = signs.Is ∷ kind_sign k ∷ []
-condition_signs (Relate r text) = signs.Relation r ∷ signs.Literal (Text text) ∷ []
-condition_signs (In vs) = among_signs vs
-condition_signs (KeysIn texts) = among_signs (map Text texts)
+condition_signs (Is s) = signs.Word (fixed.State s) ∷ []
+condition_signs (Compare o v) = signs.Word (fixed.Comparison o) ∷ literal_sign v ∷ []
+condition_signs (CompareWith o path) = signs.Word (fixed.Comparison o) ∷ signs.Path path ∷ []
+condition_signs (Length o n) =
+    signs.Word fixed.Length ∷ signs.Word (fixed.Comparison o) ∷ signs.Literal (Natural n) ∷ []
+condition_signs (IsOf k) = signs.Word fixed.Is ∷ signs.Word (fixed.ValueKind k) ∷ []
+condition_signs (Relate r text) = signs.Word (fixed.Relation r) ∷ text_sign text ∷ []
+condition_signs (In vs) = among_signs (map literal_sign vs)
+condition_signs (KeysIn texts) = among_signs (map text_sign texts)
+
+-- at least K
+abbrev pub threshold_signs : ℕ → List Sign
+threshold_signs k = signs.Word fixed.At ∷ signs.Word fixed.Least ∷ signs.Literal (Natural k) ∷ []
 
 abbrev pub quantifier_signs : HowMany → List Sign
-quantifier_signs quantifiers.Each = signs.Each ∷ []
-quantifier_signs quantifiers.Any = signs.Any ∷ []
-quantifier_signs (quantifiers.AtLeast k) = signs.At ∷ signs.Least ∷ signs.Literal (Natural k) ∷ []
+quantifier_signs quantifiers.Each = signs.Word fixed.Each ∷ []
+quantifier_signs quantifiers.Any = signs.Word fixed.Any ∷ []
+quantifier_signs (quantifiers.AtLeast k) = threshold_signs k
 
 abbrev pub in_parentheses : List Sign → List Sign
-in_parentheses ts = signs.Open ∷ ts ++ signs.Close ∷ []
+in_parentheses ts = signs.Word fixed.Open ∷ (ts ++ signs.Word fixed.Close ∷ [])
 
 -- what c joins may stand at a level as it is
 abbrev pub fits : Level → Connective → Bool
@@ -98,17 +120,18 @@ stands_at l c es = has_parts es && fits l c
 
 abbrev mutual
   pub signs_at : Level → Tree → List Sign
-  signs_at l (Test path t) = lead_signs t ++ signs.Path path ∷ condition_signs t
-  signs_at l (Not e) = signs.Not ∷ signs_at Single e
-  signs_at l (Implies a b) = if takes_if l
-      then signs.If ∷ (signs_at Whole a ++ signs.Then ∷ signs_at Whole b)
-      else in_parentheses (signs.If ∷ (signs_at Whole a ++ signs.Then ∷ signs_at Whole b))
+  signs_at l (Test path t) = subject_signs path t ++ condition_signs t
+  signs_at l (Not e) = signs.Word fixed.Not ∷ signs_at Single e
+  signs_at l (Implies a b) =
+      let ts = signs.Word fixed.If
+      ∷ (signs_at Whole a ++ signs.Word fixed.Then ∷ signs_at Whole b) in
+      if takes_if l then ts else in_parentheses ts
   signs_at l (Quantified q path e) =
-      quantifier_signs q ++ signs.Path path ∷ in_parentheses (signs_at Whole e)
+      quantifier_signs q ++ path_sign path ∷ in_parentheses (signs_at Whole e)
   signs_at l (Joined c es) = if stands_at l c es then part_signs (separators.Connective c) es
       else in_parentheses (part_signs (separators.Connective c) es)
-  signs_at l (AtLeast k es) = signs.At ∷ signs.Least ∷ signs.Literal (Natural k) ∷ signs.Of
-      ∷ in_parentheses (part_signs separators.Comma es)
+  signs_at l (AtLeast k es) =
+      threshold_signs k ++ signs.Word fixed.Of ∷ in_parentheses (part_signs separators.Comma es)
 
   -- E s .. s E
   pub part_signs : Separator → Trees → List Sign
@@ -118,7 +141,8 @@ abbrev mutual
   -- s E .. s E
   pub follow_signs : Separator → Trees → List Sign
   follow_signs s none = []
-  follow_signs s (more e es) = separator_sign s ∷ signs_at (part_level s) e ++ follow_signs s es
+  follow_signs s (more e es) =
+      signs.Word (separator_word s) ∷ (signs_at (part_level s) e ++ follow_signs s es)
 
 -- how deep an expression nests when it is written so
 abbrev mutual
@@ -172,76 +196,55 @@ literal_text (Decimal text x) = text
 literal_text v = compact_text (data_of v)
 
 abbrev pub word_of : Sign → List ℕ
-word_of (signs.Join Or) = text_of fixed.Or
-word_of (signs.Join Xor) = text_of fixed.Xor
-word_of (signs.Join And) = text_of fixed.And
-word_of signs.Not = text_of fixed.Not
-word_of signs.If = text_of fixed.If
-word_of signs.Then = text_of fixed.Then
-word_of signs.Each = text_of fixed.Each
-word_of signs.Any = text_of fixed.Any
-word_of signs.At = text_of fixed.At
-word_of signs.Keys = text_of fixed.Keys
-word_of signs.Least = text_of fixed.Least
-word_of signs.Of = text_of fixed.Of
-word_of signs.Open = text_of fixed.Open
-word_of signs.Close = text_of fixed.Close
-word_of signs.OpenList = text_of fixed.OpenList
-word_of signs.CloseList = text_of fixed.CloseList
-word_of signs.Comma = text_of fixed.Comma
+word_of (signs.Word f) = text_of f
 word_of (signs.Path path) = path_text path
-word_of (signs.Comparison comparisons.Equal) = text_of fixed.Equal
-word_of (signs.Comparison comparisons.Unequal) = text_of fixed.Unequal
-word_of (signs.Comparison comparisons.Below) = text_of fixed.Below
-word_of (signs.Comparison comparisons.AtMost) = text_of fixed.AtMost
-word_of (signs.Comparison comparisons.Above) = text_of fixed.Above
-word_of (signs.Comparison comparisons.AtLeast) = text_of fixed.AtLeast
-word_of (signs.Relation relations.StartsWith) = text_of fixed.StartsWith
-word_of (signs.Relation relations.EndsWith) = text_of fixed.EndsWith
-word_of (signs.Relation relations.Contains) = text_of fixed.Contains
-word_of (signs.Relation relations.Matches) = text_of fixed.Matches
-word_of signs.In = text_of fixed.In
-word_of (signs.State states.Exists) = text_of fixed.Exists
-word_of (signs.State states.Missing) = text_of fixed.Missing
-word_of (signs.State states.IsEmpty) = text_of fixed.IsEmpty
-word_of signs.Length = text_of fixed.Length
-word_of signs.Is = text_of fixed.Is
-word_of (signs.ValueKind value_kinds.Text) = text_of fixed.Text
-word_of (signs.ValueKind value_kinds.Number) = text_of fixed.Number
-word_of (signs.ValueKind value_kinds.Whole) = text_of fixed.Whole
-word_of (signs.ValueKind value_kinds.Boolean) = text_of fixed.Bool
-word_of (signs.ValueKind value_kinds.Array) = text_of fixed.Array
-word_of (signs.ValueKind value_kinds.Object) = text_of fixed.Object
-word_of (signs.ValueKind value_kinds.Null) = text_of fixed.Null
 word_of (signs.Literal v) = literal_text v
 word_of signs.End = []
 
 -- whether the next token follows at once
 abbrev pub opens : Sign → Bool
-opens signs.Open = true
-opens signs.OpenList = true
+opens (signs.Word fixed.Open) = true
+opens (signs.Word fixed.OpenList) = true
 opens t = false
 
 -- whether it follows the token before at once
 abbrev pub closes : Sign → Bool
-closes signs.Close = true
-closes signs.CloseList = true
-closes signs.Comma = true
+closes (signs.Word fixed.Close) = true
+closes (signs.Word fixed.CloseList) = true
+closes (signs.Word fixed.Comma) = true
 closes t = false
 
--- what stands between two tokens
-abbrev pub gap : Sign → Sign → List ℕ
-gap t u = if opens t || closes u then [] else 32 ∷ []
+-- the tokens as a rule lays them out, the first of them at once or behind a space
+abbrev pub laid_from : Bool → List Sign → List ℕ
+laid_from at_once [] = []
+laid_from at_once (t ∷ ts) =
+    (if at_once || closes t then [] else 32 ∷ []) ++ (word_of t ++ laid_from (opens t) ts)
 
--- the tokens behind t
-abbrev pub laid_behind : Sign → List Sign → List ℕ
-laid_behind t [] = []
-laid_behind t (u ∷ ts) = gap t u ++ (word_of u ++ laid_behind u ts)
-
--- the tokens as a rule lays them out
 abbrev pub laid : List Sign → List ℕ
-laid [] = []
-laid (t ∷ ts) = word_of t ++ laid_behind t ts
+laid ts = laid_from true ts
+
+abbrev pub written_sign : Written → Sign
+written_sign (writtens.Word f) = signs.Word f
+written_sign (writtens.Path path) = signs.Path path.now
+written_sign (writtens.Text text) = text_sign text.now
+written_sign (writtens.Number n) = signs.Literal (Natural n)
+written_sign (writtens.Value v) = literal_sign (literal_of v.now)
+
+-- what stands before a part of a row, behind so many others
+abbrev pub front_signs : Fixed → ℕ → List Sign
+front_signs w zero = []
+front_signs w (suc k) = signs.Word w ∷ []
+
+-- whether what stands behind them follows at once
+abbrev pub next_at : Bool → List Sign → Bool
+next_at at_once [] = at_once
+next_at at_once (t ∷ ts) = next_at (opens t) ts
+
+-- they are written so
+pub record Lays {W : Type 0} (took : W → List ℕ → W → Type 0) (f : Formatter W) (at_once : Bool)
+    (ts : List Sign) (next : Bool) (g : Formatter W) : Type 0 where
+  pub next_is : next ≡ next_at at_once ts
+  pub writes : DisplaysOnOk took f (Ok tt) (Some (laid_from at_once ts)) g
 
 abbrev pub printed : Tree → List ℕ
 printed e = laid (signs_at Whole e)
@@ -251,13 +254,15 @@ abbrev pub Begins : ℕ → ℕ → List ℕ → Type 0
 Begins b c [] = b ≡ 47
 Begins b c bytes = (b ≡ 47) ⊎ (b ≡ 94) × (c ≡ 47)
 
--- A path that a rule can write: empty, or / and more, or ^ and such a pointer, with no no-break
--- space, space, mark, operator, # or control character.
+-- a path that a rule can write: empty, or / and more, or ^ and such a pointer
 abbrev pub IsPath : List ℕ → Type 0
 IsPath [] = Unit {0}
 IsPath (b ∷ []) = b ≡ 94
-IsPath (b ∷ c ∷ bytes) = Begins b c bytes × (list_all (continues Slash) (c ∷ bytes) ≡ true)
-    × (is_shown (b ∷ c ∷ bytes) ≡ true)
+IsPath (b ∷ c ∷ bytes) = Begins b c bytes × IsUtf8 (b ∷ c ∷ bytes)
+
+-- one with no quotes: it has no no-break space, space, mark, operator, # or control character
+abbrev pub IsBarePath : List ℕ → Type 0
+IsBarePath path = IsPath path × (is_bare path ≡ true)
 
 -- one word of a number that JSON reads as x
 abbrev pub IsDecimal : List ℕ → Float → Type 0
@@ -283,7 +288,7 @@ AreLiterals (v ∷ vs) = IsLiteral v × AreLiterals vs
 abbrev pub IsPlainCondition : Condition → Type 0
 IsPlainCondition (Is s) = Unit {0}
 IsPlainCondition (Compare o v) = IsLiteral v
-IsPlainCondition (CompareWith o path) = IsPath path
+IsPlainCondition (CompareWith o path) = IsBarePath path
 IsPlainCondition (Length o n) = IsLiteral (Natural n)
 IsPlainCondition (IsOf k) = Unit {0}
 IsPlainCondition (Relate r text) = IsUtf8 text

@@ -18,7 +18,7 @@ use Rattle.predicates_rules.specs.Literals.{Null}
 use Rattle.predicates_rules.specs.Signs as signs
 use Rattle.predicates_rules.specs.Signs.{Sign, sign_of}
 use Rattle.predicates_rules.specs.Answers.{◌>>=◌, stops}
-use Rattle.predicates_rules.specs.Lexemes.{class_of, is_space, fixed_at, sign_of_fixed, cut}
+use Rattle.predicates_rules.specs.Lexemes.{class_of, is_space, fixed_at, cut}
 use Rattle.predicates_rules.specs.Lexemes.{is_shown, is_path, pointer}
 
 -- the number that a word is
@@ -41,7 +41,7 @@ literal_from word = if is_utf8 word then option_and_then (literal_in word) (read
 
 abbrev pub sign_or : ℕ → Option Fixed → Result Sign Stop
 sign_or left None = stops expected.Token left
-sign_or left (Some f) = Ok (sign_of_fixed f)
+sign_or left (Some f) = Ok (signs.Word f)
 
 abbrev pub literal_or : Expected → ℕ → Option Literal → Result Sign Stop
 literal_or x left None = stops x left

@@ -22,6 +22,7 @@ impl fmt::Display for Denied<'_> {
     ghost output = { λ denied. Some (printed (Not (tree_of denied.0.now))) };
 
     fn fmt<W: fmt::Write>(&self, f: &mut fmt::Formatter<W>) -> fmt::Result {
-        fmt_not(self.0, f)
+        fmt_not(self.0, true, f)?;
+        Ok(())
     }
 }

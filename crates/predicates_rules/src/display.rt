@@ -2,5 +2,5 @@
 
 mod condition;
 pub mod expression;
-mod literal;
+pub mod literal;
 mod words;

@@ -1,49 +1,41 @@
 //! What the lines of a text say: their rules, and their faults.
 
-ghost use Rattle.std.specs.Prelude.{◌≡◌, ◌++◌, ◌∷◌, [], IfOk, Some, map, option_map, string_bytes};
-ghost use Rattle.std.specs.List.{find};
-ghost use Rattle.std.specs.Str.{bytes_eq};
+ghost use Rattle.std.specs.Prelude.{◌≡◌, ◌++◌, ◌∷◌, [], IfOk, None, Some, map, string_bytes};
 ghost use Rattle.predicates_rules.specs.Grammar.{max_depth};
 ghost use Rattle.predicates_rules.specs.Rules.{rule_of, IsLine};
 ghost use Rattle.predicates_rules.specs.Faults.{number_named, IsFaultAt, IsRepeatAt};
-ghost use Rattle.predicates_rules.specs.Findings.{numbered_of, HasAdded, HasFound};
+ghost use Rattle.predicates_rules.specs.Findings.{numbered_of, rules_in, HasAdded, HasFound};
 
 use crate::error::Reason;
+use crate::expression::Expression;
 use crate::fault::Fault;
 use crate::hint::hint_at;
 use crate::lexer::told_len;
 use crate::reader::{behind_spaces, read_line};
 use crate::rule::Rule;
 use crate::stop::{ReadError, Stop};
+use indexmap::IndexMap;
 use std::alloc::{AllocError, Global};
 
-/// A rule with the number of its line.
+/// What a rule says, with the number of its line.
 #[derive(Drop)]
 pub struct Numbered {
-    pub rule: Rule,
+    pub expression: Expression,
     pub line: usize,
 }
 
-/// The rules of lines, each under a name of its own, and the faults of the other lines.
+/// The rules of lines by their names, and the faults of the other lines.
 #[derive(Drop)]
 pub struct Findings {
-    pub rules: Vec<Numbered>,
+    pub rules: IndexMap<String, Numbered>,
     pub faults: Vec<Fault>,
 }
 
-// The rule with this name.
-fn rule_named<'a>(rules: &'a [Numbered], name: &str) -> Option<&'a Numbered>
-    ensures { option_map (λ x. x.now) result
-        ≡ find (λ n. bytes_eq (string_bytes n.rule.name) name.now) rules.now }
+// The number of the line that has the rule with this name.
+fn line_named(rules: &IndexMap<String, Numbered>, name: &str) -> Option<usize>
+    ensures { result ≡ number_named name.now (map numbered_of rules.now.entries) }
 {
-    rules.iter().find(|other| other.rule.name.as_str() == name)
-}
-
-// The number of its line.
-fn line_named(rules: &[Numbered], name: &str) -> Option<usize>
-    ensures { result ≡ number_named name.now (map numbered_of rules.now) }
-{
-    let found = rule_named(rules, name)?;
+    let found = rules.get(name)?;
     Some(found.line)
 }
 
@@ -93,10 +85,12 @@ fn with_fault(mut findings: Findings, fault: Fault) -> Result<Findings, AllocErr
 }
 
 fn with_new(mut findings: Findings, rule: Rule, line: usize) -> Result<Findings, AllocError>
-    ensures { IfOk result (λ after. (after.faults ≡ findings.faults) × (after.rules.items
-        ≡ findings.rules.items ++ record { rule = rule; line = line } ∷ [])) }
+    requires { number_named (string_bytes rule.name) (rules_in findings) ≡ None }
+    ensures { IfOk result (λ after. (after.faults ≡ findings.faults)
+        × (rules_in after ≡ rules_in findings ++ (line, rule_of rule) ∷ [])) }
 {
-    findings.rules.push(Numbered { rule, line })?;
+    let Rule { name, expression } = rule;
+    findings.rules.insert(name, Numbered { expression, line })?;
     Ok(findings)
 }
 
@@ -142,7 +136,7 @@ fn with_line(
 pub fn read_lines(alloc: Global, lines: &[&[u8]], most: usize) -> Result<Findings, AllocError>
     ensures { IfOk result (HasFound most (map (λ x. x.now) lines.now)) }
 {
-    let rules = Vec::new(alloc);
+    let rules = IndexMap::new(alloc);
     let faults = Vec::new(alloc);
     let mut findings = Findings { rules, faults };
     for (i, line) in lines.iter().enumerate() {
@@ -155,11 +149,14 @@ pub fn read_lines(alloc: Global, lines: &[&[u8]], most: usize) -> Result<Finding
 }
 
 /// The rules without the numbers of their lines.
-pub fn unnumbered(alloc: Global, rules: Vec<Numbered>) -> Result<Vec<Rule>, AllocError>
-    ensures { IfOk result (λ v. map rule_of v.items ≡ map (λ n. rule_of n.rule) rules.items) }
+pub fn unnumbered(alloc: Global, rules: IndexMap<String, Numbered>) -> Result<Vec<Rule>, AllocError>
+    ensures { IfOk result (λ v. map rule_of v.items ≡ map (λ n. (numbered_of n).1) rules.entries) }
 {
     rules
         .into_iter()
-        .map(|numbered| numbered.rule)
+        .map(|(name, numbered)| Rule {
+            name,
+            expression: numbered.expression,
+        })
         .collect(alloc)
 }

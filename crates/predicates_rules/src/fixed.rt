@@ -1,21 +1,16 @@
-//! The tokens whose text is always the same.
+//! The words, operators and marks of rules: the tokens whose text is always the same.
 
 ghost use Rattle.std.specs.Prelude.{◌≡◌};
 ghost use Rattle.std.specs.List.{find};
 ghost use Rattle.std.specs.Str.{bytes_eq};
-ghost use Rattle.predicates_rules.specs.Signs.{sign_of};
-ghost use Rattle.predicates_rules.specs.Lexemes.{text_of, sign_of_fixed, fixed_at};
+ghost use Rattle.predicates_rules.specs.Lexemes.{text_of, fixed_at};
 
 use crate::condition::{Comparison, Relation, State, ValueKind};
 use crate::expression::Connective;
-use crate::literal::Literal;
-use crate::token::Kind;
 
 #[derive(Clone, Copy, Debug, PartialEq, Eq)]
 pub enum Fixed {
-    Or,
-    Xor,
-    And,
+    Join(Connective),
     Not,
     If,
     Then,
@@ -25,31 +20,15 @@ pub enum Fixed {
     Keys,
     Least,
     Of,
-    StartsWith,
-    EndsWith,
-    Contains,
-    Matches,
+    Relation(Relation),
     In,
-    Exists,
-    Missing,
-    IsEmpty,
+    State(State),
     Length,
     Is,
-    Text,
-    Number,
-    Whole,
-    Bool,
-    Array,
-    Object,
-    True,
-    False,
-    Null,
-    Equal,
-    Unequal,
-    Below,
-    AtMost,
-    Above,
-    AtLeast,
+    /// Of which `null` is a literal too.
+    ValueKind(ValueKind),
+    Boolean(bool),
+    Comparison(Comparison),
     Open,
     Close,
     OpenList,
@@ -59,9 +38,9 @@ pub enum Fixed {
 
 /// All of them.
 pub const ALL: [Fixed; 42] = [
-    Fixed::Or,
-    Fixed::Xor,
-    Fixed::And,
+    Fixed::Join(Connective::Or),
+    Fixed::Join(Connective::Xor),
+    Fixed::Join(Connective::And),
     Fixed::Not,
     Fixed::If,
     Fixed::Then,
@@ -71,31 +50,31 @@ pub const ALL: [Fixed; 42] = [
     Fixed::Keys,
     Fixed::Least,
     Fixed::Of,
-    Fixed::StartsWith,
-    Fixed::EndsWith,
-    Fixed::Contains,
-    Fixed::Matches,
+    Fixed::Relation(Relation::StartsWith),
+    Fixed::Relation(Relation::EndsWith),
+    Fixed::Relation(Relation::Contains),
+    Fixed::Relation(Relation::Matches),
     Fixed::In,
-    Fixed::Exists,
-    Fixed::Missing,
-    Fixed::IsEmpty,
+    Fixed::State(State::Exists),
+    Fixed::State(State::Missing),
+    Fixed::State(State::IsEmpty),
     Fixed::Length,
     Fixed::Is,
-    Fixed::Text,
-    Fixed::Number,
-    Fixed::Whole,
-    Fixed::Bool,
-    Fixed::Array,
-    Fixed::Object,
-    Fixed::True,
-    Fixed::False,
-    Fixed::Null,
-    Fixed::Equal,
-    Fixed::Unequal,
-    Fixed::Below,
-    Fixed::AtMost,
-    Fixed::Above,
-    Fixed::AtLeast,
+    Fixed::ValueKind(ValueKind::Text),
+    Fixed::ValueKind(ValueKind::Number),
+    Fixed::ValueKind(ValueKind::Whole),
+    Fixed::ValueKind(ValueKind::Boolean),
+    Fixed::ValueKind(ValueKind::Array),
+    Fixed::ValueKind(ValueKind::Object),
+    Fixed::ValueKind(ValueKind::Null),
+    Fixed::Boolean(true),
+    Fixed::Boolean(false),
+    Fixed::Comparison(Comparison::Equal),
+    Fixed::Comparison(Comparison::Unequal),
+    Fixed::Comparison(Comparison::Below),
+    Fixed::Comparison(Comparison::AtMost),
+    Fixed::Comparison(Comparison::Above),
+    Fixed::Comparison(Comparison::AtLeast),
     Fixed::Open,
     Fixed::Close,
     Fixed::OpenList,
@@ -104,109 +83,67 @@ pub const ALL: [Fixed; 42] = [
 ];
 
 /// How the token is written.
-pub fn text(fixed: Fixed) -> &'static [u8]
+pub fn text(fixed: Fixed) -> &'static str
     ensures { result.now ≡ text_of fixed }
 {
     match fixed {
-        Fixed::Or => b"or",
-        Fixed::Xor => b"xor",
-        Fixed::And => b"and",
-        Fixed::Not => b"not",
-        Fixed::If => b"if",
-        Fixed::Then => b"then",
-        Fixed::Each => b"each",
-        Fixed::Any => b"any",
-        Fixed::At => b"at",
-        Fixed::Keys => b"keys",
-        Fixed::Least => b"least",
-        Fixed::Of => b"of",
-        Fixed::StartsWith => b"starts_with",
-        Fixed::EndsWith => b"ends_with",
-        Fixed::Contains => b"contains",
-        Fixed::Matches => b"matches",
-        Fixed::In => b"in",
-        Fixed::Exists => b"exists",
-        Fixed::Missing => b"missing",
-        Fixed::IsEmpty => b"is_empty",
-        Fixed::Length => b"length",
-        Fixed::Is => b"is",
-        Fixed::Text => b"text",
-        Fixed::Number => b"number",
-        Fixed::Whole => b"whole",
-        Fixed::Bool => b"bool",
-        Fixed::Array => b"array",
-        Fixed::Object => b"object",
-        Fixed::True => b"true",
-        Fixed::False => b"false",
-        Fixed::Null => b"null",
-        Fixed::Equal => b"==",
-        Fixed::Unequal => b"!=",
-        Fixed::Below => b"<",
-        Fixed::AtMost => b"<=",
-        Fixed::Above => b">",
-        Fixed::AtLeast => b">=",
-        Fixed::Open => b"(",
-        Fixed::Close => b")",
-        Fixed::OpenList => b"[",
-        Fixed::CloseList => b"]",
-        Fixed::Comma => b",",
+        Fixed::Join(Connective::Or) => "or",
+        Fixed::Join(Connective::Xor) => "xor",
+        Fixed::Join(Connective::And) => "and",
+        Fixed::Not => "not",
+        Fixed::If => "if",
+        Fixed::Then => "then",
+        Fixed::Each => "each",
+        Fixed::Any => "any",
+        Fixed::At => "at",
+        Fixed::Keys => "keys",
+        Fixed::Least => "least",
+        Fixed::Of => "of",
+        Fixed::Relation(Relation::StartsWith) => "starts_with",
+        Fixed::Relation(Relation::EndsWith) => "ends_with",
+        Fixed::Relation(Relation::Contains) => "contains",
+        Fixed::Relation(Relation::Matches) => "matches",
+        Fixed::In => "in",
+        Fixed::State(State::Exists) => "exists",
+        Fixed::State(State::Missing) => "missing",
+        Fixed::State(State::IsEmpty) => "is_empty",
+        Fixed::Length => "length",
+        Fixed::Is => "is",
+        Fixed::ValueKind(ValueKind::Text) => "text",
+        Fixed::ValueKind(ValueKind::Number) => "number",
+        Fixed::ValueKind(ValueKind::Whole) => "whole",
+        Fixed::ValueKind(ValueKind::Boolean) => "bool",
+        Fixed::ValueKind(ValueKind::Array) => "array",
+        Fixed::ValueKind(ValueKind::Object) => "object",
+        Fixed::ValueKind(ValueKind::Null) => "null",
+        Fixed::Boolean(true) => "true",
+        Fixed::Boolean(false) => "false",
+        Fixed::Comparison(Comparison::Equal) => "==",
+        Fixed::Comparison(Comparison::Unequal) => "!=",
+        Fixed::Comparison(Comparison::Below) => "<",
+        Fixed::Comparison(Comparison::AtMost) => "<=",
+        Fixed::Comparison(Comparison::Above) => ">",
+        Fixed::Comparison(Comparison::AtLeast) => ">=",
+        Fixed::Open => "(",
+        Fixed::Close => ")",
+        Fixed::OpenList => "[",
+        Fixed::CloseList => "]",
+        Fixed::Comma => ",",
     }
 }
 
-/// What the token is to a parser.
-pub fn kind(fixed: Fixed) -> Kind
-    ensures { sign_of result ≡ sign_of_fixed fixed }
+pub fn is_same(a: Fixed, b: Fixed) -> bool
+    ensures { result ≡ bytes_eq (text_of a) (text_of b) }
 {
-    match fixed {
-        Fixed::Or => Kind::Join(Connective::Or),
-        Fixed::Xor => Kind::Join(Connective::Xor),
-        Fixed::And => Kind::Join(Connective::And),
-        Fixed::Not => Kind::Not,
-        Fixed::If => Kind::If,
-        Fixed::Then => Kind::Then,
-        Fixed::Each => Kind::Each,
-        Fixed::Any => Kind::Any,
-        Fixed::At => Kind::At,
-        Fixed::Keys => Kind::Keys,
-        Fixed::Least => Kind::Least,
-        Fixed::Of => Kind::Of,
-        Fixed::StartsWith => Kind::Relation(Relation::StartsWith),
-        Fixed::EndsWith => Kind::Relation(Relation::EndsWith),
-        Fixed::Contains => Kind::Relation(Relation::Contains),
-        Fixed::Matches => Kind::Relation(Relation::Matches),
-        Fixed::In => Kind::In,
-        Fixed::Exists => Kind::State(State::Exists),
-        Fixed::Missing => Kind::State(State::Missing),
-        Fixed::IsEmpty => Kind::State(State::IsEmpty),
-        Fixed::Length => Kind::Length,
-        Fixed::Is => Kind::Is,
-        Fixed::Text => Kind::ValueKind(ValueKind::Text),
-        Fixed::Number => Kind::ValueKind(ValueKind::Number),
-        Fixed::Whole => Kind::ValueKind(ValueKind::Whole),
-        Fixed::Bool => Kind::ValueKind(ValueKind::Boolean),
-        Fixed::Array => Kind::ValueKind(ValueKind::Array),
-        Fixed::Object => Kind::ValueKind(ValueKind::Object),
-        Fixed::True => Kind::Literal(Literal::Boolean(true)),
-        Fixed::False => Kind::Literal(Literal::Boolean(false)),
-        Fixed::Null => Kind::Literal(Literal::Null),
-        Fixed::Equal => Kind::Comparison(Comparison::Equal),
-        Fixed::Unequal => Kind::Comparison(Comparison::Unequal),
-        Fixed::Below => Kind::Comparison(Comparison::Below),
-        Fixed::AtMost => Kind::Comparison(Comparison::AtMost),
-        Fixed::Above => Kind::Comparison(Comparison::Above),
-        Fixed::AtLeast => Kind::Comparison(Comparison::AtLeast),
-        Fixed::Open => Kind::Open,
-        Fixed::Close => Kind::Close,
-        Fixed::OpenList => Kind::OpenList,
-        Fixed::CloseList => Kind::CloseList,
-        Fixed::Comma => Kind::Comma,
-    }
+    text(a) == text(b)
 }
 
 fn among(all: &[Fixed], word: &[u8]) -> Option<Fixed>
     ensures { result ≡ find (λ f. bytes_eq (text_of f) word.now) all.now }
 {
-    all.iter().copied().find(|fixed| text(*fixed) == word)
+    all.iter()
+        .copied()
+        .find(|fixed| text(*fixed).as_bytes() == word)
 }
 
 /// The token with this text.

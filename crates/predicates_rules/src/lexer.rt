@@ -2,8 +2,8 @@
 
 ghost use Rattle.std.specs.Prelude.{◌≡◌, ℕ, ◌+◌, ◌≤◌, List, map, option_map, length, IfOk, IfErr};
 ghost use Rattle.std.specs.Prelude.{IfSome, MatchOption, Ok, Some, None, string_bytes, [], false};
-ghost use Rattle.std.specs.Prelude.{not, ◌&&◌, ◌==◌, true};
-ghost use Rattle.std.specs.List.{list_any, prefix_len};
+ghost use Rattle.std.specs.Prelude.{not, ◌&&◌, ◌==◌, true, if◌then◌else◌};
+ghost use Rattle.std.specs.List.{list_all, list_any, prefix_len};
 ghost use Rattle.std.specs.Str.{chars};
 ghost use Rattle.serde_json.specs.View.{view, number_view};
 ghost use Rattle.predicates_rules.specs.Literals.{literal_of};
@@ -15,11 +15,12 @@ ghost use Rattle.predicates_rules.specs.Lexemes.{pointer, IsLexed};
 ghost use Rattle.predicates_rules.specs.Scanning.{number_in, literal_in, literal_from, front_class};
 ghost use Rattle.predicates_rules.specs.Scanning.{path_or, sign_in, token_at, after_space, placed};
 ghost use Rattle.predicates_rules.specs.Heading.{title_or};
+ghost use Rattle.predicates_rules.specs.Printing.{is_bare};
 ghost use Rattle.predicates_rules.specs.Answers.{Gives, IsStop, stop_at};
 ghost use Rattle.predicates_rules.specs.Faults.{NoToken, told_class, told_len};
 
 use crate::error::{Expected, Reason};
-use crate::fixed::{fixed_of, kind};
+use crate::fixed::fixed_of;
 use crate::literal::Literal;
 use crate::stop::{ReadError, Stop};
 use crate::token::{Kind, Token};
@@ -238,13 +239,13 @@ pub fn stop(expected: Expected, left: usize) -> ReadError
 }
 
 // The pointer that a path is written as.
-fn pointer_of(alloc: Global, path: &str) -> Result<String, ReadError>
-    ensures { Gives string_bytes result (Ok (pointer path.now)) }
+fn pointer_of(alloc: Global, path: &str) -> Result<String, AllocError>
+    ensures { IfOk result (λ p. string_bytes p ≡ pointer path.now) }
 {
     match path.as_bytes() {
         [_] => Ok(String::new(alloc)),
-        [b'^', b'/'] => Ok(String::from_str(alloc, "^")?),
-        _ => Ok(String::from_str(alloc, path)?),
+        [b'^', b'/'] => String::from_str(alloc, "^"),
+        _ => String::from_str(alloc, path),
     }
 }
 
@@ -320,7 +321,8 @@ pub fn is_quoted(text: &[u8]) -> bool
     }
 }
 
-fn is_path(word: &[u8]) -> bool
+/// Whether it begins with `/`, or with `^/`.
+pub fn is_path(word: &[u8]) -> bool
     ensures { result ≡ is_path word.now }
 {
     match word {
@@ -328,6 +330,41 @@ fn is_path(word: &[u8]) -> bool
         [b'^', b'/', ..] => true,
         _ => false,
     }
+}
+
+/// The pointer that a text in quotes is, if it is a path.
+pub fn quoted_path(alloc: Global, text: &str) -> Result<Option<String>, AllocError>
+    ensures { IfOk result (λ p. option_map string_bytes p
+        ≡ (if is_path text.now then Some (pointer text.now) else None)) }
+{
+    if is_path(text.as_bytes()) {
+        Ok(Some(pointer_of(alloc, text)?))
+    } else {
+        Ok(None)
+    }
+}
+
+fn shows(bytes: &[u8]) -> bool
+    ensures { result ≡ is_shown bytes.now }
+{
+    match shown(bytes) {
+        Some(_) => true,
+        None => false,
+    }
+}
+
+fn goes_on(bytes: &[u8]) -> bool
+    ensures { result ≡ list_all (continues Class.Slash) bytes.now }
+{
+    bytes.iter().all(|b| belongs(Class::Slash, *b))
+}
+
+/// Whether a path is a token as it stands.
+#[tactic(auto, unfolding(crate::specs::Printing::is_bare))]
+pub fn is_bare(path: &str) -> bool
+    ensures { result ≡ is_bare path.now }
+{
+    goes_on(path.as_bytes()) && shows(path.as_bytes())
 }
 
 fn path_token(alloc: Global, left: usize, word: &[u8]) -> Result<Kind, ReadError>
@@ -349,7 +386,7 @@ fn token_of(alloc: Global, class: Class, left: usize, word: &[u8]) -> Result<Kin
 {
     match class {
         Class::Letter | Class::Symbol | Class::Mark => match fixed_of(word) {
-            Some(fixed) => Ok(kind(fixed)),
+            Some(fixed) => Ok(Kind::Word(fixed)),
             None => Err(stop(Expected::Token, left)),
         },
         Class::Digit => match literal(alloc, word)? {

@@ -20,11 +20,12 @@
 //!
 //! A path is a JSON pointer, and `/` alone the record. Inside `each`, `any` and `at least K PATH`
 //! it begins at the item, but behind `^` at the record: `^/currency`, and `^/` alone the record. It
-//! ends at a space, a parenthesis, a bracket, a comma, an operator, a `#` and a control character.
-//! Paths and names of rules have no no-break space. A literal L is a text or a number as JSON
-//! writes it, `true`, `false` or `null`, and T is such a text. A number K is a whole number from 0
-//! to 2^64 - 1. Numbers that overflow a 64-bit float are refused, as are lists and objects. Names
-//! of rules may be any of the words above, but no two rules have the same.
+//! ends at a space, a parenthesis, a bracket, a comma, an operator, a `#` and a control character;
+//! one that goes on there is written as a text, `"/Order ID"`, though not behind an operator, where
+//! that is a text. Names of rules, and paths without quotes, have no no-break space. A literal L is
+//! a text or a number as JSON writes it, `true`, `false` or `null`, and T is such a text. A number
+//! K is a whole number from 0 to 2^64 - 1. Numbers that overflow a 64-bit float are refused, as are
+//! lists and objects. Names of rules may be any of the words above, but no two rules have the same.
 //!
 //! An `Expression` prints as a rule writes it: a space between two tokens, but none inside
 //! parentheses and brackets and none before a comma, and no more parentheses than it needs. The
@@ -34,12 +35,14 @@
 pub mod condition;
 pub mod denied;
 mod display;
+mod element;
 pub mod error;
 pub mod expression;
 pub mod fault;
 mod findings;
 mod fixed;
 pub mod hint;
+mod layout;
 mod lexer;
 pub mod literal;
 mod parser;

@@ -1,28 +1,28 @@
 //! Reads an expression from its tokens.
 
-ghost use Rattle.std.specs.Prelude.{◌≡◌, ℕ, List, map, option_map, string_bytes, IfOk, IfErr, Ok};
-ghost use Rattle.std.specs.Prelude.{length};
-ghost use Rattle.predicates_rules.specs.Literals.{literal_of};
-ghost use Rattle.predicates_rules.specs.Signs.{Sign, signs};
+ghost use Rattle.std.specs.Prelude.{◌≡◌, ℕ, suc, List, Option, map, option_map, string_bytes, is_some};
+ghost use Rattle.std.specs.Prelude.{IfOk, IfErr, Ok, length};
+ghost use Rattle.predicates_rules.specs.Signs.{Sign, sign_of, signs};
 ghost use Rattle.predicates_rules.specs.Conditions.{condition_of};
 ghost use Rattle.predicates_rules.specs.Trees.{Tree, tree_of, trees_of};
-ghost use Rattle.predicates_rules.specs.Grammar.{tighter, Whole, IsSpelled};
+ghost use Rattle.predicates_rules.specs.Grammar.{tighter, separator_word, path_in, Whole};
+ghost use Rattle.predicates_rules.specs.Grammar.{IsSpelled};
 ghost use Rattle.predicates_rules.specs.Levels.{level_of};
 ghost use Rattle.predicates_rules.specs.Answers.{Gives, IsSyntax, stop_at};
-ghost use Rattle.predicates_rules.specs.Reading.{literal_at, goes_on_at, items_at, list_at};
-ghost use Rattle.predicates_rules.specs.Reading.{after_bracket, text_at, compared_at};
-ghost use Rattle.predicates_rules.specs.Reading.{comparison_at, length_at, kind_at, condition_at};
-ghost use Rattle.predicates_rules.specs.Reading.{after_in, texts_at, text_list_at, keys_at};
-ghost use Rattle.predicates_rules.specs.Reading.{path_at, after_open, after_close, after_then};
-ghost use Rattle.predicates_rules.specs.Reading.{after_least, count_at, same, after_join};
-ghost use Rattle.predicates_rules.specs.Reading.{after_comma, after_separator, group, quantified};
-ghost use Rattle.predicates_rules.specs.Reading.{listed, counted, threshold, single, part_at};
-ghost use Rattle.predicates_rules.specs.Reading.{parts_at, join, chain, implication, whole};
-ghost use Rattle.predicates_rules.specs.Reading.{at_level, below, is_end, all_of};
+ghost use Rattle.predicates_rules.specs.Reading.{is_word, next_word, after, one_at, count_at};
+ghost use Rattle.predicates_rules.specs.Reading.{comparison_at, kind_at, parts_at, row_at, items_at};
+ghost use Rattle.predicates_rules.specs.Reading.{list_at, other_path_at, compared_at, length_at};
+ghost use Rattle.predicates_rules.specs.Reading.{said_by, condition_at, test_at, keys_at, group};
+ghost use Rattle.predicates_rules.specs.Reading.{quantified, listed, counted, threshold, begun_by};
+ghost use Rattle.predicates_rules.specs.Reading.{single, part_at, join, chain, implication, whole};
+ghost use Rattle.predicates_rules.specs.Reading.{is_first, begins, at_level, below, is_end, all_of};
 
 use crate::condition::{Comparison, Condition, ValueKind};
+use crate::element::Element;
 use crate::error::{Expected, Reason};
 use crate::expression::{Connective, Expression, HowMany, MAX_DEPTH};
+use crate::fixed::{Fixed, is_same};
+use crate::lexer::{is_path, quoted_path};
 use crate::literal::Literal;
 use crate::stop::{ReadError, Stop};
 use crate::token::{Kind, Token};
@@ -38,85 +38,126 @@ fn stop(expected: Expected, tokens: &[Token]) -> ReadError
     })
 }
 
-fn copy(literal: &Literal) -> Result<Literal, AllocError>
-    ensures { IfOk result (λ v. literal_of v ≡ literal_of literal.now) }
+fn is_word(word: Fixed, kind: &Kind) -> bool
+    ensures { result ≡ is_word word (sign_of kind.now) }
 {
-    match literal {
-        Literal::Natural(n) => Ok(Literal::Natural(*n)),
-        Literal::Negative(n) => Ok(Literal::Negative(*n)),
-        Literal::Decimal { text, value } => Ok(Literal::Decimal {
-            text: text.clone()?,
-            value: *value,
-        }),
-        Literal::Text(text) => Ok(Literal::Text(text.clone()?)),
-        Literal::Boolean(b) => Ok(Literal::Boolean(*b)),
-        Literal::Null => Ok(Literal::Null),
+    match kind {
+        Kind::Word(found) => is_same(*found, word),
+        _ => false,
     }
 }
 
-#[tactic(auto, unfolding(crate::specs::Reading::path_at))]
-fn path_of(tokens: &[Token]) -> Result<(String, &[Token]), ReadError>
-    ensures { Gives (λ x. (string_bytes x.0, signs x.1.now)) result (path_at (signs tokens.now)) }
+// What stands behind the word, if it is next.
+#[tactic(auto, unfolding(crate::specs::Reading::next_word))]
+fn next(word: Fixed, tokens: &[Token]) -> Option<&[Token]>
+    ensures { option_map (λ x. signs x.now) result ≡ next_word word (signs tokens.now) }
 {
     let [first, rest @ ..] = tokens else {
-        return Err(stop(Expected::Path, tokens));
+        return None;
     };
-    match &first.kind {
-        Kind::Path(path) => Ok((path.clone()?, rest)),
-        _ => Err(stop(Expected::Path, tokens)),
+    is_word(word, &first.kind).then_some(rest)
+}
+
+// What stands behind the word, where else `expected` would be.
+#[tactic(auto, unfolding(crate::specs::Reading::after))]
+fn behind(word: Fixed, expected: Expected, tokens: &[Token]) -> Result<&[Token], ReadError>
+    ensures { Gives (λ x. signs x.now) result (after word expected (signs tokens.now)) }
+{
+    match next(word, tokens) {
+        Some(rest) => Ok(rest),
+        None => Err(stop(expected, tokens)),
     }
 }
 
-#[tactic(auto, unfolding(crate::specs::Reading::after_open))]
-fn open(tokens: &[Token]) -> Result<&[Token], ReadError>
-    ensures { Gives (λ x. signs x.now) result (after_open (signs tokens.now)) }
+#[tactic(auto, unfolding(crate::specs::Reading::one_at))]
+fn element<T: Element>(tokens: &[Token]) -> Result<(T, &[Token]), ReadError>
+    ensures { Gives (λ x. (T.value x.0, signs x.1.now)) result
+        (one_at T.seen T.expected (signs tokens.now)) }
 {
     let [first, rest @ ..] = tokens else {
-        return Err(stop(Expected::Open, tokens));
+        return Err(stop(T::expected(), tokens));
     };
-    match first.kind {
-        Kind::Open => Ok(rest),
-        _ => Err(stop(Expected::Open, tokens)),
+    match T::seen(&first.kind)? {
+        Some(element) => Ok((element, rest)),
+        None => Err(stop(T::expected(), tokens)),
     }
 }
 
-// What stands behind the parenthesis that closes, where else `expected` would be.
-#[tactic(auto, unfolding(crate::specs::Reading::after_close))]
-fn close(expected: Expected, tokens: &[Token]) -> Result<&[Token], ReadError>
-    ensures { Gives (λ x. signs x.now) result (after_close expected (signs tokens.now)) }
+// The elements behind the first one, each with the comma before it.
+fn elements<T: Element>(alloc: Global, tokens: &[Token]) -> Result<(Vec<T>, &[Token]), ReadError>
+    ensures { Gives (λ x. (map T.value x.0.items, signs x.1.now)) result
+        (parts_at (length (signs tokens.now)) Fixed.Comma (one_at T.seen T.expected)
+        (signs tokens.now)) }
+{
+    let mut elements = Vec::new(alloc);
+    let mut left = tokens;
+    while let Some(rest) = next(Fixed::Comma, left) {
+        let (element, rest) = element(rest)?;
+        elements.push(element)?;
+        left = rest;
+    }
+    Ok((elements, left))
+}
+
+#[tactic(auto, unfolding(crate::specs::Reading::row_at))]
+fn row<T: Element>(alloc: Global, tokens: &[Token]) -> Result<(Vec<T>, &[Token]), ReadError>
+    ensures { Gives (λ x. (map T.value x.0.items, signs x.1.now)) result
+        (row_at Fixed.CloseList Expected.ListGoesOn (one_at T.seen T.expected)
+        (signs tokens.now)) }
+{
+    let (first, rest) = element(tokens)?;
+    let (mut elements, rest) = elements(alloc, rest)?;
+    let rest = behind(Fixed::CloseList, Expected::ListGoesOn, rest)?;
+    elements.insert(0, first)?;
+    Ok((elements, rest))
+}
+
+#[tactic(auto, unfolding(crate::specs::Reading::items_at))]
+fn items<T: Element>(alloc: Global, tokens: &[Token]) -> Result<(Vec<T>, &[Token]), ReadError>
+    ensures { Gives (λ x. (map T.value x.0.items, signs x.1.now)) result
+        (items_at (one_at T.seen T.expected) (signs tokens.now)) }
+{
+    match next(Fixed::CloseList, tokens) {
+        Some(rest) => Ok((Vec::new(alloc), rest)),
+        None => row(alloc, tokens),
+    }
+}
+
+#[tactic(auto, unfolding(crate::specs::Reading::list_at))]
+fn list<T: Element>(alloc: Global, tokens: &[Token]) -> Result<(Vec<T>, &[Token]), ReadError>
+    ensures { Gives (λ x. (map T.value x.0.items, signs x.1.now)) result
+        (list_at (one_at T.seen T.expected) (signs tokens.now)) }
+{
+    let rest = behind(Fixed::OpenList, Expected::List, tokens)?;
+    items(alloc, rest)
+}
+
+// The path that it is.
+fn path_of(alloc: Global, kind: &Kind) -> Result<Option<String>, AllocError>
+    ensures { IfOk result (λ s. option_map string_bytes s ≡ path_in (sign_of kind.now)) }
+{
+    match kind {
+        Kind::Path(path) => Ok(Some(path.clone()?)),
+        Kind::Literal(Literal::Text(text)) => quoted_path(alloc, text),
+        _ => Ok(None),
+    }
+}
+
+#[tactic(auto, unfolding(crate::specs::Reading::one_at))]
+fn path(
+    alloc: Global,
+    expected: Expected,
+    tokens: &[Token],
+) -> Result<(String, &[Token]), ReadError>
+    ensures { Gives (λ x. (string_bytes x.0, signs x.1.now)) result
+        (one_at path_in expected (signs tokens.now)) }
 {
     let [first, rest @ ..] = tokens else {
         return Err(stop(expected, tokens));
     };
-    match first.kind {
-        Kind::Close => Ok(rest),
-        _ => Err(stop(expected, tokens)),
-    }
-}
-
-#[tactic(auto, unfolding(crate::specs::Reading::after_then))]
-fn then(tokens: &[Token]) -> Result<&[Token], ReadError>
-    ensures { Gives (λ x. signs x.now) result (after_then (signs tokens.now)) }
-{
-    let [first, rest @ ..] = tokens else {
-        return Err(stop(Expected::Then, tokens));
-    };
-    match first.kind {
-        Kind::Then => Ok(rest),
-        _ => Err(stop(Expected::Then, tokens)),
-    }
-}
-
-#[tactic(auto, unfolding(crate::specs::Reading::after_least))]
-fn least(tokens: &[Token]) -> Result<&[Token], ReadError>
-    ensures { Gives (λ x. signs x.now) result (after_least (signs tokens.now)) }
-{
-    let [first, rest @ ..] = tokens else {
-        return Err(stop(Expected::Least, tokens));
-    };
-    match first.kind {
-        Kind::Least => Ok(rest),
-        _ => Err(stop(Expected::Least, tokens)),
+    match path_of(alloc, &first.kind)? {
+        Some(path) => Ok((path, rest)),
+        None => Err(stop(expected, tokens)),
     }
 }
 
@@ -133,144 +174,30 @@ fn count(tokens: &[Token]) -> Result<(u64, &[Token]), ReadError>
     }
 }
 
-#[tactic(auto, unfolding(crate::specs::Reading::after_bracket))]
-fn bracket(tokens: &[Token]) -> Result<&[Token], ReadError>
-    ensures { Gives (λ x. signs x.now) result (after_bracket (signs tokens.now)) }
-{
-    let [first, rest @ ..] = tokens else {
-        return Err(stop(Expected::List, tokens));
-    };
-    match first.kind {
-        Kind::OpenList => Ok(rest),
-        _ => Err(stop(Expected::List, tokens)),
-    }
-}
-
-#[tactic(auto, unfolding(crate::specs::Reading::literal_at))]
-fn literal(tokens: &[Token]) -> Result<(Literal, &[Token]), ReadError>
-    ensures { Gives (λ x. (literal_of x.0, signs x.1.now)) result (literal_at (signs tokens.now)) }
-{
-    let [first, rest @ ..] = tokens else {
-        return Err(stop(Expected::Literal, tokens));
-    };
-    match &first.kind {
-        Kind::Literal(literal) => Ok((copy(literal)?, rest)),
-        _ => Err(stop(Expected::Literal, tokens)),
-    }
-}
-
-#[tactic(auto, unfolding(crate::specs::Reading::text_at))]
-fn text(tokens: &[Token]) -> Result<(String, &[Token]), ReadError>
-    ensures { Gives (λ x. (string_bytes x.0, signs x.1.now)) result (text_at (signs tokens.now)) }
-{
-    let [first, rest @ ..] = tokens else {
-        return Err(stop(Expected::Text, tokens));
-    };
-    match &first.kind {
-        Kind::Literal(Literal::Text(text)) => Ok((text.clone()?, rest)),
-        _ => Err(stop(Expected::Text, tokens)),
-    }
-}
-
-#[tactic(auto, unfolding(crate::specs::Reading::goes_on_at))]
-fn goes_on(tokens: &[Token]) -> Result<(bool, &[Token]), ReadError>
-    ensures { Gives (λ x. (x.0, signs x.1.now)) result (goes_on_at (signs tokens.now)) }
-{
-    let [first, rest @ ..] = tokens else {
-        return Err(stop(Expected::ListGoesOn, tokens));
-    };
-    match first.kind {
-        Kind::Comma => Ok((true, rest)),
-        Kind::CloseList => Ok((false, rest)),
-        _ => Err(stop(Expected::ListGoesOn, tokens)),
-    }
-}
-
-fn items(alloc: Global, tokens: &[Token]) -> Result<(Vec<Literal>, &[Token]), ReadError>
-    ensures { Gives (λ x. (map literal_of x.0.items, signs x.1.now)) result
-        (items_at (signs tokens.now)) }
-{
-    let mut items = Vec::new(alloc);
-    let mut left = tokens;
-    loop {
-        let (scalar, rest) = literal(left)?;
-        items.push(scalar)?;
-        let (more, rest) = goes_on(rest)?;
-        left = rest;
-        if !more {
-            return Ok((items, left));
-        }
-    }
-}
-
-#[tactic(auto, unfolding(crate::specs::Reading::list_at))]
-fn list(alloc: Global, tokens: &[Token]) -> Result<(Vec<Literal>, &[Token]), ReadError>
-    ensures { Gives (λ x. (map literal_of x.0.items, signs x.1.now)) result
-        (list_at (signs tokens.now)) }
-{
-    let [first, rest @ ..] = tokens else {
-        return items(alloc, tokens);
-    };
-    match first.kind {
-        Kind::CloseList => Ok((Vec::new(alloc), rest)),
-        _ => items(alloc, tokens),
-    }
-}
-
-#[tactic(auto, unfolding(crate::specs::Reading::after_in))]
-fn behind_in(tokens: &[Token]) -> Result<&[Token], ReadError>
-    ensures { Gives (λ x. signs x.now) result (after_in (signs tokens.now)) }
-{
-    let [first, rest @ ..] = tokens else {
-        return Err(stop(Expected::In, tokens));
-    };
-    match first.kind {
-        Kind::In => Ok(rest),
-        _ => Err(stop(Expected::In, tokens)),
-    }
-}
-
-fn texts(alloc: Global, tokens: &[Token]) -> Result<(Vec<String>, &[Token]), ReadError>
-    ensures { Gives (λ x. (map string_bytes x.0.items, signs x.1.now)) result
-        (texts_at (signs tokens.now)) }
-{
-    let mut texts = Vec::new(alloc);
-    let mut left = tokens;
-    loop {
-        let (text, rest) = text(left)?;
-        texts.push(text)?;
-        let (more, rest) = goes_on(rest)?;
-        left = rest;
-        if !more {
-            return Ok((texts, left));
-        }
-    }
-}
-
-#[tactic(auto, unfolding(crate::specs::Reading::text_list_at))]
-fn text_list(alloc: Global, tokens: &[Token]) -> Result<(Vec<String>, &[Token]), ReadError>
-    ensures { Gives (λ x. (map string_bytes x.0.items, signs x.1.now)) result
-        (text_list_at (signs tokens.now)) }
-{
-    let [first, rest @ ..] = tokens else {
-        return texts(alloc, tokens);
-    };
-    match first.kind {
-        Kind::CloseList => Ok((Vec::new(alloc), rest)),
-        _ => texts(alloc, tokens),
-    }
-}
-
 // What stands behind `keys`.
 #[tactic(auto, unfolding(crate::specs::Reading::keys_at))]
 fn keys(alloc: Global, tokens: &[Token]) -> Result<(Expression, &[Token]), ReadError>
     ensures { Gives (λ x. (tree_of x.0, signs x.1.now)) result (keys_at (signs tokens.now)) }
 {
-    let (path, rest) = path_of(tokens)?;
-    let rest = behind_in(rest)?;
-    let rest = bracket(rest)?;
-    let (texts, rest) = text_list(alloc, rest)?;
+    let (path, rest) = path(alloc, Expected::Path, tokens)?;
+    let rest = behind(Fixed::In, Expected::In, rest)?;
+    let (texts, rest) = list(alloc, rest)?;
     Ok((Expression::Test(path, Condition::KeysIn(texts)), rest))
+}
+
+// Another path that a value is compared with.
+#[tactic(auto, unfolding(crate::specs::Reading::other_path_at))]
+fn other_path(comparison: Comparison, tokens: &[Token]) -> Result<(Condition, &[Token]), ReadError>
+    ensures { Gives (λ x. (condition_of x.0, signs x.1.now)) result
+        (other_path_at comparison (signs tokens.now)) }
+{
+    let [first, rest @ ..] = tokens else {
+        return Err(stop(Expected::Operand, tokens));
+    };
+    match &first.kind {
+        Kind::Path(path) => Ok((Condition::CompareWith(comparison, path.clone()?), rest)),
+        _ => Err(stop(Expected::Operand, tokens)),
+    }
 }
 
 // What a value is compared with.
@@ -282,10 +209,9 @@ fn compared(comparison: Comparison, tokens: &[Token]) -> Result<(Condition, &[To
     let [first, rest @ ..] = tokens else {
         return Err(stop(Expected::Operand, tokens));
     };
-    match &first.kind {
-        Kind::Literal(literal) => Ok((Condition::Compare(comparison, copy(literal)?), rest)),
-        Kind::Path(path) => Ok((Condition::CompareWith(comparison, path.clone()?), rest)),
-        _ => Err(stop(Expected::Operand, tokens)),
+    match Literal::seen(&first.kind)? {
+        Some(literal) => Ok((Condition::Compare(comparison, literal), rest)),
+        None => other_path(comparison, tokens),
     }
 }
 
@@ -297,7 +223,7 @@ fn comparison(tokens: &[Token]) -> Result<(Comparison, &[Token]), ReadError>
         return Err(stop(Expected::Comparison, tokens));
     };
     match first.kind {
-        Kind::Comparison(comparison) => Ok((comparison, rest)),
+        Kind::Word(Fixed::Comparison(comparison)) => Ok((comparison, rest)),
         _ => Err(stop(Expected::Comparison, tokens)),
     }
 }
@@ -320,9 +246,44 @@ fn value_kind(tokens: &[Token]) -> Result<(ValueKind, &[Token]), ReadError>
         return Err(stop(Expected::Kind, tokens));
     };
     match first.kind {
-        Kind::ValueKind(kind) => Ok((kind, rest)),
-        Kind::Literal(Literal::Null) => Ok((ValueKind::Null, rest)),
+        Kind::Word(Fixed::ValueKind(kind)) => Ok((kind, rest)),
         _ => Err(stop(Expected::Kind, tokens)),
+    }
+}
+
+// The error at a word, before these tokens.
+fn stop_before(expected: Expected, rest: &[Token]) -> ReadError
+    ensures { result ≡ ReadError.Stopped (stop_at expected (suc (length (signs rest.now)))) }
+{
+    ReadError::Stopped(Stop {
+        reason: Reason::Expected(expected),
+        left: rest.len() + 1,
+    })
+}
+
+// What is said behind a path, by the word there.
+#[tactic(auto, unfolding(crate::specs::Reading::said_by))]
+fn said(alloc: Global, word: Fixed, rest: &[Token]) -> Result<(Condition, &[Token]), ReadError>
+    ensures { Gives (λ x. (condition_of x.0, signs x.1.now)) result
+        (said_by word (signs rest.now)) }
+{
+    match word {
+        Fixed::State(state) => Ok((Condition::Is(state), rest)),
+        Fixed::Comparison(comparison) => compared(comparison, rest),
+        Fixed::Length => length(rest),
+        Fixed::Is => {
+            let (kind, rest) = value_kind(rest)?;
+            Ok((Condition::IsOf(kind), rest))
+        }
+        Fixed::Relation(relation) => {
+            let (text, rest) = element(rest)?;
+            Ok((Condition::Relate(relation, text), rest))
+        }
+        Fixed::In => {
+            let (literals, rest) = list(alloc, rest)?;
+            Ok((Condition::In(literals), rest))
+        }
+        _ => Err(stop_before(Expected::Condition, rest)),
     }
 }
 
@@ -335,35 +296,18 @@ fn condition(alloc: Global, tokens: &[Token]) -> Result<(Condition, &[Token]), R
         return Err(stop(Expected::Condition, tokens));
     };
     match first.kind {
-        Kind::State(state) => Ok((Condition::Is(state), rest)),
-        Kind::Comparison(comparison) => compared(comparison, rest),
-        Kind::Length => length(rest),
-        Kind::Is => {
-            let (kind, rest) = value_kind(rest)?;
-            Ok((Condition::IsOf(kind), rest))
-        }
-        Kind::Relation(relation) => {
-            let (text, rest) = text(rest)?;
-            Ok((Condition::Relate(relation, text), rest))
-        }
-        Kind::In => {
-            let rest = bracket(rest)?;
-            let (items, rest) = list(alloc, rest)?;
-            Ok((Condition::In(items), rest))
-        }
+        Kind::Word(word) => said(alloc, word, rest),
         _ => Err(stop(Expected::Condition, tokens)),
     }
 }
 
-fn is_same(a: Connective, b: Connective) -> bool
-    ensures { result ≡ same a b }
+#[tactic(auto, unfolding(crate::specs::Reading::test_at))]
+fn test(alloc: Global, tokens: &[Token]) -> Result<(Expression, &[Token]), ReadError>
+    ensures { Gives (λ x. (tree_of x.0, signs x.1.now)) result (test_at (signs tokens.now)) }
 {
-    match (a, b) {
-        (Connective::Or, Connective::Or) => true,
-        (Connective::Xor, Connective::Xor) => true,
-        (Connective::And, Connective::And) => true,
-        _ => false,
-    }
+    let (path, rest) = path(alloc, Expected::Expression, tokens)?;
+    let (condition, rest) = condition(alloc, rest)?;
+    Ok((Expression::Test(path, condition), rest))
 }
 
 // What parts the expressions of a row.
@@ -373,39 +317,12 @@ pub enum Separator {
     Comma,
 }
 
-#[tactic(auto, unfolding(crate::specs::Reading::after_join))]
-fn behind_join(connective: Connective, tokens: &[Token]) -> Option<&[Token]>
-    ensures { option_map (λ x. signs x.now) result ≡ after_join connective (signs tokens.now) }
-{
-    let [first, rest @ ..] = tokens else {
-        return None;
-    };
-    match first.kind {
-        Kind::Join(next) => is_same(connective, next).then_some(rest),
-        _ => None,
-    }
-}
-
-#[tactic(auto, unfolding(crate::specs::Reading::after_comma))]
-fn behind_comma(tokens: &[Token]) -> Option<&[Token]>
-    ensures { option_map (λ x. signs x.now) result ≡ after_comma (signs tokens.now) }
-{
-    let [first, rest @ ..] = tokens else {
-        return None;
-    };
-    match first.kind {
-        Kind::Comma => Some(rest),
-        _ => None,
-    }
-}
-
-// What stands behind the separator, if it is next.
-fn behind(separator: Separator, tokens: &[Token]) -> Option<&[Token]>
-    ensures { option_map (λ x. signs x.now) result ≡ after_separator separator (signs tokens.now) }
+pub fn separator_word(separator: Separator) -> Fixed
+    ensures { result ≡ separator_word separator }
 {
     match separator {
-        Separator::Connective(connective) => behind_join(connective, tokens),
-        Separator::Comma => behind_comma(tokens),
+        Separator::Connective(connective) => Fixed::Join(connective),
+        Separator::Comma => Fixed::Comma,
     }
 }
 
@@ -416,7 +333,7 @@ fn with_others(
     mut others: Vec<Expression>,
 ) -> Result<Expression, AllocError>
     ensures { IfOk result (λ e. tree_of e
-        ≡ join connective (tree_of first) (trees_of (map tree_of others.items))) }
+        ≡ join connective (tree_of first) (map tree_of others.items)) }
 {
     if others.is_empty() {
         return Ok(first);
@@ -528,18 +445,50 @@ fn others(
     depth: u32,
     tokens: &[Token],
 ) -> Result<(Vec<Expression>, &[Token]), ReadError>
-    ensures { Gives (λ x. (trees_of (map tree_of x.0.items), signs x.1.now)) result
-        (parts_at (length (signs tokens.now)) separator (part_at (below depth) separator)
-        (signs tokens.now)) }
+    ensures { Gives (λ x. (map tree_of x.0.items, signs x.1.now)) result
+        (parts_at (length (signs tokens.now)) (separator_word separator)
+        (part_at (below depth) separator) (signs tokens.now)) }
 {
     let mut parts = Vec::new(alloc);
     let mut left = tokens;
-    while let Some(rest) = behind(separator, left) {
+    while let Some(rest) = next(separator_word(separator), left) {
         let (part, rest) = part(alloc, separator, depth, rest)?;
         parts.push(part)?;
         left = rest;
     }
     Ok((parts, left))
+}
+
+fn is_first(word: Fixed) -> bool
+    ensures { result ≡ is_first word }
+{
+    match word {
+        Fixed::Not | Fixed::Open | Fixed::Each | Fixed::Any | Fixed::At | Fixed::Keys => true,
+        _ => false,
+    }
+}
+
+fn is_path_token(kind: &Kind) -> bool
+    ensures { result ≡ is_some (path_in (sign_of kind.now)) }
+{
+    match kind {
+        Kind::Path(_) => true,
+        Kind::Literal(Literal::Text(text)) => is_path(text.as_bytes()),
+        _ => false,
+    }
+}
+
+// Whether an expression other than an implication may begin so.
+fn begins(tokens: &[Token]) -> bool
+    ensures { result ≡ begins (signs tokens.now) }
+{
+    let [first, ..] = tokens else {
+        return false;
+    };
+    match first.kind {
+        Kind::Word(word) => is_first(word),
+        _ => is_path_token(&first.kind),
+    }
 }
 
 // An expression that may be an implication.
@@ -549,17 +498,13 @@ fn whole(alloc: Global, depth: u32, tokens: &[Token]) -> Result<(Expression, &[T
     ensures { Gives (λ x. (tree_of x.0, signs x.1.now)) result
         (whole (below depth) (signs tokens.now)) }
 {
-    let [first, rest @ ..] = tokens else {
-        return Err(stop(Expected::Whole, tokens));
-    };
-    match first.kind {
-        Kind::If => implication(alloc, depth, rest),
-        Kind::Path(_) | Kind::Keys | Kind::Not | Kind::Open => {
-            joined(alloc, Connective::Or, depth, tokens)
-        }
-        Kind::Each | Kind::Any | Kind::At => joined(alloc, Connective::Or, depth, tokens),
-        _ => Err(stop(Expected::Whole, tokens)),
+    if let Some(rest) = next(Fixed::If, tokens) {
+        return implication(alloc, depth, rest);
     }
+    if !begins(tokens) {
+        return Err(stop(Expected::Whole, tokens));
+    }
+    joined(alloc, Connective::Or, depth, tokens)
 }
 
 // What stands behind an `if`.
@@ -574,7 +519,7 @@ fn implication(
         (implication (below depth) (signs tokens.now)) }
 {
     let (premise, rest) = deeper(alloc, Grip::Premise, depth, tokens)?;
-    let rest = then(rest)?;
+    let rest = behind(Fixed::Then, Expected::Then, rest)?;
     let (conclusion, rest) = deeper(alloc, Grip::Whole, depth, rest)?;
     let premise = Box::new(alloc, premise)?;
     let conclusion = Box::new(alloc, conclusion)?;
@@ -588,23 +533,37 @@ fn alone(alloc: Global, depth: u32, tokens: &[Token]) -> Result<(Expression, &[T
         (single (below depth) (signs tokens.now)) }
 {
     let [first, rest @ ..] = tokens else {
-        return Err(stop(Expected::Expression, tokens));
+        return test(alloc, tokens);
     };
-    match &first.kind {
-        Kind::Path(path) => {
-            let (condition, rest) = condition(alloc, rest)?;
-            Ok((Expression::Test(path.clone()?, condition), rest))
-        }
-        Kind::Not => {
+    match first.kind {
+        Kind::Word(word) => begun(alloc, word, depth, rest),
+        _ => test(alloc, tokens),
+    }
+}
+
+// What begins with the word, before these tokens.
+#[cycle(reader)]
+#[tactic(auto, unfolding(crate::specs::Reading::begun_by))]
+fn begun(
+    alloc: Global,
+    word: Fixed,
+    depth: u32,
+    rest: &[Token],
+) -> Result<(Expression, &[Token]), ReadError>
+    ensures { Gives (λ x. (tree_of x.0, signs x.1.now)) result
+        (begun_by (below depth) word (signs rest.now)) }
+{
+    match word {
+        Fixed::Not => {
             let (denied, rest) = deeper(alloc, Grip::Single, depth, rest)?;
             Ok((Expression::Not(Box::new(alloc, denied)?), rest))
         }
-        Kind::Open => in_parentheses(alloc, depth, rest),
-        Kind::Each => over_items(alloc, HowMany::Each, depth, rest),
-        Kind::Any => over_items(alloc, HowMany::Any, depth, rest),
-        Kind::At => threshold(alloc, depth, rest),
-        Kind::Keys => keys(alloc, rest),
-        _ => Err(stop(Expected::Expression, tokens)),
+        Fixed::Open => in_parentheses(alloc, depth, rest),
+        Fixed::Each => over_items(alloc, Expected::Path, HowMany::Each, depth, rest),
+        Fixed::Any => over_items(alloc, Expected::Path, HowMany::Any, depth, rest),
+        Fixed::At => threshold(alloc, depth, rest),
+        Fixed::Keys => keys(alloc, rest),
+        _ => Err(stop_before(Expected::Expression, rest)),
     }
 }
 
@@ -619,7 +578,7 @@ fn in_parentheses(
         (group (below depth) (signs tokens.now)) }
 {
     let (inner, rest) = deeper(alloc, Grip::Whole, depth, tokens)?;
-    let rest = close(Expected::Close, rest)?;
+    let rest = behind(Fixed::Close, Expected::Close, rest)?;
     Ok((inner, rest))
 }
 
@@ -627,15 +586,16 @@ fn in_parentheses(
 #[tactic(auto, unfolding(crate::specs::Reading::quantified))]
 fn over_items(
     alloc: Global,
+    expected: Expected,
     quantifier: HowMany,
     depth: u32,
     tokens: &[Token],
 ) -> Result<(Expression, &[Token]), ReadError>
     ensures { Gives (λ x. (tree_of x.0, signs x.1.now)) result
-        (quantified (below depth) quantifier (signs tokens.now)) }
+        (quantified (below depth) expected quantifier (signs tokens.now)) }
 {
-    let (path, rest) = path_of(tokens)?;
-    let rest = open(rest)?;
+    let (path, rest) = path(alloc, expected, tokens)?;
+    let rest = behind(Fixed::Open, Expected::Open, rest)?;
     let (inner, rest) = in_parentheses(alloc, depth, rest)?;
     Ok((
         Expression::Quantified(quantifier, path, Box::new(alloc, inner)?),
@@ -653,7 +613,7 @@ fn threshold(
     ensures { Gives (λ x. (tree_of x.0, signs x.1.now)) result
         (threshold (below depth) (signs tokens.now)) }
 {
-    let rest = least(tokens)?;
+    let rest = behind(Fixed::Least, Expected::Least, tokens)?;
     let (count, rest) = count(rest)?;
     counted(alloc, count, depth, rest)
 }
@@ -670,21 +630,20 @@ fn counted(
     ensures { Gives (λ x. (tree_of x.0, signs x.1.now)) result
         (counted (below depth) count (signs tokens.now)) }
 {
-    let [first, rest @ ..] = tokens else {
-        return Err(stop(Expected::Counted, tokens));
-    };
-    match first.kind {
-        Kind::Of => {
-            let rest = open(rest)?;
-            listed(alloc, count, depth, rest)
-        }
-        Kind::Path(_) => over_items(alloc, HowMany::AtLeast(count), depth, tokens),
-        _ => Err(stop(Expected::Counted, tokens)),
+    match next(Fixed::Of, tokens) {
+        Some(rest) => listed(alloc, count, depth, rest),
+        None => over_items(
+            alloc,
+            Expected::Counted,
+            HowMany::AtLeast(count),
+            depth,
+            tokens,
+        ),
     }
 }
 
 #[cycle(reader)]
-#[tactic(auto, unfolding(crate::specs::Reading::listed))]
+#[tactic(auto, unfolding(crate::specs::Reading::listed, crate::specs::Reading::row_at))]
 fn listed(
     alloc: Global,
     count: u64,
@@ -694,9 +653,10 @@ fn listed(
     ensures { Gives (λ x. (tree_of x.0, signs x.1.now)) result
         (listed (below depth) count (signs tokens.now)) }
 {
-    let (first, rest) = part(alloc, Separator::Comma, depth, tokens)?;
+    let rest = behind(Fixed::Open, Expected::Open, tokens)?;
+    let (first, rest) = part(alloc, Separator::Comma, depth, rest)?;
     let (mut parts, rest) = others(alloc, Separator::Comma, depth, rest)?;
-    let rest = close(Expected::PartsGoOn, rest)?;
+    let rest = behind(Fixed::Close, Expected::PartsGoOn, rest)?;
     parts.insert(0, first)?;
     Ok((Expression::AtLeast(count, parts), rest))
 }

@@ -90,8 +90,7 @@ fn rules_of(alloc: Global, lines: &[&[u8]]) -> Result<Vec<Rule>, RulesError>
 /// `-`, `.` and any characters beyond ASCII, or is a text in quotes as JSON writes it, which is not
 /// empty and has no control character and no no-break space. It stands on one line alone: the
 /// second one is refused as `Repeated`. What nests deeper than 100 is refused as `TooDeep`. Takes
-/// memory for the lines, the tokens of a line and the rules, and time that grows with the square of
-/// the number of rules.
+/// memory for the lines, the tokens of a line and the rules.
 ///
 /// ```
 /// let rules = read_rules(alloc, b"adult: /age >= 18 and not /name is_empty")?;
@@ -116,8 +115,8 @@ pub fn read_rules(alloc: Global, text: &[u8]) -> Result<Vec<Rule>, RulesError>
     rules_of(alloc, &lines)
 }
 
-// How many faults of a text are told at most.
-const MOST_FAULTS: usize = 20;
+// How many faults of a text are given at most.
+const MOST_FAULTS: usize = 21;
 
 fn faults_of(alloc: Global, lines: &[&[u8]]) -> Result<Vec<Fault>, AllocError>
     ensures { IfOk result (λ fs. HasFaults (map (λ x. x.now) lines.now) fs.items) }
@@ -126,8 +125,9 @@ fn faults_of(alloc: Global, lines: &[&[u8]]) -> Result<Vec<Fault>, AllocError>
     Ok(findings.faults)
 }
 
-/// The fault of each line that has one, in the order of the lines, 20 at most; none where
-/// `read_rules` reads the text. Takes memory as `read_rules`.
+/// The fault of each line that has one, in the order of the lines; none where `read_rules` reads
+/// the text. There are 21 at most, so that who tells 20 knows of more. Takes memory as
+/// `read_rules`.
 ///
 /// ```
 /// let faults = read_faults(alloc, b"a: /b = 1\nb: /c exists\nc: d == 1")?;

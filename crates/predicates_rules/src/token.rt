@@ -1,34 +1,12 @@
 //! The tokens of a rule.
 
-use crate::condition::{Comparison, Relation, State, ValueKind};
-use crate::expression::Connective;
+use crate::fixed::Fixed;
 use crate::literal::Literal;
 
 #[derive(Drop)]
 pub enum Kind {
-    Join(Connective),
-    Not,
-    If,
-    Then,
-    Each,
-    Any,
-    At,
-    Keys,
-    Least,
-    Of,
-    Open,
-    Close,
-    OpenList,
-    CloseList,
-    Comma,
+    Word(Fixed),
     Path(String),
-    Comparison(Comparison),
-    Relation(Relation),
-    In,
-    State(State),
-    Length,
-    Is,
-    ValueKind(ValueKind),
     Literal(Literal),
     /// The end of a line or a comment, behind all other tokens.
     End,

@@ -6,7 +6,7 @@ use Rattle.predicates_rules.specs.Messages.{fault_text}
 use Rattle.predicates_rules.specs.Quoting.{quoted_text}
 use Rattle.predicates_rule_check.specs.Refusals.{fault_text as reason_text}
 use Rattle.predicates_vet.specs.declared.rule_fault.RuleFault.{RuleFault}
-use Rattle.predicates_vet.specs.declared.rule_fault.RuleFault.TheVariants.{Unreadable, Pattern}
+use Rattle.predicates_vet.specs.declared.rule_fault.RuleFault.TheVariants.{Unreadable, Pattern, More}
 
 -- it is open where a quotation in it is
 abbrev pub rule_fault_text : RuleFault → Option (List ℕ)
@@ -16,6 +16,7 @@ rule_fault_text (Pattern line rule fault) =
     ++? quoted_text (string_bytes rule) ++? Some (codes ": no regular expression: ")
     ++? Some (reason_text (string_bytes fault.reason) fault.column) ++? Some (codes ": ")
     ++? quoted_text (string_bytes fault.pattern)
+rule_fault_text More = Some (codes "more lines have faults")
 
 -- one behind the other
 abbrev pub joined_texts : List (Option (List ℕ)) → Option (List ℕ)

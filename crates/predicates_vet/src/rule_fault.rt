@@ -17,6 +17,8 @@ pub enum RuleFault {
         rule: String,
         fault: PatternFault,
     },
+    /// Lines behind those of the other faults have faults too.
+    More,
 }
 
 /// One line: `line 1, column 7: ..`, or
@@ -33,6 +35,7 @@ impl fmt::Display for RuleFault {
                 Quoted(rule.as_bytes()),
                 Quoted(fault.pattern.as_bytes())
             ),
+            RuleFault::More => f.write_str("more lines have faults"),
         }
     }
 }

@@ -21,7 +21,8 @@ use std::fmt;
 #[derive(Debug, Drop)]
 pub enum ReadChecksError {
     NoMemory,
-    /// The fault of each line that has one, in the order of the lines, 20 at most.
+    /// The fault of each line that has one, in the order of the lines, 20 at most, and `More` where
+    /// there are more.
     Unreadable(Vec<RuleFault>),
 }
 
@@ -134,10 +135,11 @@ fn faults_of(alloc: Global, text: &[u8]) -> Result<Vec<RuleFault>, AllocError> {
     others.reverse();
     let mut faults = Vec::new(alloc);
     for (index, line) in without_mark(text).split(|byte| *byte == b'\n').enumerate() {
-        if faults.len() == MOST_FAULTS {
-            return Ok(faults);
-        }
         if let Some(fault) = fault_at(alloc, &mut others, index.saturating_add(1), line)? {
+            if faults.len() == MOST_FAULTS {
+                faults.push(RuleFault::More)?;
+                return Ok(faults);
+            }
             faults.push(fault)?;
         }
     }

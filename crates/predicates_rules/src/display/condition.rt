@@ -1,126 +1,100 @@
 //! What a test says, as a rule says it.
-ghost use Rattle.std.specs.Prelude.{◌≡◌, ◌++◌, Some, codes, map, string_bytes};
-ghost use Rattle.std.specs.List.{flat_map};
-ghost use Rattle.std.specs.Fmt.{DisplaysOnOk};
-ghost use Rattle.predicates_rules.specs.Literals.{Text, literal_of};
+ghost use Rattle.std.specs.Prelude.{IfOk, Some, map};
 ghost use Rattle.predicates_rules.specs.Conditions.{condition_of};
-ghost use Rattle.predicates_rules.specs.Printing.{path_text, literal_text, laid, condition_signs};
-ghost use Rattle.predicates_rules.specs.Writing.{items_text, condition_text, lead_text};
+ghost use Rattle.predicates_rules.specs.Printing.{row_signs, among_signs, subject_signs};
+ghost use Rattle.predicates_rules.specs.Printing.{condition_signs, laid, Lays};
 
 use crate::condition::Condition;
-use crate::display::literal::fmt_text;
-use crate::literal::Literal;
+use crate::element::Element;
+use crate::fixed::Fixed;
+use crate::layout::{Written, fmt_front, fmt_token, fmt_tokens, path};
 use std::fmt;
 
-/// A path as a rule writes it: `/` for the empty one, and `^/` for `^`.
-pub fn path_shown(path: &str) -> &str
-    ensures { result.now ≡ path_text path.now }
+// The elements with commas between them.
+fn fmt_row<T: Element, W: fmt::Write>(
+    elements: &[T],
+    at_once: bool,
+    f: &mut fmt::Formatter<W>,
+) -> Result<bool, fmt::Error>
+    ensures { IfOk result (λ next. Lays W.write_str_gives f.old at_once
+        (row_signs (map T.sign (map T.value elements.now))) next f.new) }
 {
-    match path.as_bytes() {
-        [] => "/",
-        [b'^'] => "^/",
-        _ => path,
+    let mut next = at_once;
+    for (index, element) in elements.iter().enumerate() {
+        next = fmt_front(Fixed::Comma, index, next, f)?;
+        next = fmt_token(element.token(), next, f)?;
     }
+    Ok(next)
 }
 
-// The literals, each behind a comma.
-fn fmt_further<W: fmt::Write>(literals: &[Literal], f: &mut fmt::Formatter<W>) -> fmt::Result
-    ensures { DisplaysOnOk W.write_str_gives f.old result
-        (Some (flat_map (λ v. codes ", " ++ literal_text v) (map literal_of literals.now))) f.new }
+// `in`, and the elements in brackets.
+fn fmt_among<T: Element, W: fmt::Write>(
+    elements: &[T],
+    at_once: bool,
+    f: &mut fmt::Formatter<W>,
+) -> Result<bool, fmt::Error>
+    ensures { IfOk result (λ next. Lays W.write_str_gives f.old at_once
+        (among_signs (map T.sign (map T.value elements.now))) next f.new) }
 {
-    for literal in literals {
-        write!(f, ", {literal}")?;
-    }
-    Ok(())
+    let opening = [Written::Word(Fixed::In), Written::Word(Fixed::OpenList)];
+    let next = fmt_tokens(&opening, at_once, f)?;
+    let next = fmt_row(elements, next, f)?;
+    fmt_token(Written::Word(Fixed::CloseList), next, f)
 }
 
-// The literals with commas between them.
-fn fmt_items<W: fmt::Write>(literals: &[Literal], f: &mut fmt::Formatter<W>) -> fmt::Result
-    ensures { DisplaysOnOk W.write_str_gives f.old result
-        (Some (items_text (map literal_of literals.now))) f.new }
-{
-    match literals {
-        [] => Ok(()),
-        [first, rest @ ..] => {
-            write!(f, "{first}")?;
-            fmt_further(rest, f)
-        }
-    }
-}
-
-// A text behind a comma.
-fn fmt_further_text<W: fmt::Write>(text: &str, f: &mut fmt::Formatter<W>) -> fmt::Result
-    ensures { DisplaysOnOk W.write_str_gives f.old result
-        (Some (codes ", " ++ literal_text (Text text.now))) f.new }
-{
-    f.write_str(", ")?;
-    fmt_text(text, f)
-}
-
-// The texts, each behind a comma.
-fn fmt_further_texts<W: fmt::Write>(texts: &[String], f: &mut fmt::Formatter<W>) -> fmt::Result
-    ensures { DisplaysOnOk W.write_str_gives f.old result
-        (Some (flat_map (λ v. codes ", " ++ literal_text v)
-        (map Text (map string_bytes texts.now)))) f.new }
-{
-    for text in texts {
-        fmt_further_text(text, f)?;
-    }
-    Ok(())
-}
-
-// The texts with commas between them.
-fn fmt_texts<W: fmt::Write>(texts: &[String], f: &mut fmt::Formatter<W>) -> fmt::Result
-    ensures { DisplaysOnOk W.write_str_gives f.old result
-        (Some (items_text (map Text (map string_bytes texts.now)))) f.new }
-{
-    match texts {
-        [] => Ok(()),
-        [first, rest @ ..] => {
-            fmt_text(first, f)?;
-            fmt_further_texts(rest, f)
-        }
-    }
-}
-
-/// What stands before the path.
-pub fn lead(condition: &Condition) -> &'static str
-    ensures { result.now ≡ lead_text (condition_of condition.now) }
+/// Writes the path of a test, and what stands before it.
+pub fn fmt_subject<W: fmt::Write>(
+    subject: &str,
+    condition: &Condition,
+    at_once: bool,
+    f: &mut fmt::Formatter<W>,
+) -> Result<bool, fmt::Error>
+    ensures { IfOk result (λ next. Lays W.write_str_gives f.old at_once
+        (subject_signs subject.now (condition_of condition.now)) next f.new) }
 {
     match condition {
-        Condition::KeysIn(_) => "keys ",
-        _ => "",
+        Condition::KeysIn(_) => {
+            let keys = Written::Word(Fixed::Keys);
+            fmt_tokens(&[keys, path(subject)], at_once, f)
+        }
+        _ => fmt_token(path(subject), at_once, f),
     }
 }
 
-// What is said of the value.
-fn fmt_test<W: fmt::Write>(condition: &Condition, f: &mut fmt::Formatter<W>) -> fmt::Result
-    ensures { DisplaysOnOk W.write_str_gives f.old result
-        (Some (condition_text (condition_of condition.now))) f.new }
+/// Writes what is said of the value.
+pub fn fmt_condition<W: fmt::Write>(
+    condition: &Condition,
+    at_once: bool,
+    f: &mut fmt::Formatter<W>,
+) -> Result<bool, fmt::Error>
+    ensures { IfOk result (λ next. Lays W.write_str_gives f.old at_once
+        (condition_signs (condition_of condition.now)) next f.new) }
 {
     match condition {
-        Condition::Is(state) => write!(f, "{state}"),
-        Condition::Compare(comparison, literal) => write!(f, "{comparison} {literal}"),
+        Condition::Is(state) => fmt_token(Written::Word(Fixed::State(*state)), at_once, f),
+        Condition::Compare(comparison, literal) => {
+            let operator = Written::Word(Fixed::Comparison(*comparison));
+            fmt_tokens(&[operator, Written::Value(literal)], at_once, f)
+        }
         Condition::CompareWith(comparison, path) => {
-            write!(f, "{comparison} ")?;
-            f.write_str(path_shown(path))
+            let operator = Written::Word(Fixed::Comparison(*comparison));
+            fmt_tokens(&[operator, Written::Path(path)], at_once, f)
         }
-        Condition::Length(comparison, number) => write!(f, "length {comparison} {number}"),
-        Condition::IsOf(kind) => write!(f, "is {kind}"),
+        Condition::Length(comparison, number) => {
+            let operator = Written::Word(Fixed::Comparison(*comparison));
+            let length = Written::Word(Fixed::Length);
+            fmt_tokens(&[length, operator, Written::Number(*number)], at_once, f)
+        }
+        Condition::IsOf(kind) => {
+            let kind = Written::Word(Fixed::ValueKind(*kind));
+            fmt_tokens(&[Written::Word(Fixed::Is), kind], at_once, f)
+        }
         Condition::Relate(relation, text) => {
-            write!(f, "{relation} ")?;
-            fmt_text(text, f)
+            let operator = Written::Word(Fixed::Relation(*relation));
+            fmt_tokens(&[operator, Written::Text(text)], at_once, f)
         }
-        Condition::In(literals) => {
-            f.write_str("in [")?;
-            fmt_items(literals, f)?;
-            f.write_str("]")
-        }
-        Condition::KeysIn(texts) => {
-            f.write_str("in [")?;
-            fmt_texts(texts, f)?;
-            f.write_str("]")
-        }
+        Condition::In(literals) => fmt_among(literals, at_once, f),
+        Condition::KeysIn(texts) => fmt_among(texts, at_once, f),
     }
 }
 
@@ -129,6 +103,7 @@ impl fmt::Display for Condition {
     ghost output = { λ condition. Some (laid (condition_signs (condition_of condition))) };
 
     fn fmt<W: fmt::Write>(&self, f: &mut fmt::Formatter<W>) -> fmt::Result {
-        fmt_test(self, f)
+        fmt_condition(self, true, f)?;
+        Ok(())
     }
 }

@@ -1,19 +1,21 @@
 //! Expressions as a rule writes them.
-ghost use Rattle.std.specs.Prelude.{◌≡◌, Some, map};
-ghost use Rattle.std.specs.Fmt.{DisplaysOnOk};
+ghost use Rattle.std.specs.Prelude.{◌≡◌, ◌++◌, ◌∷◌, [], IfOk, Some, if◌then◌else◌, map};
 ghost use Rattle.predicates_rules.specs.Conditions.{condition_of};
 ghost use Rattle.predicates_rules.specs.Trees.{Test, Not, Quantified, Joined, AtLeast, tree_of};
 ghost use Rattle.predicates_rules.specs.Trees.{trees_of};
-ghost use Rattle.predicates_rules.specs.Grammar.{Single, part_level};
+ghost use Rattle.predicates_rules.specs.Signs.{Word};
+ghost use Rattle.predicates_rules.specs.Grammar.{Single, part_level, separator_word};
 ghost use Rattle.predicates_rules.specs.Levels.{level_of};
-ghost use Rattle.predicates_rules.specs.Printing.{fits, stands_at, printed};
-ghost use Rattle.predicates_rules.specs.Writing.{separator_text, opening, closing, grouped};
-ghost use Rattle.predicates_rules.specs.Writing.{tree_text, row_text, part_text};
+ghost use Rattle.predicates_rules.specs.Printing.{fits, stands_at, takes_if, in_parentheses};
+ghost use Rattle.predicates_rules.specs.Printing.{signs_at, part_signs, front_signs, printed, Lays};
 
 use crate::condition::Condition;
-use crate::display::condition::{lead, path_shown};
+use crate::display::condition::{fmt_condition, fmt_subject};
+use crate::display::words::{fmt_quantifier, fmt_threshold};
 use crate::expression::{Connective, Expression, HowMany};
-use crate::parser::{Grip, Separator, next_tighter};
+use crate::fixed::Fixed;
+use crate::layout::{Written, fmt_front, fmt_token, fmt_tokens, path};
+use crate::parser::{Grip, Separator, next_tighter, separator_word};
 use std::fmt;
 
 // Whether a connective holds its parts together tightly enough.
@@ -39,26 +41,6 @@ fn are_loose(parts: &[Expression], connective: Connective, grip: Grip) -> bool
     }
 }
 
-// What stands before the premise of an implication.
-fn opening(grip: Grip) -> &'static str
-    ensures { result.now ≡ opening (level_of grip) }
-{
-    match grip {
-        Grip::Whole => "if ",
-        _ => "(if ",
-    }
-}
-
-// What stands behind its conclusion.
-fn closing(grip: Grip) -> &'static str
-    ensures { result.now ≡ closing (level_of grip) }
-{
-    match grip {
-        Grip::Whole => "",
-        _ => ")",
-    }
-}
-
 fn grip_of_part(separator: Separator) -> Grip
     ensures { level_of result ≡ part_level separator }
 {
@@ -68,26 +50,50 @@ fn grip_of_part(separator: Separator) -> Grip
     }
 }
 
-fn fmt_separator<W: fmt::Write>(separator: Separator, f: &mut fmt::Formatter<W>) -> fmt::Result
-    ensures { DisplaysOnOk W.write_str_gives f.old result (Some (separator_text separator)) f.new }
+// `if`, behind a parenthesis where an implication needs them.
+fn fmt_opening<W: fmt::Write>(
+    grip: Grip,
+    at_once: bool,
+    f: &mut fmt::Formatter<W>,
+) -> Result<bool, fmt::Error>
+    ensures { IfOk result (λ next. Lays W.write_str_gives f.old at_once (if takes_if (level_of grip)
+        then Word Fixed.If ∷ [] else Word Fixed.Open ∷ Word Fixed.If ∷ []) next f.new) }
 {
-    match separator {
-        Separator::Connective(connective) => write!(f, " {connective} "),
-        Separator::Comma => f.write_str(", "),
+    match grip {
+        Grip::Whole => fmt_token(Written::Word(Fixed::If), at_once, f),
+        _ => {
+            let opening = [Written::Word(Fixed::Open), Written::Word(Fixed::If)];
+            fmt_tokens(&opening, at_once, f)
+        }
+    }
+}
+
+// The parenthesis behind it.
+fn fmt_closing<W: fmt::Write>(
+    grip: Grip,
+    at_once: bool,
+    f: &mut fmt::Formatter<W>,
+) -> Result<bool, fmt::Error>
+    ensures { IfOk result (λ next. Lays W.write_str_gives f.old at_once
+        (if takes_if (level_of grip) then [] else Word Fixed.Close ∷ []) next f.new) }
+{
+    match grip {
+        Grip::Whole => fmt_tokens(&[], at_once, f),
+        _ => fmt_token(Written::Word(Fixed::Close), at_once, f),
     }
 }
 
 fn fmt_test<W: fmt::Write>(
     path: &str,
     condition: &Condition,
+    at_once: bool,
     f: &mut fmt::Formatter<W>,
-) -> fmt::Result
-    ensures { DisplaysOnOk W.write_str_gives f.old result
-        (Some (tree_text Single (Test path.now (condition_of condition.now)))) f.new }
+) -> Result<bool, fmt::Error>
+    ensures { IfOk result (λ next. Lays W.write_str_gives f.old at_once
+        (signs_at Single (Test path.now (condition_of condition.now))) next f.new) }
 {
-    f.write_str(lead(condition))?;
-    f.write_str(path_shown(path))?;
-    write!(f, " {condition}")
+    let next = fmt_subject(path, condition, at_once, f)?;
+    fmt_condition(condition, next, f)
 }
 
 // The expression, where it holds together as tightly as that.
@@ -95,54 +101,59 @@ fn fmt_test<W: fmt::Write>(
 fn fmt_at<W: fmt::Write>(
     expression: &Expression,
     grip: Grip,
+    at_once: bool,
     f: &mut fmt::Formatter<W>,
-) -> fmt::Result
-    ensures { DisplaysOnOk W.write_str_gives f.old result
-        (Some (tree_text (level_of grip) (tree_of expression.now))) f.new }
+) -> Result<bool, fmt::Error>
+    ensures { IfOk result (λ next. Lays W.write_str_gives f.old at_once
+        (signs_at (level_of grip) (tree_of expression.now)) next f.new) }
 {
     match expression {
-        Expression::Test(path, condition) => fmt_test(path, condition, f),
-        Expression::Not(inner) => fmt_not(inner, f),
+        Expression::Test(path, condition) => fmt_test(path, condition, at_once, f),
+        Expression::Not(inner) => fmt_not(inner, at_once, f),
         Expression::Implies(premise, conclusion) => {
-            f.write_str(opening(grip))?;
-            fmt_at(premise, Grip::Whole, f)?;
-            f.write_str(" then ")?;
-            fmt_at(conclusion, Grip::Whole, f)?;
-            f.write_str(closing(grip))
+            let next = fmt_opening(grip, at_once, f)?;
+            let next = fmt_at(premise, Grip::Whole, next, f)?;
+            let next = fmt_token(Written::Word(Fixed::Then), next, f)?;
+            let next = fmt_at(conclusion, Grip::Whole, next, f)?;
+            fmt_closing(grip, next, f)
         }
         Expression::Quantified(quantifier, path, inner) => {
-            fmt_quantified(inner, *quantifier, path, f)
+            fmt_quantified(inner, *quantifier, path, at_once, f)
         }
-        Expression::Joined(connective, parts) => fmt_joined(parts, *connective, grip, f),
-        Expression::AtLeast(least, parts) => fmt_threshold(parts, *least, f),
+        Expression::Joined(connective, parts) => fmt_joined(parts, *connective, grip, at_once, f),
+        Expression::AtLeast(least, parts) => fmt_counted(parts, *least, at_once, f),
     }
 }
 
 /// Writes what denies the expression.
 #[cycle(printing)]
-pub fn fmt_not<W: fmt::Write>(inner: &Expression, f: &mut fmt::Formatter<W>) -> fmt::Result
-    ensures { DisplaysOnOk W.write_str_gives f.old result
-        (Some (tree_text Single (Not (tree_of inner.now)))) f.new }
+pub fn fmt_not<W: fmt::Write>(
+    inner: &Expression,
+    at_once: bool,
+    f: &mut fmt::Formatter<W>,
+) -> Result<bool, fmt::Error>
+    ensures { IfOk result (λ next. Lays W.write_str_gives f.old at_once
+        (signs_at Single (Not (tree_of inner.now))) next f.new) }
 {
-    f.write_str("not ")?;
-    fmt_at(inner, Grip::Single, f)
+    let next = fmt_token(Written::Word(Fixed::Not), at_once, f)?;
+    fmt_at(inner, Grip::Single, next, f)
 }
 
 #[cycle(printing)]
 fn fmt_quantified<W: fmt::Write>(
     inner: &Expression,
     quantifier: HowMany,
-    path: &str,
+    list: &str,
+    at_once: bool,
     f: &mut fmt::Formatter<W>,
-) -> fmt::Result
-    ensures { DisplaysOnOk W.write_str_gives f.old result
-        (Some (tree_text Single (Quantified quantifier path.now (tree_of inner.now)))) f.new }
+) -> Result<bool, fmt::Error>
+    ensures { IfOk result (λ next. Lays W.write_str_gives f.old at_once
+        (signs_at Single (Quantified quantifier list.now (tree_of inner.now))) next f.new) }
 {
-    write!(f, "{quantifier} ")?;
-    f.write_str(path_shown(path))?;
-    f.write_str(" (")?;
-    fmt_at(inner, Grip::Whole, f)?;
-    f.write_str(")")
+    let next = fmt_quantifier(quantifier, at_once, f)?;
+    let next = fmt_tokens(&[path(list), Written::Word(Fixed::Open)], next, f)?;
+    let next = fmt_at(inner, Grip::Whole, next, f)?;
+    fmt_token(Written::Word(Fixed::Close), next, f)
 }
 
 #[cycle(printing)]
@@ -150,30 +161,33 @@ fn fmt_joined<W: fmt::Write>(
     parts: &[Expression],
     connective: Connective,
     grip: Grip,
+    at_once: bool,
     f: &mut fmt::Formatter<W>,
-) -> fmt::Result
-    ensures { DisplaysOnOk W.write_str_gives f.old result
-        (Some (tree_text (level_of grip) (Joined connective (trees_of (map tree_of parts.now)))))
-        f.new }
+) -> Result<bool, fmt::Error>
+    ensures { IfOk result (λ next. Lays W.write_str_gives f.old at_once
+        (signs_at (level_of grip) (Joined connective (trees_of (map tree_of parts.now)))) next
+        f.new) }
 {
     if are_loose(parts, connective, grip) {
-        fmt_row(parts, Separator::Connective(connective), f)
+        fmt_row(parts, Separator::Connective(connective), at_once, f)
     } else {
-        fmt_group(parts, Separator::Connective(connective), f)
+        fmt_group(parts, Separator::Connective(connective), at_once, f)
     }
 }
 
 #[cycle(printing)]
-fn fmt_threshold<W: fmt::Write>(
+fn fmt_counted<W: fmt::Write>(
     parts: &[Expression],
     least: u64,
+    at_once: bool,
     f: &mut fmt::Formatter<W>,
-) -> fmt::Result
-    ensures { DisplaysOnOk W.write_str_gives f.old result
-        (Some (tree_text Single (AtLeast least (trees_of (map tree_of parts.now))))) f.new }
+) -> Result<bool, fmt::Error>
+    ensures { IfOk result (λ next. Lays W.write_str_gives f.old at_once
+        (signs_at Single (AtLeast least (trees_of (map tree_of parts.now)))) next f.new) }
 {
-    write!(f, "at least {least} of ")?;
-    fmt_group(parts, Separator::Comma, f)
+    let next = fmt_threshold(least, at_once, f)?;
+    let next = fmt_token(Written::Word(Fixed::Of), next, f)?;
+    fmt_group(parts, Separator::Comma, next, f)
 }
 
 // The parts in parentheses.
@@ -181,14 +195,15 @@ fn fmt_threshold<W: fmt::Write>(
 fn fmt_group<W: fmt::Write>(
     parts: &[Expression],
     separator: Separator,
+    at_once: bool,
     f: &mut fmt::Formatter<W>,
-) -> fmt::Result
-    ensures { DisplaysOnOk W.write_str_gives f.old result
-        (Some (grouped (row_text separator (trees_of (map tree_of parts.now))))) f.new }
+) -> Result<bool, fmt::Error>
+    ensures { IfOk result (λ next. Lays W.write_str_gives f.old at_once
+        (in_parentheses (part_signs separator (trees_of (map tree_of parts.now)))) next f.new) }
 {
-    f.write_str("(")?;
-    fmt_row(parts, separator, f)?;
-    f.write_str(")")
+    let next = fmt_token(Written::Word(Fixed::Open), at_once, f)?;
+    let next = fmt_row(parts, separator, next, f)?;
+    fmt_token(Written::Word(Fixed::Close), next, f)
 }
 
 // The parts with separators between them.
@@ -196,15 +211,17 @@ fn fmt_group<W: fmt::Write>(
 fn fmt_row<W: fmt::Write>(
     parts: &[Expression],
     separator: Separator,
+    at_once: bool,
     f: &mut fmt::Formatter<W>,
-) -> fmt::Result
-    ensures { DisplaysOnOk W.write_str_gives f.old result
-        (Some (row_text separator (trees_of (map tree_of parts.now)))) f.new }
+) -> Result<bool, fmt::Error>
+    ensures { IfOk result (λ next. Lays W.write_str_gives f.old at_once
+        (part_signs separator (trees_of (map tree_of parts.now))) next f.new) }
 {
+    let mut next = at_once;
     for (index, part) in parts.iter().enumerate() {
-        fmt_part(part, index, separator, f)?;
+        next = fmt_part(part, index, separator, next, f)?;
     }
-    Ok(())
+    Ok(next)
 }
 
 // A part of a row, behind a separator where it is not the first.
@@ -213,17 +230,15 @@ fn fmt_part<W: fmt::Write>(
     part: &Expression,
     index: usize,
     separator: Separator,
+    at_once: bool,
     f: &mut fmt::Formatter<W>,
-) -> fmt::Result
-    ensures { DisplaysOnOk W.write_str_gives f.old result
-        (Some (part_text separator index (tree_of part.now))) f.new }
+) -> Result<bool, fmt::Error>
+    ensures { IfOk result (λ next. Lays W.write_str_gives f.old at_once
+        (front_signs (separator_word separator) index
+        ++ signs_at (part_level separator) (tree_of part.now)) next f.new) }
 {
-    let grip = grip_of_part(separator);
-    if index == 0 {
-        return fmt_at(part, grip, f);
-    }
-    fmt_separator(separator, f)?;
-    fmt_at(part, grip, f)
+    let next = fmt_front(separator_word(separator), index, at_once, f)?;
+    fmt_at(part, grip_of_part(separator), next, f)
 }
 
 /// As a rule writes it, with no more parentheses than it needs. Takes a stack frame or a few for
@@ -232,6 +247,7 @@ impl fmt::Display for Expression {
     ghost output = { λ expression. Some (printed (tree_of expression)) };
 
     fn fmt<W: fmt::Write>(&self, f: &mut fmt::Formatter<W>) -> fmt::Result {
-        fmt_at(self, Grip::Whole, f)
+        fmt_at(self, Grip::Whole, true, f)?;
+        Ok(())
     }
 }

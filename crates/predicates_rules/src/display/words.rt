@@ -1,89 +1,93 @@
 //! The words and operators of a rule.
-ghost use Rattle.std.specs.Prelude.{Some};
-ghost use Rattle.predicates_rules.specs.Signs.{Join, Comparison, Relation, State};
-ghost use Rattle.predicates_rules.specs.Printing.{kind_sign, word_of};
-ghost use Rattle.predicates_rules.specs.Writing.{quantifier_text};
+ghost use Rattle.std.specs.Prelude.{IfOk, Some};
+ghost use Rattle.predicates_rules.specs.declared.fixed.Fixed.TheVariants as words;
+ghost use Rattle.predicates_rules.specs.Lexemes.{text_of};
+ghost use Rattle.predicates_rules.specs.Printing.{laid, quantifier_signs, threshold_signs, Lays};
 
 use crate::condition::{Comparison, Relation, State, ValueKind};
 use crate::expression::{Connective, HowMany};
+use crate::fixed::{Fixed, text};
+use crate::layout::{Written, fmt_token, fmt_tokens};
 use std::fmt;
 
 impl fmt::Display for Connective {
-    ghost output = { λ c. Some (word_of (Join c)) };
+    ghost output = { λ c. Some (text_of (words.Join c)) };
 
     fn fmt<W: fmt::Write>(&self, f: &mut fmt::Formatter<W>) -> fmt::Result {
-        match self {
-            Connective::Or => f.write_str("or"),
-            Connective::Xor => f.write_str("xor"),
-            Connective::And => f.write_str("and"),
-        }
+        f.write_str(text(Fixed::Join(*self)))
+    }
+}
+
+/// Writes the number of parts or items that have to hold.
+pub fn fmt_threshold<W: fmt::Write>(
+    least: u64,
+    at_once: bool,
+    f: &mut fmt::Formatter<W>,
+) -> Result<bool, fmt::Error>
+    ensures { IfOk result (λ next. Lays W.write_str_gives f.old at_once (threshold_signs least)
+        next f.new) }
+{
+    let words = [
+        Written::Word(Fixed::At),
+        Written::Word(Fixed::Least),
+        Written::Number(least),
+    ];
+    fmt_tokens(&words, at_once, f)
+}
+
+/// Writes how many items have to meet an expression.
+pub fn fmt_quantifier<W: fmt::Write>(
+    quantifier: HowMany,
+    at_once: bool,
+    f: &mut fmt::Formatter<W>,
+) -> Result<bool, fmt::Error>
+    ensures { IfOk result (λ next. Lays W.write_str_gives f.old at_once
+        (quantifier_signs quantifier) next f.new) }
+{
+    match quantifier {
+        HowMany::Each => fmt_token(Written::Word(Fixed::Each), at_once, f),
+        HowMany::Any => fmt_token(Written::Word(Fixed::Any), at_once, f),
+        HowMany::AtLeast(least) => fmt_threshold(least, at_once, f),
     }
 }
 
 impl fmt::Display for HowMany {
-    ghost output = { λ q. Some (quantifier_text q) };
+    ghost output = { λ q. Some (laid (quantifier_signs q)) };
 
     fn fmt<W: fmt::Write>(&self, f: &mut fmt::Formatter<W>) -> fmt::Result {
-        match self {
-            HowMany::Each => f.write_str("each"),
-            HowMany::Any => f.write_str("any"),
-            HowMany::AtLeast(least) => write!(f, "at least {least}"),
-        }
+        fmt_quantifier(*self, true, f)?;
+        Ok(())
     }
 }
 
 impl fmt::Display for State {
-    ghost output = { λ s. Some (word_of (State s)) };
+    ghost output = { λ s. Some (text_of (words.State s)) };
 
     fn fmt<W: fmt::Write>(&self, f: &mut fmt::Formatter<W>) -> fmt::Result {
-        match self {
-            State::Exists => f.write_str("exists"),
-            State::Missing => f.write_str("missing"),
-            State::IsEmpty => f.write_str("is_empty"),
-        }
+        f.write_str(text(Fixed::State(*self)))
     }
 }
 
 impl fmt::Display for Comparison {
-    ghost output = { λ o. Some (word_of (Comparison o)) };
+    ghost output = { λ o. Some (text_of (words.Comparison o)) };
 
     fn fmt<W: fmt::Write>(&self, f: &mut fmt::Formatter<W>) -> fmt::Result {
-        match self {
-            Comparison::Equal => f.write_str("=="),
-            Comparison::Unequal => f.write_str("!="),
-            Comparison::Below => f.write_str("<"),
-            Comparison::AtMost => f.write_str("<="),
-            Comparison::Above => f.write_str(">"),
-            Comparison::AtLeast => f.write_str(">="),
-        }
+        f.write_str(text(Fixed::Comparison(*self)))
     }
 }
 
 impl fmt::Display for Relation {
-    ghost output = { λ r. Some (word_of (Relation r)) };
+    ghost output = { λ r. Some (text_of (words.Relation r)) };
 
     fn fmt<W: fmt::Write>(&self, f: &mut fmt::Formatter<W>) -> fmt::Result {
-        match self {
-            Relation::StartsWith => f.write_str("starts_with"),
-            Relation::EndsWith => f.write_str("ends_with"),
-            Relation::Contains => f.write_str("contains"),
-            Relation::Matches => f.write_str("matches"),
-        }
+        f.write_str(text(Fixed::Relation(*self)))
     }
 }
 
 impl fmt::Display for ValueKind {
-    ghost output = { λ k. Some (word_of (kind_sign k)) };
+    ghost output = { λ k. Some (text_of (words.ValueKind k)) };
 
     fn fmt<W: fmt::Write>(&self, f: &mut fmt::Formatter<W>) -> fmt::Result {
-        match self {
-            ValueKind::Text => f.write_str("text"),
-            ValueKind::Number => f.write_str("number"),
-            ValueKind::Whole => f.write_str("whole"),
-            ValueKind::Boolean => f.write_str("bool"),
-            ValueKind::Array => f.write_str("array"),
-            ValueKind::Object => f.write_str("object"),
-            ValueKind::Null => f.write_str("null"),
-        }
+        f.write_str(text(Fixed::ValueKind(*self)))
     }
 }

@@ -72,7 +72,7 @@ fn reads_rules(rt: HostRuntime) {
 }
 
 // The same of rules with tests of each kind.
-const READ_TESTS: [(&str, &str); 8] = [
+const READ_TESTS: [(&str, &str); 9] = [
     (
         "all: / != -9223372036854775808 xor / < 18446744073709551615",
         "Rule { name: \"all\", expression: Joined(Xor, [Test(\"\", Compare(Unequal, Negative(-9223372036854775808))), Test(\"\", Compare(Below, Natural(18446744073709551615)))]) }\n",
@@ -100,6 +100,10 @@ const READ_TESTS: [(&str, &str); 8] = [
     (
         "c: each /lines (/currency == ^/currency and ^/ exists) or ^/a/b^c == ^/",
         "Rule { name: \"c\", expression: Joined(Or, [Quantified(Each, \"/lines\", Joined(And, [Test(\"/currency\", CompareWith(Equal, \"^/currency\")), Test(\"^\", Is(Exists))])), Test(\"^/a/b^c\", CompareWith(Equal, \"^\"))]) }\n",
+    ),
+    (
+        "q: \"/Order ID\" == 3 and any \"/a b\" (\"^/x#\" exists) and keys \"/\" in [] and \"/b\" == \"/b\"",
+        "Rule { name: \"q\", expression: Joined(And, [Test(\"/Order ID\", Compare(Equal, Natural(3))), Quantified(Any, \"/a b\", Test(\"^/x#\", Is(Exists))), Test(\"\", KeysIn([])), Test(\"/b\", Compare(Equal, Text(\"/b\")))]) }\n",
     ),
     (
         "k: keys /a in [\"b\", \"c\"] or keys ^/ in[ ] and not keys / in[\"\\u00e9\",\"b\",\"b\"]",
@@ -219,7 +223,7 @@ const REFUSED_NAMES: [(&str, &str); 8] = [
     ),
     (
         "\"\\x\": / exists",
-        "line 1, column 1: expected a text as JSON writes it, found `\"\\x\"`",
+        "line 1, column 1: expected a text as JSON writes it, found `\"\\x\"`; a backslash is written twice",
     ),
     (
         "  a / exists",
@@ -259,7 +263,7 @@ const REFUSED_EXPRESSIONS: [(&str, &str); 17] = [
     ),
     (
         "a: /b matches 1",
-        "line 1, column 15: expected a text in quotes, found `1`",
+        "line 1, column 15: expected a text in quotes, found `1`; a text stands in double quotes",
     ),
     ("a: /b in 1", "line 1, column 10: expected `[`, found `1`"),
     (
@@ -311,7 +315,7 @@ const REFUSED_LITERALS: [(&str, &str); 6] = [
     ),
     (
         "a: /b == \"\\x\"",
-        "line 1, column 10: expected a text as JSON writes it, found `\"\\x\"`",
+        "line 1, column 10: expected a text as JSON writes it, found `\"\\x\"`; a backslash is written twice",
     ),
     (
         "a: /b == \"c\\\" # d",
@@ -346,7 +350,7 @@ const REFUSED_THRESHOLDS: [(&str, &str); 19] = [
     ),
     (
         "a: at least \"2\" of (/b exists)",
-        "line 1, column 13: expected a whole number from 0 to 2^64 - 1, found `\"2\"`",
+        "line 1, column 13: expected a whole number from 0 to 2^64 - 1, found `\"2\"`; a number stands without quotes",
     ),
     (
         "a: at least 18446744073709551616 of (/b exists)",
@@ -461,7 +465,7 @@ const REFUSED_CONDITIONS: [(&str, &str); 16] = [
     ),
     (
         "a: /b is not text",
-        "line 1, column 10: expected `text`, `number`, `whole`, `bool`, `array`, `object` or `null`, found `not`",
+        "line 1, column 10: expected `text`, `number`, `whole`, `bool`, `array`, `object` or `null`, found `not`; `not` stands before the path",
     ),
     (
         "a: /b is text text",
@@ -566,7 +570,7 @@ const REFUSED_KEYS: [(&str, &str); 16] = [
     ),
     (
         "a: keys /b in [1]",
-        "line 1, column 16: expected a text in quotes, found `1`",
+        "line 1, column 16: expected a text in quotes, found `1`; a text stands in double quotes",
     ),
     (
         "a: keys /b in [null]",
@@ -685,14 +689,112 @@ const SLIPS_OF_WORDS: [(&str, &str); 14] = [
     ),
 ];
 
-const SLIPS_OF_CONDITIONS: [(&str, &str); 16] = [
+// The same of what other languages write before a path, or around it.
+const SLIPS_OF_FRONTS: [(&str, &str); 9] = [
+    ("none /b (/ exists)", "found `none`; did you mean `not any`?"),
+    (
+        "exactly 1 of (/b exists)",
+        "found `exactly`; exactly N is `at least N` and `not at least` one more",
+    ),
+    (
+        "at most 2 of (/b exists)",
+        "found `most`; at most N is `not at least` one more",
+    ),
+    (
+        "count /b > 1",
+        "found `count`; a length is asked as `PATH length > 1`",
+    ),
+    ("size == 3", "found `size`; a path begins with `/`"),
+    (
+        "if /b exists then /c exists else /d exists",
+        "found `else`; a second `if`, with `not` before A, stands for `else`",
+    ),
+    (
+        "not b.c is text",
+        "found `b.c`; keys stand behind `/`, as in `/a/b`",
+    ),
+    ("any * (/ exists)", "found `*`; `each PATH (..)` asks all items"),
+    ("/b == \\d", "found `\\d`"),
+];
+
+// A line, and what is told behind what was found.
+const SLIPS_OF_PLACES: [(&str, &str); 18] = [
+    ("a: /b not in [1]", "`not`; `not` stands before the path"),
+    ("a: /b is not null", "`not`; `not` stands before the path"),
+    ("a: /b null", "`null`; did you mean `is null`?"),
+    (
+        "a: /b is is_empty",
+        "`is_empty`; `is_empty` stands without `is`",
+    ),
+    (
+        "a: /b[0] == 1",
+        "`[`; an item is named as in `/list/0`",
+    ),
+    (
+        "a: /b in (1, 2)",
+        "`(`; a list stands in brackets, as in `[1, 2]`",
+    ),
+    (
+        "a: 18 <= /b",
+        "`18`; the path stands before the operator",
+    ),
+    (
+        "a: \"Zoe\" == /b",
+        "`\"Zoe\"`; the path stands before the operator",
+    ),
+    (
+        "a: \"Order ID\" == 3",
+        "`\"Order ID\"`; a path begins with `/`",
+    ),
+    (
+        "a: /b length == \"3\"",
+        "`\"3\"`; a number stands without quotes",
+    ),
+    (
+        "a: /b starts_with 3",
+        "`3`; a text stands in double quotes",
+    ),
+    (
+        "a: /b matches \"\\d\"",
+        "`\"\\d\"`; a backslash is written twice",
+    ),
+    (
+        "two words: /b == 1",
+        "`words`; a name of two words stands in double quotes",
+    ),
+    ("a : /b == 1", "`:`; no space stands before `:`"),
+    (
+        "{\"b\":1}",
+        "`{\"b\":1}`; this is a record: the rules come first",
+    ),
+    (
+        "[{\"b\":1}]",
+        "`[`; this is a record: the rules come first",
+    ),
+    ("a: /b == (1)", "found `(`"),
+    ("\"a\" \"b\": / exists", "found `\"b\"`"),
+];
+
+const SLIPS_OF_CONDITIONS: [(&str, &str); 22] = [
     ("/b len > 3", "found `len`; did you mean `length`?"),
     ("/b is string", "found `string`; did you mean `text`?"),
     ("/b is int", "found `int`; did you mean `whole`?"),
     ("/b is boolean", "found `boolean`; did you mean `bool`?"),
     ("/b is arrays", "found `arrays`; did you mean `array`?"),
     ("/b is List", "found `List`"),
-    ("/b between 1 and 2", "found `between`"),
+    (
+        "/b between 1 and 2",
+        "found `between`; a range is `PATH >= 1 and PATH <= 9`",
+    ),
+    ("/b =~ \"c\"", "found `=`; did you mean `matches`?"),
+    ("/b size == 3", "found `size`; did you mean `length`?"),
+    ("/b count == 3", "found `count`; did you mean `length`?"),
+    ("/b isnull", "found `isnull`; did you mean `is null`?"),
+    (
+        "/b is empty",
+        "found `empty`; `is_empty` stands without `is`",
+    ),
+    ("/b == None", "found `None`; did you mean `null`?"),
     ("^b exists", "found `^b`; a path begins with `/`"),
     ("/b == ^", "found `^`; a path begins with `/`"),
     (
@@ -723,6 +825,12 @@ fn tells(rt: &impl Abort, alloc: Global, text: &str, told: &str) -> bool {
     shown.starts_with("line 1, column ") && shown.ends_with(end.as_str())
 }
 
+fn all_end(rt: &impl Abort, alloc: Global, rows: &[(&str, &str)]) {
+    for (text, told) in rows {
+        assert!(rt; shown(rt, alloc, text).ends_with(*told), "{text}");
+    }
+}
+
 fn all_told(rt: &impl Abort, alloc: Global, rows: &[(&str, &str)]) {
     for (text, told) in rows {
         assert!(rt; tells(rt, alloc, text, told), "{text}");
@@ -734,6 +842,8 @@ fn tells_what_was_likely_meant(rt: HostRuntime) {
     let alloc = rt.alloc();
     all_told(&rt, alloc, &SLIPS_OF_OPERATORS);
     all_told(&rt, alloc, &SLIPS_OF_WORDS);
+    all_told(&rt, alloc, &SLIPS_OF_FRONTS);
+    all_end(&rt, alloc, &SLIPS_OF_PLACES);
     all_told(&rt, alloc, &SLIPS_OF_CONDITIONS)
 }
 
@@ -998,8 +1108,8 @@ fn last_fault(rt: &impl Abort, alloc: Global, lines: u32) -> (usize, usize) {
 }
 
 #[test]
-fn reads_at_most_twenty_faults(rt: HostRuntime) {
-    for (lines, expected) in [(0, (0, 0)), (19, (19, 37)), (20, (20, 39)), (30, (20, 39))] {
+fn reads_at_most_twenty_one_faults(rt: HostRuntime) {
+    for (lines, expected) in [(0, (0, 0)), (19, (19, 37)), (21, (21, 41)), (30, (21, 41))] {
         assert!(rt; last_fault(&rt, rt.alloc(), lines) == expected, "{lines}");
     }
 }

@@ -1,6 +1,7 @@
 use Rattle.std.proofs.Common.{◌+◌, ◌*◌, map, length}
 use Rattle.predicates_rules.specs.Signs.{signs}
 use Rattle.predicates_rules.specs.Trees.{tree_of}
+use Rattle.predicates_rules.specs.Grammar.{separator_word}
 use Rattle.predicates_rules.specs.Levels.{level_of}
 use Rattle.predicates_rules.specs.Reading.{parts_at, part_at, below}
 use Rattle.predicates_rules.proofs.Heights.{height, level_height, row_height}
@@ -14,7 +15,7 @@ abbrev pub decreases-at_grip : goal.decreases-at_grip
 decreases-at_grip l = 24 * l.depth + level_height (level_of l.grip)
 
 abbrev pub decreases-whole : goal.decreases-whole
-decreases-whole l = 24 * l.depth + 20
+decreases-whole l = 24 * l.depth + 21
 
 abbrev pub decreases-implication : goal.decreases-implication
 decreases-implication l = 24 * l.depth + 1
@@ -29,7 +30,10 @@ abbrev pub decreases-part : goal.decreases-part
 decreases-part l = 24 * l.depth + row_height l.separator
 
 abbrev pub decreases-alone : goal.decreases-alone
-decreases-alone l = 24 * l.depth + 6
+decreases-alone l = 24 * l.depth + 7
+
+abbrev pub decreases-begun : goal.decreases-begun
+decreases-begun l = 24 * l.depth + 6
 
 abbrev pub decreases-in_parentheses : goal.decreases-in_parentheses
 decreases-in_parentheses l = 24 * l.depth + 1
@@ -48,7 +52,7 @@ decreases-threshold l = 24 * l.depth + 5
 
 abbrev pub invariant-others-loop-rest : goal.invariant-others-loop-rest
 invariant-others-loop-rest l =
-    Reads l.separator (part_at (below l.depth) l.separator) (map tree_of l.parts.items) (signs l.left) (parts_at (length (signs l.tokens)) l.separator (part_at (below l.depth) l.separator) (signs l.tokens))
+    Reads (separator_word l.separator) (part_at (below l.depth) l.separator) (map tree_of l.parts.items) (signs l.left) (parts_at (length (signs l.tokens)) (separator_word l.separator) (part_at (below l.depth) l.separator) (signs l.tokens))
 
 abbrev pub decreases-others-loop-rest : goal.decreases-others-loop-rest
 decreases-others-loop-rest l = length (signs l.left)

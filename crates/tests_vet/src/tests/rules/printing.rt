@@ -69,7 +69,13 @@ const PRINTED_COMPARISONS: [(&str, &str); 18] = [
     ("any/a(^/b>/)", "any /a (^/b > /)"),
 ];
 
-const PRINTED_CONDITIONS: [(&str, &str); 10] = [
+const PRINTED_CONDITIONS: [(&str, &str); 13] = [
+    ("\"/Order ID\"==3", "\"/Order ID\" == 3"),
+    (
+        "any\"/a\\t[\"(\"/b\" exists)",
+        "any \"/a\\t[\" (/b exists)",
+    ),
+    ("keys\"^/\"in[]", "keys ^/ in []"),
     ("/a length>=3", "/a length >= 3"),
     ("/a is   text", "/a is text"),
     ("/a is null", "/a is null"),
@@ -348,7 +354,7 @@ fn prints_rows_that_no_rule_has(rt: HostRuntime) {
         .push(Expression::Test(path, Condition::Is(State::Exists)))
         .expect(&rt, "memory");
     let one = Expression::Joined(Connective::And, parts);
-    assert!(rt; is_shown(&rt, rt.alloc(), one, "/a b exists"));
+    assert!(rt; is_shown(&rt, rt.alloc(), one, "\"/a b\" exists"));
 }
 
 #[test]

@@ -1,7 +1,7 @@
-use Rattle.std.proofs.Common.{Some, Ok, take}
-use Rattle.std.specs.Fmt.{DisplaysOnOk}
-use Rattle.predicates_rules.proofs.Further.{parts_text}
+use Rattle.std.proofs.Common.{take}
+use Rattle.predicates_rules.specs.Printing.{Lays}
+use Rattle.predicates_rules.proofs.Laying.{parts_signs}
 use Rattle.predicates_rules.proofs.display.expression.+printing.Given as goal
 
 abbrev pub invariant-fmt_row-loop-index : goal.invariant-fmt_row-loop-index
-invariant-fmt_row-loop-index g l = DisplaysOnOk g.W.Write.write_str_gives l.initial.f (Ok tt) (Some (parts_text l.separator (take l.index l.parts))) l.f
+invariant-fmt_row-loop-index g l = Lays g.W.Write.write_str_gives l.initial.f l.at_once (parts_signs l.separator (take l.index l.parts)) l.next l.f

@@ -1,5 +1,5 @@
 use Rattle.std.proofs.Common.{arith}
-use Rattle.predicates_rules.proofs.Further.{has_some}
+use Rattle.predicates_rules.proofs.Laying.{has_some}
 use Rattle.predicates_rules.proofs.display.expression.are_loose.Goals as goal
 
 pub returns-in-len1-up : goal.returns-in-len1-up

@@ -6,14 +6,14 @@ use Rattle.std.proofs.lemmas.Iterator.{YieldsList-from_chars}
 use Rattle.std.proofs.lemmas.Iterator.Consumers.{YieldsList-end}
 use Rattle.json.specs.Print.{escape}
 use Rattle.predicates_rules.proofs.Escaped.{all_escaped}
-use Rattle.predicates_rules.proofs.Further.{nothing_written, one_more}
+use Rattle.predicates_rules.proofs.Laying.{nothing_written, one_more}
 use Rattle.predicates_rules.proofs.display.literal.fmt_characters.Goals as goal
 
 pub loop-c-init : goal.loop-c-init
-loop-c-init g c = nothing_written g.W.Write.write_str_gives c.args.f.now
+loop-c-init g c = nothing_written c.args.f.now
 
 pub loop-c-preserved : goal.loop-c-preserved
-loop-c-preserved g c = one_more g.W.Write.write_str_gives (λ (x : ℕ). escape (encode_utf8 x)) c.loop-c.yielded c.in-Some.c c.args.f.now c.loop-c.f c.fmt_character.new.f c.loop-c.invariant c.in_ok-fmt_character.ensures
+loop-c-preserved g c = one_more (λ (x : ℕ). escape (encode_utf8 x)) c.loop-c.yielded c.in-Some.c c.args.f.now c.loop-c.f c.fmt_character.new.f c.loop-c.invariant c.in_ok-fmt_character.ensures
 
 pub returns : goal.returns
 returns g c =
