@@ -691,7 +691,10 @@ const SLIPS_OF_WORDS: [(&str, &str); 14] = [
 
 // The same of what other languages write before a path, or around it.
 const SLIPS_OF_FRONTS: [(&str, &str); 9] = [
-    ("none /b (/ exists)", "found `none`; did you mean `not any`?"),
+    (
+        "none /b (/ exists)",
+        "found `none`; did you mean `not any`?",
+    ),
     (
         "exactly 1 of (/b exists)",
         "found `exactly`; exactly N is `at least N` and `not at least` one more",
@@ -713,7 +716,10 @@ const SLIPS_OF_FRONTS: [(&str, &str); 9] = [
         "not b.c is text",
         "found `b.c`; keys stand behind `/`, as in `/a/b`",
     ),
-    ("any * (/ exists)", "found `*`; `each PATH (..)` asks all items"),
+    (
+        "any * (/ exists)",
+        "found `*`; `each PATH (..)` asks all items",
+    ),
     ("/b == \\d", "found `\\d`"),
 ];
 
@@ -726,18 +732,12 @@ const SLIPS_OF_PLACES: [(&str, &str); 18] = [
         "a: /b is is_empty",
         "`is_empty`; `is_empty` stands without `is`",
     ),
-    (
-        "a: /b[0] == 1",
-        "`[`; an item is named as in `/list/0`",
-    ),
+    ("a: /b[0] == 1", "`[`; an item is named as in `/list/0`"),
     (
         "a: /b in (1, 2)",
         "`(`; a list stands in brackets, as in `[1, 2]`",
     ),
-    (
-        "a: 18 <= /b",
-        "`18`; the path stands before the operator",
-    ),
+    ("a: 18 <= /b", "`18`; the path stands before the operator"),
     (
         "a: \"Zoe\" == /b",
         "`\"Zoe\"`; the path stands before the operator",
@@ -750,10 +750,7 @@ const SLIPS_OF_PLACES: [(&str, &str); 18] = [
         "a: /b length == \"3\"",
         "`\"3\"`; a number stands without quotes",
     ),
-    (
-        "a: /b starts_with 3",
-        "`3`; a text stands in double quotes",
-    ),
+    ("a: /b starts_with 3", "`3`; a text stands in double quotes"),
     (
         "a: /b matches \"\\d\"",
         "`\"\\d\"`; a backslash is written twice",
@@ -767,10 +764,7 @@ const SLIPS_OF_PLACES: [(&str, &str); 18] = [
         "{\"b\":1}",
         "`{\"b\":1}`; this is a record: the rules come first",
     ),
-    (
-        "[{\"b\":1}]",
-        "`[`; this is a record: the rules come first",
-    ),
+    ("[{\"b\":1}]", "`[`; this is a record: the rules come first"),
     ("a: /b == (1)", "found `(`"),
     ("\"a\" \"b\": / exists", "found `\"b\"`"),
 ];

@@ -71,10 +71,7 @@ const PRINTED_COMPARISONS: [(&str, &str); 18] = [
 
 const PRINTED_CONDITIONS: [(&str, &str); 13] = [
     ("\"/Order ID\"==3", "\"/Order ID\" == 3"),
-    (
-        "any\"/a\\t[\"(\"/b\" exists)",
-        "any \"/a\\t[\" (/b exists)",
-    ),
+    ("any\"/a\\t[\"(\"/b\" exists)", "any \"/a\\t[\" (/b exists)"),
     ("keys\"^/\"in[]", "keys ^/ in []"),
     ("/a length>=3", "/a length >= 3"),
     ("/a is   text", "/a is text"),
