@@ -1,6 +1,6 @@
 -- More depth changes no answer but that it was too little. So each list of tokens spells one
 -- expression at most.
-use Rattle.std.proofs.Common.{◌≡◌, ℕ, zero, suc, ◌+◌, Bool, true, false, cond, List, [], ◌∷◌, length, Option, Some, None, Result, Ok, Err, refl, sym, subst, ◌∙◌, ◌⊎◌, inl, inr, ◌≢◌, arith, add_comm, zero-add}
+use Rattle.std.proofs.Common.{◌≡◌, ℕ, zero, suc, ◌+◌, Bool, true, false, cond, List, ◌∷◌, length, Option, Some, None, Result, Ok, Err, refl, sym, subst, ◌∙◌, ◌⊎◌, inl, inr, ◌≢◌, arith, add_comm, zero-add}
 use Rattle.std.specs.Prelude.{IfErr}
 use Rattle.predicates_rules.specs.declared.expression.Connective.{Connective}
 use Rattle.predicates_rules.specs.declared.expression.Connective.TheVariants.{Or, Xor, And}
@@ -17,7 +17,7 @@ use Rattle.predicates_rules.specs.declared.stop.ReadError.TheVariants as errors
 use Rattle.predicates_rules.specs.declared.expression.Expression.{Expression}
 use Rattle.predicates_rules.specs.Signs as signs
 use Rattle.predicates_rules.specs.Signs.{Sign}
-use Rattle.predicates_rules.specs.Trees.{tree_of, Tree, Test, Not, Implies, Quantified, AtLeast}
+use Rattle.predicates_rules.specs.Trees.{tree_of, Tree, Not, Implies, Quantified, AtLeast}
 use Rattle.predicates_rules.specs.Trees.{trees_of}
 use Rattle.predicates_rules.specs.Grammar.{Level, By, Single, Whole, Premise, path_in, IsSpelled}
 use Rattle.predicates_rules.specs.Answers.{◌>>=◌, Gives, IsSyntax}

@@ -20,8 +20,8 @@ use Rattle.predicates_rules.specs.Literals.{Literal, Natural, Negative, Decimal,
 use Rattle.predicates_rules.specs.Signs as signs
 use Rattle.predicates_rules.specs.Signs.{Sign}
 use Rattle.predicates_rules.specs.Trees.{Tree, Implies, trees_of, tree_of, tree_step}
-use Rattle.predicates_rules.specs.Grammar.{Level, separator_word, part_level}
-use Rattle.predicates_rules.specs.Printing.{following, row_signs, front_signs, in_parentheses, takes_if, has_parts, signs_at, part_signs, follow_signs, literal_sign, literal_text, word_of, opens, closes, laid_from, next_at, Lays}
+use Rattle.predicates_rules.specs.Grammar.{separator_word, part_level}
+use Rattle.predicates_rules.specs.Printing.{following, row_signs, front_signs, in_parentheses, has_parts, signs_at, part_signs, follow_signs, literal_sign, literal_text, word_of, opens, closes, laid_from, next_at, Lays}
 
 laid_append : (b : Bool) (ts us : List Sign) → laid_from b (ts ++ us) ≡ laid_from b ts ++ laid_from (next_at b ts) us
 laid_append b [] us = refl

@@ -15,7 +15,7 @@ use Rattle.predicates_rules.specs.Conditions.{Condition, Is, Compare, CompareWit
 use Rattle.predicates_rules.specs.Conditions.{Relate, In, KeysIn}
 use Rattle.predicates_rules.specs.Trees.{Tree, Test, Not, Implies, Quantified, Joined, AtLeast}
 use Rattle.predicates_rules.specs.Trees.{Trees, none, more}
-use Rattle.predicates_rules.specs.Grammar.{Level, By, Single, Whole, Premise, tighter, separator_word, part_level, path_in, value_in, text_in, Items, last, another, IsList, no_items, items, IsCondition, word, compare, compare_with, has_length, of_kind, relate, among, IsQuantifier, each, any, at_least_items, Spells, test, keys, denied, group, quantified, at_least, alone, joined, no_if, implied, premise, Follow, no_more, and_more, IsSpelled}
+use Rattle.predicates_rules.specs.Grammar.{Level, By, Single, Whole, Premise, tighter, separator_word, part_level, path_in, value_in, text_in, Items, last, another, IsList, no_items, items, word, compare, compare_with, has_length, of_kind, relate, among, IsQuantifier, each, any, at_least_items, Spells, test, keys, denied, group, quantified, at_least, alone, joined, no_if, implied, premise, Follow, no_more, and_more, IsSpelled}
 use Rattle.predicates_rules.specs.Printing.{is_bare, path_sign, literal_sign, text_sign, following, row_signs, subject_signs, condition_signs, quantifier_signs, in_parentheses, fits, takes_if, has_parts, stands_at, signs_at, part_signs, follow_signs, nesting_at, parts_nesting, IsSome, IsProper, AreMany, AreProper, IsPath, IsPlain, ArePlain}
 use Rattle.predicates_rules.proofs.Bare.{nothing_is_bare, caret_is_bare}
 

@@ -1,5 +1,5 @@
 -- What is read is spelled so.
-use Rattle.std.proofs.Common.{◌≡◌, ℕ, zero, suc, Bool, true, false, cond, List, [], ◌∷◌, map, length, ◌<◌, Option, Some, None, Result, Ok, Err, refl, sym, ap, subst, ◌∙◌, arith}
+use Rattle.std.proofs.Common.{◌≡◌, ℕ, zero, suc, Bool, true, false, cond, List, [], ◌∷◌, length, ◌<◌, Option, Some, None, Result, Ok, Err, refl, sym, ap, subst, ◌∙◌, arith}
 use Rattle.std.specs.Prelude.{IfOk}
 use Rattle.predicates_rules.specs.declared.expression.Connective.{Connective}
 use Rattle.predicates_rules.specs.declared.expression.Connective.TheVariants.{Or, Xor, And}
@@ -22,7 +22,7 @@ use Rattle.predicates_rules.specs.Signs.{Sign}
 use Rattle.predicates_rules.specs.Conditions.{Condition, Is, Compare, CompareWith, Length, IsOf}
 use Rattle.predicates_rules.specs.Conditions.{Relate, In, KeysIn}
 use Rattle.predicates_rules.specs.Trees.{tree_of, Tree, Test, Not, Implies, Quantified, AtLeast}
-use Rattle.predicates_rules.specs.Trees.{Trees, none, more, trees_of}
+use Rattle.predicates_rules.specs.Trees.{none, more, trees_of}
 use Rattle.predicates_rules.specs.Grammar.{Level, By, Single, Whole, Premise, tighter, separator_word, part_level, path_in, value_in, text_in, Items, last, another, IsList, no_items, items, IsCondition, word, compare, compare_with, has_length, of_kind, relate, among, IsQuantifier, each, any, at_least_items, Spells, test, keys, denied, group, quantified, at_least, alone, joined, no_if, implied, premise, Follow, no_more, and_more, IsSpelled}
 use Rattle.predicates_rules.specs.Answers.{◌>>=◌, Gives}
 use Rattle.predicates_rules.specs.Reading.{Reader, Answer, next_word, after, one_at, count_at, comparison_at, kind_at, with_next, parts_at, row_at, or_row, items_at, list_at, other_path_at, operand_at, compared_at, length_at, said_by, condition_at, test_at, keys_at, join, chain, listed, counted_by, counted, threshold, begun_by, single, loosest, implication, is_first, begins, whole_by, whole, at_level, part_at, below, is_end, fails, ended, all_of}

@@ -24,7 +24,7 @@ use Rattle.predicates_rules.specs.Conditions.{Relate, In, KeysIn}
 use Rattle.predicates_rules.specs.Trees.{Tree, Test, Not, Implies, Quantified, Joined, AtLeast}
 use Rattle.predicates_rules.specs.Trees.{more, trees_of}
 use Rattle.predicates_rules.specs.Grammar.{Level, By, Single, Whole, Premise, tighter}
-use Rattle.predicates_rules.specs.Grammar.{separator_word, path_in, value_in, text_in}
+use Rattle.predicates_rules.specs.Grammar.{path_in, value_in, text_in}
 use Rattle.predicates_rules.specs.Lexemes.{text_of}
 use Rattle.predicates_rules.specs.Answers.{◌>>=◌, stops}
 

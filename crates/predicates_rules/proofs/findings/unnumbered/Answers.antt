@@ -1,5 +1,4 @@
-use Rattle.std.proofs.Common.{◌≡◌, rules, tests, ap, ◌∙◌}
-use Rattle.std.specs.Iterator.Adapters.{map_source}
+use Rattle.std.proofs.Common.{rules, tests, ◌∙◌}
 use Rattle.std.proofs.lemmas.Iterator.{YieldsList-from_map_by}
 use Rattle.std.proofs.lemmas.Iterator.Consumers.{map_from_collect, YieldsList-from_rest}
 use Rattle.predicates_rules.specs.Rules.{rule_of}

@@ -4,7 +4,7 @@ use Rattle.predicates_rules.specs.Trees.{Implies, tree_of}
 use Rattle.predicates_rules.specs.Grammar.{Whole}
 use Rattle.predicates_rules.specs.Levels.{level_of}
 use Rattle.predicates_rules.specs.Printing.{signs_at, takes_if, Lays}
-use Rattle.predicates_rules.proofs.Laying.{none_laid, then, then_ok, laid_as, taken_more, all_taken, parts_signs, part_behind, parts_last, implies_tree, implication_laid}
+use Rattle.predicates_rules.proofs.Laying.{none_laid, then_ok, taken_more, all_taken, parts_signs, part_behind, parts_last, implies_tree, implication_laid}
 use Rattle.predicates_rules.proofs.display.expression.+printing.Goals as goal
 
 pub fmt_row-loop-index-init : goal.fmt_row-loop-index-init
