@@ -4,10 +4,10 @@ ghost use Rattle.std.specs.Prelude.{◌≡◌, ◌∷◌, ◌/◌, ◌%◌, [], 
 ghost use Rattle.std.specs.Prelude.{codes, if◌then◌else◌, nat_lt, not, string_bytes};
 ghost use Rattle.predicates_core.specs.Label.{value_of};
 
-use predicates::custom::{Test, TestPredicate, absent_case, leaf};
+use predicates::custom::{HowMany, Test, TestPredicate, absent_case, leaf};
 use predicates::reflection::{Case, render};
 use predicates::{Predicate, Total};
-use predicates_dynamic::{Check, EvaluateWith, Listed, View, Wording};
+use predicates_dynamic::{Check, EvaluateWith, Listed, Quota, View, Wording};
 use std::alloc::{AllocError, Global};
 use std::fmt;
 use std::process::Abort;
@@ -129,10 +129,12 @@ fn with_title(rt: &impl Abort, alloc: Global, title: &str) -> Titled {
 // Each digit of the number is at least five, or the number is at least a thousand.
 fn rule(rt: &impl Abort, alloc: Global) -> Rule {
     let digit = Box::new(alloc, Check::Leaf(leaf(Least { least: 5 }))).expect(rt, "memory");
-    let digits = Check::Quantified(with_title(rt, alloc, "large digits"), false, Digits, digit);
+    let each = Quota::Threshold(HowMany::Every);
+    let digits = Check::Members(with_title(rt, alloc, "large digits"), each, Digits, digit);
     let large = Check::Leaf(leaf(Least { least: 1000 }));
     let parts = vec![in alloc; digits, large].expect(rt, "memory");
-    Check::Row(with_title(rt, alloc, "large"), true, parts)
+    let any = Quota::Threshold(HowMany::AtLeastOne);
+    Check::Row(with_title(rt, alloc, "large"), any, parts)
 }
 
 // The printed case of the verdict that the rule has on the number.
