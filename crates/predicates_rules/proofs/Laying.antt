@@ -16,12 +16,11 @@ use Rattle.predicates_rules.specs.declared.expression.Expression.TheVariants.{ro
 use Rattle.predicates_rules.specs.declared.fixed.Fixed.{Fixed}
 use Rattle.predicates_rules.specs.declared.fixed.Fixed.TheVariants as fixed
 use Rattle.predicates_rules.specs.declared.parser.Separator.{Separator}
-use Rattle.predicates_rules.specs.Literals.{Literal, Natural, Negative, Decimal, Text, Boolean, Null}
 use Rattle.predicates_rules.specs.Signs as signs
 use Rattle.predicates_rules.specs.Signs.{Sign}
 use Rattle.predicates_rules.specs.Trees.{Tree, Implies, trees_of, tree_of, tree_step}
 use Rattle.predicates_rules.specs.Grammar.{separator_word, part_level}
-use Rattle.predicates_rules.specs.Printing.{following, row_signs, front_signs, in_parentheses, has_parts, signs_at, part_signs, follow_signs, literal_sign, literal_text, word_of, opens, closes, laid_from, next_at, Lays}
+use Rattle.predicates_rules.specs.Printing.{following, row_signs, front_signs, in_parentheses, has_parts, signs_at, part_signs, follow_signs, word_of, opens, closes, laid_from, next_at, Lays}
 
 laid_append : (b : Bool) (ts us : List Sign) → laid_from b (ts ++ us) ≡ laid_from b ts ++ laid_from (next_at b ts) us
 laid_append b [] us = refl
@@ -34,16 +33,6 @@ laid_append b (t ∷ ts) us =
 next_append : (b : Bool) (ts us : List Sign) → next_at b (ts ++ us) ≡ next_at (next_at b ts) us
 next_append b [] us = refl
 next_append b (t ∷ ts) us = next_append (opens t) ts us
-
--- a literal that is a word has its text
-pub value_text : (v : Literal) → literal_text v ≡ word_of (literal_sign v)
-value_text (Natural n) = refl
-value_text (Negative z) = refl
-value_text (Decimal text x) = refl
-value_text (Text text) = refl
-value_text (Boolean true) = refl
-value_text (Boolean false) = refl
-value_text Null = refl
 
 module _ {W : Type 0} {took : W → List ℕ → W → Type 0} where
   pub nothing_written : (f : Formatter W) → DisplaysOnOk took f (Ok tt) (Some []) f
@@ -99,14 +88,6 @@ module _ {W : Type 0} {took : W → List ℕ → W → Type 0} where
 
 pub map_last : {U : Type 0} (sign : U → Sign) (us : List U) (u : U) → map sign (us ++ u ∷ []) ≡ map sign us ++ sign u ∷ []
 map_last sign us u = map-append sign us (u ∷ [])
-
-following_last : (ts : List Sign) (t : Sign) → following (ts ++ t ∷ []) ≡ following ts ++ signs.Word fixed.Comma ∷ t ∷ []
-following_last [] t = refl
-following_last (u ∷ ts) t = ap (λ (vs : List Sign). signs.Word fixed.Comma ∷ u ∷ vs) (following_last ts t)
-
-row_last : (ts : List Sign) (t : Sign) → row_signs (ts ++ t ∷ []) ≡ row_signs ts ++ (front_signs fixed.Comma (length ts) ++ t ∷ [])
-row_last [] t = refl
-row_last (u ∷ ts) t = ap (λ (vs : List Sign). u ∷ vs) (following_last ts t)
 
 pub elements_last : {U V : Type 0} (sign : V → Sign) (value : U → V) (us : List U) (u : U) → row_signs (map sign (map value (us ++ u ∷ []))) ≡ row_signs (map sign (map value us)) ++ (front_signs fixed.Comma (length us) ++ sign (value u) ∷ [])
 elements_last sign value [] u = refl

@@ -1,5 +1,5 @@
 -- Taking tokens one after the other, as a loop does.
-use Rattle.std.proofs.Common.{◌≡◌, ℕ, ◌<◌, true, false, List, [], ◌∷◌, ◌++◌, length, Some, None, Result, Ok, Err, refl, sym, ap, subst, ◌∙◌, arith, append_assoc}
+use Rattle.std.proofs.Common.{◌≡◌, ℕ, true, false, List, [], ◌∷◌, ◌++◌, length, Some, None, Result, Ok, Err, refl, sym, ap, subst, ◌∙◌, arith, append_assoc}
 use Rattle.std.proofs.lemmas.Bool.Decides.{nat_tests}
 use Rattle.std.proofs.lemmas.Option.{cond_some}
 use Rattle.predicates_rules.specs.declared.lexer.Class.TheVariants.{Other}
@@ -72,9 +72,6 @@ nothing_left text ts e (token {t = t} {word = word} {rest = rest} c w d) = absur
 pub space_is : (text rest : List ℕ) → after_space text ≡ Some rest → (b : ℕ) × (text ≡ b ∷ rest) × (is_space b ≡ true)
 space_is [] rest e = absurd cc
 space_is (b ∷ text) rest e = let p = cond_some (is_space b) text rest e in (b, ap (λ (u : List ℕ). b ∷ u) p.1, p.0)
-
-pub space_shortens : (text rest : List ℕ) → after_space text ≡ Some rest → length rest < length text
-space_shortens text rest e = let p = space_is text rest e in omega (arith, ap length p.1)
 
 -- what was taken so far, and what is left
 pub record Goes (text left : List ℕ) (front : List (Sign × ℕ)) : Type 0 where

@@ -174,9 +174,6 @@ decimal_word (b ∷ word) x h = (literal b word (Decimal (b ∷ word) x) (ap beg
 plain_len : (b : ℕ) (text : List ℕ) → (b == 34) ≡ false → (b == 92) ≡ false → text_end false (b ∷ text) ≡ option_map suc (text_end false text)
 plain_len b text q s = rw (q, s) refl
 
-escaped_len : (b : ℕ) (text : List ℕ) → text_end false (92 ∷ b ∷ text) ≡ option_map suc (option_map suc (text_end false text))
-escaped_len b text = refl
-
 digit_char_no_quote : (d : ℕ) → d < 16 → (digit_char d == 34) ≡ false
 digit_char_no_quote d lt = grind (arith, nat_tests)
 
@@ -185,14 +182,6 @@ digit_char_no_escape d lt = grind (arith, nat_tests)
 
 abbrev add : ℕ → Option ℕ → Option ℕ
 add n o = option_map (λ k. n + k) o
-
-suc_add : (n : ℕ) (o : Option ℕ) → option_map suc (add n o) ≡ add (suc n) o
-suc_add n (Some k) = ap (λ (m : ℕ). Some m) (omega arith)
-suc_add n None = refl
-
-add_none : (o : Option ℕ) → o ≡ add 0 o
-add_none (Some k) = ap (λ (m : ℕ). Some m) (omega arith)
-add_none None = refl
 
 once : (o : Option ℕ) → option_map suc o ≡ add 1 o
 once (Some k) = ap (λ (m : ℕ). Some m) (omega arith)
