@@ -48,8 +48,10 @@ fn add_members(
         return Ok(0);
     };
     let mut cut = 0_usize;
-    for (place, CaseChild { name, case }) in node.children().enumerate() {
+    let mut place = 0_usize;
+    for CaseChild { name, case } in node.children() {
         let is_told = names_member(name) && is_of_member(&case, place, number, all);
+        place = place.saturating_add(1);
         if is_told && add_kept(kept, member, &case, first)? {
             cut = cut.saturating_add(1);
         }
