@@ -374,7 +374,7 @@ fn bad_lines(rt: &impl Abort, alloc: Global, lines: usize) -> Vec<u8> {
     text
 }
 
-// How many faults are told of so many of them.
+// How many faults are told of so many of them, and one more that tells of the others.
 fn number_of_faults(rt: &impl Abort, alloc: Global, lines: usize) -> usize {
     let text = bad_lines(rt, alloc, lines);
     match read_checks(alloc, &text) {
@@ -385,7 +385,7 @@ fn number_of_faults(rt: &impl Abort, alloc: Global, lines: usize) -> usize {
 
 #[test]
 fn twenty_faults_at_most(rt: HostRuntime) {
-    for (lines, faults) in [(1, 1), (19, 19), (20, 20), (30, 20), (50, 20)] {
+    for (lines, faults) in [(1, 1), (19, 19), (20, 20), (21, 21), (50, 21)] {
         assert!(rt;
             number_of_faults(&rt, rt.alloc(), lines) == faults,
             "{lines}"
