@@ -1,5 +1,5 @@
 -- The truth of a rule, and the case that explains it, from those of its check.
-use Rattle.std.proofs.Common.{◌≡◌, ℕ, Bool, List, [], ◌∷◌, Option, Some, None, codes, refl, sym, ap, ◌∙◌, subst}
+use Rattle.std.proofs.Common.{ℕ, Bool, List, [], ◌∷◌, Option, Some, None, codes, refl, sym, ap, ◌∙◌, subst}
 use Rattle.predicates_core.specs.Label.{plain}
 use Rattle.predicates_core.specs.Formula.{Formula, Named, truth, HasTruth}
 use Rattle.predicates_core.specs.Tree.{Tree}

@@ -1,5 +1,5 @@
 -- What a check is, apart from where it lies in memory, and its formula on an item of a record.
-use Rattle.std.specs.Prelude.{◌≡◌, ℕ, List, [], ◌∷◌, Bool, true, false, Option, Some, None}
+use Rattle.std.specs.Prelude.{◌≡◌, ℕ, List, [], ◌∷◌, Bool, false, Option, Some, None}
 use Rattle.std.specs.Prelude.{option_map, option_and_then, cond, codes, decimal}
 use Rattle.serde_json.specs.Data.{Data, string}
 use Rattle.serde_json.specs.Find.{as_object}
@@ -14,7 +14,7 @@ use Rattle.predicates_dynamic.specs.declared.check.Check.{Check}
 use Rattle.predicates_dynamic.specs.Formulas.{tree_formula, tree_text}
 use Rattle.predicates_dynamic.specs.declared.quota.Quota.{Quota}
 use Rattle.predicates_dynamic.specs.declared.quota.Quota.TheVariants.{Threshold, Odd}
-use Rattle.predicates_dynamic.specs.Trees.{Tree, Trees, Words, tree_of, Row, Members}
+use Rattle.predicates_dynamic.specs.Trees.{Tree, tree_of}
 use Rattle.predicates_rules.specs.declared.expression.Connective.{Connective}
 use Rattle.predicates_rules.specs.declared.expression.Connective.TheVariants.{Or, Xor, And}
 use Rattle.predicates_rules.specs.declared.expression.HowMany.{HowMany}
