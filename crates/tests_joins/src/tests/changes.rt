@@ -156,8 +156,8 @@ fn lists_ask_each_member_once(rt: HostRuntime) {
     assert_eq!(rt; of_each(&rt, alloc, false), [1, 10_000, 10_000]);
     assert_eq!(rt; of_any(&rt, alloc, true), [10_000, 1, 10_000]);
     assert_eq!(rt; of_any(&rt, alloc, false), [10_000, 10_000, 10_000]);
-    assert_eq!(rt; of_two_members(&rt, alloc, true), [10_000, 10_000, 10_000]);
-    assert_eq!(rt; of_two_members(&rt, alloc, false), [10_000, 10_000, 10_000]);
+    assert_eq!(rt; of_two_members(&rt, alloc, true), [10_000, 2, 10_000]);
+    assert_eq!(rt; of_two_members(&rt, alloc, false), [9_999, 10_000, 10_000]);
     assert_eq!(rt; of_nested_lists(&rt, alloc), [5, 5, 5]);
 }
 
@@ -172,11 +172,13 @@ fn of_at_least(rt: &impl Abort, alloc: Global, least: usize) -> [usize; 3] {
     counts(rt, alloc, cell, predicate::at_least(least, rules), 5)
 }
 
+// What holds or not already is asked no further, where the other verdict is wanted.
 #[test]
 fn a_threshold_asks_each_rule_once(rt: HostRuntime) {
     let alloc = rt.alloc();
-    for least in [1, 2, 3, 5] {
-        assert_eq!(rt; of_at_least(&rt, alloc, least), [5, 5, 5]);
-    }
+    assert_eq!(rt; of_at_least(&rt, alloc, 1), [5, 1, 5]);
+    assert_eq!(rt; of_at_least(&rt, alloc, 2), [5, 3, 5]);
+    assert_eq!(rt; of_at_least(&rt, alloc, 3), [5, 5, 5]);
+    assert_eq!(rt; of_at_least(&rt, alloc, 5), [2, 5, 5]);
     assert_eq!(rt; of_at_least(&rt, alloc, 6), [0, 0, 0]);
 }

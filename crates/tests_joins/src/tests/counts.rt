@@ -43,13 +43,13 @@ each alone 2 2 3 2 2 2 3 2 3 4
 any alone 1 2 1 1 1 1 3 3 1 1
 of_at_least alone 3 6 3 3 3 3 3 3 3 3
 of_at_most alone 3 3 6 3 3 3 3 3 3 6
-of_exactly alone 5 10 5 5 5 6 6 6 6 5
+of_exactly alone 5 10 5 5 5 5 5 5 5 5
 of_len alone 1 1 1 1 1 1 1 1 1 1
 all_of alone 2 2 3 2 2 2 3 2 3 4
 any_of alone 1 2 1 1 1 1 3 3 1 1
 at_least alone 3 6 3 3 3 3 3 3 3 3
 at_most alone 3 3 6 3 3 3 3 3 3 6
-exactly alone 5 10 5 5 5 6 6 6 6 5
+exactly alone 5 10 5 5 5 5 5 5 5 5
 leaf not 1 1 1 1 1 1 1 1 1 2
 leaf name 1 1 1 1 1 1 1 1 1 1
 leaf and 2 4 2 2 2 2 2 2 2 2
