@@ -1,7 +1,7 @@
 //! How often one text occurs in another. The call takes no memory.
 //!
 //! ```
-//! assert_eq!(rt; count("aa", "aaaa"), 2);
+//! assert_eq!(rt; count("aaaa", "aa"), 2);
 //! ```
 ghost use Rattle.std.specs.Str.{chars};
 ghost use Rattle.std.specs.Prelude.{◌≡◌, ◌≢◌, ◌+◌, [], length, filter, nat_eq, IfSome, MatchOption};

@@ -2,7 +2,7 @@
 //! These calls take no memory.
 //!
 //! ```
-//! assert!(rt; starts_with("Hello", "Hello World"));
+//! assert!(rt; starts_with("Hello World", "Hello"));
 //! ```
 ghost use Rattle.std.specs.Prelude.{◌≡◌, ◌↔◌, [], ◌∷◌, IsTrue};
 ghost use Rattle.std.specs.Str.{chars};
