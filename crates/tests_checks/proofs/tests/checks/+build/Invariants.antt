@@ -1,4 +1,4 @@
 use Rattle.tests_checks.proofs.tests.checks.+build.Given as goal
 
 abbrev pub decreases-build : goal.decreases-build
-decreases-build l = l.depth
+decreases-build g l = l.depth
