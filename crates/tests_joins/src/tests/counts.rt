@@ -12,7 +12,8 @@ use std::process::Abort;
 
 // A predicate, what stands around it, and how often its leaves and that beside it are evaluated: by
 // `eval`; `find_case` of true, of false; `explain` of either, of true, of false; `find_change` of
-// the same; `require`. All hold but the second leaf of each pair and of each list.
+// the same; `require`. All hold but the second leaf of each pair and of each list. What is named
+// `and_..` asks a pair under `and` about a part or a view.
 const ROWS: &str = "\
 leaf alone 1 1 1 1 1 1 1 1 1 1
 function alone 1 1 1 1 1 1 1 1 1 1
@@ -33,6 +34,8 @@ from_file_path alone 1 1 1 1 1 1 1 1 1 1
 of alone 1 1 1 1 1 1 1 1 1 1
 of_ref alone 1 1 1 1 1 1 1 1 1 1
 of_field alone 1 1 1 1 1 1 1 1 1 1
+of_some_ref alone 1 1 1 1 1 1 1 1 1 1
+no_ref alone 0 0 0 0 0 0 0 0 0 0
 of_some_of_ref alone 1 1 1 1 1 1 1 1 1 1
 of_some alone 1 1 1 1 1 1 1 1 1 1
 absent alone 0 0 0 0 0 0 0 0 0 0
@@ -58,12 +61,19 @@ any_of alone 1 2 1 1 1 1 3 3 1 1
 at_least alone 3 6 3 3 3 3 3 3 3 3
 at_most alone 3 3 6 3 3 3 3 3 3 6
 exactly alone 5 10 5 5 5 5 5 5 5 5
+and_trim alone 2 2 4 2 2 2 2 2 2 4
+and_normalize alone 2 2 4 2 2 2 2 2 2 4
+and_fold_case alone 2 2 4 2 2 2 2 2 2 4
+and_from_utf8 alone 2 2 4 2 2 2 2 2 2 4
+and_from_file_path alone 2 2 4 2 2 2 2 2 2 4
 and_of alone 2 2 4 2 2 2 2 2 2 4
 and_of_ref alone 2 2 4 2 2 2 2 2 2 4
 and_of_field alone 2 2 4 2 2 2 2 2 2 4
+and_of_some_ref alone 2 2 4 2 2 2 2 2 2 4
 and_of_some alone 2 2 4 2 2 2 2 2 2 4
 and_of_ok alone 2 2 4 2 2 2 2 2 2 4
 and_of_err alone 2 2 4 2 2 2 2 2 2 4
+and_of_len alone 2 2 4 2 2 2 2 2 2 4
 and_of_pointer alone 2 2 4 2 2 2 2 2 2 4
 and_of_bool alone 2 2 4 2 2 2 2 2 2 4
 and_of_string alone 2 2 4 2 2 2 2 2 2 4

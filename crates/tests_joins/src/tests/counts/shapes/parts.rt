@@ -1,5 +1,5 @@
 //! Parts of an item.
-ghost use Rattle.std.specs.Prelude.{◌≡◌};
+ghost use Rattle.std.specs.Prelude.{◌≡◌, option_copied};
 
 use super::super::around::{Asked, Counts};
 use predicates::part::Field;
@@ -36,6 +36,12 @@ fn other_of(item: &Numbered) -> &Option<u32>
     ensures { result.now ≡ item.now.other }
 {
     &item.other
+}
+
+fn maybe_other(item: &Numbered) -> Option<&u32>
+    ensures { option_copied result ≡ item.now.other }
+{
+    item.other.as_ref()
 }
 
 #[derive(Drop)]
@@ -82,7 +88,27 @@ fn of_field<P: PredicateChange<u32> + Drop>(
     asked.counts(rt, alloc, part.of_field("n", TheNumber), five())
 }
 
-fn of_some_ref(rt: &impl Abort, alloc: Global, asked: Asked<'_>) -> Counts {
+fn of_optional<P: PredicateChange<u32> + Drop>(
+    rt: &impl Abort,
+    alloc: Global,
+    asked: Asked<'_>,
+    part: P,
+) -> Counts
+    requires { P.lawful part }
+{
+    asked.counts(rt, alloc, part.of_some_ref("other", maybe_other), five())
+}
+
+fn of_no_ref(rt: &impl Abort, alloc: Global, asked: Asked<'_>) -> Counts {
+    let item = Numbered {
+        number: 5,
+        other: None,
+    };
+    let other = asked.leaf::<u32>().of_some_ref("other", maybe_other);
+    asked.counts(rt, alloc, other, item)
+}
+
+fn of_some_of_ref(rt: &impl Abort, alloc: Global, asked: Asked<'_>) -> Counts {
     let other = asked.leaf::<u32>().of_some().of_ref("other", other_of);
     asked.counts(rt, alloc, other, five())
 }
@@ -134,7 +160,9 @@ fn of_leaf(rt: &impl Abort, alloc: Global, name: &str, asked: Asked<'_>) -> Opti
         "of_ref" => of_reference(rt, alloc, asked, asked.leaf()),
         "of_field" => of_field(rt, alloc, asked, asked.leaf()),
         "of_some" => of_some(rt, alloc, asked, asked.leaf()),
-        "of_some_of_ref" => of_some_ref(rt, alloc, asked),
+        "of_some_ref" => of_optional(rt, alloc, asked, asked.leaf()),
+        "no_ref" => of_no_ref(rt, alloc, asked),
+        "of_some_of_ref" => of_some_of_ref(rt, alloc, asked),
         "absent" => of_none(rt, alloc, asked),
         "of_ok" => of_ok(rt, alloc, asked, asked.leaf()),
         "of_err" => of_err(rt, alloc, asked, asked.leaf()),
@@ -148,6 +176,7 @@ fn of_both(rt: &impl Abort, alloc: Global, name: &str, asked: Asked<'_>) -> Opti
         "and_of" => of_value(rt, alloc, asked, asked.both()),
         "and_of_ref" => of_reference(rt, alloc, asked, asked.both()),
         "and_of_field" => of_field(rt, alloc, asked, asked.both()),
+        "and_of_some_ref" => of_optional(rt, alloc, asked, asked.both()),
         "and_of_some" => of_some(rt, alloc, asked, asked.both()),
         "and_of_ok" => of_ok(rt, alloc, asked, asked.both()),
         "and_of_err" => of_err(rt, alloc, asked, asked.both()),
