@@ -2,6 +2,7 @@ pub mod Rows
 pub mod Counted
 pub mod Listing
 pub mod Dropping
+pub mod Depths
 mod Unrolled
 pub mod Answered
 pub mod OddRows

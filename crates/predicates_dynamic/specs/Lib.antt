@@ -7,6 +7,7 @@ pub mod Listed
 pub mod Described
 pub mod Laws
 pub mod Sizes
+pub mod Depth
 pub mod Questions
 pub mod OddTallies
 pub mod QuotaTallies

@@ -1,5 +1,5 @@
 //! How checks are made.
-ghost use Rattle.std.specs.Prelude.{◌≡◌, IfOk, map};
+ghost use Rattle.std.specs.Prelude.{◌≡◌, suc, min, IfOk, map};
 ghost use Rattle.predicates_core.specs.declared.custom.join.Operator.TheVariants.{And, Or, Xor};
 ghost use Rattle.predicates_core.specs.declared.custom.quantifier.HowMany.TheVariants.{
   Every,
@@ -178,6 +178,28 @@ impl<L: Drop, V: Drop> Check<L, V> {
         Check::Row(Computed, Quota::Threshold(HowMany::AtLeast(least)), parts)
     }
 
+    /// Holds where at most so many of the parts do, as `at_most`: it is not that one more of them
+    /// hold, and prints `(! at_least(2, ..))` for one.
+    ///
+    /// ```
+    /// let low = Check::leaf(predicate::ge(5));
+    /// let high = Check::leaf(predicate::le(10));
+    /// let one = Check::at_most(alloc, 1, vec![in alloc; low, high]?)?;
+    /// assert!(rt; one.eval(alloc, &11)?);
+    /// assert!(rt; !one.eval(alloc, &7)?);
+    /// ```
+    pub fn at_most(
+        alloc: Global,
+        most: usize,
+        parts: Vec<Check<L, V>>,
+    ) -> Result<Check<L, V>, AllocError>
+        ensures { IfOk result (λ made. computed_tree made ≡ Not computed (Row computed
+            (Threshold (AtLeast (min (suc most) 18446744073709551615)))
+            (trees_of (map computed_tree parts.items)))) }
+    {
+        Check::at_least(most.saturating_add(1), parts).not(alloc)
+    }
+
     /// Holds where an odd number of the parts do, as `xor` of two. It takes no memory.
     ///
     /// ```
@@ -248,5 +270,21 @@ impl<L: Drop, V: Drop> Check<L, V> {
             view,
             inner,
         ))
+    }
+
+    /// Holds of an item where the check does of at most so many of its members, as `of_at_most`; and
+    /// where the view gives no list: it is not that one more of the members hold.
+    ///
+    /// ```
+    /// let one_large = large().of_at_most(alloc, 1, Entries)?;
+    /// assert!(rt; one_large.eval(alloc, &folder)?);
+    /// ```
+    pub fn of_at_most(self, alloc: Global, most: usize, view: V) -> Result<Check<L, V>, AllocError>
+        ensures { IfOk result (λ made. computed_tree made ≡ Not computed (Members computed
+            (Threshold (AtLeast (min (suc most) 18446744073709551615))) view
+            (computed_tree self))) }
+    {
+        self.of_at_least(alloc, most.saturating_add(1), view)?
+            .not(alloc)
     }
 }

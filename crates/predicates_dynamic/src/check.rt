@@ -44,7 +44,7 @@ use std::fmt;
 /// stands.
 ///
 /// A call takes up to five stack frames a level, as to print a row; making and dropping a check
-/// takes no more for a deep one.
+/// takes no more for a deep one. `is_deeper_than` says whether a check is deeper than a limit.
 pub enum Check<L, V = NoMembers, S = Computed> {
     /// The leaf holds. It prints and shows what the leaf does.
     Leaf(L),

@@ -10,6 +10,7 @@
 mod answer;
 mod build;
 mod check;
+mod depth;
 mod describe;
 mod evaluate;
 mod hold;

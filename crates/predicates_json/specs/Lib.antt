@@ -1,5 +1,6 @@
 pub mod CaseData
 pub mod At
+pub mod Bounds
 pub mod Kinds
 pub mod KindParts
 pub mod NumberParts

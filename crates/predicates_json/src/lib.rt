@@ -34,6 +34,7 @@ ghost use Rattle.predicates_core.specs.Parts.{part};
 
 mod at;
 mod case;
+pub mod float;
 mod kind;
 mod null;
 mod number;

@@ -1,4 +1,5 @@
 mod derives;
+mod evaluations;
 mod filters;
 mod from_words;
 mod numbers;

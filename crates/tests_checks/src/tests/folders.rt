@@ -3,6 +3,8 @@ ghost use Rattle.std.specs.Prelude.{None, Some, codes, map, nat_lt, not, option_
 ghost use Rattle.predicates_dynamic.specs.Trees.{AllOf, computed};
 ghost use Rattle.tests_checks.specs.declared.tests.folders.Entry.{out-Entry};
 
+mod limits;
+
 use predicates::custom::{Test, TestPredicate, leaf};
 use predicates::reflection::render;
 use predicates::{Predicate, Total};

@@ -1,5 +1,6 @@
 mod case;
 mod changes;
+mod floats;
 mod helpers;
 mod joined;
 mod kinds;

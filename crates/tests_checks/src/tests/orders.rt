@@ -48,6 +48,9 @@ impl Test<Order> for AtLeast {
 
 type Rule = Check<TestPredicate<AtLeast>>;
 
+// How deep a rule may be that was read: each level takes stack where it is asked.
+const MAX_DEPTH: usize = 100;
+
 // The test that a word such as `lines:2` names.
 fn read_test(word: &str) -> Option<AtLeast> {
     let (field, number) = word.split_once(':')?;
@@ -86,7 +89,7 @@ fn read_word(alloc: Global, made: &mut Vec<Rule>, word: &str) -> Result<Option<R
     }
 }
 
-// The rule that the words mean, each behind its parts.
+// The rule that the words mean, each behind its parts, if it is not too deep.
 fn read_rule(rt: &impl Abort, alloc: Global, words: &str) -> Option<Rule> {
     let mut made = Vec::new(alloc);
     for word in words.split(' ') {
@@ -95,8 +98,12 @@ fn read_rule(rt: &impl Abort, alloc: Global, words: &str) -> Option<Rule> {
         };
         made.push(rule).expect(rt, "memory");
     }
-    let rule = made.pop();
-    if made.is_empty() { rule } else { None }
+    let rule = made.pop()?;
+    if made.is_empty() && !rule.is_deeper_than(MAX_DEPTH) {
+        Some(rule)
+    } else {
+        None
+    }
 }
 
 // The lines that say why the check has its verdict on the order.
@@ -132,4 +139,22 @@ fn a_rule_that_was_read_is_explained(rt: HostRuntime) {
     let words = "total:50 lines:3 or lines:9 not and";
     assert!(rt; is_explained(&rt, rt.alloc(), words, &order, lines));
     assert!(rt; !is_explained(&rt, rt.alloc(), "total:50 and", &order, ""));
+}
+
+// The words of a test that is denied so many times.
+fn denied(rt: &impl Abort, alloc: Global, times: usize) -> String {
+    let mut words = "total:50".to_owned(alloc).expect(rt, "memory");
+    for _ in 0..times {
+        words.push_str(" not").expect(rt, "memory");
+    }
+    words
+}
+
+#[test]
+fn a_rule_that_is_too_deep_is_refused(rt: HostRuntime) {
+    let alloc = rt.alloc();
+    let deepest = denied(&rt, alloc, MAX_DEPTH - 1);
+    assert!(rt; read_rule(&rt, alloc, deepest.as_str()).is_some());
+    let deeper = denied(&rt, alloc, MAX_DEPTH);
+    assert!(rt; read_rule(&rt, alloc, deeper.as_str()).is_none());
 }

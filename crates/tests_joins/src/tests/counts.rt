@@ -12,9 +12,11 @@ use std::process::Abort;
 
 // A predicate, what stands around it, and how often its leaves and that beside it are evaluated: by
 // `eval`; `find_case` of true, of false; `explain` of either, of true, of false; `find_change` of
-// the same; `require`. All hold but the second leaf of each pair and of each list.
+// the same; `require`. All hold but the second leaf of each pair and of each list. What is named
+// `and_..` asks a pair under `and` about a part or a view.
 const ROWS: &str = "\
 leaf alone 1 1 1 1 1 1 1 1 1 1
+function alone 1 1 1 1 1 1 1 1 1 1
 not alone 1 1 1 1 1 1 1 1 1 2
 name alone 1 1 1 1 1 1 1 1 1 1
 and alone 2 2 4 2 2 2 2 2 2 4
@@ -32,13 +34,22 @@ from_file_path alone 1 1 1 1 1 1 1 1 1 1
 of alone 1 1 1 1 1 1 1 1 1 1
 of_ref alone 1 1 1 1 1 1 1 1 1 1
 of_field alone 1 1 1 1 1 1 1 1 1 1
+of_some_ref alone 1 1 1 1 1 1 1 1 1 1
+no_ref alone 0 0 0 0 0 0 0 0 0 0
 of_some_of_ref alone 1 1 1 1 1 1 1 1 1 1
 of_some alone 1 1 1 1 1 1 1 1 1 1
 absent alone 0 0 0 0 0 0 0 0 0 0
 of_ok alone 1 1 1 1 1 1 1 1 1 1
 of_err alone 1 1 1 1 1 1 1 1 1 1
 of_pointer alone 1 1 1 1 1 1 1 1 1 1
+no_value alone 0 0 0 0 0 0 0 0 0 0
 of_bool alone 1 1 1 1 1 1 1 1 1 1
+of_string alone 1 1 1 1 1 1 1 1 1 1
+other_kind alone 0 0 0 0 0 0 0 0 0 0
+of_array alone 1 1 1 1 1 1 1 1 1 1
+of_object alone 1 1 1 1 1 1 1 1 1 1
+of_number alone 1 1 1 1 1 1 1 1 1 1
+misfit alone 0 0 0 0 0 0 0 0 0 0
 each alone 2 2 3 2 2 2 3 2 3 4
 any alone 1 2 1 1 1 1 3 3 1 1
 of_at_least alone 3 6 3 3 3 3 3 3 3 3
@@ -50,12 +61,35 @@ any_of alone 1 2 1 1 1 1 3 3 1 1
 at_least alone 3 6 3 3 3 3 3 3 3 3
 at_most alone 3 3 6 3 3 3 3 3 3 6
 exactly alone 5 10 5 5 5 5 5 5 5 5
+and_trim alone 2 2 4 2 2 2 2 2 2 4
+and_normalize alone 2 2 4 2 2 2 2 2 2 4
+and_fold_case alone 2 2 4 2 2 2 2 2 2 4
+and_from_utf8 alone 2 2 4 2 2 2 2 2 2 4
+and_from_file_path alone 2 2 4 2 2 2 2 2 2 4
+and_of alone 2 2 4 2 2 2 2 2 2 4
+and_of_ref alone 2 2 4 2 2 2 2 2 2 4
+and_of_field alone 2 2 4 2 2 2 2 2 2 4
+and_of_some_ref alone 2 2 4 2 2 2 2 2 2 4
+and_of_some alone 2 2 4 2 2 2 2 2 2 4
+and_of_ok alone 2 2 4 2 2 2 2 2 2 4
+and_of_err alone 2 2 4 2 2 2 2 2 2 4
+and_of_len alone 2 2 4 2 2 2 2 2 2 4
+and_of_pointer alone 2 2 4 2 2 2 2 2 2 4
+and_of_bool alone 2 2 4 2 2 2 2 2 2 4
+and_of_string alone 2 2 4 2 2 2 2 2 2 4
+and_of_array alone 2 2 4 2 2 2 2 2 2 4
+and_of_object alone 2 2 4 2 2 2 2 2 2 4
+and_of_number alone 2 2 4 2 2 2 2 2 2 4
 leaf not 1 1 1 1 1 1 1 1 1 2
 leaf name 1 1 1 1 1 1 1 1 1 1
 leaf and 2 4 2 2 2 2 2 2 2 2
 leaf or 1 2 1 1 1 1 2 2 2 1
 leaf xor 2 2 4 2 2 2 2 2 2 4
 leaf after_xor 2 2 4 2 2 2 2 2 2 4
+function not 1 1 1 1 1 1 1 1 1 2
+function and 2 4 2 2 2 2 2 2 2 2
+function or 1 2 1 1 1 1 2 2 2 1
+function xor 2 2 4 2 2 2 2 2 2 4
 deep_left not 5 5 10 5 5 5 5 5 5 10
 deep_left name 5 10 5 5 5 5 5 5 5 5
 deep_left and 6 12 6 6 6 6 6 6 6 6

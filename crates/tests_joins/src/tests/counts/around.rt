@@ -1,5 +1,6 @@
 //! How often a part is asked below what stands around it.
 use super::counting::{CountingLeaf, leaf_that_counts};
+use predicates::boolean::AndPredicate;
 use predicates::prelude::*;
 use std::alloc::Global;
 use std::cell::Cell;
@@ -83,6 +84,9 @@ pub struct Asked<'a> {
     pub beside: bool,
 }
 
+/// A leaf of the part's verdict, and one of the opposite.
+pub type Both<'a, Item> = AndPredicate<CountingLeaf<'a, Item>, CountingLeaf<'a, Item>, Item>;
+
 impl<'a> Asked<'a> {
     /// A leaf of the part.
     pub fn leaf<Item>(self) -> CountingLeaf<'a, Item> {
@@ -92,6 +96,11 @@ impl<'a> Asked<'a> {
     /// A leaf of the part with the opposite verdict.
     pub fn other<Item>(self) -> CountingLeaf<'a, Item> {
         leaf_that_counts(self.cell, !self.holds)
+    }
+
+    /// Both, under `and`.
+    pub fn both<Item: fmt::Debug>(self) -> Both<'a, Item> {
+        self.leaf().and(self.other())
     }
 
     /// How often the leaves are evaluated.

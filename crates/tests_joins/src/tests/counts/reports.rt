@@ -21,6 +21,42 @@ fn asked_by_failures(rt: &impl Abort, alloc: Global) -> usize {
     asked.get()
 }
 
+// By `check_all`, or by `require_all`, of three expectations, of which the first is met.
+fn asked_of_three(rt: &impl Abort, alloc: Global, requires_all: bool) -> usize {
+    let asked = Cell::new(0);
+    let mut expected = Vec::new(alloc);
+    for holds in [true, false, false] {
+        expected
+            .push(expect(alloc, "a", 5u32, rule(&asked, holds)).expect(rt, "memory"))
+            .expect(rt, "memory");
+    }
+    if requires_all {
+        let _unmet = require_all(alloc, expected.as_slice());
+    } else {
+        check_all(alloc, expected.as_slice()).expect(rt, "memory");
+    }
+    asked.get()
+}
+
+fn asked_by_require_as(alloc: Global, holds: bool) -> usize {
+    let asked = Cell::new(0);
+    let _unmet = require_as(alloc, "a", &rule(&asked, holds), &5u32);
+    asked.get()
+}
+
+fn asked_by_add_failure(rt: &impl Abort, alloc: Global, holds: bool) -> usize {
+    let asked = Cell::new(0);
+    let mut cases = Vec::new(alloc);
+    add_failure(alloc, &mut cases, &rule(&asked, holds), &5u32).expect(rt, "memory");
+    asked.get()
+}
+
+fn asked_by_required_change(rt: &impl Abort, alloc: Global, holds: bool) -> usize {
+    let asked = Cell::new(0);
+    required_change(alloc, &rule(&asked, holds), &5u32).expect(rt, "memory");
+    asked.get()
+}
+
 // By `sift` of three items, which all pass or all do not.
 fn asked_by_sift(rt: &impl Abort, alloc: Global, holds: bool) -> usize {
     let asked = Cell::new(0);
@@ -29,11 +65,19 @@ fn asked_by_sift(rt: &impl Abort, alloc: Global, holds: bool) -> usize {
     asked.get()
 }
 
-// Each leaf once for the verdict, and once more for the case of a rule that does not hold.
+// Each leaf once for the verdict, and once more for the case of a rule that does not hold; for a
+// change once.
 #[test]
 fn reports(rt: HostRuntime) {
     let alloc = rt.alloc();
     assert_eq!(rt; asked_by_failures(&rt, alloc), 2 + 4 + 4);
+    assert_eq!(rt; asked_of_three(&rt, alloc, false), 2 + 4 + 4);
+    assert_eq!(rt; asked_of_three(&rt, alloc, true), 2 + 4 + 4);
+    for (holds, twice) in [(true, 2), (false, 4)] {
+        assert_eq!(rt; asked_by_require_as(alloc, holds), twice);
+        assert_eq!(rt; asked_by_add_failure(&rt, alloc, holds), twice);
+        assert_eq!(rt; asked_by_required_change(&rt, alloc, holds), 2);
+    }
     assert_eq!(rt; asked_by_sift(&rt, alloc, true), 3 * 2);
     assert_eq!(rt; asked_by_sift(&rt, alloc, false), 3 * 4);
 }

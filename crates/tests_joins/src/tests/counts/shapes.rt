@@ -1,5 +1,6 @@
 //! The predicates whose leaves are counted, by name.
 mod joins;
+mod json;
 mod lists;
 mod parts;
 mod rules;
@@ -19,6 +20,9 @@ pub fn counts_of(rt: &impl Abort, alloc: Global, name: &str, asked: Asked<'_>) -
         return Some(counts);
     }
     if let Some(counts) = parts::counts_of(rt, alloc, name, asked) {
+        return Some(counts);
+    }
+    if let Some(counts) = json::counts_of(rt, alloc, name, asked) {
         return Some(counts);
     }
     if let Some(counts) = lists::counts_of(rt, alloc, name, asked) {

@@ -1,8 +1,41 @@
-//! A leaf, and combinators over leaves.
+//! A leaf, a stored function, and combinators over leaves.
+ghost use Rattle.std.specs.Prelude.{◌≡◌};
+
 use super::super::around::{Asked, Counts};
 use predicates::prelude::*;
 use std::alloc::Global;
+use std::cell::Cell;
+use std::fmt;
 use std::process::Abort;
+
+// An item with a verdict, which counts how often it is read.
+#[derive(Drop)]
+struct Judged<'a> {
+    holds: bool,
+    reads: &'a Cell<usize>,
+}
+
+impl fmt::Debug for Judged<'_> {
+    fn fmt<W: fmt::Write>(&self, f: &mut fmt::Formatter<W>) -> fmt::Result {
+        f.write_str("judged")
+    }
+}
+
+fn verdict_of(item: &Judged<'_>) -> bool
+    ensures { result ≡ item.now.holds }
+{
+    item.reads.set(item.reads.get().saturating_add(1));
+    item.holds
+}
+
+// Each call of the function counts as a leaf that is asked.
+fn function(rt: &impl Abort, alloc: Global, asked: Asked<'_>) -> Counts {
+    let item = Judged {
+        holds: asked.holds,
+        reads: asked.cell,
+    };
+    asked.counts(rt, alloc, predicate::function(verdict_of), item)
+}
 
 fn bare(rt: &impl Abort, alloc: Global, asked: Asked<'_>) -> Counts {
     asked.counts(rt, alloc, asked.leaf(), 5u32)
@@ -17,7 +50,7 @@ fn named(rt: &impl Abort, alloc: Global, asked: Asked<'_>) -> Counts {
 }
 
 fn both(rt: &impl Abort, alloc: Global, asked: Asked<'_>) -> Counts {
-    asked.counts(rt, alloc, asked.leaf().and(asked.other()), 5u32)
+    asked.counts(rt, alloc, asked.both(), 5u32)
 }
 
 fn either(rt: &impl Abort, alloc: Global, asked: Asked<'_>) -> Counts {
@@ -43,6 +76,7 @@ fn deep_right(rt: &impl Abort, alloc: Global, asked: Asked<'_>) -> Counts {
 pub fn counts_of(rt: &impl Abort, alloc: Global, name: &str, asked: Asked<'_>) -> Option<Counts> {
     Some(match name {
         "leaf" => bare(rt, alloc, asked),
+        "function" => function(rt, alloc, asked),
         "not" => negation(rt, alloc, asked),
         "name" => named(rt, alloc, asked),
         "and" => both(rt, alloc, asked),

@@ -48,9 +48,16 @@ fn exactly(rt: &impl Abort, alloc: Global, asked: Asked<'_>) -> Counts {
     )
 }
 
-fn length(rt: &impl Abort, alloc: Global, asked: Asked<'_>) -> Counts {
+fn length<P: PredicateChange<usize> + Drop>(
+    rt: &impl Abort,
+    alloc: Global,
+    asked: Asked<'_>,
+    part: P,
+) -> Counts
+    requires { P.lawful part }
+{
     let item = three(rt, alloc);
-    asked.counts(rt, alloc, asked.leaf::<usize>().of_len(), item)
+    asked.counts(rt, alloc, part.of_len(), item)
 }
 
 pub fn counts_of(rt: &impl Abort, alloc: Global, name: &str, asked: Asked<'_>) -> Option<Counts> {
@@ -60,7 +67,8 @@ pub fn counts_of(rt: &impl Abort, alloc: Global, name: &str, asked: Asked<'_>) -
         "of_at_least" => at_least(rt, alloc, asked),
         "of_at_most" => at_most(rt, alloc, asked),
         "of_exactly" => exactly(rt, alloc, asked),
-        "of_len" => length(rt, alloc, asked),
+        "of_len" => length(rt, alloc, asked, asked.leaf()),
+        "and_of_len" => length(rt, alloc, asked, asked.both()),
         _ => return None,
     })
 }

@@ -9,24 +9,52 @@ use std::alloc::Global;
 use std::fmt;
 use std::process::Abort;
 
-fn trimmed(rt: &impl Abort, alloc: Global, asked: Asked<'_>) -> Counts {
+fn trimmed<P: PredicateChange<String> + Drop>(
+    rt: &impl Abort,
+    alloc: Global,
+    asked: Asked<'_>,
+    part: P,
+) -> Counts
+    requires { P.lawful part }
+{
     let item = text(alloc, " a ").expect(rt, "memory");
-    asked.counts(rt, alloc, asked.leaf::<String>().trim(), item)
+    asked.counts(rt, alloc, part.trim(), item)
 }
 
-fn normalized(rt: &impl Abort, alloc: Global, asked: Asked<'_>) -> Counts {
+fn normalized<P: PredicateChange<String> + Drop>(
+    rt: &impl Abort,
+    alloc: Global,
+    asked: Asked<'_>,
+    part: P,
+) -> Counts
+    requires { P.lawful part }
+{
     let item = text(alloc, "a\r\n").expect(rt, "memory");
-    asked.counts(rt, alloc, asked.leaf::<String>().normalize(), item)
+    asked.counts(rt, alloc, part.normalize(), item)
 }
 
-fn folded(rt: &impl Abort, alloc: Global, asked: Asked<'_>) -> Counts {
+fn folded<P: PredicateChange<String> + Drop>(
+    rt: &impl Abort,
+    alloc: Global,
+    asked: Asked<'_>,
+    part: P,
+) -> Counts
+    requires { P.lawful part }
+{
     let item = text(alloc, "A").expect(rt, "memory");
-    asked.counts(rt, alloc, asked.leaf::<String>().fold_case(), item)
+    asked.counts(rt, alloc, part.fold_case(), item)
 }
 
-fn decoded(rt: &impl Abort, alloc: Global, asked: Asked<'_>) -> Counts {
+fn decoded<P: PredicateChange<String> + Drop>(
+    rt: &impl Abort,
+    alloc: Global,
+    asked: Asked<'_>,
+    part: P,
+) -> Counts
+    requires { P.lawful part }
+{
     let item = vec![in alloc; b'a'].expect(rt, "memory");
-    asked.counts(rt, alloc, asked.leaf::<String>().from_utf8(), item)
+    asked.counts(rt, alloc, part.from_utf8(), item)
 }
 
 fn undecoded(rt: &impl Abort, alloc: Global, asked: Asked<'_>) -> Counts {
@@ -52,7 +80,14 @@ fn file_of(found: &Found) -> &Snapshot
     &found.file
 }
 
-fn of_file(rt: &impl Abort, alloc: Global, asked: Asked<'_>) -> Counts {
+fn of_file<P: PredicateChange<Vec<u8>> + Drop>(
+    rt: &impl Abort,
+    alloc: Global,
+    asked: Asked<'_>,
+    part: P,
+) -> Counts
+    requires { P.lawful part }
+{
     let content = vec![in alloc; b'a'].expect(rt, "memory");
     let kind = Ok(FileType::File);
     let file = Snapshot::from_parts(
@@ -61,21 +96,38 @@ fn of_file(rt: &impl Abort, alloc: Global, asked: Asked<'_>) -> Counts {
         kind,
         Ok(content),
     );
-    let in_file = asked
-        .leaf::<Vec<u8>>()
-        .from_file_path()
-        .of_ref("file", file_of);
+    let in_file = part.from_file_path().of_ref("file", file_of);
     asked.counts(rt, alloc, in_file, Found { file })
 }
 
-pub fn counts_of(rt: &impl Abort, alloc: Global, name: &str, asked: Asked<'_>) -> Option<Counts> {
+// The views of a leaf.
+fn of_leaf(rt: &impl Abort, alloc: Global, name: &str, asked: Asked<'_>) -> Option<Counts> {
     Some(match name {
-        "trim" => trimmed(rt, alloc, asked),
-        "normalize" => normalized(rt, alloc, asked),
-        "fold_case" => folded(rt, alloc, asked),
-        "from_utf8" => decoded(rt, alloc, asked),
+        "trim" => trimmed(rt, alloc, asked, asked.leaf()),
+        "normalize" => normalized(rt, alloc, asked, asked.leaf()),
+        "fold_case" => folded(rt, alloc, asked, asked.leaf()),
+        "from_utf8" => decoded(rt, alloc, asked, asked.leaf()),
         "no_text" => undecoded(rt, alloc, asked),
-        "from_file_path" => of_file(rt, alloc, asked),
+        "from_file_path" => of_file(rt, alloc, asked, asked.leaf()),
         _ => return None,
     })
+}
+
+// Those of two leaves under `and`.
+fn of_both(rt: &impl Abort, alloc: Global, name: &str, asked: Asked<'_>) -> Option<Counts> {
+    Some(match name {
+        "and_trim" => trimmed(rt, alloc, asked, asked.both()),
+        "and_normalize" => normalized(rt, alloc, asked, asked.both()),
+        "and_fold_case" => folded(rt, alloc, asked, asked.both()),
+        "and_from_utf8" => decoded(rt, alloc, asked, asked.both()),
+        "and_from_file_path" => of_file(rt, alloc, asked, asked.both()),
+        _ => return None,
+    })
+}
+
+pub fn counts_of(rt: &impl Abort, alloc: Global, name: &str, asked: Asked<'_>) -> Option<Counts> {
+    if let Some(counts) = of_leaf(rt, alloc, name, asked) {
+        return Some(counts);
+    }
+    of_both(rt, alloc, name, asked)
 }
