@@ -1,4 +1,5 @@
 mod formats;
+mod limits;
 mod program;
 mod progress;
 mod records;

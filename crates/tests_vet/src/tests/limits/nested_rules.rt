@@ -1,0 +1,89 @@
+//! Rules that nest as deep as they may. Were a part of one asked twice at each level, the innermost
+//! would be asked 2^90 times, and no run would end.
+use super::nested;
+use super::rules::checks_of;
+use predicates_vet::settings::{Report, Settings};
+use predicates_vet::{Counts, Job, Streams, Tally, run_records};
+use std::alloc::Global;
+use std::process::Abort;
+
+// What opens and what closes a level of a rule, innermost of which `/ == 1` stands, and how often.
+const OF_NUMBERS: [(&str, &str, usize); 9] = [
+    ("/ == 1 xor (", ")", 90),
+    ("/ == 1 and (", ")", 91),
+    ("/ == 3 or (", ")", 91),
+    ("(", " xor / == 3)", 91),
+    ("(/ == 1 and (", " xor / == 3))", 45),
+    ("(/ == 3 xor (", " or / == 3))", 45),
+    ("at least 2 of (/ == 1, ", ")", 91),
+    ("if / exists then ", "", 91),
+    ("not ", "", 90),
+];
+
+const OF_LISTS: [(&str, &str, usize); 3] = [
+    ("each / (", ")", 91),
+    ("any / (", ")", 91),
+    ("at least 1 / (", ")", 91),
+];
+
+const REPORTS: [Report; 6] = [
+    Report::First,
+    Report::All,
+    Report::Change,
+    Report::Json {
+        all: true,
+        failed: false,
+    },
+    Report::GitHub { all: true },
+    Report::JUnit,
+];
+
+// Of two records the second breaks the rule.
+const COUNTS: Counts = Counts {
+    records: 2,
+    failed: 1,
+    unreadable: 0,
+};
+
+// Whether a run over the records counts so.
+fn is_counted(rt: &impl Abort, alloc: Global, rule: &str, records: &str, report: Report) -> bool {
+    let rules = checks_of(rt, alloc, rule.as_bytes());
+    let settings = Settings { report, id: None };
+    let job = Job::new(&rules, &settings);
+    let mut tally = Tally::with_blocks(alloc, &rules, None).expect(rt, "memory");
+    let mut input = records.as_bytes();
+    let mut streams = Streams {
+        output: Vec::new(alloc),
+        messages: Vec::new(alloc),
+    };
+    run_records(alloc, &job, &mut tally, &mut input, &mut streams).expect(rt, "memory");
+    tally.counts == COUNTS
+}
+
+// The record of 1 and that of 2, in so many arrays.
+fn records_in(rt: &impl Abort, alloc: Global, levels: usize) -> String {
+    let one = nested(rt, alloc, ("[", levels), "1", ("]", levels));
+    let two = nested(rt, alloc, ("[", levels), "2", ("]", levels));
+    format!(in alloc; "{one}\n{two}\n").expect(rt, "memory")
+}
+
+// Whether runs by the rule that nests so end, and count so, of records in so many arrays.
+fn ends(rt: &impl Abort, alloc: Global, row: (&str, &str, usize), arrays: usize) -> bool {
+    let (opening, closing, levels) = row;
+    let expression = nested(rt, alloc, (opening, levels), "/ == 1", (closing, levels));
+    let rule = format!(in alloc; "a: {expression}").expect(rt, "memory");
+    let records = records_in(rt, alloc, arrays);
+    REPORTS
+        .iter()
+        .all(|report| is_counted(rt, alloc, &rule, &records, *report))
+}
+
+#[test]
+fn runs_by_nested_rules_end(rt: HostRuntime) {
+    for row in OF_NUMBERS {
+        assert!(rt; ends(&rt, rt.alloc(), row, 0), "{row:?}");
+    }
+    for row in OF_LISTS {
+        assert!(rt; ends(&rt, rt.alloc(), row, row.2), "{row:?}");
+    }
+}

@@ -1,0 +1,213 @@
+//! The program, where its output fails or is closed, where little of it is wanted, and where the
+//! share of an input can't be told.
+use super::odd_process::OddProcess;
+use super::told;
+use predicates_fakes::{Closed, Process};
+use predicates_vet_program::run_program;
+use std::alloc::Global;
+use std::io::ErrorKind;
+use std::process::Abort;
+
+const FILES: [(&str, &[u8]); 3] = [
+    ("rules", b"a: / == 1"),
+    ("one", b"2\n1\n"),
+    ("two", b"1\n\n3"),
+];
+
+// Words, standard input, and the status and standard error where the output fails.
+type Row = (&'static [&'static [u8]], &'static [u8], u8, &'static [u8]);
+
+// Of a run that a write stops no totals are told, and its status is not that of the records.
+const BLOCKS: [Row; 7] = [
+    (
+        &[b"vet", b"rules"],
+        b"2",
+        2,
+        b"vet: output could not be written\n",
+    ),
+    (
+        &[b"vet", b"--flush", b"rules"],
+        b"2",
+        2,
+        b"vet: output could not be written\n",
+    ),
+    (
+        &[b"vet", b"--json", b"rules"],
+        b"1",
+        2,
+        b"vet: output could not be written\n",
+    ),
+    (
+        &[b"vet", b"--failed", b"--summary", b"rules"],
+        b"2",
+        2,
+        b"vet: output could not be written\n",
+    ),
+    (
+        &[b"vet", b"--format", b"github", b"rules"],
+        b"2",
+        2,
+        b"vet: output could not be written\n",
+    ),
+    // The next file is not read.
+    (
+        &[b"vet", b"rules", b"one", b"none"],
+        b"",
+        2,
+        b"vet: output could not be written\n",
+    ),
+    // Nothing is to be written.
+    (&[b"vet", b"rules"], b"1", 0, b"1 record, 0 failed\n"),
+];
+
+// The document at the end, and the help.
+const DOCUMENTS: [Row; 2] = [
+    (
+        &[b"vet", b"--format", b"junit", b"rules"],
+        b"1",
+        2,
+        b"vet: no storage space\n",
+    ),
+    (&[b"vet", b"--help"], b"", 2, b"vet: no storage space\n"),
+];
+
+// The same where the output is out of memory.
+const NO_MEMORY: [Row; 2] = [
+    (&[b"vet", b"rules"], b"2", 2, b"vet: no memory\n"),
+    (
+        &[b"vet", b"--format", b"junit", b"rules"],
+        b"1",
+        2,
+        b"vet: no memory\n",
+    ),
+];
+
+// Whether the program ends so where each write of the output fails by the kind.
+fn fails(alloc: Global, row: Row, kind: ErrorKind) -> bool {
+    let (words, input, status, messages) = row;
+    let process = OddProcess {
+        held: Process::new(alloc, words, &FILES, input),
+        fault: Some(kind),
+        folder: "",
+    };
+    let found = run_program(&process, false);
+    let (output, error) = process.held.into_written();
+    found == status && output.is_empty() && error.as_slice() == messages
+}
+
+fn all_fail(rt: &impl Abort, alloc: Global, rows: &[Row], kind: ErrorKind) {
+    for row in rows {
+        assert!(rt; fails(alloc, *row, kind), "{:?} on {:?}", row.0, row.1);
+    }
+}
+
+#[test]
+fn blocks_that_are_not_written(rt: HostRuntime) {
+    all_fail(&rt, rt.alloc(), &BLOCKS, ErrorKind::StorageFull);
+}
+
+#[test]
+fn documents_that_are_not_written(rt: HostRuntime) {
+    all_fail(&rt, rt.alloc(), &DOCUMENTS, ErrorKind::StorageFull);
+}
+
+#[test]
+fn outputs_out_of_memory(rt: HostRuntime) {
+    all_fail(&rt, rt.alloc(), &NO_MEMORY, ErrorKind::OutOfMemory);
+}
+
+// The document where nothing reads it: no totals are told, and the status is that of the records.
+const UNREAD: [Row; 4] = [
+    (&[b"vet", b"--format", b"junit", b"rules"], b"1", 0, b""),
+    (&[b"vet", b"--format", b"junit", b"rules"], b"2\n1", 1, b""),
+    (
+        &[b"vet", b"--format", b"junit", b"--summary", b"rules"],
+        b"2",
+        1,
+        b"",
+    ),
+    (
+        &[b"vet", b"--format", b"junit", b"rules", b"none", b"one"],
+        b"",
+        2,
+        b"vet: none: entity not found\n",
+    ),
+];
+
+fn is_unread(alloc: Global, row: Row) -> bool {
+    let (words, input, status, messages) = row;
+    let mut process = Process::new(alloc, words, &FILES, input);
+    process.closed = Closed::Output;
+    let (found, _, error) = told(process);
+    found == status && error.as_slice() == messages
+}
+
+#[test]
+fn documents_that_nothing_reads(rt: HostRuntime) {
+    for row in UNREAD {
+        assert!(rt; is_unread(rt.alloc(), row), "{:?} on {:?}", row.0, row.1);
+    }
+}
+
+const BLOCK: &[u8] = b"record 1: false\na = false\n  rule: / == 1 = false\n    - found: 2\n";
+
+// How many records are written of, and what is written of three, of which two break the rule. The
+// lines of the summary count them all.
+const MOST: [(&[u8], &[u8]); 3] = [
+    (b"0", b""),
+    (b"1", BLOCK),
+    (
+        b"2",
+        b"\
+record 1: false
+a = false
+  rule: / == 1 = false
+    - found: 2
+record 3: false
+a = false
+  rule: / == 1 = false
+    - found: 3
+",
+    ),
+];
+
+fn is_limited(alloc: Global, most: &[u8], output: &[u8]) -> bool {
+    let words: [&[u8]; 5] = [b"vet", b"--summary", b"--max", most, b"rules"];
+    let process = Process::new(alloc, &words, &FILES, b"2\n1\n3");
+    let (status, written, error) = told(process);
+    let messages = b"2\t##\ta\n3 records, 2 failed\n".as_slice();
+    status == 1 && written.as_slice() == output && error.as_slice() == messages
+}
+
+#[test]
+fn summaries_of_limited_runs(rt: HostRuntime) {
+    for (most, output) in MOST {
+        assert!(rt; is_limited(rt.alloc(), most, output), "{most:?}");
+    }
+}
+
+// An input that is no file, and the lines of the run over `one` and `two`, without a share.
+const WITHOUT_SHARE: &[u8] = b"\r2 lines, 10 a second\x1b[K\r2 lines, 5 a second\x1b[K\r\x1b[K\
+    \r4 lines, 6 a second\x1b[K\r4 lines, 5 a second\x1b[K\r4 lines, 4 a second\x1b[K\
+    \r\x1b[K4 records, 2 failed\n";
+
+fn shows_no_share(alloc: Global, folder: &str) -> bool {
+    let words: [&[u8]; 5] = [b"vet", b"--progress", b"rules", b"one", b"two"];
+    let mut held = Process::new(alloc, &words, &FILES, b"");
+    held.tick = Some(200);
+    let process = OddProcess {
+        held,
+        fault: None,
+        folder,
+    };
+    let status = run_program(&process, true);
+    let (_, error) = process.held.into_written();
+    status == 1 && error.as_slice() == WITHOUT_SHARE
+}
+
+#[test]
+fn shares_of_what_is_no_file(rt: HostRuntime) {
+    for folder in ["one", "two"] {
+        assert!(rt; shows_no_share(rt.alloc(), folder), "{folder}");
+    }
+}
