@@ -1,4 +1,4 @@
-//! Labels of records: paths that are none, those with an escape, and numbers that are no whole ones.
+//! Labels of records: by what is no path, by paths with an escape, and by floats.
 use super::told;
 use predicates_fakes::Process;
 use std::alloc::Global;

@@ -1,51 +1,100 @@
 //! The longest line, and how much of a longer one is held.
 use super::rules::checks_of;
-use predicates_lines::{MAX_LINE, TakenLine, next_line_within};
+use predicates_lines::{TakenLine, next_line_within};
 use predicates_records::{Position, TakenRecord, next_record};
 use predicates_vet::settings::{Report, Settings};
 use predicates_vet::{Counts, Job, Streams, Tally, run_records};
 use std::alloc::Global;
 use std::io;
-use std::io::{BufReader, Read};
+use std::io::{BufRead, Read};
 use std::process::Abort;
 
 // How many bytes a line may have, with its line feed.
-const LONGEST: u64 = 64 * 1024 * 1024;
+const LONGEST: usize = 64 * 1024 * 1024;
 
-// Of the first line, which is as long as it may be, the bytes are looked at.
-const MESSAGES: &[u8] = b"vet: record 1: not UTF-8\nvet: record 2: longer than 67108864 bytes\n";
+const BLOCK: [u8; 65_536] = [0xff; 65_536];
+
+// So many bytes that are no text, which it shows by blocks, and then the rest.
+#[derive(Drop)]
+struct LongInput<'a> {
+    block: &'a [u8],
+    left: usize,
+    rest: &'a [u8],
+}
+
+impl LongInput<'_> {
+    fn shown(&self) -> &[u8] {
+        if self.left == 0 {
+            return self.rest;
+        }
+        let most = self.block.len().min(self.left);
+        &self.block[..most]
+    }
+}
+
+impl Read for LongInput<'_> {
+    fn read(&mut self, buf: &mut [u8]) -> io::Result<usize> {
+        let mut shown = self.shown();
+        let count = shown.read(buf)?;
+        self.consume(count);
+        Ok(count)
+    }
+}
+
+impl BufRead for LongInput<'_> {
+    fn fill_buf(&mut self) -> io::Result<&[u8]> {
+        Ok(self.shown())
+    }
+
+    fn consume(&mut self, amount: usize) {
+        if self.left == 0 {
+            self.rest.consume(amount);
+        } else {
+            self.left = self.left.saturating_sub(amount);
+        }
+    }
+}
 
 const COUNTS: Counts = Counts {
     records: 1,
     failed: 1,
-    unreadable: 2,
+    unreadable: 1,
 };
 
-#[test]
-fn the_longest_line(rt: HostRuntime) {
-    let alloc = rt.alloc();
-    let rules = checks_of(&rt, alloc, b"a: / == 1");
+// Whether a run tells this of a line that has so many bytes before its line feed, and goes on.
+fn tells(rt: &impl Abort, alloc: Global, left: usize, message: &[u8]) -> bool {
+    let rules = checks_of(rt, alloc, b"a: / == 1");
     let settings = Settings {
         report: Report::Lines(false),
         id: None,
     };
     let job = Job::new(&rules, &settings);
     let mut tally = Tally::new(alloc, None);
-    let longest = io::repeat(0xff).take(LONGEST - 1);
-    let longer = io::repeat(0xff).take(LONGEST);
-    let lines = longest
-        .chain(b"\n".as_slice())
-        .chain(longer)
-        .chain(b"\n2\n".as_slice());
-    let mut input = BufReader::new(alloc, lines).expect(&rt, "memory");
+    let mut input = LongInput {
+        block: &BLOCK,
+        left,
+        rest: b"\n2\n",
+    };
     let mut streams = Streams {
         output: Vec::new(alloc),
         messages: Vec::new(alloc),
     };
-    run_records(alloc, &job, &mut tally, &mut input, &mut streams).expect(&rt, "memory");
-    assert!(rt; streams.messages.as_slice() == MESSAGES);
-    assert!(rt; streams.output.as_slice() == b"2\n".as_slice());
-    assert!(rt; tally.counts == COUNTS && u64::from(MAX_LINE) == LONGEST);
+    run_records(alloc, &job, &mut tally, &mut input, &mut streams).expect(rt, "memory");
+    streams.messages.as_slice() == message
+        && streams.output.as_slice() == b"2\n".as_slice()
+        && tally.counts == COUNTS
+}
+
+// Of the longest one the bytes are looked at.
+#[test]
+fn the_longest_line(rt: HostRuntime) {
+    assert!(rt; tells(&rt, rt.alloc(), LONGEST - 1, b"vet: record 1: not UTF-8\n"));
+}
+
+#[test]
+fn a_line_of_a_byte_more(rt: HostRuntime) {
+    let message = b"vet: record 1: longer than 67108864 bytes\n";
+    assert!(rt; tells(&rt, rt.alloc(), LONGEST, message));
 }
 
 // How many bytes the longer line has, how many it may have, and how many are held at most.

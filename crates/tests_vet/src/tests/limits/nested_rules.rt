@@ -1,5 +1,5 @@
-//! Rules that nest as deep as they may. Were a part of one asked twice at each level, the innermost
-//! would be asked 2^90 times, and no run would end.
+//! Rules that nest deep. Were a part of one asked twice at each level, the innermost would be asked
+//! 2^60 times, and no run would end.
 use super::nested;
 use super::rules::checks_of;
 use predicates_vet::settings::{Report, Settings};
@@ -9,21 +9,21 @@ use std::process::Abort;
 
 // What opens and what closes a level of a rule, innermost of which `/ == 1` stands, and how often.
 const OF_NUMBERS: [(&str, &str, usize); 9] = [
-    ("/ == 1 xor (", ")", 90),
-    ("/ == 1 and (", ")", 91),
-    ("/ == 3 or (", ")", 91),
-    ("(", " xor / == 3)", 91),
-    ("(/ == 1 and (", " xor / == 3))", 45),
-    ("(/ == 3 xor (", " or / == 3))", 45),
-    ("at least 2 of (/ == 1, ", ")", 91),
-    ("if / exists then ", "", 91),
-    ("not ", "", 90),
+    ("/ == 1 xor (", ")", 60),
+    ("/ == 1 and (", ")", 60),
+    ("/ == 3 or (", ")", 60),
+    ("(", " xor / == 3)", 60),
+    ("(/ == 1 and (", " xor / == 3))", 30),
+    ("(/ == 3 xor (", " or / == 3))", 30),
+    ("at least 2 of (/ == 1, ", ")", 60),
+    ("if / exists then ", "", 60),
+    ("not ", "", 60),
 ];
 
 const OF_LISTS: [(&str, &str, usize); 3] = [
-    ("each / (", ")", 91),
-    ("any / (", ")", 91),
-    ("at least 1 / (", ")", 91),
+    ("each / (", ")", 60),
+    ("any / (", ")", 60),
+    ("at least 1 / (", ")", 60),
 ];
 
 const REPORTS: [Report; 6] = [
@@ -73,9 +73,12 @@ fn ends(rt: &impl Abort, alloc: Global, row: (&str, &str, usize), arrays: usize)
     let expression = nested(rt, alloc, (opening, levels), "/ == 1", (closing, levels));
     let rule = format!(in alloc; "a: {expression}").expect(rt, "memory");
     let records = records_in(rt, alloc, arrays);
-    REPORTS
-        .iter()
-        .all(|report| is_counted(rt, alloc, &rule, &records, *report))
+    for report in REPORTS {
+        if !is_counted(rt, alloc, &rule, &records, report) {
+            return false;
+        }
+    }
+    true
 }
 
 #[test]

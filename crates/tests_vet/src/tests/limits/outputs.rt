@@ -14,77 +14,36 @@ const FILES: [(&str, &[u8]); 3] = [
     ("two", b"1\n\n3"),
 ];
 
-// Words, standard input, and the status and standard error where the output fails.
-type Row = (&'static [&'static [u8]], &'static [u8], u8, &'static [u8]);
+type Words = &'static [&'static [u8]];
 
-// Of a run that a write stops no totals are told, and its status is not that of the records.
-const BLOCKS: [Row; 7] = [
-    (
-        &[b"vet", b"rules"],
-        b"2",
-        2,
-        b"vet: output could not be written\n",
-    ),
-    (
-        &[b"vet", b"--flush", b"rules"],
-        b"2",
-        2,
-        b"vet: output could not be written\n",
-    ),
-    (
-        &[b"vet", b"--json", b"rules"],
-        b"1",
-        2,
-        b"vet: output could not be written\n",
-    ),
-    (
-        &[b"vet", b"--failed", b"--summary", b"rules"],
-        b"2",
-        2,
-        b"vet: output could not be written\n",
-    ),
-    (
-        &[b"vet", b"--format", b"github", b"rules"],
-        b"2",
-        2,
-        b"vet: output could not be written\n",
-    ),
-    // The next file is not read.
-    (
-        &[b"vet", b"rules", b"one", b"none"],
-        b"",
-        2,
-        b"vet: output could not be written\n",
-    ),
-    // Nothing is to be written.
-    (&[b"vet", b"rules"], b"1", 0, b"1 record, 0 failed\n"),
+// Words and standard input of runs that write before the end.
+const BEFORE_THE_END: [(Words, &[u8]); 6] = [
+    (&[b"vet", b"rules"], b"2"),
+    (&[b"vet", b"--flush", b"rules"], b"2"),
+    (&[b"vet", b"--json", b"rules"], b"1"),
+    (&[b"vet", b"--failed", b"--summary", b"rules"], b"2"),
+    (&[b"vet", b"--format", b"github", b"rules"], b"2"),
+    // The next file is not opened.
+    (&[b"vet", b"rules", b"one", b"none"], b""),
 ];
 
-// The document at the end, and the help.
-const DOCUMENTS: [Row; 2] = [
-    (
-        &[b"vet", b"--format", b"junit", b"rules"],
-        b"1",
-        2,
-        b"vet: no storage space\n",
-    ),
-    (&[b"vet", b"--help"], b"", 2, b"vet: no storage space\n"),
+// Those that write no more than a document, or the help.
+const AT_THE_END: [(Words, &[u8]); 3] = [
+    (&[b"vet", b"--format", b"junit", b"rules"], b"1"),
+    (&[b"vet", b"--format", b"junit", b"rules"], b"2"),
+    (&[b"vet", b"--help"], b""),
 ];
 
-// The same where the output is out of memory.
-const NO_MEMORY: [Row; 2] = [
-    (&[b"vet", b"rules"], b"2", 2, b"vet: no memory\n"),
-    (
-        &[b"vet", b"--format", b"junit", b"rules"],
-        b"1",
-        2,
-        b"vet: no memory\n",
-    ),
-];
-
-// Whether the program ends so where each write of the output fails by the kind.
-fn fails(alloc: Global, row: Row, kind: ErrorKind) -> bool {
-    let (words, input, status, messages) = row;
+// Whether the program has this status and tells this and no more, where each write of the output
+// fails by the kind.
+fn ends(
+    alloc: Global,
+    words: Words,
+    input: &[u8],
+    kind: ErrorKind,
+    status: u8,
+    messages: &[u8],
+) -> bool {
     let process = OddProcess {
         held: Process::new(alloc, words, &FILES, input),
         fault: Some(kind),
@@ -95,29 +54,66 @@ fn fails(alloc: Global, row: Row, kind: ErrorKind) -> bool {
     found == status && output.is_empty() && error.as_slice() == messages
 }
 
-fn all_fail(rt: &impl Abort, alloc: Global, rows: &[Row], kind: ErrorKind) {
-    for row in rows {
-        assert!(rt; fails(alloc, *row, kind), "{:?} on {:?}", row.0, row.1);
+// Whether each tells this of the fault in place of the totals; its status is not that of the
+// records.
+fn all_fail(
+    rt: &impl Abort,
+    alloc: Global,
+    rows: &[(Words, &[u8])],
+    kind: ErrorKind,
+    messages: &[u8],
+) {
+    for (words, input) in rows {
+        assert!(rt;
+            ends(alloc, *words, input, kind, 2, messages),
+            "{words:?} on {input:?}"
+        );
     }
 }
 
 #[test]
 fn blocks_that_are_not_written(rt: HostRuntime) {
-    all_fail(&rt, rt.alloc(), &BLOCKS, ErrorKind::StorageFull);
+    let messages = b"vet: output could not be written\n";
+    all_fail(
+        &rt,
+        rt.alloc(),
+        &BEFORE_THE_END,
+        ErrorKind::StorageFull,
+        messages,
+    );
 }
 
 #[test]
 fn documents_that_are_not_written(rt: HostRuntime) {
-    all_fail(&rt, rt.alloc(), &DOCUMENTS, ErrorKind::StorageFull);
+    let messages = b"vet: no storage space\n";
+    all_fail(
+        &rt,
+        rt.alloc(),
+        &AT_THE_END,
+        ErrorKind::StorageFull,
+        messages,
+    );
 }
 
 #[test]
 fn outputs_out_of_memory(rt: HostRuntime) {
-    all_fail(&rt, rt.alloc(), &NO_MEMORY, ErrorKind::OutOfMemory);
+    let messages = b"vet: no memory\n";
+    for rows in [BEFORE_THE_END.as_slice(), AT_THE_END.as_slice()] {
+        all_fail(&rt, rt.alloc(), rows, ErrorKind::OutOfMemory, messages);
+    }
 }
 
-// The document where nothing reads it: no totals are told, and the status is that of the records.
-const UNREAD: [Row; 4] = [
+// Where nothing is to be written, the output may fail.
+#[test]
+fn runs_that_write_nothing(rt: HostRuntime) {
+    let words: Words = &[b"vet", b"rules"];
+    let messages = b"1 record, 0 failed\n";
+    assert!(rt; ends(rt.alloc(), words, b"1", ErrorKind::StorageFull, 0, messages));
+}
+
+// Words, standard input, and the status and what is told, where nothing reads the document: no
+// totals, and the status is that of the records.
+const UNREAD: [(Words, &[u8], u8, &[u8]); 4] = [
     (&[b"vet", b"--format", b"junit", b"rules"], b"1", 0, b""),
     (&[b"vet", b"--format", b"junit", b"rules"], b"2\n1", 1, b""),
     (
@@ -134,8 +130,7 @@ const UNREAD: [Row; 4] = [
     ),
 ];
 
-fn is_unread(alloc: Global, row: Row) -> bool {
-    let (words, input, status, messages) = row;
+fn is_unread(alloc: Global, words: Words, input: &[u8], status: u8, messages: &[u8]) -> bool {
     let mut process = Process::new(alloc, words, &FILES, input);
     process.closed = Closed::Output;
     let (found, _, error) = told(process);
@@ -144,8 +139,9 @@ fn is_unread(alloc: Global, row: Row) -> bool {
 
 #[test]
 fn documents_that_nothing_reads(rt: HostRuntime) {
-    for row in UNREAD {
-        assert!(rt; is_unread(rt.alloc(), row), "{:?} on {:?}", row.0, row.1);
+    for (words, input, status, messages) in UNREAD {
+        let right = is_unread(rt.alloc(), words, input, status, messages);
+        assert!(rt; right, "{words:?} on {input:?}");
     }
 }
 

@@ -83,26 +83,23 @@ fn letters_between(rt: &impl Abort, alloc: Global, front: &str, back: &str) -> S
     text
 }
 
-// Whether the program ends so by the rule over the record.
-fn ends_by(alloc: Global, rule: &str, record: &str, status: u8, output: &str) -> bool {
-    let files: [(&str, &[u8]); 2] = [("rules", rule.as_bytes()), ("one", record.as_bytes())];
-    let words: [&[u8]; 3] = [b"vet", b"rules", b"one"];
-    let (found, written, _) = told(Process::new(alloc, &words, &files, b""));
-    found == status && written.as_slice() == output.as_bytes()
+// Whether the program writes the block of the record 1 by the rule.
+fn writes(alloc: Global, rule: &str, block: &str) -> bool {
+    let files: [(&str, &[u8]); 1] = [("rules", rule.as_bytes())];
+    let (status, output, _) = told(Process::new(alloc, &[b"vet", b"rules"], &files, b"1"));
+    status == 1 && output.as_slice() == block.as_bytes()
 }
 
-// The rule's text is never cut.
+// It is read, and its text is never cut.
 #[test]
 fn a_rule_of_a_megabyte(rt: HostRuntime) {
     let alloc = rt.alloc();
     let rule = letters_between(&rt, alloc, "a: / == \"", "\" # b");
-    let record = letters_between(&rt, alloc, "\"", "\"");
-    assert!(rt; ends_by(alloc, &rule, &record, 0, ""));
     let block = letters_between(
         &rt,
         alloc,
         "record 1: false\na = false\n  rule: / == \"",
         "\" = false\n    - found: 1\n    - error: not a string\n",
     );
-    assert!(rt; ends_by(alloc, &rule, "1", 1, &block));
+    assert!(rt; writes(alloc, &rule, &block));
 }
