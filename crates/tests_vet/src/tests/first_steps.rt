@@ -65,32 +65,38 @@ vet: rules: line 1, column 13: expected a word, an operator, a path or a literal
 // A file by its name, with what stands in it.
 type Entry = (&'static str, Vec<u8>);
 
-// What was typed so far has left.
+// What was typed so far has left: of files of one name the first counts.
+#[derive(Drop)]
 struct Desk {
     files: Vec<Entry>,
     written: Vec<u8>,
     status: u8,
 }
 
-// Puts the line into the file, behind what it has, or in place of it.
+// What stands in the file of this name.
+fn read<'d>(desk: &'d Desk, name: &str) -> &'d [u8] {
+    for (known, text) in desk.files.iter() {
+        if *known == name {
+            return text.as_slice();
+        }
+    }
+    b""
+}
+
+// Writes the line into a file behind this text.
 fn put(
     rt: &impl Abort,
     alloc: Global,
     desk: &mut Desk,
     name: &'static str,
-    line: &[u8],
-    is_new: bool,
+    front: &[u8],
+    line: &'static str,
 ) {
     let mut text = Vec::new(alloc);
-    for (known, old) in desk.files.iter() {
-        if *known == name && !is_new {
-            text.extend_from_slice(old).expect(rt, "memory");
-        }
-    }
-    text.extend_from_slice(line).expect(rt, "memory");
+    text.extend_from_slice(front).expect(rt, "memory");
+    text.extend_from_slice(line.as_bytes()).expect(rt, "memory");
     text.extend_from_slice(b"\n").expect(rt, "memory");
-    desk.files.retain(|(known, _)| *known != name);
-    desk.files.push((name, text)).expect(rt, "memory");
+    desk.files.insert(0, (name, text)).expect(rt, "memory");
 }
 
 // Runs the program on the words that spaces part.
@@ -111,6 +117,19 @@ fn call(rt: &impl Abort, alloc: Global, desk: &mut Desk, line: &'static str) {
     desk.status = status;
 }
 
+// Writes a line into a file: behind what it has, or in place of it.
+fn echo(rt: &impl Abort, alloc: Global, desk: &mut Desk, typed: &'static str) {
+    if let Some((line, name)) = typed.split_once("' >> ") {
+        let mut front = Vec::new(alloc);
+        front
+            .extend_from_slice(read(desk, name))
+            .expect(rt, "memory");
+        put(rt, alloc, desk, name, &front, line);
+    } else if let Some((line, name)) = typed.split_once("' > ") {
+        put(rt, alloc, desk, name, b"", line);
+    }
+}
+
 // Does what is typed: writes a line into a file, shows the status, or runs the program.
 fn enter(rt: &impl Abort, alloc: Global, desk: &mut Desk, line: &'static str) {
     if line == "echo $?" {
@@ -119,13 +138,7 @@ fn enter(rt: &impl Abort, alloc: Global, desk: &mut Desk, line: &'static str) {
             .extend_from_slice(shown.as_bytes())
             .expect(rt, "memory");
     } else if let Some(text) = line.strip_prefix("echo '") {
-        match text.split_once("' >> ") {
-            Some((text, name)) => put(rt, alloc, desk, name, text.as_bytes(), false),
-            None => {
-                let (text, name) = text.split_once("' > ").unwrap_or(("", ""));
-                put(rt, alloc, desk, name, text.as_bytes(), true);
-            }
-        }
+        echo(rt, alloc, desk, text);
     } else {
         call(rt, alloc, desk, line);
     }
