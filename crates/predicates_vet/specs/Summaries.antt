@@ -40,15 +40,21 @@ columns_of (r ∷ rs) = record {
   unit = unit_of (r ∷ rs);
 }
 
--- a rule's count, at the right of its column, its bar, at the left, and its name
+-- a count, at the right of its column
+abbrev pub count_text : ℕ → ℕ → List ℕ
+count_text width count = replicate (width - length (decimal count)) 32 ++ decimal count
+
+-- a bar, at the left of its column
+abbrev pub bar_text : ℕ → ℕ → List ℕ
+bar_text width bar = replicate bar 35 ++ replicate (width - bar) 32
+
+-- a rule's count, its bar and its name
 abbrev pub row_text : Columns → Named → List ℕ
 row_text columns r =
-    replicate (columns.count - length (decimal r.1)) 32
-    ++ (decimal r.1
+    count_text columns.count r.1
     ++ (codes "  "
-    ++ (replicate (div_ceil r.1 columns.unit) 35
-    ++ (replicate (columns.bar - div_ceil r.1 columns.unit) 32
-    ++ (codes "  " ++ (r.0 ++ codes "\n"))))))
+    ++ (bar_text columns.bar (div_ceil r.1 columns.unit)
+    ++ (codes "  " ++ (r.0 ++ codes "\n"))))
 
 -- what a `#` stands for; nothing where it is one record
 abbrev pub scale_text : ℕ → List ℕ

@@ -5,7 +5,8 @@ ghost use Rattle.std.specs.Prelude.{replicate, slice_index, IsPermutation};
 ghost use Rattle.std.specs.List.Sorted.{IsNonDecreasingBy, IsStableByKey};
 ghost use Rattle.std.specs.Ordering.{nat_cmp};
 ghost use Rattle.predicates_rule_check.specs.RuleChecks.{name_of};
-ghost use Rattle.predicates_vet.specs.Summaries.{columns_of, row_of, rows_of, unit_of, row_text};
+ghost use Rattle.predicates_vet.specs.Summaries.{bar_text, columns_of, count_text, row_of, rows_of};
+ghost use Rattle.predicates_vet.specs.Summaries.{row_text, unit_of};
 ghost use Rattle.predicates_vet.specs.Summaries.{falling, scale_text, IsSummary};
 
 use predicates_rule_check::RuleCheck;
@@ -106,7 +107,7 @@ fn columns_of(alloc: Global, rows: &[Row<'_>]) -> Result<Columns, AllocError>
     }
 }
 
-fn push_bar(text: &mut String, len: u64) -> Result<(), AllocError>
+fn push_signs(text: &mut String, len: u64) -> Result<(), AllocError>
     ensures { OnOk result (string_bytes text.new ≡ string_bytes text.old ++ replicate len 35) }
 {
     for _ in 0..len {
@@ -124,6 +125,26 @@ fn push_spaces(text: &mut String, len: u64) -> Result<(), AllocError>
     Ok(())
 }
 
+// Writes a count at the right of its column.
+fn push_count(alloc: Global, text: &mut String, width: usize, count: u64) -> Result<(), AllocError>
+    ensures { OnOk result
+        (string_bytes text.new ≡ string_bytes text.old ++ count_text width count) }
+{
+    let number = digits(alloc, count)?;
+    let spaces = width.saturating_sub(number.len());
+    push_spaces(text, spaces as u64)?;
+    text.push_str(&number)
+}
+
+// Writes a bar at the left of its column.
+fn push_bar(text: &mut String, width: u64, bar: u64) -> Result<(), AllocError>
+    ensures { OnOk result (string_bytes text.new ≡ string_bytes text.old ++ bar_text width bar) }
+{
+    push_signs(text, bar)?;
+    push_spaces(text, width.saturating_sub(bar))?;
+    Ok(())
+}
+
 fn push_row(
     alloc: Global,
     text: &mut String,
@@ -134,13 +155,9 @@ fn push_row(
     ensures { OnOk result
         (string_bytes text.new ≡ string_bytes text.old ++ row_text columns (row_of row.now)) }
 {
-    let number = digits(alloc, row.count)?;
-    let bar = row.count.div_ceil(columns.unit);
-    push_spaces(text, columns.count.saturating_sub(number.len()) as u64)?;
-    text.push_str(&number)?;
+    push_count(alloc, text, columns.count, row.count)?;
     text.push_str("  ")?;
-    push_bar(text, bar)?;
-    push_spaces(text, columns.bar.saturating_sub(bar))?;
+    push_bar(text, columns.bar, row.count.div_ceil(columns.unit))?;
     text.push_str("  ")?;
     text.push_str(row.name)?;
     text.push_str("\n")
