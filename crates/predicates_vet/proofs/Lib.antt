@@ -8,3 +8,4 @@ mod Reading
 mod Running
 mod Taking
 mod Telling
+mod Trimming

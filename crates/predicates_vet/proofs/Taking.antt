@@ -7,7 +7,7 @@ use Rattle.predicates_records.specs.Records.{records, is_closed}
 use Rattle.predicates_records.specs.Runs as runs
 use Rattle.predicates_vet.specs.declared.input_format.InputFormat.TheVariants.{JsonLines, Json}
 use Rattle.predicates_vet.specs.InputLines.{taken_of, taken_lines}
-use Rattle.predicates_vet.specs.Pieces.{taken_record, unclosed, pieces, TakesPiece, IsOver}
+use Rattle.predicates_vet.specs.Pieces.{trimmed, taken_record, unclosed, pieces, TakesPiece, IsOver}
 
 -- ---- lines
 
@@ -49,11 +49,11 @@ module _ (limit : ℕ) (r1 r2 : Option (List ℕ)) (p q : Position) where
         ∙ ap (λ b. piece ∷ (map (taken_record limit) (records q n.0) ++ unclosed b)) n.3,
   )
 
-  pub takes_record : (value : List ℕ) → length value ≤ limit → runs.IsNext r1 r2 p q value → TakesPiece Json limit r1 r2 p q (Some (value ++ 10 ∷ []))
-  takes_record value short next = takes_value value (Some (value ++ 10 ∷ [])) (ap (λ b. if b then None else Some (value ++ 10 ∷ [])) (le-ltb limit (length value) short)) next
+  pub takes_record : (value : List ℕ) → length value ≤ limit → runs.IsNext r1 r2 p q value → TakesPiece Json limit r1 r2 p q (Some (trimmed value ++ 10 ∷ []))
+  takes_record value short next = takes_value value (Some (trimmed value ++ 10 ∷ [])) (ap (λ b. if b then None else Some (trimmed value ++ 10 ∷ [])) (le-ltb limit (length value) short)) next
 
   pub takes_long_record : (long : List ℕ) × (limit < length long) × runs.IsNext r1 r2 p q long → TakesPiece Json limit r1 r2 p q None
-  takes_long_record l = takes_value l.0 None (ap (λ b. if b then None else Some (l.0 ++ 10 ∷ [])) (lt-ltb limit (length l.0) l.1)) l.2
+  takes_long_record l = takes_value l.0 None (ap (λ b. if b then None else Some (trimmed l.0 ++ 10 ∷ [])) (lt-ltb limit (length l.0) l.1)) l.2
 
   pub takes_unclosed : q ≡ Outside → runs.IsOver r1 r2 p false → TakesPiece Json limit r1 r2 p q (Some (91 ∷ []))
   takes_unclosed outside over bytes known = let n = over bytes known in (

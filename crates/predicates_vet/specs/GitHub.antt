@@ -1,6 +1,7 @@
 -- The lines that GitHub shows beside a file: commands of its workflows.
 use Rattle.std.specs.Prelude.{◌==◌, ◌-◌, ◌++◌, ℕ, List, [], ◌∷◌, Option, Some, None, if◌then◌else◌}
 use Rattle.std.specs.Prelude.{codes, decimal, flat_map, length, take, unwrap_or}
+use Rattle.std.specs.Str.{bytes_eq}
 use Rattle.predicates_core.specs.Tree.{Tree}
 use Rattle.predicates_core.specs.Describe.{CaseNode}
 use Rattle.predicates_vet.specs.declared.input_format.InputFormat.{InputFormat}
@@ -38,7 +39,12 @@ abbrev pub line_text : Option ℕ → List ℕ
 line_text None = []
 line_text (Some line) = codes ",line=" ++ decimal line
 
--- where a record stands, in an input with a name
+-- the file of this name, where the input is one: `-` is standard input
+abbrev pub file_of : Option (List ℕ) → Option (List ℕ)
+file_of None = None
+file_of (Some name) = if bytes_eq name (codes "-") then None else Some name
+
+-- where a record stands, where the input is a file
 abbrev pub position_text : Option (List ℕ) → Option ℕ → List ℕ
 position_text None line = []
 position_text (Some name) line =

@@ -6,12 +6,18 @@ use Rattle.predicates_records.specs.declared.position.Position.{Position}
 use Rattle.predicates_records.specs.Records.{records, is_closed}
 use Rattle.predicates_vet.specs.declared.input_format.InputFormat.{InputFormat}
 use Rattle.predicates_vet.specs.declared.input_format.InputFormat.TheVariants.{JsonLines, Json}
-use Rattle.predicates_vet.specs.InputLines.{taken_lines}
+use Rattle.predicates_vet.specs.InputLines.{is_blank, taken_lines}
 
--- what is taken of a record: a line feed is put behind it, and nothing is taken of one that has
--- more bytes than the limit
+-- without the white space at its end
+abbrev pub trimmed : List ℕ → List ℕ
+trimmed [] = []
+trimmed (byte ∷ bytes) = if is_blank (byte ∷ bytes) then [] else byte ∷ trimmed bytes
+
+-- what is taken of a record: a line feed is put in place of the white space behind it, and nothing
+-- is taken of one that has more bytes than the limit
 abbrev pub taken_record : ℕ → List ℕ → Option (List ℕ)
-taken_record limit value = if nat_lt limit (length value) then None else Some (value ++ 10 ∷ [])
+taken_record limit value =
+    if nat_lt limit (length value) then None else Some (trimmed value ++ 10 ∷ [])
 
 -- what stands for an array that the input does not close: a `[`
 abbrev pub unclosed : Bool → List (Option (List ℕ))

@@ -19,7 +19,7 @@ use Rattle.predicates_vet.specs.declared.job.Job.{Job}
 use Rattle.predicates_vet.specs.declared.settings.Report.{Report}
 use Rattle.predicates_vet.specs.declared.settings.Report.TheVariants.{First, All, Change, Json}
 use Rattle.predicates_vet.specs.declared.settings.Report.TheVariants.{Lines, GitHub, JUnit}
-use Rattle.predicates_vet.specs.GitHub.{line_of, opening, error_line, title}
+use Rattle.predicates_vet.specs.GitHub.{file_of, line_of, opening, error_line, title}
 use Rattle.predicates_vet.specs.InputLines.{ended}
 use Rattle.predicates_vet.specs.Objects.{object_text}
 use Rattle.predicates_vet.specs.Places.{place_text, IsHead, IsName}
@@ -57,9 +57,10 @@ AddsChange d r old new =
 abbrev pub shown : Bool → List Formula → List Formula
 shown all fs = cond all fs (take 1 fs)
 
--- how a case is shown: of a value longer than 1,000 characters the first 1,000, and how many it has
+-- how a case is shown: of a value longer than 1,000 characters the first 1,000, and how many it has;
+-- and control characters escaped
 abbrev pub cut : Style
-cut = record { children = None; characters = Some 1000; escapes = false; colours = false }
+cut = record { children = None; characters = Some 1000; escapes = true; colours = false }
 
 -- the line with what heads it, and the lines of each case
 abbrev pub block : List ℕ → List (Tree CaseNode) → List ℕ
@@ -114,8 +115,8 @@ pub record IsErrors (j : Job) (all : Bool) (number : ℕ) (d : Data) (written : 
   pub explain : AllZip Explains (shown all (broken j.rules.now d)) cases
   pub head : List ℕ
   pub heads : HeadsRecord j number d head
-  pub is : written ≡ flat_map (error_of (source_of j) (line_of j.format number)
-      (opening (source_of j) (line_of j.format number) (id_of j.settings.now) head))
+  pub is : written ≡ flat_map (error_of (file_of (source_of j)) (line_of j.format number)
+      (opening (file_of (source_of j)) (line_of j.format number) (id_of j.settings.now) head))
       cases
 
 -- what is written for the record of this number, which stands on the line

@@ -3,7 +3,7 @@ ghost use Rattle.std.specs.Prelude.{◌≡◌, ◌++◌, ℕ, List, IfOk, OnOk, 
 ghost use Rattle.std.specs.Prelude.{flat_map};
 ghost use Rattle.std.specs.Io.KnownBytes.{Appends};
 ghost use Rattle.serde_json.specs.View.{view};
-ghost use Rattle.predicates_vet.specs.GitHub.{opening};
+ghost use Rattle.predicates_vet.specs.GitHub.{file_of, opening};
 ghost use Rattle.predicates_vet.specs.Records.{IsErrors, error_of, keeps};
 ghost use Rattle.predicates_vet.specs.Settings.{id_of, source_of};
 
@@ -18,13 +18,24 @@ use predicates_lines::{RunFault, write_bytes};
 use std::alloc::{AllocError, Global};
 use std::io::Write;
 
+// The file of this name, where the input is one: `-` is standard input.
+fn file_of(source: Option<&str>) -> Option<&str>
+    ensures { option_map (λ s. s.now) result ≡ file_of (option_map (λ s. s.now) source.entry) }
+{
+    match source {
+        Some("-") | None => None,
+        Some(name) => Some(name),
+    }
+}
+
 // What opens the message of each line of a record under this head.
 fn opening(job: &Job<'_>, line: Option<u64>, head: String) -> Result<String, AllocError>
     ensures { IfOk result (λ text. string_bytes text
-        ≡ opening (source_of job.now) line (id_of job.now.settings.now) (string_bytes head)) }
+        ≡ opening (file_of (source_of job.now)) line (id_of job.now.settings.now)
+        (string_bytes head)) }
 {
     let mut text = head;
-    if job.source.is_some() && line.is_some() && job.settings.id.is_none() {
+    if file_of(job.source).is_some() && line.is_some() && job.settings.id.is_none() {
         text.clear();
         return Ok(text);
     }
@@ -40,7 +51,7 @@ fn push_errors(
     cases: &[Case],
 ) -> Result<(), AllocError>
     ensures { OnOk result (lines.new.items ≡ lines.old.items
-        ++ flat_map (error_of (option_map (λ s. s.now) position.now.source) position.now.line
+        ++ flat_map (error_of (option_map (λ s. s.now) position.now.file) position.now.line
         position.now.opening.now) cases.now) }
 {
     for case in cases {
@@ -71,7 +82,7 @@ fn push_broken<'r>(
     let line = job.format.line_of(number);
     let opening = opening(job, line, head)?;
     let position = Position {
-        source: job.source,
+        file: file_of(job.source),
         line,
         opening: &opening,
     };

@@ -12,7 +12,8 @@ use std::alloc::{AllocError, Global};
 /// Where a record stands, and what opens the message of each of its lines.
 #[derive(Clone, Copy)]
 pub(crate) struct Position<'a> {
-    pub(crate) source: Option<&'a str>,
+    /// The file's name, where it stands in one.
+    pub(crate) file: Option<&'a str>,
     /// The number of its line, where it is known.
     pub(crate) line: Option<u64>,
     pub(crate) opening: &'a str,
@@ -69,17 +70,17 @@ fn push_line(alloc: Global, text: &mut Vec<u8>, line: Option<u64>) -> Result<(),
     Ok(())
 }
 
-// Writes where the record stands, where the input has a name.
+// Writes where the record stands, where the input is a file.
 fn push_position(
     alloc: Global,
     text: &mut Vec<u8>,
-    source: Option<&str>,
+    file: Option<&str>,
     line: Option<u64>,
 ) -> Result<(), AllocError>
     ensures { OnOk result (text.new.items
-        ≡ text.old.items ++ position_text (option_map (λ s. s.now) source.entry) line) }
+        ≡ text.old.items ++ position_text (option_map (λ s. s.now) file.entry) line) }
 {
-    let Some(name) = source else {
+    let Some(name) = file else {
         return Ok(());
     };
     push_bytes(text, b"file=")?;
@@ -112,18 +113,18 @@ pub(crate) fn push_error(
     case: &Case,
 ) -> Result<(), AllocError>
     ensures { OnOk result (lines.new.items ≡ lines.old.items
-        ++ error_of (option_map (λ s. s.now) position.now.source) position.now.line
+        ++ error_of (option_map (λ s. s.now) position.now.file) position.now.line
         position.now.opening.now case.now) }
 {
     let Position {
-        source,
+        file,
         line,
         opening,
     } = *position;
     let mut message = String::from_str(alloc, opening)?;
     write_case(&mut message, case)?;
     push_bytes(lines, b"::error ")?;
-    push_position(alloc, lines, source, line)?;
+    push_position(alloc, lines, file, line)?;
     push_bytes(lines, b"title=")?;
     push_property(lines, title(case))?;
     push_bytes(lines, b"::")?;

@@ -2,7 +2,7 @@
 ghost use Rattle.std.specs.Prelude.{◌≡◌, IfOk, option_map, string_bytes};
 ghost use Rattle.serde_json.specs.Read.{read};
 ghost use Rattle.serde_json.specs.View.{view};
-ghost use Rattle.predicates_vet.specs.InputLines.{is_blank, record_on, too_long_text};
+ghost use Rattle.predicates_vet.specs.InputLines.{is_blank, is_white, record_on, too_long_text};
 
 use serde_json::Value;
 use std::alloc::{AllocError, Global};
@@ -46,15 +46,21 @@ fn is_too_deep(source: &[u8]) -> bool {
     false
 }
 
+/// Whether the byte is white space of JSON.
+pub(crate) fn is_white(byte: u8) -> bool
+    ensures { result ≡ is_white byte }
+{
+    matches!(byte, b' ' | b'\t' | b'\n' | b'\r')
+}
+
 /// Whether nothing but white space of JSON stands on the line.
 pub(crate) fn is_blank(line: &[u8]) -> bool
     ensures { result ≡ is_blank line.now }
 {
-    line.iter()
-        .all(|byte| matches!(byte, b' ' | b'\t' | b'\n' | b'\r'))
+    line.iter().all(|byte| is_white(*byte))
 }
 
-// Writes why JSON reads nothing in the source.
+// Writes why JSON reads nothing in the source, which has no white space at its end.
 fn write_problem(
     source: &str,
     error: &serde_json::Error,
@@ -64,10 +70,23 @@ fn write_problem(
     let read = bytes.get(..error.column()).unwrap_or(bytes);
     if is_too_deep(read) {
         write!(text, "not JSON: nested more than {MAX_NESTING} deep")?;
+    } else if error.is_eof() {
+        text.push_str("not JSON: EOF while parsing at its end")?;
     } else {
         write!(text, "not JSON: {error}")?;
     }
     Ok(())
+}
+
+// Writes the same of a source in which JSON reads nothing. It is read once more without the white
+// space at its end: a fault at the end would else have the place behind that.
+fn write_fault(alloc: Global, source: &str, text: &mut String) -> Result<(), AllocError> {
+    let source = source.trim_end_matches([' ', '\t', '\n', '\r']);
+    match Value::from_str(alloc, source) {
+        Err(error) if error.is_memory() => Err(AllocError),
+        Err(error) => write_problem(source, &error, text),
+        Ok(_value) => text.push_str("not JSON"),
+    }
 }
 
 // What JSON reads in the source, or none, and then the text says why.
@@ -80,7 +99,7 @@ fn parse(alloc: Global, source: &str, text: &mut String) -> Result<Option<Value>
             if error.is_memory() {
                 return Err(AllocError);
             }
-            write_problem(source, &error, text)?;
+            write_fault(alloc, source, text)?;
             Ok(None)
         }
     }

@@ -1,16 +1,30 @@
 //! The pieces of an input, on each of which a record may stand.
-ghost use Rattle.std.specs.Prelude.{◌≡◌, Some, None, Ok};
+ghost use Rattle.std.specs.Prelude.{◌≡◌, Some, None, Ok, OnOk};
 ghost use Rattle.predicates_lines.specs.declared.taken_line.TakenLine.TheVariants.{Line, TooLong};
 ghost use Rattle.predicates_lines.specs.declared.taken_line.TakenLine.TheVariants.{End};
-ghost use Rattle.predicates_vet.specs.Pieces.{TakesPiece, IsOver};
+ghost use Rattle.predicates_vet.specs.Pieces.{TakesPiece, IsOver, trimmed};
 ghost use Rattle.predicates_vet.specs.declared.input_format.InputFormat.TheVariants.{Json};
 
 use crate::input_format::InputFormat;
+use crate::line::is_white;
 use predicates_lines::{RunFault, TakenLine, next_line_within};
 use predicates_records::{Position, TakenRecord, next_record};
+use std::alloc::AllocError;
 use std::io::BufRead;
 
-// Takes the next record, with a line feed behind it. For an array that the input does not close it
+// Takes the white space at the end away.
+fn trim_end(bytes: &mut Vec<u8>) -> Result<(), AllocError>
+    ensures { OnOk result (bytes.new.items ≡ trimmed bytes.old.items) }
+{
+    while let Some(byte) = bytes.pop() {
+        if !is_white(byte) {
+            return Ok(bytes.push(byte)?);
+        }
+    }
+    Ok(())
+}
+
+// Takes the next record, with a line feed in place of the white space behind it. For an array that the input does not close it
 // gives a `[`, which is no record.
 fn next_value<R: BufRead>(
     input: &mut R,
@@ -27,6 +41,7 @@ fn next_value<R: BufRead>(
 {
     match next_record(input, position, bytes, limit)? {
         TakenRecord::Record => {
+            trim_end(bytes)?;
             bytes.extend_from_slice(b"\n")?;
             Ok(TakenLine::Line)
         }
@@ -40,7 +55,7 @@ fn next_value<R: BufRead>(
     }
 }
 
-/// Takes the next piece: a line, or a record with a line feed behind it.
+/// Takes the next piece: a line, or a record with a line feed in place of the white space behind it.
 pub(crate) fn next_piece<R: BufRead>(
     input: &mut R,
     format: InputFormat,

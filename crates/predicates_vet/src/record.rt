@@ -170,12 +170,14 @@ fn add_change<'r>(
     }
 }
 
-// How cases are shown: long values are cut, so that no line of a block is endless.
+// How cases are shown: long values are cut, so that no line of a block is endless, and control
+// characters are escaped, so that none reaches a terminal.
 fn style() -> Style
     ensures { result ≡ cut }
 {
     Style {
         characters: Some(1000),
+        escapes: true,
         ..Style::new()
     }
 }

@@ -1,15 +1,18 @@
 -- What is told of a fault of the system.
-use Rattle.std.specs.Prelude.{ℕ, List, Option, Some, None, codes}
+use Rattle.std.specs.Prelude.{ℕ, List, ◌++◌, Option, Some, None, codes}
 use Rattle.std.specs.Fmt.{◌++?◌}
 use Rattle.std.specs.declared.io.ErrorKind.{ErrorKind}
 use Rattle.std.specs.declared.io.ErrorKind.TheVariants.{OutOfMemory}
+use Rattle.predicates_lines.specs.RunFault.{fault_text}
+use Rattle.predicates_lines.specs.declared.run_fault.RunFault.{RunFault}
 
 -- that memory ran out is told as everywhere; the system's words for any other are left open
 abbrev pub io_fault_text : ErrorKind → Option (List ℕ)
 io_fault_text OutOfMemory = Some (codes "no memory")
 io_fault_text _ = None
 
--- that an input could not be read, and why, where a read failed
-abbrev pub input_fault_text : Option ErrorKind → Option (List ℕ)
-input_fault_text None = Some (codes "input could not be read")
-input_fault_text (Some kind) = Some (codes "input could not be read: ") ++? io_fault_text kind
+-- a fault of a run, and why a read or a write failed, where one did
+abbrev pub stream_fault_text : RunFault → Option ErrorKind → Option (List ℕ)
+stream_fault_text fault None = Some (fault_text fault)
+stream_fault_text fault (Some kind) =
+    Some (fault_text fault ++ codes ": ") ++? io_fault_text kind

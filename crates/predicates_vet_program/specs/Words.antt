@@ -1,8 +1,9 @@
 -- What the words of the command line say.
-use Rattle.std.specs.Prelude.{◌≡◌, ℕ, ◌<◌, ◌^◌, List, [], Bool, true, false, not, ◌&&◌, ◌||◌}
+use Rattle.std.specs.Prelude.{◌≡◌, ◌==◌, ℕ, ◌<◌, ◌^◌, List, [], ◌∷◌, Bool, true, false, not, ◌&&◌}
+use Rattle.std.specs.Prelude.{◌||◌}
 use Rattle.std.specs.Prelude.{Option, Some, None, SomeIff, codes}
 use Rattle.std.specs.Prelude.{if◌then◌else◌, option_map, is_some}
-use Rattle.std.specs.Str.{bytes_eq}
+use Rattle.std.specs.Str.{bytes_eq, is_utf8}
 use Rattle.std.specs.Str.Parse.{IsNumeral, digits_value, without_leading_plus}
 use Rattle.clap.specs.Matches.{one_text, first_value}
 use Rattle.clap.specs.declared.parser.matches.Found.{Found}
@@ -15,6 +16,16 @@ use Rattle.predicates_vet.specs.declared.input_format.InputFormat.TheVariants as
 use Rattle.predicates_vet_program.specs.declared.flags.Flags.{Flags}
 use Rattle.predicates_vet_program.specs.declared.format.Format.{Format}
 use Rattle.predicates_vet_program.specs.declared.format.Format.TheVariants as form
+
+-- what is shown of a word that is not UTF-8, which has a mark; nothing of any other
+abbrev pub untold_of : List ℕ → Option (List ℕ)
+untold_of [] = None
+untold_of (code ∷ text) = if code == 0 then Some text else None
+
+-- the text of a word: itself, or behind a mark what is shown of it
+pub record IsText (word text : List ℕ) : Type 0 where
+  pub same : is_utf8 word ≡ true → text ≡ word
+  pub marked : is_utf8 word ≡ false → is_some (untold_of text) ≡ true
 
 -- the flag is set, or not
 pub record IsFlag (found : Found) (name : List ℕ) (is_set : Bool) : Type 0 where

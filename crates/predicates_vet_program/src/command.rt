@@ -1,6 +1,7 @@
 //! The command line of `vet`.
 use crate::format::FORMATS;
 use crate::input_format::INPUT_FORMATS;
+use crate::version::VERSION;
 use clap::{Arg, ArgAction, Command, value_parser};
 use std::alloc::{AllocError, Global};
 
@@ -25,22 +26,23 @@ fn unexplained<'a>(arg: Arg<'a>) -> Result<Arg<'a>, AllocError> {
 
 // That it can't stand with `--all`, but with `--json`, no rule of one argument says.
 fn failed<'a>(alloc: Global) -> Result<Arg<'a>, AllocError> {
-    let help = "Write the records that break a rule, as they stand, or with --json their objects";
+    let help = "Write the records that break a rule, as they\n\
+                stand, or with --json their objects";
     flag(alloc, "failed", help).conflicts_with("passed")
 }
 
 fn passed<'a>(alloc: Global) -> Result<Arg<'a>, AllocError> {
-    let help = "Write the records that keep every rule, as they stand";
+    let help = "Write the records that keep every rule, as they\nstand";
     unexplained(flag(alloc, "passed", help))
 }
 
 fn all<'a>(alloc: Global) -> Arg<'a> {
-    let help = "Explain every rule that a record breaks, not just the first";
+    let help = "Explain every rule that a record breaks, not\njust the first";
     flag(alloc, "all", help)
 }
 
 fn change<'a>(alloc: Global) -> Result<Arg<'a>, AllocError> {
-    let help = "Show what would have to change in each rule that a record breaks";
+    let help = "Show what would have to change in each rule that\na record breaks";
     let change = unexplained(flag(alloc, "change", help))?;
     change.conflicts_with("failed")?.conflicts_with("passed")
 }
@@ -51,7 +53,8 @@ fn json<'a>(alloc: Global) -> Arg<'a> {
 
 // One that says what another program reads can't stand with those that choose another report.
 fn format<'a>(alloc: Global) -> Result<Arg<'a>, AllocError> {
-    let help = "Write what another program reads: lines for `github`, or a document for `junit`";
+    let help = "Write what another program reads: lines for\n\
+                `github`, or a document for `junit`\n";
     let format = option(alloc, "format", help, ArgAction::Set).value_name("FORMAT");
     let format = format.value_parser(FORMATS).conflicts_with("json")?;
     let format = format.conflicts_with("failed")?.conflicts_with("passed")?;
@@ -64,30 +67,33 @@ fn id<'a>(alloc: Global) -> Arg<'a> {
 }
 
 fn input_format<'a>(alloc: Global) -> Arg<'a> {
-    let help =
-        "How records stand: `jsonl`, one on a line, or `json`, one behind another or in arrays";
+    let help = "How records stand: `jsonl`, one on a line, or\n\
+                `json`, one behind another or in arrays; `jsonl`\n\
+                where nothing is said\n";
     let format = option(alloc, "input-format", help, ArgAction::Set).value_name("FORMAT");
     format.value_parser(INPUT_FORMATS)
 }
 
 fn summary<'a>(alloc: Global) -> Arg<'a> {
-    let help = "Count the records that break each rule, and show the counts at the end";
+    let help = "Count the records that break each rule, and show\nthe counts at the end";
     flag(alloc, "summary", help)
 }
 
 fn most<'a>(alloc: Global) -> Arg<'a> {
-    let help = "Write of N records at most; the others are counted alone";
+    let help = "Write of N records at most; the others are only\n\
+                counted. Without it there is no limit";
     let most = option(alloc, "max", help, ArgAction::Set).value_name("N");
     most.value_parser(value_parser!(u64))
 }
 
 fn progress<'a>(alloc: Global) -> Arg<'a> {
-    let help = "Show on a terminal, on standard error, how many lines are read and how fast";
+    let help = "Show on a terminal, on standard error, how many\nlines are read and how fast";
     flag(alloc, "progress", help)
 }
 
 fn flush<'a>(alloc: Global) -> Arg<'a> {
-    flag(alloc, "flush", "Write of each record at once")
+    let help = "Write of each record at once, and not whenever a\nbuffer is full";
+    flag(alloc, "flush", help)
 }
 
 fn rules<'a>(alloc: Global) -> Arg<'a> {
@@ -96,9 +102,23 @@ fn rules<'a>(alloc: Global) -> Arg<'a> {
 }
 
 fn files<'a>(alloc: Global) -> Arg<'a> {
-    let help = "The files of records, one on a line; `-` or none is standard input";
+    let help = "The files of records, one on a line; `-` or none is standard\ninput";
     argument(alloc, "FILES", help, ArgAction::Append).num_args(0..)
 }
+
+// What the help ends with.
+const MORE: &str = "\
+Example:
+  echo 'adult: /age >= 18' > rules
+  echo '{\"age\": 17}' | vet rules
+
+Status:
+  0  every record keeps every rule
+  1  a record breaks a rule
+  2  wrong words, rules or a file that can't be read, an unreadable line, a
+     fault of reading or writing, or no memory
+
+docs/VET.md of the repository has the language of rules.";
 
 /// What may be written behind `vet`.
 pub(crate) fn command<'a>(alloc: Global) -> Result<Command<'a>, AllocError> {
@@ -107,6 +127,8 @@ pub(crate) fn command<'a>(alloc: Global) -> Result<Command<'a>, AllocError> {
     let format = format(alloc)?;
     Command::new(alloc, "vet")
         .about(about)
+        .version(VERSION)
+        .after_help(MORE)
         .arg(rules(alloc))?
         .arg(failed)?
         .arg(passed)?

@@ -7,7 +7,7 @@ use predicates_vet::Counts;
 /// How a call of the program ends.
 #[derive(Clone, Copy, Debug, PartialEq, Eq)]
 pub(crate) enum End {
-    /// The help was printed.
+    /// The help or the version was printed.
     Helped,
     /// The words are wrong or the rules can't be read, and no input was opened.
     Refused,
@@ -19,7 +19,7 @@ pub(crate) enum End {
 }
 
 impl End {
-    /// The status of the process: 0 for the help and where every record that was taken keeps every
+    /// The status of the process: 0 for the help, the version and where every record that was taken keeps every
     /// rule, 1 where one breaks a rule, and else 2.
     pub(crate) fn status(self) -> u8
         ensures { result ≡ status_of_end self }

@@ -1,13 +1,14 @@
 //! The inputs of a run, one after another.
-use crate::input_fault::InputFault;
 use crate::io_fault::IoFault;
 use crate::metered::Metered;
 use crate::stdout::Stdout;
+use crate::stream_fault::StreamFault;
 use crate::tell::tell_file;
 use crate::watched::Watched;
+use crate::words::untold;
 use predicates_lines::Stderr;
 use predicates_vet::settings::Report;
-use predicates_vet::{Job, RunFault, Streams, Tally, run_records};
+use predicates_vet::{Job, RunFault, Streams, Tally, run_records, take_mark};
 use std::fs::File;
 use std::io;
 use std::io::{BufReader, BufWriter, ErrorKind, Read};
@@ -21,9 +22,9 @@ pub(crate) enum Ended {
     /// Where nothing reads the output any more, and whether all before could be read.
     Closed { all_read: bool },
     /// Where an input could not be read, which is to be told.
-    Unread(InputFault),
+    Unread(StreamFault),
     /// With another fault, which is to be told.
-    Early(RunFault),
+    Early(StreamFault),
 }
 
 /// Standard output, which keeps what is written for a while, and standard error.
@@ -32,7 +33,18 @@ pub(crate) type Outputs<'w, 'a, E> = Streams<
     Stderr<'w, Watched<'a, E>>,
 >;
 
-// Runs over one input.
+// How a run ended whose output failed with this error, if a write did.
+fn unwritten(error: Option<io::Error>) -> Ended {
+    match error {
+        Some(error) if error.kind() == ErrorKind::BrokenPipe => Ended::Closed { all_read: true },
+        error => Ended::Early(StreamFault {
+            fault: RunFault::Output,
+            error,
+        }),
+    }
+}
+
+// Runs over one input, behind its byte order mark.
 fn run_input<E: Print + Eprint + Clock + AllocGlobal, R: Read + Drop>(
     watched: &Watched<'_, E>,
     job: &Job<'_>,
@@ -46,17 +58,24 @@ fn run_input<E: Print + Eprint + Clock + AllocGlobal, R: Read + Drop>(
         watched,
         error: None,
     };
-    let mut input = BufReader::new(alloc, metered)?;
-    match run_records(alloc, job, tally, &mut input, outputs) {
+    let mut reader = BufReader::new(alloc, metered)?;
+    let (ran, reader) = match take_mark(alloc, &mut reader) {
+        Ok(front) => {
+            let mut input = front.as_slice().chain(reader);
+            let ran = run_records(alloc, job, tally, &mut input, outputs);
+            let (_front, reader) = input.into_inner();
+            (ran, reader)
+        }
+        Err(fault) => (Err(fault), reader),
+    };
+    match ran {
         Ok(()) => Ok(Ended::Whole { all_read: true }),
-        Err(RunFault::Output) if outputs.output.get_ref().is_closed => {
-            Ok(Ended::Closed { all_read: true })
+        Err(RunFault::Output) => Ok(unwritten(outputs.output.get_mut().error.take())),
+        Err(fault @ RunFault::Input) => {
+            let Metered { error, .. } = reader.into_inner();
+            Ok(Ended::Unread(StreamFault { fault, error }))
         }
-        Err(RunFault::Input) => {
-            let Metered { error, .. } = input.into_inner();
-            Ok(Ended::Unread(InputFault { error }))
-        }
-        Err(fault) => Ok(Ended::Early(fault)),
+        Err(fault) => Ok(Ended::Early(StreamFault { fault, error: None })),
     }
 }
 
@@ -70,7 +89,8 @@ pub(crate) fn run_stdin<E: Input + Print + Eprint + Clock + AllocGlobal>(
     run_input(watched, job, tally, watched.rt.reader(), outputs)
 }
 
-// Runs over the file of this name; of one that can't be opened it is told why.
+// Runs over the file of this name; of one that can't be opened, or whose name is no text, it is told
+// why.
 fn run_file<E: Files + Print + Eprint + Clock + AllocGlobal>(
     watched: &Watched<'_, E>,
     name: &str,
@@ -78,6 +98,10 @@ fn run_file<E: Files + Print + Eprint + Clock + AllocGlobal>(
     tally: &mut Tally,
     outputs: &mut Outputs<'_, '_, E>,
 ) -> io::Result<Ended> {
+    if let Some(name) = untold(name) {
+        tell_file(watched, name, &"its name is not UTF-8")?;
+        return Ok(Ended::Whole { all_read: false });
+    }
     let file = match File::open(watched.rt, name) {
         Ok(file) => file,
         Err(error) if error.kind() == ErrorKind::OutOfMemory => return Err(error),
@@ -112,10 +136,10 @@ fn run_named<E: Files + Input + Print + Eprint + Clock + AllocGlobal>(
 }
 
 // What an input of this name is called: nothing where it is the only one. GitHub is told the name
-// of each file, and none of standard input.
+// of a file that is.
 fn source<'r>(report: Report, is_only: bool, name: &'r str) -> Option<&'r str> {
     let is_called = match report {
-        Report::GitHub { .. } => name != "-",
+        Report::GitHub { .. } => !is_only || name != "-",
         _ => !is_only,
     };
     if is_called { Some(name) } else { None }

@@ -14,6 +14,7 @@ use crate::stdout::Stdout;
 use crate::tell::{tell, tell_clash, tell_file, tell_no_path, tell_totals, tell_words};
 use crate::wanted::{Wanted, wanted_of};
 use crate::watched::Watched;
+use crate::words::{read_words, untold};
 use clap::ArgMatches;
 use clap::error::ErrorKind;
 use predicates_json::is_pointer;
@@ -25,7 +26,7 @@ use std::alloc::{AllocError, Global};
 use std::fmt::Display;
 use std::io::BufWriter;
 use std::rt::{Clock, Env, Files};
-use std::{env, fs, io};
+use std::{fs, io};
 
 // How much of the output is kept back.
 const KEPT: usize = 8192;
@@ -51,7 +52,7 @@ fn run_inputs<'r, E: Files + Input + Print + Eprint + Clock + AllocGlobal>(
 ) -> io::Result<Ended> {
     let stdout = Stdout {
         rt: watched,
-        is_closed: false,
+        error: None,
     };
     let mut outputs = Streams {
         output: BufWriter::with_capacity(watched.alloc(), kept, stdout)?,
@@ -136,10 +137,10 @@ fn run_by<'r, E: Files + Input + Print + Eprint + Clock + AllocGlobal>(
 }
 
 // Tells why the file of rules is not read.
-fn refuse_file<E: Eprint>(rt: &E, path: &str, error: &io::Error) -> io::Result<End>
+fn refuse_file<E: Eprint, T: Display>(rt: &E, path: &str, fault: &T) -> io::Result<End>
     ensures { IfOk result (λ end. end ≡ Refused) }
 {
-    tell_file(rt, path, &IoFault(error))?;
+    tell_file(rt, path, fault)?;
     Ok(End::Refused)
 }
 
@@ -159,12 +160,18 @@ fn run_by_file<E: Files + Input + Print + Eprint + Clock + AllocGlobal>(
     wanted: &Wanted,
     files: Option<&[&str]>,
 ) -> io::Result<End> {
+    if let Some(name) = untold(path) {
+        return refuse_file(rt, name, &"its name is not UTF-8");
+    }
     let text = match fs::read(rt, path) {
         Ok(text) => text,
-        Err(error) => return refuse_file(rt, path, &error),
+        Err(error) => return refuse_file(rt, path, &IoFault(&error)),
     };
     match read_checks(rt.alloc(), &text) {
         Ok(rules) => {
+            if rules.is_empty() {
+                tell_file(rt, path, &"no rules, so every record passes")?;
+            }
             let file = RuleFile {
                 path,
                 rules: &rules,
@@ -207,7 +214,7 @@ fn run_as<E: Files + Input + Print + Eprint + Clock + AllocGlobal>(
     };
     if let Some(path) = &wanted.settings.id {
         if !is_pointer(path) {
-            return refuse_path(rt, path);
+            return refuse_path(rt, untold(path).unwrap_or(path));
         }
     }
     wanted.progress = wanted.progress && on_terminal;
@@ -215,9 +222,11 @@ fn run_as<E: Files + Input + Print + Eprint + Clock + AllocGlobal>(
     run_by_file(rt, rules, &wanted, matches.get_strs("FILES"))
 }
 
-// Prints the help where the words ask for it, and else what is wrong with them.
+// Prints the help or the version where the words ask for it, and else what is wrong with them.
 fn end_of_words<E: Print + Eprint + AllocGlobal>(rt: &E, error: &clap::Error) -> io::Result<End>
     ensures helped { kind_of error.now ≡ ErrorKind.DisplayHelp → IfOk result (λ end. end ≡ Helped) }
+    ensures version { kind_of error.now ≡ ErrorKind.DisplayVersion
+        → IfOk result (λ end. end ≡ Helped) }
     ensures refused { kind_of error.now ≢ ErrorKind.DisplayHelp
         → kind_of error.now ≢ ErrorKind.DisplayVersion → IfOk result (λ end. end ≡ Refused) }
 {
@@ -233,9 +242,8 @@ fn try_run<E: Env + Files + Input + Print + Eprint + Clock + AllocGlobal>(
     rt: &E,
     on_terminal: bool,
 ) -> io::Result<End> {
-    let alloc = rt.alloc();
-    let words: Vec<String> = env::args(rt)?.collect(alloc)?;
-    let parsed = command(alloc)?.try_get_matches_from(words.as_slice());
+    let words = read_words(rt)?;
+    let parsed = command(rt.alloc())?.try_get_matches_from(words.as_slice());
     match parsed {
         Ok(matches) => run_as(rt, on_terminal, &matches),
         Err(error) => end_of_words(rt, &error),

@@ -1,21 +1,27 @@
 //! Standard output, as a place for bytes.
 use std::io;
-use std::io::{ErrorKind, Write};
+use std::io::Write;
 
-// Of a process, and whether nothing reads it any more.
+// Of a process. The error of a write that failed is kept.
 #[derive(Drop)]
 pub(crate) struct Stdout<'a, E> {
     pub(crate) rt: &'a E,
-    pub(crate) is_closed: bool,
+    pub(crate) error: Option<io::Error>,
 }
 
 impl<E: Print> Write for Stdout<'_, E> {
     fn write(&mut self, buf: &[u8]) -> io::Result<usize> {
-        let written = self.rt.write_some(buf);
-        if let Err(error) = &written {
-            self.is_closed = error.kind() == ErrorKind::BrokenPipe;
+        match self.rt.write_some(buf) {
+            Ok(count) => {
+                self.error = None;
+                Ok(count)
+            }
+            Err(error) => {
+                let kind = error.kind();
+                self.error = Some(error);
+                Err(io::Error::from(kind))
+            }
         }
-        written
     }
 
     fn flush(&mut self) -> io::Result<()> {

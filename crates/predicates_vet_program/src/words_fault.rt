@@ -19,7 +19,9 @@ pub(crate) fn fault_line(alloc: Global, error: &Error) -> Result<String, AllocEr
         if !line.is_empty() {
             line.push_str(" ")?;
         }
-        line.push_str(part)?;
+        for shown in part.split('\0') {
+            line.push_str(shown)?;
+        }
     }
     Ok(line)
 }

@@ -1,3 +1,4 @@
+mod first_steps;
 mod formats;
 mod limits;
 mod program;

@@ -36,7 +36,7 @@ fn summaries(rt: HostRuntime) {
         &rt,
         "summary",
         &Summing { broken },
-        "3\t###\tb\n0\t\ta\n",
+        "3  ###  b\n0       a\n",
         Taken,
     )
     .expect(&rt, "memory");
@@ -45,7 +45,7 @@ fn summaries(rt: HostRuntime) {
         &rt,
         "summary of no record",
         &Summing { broken },
-        "0\t\ta\n0\t\tb\n",
+        "0    a\n0    b\n",
         Taken,
     )
     .expect(&rt, "memory")

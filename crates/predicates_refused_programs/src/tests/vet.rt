@@ -165,7 +165,7 @@ a = false
       - found: 3
     part: /x == 2 = false
       - found: 3
-vet: record 3: not JSON: EOF while parsing at line 1 column 2
+vet: record 3: not JSON: EOF while parsing at its end
 ",
         Taken,
     ),
@@ -327,7 +327,7 @@ const VALUES: [(&str, &[u8], &str); 2] = [
 false
 {\"x\": 2}
 {\"x\": 1}
-vet: record 3: not JSON: EOF while parsing at line 1 column 1
+vet: record 3: not JSON: EOF while parsing at its end
 ",
     ),
 ];

@@ -77,13 +77,13 @@ const ANNOTATIONS: [Row; 5] = [
         "\
 ::error file=d%2Ce%3Af%25,line=2,title=a%2C b%3A 5%25::d,e:f%25:2 (2): false%0Aa, b: 5%25 = false\
     %0A  rule: / == 1 = false%0A    - found: 2
-::error title=a%2C b%3A 5%25::record 1 (2): false%0Aa, b: 5%25 = false%0A  rule: / == 1 = false\
+::error title=a%2C b%3A 5%25::-:1 (2): false%0Aa, b: 5%25 = false%0A  rule: / == 1 = false\
     %0A    - found: 2
-::error title=a%2C b%3A 5%25::record 3 (5): false%0Aa, b: 5%25 = false%0A  rule: / == 1 = false\
+::error title=a%2C b%3A 5%25::-:3 (5): false%0Aa, b: 5%25 = false%0A  rule: / == 1 = false\
     %0A    - found: 5
 ",
         "\
-vet: d,e:f%:1: not JSON: EOF while parsing at line 2 column 0
+vet: d,e:f%:1: not JSON: EOF while parsing at its end
 4 records, 3 failed, 1 line unreadable
 ",
     ),
@@ -105,7 +105,7 @@ vet: d,e:f%:1: not JSON: EOF while parsing at line 2 column 0
 ::error title=a%2C b%3A 5%25::record 3: false%0Aa, b: 5%25 = false%0A  rule: / == 1 = false\
     %0A    - found: 5
 ",
-        "2\t##\ta, b: 5%\n1\t#\tc\n3 records, 2 failed\n",
+        "2  ##  a, b: 5%\n1  #   c\n3 records, 2 failed\n",
     ),
 ];
 
@@ -166,7 +166,7 @@ c = false
 </testsuite>
 </testsuites>
 ",
-        "2\t##\ta, b: 5%\n1\t#\tc\n3 records, 2 failed\n",
+        "2  ##  a, b: 5%\n1  #   c\n3 records, 2 failed\n",
     ),
     // Lines and a file that can't be read, and a rule that no record breaks.
     (
@@ -189,7 +189,7 @@ a, b: 5% = false
 </testsuites>
 ",
         "\
-vet: d,e:f%:1: not JSON: EOF while parsing at line 2 column 0
+vet: d,e:f%:1: not JSON: EOF while parsing at its end
 vet: none: entity not found
 1 record, 1 failed, 1 line unreadable
 ",

@@ -33,7 +33,7 @@ const BAD: &[u8] = b"[\n1";
 
 const BLOCK: &str = "record 1: false\na = false\n  rule: / == 1 = false\n    - found: 2\n";
 
-const VALUES: [Row; 3] = [
+const VALUES: [Row; 9] = [
     // Records as values, one behind another or as the members of an array.
     (
         &[b"vet", b"--input-format", b"json", b"rules"],
@@ -44,7 +44,7 @@ const VALUES: [Row; 3] = [
         2,
         "record 2: false\na = false\n  rule: / == 1 = false\n    - found: 2\n",
         "\
-vet: record 4: not JSON: EOF while parsing at line 1 column 1
+vet: record 4: not JSON: EOF while parsing at its end
 3 records, 1 failed, 1 line unreadable
 ",
     ),
@@ -55,8 +55,76 @@ vet: record 4: not JSON: EOF while parsing at line 1 column 1
         None,
         Closed::Neither,
         1,
-        "{\"a\":\n1}\n2 \n",
+        "{\"a\":\n1}\n2\n",
         "3 records, 2 failed\n",
+    ),
+    // An array as it is laid out for people.
+    (
+        &[b"vet", b"--failed", b"--input-format", b"json", b"rules"],
+        b"a: /x == 2",
+        b"[\n {\"x\":1} ,\r\n {\"x\":1}\t\n]\n",
+        None,
+        Closed::Neither,
+        1,
+        "{\"x\":1}\n{\"x\":1}\n",
+        "2 records, 2 failed\n",
+    ),
+    // White space inside a record stays.
+    (
+        &[b"vet", b"--passed", b"--input-format", b"json", b"rules"],
+        b"a: /x == 1",
+        b"[{\"x\" : 1 } , 1 ] {\"x\":\n1}",
+        None,
+        Closed::Neither,
+        1,
+        "{\"x\" : 1 }\n{\"x\":\n1}\n",
+        "3 records, 1 failed\n",
+    ),
+    // A byte order mark before the first record, in both formats.
+    (
+        PLAIN,
+        b"a: / == 1",
+        b"\xef\xbb\xbf1\n2",
+        None,
+        Closed::Neither,
+        1,
+        "record 2: false\na = false\n  rule: / == 1 = false\n    - found: 2\n",
+        "2 records, 1 failed\n",
+    ),
+    (
+        &[b"vet", b"--input-format", b"json", b"rules"],
+        b"a: / == 1",
+        b"\xef\xbb\xbf\n[1, 2]",
+        None,
+        Closed::Neither,
+        1,
+        "record 2: false\na = false\n  rule: / == 1 = false\n    - found: 2\n",
+        "2 records, 1 failed\n",
+    ),
+    // A part of one is none, and nor is one behind the first.
+    (
+        &[b"vet", b"--failed", b"rules"],
+        b"a: / == 1",
+        b"\xef\xbb1\n\xef\xbb\xbf2\n3",
+        None,
+        Closed::Neither,
+        2,
+        "3\n",
+        "\
+vet: record 1: not UTF-8
+vet: record 2: not JSON: invalid JSON at line 1 column 1
+1 record, 1 failed, 2 lines unreadable
+",
+    ),
+    (
+        PLAIN,
+        b"a: / == 1",
+        b"\xef\xbb\xbf",
+        None,
+        Closed::Neither,
+        0,
+        "",
+        "0 records, 0 failed\n",
     ),
     (
         &[b"vet", b"--input-format", b"jsonl", b"rules"],
@@ -67,13 +135,23 @@ vet: record 4: not JSON: EOF while parsing at line 1 column 1
         2,
         "",
         "\
-vet: record 2: not JSON: EOF while parsing at line 1 column 2
+vet: record 2: not JSON: EOF while parsing at its end
 1 record, 0 failed, 1 line unreadable
 ",
     ),
 ];
 
-const REPORTS: [Row; 9] = [
+const REPORTS: [Row; 10] = [
+    (
+        &[b"vet", b"--version"],
+        b"",
+        b"",
+        None,
+        Closed::Neither,
+        0,
+        "vet 0.1.0+, for rattle-kit-13f\n",
+        "",
+    ),
     // Every record keeps every rule.
     (
         PLAIN,
@@ -93,7 +171,7 @@ const REPORTS: [Row; 9] = [
         Closed::Neither,
         0,
         "",
-        "0 records, 0 failed\n",
+        "vet: rules: no rules, so every record passes\n0 records, 0 failed\n",
     ),
     // A record breaks one.
     (
@@ -178,7 +256,23 @@ b = false
     ),
 ];
 
-const UNREADABLE: [Row; 5] = [
+const UNREADABLE: [Row; 6] = [
+    (
+        PLAIN,
+        b"a: / == 1",
+        b"{\"x\":2},\n]\n{\"x\":}\n{\"x\":[1,2} \r\n",
+        None,
+        Closed::Neither,
+        2,
+        "",
+        "\
+vet: record 1: not JSON: invalid JSON at line 1 column 8
+vet: record 2: not JSON: invalid JSON at line 1 column 1
+vet: record 3: not JSON: invalid JSON at line 1 column 6
+vet: record 4: not JSON: invalid JSON at line 1 column 10
+0 records, 0 failed, 4 lines unreadable
+",
+    ),
     // A line holds no record.
     (
         PLAIN,
@@ -189,11 +283,11 @@ const UNREADABLE: [Row; 5] = [
         2,
         "",
         "\
-vet: record 2: not JSON: EOF while parsing at line 1 column 2
+vet: record 2: not JSON: EOF while parsing at its end
 1 record, 0 failed, 1 line unreadable
 ",
     ),
-    // The column of what ends with its line is that of the line behind.
+    // Where a line ends too early, and what stands at its end in vain.
     (
         PLAIN,
         b"a: / == 1",
@@ -203,7 +297,7 @@ vet: record 2: not JSON: EOF while parsing at line 1 column 2
         2,
         "",
         "\
-vet: record 1: not JSON: EOF while parsing at line 2 column 0
+vet: record 1: not JSON: EOF while parsing at its end
 1 record, 0 failed, 1 line unreadable
 ",
     ),
@@ -226,7 +320,7 @@ vet: record 1: not JSON: EOF while parsing at line 2 column 0
         2,
         "",
         "\
-vet: record 1: not JSON: EOF while parsing at line 2 column 0
+vet: record 1: not JSON: EOF while parsing at its end
 vet: record 3: not UTF-8
 1 record, 0 failed, 2 lines unreadable
 ",
@@ -244,8 +338,18 @@ vet: record 3: not UTF-8
     ),
 ];
 
-const RULES: [Row; 8] = [
+const RULES: [Row; 9] = [
     // Rules that can't be read.
+    (
+        &[b"vet", b"r\xe9les"],
+        b"a: / == 1",
+        b"1",
+        None,
+        Closed::Neither,
+        2,
+        "",
+        "vet: r\\xe9les: its name is not UTF-8\n",
+    ),
     (
         &[b"vet", b"none"],
         b"a: / == 1",
@@ -332,7 +436,28 @@ const RULES: [Row; 8] = [
     ),
 ];
 
-const WRONG_WORDS: [Row; 6] = [
+const WRONG_WORDS: [Row; 8] = [
+    // Words that are not UTF-8.
+    (
+        &[b"vet", b"--id", b"/\xff", b"rules"],
+        b"",
+        b"1",
+        None,
+        Closed::Neither,
+        2,
+        "",
+        "vet: --id /\\xff: not a path, which begins with `/`\n",
+    ),
+    (
+        &[b"vet", b"--max", b"\xff", b"rules"],
+        b"",
+        b"1",
+        None,
+        Closed::Neither,
+        2,
+        "",
+        "vet: invalid value '\\xff' for '--max <N>': invalid digit found in string; try --help\n",
+    ),
     // Wrong words.
     (
         &[b"vet"],
@@ -530,7 +655,18 @@ const FAULTS: [Row; 7] = [
     (PLAIN, b"a: / == 1", b"[", None, Closed::Error, 2, "", ""),
 ];
 
-const FILES: [Row; 6] = [
+const FILES: [Row; 7] = [
+    // So is one whose name is not UTF-8.
+    (
+        &[b"vet", b"rules", b"\xc3\xa9\xff\xfe", b"one"],
+        b"a: / == 1",
+        b"",
+        None,
+        Closed::Neither,
+        2,
+        "one:1: false\na = false\n  rule: / == 1 = false\n    - found: 2\n",
+        "vet: \u{e9}\\xff\\xfe: its name is not UTF-8\n2 records, 1 failed\n",
+    ),
     // Files, and standard input among them.
     (
         &[b"vet", b"rules", b"one"],
@@ -576,7 +712,7 @@ a = false
          \"products\":[],\"children\":[{\"name\":\"rule\",\"case\":{\"text\":\"/ == 1\",\
          \"result\":false,\"products\":[{\"name\":\"found\",\"value\":3}],\"children\":[]}}]}}\n",
         "\
-vet: bad:1: not JSON: EOF while parsing at line 2 column 0
+vet: bad:1: not JSON: EOF while parsing at its end
 3 records, 1 failed, 1 line unreadable
 ",
     ),
@@ -590,7 +726,7 @@ vet: bad:1: not JSON: EOF while parsing at line 2 column 0
         2,
         "1\n3\n1\n1\n",
         "\
-vet: bad:1: not JSON: EOF while parsing at line 2 column 0
+vet: bad:1: not JSON: EOF while parsing at its end
 5 records, 4 failed, 1 line unreadable
 ",
     ),
@@ -736,6 +872,17 @@ fn statuses_and_messages(rt: HostRuntime) {
     all_end(&rt, alloc, &AMOUNTS);
     all_end(&rt, alloc, &FAULTS);
     all_end(&rt, alloc, &FILES);
+}
+
+// No line of the help is wider than a terminal.
+#[test]
+fn help_fits_a_terminal(rt: HostRuntime) {
+    let words: [&[u8]; 2] = [b"vet", b"--help"];
+    let (status, help, told) = run(rt.alloc(), &words, &[], b"", None, Closed::Neither);
+    assert!(rt; status == 0 && told.is_empty() && help.len() > 1000);
+    for line in help.split(|byte| *byte == b'\n') {
+        assert!(rt; line.len() <= 80, "{line:?}");
+    }
 }
 
 #[test]

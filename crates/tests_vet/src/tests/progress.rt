@@ -98,7 +98,7 @@ const MESSAGES: [Row; 4] = [
         b"[\n1\n",
         "\
 \r0 lines, 0 a second\x1b[K\r1 line, 2 a second\x1b[K\
-    \r\x1b[Kvet: record 1: not JSON: EOF while parsing at line 2 column 0
+    \r\x1b[Kvet: record 1: not JSON: EOF while parsing at its end
 \r1 line, 1 a second\x1b[K\r2 lines, 2 a second\x1b[K\r2 lines, 2 a second\x1b[K\
     \r\x1b[K1 record, 0 failed, 1 line unreadable
 ",
@@ -117,7 +117,7 @@ const MESSAGES: [Row; 4] = [
         b"",
         "\
 vet: none: entity not found
-\r2 lines, 10 a second\x1b[K\r2 lines, 5 a second\x1b[K\r\x1b[K1\t#\ta
+\r2 lines, 10 a second\x1b[K\r2 lines, 5 a second\x1b[K\r\x1b[K1  #  a
 2 records, 1 failed
 ",
     ),

@@ -5,7 +5,7 @@ use Rattle.predicates_vet.proofs.piece.next_value.Goals as goal
 pub returns-in_ok-extend_from_slice-in-Record-clause-piece : goal.returns-in_ok-extend_from_slice-in-Record-clause-piece
 returns-in_ok-extend_from_slice-in-Record-clause-piece g c _ =
     let r = rw c.in-Record.is at c.in_ok-next_record.ensures in
-    rw c.in_ok-extend_from_slice-in-Record.ensures.items (takes_record _ _ _ _ _ _ (r.short refl) (r.record refl))
+    rw (c.in_ok-extend_from_slice-in-Record.ensures.items, c.in_ok-trim_end-in-Record.ensures) (takes_record _ _ _ _ _ _ (r.short refl) (r.record refl))
 
 pub returns-in-TooLong-clause-too_long : goal.returns-in-TooLong-clause-too_long
 returns-in-TooLong-clause-too_long g c _ =

@@ -287,16 +287,28 @@ fn long_values_are_cut(rt: HostRuntime) {
     assert!(rt; has_whole(&rt, alloc, &long));
 }
 
+#[test]
+fn control_characters_are_escaped(rt: HostRuntime) {
+    let (record, shown) = ("\"a\u{9b}31m\u{7f}\"", ": \"a\\u{9b}31m\\u{7f}\"");
+    assert!(rt; shows(&rt, rt.alloc(), record, shown));
+    assert!(rt; has_whole(&rt, rt.alloc(), record));
+}
+
 // How many records break each of the rules, and the lines that tell it.
 const SUMMARIES: [(&[u64], &str); 4] = [
-    (&[2, 2, 1], "2\t##\ta\n2\t##\tb\n1\t#\tc\n"),
-    (&[0, 1, 0], "1\t#\tb\n0\t\ta\n0\t\tc\n"),
-    // Where one is above 40, a `#` stands for two.
+    (&[2, 2, 1], "2  ##  a\n2  ##  b\n1  #   c\n"),
+    (&[0, 1, 0], "1  #  b\n0     a\n0     c\n"),
+    // Where one is above 40, a `#` stands for two, and a line says so.
     (
         &[0, 3, 41],
-        "41\t#####################\tc\n3\t##\tb\n0\t\ta\n",
+        "\
+41  #####################  c
+ 3  ##                     b
+ 0                         a
+each # is up to 2 records
+",
     ),
-    (&[], "0\t\ta\n0\t\tb\n0\t\tc\n"),
+    (&[], "0    a\n0    b\n0    c\n"),
 ];
 
 #[test]
