@@ -24,8 +24,8 @@ fn trim_end(bytes: &mut Vec<u8>) -> Result<(), AllocError>
     Ok(())
 }
 
-// Takes the next record, with a line feed in place of the white space behind it. For an array that the input does not close it
-// gives a `[`, which is no record.
+// Takes the next record, with a line feed in place of the white space behind it. For an array that
+// the input does not close it gives a `[`, which is no record.
 fn next_value<R: BufRead>(
     input: &mut R,
     position: &mut Position,
@@ -55,7 +55,8 @@ fn next_value<R: BufRead>(
     }
 }
 
-/// Takes the next piece: a line, or a record with a line feed in place of the white space behind it.
+/// Takes the next piece: a line, or a record with a line feed in place of the white space behind
+/// it.
 pub(crate) fn next_piece<R: BufRead>(
     input: &mut R,
     format: InputFormat,

@@ -19,8 +19,8 @@ pub(crate) enum End {
 }
 
 impl End {
-    /// The status of the process: 0 for the help, the version and where every record that was taken keeps every
-    /// rule, 1 where one breaks a rule, and else 2.
+    /// The status of the process: 0 for the help, the version and where every record that was taken
+    /// keeps every rule, 1 where one breaks a rule, and else 2.
     pub(crate) fn status(self) -> u8
         ensures { result ≡ status_of_end self }
     {

@@ -73,7 +73,7 @@ fn all_fail(
 
 #[test]
 fn blocks_that_are_not_written(rt: HostRuntime) {
-    let messages = b"vet: output could not be written\n";
+    let messages = b"vet: output could not be written: no storage space\n";
     all_fail(
         &rt,
         rt.alloc(),
@@ -171,7 +171,7 @@ fn is_limited(alloc: Global, most: &[u8], output: &[u8]) -> bool {
     let words: [&[u8]; 5] = [b"vet", b"--summary", b"--max", most, b"rules"];
     let process = Process::new(alloc, &words, &FILES, b"2\n1\n3");
     let (status, written, error) = told(process);
-    let messages = b"2\t##\ta\n3 records, 2 failed\n".as_slice();
+    let messages = b"2  ##  a\n3 records, 2 failed\n".as_slice();
     status == 1 && written.as_slice() == output && error.as_slice() == messages
 }
 
