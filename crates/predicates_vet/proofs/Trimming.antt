@@ -1,5 +1,5 @@
 -- White space at the end of a record, one byte at a time.
-use Rattle.std.proofs.Common.{◌≡◌, ℕ, Bool, true, false, List, [], ◌∷◌, ◌++◌, sym, ap, refl, ◌∙◌, ◌&&◌, if◌then◌else◌}
+use Rattle.std.proofs.Common.{◌≡◌, ℕ, Bool, true, false, List, [], ◌∷◌, ◌++◌, ap, refl, ◌∙◌, ◌&&◌, if◌then◌else◌}
 use Rattle.std.proofs.lemmas.List.Folds.{list_all-append}
 use Rattle.predicates_vet.specs.InputLines.{is_white, is_blank}
 use Rattle.predicates_vet.specs.Pieces.{trimmed}
