@@ -34,30 +34,16 @@ const DEEPER: [Row; 5] = [
 
 // What is wrong is not their depth.
 const BROKEN: [Row; 5] = [
-    (
-        "[",
-        127,
-        "1",
-        "]",
-        126,
-        "EOF while parsing at line 1 column 254",
-    ),
+    ("[", 127, "1", "]", 126, "EOF while parsing at its end"),
     (
         "{\"a\":",
         127,
         "1",
         "}",
         126,
-        "EOF while parsing at line 1 column 762",
+        "EOF while parsing at its end",
     ),
-    (
-        "{\"a\":[",
-        63,
-        "{",
-        "",
-        0,
-        "EOF while parsing at line 1 column 379",
-    ),
+    ("{\"a\":[", 63, "{", "", 0, "EOF while parsing at its end"),
     ("[", 127, "x", "]", 127, "invalid JSON at line 1 column 128"),
     (
         "{\"a\":",
