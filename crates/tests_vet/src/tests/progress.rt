@@ -85,7 +85,8 @@ const SHARES: [Row; 5] = [
         200,
         Some(b""),
         b"",
-        "\r0 lines, 0 %, 0 a second\x1b[K\r\x1b[K0 records, 0 failed\n",
+        "\r0 lines, 0 %, 0 a second\x1b[K\r0 lines, 0 %, 0 a second\x1b[K\
+         \r\x1b[K0 records, 0 failed\n",
     ),
 ];
 
