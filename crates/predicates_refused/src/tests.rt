@@ -1,4 +1,3 @@
-mod details;
 mod dynamic;
 mod functions_and_boxes;
 mod json;

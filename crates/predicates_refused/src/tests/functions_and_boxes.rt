@@ -17,8 +17,6 @@ pub fn is_big(number: &u8) -> bool
 
 #[test]
 fn functions(rt: HostRuntime) {
-    let small = leaf("function", false, "fn(var) = false\n");
-    sweep_calls(&rt, &function(is_big), &3, small).expect(&rt, "memory");
     let big = leaf("fn_name", true, "big(var) = true\n");
     sweep_calls(&rt, &function(is_big).fn_name("big"), &7, big).expect(&rt, "memory")
 }

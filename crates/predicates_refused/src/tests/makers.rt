@@ -1,12 +1,11 @@
-//! What takes memory to make a predicate, a case, a view of a text, or a snapshot.
-use predicates::boolean::{NotPredicate, PredicateBooleanExt};
+//! What takes memory to make a predicate or a snapshot.
+use predicates::Predicate;
 use predicates::iter::{InPredicate, in_hash, in_iter, same_members};
-use predicates::{BoxPredicate, Predicate};
 use predicates_path::Snapshot;
 use predicates_sweep::Memory::{GoesOn, Taken};
 use predicates_sweep::{Answer, Call, Rendered, sweep};
 use predicates_testing::text;
-use predicates_text::{IsEmptyPredicate, RegexError, RegexPredicate, is_empty, is_match};
+use predicates_text::{RegexError, RegexPredicate, is_match};
 use std::alloc::{AllocError, Global};
 use std::fs::Files;
 
@@ -109,7 +108,6 @@ impl Call for Pattern<'_> {
 #[test]
 fn patterns(rt: HostRuntime) {
     for (name, pattern, expected) in [
-        ("is_match", "T[a-z]*", "var.is_match(T[a-z]*) true"),
         ("is_match of nothing", "", "var.is_match() true"),
         (
             "is_match of no pattern",
@@ -118,26 +116,6 @@ fn patterns(rt: HostRuntime) {
         ),
     ] {
         sweep(&rt, name, &Pattern { pattern }, expected, GoesOn).expect(&rt, "memory");
-    }
-}
-
-#[derive(Drop)]
-struct Boxed<'a> {
-    item: &'a String,
-}
-
-impl Call for Boxed<'_> {
-    type Operand = Box<NotPredicate<IsEmptyPredicate, String>>;
-
-    type Answer = Answer;
-
-    fn operand(&self, alloc: Global) -> Result<Self::Operand, AllocError> {
-        Ok(Box::new(alloc, is_empty().not())?)
-    }
-
-    fn call(&self, alloc: Global, held: Self::Operand) -> Result<Answer, AllocError> {
-        let boxed = BoxPredicate::new(alloc, held)?;
-        Ok(Answer::Verdict(boxed.eval(alloc, self.item)?))
     }
 }
 
@@ -182,28 +160,13 @@ impl<R: Files + AllocGlobal> Call for Taking<'_, R> {
 }
 
 #[test]
-fn boxes_and_snapshots(rt: HostRuntime) {
-    let item = text(rt.alloc(), "a").expect(&rt, "memory");
-    sweep(
-        &rt,
-        "BoxPredicate::new",
-        &Boxed { item: &item },
-        "true",
-        Taken,
-    )
-    .expect(&rt, "memory");
+fn snapshots(rt: HostRuntime) {
     let folder = Taking {
         rt: &rt,
         path: "/proc/self",
     };
     let expected = "/proc/self Ok(Symlink) Ok(Dir) Err(NotRegular)";
     sweep(&rt, "Snapshot::take of a link", &folder, expected, Taken).expect(&rt, "memory");
-    let nothing = Taking {
-        rt: &rt,
-        path: "/proc/no such file",
-    };
-    let expected = "/proc/no such file Err(NotFound) Err(NotFound) Err(NotFound)";
-    sweep(&rt, "Snapshot::take of nothing", &nothing, expected, Taken).expect(&rt, "memory");
     let file = Taking {
         rt: &rt,
         path: "/proc/sys/kernel/ostype",

@@ -1,20 +1,13 @@
-//! Predicates of parts of an item.
+//! A predicate of a part of a part.
 ghost use Rattle.std.specs.Prelude.{◌≡◌};
 
 use predicates::ord::ge;
-use predicates::part::{Field, PredicatePartExt};
+use predicates::part::PredicatePartExt;
 use predicates_sweep::{over, sweep_calls};
 
 #[derive(Drop)]
 struct Guest {
-    age: u32,
     seat: Option<u32>,
-}
-
-fn age_of(guest: &Guest) -> &u32
-    ensures { result.now ≡ guest.now.age }
-{
-    &guest.age
 }
 
 fn seat_of(guest: &Guest) -> &Option<u32>
@@ -23,59 +16,16 @@ fn seat_of(guest: &Guest) -> &Option<u32>
     &guest.seat
 }
 
-#[derive(Drop)]
-struct Age;
-
-impl Field<Guest, u32> for Age {
-    ghost part_of = { λ field guest. guest.age };
-
-    fn get<'a>(&self, guest: &'a Guest) -> &'a u32 {
-        &guest.age
-    }
-}
-
-#[test]
-fn fields(rt: HostRuntime) {
-    let (age, seat) = (17, None);
-    let guest = Guest { age, seat };
-    let lines = "age = false\n  age: var >= 18 = false\n    - var: 17\n";
-    let children = "age: var >= 18\n";
-    let adult = ge(18u32).of("age", |guest: &Guest| guest.age);
-    sweep_calls(&rt, &adult, &guest, over("of", false, lines, children)).expect(&rt, "memory");
-    let adult = ge(18u32).of_ref("age", age_of);
-    sweep_calls(&rt, &adult, &guest, over("of_ref", false, lines, children)).expect(&rt, "memory");
-    let adult = ge(18u32).of_field("age", Age);
-    sweep_calls(
-        &rt,
-        &adult,
-        &guest,
-        over("of_field", false, lines, children),
-    )
-    .expect(&rt, "memory")
-}
-
-#[test]
-fn value_or_none(rt: HostRuntime) {
-    let some = ge(18u32).of_some();
-    let children = "predicate: var >= 18\n";
-    let lines = "var >= 18 = true\n  - var: 18\n";
-    let row = over("of_some on a value", true, lines, children);
-    sweep_calls(&rt, &some, &Some(18), row).expect(&rt, "memory");
-    let lines = "var >= 18 = false\n  - error: no value\n";
-    let row = over("of_some on none", false, lines, children);
-    sweep_calls(&rt, &some, &None, row).expect(&rt, "memory")
-}
-
 #[test]
 fn value_or_none_in_a_field(rt: HostRuntime) {
     let seated = ge(18u32).of_some().of_ref("seat", seat_of);
     let children = "seat: var >= 18\n  predicate: var >= 18\n";
-    let (age, seat) = (17, Some(18));
+    let seat = Some(18);
     let lines = "seat = true\n  seat: var >= 18 = true\n    - var: 18\n";
     let row = over("of_some in of_ref, on a value", true, lines, children);
-    sweep_calls(&rt, &seated, &Guest { age, seat }, row).expect(&rt, "memory");
-    let (age, seat) = (17, None);
+    sweep_calls(&rt, &seated, &Guest { seat }, row).expect(&rt, "memory");
+    let seat = None;
     let lines = "seat = false\n  seat: var >= 18 = false\n    - error: no value\n";
     let row = over("of_some in of_ref, on none", false, lines, children);
-    sweep_calls(&rt, &seated, &Guest { age, seat }, row).expect(&rt, "memory")
+    sweep_calls(&rt, &seated, &Guest { seat }, row).expect(&rt, "memory")
 }

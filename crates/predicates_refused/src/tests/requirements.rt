@@ -1,11 +1,7 @@
-//! The calls of `check`.
+//! Requirements.
 use predicates::boolean::PredicateBooleanExt;
-use predicates::check::{
-    Expectation, Unmet, add_failure, check_all, expect, failures, require, require_all, require_as,
-    required_change, sift,
-};
+use predicates::check::{Expectation, Unmet, expect, require, require_all, require_as};
 use predicates::ord::{OrdPredicate, ge, le};
-use predicates_core::reflection::render_onto;
 use predicates_sweep::Memory::{Never, Taken};
 use predicates_sweep::{Answer, Call, sweep};
 use std::alloc::{AllocError, Global};
@@ -117,110 +113,4 @@ fn requirements_of_all(rt: HostRuntime) {
         Taken,
     )
     .expect(&rt, "memory")
-}
-
-// What fails of some numbers, as the lines of the cases.
-#[derive(Clone, Copy)]
-enum Failing {
-    Rules,
-    Items,
-    Expectations,
-    Changes,
-}
-
-fn failing_rules(alloc: Global, out: &mut String) -> Result<(), AllocError> {
-    let rules = [ge(5i64), ge(10), ge(20)];
-    let mut cases = failures(alloc, &rules, &7)?;
-    add_failure(alloc, &mut cases, &le(5i64), &7)?;
-    for case in &cases {
-        render_onto(out, case)?;
-    }
-    Ok(())
-}
-
-fn failing_items(alloc: Global, out: &mut String) -> Result<(), AllocError> {
-    let items = vec![in alloc; 10i64, 7, 20]?;
-    for rejection in &sift(alloc, &ge(20i64), items)?.rejected {
-        render_onto(out, &rejection.reason)?;
-    }
-    Ok(())
-}
-
-fn failing_expectations(alloc: Global, out: &mut String) -> Result<(), AllocError> {
-    let mut expected = Vec::new(alloc);
-    expected.push(expect(alloc, "a", 10i64, ge(20i64))?)?;
-    expected.push(expect(alloc, "b", 20i64, ge(20i64))?)?;
-    for failure in &check_all(alloc, expected.as_slice())? {
-        out.push_str(failure.label.as_str())?;
-        out.push_str(": ")?;
-        render_onto(out, &failure.reason)?;
-    }
-    Ok(())
-}
-
-fn failing_changes(alloc: Global, out: &mut String) -> Result<(), AllocError> {
-    for least in [5i64, 10] {
-        if let Some(case) = required_change(alloc, &ge(least), &7)? {
-            render_onto(out, &case)?;
-        }
-    }
-    Ok(())
-}
-
-impl Call for Failing {
-    type Operand = ();
-
-    type Answer = Answer;
-
-    fn operand(&self, _alloc: Global) -> Result<(), AllocError> {
-        Ok(())
-    }
-
-    fn call(&self, alloc: Global, _operand: ()) -> Result<Answer, AllocError> {
-        let mut out = String::new(alloc);
-        match self {
-            Failing::Rules => failing_rules(alloc, &mut out)?,
-            Failing::Items => failing_items(alloc, &mut out)?,
-            Failing::Expectations => failing_expectations(alloc, &mut out)?,
-            Failing::Changes => failing_changes(alloc, &mut out)?,
-        }
-        Ok(Answer::Text(out))
-    }
-}
-
-const FAILING: [(&str, Failing, &str); 4] = [
-    (
-        "failures",
-        Failing::Rules,
-        "\
-var >= 10 = false
-  - var: 7
-var >= 20 = false
-  - var: 7
-var <= 5 = false
-  - var: 7
-",
-    ),
-    (
-        "sift",
-        Failing::Items,
-        "var >= 20 = false\n  - var: 10\nvar >= 20 = false\n  - var: 7\n",
-    ),
-    (
-        "check_all",
-        Failing::Expectations,
-        "a: var >= 20 = false\n  - var: 10\n",
-    ),
-    (
-        "required_change",
-        Failing::Changes,
-        "var >= 10 = false\n  - var: 7\n",
-    ),
-];
-
-#[test]
-fn reports(rt: HostRuntime) {
-    for (name, call, expected) in FAILING {
-        sweep(&rt, name, &call, expected, Taken).expect(&rt, "memory");
-    }
 }

@@ -8,38 +8,15 @@ use predicates_testing::{
 use std::process::Abort;
 
 // Over numbers.
-const NUMBERS: [&str; 20] = [
-    r"always@4@never taken never@true = true\n@value=true\n@",
-    r"never@4@never taken never@false = false\n@value=false\n@",
-    r"eq=5@5@never taken never@var == 5 = true\n  - var: 5\n@@",
-    r"ne=5@5@never taken never@var != 5 = false\n  - var: 5\n@@",
-    r"lt=5@4@never taken never@var < 5 = true\n  - var: 4\n@@",
-    r"le=5@6@never taken never@var <= 5 = false\n  - var: 6\n@@",
-    r"ge=5@5@never taken never@var >= 5 = true\n  - var: 5\n@@",
-    r"gt=5@5@never taken never@var > 5 = false\n  - var: 5\n@@",
-    r"in_iter=3,1,3@3@never taken never@var in values = true\n  - var: 3\n@values=[3, 1, 3]\n@",
-    r"sorted=3,1,3@3@never taken never@var in values = true\n  - var: 3\n@values=[1, 3, 3]\n@",
-    r"in_hash=3,1,3@3@never taken never@var in values = true\n  - var: 3\n@values={3, 1}\n@",
+const NUMBERS: [&str; 3] = [
     r"in_iter=.@1@never taken never@var in values = false\n  - var: 1\n@values=[]\n@",
     r"sorted=.@1@never taken never@var in values = false\n  - var: 1\n@values=[]\n@",
     r"in_hash=.@1@never taken never@var in values = false\n  - var: 1\n@values={}\n@",
-    r"ge=5 le=10 and@7@never taken perhaps@(var >= 5 && var <= 10) = true\n  left: var >= 5 = true\n    - var: 7\n  right: var <= 10 = true\n    - var: 7\n@@left: var >= 5\nright: var <= 10\n",
-    r"ge=5 le=10 and@11@never taken perhaps@(var >= 5 && var <= 10) = false\n  right: var <= 10 = false\n    - var: 11\n@@left: var >= 5\nright: var <= 10\n",
-    r"lt=3 gt=5 or@4@never taken perhaps@(var < 3 || var > 5) = false\n  left: var < 3 = false\n    - var: 4\n  right: var > 5 = false\n    - var: 4\n@@left: var < 3\nright: var > 5\n",
-    r"lt=3 gt=5 or@9@never taken perhaps@(var < 3 || var > 5) = true\n  right: var > 5 = true\n    - var: 9\n@@left: var < 3\nright: var > 5\n",
-    r"lt=3 lt=5 xor@4@never taken perhaps@(var < 3 ^ var < 5) = true\n  left: var < 3 = false\n    - var: 4\n  right: var < 5 = true\n    - var: 4\n@@left: var < 3\nright: var < 5\n",
-    r"lt=3 lt=5 xor@9@never taken perhaps@(var < 3 ^ var < 5) = false\n  left: var < 3 = false\n    - var: 9\n  right: var < 5 = false\n    - var: 9\n@@left: var < 3\nright: var < 5\n",
 ];
 
 // Over texts.
-const TEXTS: [&str; 16] = [
+const TEXTS: [&str; 10] = [
     r#"eq=Hello@@never taken never@var == "Hello" = false\n  - var: ""\n@@"#,
-    r"empty@abc@never taken never@var.is_empty() = false\n  - var: abc\n@@",
-    r#"starts=ab@abc@never taken never@var.starts_with("ab") = true\n  - var: abc\n@@"#,
-    r#"ends=ab@abc@never taken never@var.ends_with("ab") = false\n  - var: abc\n@@"#,
-    r"contains=b@abc@never taken never@var.contains(b) = true\n  - var: abc\n@@",
-    r"contains=aa count=2@aaaa@never taken never@var.contains(aa) = true\n  - var: aaaa\n  - actual count: 2\n@count=2\n@",
-    r"empty@@never taken never@var.is_empty() = true\n  - var: \n@@",
     r#"starts=@@never taken never@var.starts_with("") = true\n  - var: \n@@"#,
     r#"ends=@@never taken never@var.ends_with("") = true\n  - var: \n@@"#,
     r"contains=@@never taken never@var.contains() = true\n  - var: \n@@",
